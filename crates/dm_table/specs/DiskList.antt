@@ -1,0 +1,66 @@
+-- Disk lists: a line NAME SECTORS for each disk.
+use Rattle.std.specs.Prelude.{◌≡◌, ℕ, suc, ◌+◌, ◌^◌, ◌<◌, Bool, true, false, not, ◌&&◌, List, [], ◌∷◌, ◌++◌, length, nat_lt, decimal, is_none, map}
+use Rattle.std.specs.List.{flat_map}
+use Rattle.dm_table.specs.declared.disk.Disk.{Disk}
+use Rattle.dm_table.specs.declared.place.Part.TheVariants.{Disks}
+use Rattle.dm_table.specs.declared.load_fault.LoadKind.TheVariants.{Syntax, Field, Name}
+use Rattle.dm_table.specs.declared.load_fault.LoadFault.{LoadFault}
+use Rattle.dm_table.specs.Name.{is_disk_name}
+use Rattle.dm_table.specs.Number.{number_of}
+use Rattle.dm_table.specs.Fields.{fields, lines_of, rest_of}
+use Rattle.dm_table.specs.LoadFault.{faults_from, not_text, unended}
+
+-- What a list says
+
+-- the line that says a disk
+abbrev pub disk_line : Disk → List ℕ
+disk_line disk = disk.name ++ 32 ∷ decimal disk.len
+
+-- a disk that line number n may say
+pub record IsListed (n : ℕ) (disk : Disk) : Type 0 where
+  pub name : is_disk_name disk.name ≡ true
+  pub len : disk.len < 10 ^ 19
+  pub at : disk.at ≡ record { part = Disks; number = n }
+
+-- the disks are those of the lines from n on
+abbrev pub AreListed : ℕ → List Disk → Type 0
+AreListed n [] = Unit {0}
+AreListed n (disk ∷ disks) = IsListed n disk × AreListed (suc n) disks
+
+-- the text says these disks, each by a line
+pub record DescribesDisks (text : List ℕ) (disks : List Disk) : Type 0 where
+  pub spelled : text ≡ flat_map (λ disk. disk_line disk ++ 10 ∷ []) disks
+  pub listed : AreListed 1 disks
+
+-- Its checks
+
+-- two fields that are not empty
+abbrev pub is_pair : List (List ℕ) → Bool
+is_pair (name ∷ sectors ∷ []) = nat_lt 0 (length name) && nat_lt 0 (length sectors)
+is_pair _ = false
+
+abbrev pub first : List (List ℕ) → List ℕ
+first [] = []
+first (field ∷ fields) = field
+
+abbrev pub second : List (List ℕ) → List ℕ
+second (first ∷ field ∷ fields) = field
+second _ = []
+
+-- a line that is not two fields, or a rest that no newline ends
+abbrev pub bad_syntax : List (List (List ℕ)) → List ℕ → List LoadFault
+bad_syntax rows rest = faults_from Disks Syntax (λ row. not (is_pair row)) 1 rows ++ unended Disks (length rows + 1) rest
+
+-- sectors that are no number
+abbrev pub bad_field : List (List (List ℕ)) → List LoadFault
+bad_field rows = faults_from Disks Field (λ row. is_none (number_of (second row))) 1 rows
+
+-- a name that is none of a disk
+abbrev pub bad_name : List (List (List ℕ)) → List LoadFault
+bad_name rows = faults_from Disks Name (λ row. not (is_disk_name (first row))) 1 rows
+
+-- the checks of a list, in their order
+abbrev pub disk_checks : List ℕ → List (List LoadFault)
+disk_checks text =
+    let rows = map fields (lines_of text) in
+    not_text Disks text ∷ bad_syntax rows (rest_of text) ∷ bad_field rows ∷ bad_name rows ∷ []

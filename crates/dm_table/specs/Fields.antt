@@ -1,0 +1,36 @@
+-- Texts cut at a byte: lines at newlines, fields at spaces.
+use Rattle.std.specs.Prelude.{ℕ, ◌==◌, List, [], ◌∷◌, map}
+use Rattle.std.specs.List.{slice_split}
+use denote.Ref.{Bor}
+
+-- what slices point to
+abbrev pub texts : List (Bor (List ℕ)) → List (List ℕ)
+texts = map (λ slice. slice.now)
+
+-- the parts of a text between the bytes that are c: always one more than there are such bytes
+abbrev pub parts_at : ℕ → List ℕ → List (List ℕ)
+parts_at c = slice_split (λ b. b == c)
+
+-- all but the last
+abbrev pub front : {X : Type 0} → List X → List X
+front [] = []
+front (x ∷ []) = []
+front (x ∷ y ∷ ys) = x ∷ front (y ∷ ys)
+
+-- the last, or d
+abbrev pub back : {X : Type 0} → X → List X → X
+back d [] = d
+back d (x ∷ []) = x
+back d (x ∷ y ∷ ys) = back d (y ∷ ys)
+
+-- the lines that a newline ends
+abbrev pub lines_of : List ℕ → List (List ℕ)
+lines_of text = front (parts_at 10 text)
+
+-- what stands after the last newline
+abbrev pub rest_of : List ℕ → List ℕ
+rest_of text = back [] (parts_at 10 text)
+
+-- the fields of a line, at single spaces
+abbrev pub fields : List ℕ → List (List ℕ)
+fields = parts_at 32

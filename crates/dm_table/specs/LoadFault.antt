@@ -1,0 +1,57 @@
+-- Checks in a fixed order, and the one fault that is answered.
+use Rattle.std.specs.Prelude.{◌≡◌, ◌≢◌, ℕ, suc, Bool, not, ◌&&◌, nat_le, List, [], ◌∷◌, Option, Some, None, Result, Ok, Err, if◌then◌else◌}
+use Rattle.std.specs.List.{list_all}
+use Rattle.dm_table.specs.Fields.{parts_at}
+use Rattle.dm_table.specs.declared.place.Part.{Part}
+use Rattle.dm_table.specs.declared.load_fault.LoadKind.{LoadKind}
+use Rattle.dm_table.specs.declared.load_fault.LoadKind.TheVariants.{Memory, NotText, Syntax}
+use Rattle.dm_table.specs.declared.load_fault.LoadFault.{LoadFault}
+
+-- a fault of a kind at a number of a part
+abbrev pub fault_at : Part → LoadKind → ℕ → LoadFault
+fault_at part kind number = record { kind = kind; at = record { part = part; number = number } }
+
+-- want of memory while a part was read
+abbrev pub IsMemoryFault : Part → LoadFault → Type 0
+IsMemoryFault part fault = fault ≡ fault_at part Memory 0
+
+-- the first of what a check found, and where it found nothing, what is answered later
+abbrev pub first_or : List LoadFault → Option LoadFault → Option LoadFault
+first_or [] later = later
+first_or (fault ∷ faults) later = Some fault
+
+-- a check is what it finds, in the order in which it runs: the fault is the first of the first check that finds any
+abbrev pub first_fault : List (List LoadFault) → Option LoadFault
+first_fault [] = None
+first_fault (check ∷ checks) = first_or check (first_fault checks)
+
+-- the faults of one kind at the elements that are bad, numbered from n
+abbrev pub faults_from : {X : Type 0} → Part → LoadKind → (X → Bool) → ℕ → List X → List LoadFault
+faults_from part kind bad n [] = []
+faults_from part kind bad n (x ∷ xs) =
+    if bad x then fault_at part kind n ∷ faults_from part kind bad (suc n) xs else faults_from part kind bad (suc n) xs
+
+-- the fault, or else the value
+abbrev pub unless : {X : Type 0} → Option LoadFault → X → Result X LoadFault
+unless (Some fault) x = Err fault
+unless None x = Ok x
+
+-- what a call answered, seen by view, is this reading, save that want of memory may stand in its place
+abbrev pub Answers : {X Y : Type 0} → Part → (X → Y) → Result X LoadFault → Result Y LoadFault → Type 0
+Answers part view (Ok x) reading = reading ≡ Ok (view x)
+Answers part view (Err fault) reading = (fault.kind ≡ Memory → IsMemoryFault part fault) × (fault.kind ≢ Memory → reading ≡ Err fault)
+
+-- The two checks that all texts of lines share
+
+-- bytes from 0x20 to 0x7E
+abbrev pub is_text : List ℕ → Bool
+is_text line = list_all (λ b. nat_le 32 b && nat_le b 126) line
+
+-- a byte of a line that is no text, also in a rest that no newline ends
+abbrev pub not_text : Part → List ℕ → List LoadFault
+not_text part text = faults_from part NotText (λ line. not (is_text line)) 1 (parts_at 10 text)
+
+-- a rest that no newline ends, as line n
+abbrev pub unended : Part → ℕ → List ℕ → List LoadFault
+unended part n [] = []
+unended part n (byte ∷ bytes) = fault_at part Syntax n ∷ []

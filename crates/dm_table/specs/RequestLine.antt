@@ -1,0 +1,70 @@
+-- Request lines: R DEV START LEN and W DEV START LEN, without the newline.
+use Rattle.std.specs.Prelude.{◌≡◌, ℕ, ◌^◌, ◌<◌, ◌≤◌, ◌==◌, Bool, true, false, ◌&&◌, ◌||◌, List, [], ◌∷◌, ◌++◌, length, decimal, Option, Some, None, nat_le, is_some, unwrap_or, if◌then◌else◌}
+use Rattle.dm_table.specs.declared.request.Op.{Op}
+use Rattle.dm_table.specs.declared.request.Op.TheVariants.{Read, Write}
+use Rattle.dm_table.specs.declared.request.Request.{Request}
+use Rattle.dm_table.specs.declared.request.RequestFault.{RequestFault}
+use Rattle.dm_table.specs.declared.request.RequestFault.TheVariants.{Form, Number, Length}
+use Rattle.dm_table.specs.Name.{is_device_name}
+use Rattle.dm_table.specs.Number.{number_of}
+use Rattle.dm_table.specs.Fields.{fields}
+
+-- the four values of a request
+pub record RequestValues : Type 0 where
+  pub op : Op
+  pub device : List ℕ
+  pub start : ℕ
+  pub len : ℕ
+
+-- the values of a request, apart from its number
+abbrev pub values_of : Request → RequestValues
+values_of request = record { op = request.op; device = request.device.now; start = request.start; len = request.len }
+
+-- how an operation is written
+abbrev pub op_text : Op → ℕ
+op_text Read = 82
+op_text Write = 87
+
+-- how a request is written
+abbrev pub request_text : RequestValues → List ℕ
+request_text values = op_text values.op ∷ 32 ∷ values.device ++ 32 ∷ decimal values.start ++ 32 ∷ decimal values.len
+
+-- the line says this request: at most 1,048,576 sectors of a device that can be named
+pub record DescribesRequest (line : List ℕ) (values : RequestValues) : Type 0 where
+  pub written : line ≡ request_text values
+  pub device : is_device_name values.device ≡ true
+  pub start : values.start < 10 ^ 19
+  pub least : 1 ≤ values.len
+  pub most : values.len ≤ 1048576
+
+-- Its checks
+
+-- one of the two letters
+abbrev pub is_op : List ℕ → Bool
+is_op (letter ∷ []) = letter == 82 || letter == 87
+is_op _ = false
+
+-- a length in its limits
+abbrev pub is_length : ℕ → Bool
+is_length len = nat_le 1 len && nat_le len 1048576
+
+-- four fields: an operation, a device name, and two that are not empty
+abbrev pub has_form : List (List ℕ) → Bool
+has_form (op ∷ device ∷ start ∷ len ∷ []) = is_op op && (is_device_name device && (nat_le 1 (length start) && nat_le 1 (length len)))
+has_form _ = false
+
+-- the last two fields are numbers
+abbrev pub has_numbers : List (List ℕ) → Bool
+has_numbers (op ∷ device ∷ start ∷ len ∷ []) = is_some (number_of start) && is_some (number_of len)
+has_numbers _ = false
+
+-- the last field is a length in its limits
+abbrev pub has_length : List (List ℕ) → Bool
+has_length (op ∷ device ∷ start ∷ len ∷ []) = is_length (unwrap_or (number_of len) 0)
+has_length _ = false
+
+-- the fault of a line: the first of the three that applies
+abbrev pub request_fault : List ℕ → Option RequestFault
+request_fault line =
+    if has_form (fields line) then (if has_numbers (fields line) then (if has_length (fields line) then None else Some Length) else Some Number)
+    else Some Form

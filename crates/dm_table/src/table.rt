@@ -1,0 +1,58 @@
+//! Devices and their tables, as a text describes them and before any check of the whole.
+//!
+//! The words are those of dmsetup(8): a table is a list of lines, and a line maps a range of
+//! sectors to a target. A new target is a variant of `Target` here, an arm in `table_text`, and
+//! a definition of its text and its meaning.
+
+use crate::name::{DiskName, Name};
+use crate::place::Place;
+use std::marker::Model;
+
+/// What a line names: a device of the stack, or a listed disk.
+#[derive(Debug, Drop)]
+pub enum DevRef {
+    Device(Name),
+    Disk(DiskName),
+}
+
+/// What becomes of a line's sectors. Offsets are in sectors.
+#[derive(Debug, Drop)]
+pub enum Target {
+    /// They are those of a lower device, from an offset on.
+    Linear { to: DevRef, offset: u64 },
+    /// Every request fails.
+    Error,
+}
+
+/// A line of a table: `len` sectors from `start` on, and the place that describes it.
+#[derive(Debug, Drop)]
+pub struct Line {
+    pub start: u64,
+    pub len: u64,
+    pub target: Target,
+    pub at: Place,
+}
+
+/// The lines of a device, in the order of the text. A clause sees them as a list.
+#[derive(Debug, Drop)]
+pub struct Table {
+    lines: Vec<Line>,
+}
+
+impl Model for Table {
+    ghost use Rattle.std.specs.Prelude.{List};
+    ghost use Rattle.dm_table.specs.declared.table.Line.{Line};
+
+    ghost Value = { List Line };
+
+    ghost view = { λ table. table.lines.items };
+}
+
+/// A device: its name, whether it is read-only, its table, and the place of its description.
+#[derive(Debug, Drop)]
+pub struct DeviceSpec {
+    pub name: Name,
+    pub ro: bool,
+    pub lines: Table,
+    pub at: Place,
+}
