@@ -1,0 +1,4 @@
+pub mod NumberLemmas
+pub mod ByteLemmas
+pub mod FieldLemmas
+pub mod FaultLemmas
