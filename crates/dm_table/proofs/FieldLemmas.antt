@@ -36,13 +36,14 @@ clear_before c text n le none = λ k d below.
     let near : length (take n text) ≤ n = grind (arith, common_steps) in
     rw same (false_from_ne_true _ (none k (omega arith) (omega arith)))
 
-parts_at-found : (c : ℕ) (text : List ℕ) (n : ℕ) → IsFirstByte (is_byte c) text (Some n) → parts_at c text ≡ take n text ∷ parts_at c (drop (n + 1) text)
+-- what a search of the first c finds, as parts
+pub parts_at-found : (c : ℕ) (text : List ℕ) (n : ℕ) → IsFirstByte (is_byte c) text (Some n) → parts_at c text ≡ take n text ∷ parts_at c (drop (n + 1) text)
 parts_at-found c text n found =
     let below : n < length text = found.0.high in
     let whole : text ≡ take n text ++ get_or text n 0 ∷ drop (n + 1) text = sym (take-append-drop n text) ∙ ap (λ (more : List ℕ). take n text ++ more) (rw add-one (drop-cons text n 0 below)) in
     ap (parts_at c) whole ∙ slice_split_at (λ b. eqb b c) (take n text) (get_or text n 0) (drop (n + 1) text) (clear_before c text n (omega arith) found.0.before) found.1
 
-parts_at-nowhere : (c : ℕ) (text : List ℕ) → IsFirstByte (is_byte c) text None → parts_at c text ≡ text ∷ []
+pub parts_at-nowhere : (c : ℕ) (text : List ℕ) → IsFirstByte (is_byte c) text None → parts_at c text ≡ text ∷ []
 parts_at-nowhere c text none =
     parts_at-clear c text (λ k d below.
     let same : get_or text k d ≡ get_or text k 0 = grind (arith, elements) in

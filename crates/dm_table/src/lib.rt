@@ -12,6 +12,7 @@ mod name;
 mod number;
 mod place;
 mod request;
+mod request_line;
 mod table;
 mod text_checks;
 
@@ -19,5 +20,6 @@ pub use disk::Disk;
 pub use load_fault::{LoadFault, LoadKind};
 pub use name::{CheckFault, DiskName, Name};
 pub use place::{Part, Place};
-pub use request::{Op, Request, RequestFault};
+pub use request::{MOST_SECTORS, Op, Request, RequestFault};
+pub use request_line::parse_request;
 pub use table::{DevRef, DeviceSpec, Line, Table, Target};
