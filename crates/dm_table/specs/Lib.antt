@@ -1,0 +1,2 @@
+pub mod DeviceIo
+pub mod ShortIo
