@@ -85,16 +85,17 @@ impl<'a> Input for ShortIn<'a> {
         ensures exact { HandsOut self.old self.new result buffer.new }
     {
         let left = &self.bytes[self.at..];
-        if self.fails && left.is_empty() {
+        if left.is_empty() && self.fails {
             self.faults.raise();
             return Err(InFault);
+        }
+        if left.is_empty() && !buffer.is_empty() {
+            self.ends.raise();
+            return Ok(0);
         }
         let n = self.step.min(left.len().min(buffer.len()));
         buffer[..n].copy_from_slice(&left[..n]);
         self.at += n;
-        if n == 0 && !buffer.is_empty() {
-            self.ends.raise();
-        }
         Ok(n)
     }
 }
