@@ -1,5 +1,5 @@
 -- What the devices over memory hold, and what a call of one does.
-use Rattle.std.specs.Prelude.{◌≡◌, ◌↔◌, ◌+◌, ◌++◌, ℕ, List, [], length, min, Bool, true, Result, IsErr, IfOk}
+use Rattle.std.specs.Prelude.{◌≡◌, ◌↔◌, ◌+◌, ◌++◌, ◌<◌, ℕ, List, [], length, min, Bool, true, false, Result, IsErr, IfOk}
 use Rattle.dm_table.specs.DeviceIo.{given}
 
 -- an input: what it handed out and has left, the most bytes of a read, whether it fails after them, and its counts
@@ -34,10 +34,12 @@ fresh_intake step room flush_fails =
 abbrev pub portion : (step offered room : ℕ) → ℕ
 portion step offered room = min step (min offered room)
 
--- a read: a fault exactly where nothing is left to an input that fails, else the next portion of what is left
+-- a read: a fault exactly where nothing is left to an input that fails, else the next portion of what is left;
+-- a 0 where there is room is an end, which comes only where nothing is left to an input that doesn't fail
 pub record HandsOut {E : Type 0} (old new : Supply) (result : Result ℕ E) (buffer : List ℕ) : Type 0 where
   pub fault : IsErr result ↔ ((old.fails ≡ true) × (old.left ≡ []))
   pub count : IfOk result (λ n. n ≡ portion old.step (length old.left) (length buffer))
+  pub end : IfOk result (λ n. n ≡ 0 → 0 < length buffer → (old.fails ≡ false) × (old.left ≡ []))
   pub left : old.left ≡ given result buffer ++ new.left
   pub plan : (new.step ≡ old.step) × (new.fails ≡ old.fails)
 

@@ -1,7 +1,7 @@
 //! An input and an output over memory that go short and fail where a test wants it.
 //! What each call does is said exactly, so that a test over them shows what it claims to.
 //! Keep a call a function of what the device holds: one that met its end or its fault meets it at each later call.
-ghost use Rattle.std.specs.Prelude.{◌≡◌, ◌+◌, ◌<◌, ◌≤◌, ◌++◌, [], ℕ, List, length, take, drop, true, false, IfOk, vec_len, vec_capacity};
+ghost use Rattle.std.specs.Prelude.{◌≡◌, ◌+◌, ◌<◌, ◌≤◌, ◌++◌, [], ℕ, List, length, take, drop, true, false, ◌↔◌, ◌||◌, if◌then◌else◌, is_err, IsErr, IsTrue, IfOk, vec_len, vec_capacity};
 ghost use Rattle.dm_table.specs.DeviceIo.{given, fault_of, end_of, unflushed};
 ghost use Rattle.dm_table.specs.ShortIo.{Supply, fresh_supply, Intake, fresh_intake, HandsOut, TakesIn, PassesOn};
 
@@ -67,6 +67,25 @@ impl<'a> ShortIn<'a> {
             ends: Tally::new(),
         }
     }
+
+    /// A read where nothing is left.
+    fn read_nothing(&mut self, is_full: bool) -> Result<usize, InFault>
+        ensures fault { IsErr result ↔ IsTrue self.old.fails }
+        ensures zero { IfOk result (λ n. n ≡ 0) }
+        ensures counts { self.new ≡ record self.old {
+          faults = self.old.faults + fault_of result;
+          ends = self.old.ends + (if is_err result || is_full then 0 else 1);
+        } }
+    {
+        if self.fails {
+            self.faults.raise();
+            return Err(InFault);
+        }
+        if !is_full {
+            self.ends.raise();
+        }
+        Ok(0)
+    }
 }
 
 impl<'a> Input for ShortIn<'a> {
@@ -85,13 +104,8 @@ impl<'a> Input for ShortIn<'a> {
         ensures exact { HandsOut self.old self.new result buffer.new }
     {
         let left = &self.bytes[self.at..];
-        if left.is_empty() && self.fails {
-            self.faults.raise();
-            return Err(InFault);
-        }
-        if left.is_empty() && !buffer.is_empty() {
-            self.ends.raise();
-            return Ok(0);
+        if left.is_empty() {
+            return self.read_nothing(buffer.is_empty());
         }
         let n = self.step.min(left.len().min(buffer.len()));
         buffer[..n].copy_from_slice(&left[..n]);

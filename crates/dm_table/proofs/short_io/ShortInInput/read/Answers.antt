@@ -1,6 +1,7 @@
-use Rattle.std.proofs.Common.{rules, ◌≡◌, ◌+◌, ◌≤◌, ◌++◌, ℕ, List, length, take, drop, sym, ap, ◌∙◌, arith, length-append, length-drop, length-take}
+use Rattle.std.proofs.Common.{rules, ◌≡◌, ◌+◌, ◌<◌, ◌≤◌, ◌++◌, ℕ, List, length, take, drop, sym, ap, ◌∙◌, arith, length-append, length-drop, length-take}
+use Rattle.std.proofs.lemmas.Bool.{eqb-false}
 use Rattle.dm_table.specs.ShortIo.{Supply, portion}
-use Rattle.dm_table.proofs.Portions.{behind_is, front_is, handed_grows, left_shrinks}
+use Rattle.dm_table.proofs.Portions.{behind, behind_is, front_is, handed_grows, left_shrinks}
 use Rattle.dm_table.proofs.short_io.ShortInInput.read.Goals as goal
 
 -- the bytes given are those at the place
@@ -18,16 +19,26 @@ room_is c = let n = c.min-n.result in let buffer = c.args.buffer.now in
 
 count_is : (c : goal.After-self-1) → c.min-n.result ≡ portion c.args.self.now.step (length c.args.self.now.left) (length (c.copy_from_slice.new.self ++ drop c.min-n.result c.args.buffer.now))
 count_is c = omega (
-  arith, room_is c, c.min-n.ensures, c.min.ensures,
+  arith,
+  room_is c,
+  c.min-n.ensures,
+  c.min.ensures,
   ap length (behind_is c.self.inside.bytes.now c.self.inside.at),
   ap (λ (s : Supply). s.step) c.self.view_is,
   ap (λ (s : Supply). length s.left) c.self.view_is,
 )
 
+-- a portion of what is left is a byte at least
+moves : (c : goal.After-self-1) → c.min-n.result ≡ 0 → 0 < length (c.copy_from_slice.new.self ++ drop c.min-n.result c.args.buffer.now) → ⊥
+moves c zero roomy =
+    let some_left = eqb-false (length (behind c.self.inside.bytes.now c.self.inside.at)) 0 (sym c.is_empty.ensures ∙ c.if-is_empty.false) in
+    omega (arith, room_is c, c.min-n.ensures, c.min.ensures, c.self.invariant.1)
+
 pub returns-clause-exact : goal.returns-clause-exact
 returns-clause-exact c = record {
   fault = search rules;
   count = count_is c;
+  end = λ zero roomy. absurd (moves c zero roomy);
   left = ap (λ (s : Supply). s.left) (sym c.self.view_is) ∙ left_shrinks c.self.inside.bytes.now _ c.self.inside.at c.min-n.result (given_is c);
   plan = (ap (λ (s : Supply). s.step) c.self.view_is, ap (λ (s : Supply). s.fails) c.self.view_is);
 }
