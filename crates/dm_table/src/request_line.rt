@@ -6,7 +6,7 @@
 ghost use Rattle.std.specs.Prelude.{◌≡◌, ◌≢◌, [], ◌∷◌, length, Some, None, is_some, IfSome, IfNone, IsOkAnd, IfOk, IfErr, OnOk};
 ghost use Rattle.dm_table.specs.Name.{is_device_name};
 ghost use Rattle.dm_table.specs.Fields.{fields};
-ghost use Rattle.dm_table.specs.RequestLine.{RequestValues, DescribesRequest, values_of, op_text, row_of, is_op, has_form, request_fault};
+ghost use Rattle.dm_table.specs.RequestLine.{RequestValues, DescribesRequest, values_of, op_text, row_of, is_op, has_form, request_fault, request_values};
 
 use crate::name::{ascii_str, is_device_name};
 use crate::number;
@@ -101,6 +101,7 @@ pub fn parse_request<'a>(line: &'a [u8], number: u64) -> Result<Request<'a>, Req
     // What is accepted is what the line says.
     ensures accepted { IfOk result (λ request. DescribesRequest line.now (values_of request)) }
     ensures numbered { IfOk result (λ request. request.number ≡ number) }
+    ensures values { IfOk result (λ request. values_of request ≡ request_values line.now) }
     // What the line says is accepted, and it says one thing at most.
     ensures only { (values : RequestValues) → DescribesRequest line.now values → IsOkAnd result (λ request. values_of request ≡ values) }
     ensures unique { (a b : RequestValues) → DescribesRequest line.now a → DescribesRequest line.now b → a ≡ b }
