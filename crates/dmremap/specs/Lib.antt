@@ -1,0 +1,4 @@
+pub mod Units
+pub mod Mapping
+pub mod Pieces
+pub mod Soundness

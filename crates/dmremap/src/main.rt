@@ -1,0 +1,6 @@
+//! dmremap.
+#![tactic(auto)]
+
+mod soundness;
+
+fn main() {}
