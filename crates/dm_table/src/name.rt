@@ -3,6 +3,8 @@
 //! A value of these types is a name by its type, so nothing above checks it again. The rules are
 //! this project's profile of what dmsetup(8) takes; change them in `specs/Name.antt` first.
 
+ghost use Rattle.std.specs.Prelude.{◌≡◌};
+
 use std::marker::Model;
 use thiserror::Error;
 
@@ -35,6 +37,15 @@ impl Model for Name {
     ghost invariant = { λ name. is_device_name (string_bytes name.text) ≡ true };
 }
 
+impl Name {
+    /// The text of the name.
+    pub fn as_str(&self) -> &str
+        ensures { result.now ≡ self.now }
+    {
+        self.text.as_str()
+    }
+}
+
 /// The name of a disk: 1 to 255 bytes from 0x21 to 0x7E without `,`, `;` and `\`, not beginning
 /// with `/dev/mapper/`.
 #[derive(Debug, Drop)]
@@ -52,4 +63,13 @@ impl Model for DiskName {
     ghost view = { λ name. string_bytes name.text };
 
     ghost invariant = { λ name. is_disk_name (string_bytes name.text) ≡ true };
+}
+
+impl DiskName {
+    /// The text of the name.
+    pub fn as_str(&self) -> &str
+        ensures { result.now ≡ self.now }
+    {
+        self.text.as_str()
+    }
 }

@@ -2,3 +2,4 @@ pub mod Units
 pub mod Mapping
 pub mod Pieces
 pub mod Soundness
+pub mod Loaded
