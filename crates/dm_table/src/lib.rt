@@ -6,15 +6,20 @@
 #![tactic(auto)]
 
 mod disk;
+mod fields;
 mod load_fault;
 mod name;
+mod number;
 mod place;
 mod request;
+mod request_line;
 mod table;
+mod text_checks;
 
 pub use disk::Disk;
 pub use load_fault::{LoadFault, LoadKind};
 pub use name::{CheckFault, DiskName, Name};
 pub use place::{Part, Place};
-pub use request::{Op, Request, RequestFault};
+pub use request::{MOST_SECTORS, Op, Request, RequestFault};
+pub use request_line::parse_request;
 pub use table::{DevRef, DeviceSpec, Line, Table, Target};
