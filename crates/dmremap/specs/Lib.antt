@@ -1,0 +1,5 @@
+pub mod Units
+pub mod Mapping
+pub mod Pieces
+pub mod Soundness
+pub mod Loaded

@@ -1,0 +1,8 @@
+//! dmremap.
+#![tactic(auto)]
+
+mod loaded;
+mod soundness;
+mod unit;
+
+fn main() {}
