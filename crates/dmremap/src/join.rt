@@ -1,0 +1,69 @@
+//! The answer to a request: its units, joined into the fewest pieces and written as lines.
+//!
+//! One piece is held while units go on from it, so a request takes no memory however long it is.
+//! That these are the fewest pieces is the law at the end; the loop only has to keep it.
+
+ghost use Rattle.std.specs.Prelude.{◌≡◌, ◌+◌, ◌++◌, OnOk};
+ghost use Rattle.dm_table.specs.DeviceIo.{since, fault_of};
+ghost use Rattle.dm_table.specs.RequestLine.{values_of};
+ghost use Rattle.dmremap.specs.Mapping.{end_of, device_named, lines_or_none};
+ghost use Rattle.dmremap.specs.Outcome.{request_answer};
+ghost use Rattle.dmremap.specs.Pieces.{piece_text};
+ghost use Rattle.dmremap.specs.PieceView.{piece_view};
+
+use crate::loaded::Loaded;
+use crate::piece::Piece;
+use crate::unit::SectorUnit;
+use crate::write_all::write_all;
+use dm_table::{OutFault, Output, Request};
+
+/// Writes the answer to a request to a device that ends at the sector `end`.
+///
+/// Cost: a look-up of a line a sector, and one write a piece.
+pub(crate) fn answer_request<W: Output>(
+    loaded: &Loaded,
+    request: &Request<'_>,
+    end: u64,
+    writer: &mut W,
+) -> Result<(), OutFault>
+    requires { end ≡ end_of (lines_or_none (device_named loaded.now.devices request.now.device.now)) }
+    ensures appends { W.written writer.new ≡ W.written writer.old ++ since (W.written writer.old) (W.written writer.new) }
+    ensures ok { OnOk result (since (W.written writer.old) (W.written writer.new) ≡ request_answer loaded.now.devices request.now.number (values_of request.now)) }
+    ensures faults { W.faults writer.new ≡ W.faults writer.old + fault_of result }
+    ensures flushes { W.flushes writer.new ≡ W.flushes writer.old }
+{
+    if end < request.start || end - request.start < request.len {
+        let piece = Piece {
+            first: SectorUnit::Error,
+            len: request.len,
+        };
+        return write_piece(&piece, request.number, writer);
+    }
+    let mut held = Piece {
+        first: loaded.unit_at(request.op, request.device, request.start),
+        len: 1,
+    };
+    for distance in 1..request.len {
+        let unit = loaded.unit_at(request.op, request.device, request.start + distance);
+        if held.goes_on(&unit) {
+            held.len += 1;
+        } else {
+            write_piece(&held, request.number, writer)?;
+            held = Piece {
+                first: unit,
+                len: 1,
+            };
+        }
+    }
+    write_piece(&held, request.number, writer)
+}
+
+/// Writes the line of a piece.
+fn write_piece<W: Output>(piece: &Piece<'_>, number: u64, writer: &mut W) -> Result<(), OutFault>
+    ensures appends { W.written writer.new ≡ W.written writer.old ++ since (W.written writer.old) (W.written writer.new) }
+    ensures ok { OnOk result (since (W.written writer.old) (W.written writer.new) ≡ piece_text number (piece_view piece.now)) }
+    ensures faults { W.faults writer.new ≡ W.faults writer.old + fault_of result }
+    ensures flushes { W.flushes writer.new ≡ W.flushes writer.old }
+{
+    write_all(writer, piece.text(number).as_slice())
+}
