@@ -5,3 +5,5 @@ pub mod LoadFault
 pub mod DiskList
 pub mod TableText
 pub mod RequestLine
+pub mod DeviceIo
+pub mod ShortIo

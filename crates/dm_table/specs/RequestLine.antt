@@ -68,3 +68,19 @@ abbrev pub request_fault : List ℕ → Option RequestFault
 request_fault line =
     if has_form (fields line) then (if has_numbers (fields line) then (if has_length (fields line) then None else Some Length) else Some Number)
     else Some Form
+
+-- the letter of a read
+abbrev pub is_read : List ℕ → Bool
+is_read (letter ∷ []) = letter == 82
+is_read _ = false
+
+-- the values in the fields of a line, told where it has no fault
+abbrev pub op_in : List ℕ → Op
+op_in letter = if is_read letter then Read else Write
+
+abbrev pub values_in : List (List ℕ) → RequestValues
+values_in (op ∷ device ∷ start ∷ len ∷ []) = record { op = op_in op; device = device; start = unwrap_or (number_of start) 0; len = unwrap_or (number_of len) 0 }
+values_in _ = record { op = Read; device = []; start = 0; len = 0 }
+
+abbrev pub request_values : List ℕ → RequestValues
+request_values line = values_in (fields line)

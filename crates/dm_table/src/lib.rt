@@ -1,20 +1,28 @@
-//! Device-mapper tables, disk lists and requests: their texts, and what the texts say.
+//! Device-mapper tables, disk lists and requests: their texts, what the texts say, and the devices
+//! of bytes that they are read from and written to.
 //!
 //! A text is accepted exactly where its grammar spells a description, and that description is what
 //! a call answers; else the call answers the first check that finds anything, at its first place.
 //! The words are those of dmsetup(8) and of the kernel's admin-guide/device-mapper documents.
 #![tactic(auto)]
 
+mod counted;
+mod device_io;
 mod disk;
+mod history;
 mod load_fault;
 mod name;
 mod place;
 mod request;
+mod short_io;
 mod table;
 
+pub use counted::Counted;
+pub use device_io::{InFault, Input, OutFault, Output};
 pub use disk::Disk;
 pub use load_fault::{LoadFault, LoadKind};
 pub use name::{CheckFault, DiskName, Name};
 pub use place::{Part, Place};
 pub use request::{Op, Request, RequestFault};
+pub use short_io::{ShortIn, ShortOut};
 pub use table::{DevRef, DeviceSpec, Line, Table, Target};

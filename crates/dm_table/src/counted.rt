@@ -1,0 +1,105 @@
+//! Any reader or writer of std as an input or an output.
+//! std counts neither faults nor ends, and knows the bytes of few readers, so a history beside the device keeps them.
+//! What a proof knows of a real device is what is noted here: note each answer in the arm that gives it.
+ghost use Rattle.std.specs.Prelude.{◌≡◌, ◌+◌, ◌<◌, ◌≤◌, ◌++◌, [], ℕ, List, length, IfOk};
+ghost use Rattle.std.specs.Io.KnownBytes.{Keeps, ReadConsumes, WriteAppends};
+ghost use Rattle.dm_table.specs.DeviceIo.{given, fault_of, end_of, unflushed};
+
+use crate::device_io::{InFault, Input, OutFault, Output};
+use crate::history::{History, Tally};
+use std::io::{Read, Write};
+
+/// A reader or a writer, with a history that takes no room and no time.
+#[derive(Drop)]
+pub struct Counted<T> {
+    inner: T,
+    handed: History,
+    read_faults: Tally,
+    ends: Tally,
+    written: History,
+    waiting: History,
+    write_faults: Tally,
+    flushes: Tally,
+}
+
+impl<T> Counted<T> {
+    /// The device with nothing noted yet.
+    pub fn new(inner: T) -> Counted<T>
+        ensures { result.inner ≡ inner }
+    {
+        Counted {
+            inner,
+            handed: History::new(),
+            read_faults: Tally::new(),
+            ends: Tally::new(),
+            written: History::new(),
+            waiting: History::new(),
+            write_faults: Tally::new(),
+            flushes: Tally::new(),
+        }
+    }
+}
+
+impl<T: Read> Input for Counted<T> {
+    ghost handed = { λ c. c.handed.bytes };
+
+    ghost faults = { λ c. c.read_faults };
+
+    ghost ends = { λ c. c.ends };
+
+    /// One read of the reader. Each of its errors is a fault, an interrupted call too.
+    fn read(&mut self, buffer: &mut [u8]) -> Result<usize, InFault> {
+        match self.inner.read(buffer) {
+            Ok(n) => {
+                self.handed.note(&buffer[..n]);
+                if n == 0 && !buffer.is_empty() {
+                    self.ends.raise();
+                }
+                Ok(n)
+            }
+            Err(_) => {
+                self.read_faults.raise();
+                Err(InFault)
+            }
+        }
+    }
+}
+
+impl<T: Write> Output for Counted<T> {
+    ghost written = { λ c. c.written.bytes };
+
+    ghost waiting = { λ c. c.waiting.bytes };
+
+    ghost faults = { λ c. c.write_faults };
+
+    ghost flushes = { λ c. c.flushes };
+
+    /// One write of the writer. Each of its errors is a fault, and so is a 0 for a slice that isn't empty.
+    fn write(&mut self, bytes: &[u8]) -> Result<usize, OutFault> {
+        match self.inner.write(bytes) {
+            Ok(n) if n > 0 || bytes.is_empty() => {
+                self.written.note(&bytes[..n]);
+                self.waiting.note(&bytes[..n]);
+                Ok(n)
+            }
+            _ => {
+                self.write_faults.raise();
+                Err(OutFault)
+            }
+        }
+    }
+
+    fn flush(&mut self) -> Result<(), OutFault> {
+        self.flushes.raise();
+        match self.inner.flush() {
+            Ok(()) => {
+                self.waiting = History::new();
+                Ok(())
+            }
+            Err(_) => {
+                self.write_faults.raise();
+                Err(OutFault)
+            }
+        }
+    }
+}

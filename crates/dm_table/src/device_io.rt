@@ -1,0 +1,69 @@
+//! The traits of what the product reads from and writes to, and their faults.
+//! Their ghost members say what a device did so far, so that a caller's contract can speak of any device.
+//! A change of a clause here is a change for every reader and writer above: check them all.
+ghost use Rattle.std.specs.Prelude.{◌≡◌, ◌+◌, ◌<◌, ◌≤◌, ◌++◌, ℕ, List, length, IfOk};
+ghost use Rattle.dm_table.specs.DeviceIo.{given, fault_of, end_of, unflushed};
+
+use thiserror::Error;
+
+/// A read failed.
+#[derive(Clone, Copy, Debug, PartialEq, Eq, Error)]
+#[error("the input failed")]
+pub struct InFault;
+
+/// A write or a flush failed.
+#[derive(Clone, Copy, Debug, PartialEq, Eq, Error)]
+#[error("the output failed")]
+pub struct OutFault;
+
+/// A device that bytes are read from.
+pub trait Input {
+    /// The bytes that it handed out so far.
+    ghost handed: { Self → List ℕ };
+
+    /// How many reads failed so far.
+    ghost faults: { Self → ℕ };
+
+    /// How many reads into a slice with room answered 0 so far.
+    ghost ends: { Self → ℕ };
+
+    /// Fills a front of the slice, and answers its length in bytes: 0 at an end, or where the slice has no room.
+    /// After a failed read the slice may hold anything.
+    fn read(&mut self, buffer: &mut [u8]) -> Result<usize, InFault>
+        ensures within { IfOk result (λ n. n ≤ length buffer.new) }
+        ensures bytes { handed self.new ≡ handed self.old ++ given result buffer.new }
+        ensures faults { faults self.new ≡ faults self.old + fault_of result }
+        ensures ends { ends self.new ≡ ends self.old + end_of result (length buffer.new) };
+}
+
+/// A device that bytes are written to.
+pub trait Output {
+    /// The bytes that it took so far.
+    ghost written: { Self → List ℕ };
+
+    /// The bytes that it took since the last flush that succeeded.
+    ghost waiting: { Self → List ℕ };
+
+    /// How many writes and flushes failed so far.
+    ghost faults: { Self → ℕ };
+
+    /// How many flushes were asked of it so far, failed ones too.
+    ghost flushes: { Self → ℕ };
+
+    /// Takes a front of the slice, and answers its length in bytes, which is 0 only for an empty slice.
+    /// A write that fails takes nothing.
+    fn write(&mut self, bytes: &[u8]) -> Result<usize, OutFault>
+        ensures within { IfOk result (λ n. n ≤ length bytes.now) }
+        ensures progress { IfOk result (λ n. 0 < length bytes.now → 0 < n) }
+        ensures bytes { written self.new ≡ written self.old ++ given result bytes.now }
+        ensures waiting { waiting self.new ≡ waiting self.old ++ given result bytes.now }
+        ensures faults { faults self.new ≡ faults self.old + fault_of result }
+        ensures flushes { flushes self.new ≡ flushes self.old };
+
+    /// Has all that was taken go on to where it belongs. Where that fails, all of it still counts as waiting.
+    fn flush(&mut self) -> Result<(), OutFault>
+        ensures bytes { written self.new ≡ written self.old }
+        ensures waiting { waiting self.new ≡ unflushed result (waiting self.old) }
+        ensures faults { faults self.new ≡ faults self.old + fault_of result }
+        ensures flushes { flushes self.new ≡ flushes self.old + 1 };
+}

@@ -1,0 +1,65 @@
+//! Bytes and counts that only proofs read. They stand for what a device did so far, which no number
+//! of the machine could count without an end, so they have no data and their methods no code.
+//! The two proofs in `proofs/history` set the bytes by hand; add a method only where no call of these does.
+ghost use Rattle.std.specs.Prelude.{◌≡◌, ◌+◌, ◌++◌, ℕ, List, [], length};
+ghost use Rattle.std.specs.Borrow.{ftrue};
+
+use std::marker::Model;
+
+/// A growing list of bytes, of size zero.
+#[derive(Drop)]
+pub struct History {
+    pub ghost bytes: { List ℕ },
+}
+
+impl Model for History {
+    ghost also_owns = { λ _. ftrue };
+}
+
+impl History {
+    /// No bytes.
+    #[inline(always)]
+    pub fn new() -> History
+        ensures { result.bytes ≡ [] }
+    {
+        History {}
+    }
+
+    /// Puts the slice behind the bytes so far, in no time.
+    #[inline(always)]
+    pub fn note(&mut self, _more: &[u8])
+        ensures { self.new.bytes ≡ self.old.bytes ++ _more.now }
+    {}
+}
+
+/// A count with no greatest value, of size zero.
+#[derive(Drop)]
+pub struct Tally {
+    ticks: History,
+}
+
+impl Model for Tally {
+    ghost Value = { ℕ };
+
+    ghost view = { λ t. length t.ticks.bytes };
+}
+
+impl Tally {
+    /// The count 0.
+    #[inline(always)]
+    pub fn new() -> Tally
+        ensures { result ≡ 0 }
+    {
+        Tally {
+            ticks: History::new(),
+        }
+    }
+
+    /// Raises the count by one, in no time.
+    #[inline(always)]
+    pub fn raise(&mut self)
+        ensures { self.new ≡ self.old + 1 }
+    {
+        self.ticks.note(&[0]);
+    }
+}
