@@ -6,4 +6,3 @@ pub mod DiskList
 pub mod TableText
 pub mod RequestLine
 pub mod DeviceIo
-pub mod ShortIo

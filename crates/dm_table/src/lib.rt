@@ -14,7 +14,6 @@ mod load_fault;
 mod name;
 mod place;
 mod request;
-mod short_io;
 mod table;
 
 pub use counted::Counted;
@@ -24,5 +23,4 @@ pub use load_fault::{LoadFault, LoadKind};
 pub use name::{CheckFault, DiskName, Name};
 pub use place::{Part, Place};
 pub use request::{Op, Request, RequestFault};
-pub use short_io::{ShortIn, ShortOut};
 pub use table::{DevRef, DeviceSpec, Line, Table, Target};
