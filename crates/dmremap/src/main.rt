@@ -2,8 +2,10 @@
 #![tactic(auto)]
 
 mod ending;
+mod line_buffer;
 mod lines;
 mod run;
 mod soundness;
+mod write_all;
 
 fn main() {}
