@@ -1,2 +1,7 @@
+pub mod AnswerLemmas
+pub mod Growth
+pub mod Held
+pub mod LineParts
 pub mod Passes
+pub mod PieceLemmas
 pub mod Sound

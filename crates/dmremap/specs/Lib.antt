@@ -1,5 +1,10 @@
-pub mod Units
+pub mod Found
+pub mod Lines
+pub mod Loaded
 pub mod Mapping
+pub mod Outcome
+pub mod PieceView
 pub mod Pieces
 pub mod Soundness
-pub mod Loaded
+pub mod Units
+pub mod WriteAll
