@@ -1,14 +1,17 @@
 -- The answer to a request, one unit at a time.
-use Rattle.std.proofs.Common.{◌≡◌, ℕ, zero, suc, ◌+◌, ◌-◌, ◌≤◌, ◌<◌, true, false, List, [], ◌∷◌, ◌++◌, length, drop, refl, sym, ap, subst, ◌∙◌, append_assoc, add-one, arith}
-use Rattle.std.specs.Prelude.{replicate}
+use Rattle.std.proofs.Common.{◌≡◌, ℕ, zero, suc, ◌+◌, ◌-◌, ◌≤◌, ◌<◌, Bool, true, false, cond, List, Result, Ok, Err, [], ◌∷◌, ◌++◌, length, drop, refl, sym, ap, subst, ◌∙◌, append_assoc, add-one, arith}
+use Rattle.std.specs.Prelude.{replicate, nat_lt, OnOk}
+use Rattle.std.proofs.lemmas.Bool.{lt-ltb, le-ltb}
 use Rattle.std.specs.List.{flat_map}
 use Rattle.std.proofs.lemmas.List.{append-nil}
 use Rattle.dm_table.specs.declared.table.DeviceSpec.{DeviceSpec}
 use Rattle.dm_table.specs.declared.request.Op.{Op}
 use Rattle.dm_table.specs.DeviceIo.{since}
+use Rattle.dm_table.specs.RequestLine.{RequestValues}
 use Rattle.dmremap.specs.Units.{BlockUnit, Fails}
-use Rattle.dmremap.specs.Mapping.{unit_of, units_from}
-use Rattle.dmremap.specs.Pieces.{Piece, run, fewest, is_after, piece_text, pieces_text}
+use Rattle.dmremap.specs.Mapping.{unit_of, units_from, end_of, lines_or_none, device_named}
+use Rattle.dmremap.specs.Pieces.{Piece, run, units_in, fewest, is_after, piece_text, pieces_text}
+use Rattle.dmremap.specs.Outcome.{request_answer}
 use Rattle.dmremap.proofs.PieceLemmas.{run-longer, fewest-apart, fewest-run}
 
 -- the units from a sector on begin with its own
@@ -56,31 +59,31 @@ later_units devices op name start distance len unit inside is =
     ∙ ap (λ (n : ℕ). unit ∷ units_from devices op name n (len - distance - 1)) a
     ∙ ap (λ (n : ℕ). unit ∷ units_from devices op name (start + (distance + 1)) n) b
 
--- at a unit that goes on from the held piece
-pub told_joined : (devices : List DeviceSpec) (op : Op) (name : List ℕ) (start distance len number held : ℕ) (all so_far : List ℕ) (first unit : BlockUnit) → distance < len → unit ≡ unit_of devices op name (start + distance) → is_after first held unit ≡ true
-    → all ≡ so_far ++ pieces_text number (fewest (run first held ++ units_from devices op name (start + distance) (len - distance)))
-    → all ≡ so_far ++ pieces_text number (fewest (run first (held + 1) ++ units_from devices op name (start + (distance + 1)) (len - (distance + 1))))
-told_joined devices op name start distance len number held all so_far first unit inside is after told =
-    let rest = units_from devices op name (start + (distance + 1)) (len - (distance + 1)) in
-    told
-    ∙ ap (λ (us : List BlockUnit). so_far ++ pieces_text number (fewest (run first held ++ us))) (later_units devices op name start distance len unit inside is)
-    ∙ ap (λ (us : List BlockUnit). so_far ++ pieces_text number (fewest us)) (run-longer first held unit rest after)
-    ∙ ap (λ (n : ℕ). so_far ++ pieces_text number (fewest (run first n ++ rest))) (sym (add-one held))
+-- at a unit that goes on from the held piece, whatever comes behind
+pub told_joined : (number held : ℕ) (first unit : BlockUnit) (w : List ℕ) (rest : List BlockUnit) → is_after first held unit ≡ true → pieces_text number (fewest (run first held ++ unit ∷ rest)) ≡ since w w ++ pieces_text number (fewest (run first (held + 1) ++ rest))
+told_joined number held first unit w rest after =
+    ap (λ (us : List BlockUnit). pieces_text number (fewest us)) (run-longer first held unit rest after ∙ ap (λ (n : ℕ). run first n ++ rest) (sym (add-one held)))
+    ∙ ap (λ (xs : List ℕ). xs ++ pieces_text number (fewest (run first (held + 1) ++ rest))) (sym (since-same w))
 
 -- at a unit that does not: the held piece was written
-pub told_apart : (devices : List DeviceSpec) (op : Op) (name : List ℕ) (start distance len number held : ℕ) (all old mid new : List ℕ) (first unit : BlockUnit) → distance < len → unit ≡ unit_of devices op name (start + distance) → 1 ≤ held → is_after first held unit ≡ false
-    → mid ≡ old ++ since old mid → new ≡ mid ++ since mid new → since mid new ≡ piece_text number (record { first = first; len = held })
-    → all ≡ since old mid ++ pieces_text number (fewest (run first held ++ units_from devices op name (start + distance) (len - distance)))
-    → all ≡ since old new ++ pieces_text number (fewest (run unit 1 ++ units_from devices op name (start + (distance + 1)) (len - (distance + 1))))
-told_apart devices op name start distance len number zero all old mid new first unit inside is some after e f wrote told = absurd (omega arith)
-told_apart devices op name start distance len number (suc held) all old mid new first unit inside is some after e f wrote told =
+pub told_apart : (number held : ℕ) (first unit : BlockUnit) (wrote : List ℕ) (rest : List BlockUnit) → 1 ≤ held → is_after first held unit ≡ false → wrote ≡ piece_text number (record { first = first; len = held }) → pieces_text number (fewest (run first held ++ unit ∷ rest)) ≡ wrote ++ pieces_text number (fewest (run unit 1 ++ rest))
+told_apart number zero first unit wrote rest some after is = absurd (omega arith)
+told_apart number (suc held) first unit wrote rest some after is =
+    ap (pieces_text number) (fewest-apart first held unit rest after) ∙ ap (λ (xs : List ℕ). xs ++ pieces_text number (fewest (unit ∷ rest))) (sym is)
+
+-- one more unit of a request
+pub told_more : (devices : List DeviceSpec) (op : Op) (name : List ℕ) (start distance len number : ℕ) (all old mid new : List ℕ) (held next : Piece) (unit : BlockUnit) → distance < len → unit ≡ unit_of devices op name (start + distance)
+    → mid ≡ old ++ since old mid → new ≡ mid ++ since mid new
+    → ((rest : List BlockUnit) → pieces_text number (fewest (units_in held ++ unit ∷ rest)) ≡ since mid new ++ pieces_text number (fewest (units_in next ++ rest)))
+    → all ≡ since old mid ++ pieces_text number (fewest (units_in held ++ units_from devices op name (start + distance) (len - distance)))
+    → all ≡ since old new ++ pieces_text number (fewest (units_in next ++ units_from devices op name (start + (distance + 1)) (len - (distance + 1))))
+told_more devices op name start distance len number all old mid new held next unit inside is e f step told =
     let rest = units_from devices op name (start + (distance + 1)) (len - (distance + 1)) in
-    let text = pieces_text number (fewest (unit ∷ rest)) in
+    let text = pieces_text number (fewest (units_in next ++ rest)) in
     told
-    ∙ ap (λ (us : List BlockUnit). since old mid ++ pieces_text number (fewest (run first (suc held) ++ us))) (later_units devices op name start distance len unit inside is)
-    ∙ ap (λ (ps : List Piece). since old mid ++ pieces_text number ps) (fewest-apart first held unit rest after)
-    ∙ sym (append_assoc (since old mid) (piece_text number (record { first = first; len = suc held })) text)
-    ∙ ap (λ (xs : List ℕ). since old mid ++ xs ++ text) (sym wrote)
+    ∙ ap (λ (us : List BlockUnit). since old mid ++ pieces_text number (fewest (units_in held ++ us))) (later_units devices op name start distance len unit inside is)
+    ∙ ap (λ (xs : List ℕ). since old mid ++ xs) (step rest)
+    ∙ sym (append_assoc (since old mid) (since mid new) text)
     ∙ ap (λ (xs : List ℕ). xs ++ text) (sym (since-more old mid new e f))
 
 -- behind the last unit the held piece is written
@@ -111,3 +114,22 @@ told_outside (suc len) number some =
     ap (λ (us : List BlockUnit). pieces_text number (fewest us)) (sym (run-fails (suc len)))
     ∙ ap (pieces_text number) (fewest-run Fails len)
     ∙ append-nil (piece_text number (record { first = Fails; len = suc len }))
+
+-- an answer by where the request ends
+pub outside : (devices : List DeviceSpec) (values : RequestValues) (end number : ℕ) → end ≡ end_of (lines_or_none (device_named devices values.device)) → end < values.start + values.len → 1 ≤ values.len → piece_text number (record { first = Fails; len = values.len }) ≡ request_answer devices number values
+outside devices values end number is past some =
+    let test : nat_lt (end_of (lines_or_none (device_named devices values.device))) (values.start + values.len) ≡ true = ap (λ (n : ℕ). nat_lt n (values.start + values.len)) (sym is) ∙ lt-ltb end (values.start + values.len) past in
+    sym (ap (λ (b : Bool). pieces_text number (fewest (cond b (replicate values.len Fails) (units_from devices values.op values.device values.start values.len)))) test ∙ told_outside values.len number some)
+
+pub inside : (devices : List DeviceSpec) (values : RequestValues) (end number : ℕ) → end ≡ end_of (lines_or_none (device_named devices values.device)) → values.start + values.len ≤ end → pieces_text number (fewest (units_from devices values.op values.device values.start values.len)) ≡ request_answer devices number values
+inside devices values end number is fits =
+    let test : nat_lt (end_of (lines_or_none (device_named devices values.device))) (values.start + values.len) ≡ false = ap (λ (n : ℕ). nat_lt n (values.start + values.len)) (sym is) ∙ le-ltb end (values.start + values.len) fits in
+    sym (ap (λ (b : Bool). pieces_text number (fewest (cond b (replicate values.len Fails) (units_from devices values.op values.device values.start values.len)))) test)
+
+-- what follows at an answer
+pub on_ok : {T E : Type 0} (r : Result T E) (P Q : Type 0) → (P → Q) → OnOk r P → OnOk r Q
+on_ok (Ok x) P Q f p = f p
+on_ok (Err e) P Q f p = tt
+
+pub appends-same : (xs : List ℕ) → xs ≡ xs ++ since xs xs
+appends-same xs = sym (append-nil xs) ∙ ap (λ (ys : List ℕ). xs ++ ys) (sym (since-same xs))
