@@ -1,14 +1,13 @@
 -- What clap's clauses say of the program's own command line.
-use Rattle.std.proofs.Common.{◌≡◌, ◌∙◌, Bool, List, Option, Some, None, [], ◌∷◌, true, false, true≢false, ap, refl, sym, inl, inr, cond, option_and_then}
+use Rattle.std.proofs.Common.{◌≡◌, ◌∙◌, Bool, List, Some, [], ◌∷◌, true, false, true≢false, ap, refl, sym, inl, inr, cond, option_and_then}
 use Rattle.clap.specs.Kinds.{HasKind, IsAmong, Kinds, or_else}
 use Rattle.clap.specs.Words.{App, HasMatchesOf, Text, fault_of, is_simple, is_simple_and_free, kind_of, subcommand_of, subcommand_rows_of}
 use Rattle.clap.specs.declared.builder.value_parser.ValueParser.{ValueParser}
 use Rattle.clap.specs.declared.error.Error.{Error}
 use Rattle.clap.specs.declared.parser.matches.ArgMatches.{ArgMatches}
 use Rattle.clap.specs.declared.error.kind.ErrorKind.{ErrorKind}
-use Rattle.clap.specs.declared.error.kind.ErrorKind.TheVariants as kind
 use Rattle.clap.proofs.OnLiterals.{clap_on_literals}
-use Rattle.dmremap.specs.Words.{IsFaultOf, IsTaken, TakesFormats, TaskWords, task_of, command_line, fault_from, is_memory, refusal_of}
+use Rattle.dmremap.specs.Words.{IsFaultOf, IsTaken, TakesFormats, TaskWords, task_of, command_line, fault_from, is_memory}
 use Rattle.dmremap.specs.declared.words.WordsFault.TheVariants.{Words, Memory}
 
 -- clap's matches are those that the definitions compute, whatever the parser of FORMAT

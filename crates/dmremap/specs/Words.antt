@@ -37,13 +37,15 @@ pub record TakesFormats (parser : ValueParser) : Type 0 where
   pub is_names : parser ≡ Names names
   pub are_formats : map (λ name. name.now) names.now ≡ formats
 
--- a required argument of its place, with one name in the help
+-- an argument that has to be there, with one name in the help
 abbrev pub required_rule : Text → Rule
 required_rule id = record (new_rule id) { value_names = 1; required = true }
 
+-- FORMAT, which has to be one of the words that the parser takes
 abbrev pub format_rule : ValueParser → Rule
 format_rule parser = record (required_rule (codes "format")) { parser = Some parser }
 
+-- DISKS, which clap lets be left out, since the formats differ in it
 abbrev pub disks_rule : Rule
 disks_rule = record (new_rule (codes "disks")) { value_names = 1 }
 
@@ -57,6 +59,7 @@ abbrev pub program_app : App
 program_app = on_top (λ s. record s { subcommand_required = true; arg_required_else_help = true })
     (new_app (codes "dmremap"))
 
+-- the program with its commands
 abbrev pub command_line : ValueParser → App
 command_line parser = with_subcommand program_app (map_app parser).top
 
@@ -66,6 +69,7 @@ command_line parser = with_subcommand program_app (map_app parser).top
 pub data TaskWords : Type 0 where
   map_words : Format → Text → Option Text → TaskWords
 
+-- the texts of a task
 abbrev pub words_of : Task → TaskWords
 words_of (Map format file disks) = map_words format file.now (option_map (λ d. d.now) disks)
 
@@ -98,7 +102,8 @@ has_its_disks (map_words format file disks) =
 
 -- ---- what is answered to words
 
--- the kinds of clap's refusal, which words without a task have too
+-- the kinds of a refusal: clap's, and a missing argument at words that clap takes and that give no
+-- task
 abbrev pub refusal_of : App → List Text → Kinds
 refusal_of line words = or_else (fault_of line words)
     (if is_some (task_in line words) then [] else kind.MissingRequiredArgument ∷ [])
@@ -141,6 +146,7 @@ is_shown kind.DisplayHelp = true
 is_shown kind.DisplayVersion = true
 is_shown _ = false
 
+-- 0 for help, 2 for refused words, 6 for want of memory
 abbrev pub status_of : WordsFault → ℕ
 status_of (Words error) = if is_shown (kind_of error) then 0 else 2
 status_of Disks = 2
@@ -148,9 +154,11 @@ status_of Memory = 6
 
 -- ---- clap's errors as faults
 
+-- the error is want of memory
 abbrev pub is_memory : ErrorKind → Bool
 is_memory kind.OutOfMemory = true
 is_memory _ = false
 
+-- the fault that an error of clap's becomes
 abbrev pub fault_from : Error → WordsFault
 fault_from error = if is_memory (kind_of error) then Memory else Words error

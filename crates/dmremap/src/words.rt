@@ -18,7 +18,7 @@ mod tests;
 
 use clap::error::ErrorKind;
 use clap::{Arg, ArgMatches, Command};
-use std::alloc::{AllocError, AllocFailed, Global};
+use std::alloc::{AllocError, Global};
 use std::io;
 use thiserror::Error;
 
@@ -203,7 +203,9 @@ impl From<AllocError> for WordsFault {
 }
 
 fn format_argument<'a>(alloc: Global) -> Arg<'a>
-    ensures { (parser : _) × TakesFormats parser × (rule_of result ≡ format_rule parser) × (result.global ≡ false) }
+    // It is the argument that the definitions name, whatever memory its words lie in.
+    ensures { (parser : _) × TakesFormats parser × (rule_of result ≡ format_rule parser)
+        × (result.global ≡ false) }
 {
     Arg::new(alloc, "format")
         .value_name("FORMAT")
@@ -237,7 +239,8 @@ fn map_command<'a>(alloc: Global) -> Result<Command<'a>, AllocError>
 
 // The whole command line.
 fn program<'a>(alloc: Global) -> Result<Command<'a>, AllocError>
-    ensures { IfOk result (λ c. (parser : _) × TakesFormats parser × (app_of c ≡ command_line parser)) }
+    ensures { IfOk result (λ c. (parser : _) × TakesFormats parser
+        × (app_of c ≡ command_line parser)) }
 {
     let map = map_command(alloc)?;
     Ok(
@@ -250,9 +253,10 @@ fn program<'a>(alloc: Global) -> Result<Command<'a>, AllocError>
     )
 }
 
-/// The job that the words ask for, of which the first is the program's name. Nothing is opened or
-/// read. Refused are words that clap refuses, then a wrong presence of DISKS; a request for help is
-/// such a refusal, with the exit status 0. The cost is that of the words' length.
+/// The job that the words ask for, of which the first is the program's name. No file is opened.
+/// A wrong presence of DISKS is answered only where clap takes the words. A request for help is a
+/// refusal with clap's help as its text, and so are no words at all. The command line is built anew
+/// at each call, and the words are walked once.
 pub fn read_words<'a>(alloc: Global, words: &'a [&'a str]) -> Result<Job<'a>, WordsFault>
     ensures job { IfOk result (IsJobOf (texts words.now)) }
     ensures fault { IfErr result (IsFaultOf (texts words.now)) }

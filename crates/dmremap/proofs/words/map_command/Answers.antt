@@ -1,7 +1,7 @@
 use Rattle.std.proofs.Common.{rules, ap, ap₂, codes, ◌≡◌, ◌∙◌}
 use Rattle.clap.specs.Simple.{app_of_fields}
 use Rattle.clap.specs.Words.{App, app_of, new_app, rule_of, with_rule, with_subcommand}
-use Rattle.dmremap.specs.Words.{disks_rule, format_rule, map_app, required_rule}
+use Rattle.dmremap.specs.Words.{disks_rule, map_app, required_rule}
 use Rattle.dmremap.proofs.words.map_command.Goals as goal
 
 pub returns : goal.returns

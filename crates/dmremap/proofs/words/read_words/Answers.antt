@@ -1,4 +1,4 @@
-use Rattle.std.proofs.Common.{◌≡◌, ◌∙◌, ap, subst, sym, refl, rules}
+use Rattle.std.proofs.Common.{◌∙◌, ap, subst, sym, refl, rules}
 use Rattle.std.proofs.lemmas.Result.{err_from_is_err_and}
 use Rattle.clap.specs.Kinds.{HasKind}
 use Rattle.clap.specs.Walk.{texts}
