@@ -1,3 +1,4 @@
+mod CommandLine
 pub mod AnswerLemmas
 pub mod Growth
 pub mod Held

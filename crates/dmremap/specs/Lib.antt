@@ -7,4 +7,5 @@ pub mod PieceView
 pub mod Pieces
 pub mod Soundness
 pub mod Units
+pub mod Words
 pub mod WriteAll

@@ -1,0 +1,56 @@
+-- What clap's clauses say of the program's own command line.
+use Rattle.std.proofs.Common.{◌≡◌, ◌∙◌, Bool, List, Some, [], ◌∷◌, true, false, true≢false, ap, refl, sym, inl, inr, cond, option_and_then}
+use Rattle.clap.specs.Kinds.{HasKind, IsAmong, Kinds, or_else}
+use Rattle.clap.specs.Words.{App, HasMatchesOf, Text, fault_of, is_simple, is_simple_and_free, kind_of, subcommand_of, subcommand_rows_of}
+use Rattle.clap.specs.declared.builder.value_parser.ValueParser.{ValueParser}
+use Rattle.clap.specs.declared.error.Error.{Error}
+use Rattle.clap.specs.declared.parser.matches.ArgMatches.{ArgMatches}
+use Rattle.clap.specs.declared.error.kind.ErrorKind.{ErrorKind}
+use Rattle.clap.proofs.OnLiterals.{clap_on_literals}
+use Rattle.dmremap.specs.Words.{IsFaultOf, IsTaken, TakesFormats, TaskWords, task_of, command_line, fault_from, is_memory}
+use Rattle.dmremap.specs.declared.words.WordsFault.TheVariants.{Words, Memory}
+
+-- clap's matches are those that the definitions compute, whatever the parser of FORMAT
+pub simple : (parser : ValueParser) → is_simple (command_line parser) ≡ true
+unfolding clap_on_literals
+simple parser = refl
+
+-- and so are the kinds of its errors
+pub simple_and_free : (parser : ValueParser) → is_simple_and_free (command_line parser) ≡ true
+unfolding clap_on_literals
+simple_and_free parser = refl
+
+-- a kind of the first list is one of the two
+among_first : (k : ErrorKind) (first second : Kinds) → IsAmong k first → IsAmong k (or_else first second)
+among_first k [] second among = absurd among
+among_first k (x ∷ xs) second among = among
+
+-- an error that clap's clause allows is the fault that it becomes
+pub refused : (parser : ValueParser) (words : List Text) (error : Error) → TakesFormats parser → HasKind (fault_of (command_line parser) words) error
+    → IsFaultOf words (fault_from error)
+refused parser words error formats has_kind = go (is_memory (kind_of error)) refl
+  where
+    go : (b : Bool) → is_memory (kind_of error) ≡ b → IsFaultOf words (cond b Memory (Words error))
+    go true e = tt
+    go false e = record {
+      parser = parser;
+      formats = formats;
+      among = elim has_kind [
+        | inl memory ↦ absurd (true≢false (sym (ap is_memory memory) ∙ e))
+        | inr among ↦ among_first (kind_of error) _ _ among
+      ];
+      no_memory = λ memory. true≢false (sym (ap is_memory memory) ∙ e);
+    }
+
+-- words that clap takes, and whose matches give a task, are taken with that task
+pub taken : (parser : ValueParser) (line : App) (words : List Text) (task : TaskWords) (matches : ArgMatches) → TakesFormats parser → line ≡ command_line parser
+    → (is_simple_and_free line ≡ true → fault_of line words ≡ []) → HasMatchesOf line words matches
+    → Some task ≡ option_and_then (λ met. task_of met.0 met.1) (subcommand_rows_of matches) → IsTaken words task
+taken parser line words task matches formats line_is kinds has_matches task_is =
+    let met : subcommand_rows_of matches ≡ subcommand_of line words = (has_matches (ap is_simple line_is ∙ simple parser)).1 in
+    record {
+      parser = parser;
+      formats = formats;
+      taken = ap (λ (a : App). fault_of a words) (sym line_is) ∙ kinds (ap is_simple_and_free line_is ∙ simple_and_free parser);
+      task = sym (task_is ∙ ap (option_and_then (λ met. task_of met.0 met.1)) (met ∙ ap (λ (a : App). subcommand_of a words) line_is));
+    }

@@ -1,0 +1,87 @@
+//! The words that are taken, and the text and the exit status of those that aren't.
+use super::*;
+use std::process::Abort;
+
+// The status and the text of words that give no job.
+fn refusal<'a>(rt: &impl Abort, alloc: Global, words: &'a [&'a str]) -> (u8, String) {
+    let fault = read_words(alloc, words).err().expect(rt, "no job");
+    let text = format!(in alloc; "{fault}").expect(rt, "a text");
+    (fault.status(), text)
+}
+
+#[test]
+fn map_table_gives_its_texts(rt: HostRuntime) {
+    let plain = ["dmremap", "map", "table", "a.table", "a.disks"];
+    let after_dashes = ["dmremap", "map", "table", "--", "a.table", "a.disks"];
+    for words in [plain.as_slice(), after_dashes.as_slice()] {
+        let job = read_words(rt.alloc(), words).expect(&rt, "a job");
+        let Task::Map { file, disks, .. } = job.task;
+        assert!(rt; file == "a.table" && disks == Some("a.disks") && !job.status);
+    }
+}
+
+#[test]
+fn disks_are_asked_for(rt: HostRuntime) {
+    let words = ["dmremap", "map", "table", "a.table"];
+    let (status, text) = refusal(&rt, rt.alloc(), words.as_slice());
+    assert_eq!(rt; text.as_str(), "dmremap: words: disks");
+    assert_eq!(rt; status, 2);
+}
+
+#[test]
+fn other_words_are_refused(rt: HostRuntime) {
+    let cases: [(&[&str], &str); 10] = [
+        (&[], "Usage: dmremap <COMMAND>"),
+        (&["dmremap"], "Usage: dmremap <COMMAND>"),
+        (&["dmremap", "map"], "<FORMAT> <FILE>"),
+        (
+            &["dmremap", "map", "lvm", "a"],
+            "invalid value 'lvm' for '<FORMAT>'",
+        ),
+        (
+            &["dmremap", "check", "table", "a", "b"],
+            "unrecognized subcommand 'check'",
+        ),
+        (
+            &["dmremap", "map", "table", "a", "b", "--status"],
+            "unexpected argument '--status'",
+        ),
+        (
+            &["dmremap", "--status", "map", "table", "a", "b"],
+            "unexpected argument '--status'",
+        ),
+        (
+            &["dmremap", "map", "table", "a", "b", "c"],
+            "unexpected argument 'c'",
+        ),
+        (
+            &["dmremap", "map", "-x", "table", "a", "b"],
+            "unexpected argument '-x'",
+        ),
+        (
+            &["dmremap", "map", "--version"],
+            "unexpected argument '--version'",
+        ),
+    ];
+    for (words, told) in cases {
+        let (status, text) = refusal(&rt, rt.alloc(), words);
+        assert!(rt; text.contains(told), "{text}");
+        assert_eq!(rt; status, 2);
+    }
+}
+
+#[test]
+fn help_names_the_formats(rt: HostRuntime) {
+    let cases: [&[&str]; 5] = [
+        &["dmremap", "--help"],
+        &["dmremap", "-h"],
+        &["dmremap", "help"],
+        &["dmremap", "help", "map"],
+        &["dmremap", "map", "--help"],
+    ];
+    for words in cases {
+        let (status, text) = refusal(&rt, rt.alloc(), words);
+        assert!(rt; text.contains("FORMAT is one of\n  table  lines"), "{text}");
+        assert_eq!(rt; status, 0);
+    }
+}
