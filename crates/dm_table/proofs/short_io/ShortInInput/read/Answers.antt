@@ -1,4 +1,4 @@
-use Rattle.std.proofs.Common.{rules, ◌≡◌, ◌+◌, ◌<◌, ◌≤◌, ◌++◌, ℕ, List, length, take, drop, sym, ap, ◌∙◌, arith, length-append, length-drop, length-take}
+use Rattle.std.proofs.Common.{rules, ◌≡◌, ◌<◌, ◌++◌, length, take, drop, sym, ap, ◌∙◌, arith, length-append, length-drop, length-take}
 use Rattle.std.proofs.lemmas.Bool.{eqb-false}
 use Rattle.dm_table.specs.ShortIo.{Supply, portion}
 use Rattle.dm_table.proofs.Portions.{behind, behind_is, front_is, handed_grows, left_shrinks}
