@@ -1,6 +1,6 @@
 //! Any reader or writer of std as an input or an output.
-//! std counts neither faults nor ends, and knows the bytes of few readers, so a history beside the device keeps them.
-//! What a proof knows of a real device is what is noted here: note each answer in the arm that gives it.
+//! std counts no faults and no ends, and knows the bytes of few devices, so a history beside one does.
+//! What a proof knows of a real device is what is noted here: note each answer where it is given.
 ghost use Rattle.std.specs.Prelude.{◌≡◌, ◌+◌, ◌<◌, ◌≤◌, ◌++◌, [], ℕ, List, length, IfOk};
 ghost use Rattle.std.specs.Io.KnownBytes.{Keeps, ReadConsumes, WriteAppends};
 ghost use Rattle.dm_table.specs.DeviceIo.{given, fault_of, end_of, unflushed};
@@ -25,7 +25,11 @@ pub struct Counted<T> {
 impl<T> Counted<T> {
     /// The device with nothing noted yet.
     pub fn new(inner: T) -> Counted<T>
-        ensures { result.inner ≡ inner }
+        ensures inner { result.inner ≡ inner }
+        ensures bytes { (result.handed.bytes ≡ []) × (result.written.bytes ≡ [])
+            × (result.waiting.bytes ≡ []) }
+        ensures counts { (result.read_faults ≡ 0) × (result.ends ≡ 0)
+            × (result.write_faults ≡ 0) × (result.flushes ≡ 0) }
     {
         Counted {
             inner,
@@ -82,7 +86,8 @@ impl<T: Write> Output for Counted<T> {
 
     ghost flushes = { λ c. c.flushes };
 
-    /// One write of the writer. Each of its errors is a fault, and so is a 0 for a slice that isn't empty.
+    /// One write of the writer. Each of its errors is a fault, an interrupted call too, and so is a 0
+    /// for a slice that isn't empty.
     fn write(&mut self, bytes: &[u8]) -> Result<usize, OutFault>
         ensures within { IfOk result (λ n. n ≤ length bytes.now) }
         ensures progress { IfOk result (λ n. 0 < length bytes.now → 0 < n) }
