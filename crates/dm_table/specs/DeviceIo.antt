@@ -16,7 +16,7 @@ abbrev pub end_of : {E : Type 0} → Result ℕ E → ℕ → ℕ
 end_of (Ok n) room = if n == 0 && nat_lt 0 room then 1 else 0
 end_of (Err e) room = 0
 
--- what still waits for a flush after one, of what waited before: a flush that failed leaves it all
+-- what of the waiting bytes a flush leaves waiting: all of them where it failed
 abbrev pub unflushed : {T E : Type 0} → Result T E → List ℕ → List ℕ
 unflushed (Ok x) waiting = []
 unflushed (Err e) waiting = waiting

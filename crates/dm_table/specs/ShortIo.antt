@@ -2,7 +2,7 @@
 use Rattle.std.specs.Prelude.{◌≡◌, ◌↔◌, ◌+◌, ◌++◌, ◌<◌, ℕ, List, [], length, min, Bool, true, false, Result, IsErr, IfOk}
 use Rattle.dm_table.specs.DeviceIo.{given}
 
--- an input: what it handed out and has left, the most bytes of a read, whether it fails after them, and its counts
+-- an input: what it handed out, what it has left, the most bytes of a read, whether it fails at the end of them, its counts
 pub record Supply : Type 0 where
   pub handed : List ℕ
   pub left : List ℕ
@@ -15,7 +15,8 @@ pub record Supply : Type 0 where
 abbrev pub fresh_supply : List ℕ → ℕ → Bool → Supply
 fresh_supply bytes step fails = record { handed = []; left = bytes; step = step; fails = fails; faults = 0; ends = 0 }
 
--- an output: what it took, what of it waits, the bytes that it has room for, the most of a write, whether a flush fails, and its counts
+-- an output: what it took, what of it waits for a flush, the room left in bytes, the most bytes of a write,
+-- whether a flush fails, its counts
 pub record Intake : Type 0 where
   pub written : List ℕ
   pub waiting : List ℕ

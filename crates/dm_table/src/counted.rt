@@ -1,6 +1,6 @@
 //! Any reader or writer of std as an input or an output.
-//! std counts neither faults nor ends, and knows the bytes of few readers, so a history beside the device keeps them.
-//! What a proof knows of a real device is what is noted here: note each answer in the arm that gives it.
+//! std counts no faults and no ends, and knows the bytes of few devices, so a history beside one does.
+//! What a proof knows of a real device is what is noted here: note each answer where it is given.
 ghost use Rattle.std.specs.Prelude.{◌≡◌, ◌+◌, ◌<◌, ◌≤◌, ◌++◌, [], ℕ, List, length, IfOk};
 ghost use Rattle.std.specs.Io.KnownBytes.{Keeps, ReadConsumes, WriteAppends};
 ghost use Rattle.dm_table.specs.DeviceIo.{given, fault_of, end_of, unflushed};
@@ -25,7 +25,11 @@ pub struct Counted<T> {
 impl<T> Counted<T> {
     /// The device with nothing noted yet.
     pub fn new(inner: T) -> Counted<T>
-        ensures { result.inner ≡ inner }
+        ensures inner { result.inner ≡ inner }
+        ensures bytes { (result.handed.bytes ≡ []) × (result.written.bytes ≡ [])
+            × (result.waiting.bytes ≡ []) }
+        ensures counts { (result.read_faults ≡ 0) × (result.ends ≡ 0)
+            × (result.write_faults ≡ 0) × (result.flushes ≡ 0) }
     {
         Counted {
             inner,
@@ -48,7 +52,15 @@ impl<T: Read> Input for Counted<T> {
     ghost ends = { λ c. c.ends };
 
     /// One read of the reader. Each of its errors is a fault, an interrupted call too.
-    fn read(&mut self, buffer: &mut [u8]) -> Result<usize, InFault> {
+    fn read(&mut self, buffer: &mut [u8]) -> Result<usize, InFault>
+        ensures within { IfOk result (λ n. n ≤ length buffer.new) }
+        ensures bytes { self.new.handed.bytes ≡ self.old.handed.bytes ++ given result buffer.new }
+        ensures faults { self.new.read_faults ≡ self.old.read_faults + fault_of result }
+        ensures ends { self.new.ends ≡ self.old.ends + end_of result (length buffer.new) }
+        // Where std knows the reader's bytes, none is lost or made up.
+        ensures inner { ReadConsumes (T.remaining self.old.inner) (T.remaining self.new.inner)
+            result buffer.new }
+    {
         match self.inner.read(buffer) {
             Ok(n) => {
                 self.handed.note(&buffer[..n]);
@@ -74,8 +86,19 @@ impl<T: Write> Output for Counted<T> {
 
     ghost flushes = { λ c. c.flushes };
 
-    /// One write of the writer. Each of its errors is a fault, and so is a 0 for a slice that isn't empty.
-    fn write(&mut self, bytes: &[u8]) -> Result<usize, OutFault> {
+    /// One write of the writer. Each of its errors is a fault, an interrupted call too, and so is a 0
+    /// for a slice that isn't empty.
+    fn write(&mut self, bytes: &[u8]) -> Result<usize, OutFault>
+        ensures within { IfOk result (λ n. n ≤ length bytes.now) }
+        ensures progress { IfOk result (λ n. 0 < length bytes.now → 0 < n) }
+        ensures bytes { self.new.written.bytes ≡ self.old.written.bytes ++ given result bytes.now }
+        ensures waiting { self.new.waiting.bytes ≡ self.old.waiting.bytes ++ given result bytes.now }
+        ensures faults { self.new.write_faults ≡ self.old.write_faults + fault_of result }
+        ensures flushes { self.new.flushes ≡ self.old.flushes }
+        // Where std knows the writer's bytes, they grow by what was taken, and by nothing else.
+        ensures inner { WriteAppends (T.contents self.old.inner) (T.contents self.new.inner)
+            result bytes.now }
+    {
         match self.inner.write(bytes) {
             Ok(n) if n > 0 || bytes.is_empty() => {
                 self.written.note(&bytes[..n]);
@@ -89,7 +112,13 @@ impl<T: Write> Output for Counted<T> {
         }
     }
 
-    fn flush(&mut self) -> Result<(), OutFault> {
+    fn flush(&mut self) -> Result<(), OutFault>
+        ensures bytes { self.new.written.bytes ≡ self.old.written.bytes }
+        ensures waiting { self.new.waiting.bytes ≡ unflushed result self.old.waiting.bytes }
+        ensures faults { self.new.write_faults ≡ self.old.write_faults + fault_of result }
+        ensures flushes { self.new.flushes ≡ self.old.flushes + 1 }
+        ensures inner { Keeps (T.contents self.old.inner) (T.contents self.new.inner) }
+    {
         self.flushes.raise();
         match self.inner.flush() {
             Ok(()) => {

@@ -1,5 +1,5 @@
 //! The traits of what the product reads from and writes to, and their faults.
-//! Their ghost members say what a device did so far, so that a caller's contract can speak of any device.
+//! Ghost members say what a device did so far, so that a caller's contract can speak of any device.
 //! A change of a clause here is a change for every reader and writer above: check them all.
 ghost use Rattle.std.specs.Prelude.{◌≡◌, ◌+◌, ◌<◌, ◌≤◌, ◌++◌, ℕ, List, length, IfOk};
 ghost use Rattle.dm_table.specs.DeviceIo.{given, fault_of, end_of, unflushed};
@@ -27,8 +27,8 @@ pub trait Input {
     /// How many reads into a slice with room answered 0 so far.
     ghost ends: { Self → ℕ };
 
-    /// Fills a front of the slice, and answers its length in bytes: 0 at an end, or where the slice has no room.
-    /// After a failed read the slice may hold anything.
+    /// Fills a front of the slice, and answers its length in bytes: 0 at an end, or where the slice
+    /// has no room. Behind that front, and after a failed read, the slice may hold anything.
     fn read(&mut self, buffer: &mut [u8]) -> Result<usize, InFault>
         ensures within { IfOk result (λ n. n ≤ length buffer.new) }
         ensures bytes { handed self.new ≡ handed self.old ++ given result buffer.new }
@@ -50,8 +50,8 @@ pub trait Output {
     /// How many flushes were asked of it so far, failed ones too.
     ghost flushes: { Self → ℕ };
 
-    /// Takes a front of the slice, and answers its length in bytes, which is 0 only for an empty slice.
-    /// A write that fails takes nothing.
+    /// Takes a front of the slice, and answers its length in bytes, which is 0 only for an empty
+    /// slice. A write that fails takes nothing.
     fn write(&mut self, bytes: &[u8]) -> Result<usize, OutFault>
         ensures within { IfOk result (λ n. n ≤ length bytes.now) }
         ensures progress { IfOk result (λ n. 0 < length bytes.now → 0 < n) }
@@ -60,7 +60,8 @@ pub trait Output {
         ensures faults { faults self.new ≡ faults self.old + fault_of result }
         ensures flushes { flushes self.new ≡ flushes self.old };
 
-    /// Has all that was taken go on to where it belongs. Where that fails, all of it still counts as waiting.
+    /// Has all that was taken go on to where it belongs. Where that fails, all of it still counts
+    /// as waiting.
     fn flush(&mut self) -> Result<(), OutFault>
         ensures bytes { written self.new ≡ written self.old }
         ensures waiting { waiting self.new ≡ unflushed result (waiting self.old) }

@@ -1,6 +1,6 @@
-//! Bytes and counts that only proofs read. They stand for what a device did so far, which no number
-//! of the machine could count without an end, so they have no data and their methods no code.
-//! The two proofs in `proofs/history` set the bytes by hand; add a method only where no call of these does.
+//! Bytes and counts that only proofs read.
+//! What a device did so far has no greatest length or count, so no data of the machine could hold it.
+//! Two proofs by hand set the bytes: add a method only where no call of these two does.
 ghost use Rattle.std.specs.Prelude.{◌≡◌, ◌+◌, ◌++◌, ℕ, List, [], length};
 ghost use Rattle.std.specs.Borrow.{ftrue};
 

@@ -1,6 +1,6 @@
 //! An input and an output over memory that go short and fail where a test wants it.
 //! What each call does is said exactly, so that a test over them shows what it claims to.
-//! Keep a call a function of what the device holds: one that met its end or its fault meets it at each later call.
+//! Where one met its end or its fault, each later call meets it too: keep that, and that calls are exact.
 ghost use Rattle.std.specs.Prelude.{◌≡◌, ◌+◌, ◌<◌, ◌≤◌, ◌++◌, [], ℕ, List, length, take, drop, true, false, ◌↔◌, ◌||◌, if◌then◌else◌, is_err, IsErr, IsTrue, IfOk, vec_len, vec_capacity};
 ghost use Rattle.dm_table.specs.DeviceIo.{given, fault_of, end_of, unflushed};
 ghost use Rattle.dm_table.specs.ShortIo.{Supply, fresh_supply, Intake, fresh_intake, HandsOut, TakesIn, PassesOn};
@@ -10,7 +10,8 @@ use crate::history::{History, Tally};
 use std::alloc::{AllocError, Global};
 use std::marker::Model;
 
-/// An input that hands out a slice, at most `step` bytes a read, and then ends, or fails, at every read.
+/// An input that hands out a slice, at most `step` bytes a read. Behind it each read meets an end, or
+/// fails, as the input was made.
 #[derive(Drop)]
 pub struct ShortIn<'a> {
     bytes: &'a [u8],
@@ -114,7 +115,7 @@ impl<'a> Input for ShortIn<'a> {
     }
 }
 
-/// An output that keeps what it takes, at most `step` bytes a write, and fails at every write once it is full.
+/// An output that keeps what it takes, at most `step` bytes a write. Once it is full each write fails.
 #[derive(Drop)]
 pub struct ShortOut {
     taken: Vec<u8>,
