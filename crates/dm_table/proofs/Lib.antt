@@ -2,3 +2,4 @@ pub mod NumberLemmas
 pub mod ByteLemmas
 pub mod FieldLemmas
 pub mod FaultLemmas
+pub mod DiskLemmas
