@@ -4,3 +4,4 @@ pub mod FieldLemmas
 pub mod FaultLemmas
 pub mod RequestLemmas
 mod Portions
+pub mod DiskLemmas

@@ -9,6 +9,7 @@
 mod counted;
 mod device_io;
 mod disk;
+mod disk_list;
 mod fields;
 mod history;
 mod load_fault;
@@ -24,6 +25,7 @@ mod text_checks;
 pub use counted::Counted;
 pub use device_io::{InFault, Input, OutFault, Output};
 pub use disk::Disk;
+pub use disk_list::parse_disks;
 pub use load_fault::{LoadFault, LoadKind};
 pub use name::{CheckFault, DiskName, Name};
 pub use place::{Part, Place};
