@@ -9,3 +9,7 @@ pub mod Soundness
 pub mod Units
 pub mod Words
 pub mod WriteAll
+pub mod Load
+pub mod Messages
+pub mod Parts
+pub mod Whole

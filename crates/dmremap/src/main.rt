@@ -9,6 +9,7 @@ mod loaded;
 mod piece;
 mod run;
 mod soundness;
+mod source;
 mod unit;
 mod words;
 mod write_all;

@@ -1,0 +1,39 @@
+-- What a load gives: a sound description, or the first fault of the first check that finds any.
+use Rattle.std.specs.Prelude.{◌≡◌, ◌⊎◌, ℕ, List, ◌++◌, None, Some}
+use Rattle.dm_table.specs.declared.load_fault.LoadFault.{LoadFault}
+use Rattle.dm_table.specs.LoadFault.{first_fault}
+use Rattle.dm_table.specs.TableText.{DescribesTable, table_checks}
+use Rattle.dm_table.specs.DiskList.{DescribesDisks, disk_checks}
+use Rattle.dmremap.specs.Parts.{PartRead, TextOf, Refuses, Unread}
+use Rattle.dmremap.specs.Soundness.{load_checks}
+use Rattle.dmremap.specs.Loaded.{Description}
+
+-- what a load gives
+pub data Load : Type 0 where
+  RefusedBy : LoadFault → Load
+  SoundAs : Description → Load
+
+-- the texts describe this, of which nothing is checked yet
+pub record Describes (source list : List ℕ) (description : Description) : Type 0 where
+  pub table : DescribesTable source description.devices
+  pub disks : DescribesDisks list description.disks
+
+-- the texts give a fault: one of their own, the source's first, or one of what they describe
+abbrev pub GivesFault : List ℕ → List ℕ → LoadFault → Type 0
+GivesFault source list fault =
+    (first_fault (table_checks source ++ disk_checks list) ≡ Some fault)
+    ⊎ ((description : Description) × Describes source list description × (first_fault (load_checks description.devices description.disks) ≡ Some fault))
+
+-- what the two texts give
+abbrev pub TextsGive : List ℕ → List ℕ → Load → Type 0
+TextsGive source list (RefusedBy fault) = GivesFault source list fault
+TextsGive source list (SoundAs description) =
+    Describes source list description × (first_fault (load_checks description.devices description.disks) ≡ None)
+
+-- what the two parts give: one that was not read is refused before any text is looked into
+abbrev pub PartsGive : PartRead → PartRead → Load → Type 0
+PartsGive (Refuses fault) list load = load ≡ RefusedBy fault
+PartsGive (TextOf source) (Refuses fault) load = load ≡ RefusedBy fault
+PartsGive (TextOf source) (TextOf list) load = TextsGive source list load
+PartsGive (TextOf source) Unread load = ⊥
+PartsGive Unread list load = ⊥
