@@ -2,4 +2,5 @@ pub mod NumberLemmas
 pub mod ByteLemmas
 pub mod FieldLemmas
 pub mod FaultLemmas
+pub mod DiskLemmas
 pub mod RequestLemmas
