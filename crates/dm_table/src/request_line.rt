@@ -96,7 +96,7 @@ fn request_fields<'a>(line: &'a [u8]) -> Option<RequestFields<'a>>
 ///
 /// A line that says none is answered by the first of `Form`, `Number` and `Length` that applies.
 ///
-/// Cost: no memory, and each byte of the line is looked at at most three times.
+/// Cost: no memory, and at most three passes over each field.
 pub fn parse_request<'a>(line: &'a [u8], number: u64) -> Result<Request<'a>, RequestFault>
     // What is accepted is what the line says.
     ensures accepted { IfOk result (λ request. DescribesRequest line.now (values_of request)) }

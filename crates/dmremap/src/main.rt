@@ -2,10 +2,12 @@
 #![tactic(auto)]
 
 mod ending;
+mod fixed_text;
 mod join;
 mod line_buffer;
 mod lines;
 mod loaded;
+mod message;
 mod piece;
 mod run;
 mod soundness;

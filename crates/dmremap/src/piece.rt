@@ -8,6 +8,7 @@ ghost use Rattle.dmremap.specs.Units.{unit_view};
 ghost use Rattle.dmremap.specs.Pieces.{is_after, piece_text, unit_text};
 ghost use Rattle.dmremap.specs.PieceView.{piece_view};
 
+use crate::fixed_text::{put, put_number};
 use crate::unit::SectorUnit;
 use arrayvec::ArrayVec;
 use dm_table::DiskName;
@@ -78,27 +79,6 @@ fn is_behind(sector: u64, len: u64, next: u64) -> bool
     ensures { result ≡ (next == sector + len) }
 {
     sector <= next && next - sector == len
-}
-
-/// Puts bytes behind a text.
-fn put(text: &mut PieceText, bytes: &[u8])
-    requires { length text.old.items + length bytes.now ≤ 512 }
-    ensures text { text.new.items ≡ text.old.items ++ bytes.now }
-    ensures len { length text.new.items ≡ length text.old.items + length bytes.now }
-{
-    let Ok(()) = text.try_extend_from_slice(bytes) else {
-        unreachable!()
-    };
-}
-
-/// Puts a number behind a text.
-fn put_number(text: &mut PieceText, number: u64)
-    requires { length text.old.items + 20 ≤ 512 }
-    ensures text { text.new.items ≡ text.old.items ++ decimal number }
-    ensures len { length text.new.items ≤ length text.old.items + 20 }
-{
-    let mut buffer = itoa::Buffer::new();
-    put(text, buffer.format(number).as_bytes());
 }
 
 /// Puts the sectors of a disk behind a text: its name, the first sector and how many.

@@ -26,7 +26,7 @@ pub returns-clause-accepted : goal.returns-clause-accepted
 returns-clause-accepted c =
     let cut = c.in-Some.cut in
     described c.args.line.now cut.op cut.device.now cut.start.now cut.len.now c.in-Some-Some.start c.in-Some-Some.len c.in-Some.ensures.cut (sym c.in-Some.ensures.form)
-    (sym c.in-Some-Some.ensures) (sym c.in-Some-Some.ensures') (omega arith) c.if-len-gt-MOST_SECTORS.false
+    (sym c.in-Some-Some.ensures) (sym c.in-Some-Some.ensures') (omega arith) (omega arith)
 
 pub returns-clause-values : goal.returns-clause-values
 returns-clause-values c = values-said c.args.line.now _ (returns-clause-accepted c)
