@@ -4,4 +4,5 @@ pub mod Fields
 pub mod LoadFault
 pub mod DiskList
 pub mod TableText
+pub mod TableReading
 pub mod RequestLine

@@ -1,0 +1,83 @@
+-- How table text is read where no check finds anything: each row of fields as a line, and neighbouring lines of one name as a device.
+use Rattle.std.specs.Prelude.{ℕ, suc, Bool, true, false, List, [], ◌∷◌, length, map, nat_eq, drop, unwrap_or, Result, if◌then◌else◌}
+use Rattle.std.specs.Cmp.Lexicographic.{pointwise}
+use Rattle.std.specs.Global.{Vec}
+use denote.Ref.{Bor}
+use Rattle.dm_table.specs.declared.table.DevRef.{DevRef}
+use Rattle.dm_table.specs.declared.table.DevRef.TheVariants.{Device, Disk}
+use Rattle.dm_table.specs.declared.table.Target.{Target}
+use Rattle.dm_table.specs.declared.table.Target.TheVariants.{Linear, Error}
+use Rattle.dm_table.specs.declared.table.Line.{Line}
+use Rattle.dm_table.specs.declared.table.DeviceSpec.{DeviceSpec}
+use Rattle.dm_table.specs.declared.place.Part.TheVariants.{Source}
+use Rattle.dm_table.specs.declared.load_fault.LoadFault.{LoadFault}
+use Rattle.dm_table.specs.Name.{names_device, mapper}
+use Rattle.dm_table.specs.Number.{number_of}
+use Rattle.dm_table.specs.Fields.{texts, lines_of}
+use Rattle.dm_table.specs.LoadFault.{first_fault, unless}
+use Rattle.dm_table.specs.TableText.{NamedLine, name_in, row_of, table_checks}
+
+-- what rows of slices point to
+abbrev pub row_texts : List (Vec (Bor (List ℕ))) → List (List (List ℕ))
+row_texts = map (λ row. texts row.items)
+
+-- the number in a field that is one
+abbrev pub number_in : List ℕ → ℕ
+number_in field = unwrap_or (number_of field) 0
+
+-- what a text names
+abbrev pub dev_in : List ℕ → DevRef
+dev_in text = if names_device text then Device (drop (length mapper) text) else Disk text
+
+-- the target of a type and its arguments
+abbrev pub target_in : List (List ℕ) → Target
+target_in (type ∷ to ∷ offset ∷ []) = Linear (dev_in to) (number_in offset)
+target_in _ = Error
+
+-- the name in a row
+abbrev pub name_of_row : List (List ℕ) → List ℕ
+name_of_row [] = []
+name_of_row (label ∷ fields) = name_in label
+
+-- the line of a row, as line number n
+abbrev pub line_in : ℕ → List (List ℕ) → Line
+line_in n (label ∷ start ∷ len ∷ target) =
+    record { start = number_in start; len = number_in len; target = target_in target; at = record { part = Source; number = n } }
+line_in n _ = record { start = 0; len = 0; target = Error; at = record { part = Source; number = n } }
+
+-- the lines of rows, numbered from n
+abbrev pub lines_from : ℕ → List (List (List ℕ)) → List Line
+lines_from n [] = []
+lines_from n (row ∷ rows) = line_in n row ∷ lines_from (suc n) rows
+
+-- the same, each with its name
+abbrev pub named_from : ℕ → List (List (List ℕ)) → List NamedLine
+named_from n [] = []
+named_from n (row ∷ rows) = record { name = name_of_row row; line = line_in n row } ∷ named_from (suc n) rows
+
+-- a device of one line
+abbrev pub alone : NamedLine → DeviceSpec
+alone named = record { name = named.name; ro = false; lines = named.line ∷ []; at = named.line.at }
+
+-- a line before those of a device
+abbrev pub with_line : NamedLine → DeviceSpec → DeviceSpec
+with_line named device = record { name = device.name; ro = device.ro; lines = named.line ∷ device.lines; at = named.line.at }
+
+-- a line before devices: the first of them takes it, where it has the line's name
+abbrev pub join_line : NamedLine → List DeviceSpec → List DeviceSpec
+join_line named [] = alone named ∷ []
+join_line named (device ∷ devices) =
+    if pointwise nat_eq named.name device.name then with_line named device ∷ devices else alone named ∷ device ∷ devices
+
+-- neighbouring lines of one name, joined
+abbrev pub joined : List NamedLine → List DeviceSpec
+joined [] = []
+joined (named ∷ more) = join_line named (joined more)
+
+-- the devices of rows, whose lines are numbered from n
+abbrev pub devices_from : ℕ → List (List (List ℕ)) → List DeviceSpec
+devices_from n rows = joined (named_from n rows)
+
+-- the whole reading: the first fault, or else the devices
+unfoldable pub reading : List ℕ → Result (List DeviceSpec) LoadFault
+reading text = unless (first_fault (table_checks text)) (devices_from 1 (map row_of (lines_of text)))
