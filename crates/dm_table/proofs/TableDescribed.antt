@@ -13,8 +13,9 @@ use Rattle.dm_table.specs.Fields.{parts_at, front, back, lines_of, rest_of}
 use Rattle.dm_table.specs.LoadFault.{first_or, first_fault, faults_from, fault_at, unless, is_text, not_text, unended}
 use Rattle.dm_table.specs.TableText.{NamedLine, Says, DescribesTable, named_lines, row_of, is_row, is_line, has_names, table_checks}
 use Rattle.dm_table.specs.TableReading.{name_of_row, line_in, named_from, joined, devices_from, reading}
-use Rattle.dm_table.proofs.FaultLemmas.{no_fault, all_good, no_faults, append_nil_parts}
-use Rattle.dm_table.proofs.FieldLemmas.{text_is, parts_of_lines, front_push, back_push}
+use Rattle.dm_table.proofs.ByteLemmas.{is_text-clear}
+use Rattle.dm_table.proofs.FaultLemmas.{first_fault-none, first_fault-all, faults_from-nil, faults_from-good, append-nil_both, unended-nil, unless-ok, unless-err}
+use Rattle.dm_table.proofs.FieldLemmas.{IsClearOf, lines_of-whole, parts_at-lines, front-push, back-push}
 use Rattle.dm_table.proofs.TableGroups.{lines_of_joined, each_joined, apart_joined, devices_again}
 use Rattle.dm_table.proofs.TableRows.{row_for, row_said, line_writes, row_written, text_written, row_passes, line_passes, names_pass, line_again}
 
@@ -34,28 +35,19 @@ lines_say n (line ∷ ls) r l h =
     let b = not-false _ l.0 in
     (line_writes n line a b, row_said n (row_of line) a b (not-false _ h.0), lines_say (suc n) ls r.1 l.1 h.1)
 
-no_rest : (n : ℕ) (rest : List ℕ) → unended Source n rest ≡ [] → rest ≡ []
-no_rest n [] e = refl
-no_rest n (b ∷ bs) e = absurd cc
-
 pub described : (text : List ℕ) → first_fault (table_checks text) ≡ None → DescribesTable text (devices_from 1 (rows text))
 described text h =
     let bad_rows = faults_from Source Syntax (λ row. not (is_row row)) 1 (rows text) in
-    let bad_lines = faults_from Source Field (λ row. not (is_line row)) 1 (rows text) in
-    let bad_names = faults_from Source Name (λ row. not (has_names row)) 1 (rows text) in
     let rest = unended Source (length (rows text) + 1) (rest_of text) in
-    let a = no_fault (not_text Source text) _ h in
-    let b = no_fault (bad_rows ++ rest) _ a.1 in
-    let c = no_fault bad_lines _ b.1 in
-    let d = no_fault bad_names _ c.1 in
-    let s = append_nil_parts bad_rows rest b.0 in
-    let in_order = all_good Source Syntax (λ row. not (is_row row)) 1 (rows text) s.0 in
-    let with_values = all_good Source Field (λ row. not (is_line row)) 1 (rows text) c.0 in
-    let with_names = all_good Source Name (λ row. not (has_names row)) 1 (rows text) d.0 in
-    let ends = no_rest (length (rows text) + 1) (rest_of text) s.1 in
+    let none = first_fault-none (table_checks text) h in
+    let s = append-nil_both bad_rows rest none.1.0 in
+    let in_order = faults_from-nil Source Syntax (λ row. not (is_row row)) 1 (rows text) s.0 in
+    let with_values = faults_from-nil Source Field (λ row. not (is_line row)) 1 (rows text) none.1.1.0 in
+    let with_names = faults_from-nil Source Name (λ row. not (has_names row)) 1 (rows text) none.1.1.1.0 in
+    let ends = unended-nil Source (length (rows text) + 1) (rest_of text) s.1 in
     record {
       lines = lines_of text;
-      ended = text_is text ∙ rw ends (append-nil _);
+      ended = lines_of-whole text ends;
       said = rw (lines_of_joined (named_from 1 (rows text))) (lines_say 1 (lines_of text) in_order with_values with_names);
       each = each_joined (named_from 1 (rows text));
       apart = apart_joined (named_from 1 (rows text));
@@ -101,23 +93,13 @@ named_again n (line ∷ ls) (named ∷ ns) s =
     ap (λ (more : List NamedLine). record { name = name_of_row (row_for named); line = line_in n (row_for named) } ∷ more) (named_again (suc n) ls ns s.2)
     ∙ ap (λ (one : NamedLine). one ∷ ns) (line_again n named s.1)
 
-text_line : (b : ℕ) → (nat_le 32 b && nat_le b 126) ≡ true → eqb b 10 ≡ false
-text_line b h = grind (arith, nat_tests)
-
-no_newline : (line : List ℕ) → is_text line ≡ true → AllByRecursion (λ b. eqb b 10 ≡ false) line
-no_newline [] h = tt
-no_newline (b ∷ bs) h = let a = and_parts (nat_le 32 b && nat_le b 126) (is_text bs) h in (text_line b a.0, no_newline bs a.1)
-
-lines_clear : (ls : List (List ℕ)) → AllByRecursion (λ line. is_text line ≡ true) ls → AllByRecursion (λ line. All (λ b. eqb b 10 ≡ false) line) ls
+lines_clear : (ls : List (List ℕ)) → AllByRecursion (λ line. is_text line ≡ true) ls → AllByRecursion (IsClearOf 10) ls
 lines_clear [] h = tt
-lines_clear (line ∷ ls) h = (All-from_recursion _ line (no_newline line h.0), lines_clear ls h.1)
+lines_clear (line ∷ ls) h = (is_text-clear line h.0, lines_clear ls h.1)
 
 texts_pass : (ls : List (List ℕ)) → AllByRecursion (λ line. is_text line ≡ true) ls → AllByRecursion (λ line. not (is_text line) ≡ false) (ls ++ [] ∷ [])
 texts_pass [] h = (refl, tt)
 texts_pass (line ∷ ls) h = (not_from_true _ h.0, texts_pass ls h.1)
-
-none_in_four : (a b c d : List LoadFault) → a ≡ [] → b ≡ [] → c ≡ [] → d ≡ [] → first_fault (a ∷ b ∷ c ∷ d ∷ []) ≡ None
-none_in_four a b c d e f g h = rw (e, f, g, h) refl
 
 none_along : (check : List (List (List ℕ)) → List LoadFault) (rs qs : List (List (List ℕ))) → rs ≡ qs → check qs ≡ [] → check rs ≡ []
 none_along check rs qs e h = ap check e ∙ h
@@ -126,30 +108,22 @@ pub again : (text : List ℕ) (ds : List DeviceSpec) → DescribesTable text ds 
 again text ds d =
     let ns = named_lines ds in
     let clean = texts_said 1 d.lines ns d.said in
-    let parts : parts_at 10 text ≡ d.lines ++ [] ∷ [] = ap (parts_at 10) d.ended ∙ parts_of_lines d.lines (lines_clear d.lines clean) in
-    let lines : lines_of text ≡ d.lines = ap front parts ∙ front_push d.lines [] in
-    let rest : rest_of text ≡ [] = ap (back []) parts ∙ back_push [] d.lines [] in
+    let parts : parts_at 10 text ≡ d.lines ++ [] ∷ [] = ap (parts_at 10) d.ended ∙ parts_at-lines d.lines (lines_clear d.lines clean) in
+    let lines : lines_of text ≡ d.lines = ap front parts ∙ front-push d.lines [] in
+    let rest : rest_of text ≡ [] = ap (back []) parts ∙ back-push [] d.lines [] in
     let rs : rows text ≡ map row_for ns = ap (map row_of) lines ∙ rows_said 1 d.lines ns d.said in
-    let no_bytes : not_text Source text ≡ [] = ap (λ (ls : List (List ℕ)). faults_from Source NotText (λ line. not (is_text line)) 1 ls) parts ∙ no_faults Source NotText (λ line. not (is_text line)) 1 (d.lines ++ [] ∷ []) (texts_pass d.lines clean) in
-    let no_rows = none_along (λ r. faults_from Source Syntax (λ row. not (is_row row)) 1 r) (rows text) (map row_for ns) rs (no_faults Source Syntax (λ row. not (is_row row)) 1 (map row_for ns) (rows_pass 1 d.lines ns d.said)) in
-    let no_lines = none_along (λ r. faults_from Source Field (λ row. not (is_line row)) 1 r) (rows text) (map row_for ns) rs (no_faults Source Field (λ row. not (is_line row)) 1 (map row_for ns) (lines_pass 1 d.lines ns d.said)) in
-    let no_names = none_along (λ r. faults_from Source Name (λ row. not (has_names row)) 1 r) (rows text) (map row_for ns) rs (no_faults Source Name (λ row. not (has_names row)) 1 (map row_for ns) (all_names_pass 1 d.lines ns d.said)) in
+    let no_bytes : not_text Source text ≡ [] = ap (λ (ls : List (List ℕ)). faults_from Source NotText (λ line. not (is_text line)) 1 ls) parts ∙ faults_from-good Source NotText (λ line. not (is_text line)) 1 (d.lines ++ [] ∷ []) (texts_pass d.lines clean) in
+    let no_rows = none_along (λ r. faults_from Source Syntax (λ row. not (is_row row)) 1 r) (rows text) (map row_for ns) rs (faults_from-good Source Syntax (λ row. not (is_row row)) 1 (map row_for ns) (rows_pass 1 d.lines ns d.said)) in
+    let no_lines = none_along (λ r. faults_from Source Field (λ row. not (is_line row)) 1 r) (rows text) (map row_for ns) rs (faults_from-good Source Field (λ row. not (is_line row)) 1 (map row_for ns) (lines_pass 1 d.lines ns d.said)) in
+    let no_names = none_along (λ r. faults_from Source Name (λ row. not (has_names row)) 1 r) (rows text) (map row_for ns) rs (faults_from-good Source Name (λ row. not (has_names row)) 1 (map row_for ns) (all_names_pass 1 d.lines ns d.said)) in
     let no_syntax : faults_from Source Syntax (λ row. not (is_row row)) 1 (rows text) ++ unended Source (length (rows text) + 1) (rest_of text) ≡ [] = rw (no_rows, rest) refl in
-    (none_in_four _ _ _ _ no_bytes no_syntax no_lines no_names, ap (devices_from 1) rs ∙ ap joined (named_again 1 d.lines ns d.said) ∙ devices_again ds d.each d.apart)
+    (first_fault-all (table_checks text) (no_bytes, (no_syntax, (no_lines, (no_names, tt)))), ap (devices_from 1) rs ∙ ap joined (named_again 1 d.lines ns d.said) ∙ devices_again ds d.each d.apart)
 
 -- a text describes no other devices
 pub one_description : (text : List ℕ) (a b : List DeviceSpec) → DescribesTable text a → DescribesTable text b → a ≡ b
 one_description text a b d e = sym (again text a d).1 ∙ (again text b e).1
 
 -- How a text is read
-
-unless_ok : (o : Option LoadFault) (x y : List DeviceSpec) → unless o x ≡ Ok y → (o ≡ None) × (x ≡ y)
-unless_ok None x y h = (refl, cc)
-unless_ok (Some f) x y h = absurd cc
-
-unless_err : (o : Option LoadFault) (x : List DeviceSpec) (f : LoadFault) → unless o x ≡ Err f → o ≡ Some f
-unless_err None x f h = absurd cc
-unless_err (Some g) x f h = cc
 
 pub read_if_described : (text : List ℕ) (ds : List DeviceSpec) → DescribesTable text ds → reading text ≡ Ok ds
 unfolding reading
@@ -158,9 +132,9 @@ read_if_described text ds d = let a = again text ds d in rw (a.0, a.1) refl
 pub described_if_read : (text : List ℕ) (ds : List DeviceSpec) → reading text ≡ Ok ds → (first_fault (table_checks text) ≡ None) × DescribesTable text ds
 unfolding reading
 described_if_read text ds h =
-    let a = unless_ok (first_fault (table_checks text)) (devices_from 1 (rows text)) ds h in
+    let a = unless-ok (first_fault (table_checks text)) (devices_from 1 (rows text)) ds h in
     (a.0, subst (λ (x : List DeviceSpec). DescribesTable text x) a.1 (described text a.0))
 
 pub fault_if_refused : (text : List ℕ) (f : LoadFault) → reading text ≡ Err f → first_fault (table_checks text) ≡ Some f
 unfolding reading
-fault_if_refused text f h = unless_err (first_fault (table_checks text)) (devices_from 1 (rows text)) f h
+fault_if_refused text f h = unless-err (first_fault (table_checks text)) (devices_from 1 (rows text)) f h

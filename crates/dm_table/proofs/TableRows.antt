@@ -22,8 +22,9 @@ use Rattle.dm_table.specs.Fields.{parts_at, front, back, fields}
 use Rattle.dm_table.specs.LoadFault.{is_text}
 use Rattle.dm_table.specs.TableText.{NamedLine, dev_text, target_text, line_text, Writes, IsDevRef, IsTarget, IsSaid, without_last_space, row_of, is_label, name_in, is_row, is_target, is_line, is_dev, has_names}
 use Rattle.dm_table.specs.TableReading.{number_in, dev_in, target_in, name_of_row, line_in}
-use Rattle.dm_table.proofs.NumberLemmas.{number_spells, number_again, digits_of_number}
-use Rattle.dm_table.proofs.FieldLemmas.{front_push, back_push}
+use Rattle.dm_table.proofs.NumberLemmas.{Spells-number_of, number_of-decimal, decimal_digits, decimal_some, Some-is_some}
+use Rattle.dm_table.proofs.ByteLemmas.{All-list_all, list_all-weaker, list_all-both, device_name_parts, disk_name_parts}
+use Rattle.dm_table.proofs.FieldLemmas.{IsClearOf, parts_at-first, parts_at-clear, join-parts_at, front-push, back-push}
 use Rattle.dm_table.proofs.TableGroups.{same_name}
 
 -- The fields that a line is written with
@@ -70,12 +71,8 @@ space_joined f (g ∷ fs) = rw (space_joined g fs) (sym (append_assoc f (32 ∷ 
 
 -- From a row that the tests pass to its line
 
-some_there : (o : Option ℕ) → is_some o ≡ true → o ≡ Some (unwrap_or o 0)
-some_there None e = absurd cc
-some_there (Some n) e = refl
-
 number_spelled : (field : List ℕ) → is_some (number_of field) ≡ true → Spells field (number_in field)
-number_spelled field e = number_spells field (number_in field) (some_there (number_of field) e)
+number_spelled field e = Spells-number_of field (number_in field) (Some-is_some (number_of field) e)
 
 starts_with_mapper : (text : List ℕ) → names_device text ≡ true → text ≡ mapper ++ drop (length mapper) text
 starts_with_mapper text e = (starts_is Decides-eqb text mapper (names_device text) refl).0 e
@@ -161,7 +158,7 @@ row_begins (f ∷ fs) r = space_joined f fs
 -- a line whose row is in order is written as what its row says
 pub line_writes : (n : ℕ) (line : List ℕ) → is_row (row_of line) ≡ true → is_line (row_of line) ≡ true → Writes line (record { name = name_of_row (row_of line); line = line_in n (row_of line) })
 line_writes n line r l =
-    let whole : line ≡ join_with_byte 32 (fields line) = sym (join_with_byte-slice_split 32 line) in
+    let whole : line ≡ join_with_byte 32 (fields line) = sym (join-parts_at 32 line) in
     let named : NamedLine = record { name = name_of_row (row_of line); line = line_in n (row_of line) } in
     let spelled : join_with_byte 32 (row_of line) ≡ line_text named = ap (join_with_byte 32) (sym (row_again n (row_of line) r l)) ∙ line_joined named in
     elim (space_cases (fields line)) [
@@ -182,6 +179,9 @@ IsInked field = (nat_lt 0 (length field) ≡ true) × (list_all is_ink field ≡
 ink_space : (b : ℕ) → is_ink b ≡ true → eqb b 32 ≡ false
 ink_space b h = grind (arith, nat_tests)
 
+ink_clear : (field : List ℕ) → list_all is_ink field ≡ true → IsClearOf 32 field
+ink_clear field h = All-list_all is_ink (λ b. eqb b 32 ≡ false) ink_space field h
+
 ink_text : (b : ℕ) → is_ink b ≡ true → (nat_le 32 b && nat_le b 126) ≡ true
 ink_text b h = grind (arith, nat_tests)
 
@@ -194,40 +194,18 @@ disk_ink b h = grind (arith, nat_tests)
 digit_ink : (b : ℕ) → is_ascii_digit b ≡ true → is_ink b ≡ true
 digit_ink b h = grind (arith, nat_tests)
 
-all_weaker : (p q : ℕ → Bool) → ((b : ℕ) → p b ≡ true → q b ≡ true) → (xs : List ℕ) → list_all p xs ≡ true → list_all q xs ≡ true
-all_weaker p q f [] h = refl
-all_weaker p q f (x ∷ xs) h = let a = and_parts (p x) (list_all p xs) h in and_from _ _ (f x a.0) (all_weaker p q f xs a.1)
-
-all_append : (p : ℕ → Bool) (xs ys : List ℕ) → list_all p xs ≡ true → list_all p ys ≡ true → list_all p (xs ++ ys) ≡ true
-all_append p [] ys h k = k
-all_append p (x ∷ xs) ys h k = let a = and_parts (p x) (list_all p xs) h in and_from _ _ a.0 (all_append p xs ys a.1 k)
-
-each_byte : (p q : ℕ → Bool) → ((b : ℕ) → p b ≡ true → q b ≡ false) → (xs : List ℕ) → list_all p xs ≡ true → AllByRecursion (λ b. q b ≡ false) xs
-each_byte p q f [] h = tt
-each_byte p q f (x ∷ xs) h = let a = and_parts (p x) (list_all p xs) h in (f x a.0, each_byte p q f xs a.1)
-
-none_of : (p q : ℕ → Bool) → ((b : ℕ) → p b ≡ true → q b ≡ false) → (xs : List ℕ) → list_all p xs ≡ true → All (λ b. q b ≡ false) xs
-none_of p q f xs h = All-from_recursion _ xs (each_byte p q f xs h)
-
 name_inked : (name : List ℕ) → is_device_name name ≡ true → IsInked name
-name_inked name h =
-    let a = and_parts (nat_le 1 (length name)) (nat_le (length name) 127 && list_all is_device_byte name) h in
-    let b = and_parts (nat_le (length name) 127) (list_all is_device_byte name) a.1 in
-    (a.0, all_weaker is_device_byte is_ink device_ink name b.1)
+name_inked name h = let a = device_name_parts name h in (a.some, list_all-weaker is_device_byte is_ink device_ink name a.bytes)
 
 label_inked : (name : List ℕ) → is_device_name name ≡ true → IsInked (name ++ 58 ∷ [])
-label_inked name h = (lt-ltb _ _ (omega (arith, length-append name (58 ∷ []))), all_append is_ink name (58 ∷ []) (name_inked name h).1 refl)
+label_inked name h = (lt-ltb _ _ (omega (arith, length-append name (58 ∷ []))), list_all-both is_ink name (58 ∷ []) (name_inked name h).1 refl)
 
 number_inked : (n : ℕ) → n < 10 ^ 19 → IsInked (decimal n)
-number_inked n h = (lt-ltb _ _ (decimal_nonempty n (omega arith)), all_weaker is_ascii_digit is_ink digit_ink (decimal n) (digits_of_number n h))
+number_inked n h = (lt-ltb _ _ (decimal_some n h), list_all-weaker is_ascii_digit is_ink digit_ink (decimal n) (decimal_digits n h))
 
 dev_inked : (to : DevRef) → IsDevRef to → IsInked (dev_text to)
 dev_inked (Device name) h = (lt-ltb 0 (length (mapper ++ name)) (omega (arith, length-append mapper name)), (name_inked name h).1)
-dev_inked (Disk name) h =
-    let a = and_parts (nat_le 1 (length name)) (nat_le (length name) 255 && (list_all is_disk_byte name && not (names_device name))) h in
-    let b = and_parts (nat_le (length name) 255) (list_all is_disk_byte name && not (names_device name)) a.1 in
-    let c = and_parts (list_all is_disk_byte name) (not (names_device name)) b.1 in
-    (a.0, all_weaker is_disk_byte is_ink disk_ink name c.0)
+dev_inked (Disk name) h = let a = disk_name_parts name h in (a.some, list_all-weaker is_disk_byte is_ink disk_ink name a.bytes)
 
 target_inked : (target : Target) → IsTarget target → AllByRecursion IsInked (target_fields target)
 target_inked (Linear to offset) h = ((refl, refl), (dev_inked to h.0, (number_inked offset h.1, tt)))
@@ -238,9 +216,9 @@ row_inked n named h = (label_inked named.name h.name, (number_inked named.line.s
 
 -- fields that are there, and at most one last empty one, are those of the line that they make
 fields_joined : (f : List ℕ) (fs : List (List ℕ)) → AllByRecursion (λ g. list_all is_ink g ≡ true) (f ∷ fs) → fields (join_with_byte 32 (f ∷ fs)) ≡ f ∷ fs
-fields_joined f [] h = slice_split_none (λ b. eqb b 32) f (none_of is_ink (λ b. eqb b 32) ink_space f h.0)
+fields_joined f [] h = parts_at-clear 32 f (ink_clear f h.0)
 fields_joined f (g ∷ fs) h =
-    slice_split_at (λ b. eqb b 32) f 32 (join_with_byte 32 (g ∷ fs)) (none_of is_ink (λ b. eqb b 32) ink_space f h.0) refl
+    parts_at-first 32 f (join_with_byte 32 (g ∷ fs)) (ink_clear f h.0)
     ∙ ap (λ (rest : List (List ℕ)). f ∷ rest) (fields_joined g fs h.1)
 
 inks : (fs : List (List ℕ)) → AllByRecursion IsInked fs → AllByRecursion (λ g. list_all is_ink g ≡ true) fs
@@ -274,8 +252,8 @@ row_written n text named w h =
     ]
 
 joined_text : (f : List ℕ) (fs : List (List ℕ)) → AllByRecursion IsInked (f ∷ fs) → is_text (join_with_byte 32 (f ∷ fs)) ≡ true
-joined_text f [] h = all_weaker is_ink _ ink_text f h.0.1
-joined_text f (g ∷ fs) h = all_append _ f (32 ∷ join_with_byte 32 (g ∷ fs)) (all_weaker is_ink _ ink_text f h.0.1) (joined_text g fs h.1)
+joined_text f [] h = list_all-weaker is_ink _ ink_text f h.0.1
+joined_text f (g ∷ fs) h = list_all-both _ f (32 ∷ join_with_byte 32 (g ∷ fs)) (list_all-weaker is_ink _ ink_text f h.0.1) (joined_text g fs h.1)
 
 -- and is text
 pub text_written : (n : ℕ) (text : List ℕ) (named : NamedLine) → Writes text named → IsSaid n named → is_text text ≡ true
@@ -283,7 +261,7 @@ text_written n text named w h =
     let clean : is_text (line_text named) ≡ true = ap is_text (sym (line_joined named)) ∙ joined_text (label_for named) (others_for named) (row_inked n named h) in
     elim w [
       | inl e ↦ ap is_text e ∙ clean
-      | inr e ↦ ap is_text e ∙ all_append _ (line_text named) (32 ∷ []) clean refl
+      | inr e ↦ ap is_text e ∙ list_all-both _ (line_text named) (32 ∷ []) clean refl
     ]
 
 -- The row of a line passes the tests
@@ -295,7 +273,7 @@ filled (f ∷ fs) h = and_from _ _ h.0.0 (filled fs h.1)
 label_passes : (name : List ℕ) → is_device_name name ≡ true → is_label (name ++ 58 ∷ []) ≡ true
 label_passes name h =
     let long : 0 < length name = ltb-true 0 (length name) (name_inked name h).0 in
-    and_from _ _ (lt-ltb 1 _ (omega (arith, length-append name (58 ∷ [])))) (eq-eqb _ _ (back_push 0 name 58))
+    and_from _ _ (lt-ltb 1 _ (omega (arith, length-append name (58 ∷ [])))) (eq-eqb _ _ (back-push 0 name 58))
 
 row_ok : (label start len : List ℕ) (target : Target) → is_label label ≡ true → AllByRecursion IsInked (start ∷ len ∷ target_fields target) → is_row (label ∷ start ∷ len ∷ target_fields target) ≡ true
 row_ok label start len (Linear to offset) l h = and_from _ _ l (filled (start ∷ len ∷ target_fields (Linear to offset)) h)
@@ -305,7 +283,7 @@ pub row_passes : (n : ℕ) (named : NamedLine) → IsSaid n named → is_row (ro
 row_passes n named h = row_ok (label_for named) (decimal named.line.start) (decimal named.line.len) named.line.target (label_passes named.name h.name) (row_inked n named h).1
 
 number_passes : (n : ℕ) → n < 10 ^ 19 → is_some (number_of (decimal n)) ≡ true
-number_passes n h = ap is_some (number_again n h)
+number_passes n h = ap is_some (number_of-decimal n h)
 
 target_passes : (target : Target) → IsTarget target → is_target (target_fields target) ≡ true
 target_passes (Linear to offset) h = number_passes offset h.1
@@ -314,30 +292,23 @@ target_passes Error h = refl
 pub line_passes : (n : ℕ) (named : NamedLine) → IsSaid n named → is_line (row_for named) ≡ true
 line_passes n named h = and_from _ _ (number_passes named.line.start h.start) (and_from _ _ (number_passes named.line.len h.len) (target_passes named.line.target h.target))
 
-no_device : (name : List ℕ) → is_disk_name name ≡ true → names_device name ≡ false
-no_device name h =
-    let a = and_parts (nat_le 1 (length name)) (nat_le (length name) 255 && (list_all is_disk_byte name && not (names_device name))) h in
-    let b = and_parts (nat_le (length name) 255) (list_all is_disk_byte name && not (names_device name)) a.1 in
-    let c = and_parts (list_all is_disk_byte name) (not (names_device name)) b.1 in
-    not-true _ c.1
-
 dev_passes : (to : DevRef) → IsDevRef to → is_dev (dev_text to) ≡ true
 dev_passes (Device name) h = h
-dev_passes (Disk name) h = cond-false (names_device name) (is_device_name (drop (length mapper) name)) (is_disk_name name) (no_device name h) ∙ h
+dev_passes (Disk name) h = cond-false (names_device name) (is_device_name (drop (length mapper) name)) (is_disk_name name) (not-true _ (disk_name_parts name h).own) ∙ h
 
 dev_again : (to : DevRef) → IsDevRef to → dev_in (dev_text to) ≡ to
 dev_again (Device name) h = refl
-dev_again (Disk name) h = rw (no_device name h) refl
+dev_again (Disk name) h = rw (not-true _ (disk_name_parts name h).own) refl
 
 names_ok : (name start len : List ℕ) (target : Target) → is_device_name name ≡ true → IsTarget target → has_names ((name ++ 58 ∷ []) ∷ start ∷ len ∷ target_fields target) ≡ true
-names_ok name start len (Linear to offset) h t = and_from _ _ (ap is_device_name (front_push name 58) ∙ h) (dev_passes to t.0)
-names_ok name start len Error h t = ap is_device_name (front_push name 58) ∙ h
+names_ok name start len (Linear to offset) h t = and_from _ _ (ap is_device_name (front-push name 58) ∙ h) (dev_passes to t.0)
+names_ok name start len Error h t = ap is_device_name (front-push name 58) ∙ h
 
 pub names_pass : (n : ℕ) (named : NamedLine) → IsSaid n named → has_names (row_for named) ≡ true
 names_pass n named h = names_ok named.name (decimal named.line.start) (decimal named.line.len) named.line.target h.name h.target
 
 number_is : (n : ℕ) → n < 10 ^ 19 → number_in (decimal n) ≡ n
-number_is n h = ap (λ (o : Option ℕ). unwrap_or o 0) (number_again n h)
+number_is n h = ap (λ (o : Option ℕ). unwrap_or o 0) (number_of-decimal n h)
 
 target_again : (target : Target) → IsTarget target → target_in (target_fields target) ≡ target
 target_again (Linear to offset) h = rw (dev_again to h.0, number_is offset h.1) refl
@@ -346,4 +317,4 @@ target_again Error h = refl
 -- and is read as that line
 pub line_again : (n : ℕ) (named : NamedLine) → IsSaid n named → record { name = name_of_row (row_for named); line = line_in n (row_for named) } ≡ named
 line_again n named h =
-    rw (front_push named.name 58, number_is named.line.start h.start, number_is named.line.len h.len, target_again named.line.target h.target, ← h.at) refl
+    rw (front-push named.name 58, number_is named.line.start h.start, number_is named.line.len h.len, target_again named.line.target h.target, ← h.at) refl

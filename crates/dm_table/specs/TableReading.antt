@@ -1,8 +1,6 @@
 -- How table text is read where no check finds anything: each row of fields as a line, and neighbouring lines of one name as a device.
 use Rattle.std.specs.Prelude.{ℕ, suc, Bool, true, false, List, [], ◌∷◌, length, map, nat_eq, drop, unwrap_or, Result, if◌then◌else◌}
 use Rattle.std.specs.Cmp.Lexicographic.{pointwise}
-use Rattle.std.specs.Global.{Vec}
-use denote.Ref.{Bor}
 use Rattle.dm_table.specs.declared.table.DevRef.{DevRef}
 use Rattle.dm_table.specs.declared.table.DevRef.TheVariants.{Device, Disk}
 use Rattle.dm_table.specs.declared.table.Target.{Target}
@@ -13,13 +11,9 @@ use Rattle.dm_table.specs.declared.place.Part.TheVariants.{Source}
 use Rattle.dm_table.specs.declared.load_fault.LoadFault.{LoadFault}
 use Rattle.dm_table.specs.Name.{names_device, mapper}
 use Rattle.dm_table.specs.Number.{number_of}
-use Rattle.dm_table.specs.Fields.{texts, lines_of}
+use Rattle.dm_table.specs.Fields.{lines_of}
 use Rattle.dm_table.specs.LoadFault.{first_fault, unless}
 use Rattle.dm_table.specs.TableText.{NamedLine, name_in, row_of, table_checks}
-
--- what rows of slices point to
-abbrev pub row_texts : List (Vec (Bor (List ℕ))) → List (List (List ℕ))
-row_texts = map (λ row. texts row.items)
 
 -- the number in a field that is one
 abbrev pub number_in : List ℕ → ℕ
