@@ -1,1 +1,7 @@
+pub mod NumberLemmas
+pub mod ByteLemmas
+pub mod FieldLemmas
+pub mod FaultLemmas
 pub mod TableGroups
+pub mod TableRows
+pub mod TableDescribed

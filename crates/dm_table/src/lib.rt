@@ -6,11 +6,14 @@
 #![tactic(auto)]
 
 mod disk;
+mod fields;
 mod load_fault;
 mod name;
+mod number;
 mod place;
 mod request;
 mod table;
+mod text_checks;
 
 pub use disk::Disk;
 pub use load_fault::{LoadFault, LoadKind};

@@ -3,6 +3,13 @@
 //! A value of these types is a name by its type, so nothing above checks it again. The rules are
 //! this project's profile of what dmsetup(8) takes; change them in `specs/Name.antt` first.
 
+ghost use Rattle.std.specs.Prelude.{◌≡◌, IsTrue, IfOk};
+ghost use Rattle.std.specs.List.{list_all};
+ghost use Rattle.std.specs.Str.{IsAscii};
+ghost use Rattle.std.specs.String.{string_bytes};
+ghost use Rattle.dm_table.specs.Name.{is_device_byte, is_device_name, is_disk_byte, is_disk_name, names_device};
+
+use std::alloc::{AllocError, Global};
 use std::marker::Model;
 use thiserror::Error;
 
@@ -35,6 +42,17 @@ impl Model for Name {
     ghost invariant = { λ name. is_device_name (string_bytes name.text) ≡ true };
 }
 
+impl Name {
+    /// The name of these bytes, which have passed the test. Fails only for want of memory.
+    pub(crate) fn of_bytes(alloc: Global, bytes: &[u8]) -> Result<Name, AllocError>
+        requires { IsTrue (is_device_name bytes.now) }
+        ensures { IfOk result (λ name. name ≡ bytes.now) }
+    {
+        let text = ascii_text(alloc, bytes)?;
+        Ok(Name { text })
+    }
+}
+
 /// The name of a disk: 1 to 255 bytes from 0x21 to 0x7E without `,`, `;` and `\`, not beginning
 /// with `/dev/mapper/`.
 #[derive(Debug, Drop)]
@@ -52,4 +70,74 @@ impl Model for DiskName {
     ghost view = { λ name. string_bytes name.text };
 
     ghost invariant = { λ name. is_disk_name (string_bytes name.text) ≡ true };
+}
+
+impl DiskName {
+    /// The name of these bytes, which have passed the test. Fails only for want of memory.
+    pub(crate) fn of_bytes(alloc: Global, bytes: &[u8]) -> Result<DiskName, AllocError>
+        requires { IsTrue (is_disk_name bytes.now) }
+        ensures { IfOk result (λ name. name ≡ bytes.now) }
+    {
+        let text = ascii_text(alloc, bytes)?;
+        Ok(DiskName { text })
+    }
+}
+
+/// Whether the bytes are the name of a device.
+pub(crate) fn is_device_name(bytes: &[u8]) -> bool
+    ensures { result ≡ is_device_name bytes.now }
+{
+    let allowed = are_device_bytes(bytes);
+    1 <= bytes.len() && bytes.len() <= 127 && allowed
+}
+
+fn are_device_bytes(bytes: &[u8]) -> bool
+    ensures { result ≡ list_all is_device_byte bytes.now }
+{
+    bytes.iter().all(|byte| is_device_byte(*byte))
+}
+
+fn is_device_byte(byte: u8) -> bool
+    ensures { result ≡ is_device_byte byte }
+{
+    matches!(byte, b'a'..=b'z' | b'A'..=b'Z' | b'0'..=b'9' | b'#' | b'+' | b'-' | b'.' | b':' | b'=' | b'@' | b'_')
+}
+
+/// Whether the bytes are the name of a disk.
+pub(crate) fn is_disk_name(bytes: &[u8]) -> bool
+    ensures { result ≡ is_disk_name bytes.now }
+{
+    let allowed = are_disk_bytes(bytes);
+    let device = names_device(bytes);
+    1 <= bytes.len() && bytes.len() <= 255 && allowed && !device
+}
+
+fn are_disk_bytes(bytes: &[u8]) -> bool
+    ensures { result ≡ list_all is_disk_byte bytes.now }
+{
+    bytes.iter().all(|byte| is_disk_byte(*byte))
+}
+
+fn is_disk_byte(byte: u8) -> bool
+    ensures { result ≡ is_disk_byte byte }
+{
+    33 <= byte && byte <= 126 && !(byte == b',' || byte == b';' || byte == b'\\')
+}
+
+/// Whether the bytes begin as the text of a device of the stack does.
+pub(crate) fn names_device(bytes: &[u8]) -> bool
+    ensures { result ≡ names_device bytes.now }
+{
+    bytes.starts_with(b"/dev/mapper/")
+}
+
+/// A text of these ASCII bytes. Fails only for want of memory.
+fn ascii_text(alloc: Global, bytes: &[u8]) -> Result<String, AllocError>
+    requires { IsAscii bytes.now }
+    ensures { IfOk result (λ text. string_bytes text ≡ bytes.now) }
+{
+    match str::from_utf8(bytes) {
+        Ok(text) => String::from_str(alloc, text),
+        Err(_) => unreachable!(),
+    }
 }
