@@ -5,3 +5,4 @@ pub mod FaultLemmas
 pub mod TableGroups
 pub mod TableRows
 pub mod TableDescribed
+pub mod TableFields

@@ -1,5 +1,5 @@
 -- How table text is read where no check finds anything: each row of fields as a line, and neighbouring lines of one name as a device.
-use Rattle.std.specs.Prelude.{ℕ, suc, Bool, true, false, List, [], ◌∷◌, length, map, nat_eq, drop, unwrap_or, Result, if◌then◌else◌}
+use Rattle.std.specs.Prelude.{ℕ, suc, ◌+◌, Bool, true, false, not, ◌&&◌, List, [], ◌∷◌, ◌++◌, length, map, nat_eq, drop, unwrap_or, Result, if◌then◌else◌}
 use Rattle.std.specs.Cmp.Lexicographic.{pointwise}
 use Rattle.dm_table.specs.declared.table.DevRef.{DevRef}
 use Rattle.dm_table.specs.declared.table.DevRef.TheVariants.{Device, Disk}
@@ -8,12 +8,13 @@ use Rattle.dm_table.specs.declared.table.Target.TheVariants.{Linear, Error}
 use Rattle.dm_table.specs.declared.table.Line.{Line}
 use Rattle.dm_table.specs.declared.table.DeviceSpec.{DeviceSpec}
 use Rattle.dm_table.specs.declared.place.Part.TheVariants.{Source}
+use Rattle.dm_table.specs.declared.load_fault.LoadKind.TheVariants.{Syntax, Field, Name}
 use Rattle.dm_table.specs.declared.load_fault.LoadFault.{LoadFault}
 use Rattle.dm_table.specs.Name.{names_device, mapper}
 use Rattle.dm_table.specs.Number.{number_of}
 use Rattle.dm_table.specs.Fields.{lines_of}
-use Rattle.dm_table.specs.LoadFault.{first_fault, unless}
-use Rattle.dm_table.specs.TableText.{NamedLine, name_in, row_of, table_checks}
+use Rattle.dm_table.specs.LoadFault.{first_fault, faults_from, unended, unless}
+use Rattle.dm_table.specs.TableText.{NamedLine, name_in, row_of, is_row, is_line, is_dev, has_names, table_checks}
 
 -- the number in a field that is one
 abbrev pub number_in : List ℕ → ℕ
@@ -27,6 +28,26 @@ dev_in text = if names_device text then Device (drop (length mapper) text) else 
 abbrev pub target_in : List (List ℕ) → Target
 target_in (type ∷ to ∷ offset ∷ []) = Linear (dev_in to) (number_in offset)
 target_in _ = Error
+
+-- the last field is empty
+abbrev pub ends_empty : List (List ℕ) → Bool
+ends_empty [] = false
+ends_empty ([] ∷ []) = true
+ends_empty ((byte ∷ bytes) ∷ []) = false
+ends_empty (field ∷ next ∷ fields) = ends_empty (next ∷ fields)
+
+-- the rows of lines
+abbrev pub rows_of : List (List ℕ) → List (List (List ℕ))
+rows_of = map row_of
+
+-- the names among a type and its arguments are names
+abbrev pub has_dev : List (List ℕ) → Bool
+has_dev (type ∷ to ∷ arguments) = is_dev to
+has_dev _ = true
+
+-- a row whose values are in order, so that a line can be made of it
+abbrev pub is_checked : List (List ℕ) → Bool
+is_checked row = is_line row && has_names row
 
 -- the name in a row
 abbrev pub name_of_row : List (List ℕ) → List ℕ
@@ -48,6 +69,10 @@ lines_from n (row ∷ rows) = line_in n row ∷ lines_from (suc n) rows
 abbrev pub named_from : ℕ → List (List (List ℕ)) → List NamedLine
 named_from n [] = []
 named_from n (row ∷ rows) = record { name = name_of_row row; line = line_in n row } ∷ named_from (suc n) rows
+
+-- a device of a name and its rows, numbered from n
+abbrev pub run_device : List ℕ → ℕ → List (List (List ℕ)) → DeviceSpec
+run_device name n rows = record { name = name; ro = false; lines = lines_from n rows; at = record { part = Source; number = n } }
 
 -- a device of one line
 abbrev pub alone : NamedLine → DeviceSpec
@@ -72,6 +97,18 @@ joined (named ∷ more) = join_line named (joined more)
 abbrev pub devices_from : ℕ → List (List (List ℕ)) → List DeviceSpec
 devices_from n rows = joined (named_from n rows)
 
--- the whole reading: the first fault, or else the devices
+-- the checks of a text behind that of its bytes
+abbrev pub row_checks : List (List (List ℕ)) → List ℕ → List (List LoadFault)
+row_checks rows rest =
+    (faults_from Source Syntax (λ row. not (is_row row)) 1 rows ++ unended Source (length rows + 1) rest)
+    ∷ faults_from Source Field (λ row. not (is_line row)) 1 rows
+    ∷ faults_from Source Name (λ row. not (has_names row)) 1 rows
+    ∷ []
+
+-- the reading of rows: the first fault, or else the devices
+abbrev pub reading_rows : List (List (List ℕ)) → List ℕ → Result (List DeviceSpec) LoadFault
+reading_rows rows rest = unless (first_fault (row_checks rows rest)) (devices_from 1 rows)
+
+-- the whole reading
 unfoldable pub reading : List ℕ → Result (List DeviceSpec) LoadFault
-reading text = unless (first_fault (table_checks text)) (devices_from 1 (map row_of (lines_of text)))
+reading text = unless (first_fault (table_checks text)) (devices_from 1 (rows_of (lines_of text)))

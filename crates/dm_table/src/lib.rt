@@ -13,6 +13,8 @@ mod number;
 mod place;
 mod request;
 mod table;
+mod table_row;
+mod table_text;
 mod text_checks;
 
 pub use disk::Disk;
@@ -21,3 +23,4 @@ pub use name::{CheckFault, DiskName, Name};
 pub use place::{Part, Place};
 pub use request::{Op, Request, RequestFault};
 pub use table::{DevRef, DeviceSpec, Line, Table, Target};
+pub use table_text::parse_table;
