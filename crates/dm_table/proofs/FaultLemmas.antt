@@ -4,7 +4,7 @@ use Rattle.std.specs.List.{AllByRecursion}
 use Rattle.dm_table.specs.declared.place.Part.{Part}
 use Rattle.dm_table.specs.declared.load_fault.LoadKind.{LoadKind}
 use Rattle.dm_table.specs.declared.load_fault.LoadFault.{LoadFault}
-use Rattle.dm_table.specs.LoadFault.{fault_at, first_or, first_fault, faults_from, unless, unended}
+use Rattle.dm_table.specs.LoadFault.{Answers, fault_at, first_or, first_fault, faults_from, unless, unended}
 
 -- One check before others
 
@@ -80,3 +80,18 @@ unless-ok (Some fault) x y h = absurd cc
 pub unless-err : {X : Type 0} (found : Option LoadFault) (x : X) (fault : LoadFault) → unless found x ≡ Err fault → found ≡ Some fault
 unless-err None x fault h = absurd cc
 unless-err (Some other) x fault h = cc
+
+-- what a first step refuses, the whole call refuses
+pub Answers-refused : {X Y V W : Type 0} (part : Part) (view : X → Y) (whole : V → W) (fault : LoadFault) (faults : List LoadFault) (later : Option LoadFault) (y : Y) (w : W)
+    → Answers {X = X} {Y = Y} part view (Err fault) (unless (first_or faults None) y) → Answers {X = V} {Y = W} part whole (Err fault) (unless (first_or faults later) w)
+Answers-refused part view whole fault faults later y w h = (
+  h.0,
+  λ other. let found = first_or-found faults later fault (unless-err (first_or faults None) y fault (h.1 other)) in rw found refl,
+)
+
+-- what a first step takes, the whole call answers by the steps behind it
+pub unless-passed : {Y W : Type 0} (faults : List LoadFault) (later : Option LoadFault) (y taken : Y) (w : W)
+    → unless (first_or faults None) y ≡ Ok taken → (y ≡ taken) × (unless (first_or faults later) w ≡ unless later w)
+unless-passed faults later y taken w h =
+    let a = unless-ok (first_or faults None) y taken h in
+    (a.1, rw (first_or-passed faults later a.0) refl)

@@ -2,7 +2,9 @@ pub mod NumberLemmas
 pub mod ByteLemmas
 pub mod FieldLemmas
 pub mod FaultLemmas
+pub mod DiskLemmas
 pub mod TableGroups
 pub mod TableRows
 pub mod TableDescribed
 pub mod TableFields
+pub mod TableRuns

@@ -1,5 +1,5 @@
 -- Disk lists: a line NAME SECTORS for each disk.
-use Rattle.std.specs.Prelude.{◌≡◌, ℕ, suc, ◌+◌, ◌^◌, ◌<◌, Bool, true, false, not, ◌&&◌, List, [], ◌∷◌, ◌++◌, length, nat_lt, decimal, is_none, map}
+use Rattle.std.specs.Prelude.{◌≡◌, ℕ, suc, ◌+◌, ◌^◌, ◌<◌, Bool, true, false, not, ◌&&◌, List, [], ◌∷◌, ◌++◌, length, nat_lt, decimal, is_none, unwrap_or, map, Result}
 use Rattle.std.specs.List.{flat_map}
 use Rattle.dm_table.specs.declared.disk.Disk.{Disk}
 use Rattle.dm_table.specs.declared.place.Part.TheVariants.{Disks}
@@ -8,7 +8,7 @@ use Rattle.dm_table.specs.declared.load_fault.LoadFault.{LoadFault}
 use Rattle.dm_table.specs.Name.{is_disk_name}
 use Rattle.dm_table.specs.Number.{number_of}
 use Rattle.dm_table.specs.Fields.{fields, lines_of, rest_of}
-use Rattle.dm_table.specs.LoadFault.{faults_from, not_text, unended}
+use Rattle.dm_table.specs.LoadFault.{faults_from, first_fault, not_text, unended, unless}
 
 -- What a list says
 
@@ -64,3 +64,17 @@ abbrev pub disk_checks : List ℕ → List (List LoadFault)
 disk_checks text =
     let rows = map fields (lines_of text) in
     not_text Disks text ∷ bad_syntax rows (rest_of text) ∷ bad_field rows ∷ bad_name rows ∷ []
+
+-- How rows are read
+
+-- the disk of a row, on line n
+abbrev pub disk_of : ℕ → List (List ℕ) → Disk
+disk_of n row = record { name = first row; len = unwrap_or (number_of (second row)) 0; at = record { part = Disks; number = n } }
+
+abbrev pub disks_from : ℕ → List (List (List ℕ)) → List Disk
+disks_from n [] = []
+disks_from n (row ∷ rows) = disk_of n row ∷ disks_from (suc n) rows
+
+-- the disks of a text, or the fault of its checks
+unfoldable pub read_disks : List ℕ → Result (List Disk) LoadFault
+read_disks text = unless (first_fault (disk_checks text)) (disks_from 1 (map fields (lines_of text)))

@@ -6,6 +6,7 @@
 #![tactic(auto)]
 
 mod disk;
+mod disk_list;
 mod fields;
 mod load_fault;
 mod name;
@@ -18,6 +19,7 @@ mod table_text;
 mod text_checks;
 
 pub use disk::Disk;
+pub use disk_list::parse_disks;
 pub use load_fault::{LoadFault, LoadKind};
 pub use name::{CheckFault, DiskName, Name};
 pub use place::{Part, Place};

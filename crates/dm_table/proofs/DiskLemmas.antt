@@ -1,0 +1,190 @@
+-- What no check finds fault with describes its disks, and what describes disks no check finds fault with.
+use Rattle.std.proofs.Common.{◌≡◌, ℕ, suc, ◌+◌, ◌^◌, ◌<◌, true, false, nat_le, not, ◌&&◌, List, [], ◌∷◌, ◌++◌, length, map, get_or, drop, Some, None, Result, Ok, Err, Vec, refl, sym, ap, subst, ◌∙◌}
+use Rattle.std.specs.Prelude.{decimal, is_none}
+use Rattle.std.specs.Global.{Global}
+use Rattle.std.specs.List.{flat_map, join_with_byte, AllByRecursion}
+use Rattle.std.proofs.lemmas.Bool.{and_from, not-false, not_from_true, lt-ltb}
+use Rattle.std.proofs.lemmas.List.{drop_more}
+use Rattle.dm_table.specs.declared.disk.Disk.{Disk}
+use Rattle.dm_table.specs.declared.place.Part.TheVariants.{Disks}
+use Rattle.dm_table.specs.declared.load_fault.LoadKind.TheVariants.{NotText, Syntax, Field, Name}
+use Rattle.dm_table.specs.declared.load_fault.LoadFault.{LoadFault}
+use Rattle.dm_table.specs.Number.{number_of}
+use Rattle.dm_table.specs.Name.{is_disk_name}
+use Rattle.dm_table.specs.Fields.{texts, row_texts, parts_at, lines_of, rest_of, lines_and_rest, fields}
+use Rattle.dm_table.specs.LoadFault.{first_or, first_fault, faults_from, unless, is_text, not_text, unended}
+use Rattle.dm_table.specs.DiskList.{disk_line, AreListed, DescribesDisks, is_pair, first, second, bad_syntax, bad_field, bad_name, disk_checks, disk_of, disks_from, read_disks}
+use Rattle.dm_table.proofs.NumberLemmas.{Spells-number_of, number_of-decimal, decimal_digits, decimal_some, Some-not_none}
+use Rattle.dm_table.proofs.ByteLemmas.{list_all-both, disk_name_parts, is_text-clear, is_text-digits, is_text-disk_name, digits-clear, disk_name-clear}
+use Rattle.dm_table.proofs.FieldLemmas.{IsClearOf, parts_at-first, parts_at-clear, join-parts_at, lines_of-whole, parts_at-lines, lines_of-lines, rest_of-lines}
+use Rattle.dm_table.proofs.FaultLemmas.{first_or-none, first_fault-all, faults_from-nil, faults_from-good, append-nil_both, unended-nil, unless-ok, unless-err, unless-passed}
+use denote.Ref.{Bor}
+
+-- the row at an index has a disk's name, where no name from there on is bad
+pub name_at : (rows : List (Vec (Bor (List ℕ)) Global)) (i n : ℕ) (row : Vec (Bor (List ℕ)) Global) (row_slices : List (Bor (List ℕ))) → i < length rows → row ≡ get_or rows i row → row_slices ≡ row.items
+    → faults_from Disks Name (λ row. not (is_disk_name (first row))) n (row_texts (drop i rows)) ≡ [] → is_disk_name (first (texts row_slices)) ≡ true
+name_at rows i n row row_slices below is_row is_slices none =
+    let here : faults_from Disks Name (λ row. not (is_disk_name (first row))) n (row_texts (get_or rows i row ∷ drop (i + 1) rows)) ≡ [] =
+    ap (λ (left : List (Vec (Bor (List ℕ)) Global)). faults_from Disks Name (λ row. not (is_disk_name (first row))) n (row_texts left)) (sym (drop_more rows i row below)) ∙ none in
+    let good = (faults_from-nil Disks Name (λ row. not (is_disk_name (first row))) n (row_texts (get_or rows i row ∷ drop (i + 1) rows)) here).0 in
+    rw (is_slices, is_row) (not-false _ good)
+
+-- From rows to disks
+
+-- a row in order is the line of its disk
+row_line : (n : ℕ) (row : List (List ℕ)) → is_pair row ≡ true → is_none (number_of (second row)) ≡ false → join_with_byte 32 row ≡ disk_line (disk_of n row)
+row_line n [] pair some = absurd cc
+row_line n (name ∷ []) pair some = absurd cc
+row_line n (name ∷ sectors ∷ []) pair some = ap (λ (text : List ℕ). name ++ 32 ∷ text) (Spells-number_of sectors _ (Some-not_none (number_of sectors) some)).digits
+row_line n (name ∷ sectors ∷ more ∷ others) pair some = absurd cc
+
+-- lines in order are the lines of their disks
+lines_spell : (n : ℕ) (lines : List (List ℕ)) → AllByRecursion (λ row. not (is_pair row) ≡ false) (map fields lines) → AllByRecursion (λ row. is_none (number_of (second row)) ≡ false) (map fields lines)
+    → flat_map (λ line. line ++ 10 ∷ []) lines ≡ flat_map (λ disk. disk_line disk ++ 10 ∷ []) (disks_from n (map fields lines))
+lines_spell n [] pairs numbers = refl
+lines_spell n (line ∷ lines) pairs numbers =
+    let here : line ≡ disk_line (disk_of n (fields line)) = sym (join-parts_at 32 line) ∙ row_line n (fields line) (not-false _ pairs.0) numbers.0 in
+    rw (← here, lines_spell (suc n) lines pairs.1 numbers.1) refl
+
+rows_listed : (n : ℕ) (rows : List (List (List ℕ))) → AllByRecursion (λ row. is_none (number_of (second row)) ≡ false) rows → AllByRecursion (λ row. not (is_disk_name (first row)) ≡ false) rows → AreListed n (disks_from n rows)
+rows_listed n [] numbers names = tt
+rows_listed n (row ∷ rows) numbers names = (
+  record { name = not-false _ names.0; len = (Spells-number_of (second row) _ (Some-not_none (number_of (second row)) numbers.0)).short; at = refl },
+  rows_listed (suc n) rows numbers.1 names.1,
+)
+
+-- a text that passes all checks describes the disks of its rows
+pub disk_checks-none : (text : List ℕ) → first_fault (disk_checks text) ≡ None → DescribesDisks text (disks_from 1 (map fields (lines_of text)))
+disk_checks-none text h =
+    let rows = map fields (lines_of text) in
+    let a = first_or-none (not_text Disks text) _ h in
+    let b = first_or-none (bad_syntax rows (rest_of text)) _ a.1 in
+    let c = first_or-none (bad_field rows) _ b.1 in
+    let d = first_or-none (bad_name rows) _ c.1 in
+    let syntax = append-nil_both (faults_from Disks Syntax (λ row. not (is_pair row)) 1 rows) (unended Disks (length rows + 1) (rest_of text)) b.0 in
+    let pairs = faults_from-nil Disks Syntax (λ row. not (is_pair row)) 1 rows syntax.0 in
+    let numbers = faults_from-nil Disks Field (λ row. is_none (number_of (second row))) 1 rows c.0 in
+    let names = faults_from-nil Disks Name (λ row. not (is_disk_name (first row))) 1 rows d.0 in
+    let ended = unended-nil Disks (length rows + 1) (rest_of text) syntax.1 in
+    record { spelled = lines_of-whole text ended ∙ lines_spell 1 (lines_of text) pairs numbers; listed = rows_listed 1 rows numbers names }
+
+-- From disks to rows
+
+abbrev disk_row : Disk → List (List ℕ)
+disk_row disk = disk.name ∷ decimal disk.len ∷ []
+
+-- what of a list of disks does not look at their places
+abbrev AreNamed : List Disk → Type 0
+AreNamed = AllByRecursion (λ disk. (is_disk_name disk.name ≡ true) × (disk.len < 10 ^ 19))
+
+named : (n : ℕ) (disks : List Disk) → AreListed n disks → AreNamed disks
+named n [] listed = tt
+named n (disk ∷ disks) listed = ((listed.0.name, listed.0.len), named (suc n) disks listed.1)
+
+line_text : (disk : Disk) → is_disk_name disk.name ≡ true → disk.len < 10 ^ 19 → is_text (disk_line disk) ≡ true
+line_text disk name len = list_all-both (λ b. nat_le 32 b && nat_le b 126) disk.name (32 ∷ decimal disk.len) (is_text-disk_name disk.name name) (is_text-digits (decimal disk.len) (decimal_digits disk.len len))
+
+line_fields : (disk : Disk) → is_disk_name disk.name ≡ true → disk.len < 10 ^ 19 → fields (disk_line disk) ≡ disk_row disk
+line_fields disk name len =
+    parts_at-first 32 disk.name (decimal disk.len) (disk_name-clear disk.name name)
+    ∙ ap (λ (more : List (List ℕ)). disk.name ∷ more) (parts_at-clear 32 (decimal disk.len) (digits-clear (decimal disk.len) (decimal_digits disk.len len)))
+
+rows_again : (disks : List Disk) → AreNamed disks → map fields (map disk_line disks) ≡ map disk_row disks
+rows_again [] h = refl
+rows_again (disk ∷ disks) h = rw (line_fields disk h.0.0 h.0.1, rows_again disks h.1) refl
+
+over_lines : (disks : List Disk) → flat_map (λ disk. disk_line disk ++ 10 ∷ []) disks ≡ flat_map (λ line. line ++ 10 ∷ []) (map disk_line disks)
+over_lines [] = refl
+over_lines (disk ∷ disks) = rw (over_lines disks) refl
+
+lines_clear : (disks : List Disk) → AreNamed disks → AllByRecursion (IsClearOf 10) (map disk_line disks)
+lines_clear [] h = tt
+lines_clear (disk ∷ disks) h = (is_text-clear (disk_line disk) (line_text disk h.0.0 h.0.1), lines_clear disks h.1)
+
+-- each check of the rows that disks are written as
+
+texts_pass : (disks : List Disk) → AreNamed disks → AllByRecursion (λ line. not (is_text line) ≡ false) (map disk_line disks ++ [] ∷ [])
+texts_pass [] h = (refl, tt)
+texts_pass (disk ∷ disks) h = (not_from_true _ (line_text disk h.0.0 h.0.1), texts_pass disks h.1)
+
+pairs_pass : (disks : List Disk) → AreNamed disks → AllByRecursion (λ row. not (is_pair row) ≡ false) (map disk_row disks)
+pairs_pass [] h = tt
+pairs_pass (disk ∷ disks) h =
+    (not_from_true _ (and_from _ _ (disk_name_parts disk.name h.0.0).some (lt-ltb _ _ (decimal_some disk.len h.0.1))), pairs_pass disks h.1)
+
+numbers_pass : (disks : List Disk) → AreNamed disks → AllByRecursion (λ row. is_none (number_of (second row)) ≡ false) (map disk_row disks)
+numbers_pass [] h = tt
+numbers_pass (disk ∷ disks) h = (ap is_none (number_of-decimal disk.len h.0.1), numbers_pass disks h.1)
+
+names_pass : (disks : List Disk) → AreNamed disks → AllByRecursion (λ row. not (is_disk_name (first row)) ≡ false) (map disk_row disks)
+names_pass [] h = tt
+names_pass (disk ∷ disks) h = (not_from_true _ h.0.0, names_pass disks h.1)
+
+disks_again : (n : ℕ) (disks : List Disk) → AreListed n disks → disks_from n (map disk_row disks) ≡ disks
+disks_again n [] listed = refl
+disks_again n (disk ∷ disks) listed = rw (number_of-decimal disk.len listed.0.len, disks_again (suc n) disks listed.1, ← listed.0.at) refl
+
+abbrev checks_of : List LoadFault → List (List (List ℕ)) → List ℕ → List (List LoadFault)
+checks_of bytes rows rest = bytes ∷ bad_syntax rows rest ∷ bad_field rows ∷ bad_name rows ∷ []
+
+-- what is written as lines of disks passes all checks, and gives them back
+record IsReadAs (text : List ℕ) (disks : List Disk) : Type 0 where
+  passed : first_fault (disk_checks text) ≡ None
+  rows : disks_from 1 (map fields (lines_of text)) ≡ disks
+
+read_as : (text : List ℕ) (disks : List Disk) → DescribesDisks text disks → IsReadAs text disks
+read_as text disks describes =
+    let names = named 1 disks describes.listed in
+    let clear = lines_clear disks names in
+    let whole : text ≡ flat_map (λ line. line ++ 10 ∷ []) (map disk_line disks) = describes.spelled ∙ over_lines disks in
+    let parts : parts_at 10 text ≡ map disk_line disks ++ [] ∷ [] = ap (parts_at 10) whole ∙ parts_at-lines (map disk_line disks) clear in
+    let rows : map fields (lines_of text) ≡ map disk_row disks = ap (λ (t : List ℕ). map fields (lines_of t)) whole ∙ ap (map fields) (lines_of-lines (map disk_line disks) clear) ∙ rows_again disks names in
+    let rest : rest_of text ≡ [] = ap rest_of whole ∙ rest_of-lines (map disk_line disks) clear in
+    let no_byte : not_text Disks text ≡ [] = ap (faults_from Disks NotText (λ line. not (is_text line)) 1) parts ∙ faults_from-good Disks NotText (λ line. not (is_text line)) 1 (map disk_line disks ++ [] ∷ []) (texts_pass disks names) in
+    let no_row : faults_from Disks Syntax (λ row. not (is_pair row)) 1 (map disk_row disks) ≡ [] = faults_from-good Disks Syntax (λ row. not (is_pair row)) 1 (map disk_row disks) (pairs_pass disks names) in
+    let no_syntax : bad_syntax (map disk_row disks) [] ≡ [] = rw no_row refl in
+    let no_field : bad_field (map disk_row disks) ≡ [] = faults_from-good Disks Field (λ row. is_none (number_of (second row))) 1 (map disk_row disks) (numbers_pass disks names) in
+    let no_name : bad_name (map disk_row disks) ≡ [] = faults_from-good Disks Name (λ row. not (is_disk_name (first row))) 1 (map disk_row disks) (names_pass disks names) in
+    let same : disk_checks text ≡ not_text Disks text ∷ bad_syntax (map disk_row disks) [] ∷ bad_field (map disk_row disks) ∷ bad_name (map disk_row disks) ∷ [] =
+    ap (λ (r : List (List (List ℕ))). checks_of (not_text Disks text) r (rest_of text)) rows ∙ ap (checks_of (not_text Disks text) (map disk_row disks)) rest in
+    record {
+      passed = ap first_fault same ∙ first_fault-all (not_text Disks text ∷ bad_syntax (map disk_row disks) [] ∷ bad_field (map disk_row disks) ∷ bad_name (map disk_row disks) ∷ []) (no_byte, (no_syntax, (no_field, (no_name, tt))));
+      rows = ap (disks_from 1) rows ∙ disks_again 1 disks describes.listed;
+    }
+
+-- How a text is read
+
+-- what describes disks is read as them
+pub read_disks-described : (text : List ℕ) (disks : List Disk) → DescribesDisks text disks → read_disks text ≡ Ok disks
+unfolding read_disks
+read_disks-described text disks describes =
+    let a = read_as text disks describes in
+    rw (a.passed, a.rows) refl
+
+-- and what is read as disks describes them, having passed all checks
+pub read_disks-ok : (text : List ℕ) (disks : List Disk) → read_disks text ≡ Ok disks → (first_fault (disk_checks text) ≡ None) × DescribesDisks text disks
+unfolding read_disks
+read_disks-ok text disks h =
+    let a = unless-ok (first_fault (disk_checks text)) (disks_from 1 (map fields (lines_of text))) disks h in
+    (a.0, subst (λ (x : List Disk). DescribesDisks text x) a.1 (disk_checks-none text a.0))
+
+-- what is refused fails a check
+pub read_disks-err : (text : List ℕ) (fault : LoadFault) → read_disks text ≡ Err fault → first_fault (disk_checks text) ≡ Some fault
+unfolding read_disks
+read_disks-err text fault h = unless-err (first_fault (disk_checks text)) (disks_from 1 (map fields (lines_of text))) fault h
+
+-- a text describes at most one list of disks
+pub DescribesDisks-unique : (text : List ℕ) (a b : List Disk) → DescribesDisks text a → DescribesDisks text b → a ≡ b
+DescribesDisks-unique text a b is_a is_b = sym (read_as text a is_a).rows ∙ (read_as text b is_b).rows
+
+abbrev reading_of : List (List (List ℕ)) → List ℕ → Result (List Disk) LoadFault
+reading_of rows rest = unless (first_fault (bad_syntax rows rest ∷ bad_field rows ∷ bad_name rows ∷ [])) (disks_from 1 rows)
+
+-- a text whose bytes are all text is read by its rows and its rest
+pub read_disks-rows : (text : List ℕ) (lines : List (List ℕ)) (rest : List ℕ) (rows : List (List (List ℕ))) → unless (first_or (not_text Disks text) None) (lines_and_rest text) ≡ Ok (lines, rest) → rows ≡ map fields lines
+    → read_disks text ≡ unless (first_fault (bad_syntax rows rest ∷ bad_field rows ∷ bad_name rows ∷ [])) (disks_from 1 rows)
+unfolding read_disks
+read_disks-rows text lines rest rows passed is_rows =
+    let own = map fields (lines_of text) in
+    let a = unless-passed (not_text Disks text) (first_fault (bad_syntax own (rest_of text) ∷ bad_field own ∷ bad_name own ∷ [])) (lines_and_rest text) (lines, rest) (disks_from 1 own) passed in
+    a.1 ∙ ap (λ (cut : List (List ℕ) × List ℕ). reading_of (map fields cut.0) cut.1) a.0 ∙ ap (λ (r : List (List (List ℕ))). reading_of r rest) (sym is_rows)
