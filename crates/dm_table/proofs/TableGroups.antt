@@ -25,7 +25,7 @@ pub is_other_name : (a b : List ℕ) → a ≢ b → pointwise nat_eq a b ≡ fa
 is_other_name a b h = false_from_ne_true _ (λ e. h (same_name a b e))
 
 -- the lines of a device, each with its name
-abbrev named_of : List ℕ → List Line → List NamedLine
+abbrev pub named_of : List ℕ → List Line → List NamedLine
 named_of name lines = map (λ line. record { name = name; line = line }) lines
 
 -- What joined lines say

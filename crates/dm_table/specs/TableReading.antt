@@ -1,6 +1,7 @@
 -- How table text is read where no check finds anything: each row of fields as a line, and neighbouring lines of one name as a device.
-use Rattle.std.specs.Prelude.{ℕ, suc, ◌+◌, Bool, true, false, not, ◌&&◌, List, [], ◌∷◌, ◌++◌, length, map, nat_eq, drop, unwrap_or, Result, if◌then◌else◌}
+use Rattle.std.specs.Prelude.{ℕ, suc, ◌+◌, Bool, true, false, not, ◌&&◌, List, [], ◌∷◌, ◌++◌, length, map, nat_eq, drop, unwrap_or, IsTrue, Result, if◌then◌else◌}
 use Rattle.std.specs.Cmp.Lexicographic.{pointwise}
+use Rattle.std.specs.List.{AllByRecursion}
 use Rattle.dm_table.specs.declared.table.DevRef.{DevRef}
 use Rattle.dm_table.specs.declared.table.DevRef.TheVariants.{Device, Disk}
 use Rattle.dm_table.specs.declared.table.Target.{Target}
@@ -48,6 +49,9 @@ has_dev _ = true
 -- a row whose values are in order, so that a line can be made of it
 abbrev pub is_checked : List (List ℕ) → Bool
 is_checked row = is_line row && has_names row
+
+abbrev pub AreChecked : List (List (List ℕ)) → Type 0
+AreChecked = AllByRecursion (λ row. IsTrue (is_checked row))
 
 -- the name in a row
 abbrev pub name_of_row : List (List ℕ) → List ℕ
@@ -97,18 +101,22 @@ joined (named ∷ more) = join_line named (joined more)
 abbrev pub devices_from : ℕ → List (List (List ℕ)) → List DeviceSpec
 devices_from n rows = joined (named_from n rows)
 
--- the checks of a text behind that of its bytes
-abbrev pub row_checks : List (List (List ℕ)) → List ℕ → List (List LoadFault)
-row_checks rows rest =
-    (faults_from Source Syntax (λ row. not (is_row row)) 1 rows ++ unended Source (length rows + 1) rest)
-    ∷ faults_from Source Field (λ row. not (is_line row)) 1 rows
-    ∷ faults_from Source Name (λ row. not (has_names row)) 1 rows
-    ∷ []
+-- a row that is none, or a rest that no newline ends
+abbrev pub bad_syntax : List (List (List ℕ)) → List ℕ → List LoadFault
+bad_syntax rows rest = faults_from Source Syntax (λ row. not (is_row row)) 1 rows ++ unended Source (length rows + 1) rest
 
--- the reading of rows: the first fault, or else the devices
-abbrev pub reading_rows : List (List (List ℕ)) → List ℕ → Result (List DeviceSpec) LoadFault
-reading_rows rows rest = unless (first_fault (row_checks rows rest)) (devices_from 1 rows)
+-- a row without numbers or a known target
+abbrev pub bad_field : List (List (List ℕ)) → List LoadFault
+bad_field rows = faults_from Source Field (λ row. not (is_line row)) 1 rows
 
--- the whole reading
-unfoldable pub reading : List ℕ → Result (List DeviceSpec) LoadFault
-reading text = unless (first_fault (table_checks text)) (devices_from 1 (rows_of (lines_of text)))
+-- a row with a text that is no name
+abbrev pub bad_name : List (List (List ℕ)) → List LoadFault
+bad_name rows = faults_from Source Name (λ row. not (has_names row)) 1 rows
+
+-- the devices of rows, or the fault of their checks
+abbrev pub read_rows : List (List (List ℕ)) → List ℕ → Result (List DeviceSpec) LoadFault
+read_rows rows rest = unless (first_fault (bad_syntax rows rest ∷ bad_field rows ∷ bad_name rows ∷ [])) (devices_from 1 rows)
+
+-- the devices of a text, or the fault of its checks
+unfoldable pub read_table : List ℕ → Result (List DeviceSpec) LoadFault
+read_table text = unless (first_fault (table_checks text)) (devices_from 1 (rows_of (lines_of text)))

@@ -4,18 +4,18 @@
 //! the definitions, and only rows that passed all of them are read. A new target type is an arm in
 //! `target_of` here and one in `table_row`.
 
-ghost use Rattle.std.specs.Prelude.{◌≡◌, ◌≢◌, ◌+◌, ◌^◌, ◌<◌, List, None, Some, Ok, IsTrue, not, length, nat_eq, is_some, IfOk, IfErr, OnOk};
+ghost use Rattle.std.specs.Prelude.{◌≡◌, ◌≢◌, ◌+◌, ◌^◌, ◌<◌, List, None, Some, Ok, IsTrue, length, nat_eq, is_some, IfOk, IfErr, OnOk, IfSome};
 ghost use Rattle.std.specs.Cmp.Lexicographic.{pointwise};
-ghost use Rattle.std.specs.List.{prefix_len, AllByRecursion};
+ghost use Rattle.std.specs.List.{prefix_len};
 ghost use Rattle.dm_table.specs.declared.place.Part.TheVariants.{Source};
-ghost use Rattle.dm_table.specs.declared.load_fault.LoadKind.TheVariants.{Field, Name as NameKind, Syntax, Memory};
+ghost use Rattle.dm_table.specs.declared.load_fault.LoadKind.TheVariants.{Memory};
 ghost use Rattle.dm_table.specs.declared.table.DeviceSpec.{DeviceSpec};
 ghost use Rattle.dm_table.specs.Fields.{texts, row_texts};
-ghost use Rattle.dm_table.specs.LoadFault.{Answers, IsMemoryFault, first_or, first_fault, faults_from, unended};
+ghost use Rattle.dm_table.specs.LoadFault.{Answers, IsMemoryFault, first_or, first_fault};
 ghost use Rattle.dm_table.specs.Name.{is_device_name};
 ghost use Rattle.dm_table.specs.Number.{number_of};
-ghost use Rattle.dm_table.specs.TableText.{DescribesTable, is_row, is_target, is_line, is_dev, has_names, table_checks};
-ghost use Rattle.dm_table.specs.TableReading.{number_in, dev_in, target_in, has_dev, is_checked, line_in, lines_from, name_of_row, run_device, devices_from, reading, reading_rows};
+ghost use Rattle.dm_table.specs.TableText.{DescribesTable, is_target, is_dev, table_checks};
+ghost use Rattle.dm_table.specs.TableReading.{number_in, dev_in, target_in, has_dev, is_checked, AreChecked, line_in, lines_from, name_of_row, run_device, devices_from, bad_syntax, bad_field, bad_name, read_rows, read_table};
 
 use crate::load_fault::{LoadFault, LoadKind};
 use crate::name::{DiskName, Name};
@@ -52,7 +52,7 @@ pub fn parse_table(alloc: Global, text: &[u8]) -> Result<Vec<DeviceSpec>, LoadFa
 }
 
 fn read(alloc: Global, text: &[u8]) -> Result<Vec<DeviceSpec>, LoadFault>
-    ensures { Answers Source (λ v. v.items) result (reading text.now) }
+    ensures { Answers Source (λ v. v.items) result (read_table text.now) }
 {
     let cut = text_lines(alloc, Part::Source, text)?;
     let rows = rows_of(alloc, &cut.lines).map_err(|_| LoadFault::memory(Part::Source))?;
@@ -60,15 +60,12 @@ fn read(alloc: Global, text: &[u8]) -> Result<Vec<DeviceSpec>, LoadFault>
 }
 
 fn read_rows(alloc: Global, rows: &[Vec<&[u8]>], rest: &[u8]) -> Result<Vec<DeviceSpec>, LoadFault>
-    ensures { Answers Source (λ v. v.items) result (reading_rows (row_texts rows.now) rest.now) }
+    ensures { Answers Source (λ v. v.items) result (read_rows (row_texts rows.now) rest.now) }
 {
-    if let Some(fault) = bad_row(rows) {
+    if let Some(fault) = bad_syntax(rows, rest) {
         return Err(fault);
     }
-    if let Some(fault) = unended(Part::Source, rows.len() as u64 + 1, rest) {
-        return Err(fault);
-    }
-    if let Some(fault) = bad_line(rows) {
+    if let Some(fault) = bad_field(rows) {
         return Err(fault);
     }
     if let Some(fault) = bad_name(rows) {
@@ -77,19 +74,23 @@ fn read_rows(alloc: Global, rows: &[Vec<&[u8]>], rest: &[u8]) -> Result<Vec<Devi
     devices_of(alloc, rows).map_err(|_| LoadFault::memory(Part::Source))
 }
 
-fn bad_row(rows: &[Vec<&[u8]>]) -> Option<LoadFault>
-    ensures { result ≡ first_or (faults_from Source Syntax (λ row. not (is_row row)) 1 (row_texts rows.now)) None }
+/// The first line that is no row of a table, or else what no newline ends.
+fn bad_syntax(rows: &[Vec<&[u8]>], rest: &[u8]) -> Option<LoadFault>
+    ensures value { result ≡ first_or (bad_syntax (row_texts rows.now) rest.now) None }
+    ensures kind { IfSome result (λ fault. fault.kind ≢ Memory) }
 {
     for (index, row) in rows.iter().enumerate() {
         if !is_row(row) {
             return Some(LoadFault::at_index(Part::Source, LoadKind::Syntax, index));
         }
     }
-    None
+    unended(Part::Source, rows.len() as u64 + 1, rest)
 }
 
-fn bad_line(rows: &[Vec<&[u8]>]) -> Option<LoadFault>
-    ensures { result ≡ first_or (faults_from Source Field (λ row. not (is_line row)) 1 (row_texts rows.now)) None }
+/// The first line without numbers or a known target.
+fn bad_field(rows: &[Vec<&[u8]>]) -> Option<LoadFault>
+    ensures value { result ≡ first_or (bad_field (row_texts rows.now)) None }
+    ensures kind { IfSome result (λ fault. fault.kind ≢ Memory) }
 {
     for (index, row) in rows.iter().enumerate() {
         if !is_line(row) {
@@ -99,8 +100,10 @@ fn bad_line(rows: &[Vec<&[u8]>]) -> Option<LoadFault>
     None
 }
 
+/// The first line with a text that is no name.
 fn bad_name(rows: &[Vec<&[u8]>]) -> Option<LoadFault>
-    ensures { result ≡ first_or (faults_from Source NameKind (λ row. not (has_names row)) 1 (row_texts rows.now)) None }
+    ensures value { result ≡ first_or (bad_name (row_texts rows.now)) None }
+    ensures kind { IfSome result (λ fault. fault.kind ≢ Memory) }
 {
     for (index, row) in rows.iter().enumerate() {
         if !has_names(row) {
@@ -112,18 +115,17 @@ fn bad_name(rows: &[Vec<&[u8]>]) -> Option<LoadFault>
 
 /// The devices of rows: each run of rows of one name is a device.
 fn devices_of(alloc: Global, rows: &[Vec<&[u8]>]) -> Result<Vec<DeviceSpec>, AllocError>
-    requires { AllByRecursion (λ row. IsTrue (is_checked row)) (row_texts rows.now) }
+    requires { AreChecked (row_texts rows.now) }
     ensures { IfOk result (λ v. v.items ≡ devices_from 1 (row_texts rows.now)) }
 {
     let mut devices = Vec::new(alloc);
-    let mut rest = rows;
-    let mut number = 1;
-    while !rest.is_empty() {
+    let mut start = 0;
+    while start < rows.len() {
+        let rest = &rows[start..];
         let name = name_of_row(&rest[0]);
-        let (run, after) = rest.split_at(run_len(name, rest));
-        devices.push(device_of(alloc, name, run, number)?)?;
-        number += run.len() as u64;
-        rest = after;
+        let run = &rest[..run_len(name, rest)];
+        devices.push(device_of(alloc, name, run, start as u64 + 1)?)?;
+        start += run.len();
     }
     Ok(devices)
 }
@@ -143,7 +145,7 @@ fn run_len(name: &[u8], rows: &[Vec<&[u8]>]) -> usize
 /// The device of a name and its rows, the first of which is line `number`.
 fn device_of(alloc: Global, name: &[u8], run: &[Vec<&[u8]>], number: u64) -> Result<DeviceSpec, AllocError>
     requires name { IsTrue (is_device_name name.now) }
-    requires names { AllByRecursion (λ row. IsTrue (is_checked row)) (row_texts run.now) }
+    requires names { AreChecked (row_texts run.now) }
     requires room { number + length run.now < 2 ^ 64 }
     ensures { IfOk result (λ device. device ≡ run_device name.now number (row_texts run.now)) }
 {
@@ -162,7 +164,7 @@ fn device_of(alloc: Global, name: &[u8], run: &[Vec<&[u8]>], number: u64) -> Res
 }
 
 fn lines_of(alloc: Global, run: &[Vec<&[u8]>], number: u64) -> Result<Vec<Line>, AllocError>
-    requires names { AllByRecursion (λ row. IsTrue (is_checked row)) (row_texts run.now) }
+    requires names { AreChecked (row_texts run.now) }
     requires room { number + length run.now < 2 ^ 64 }
     ensures { IfOk result (λ v. v.items ≡ lines_from number (row_texts run.now)) }
 {
