@@ -92,12 +92,12 @@ named_run : (name : List ℕ) (n : ℕ) (rows : List (List (List ℕ)))
 named_run name n [] = refl
 named_run name n (row ∷ rows) = elim (cases_Bool (pointwise nat_eq name (name_of_row row))) [
   | inl e ↦
-    let own : name ≡ name_of_row row = same_name name (name_of_row row) e in
-    let next : n + suc (run_of name rows) ≡ suc n + run_of name rows = omega arith in
-    rw (run_yes name row rows e, next, ← own) (ap (λ (more : List NamedLine). let one : NamedLine = record { name = name; line = line_in n row } in one ∷ more) (named_run name (suc n) rows))
+      let own : name ≡ name_of_row row = same_name name (name_of_row row) e in
+      let next : n + suc (run_of name rows) ≡ suc n + run_of name rows = omega arith in
+      rw (run_yes name row rows e, next, ← own) (ap (λ (more : List NamedLine). let one : NamedLine = record { name = name; line = line_in n row } in one ∷ more) (named_run name (suc n) rows))
   | inr e ↦
-    let same : n + 0 ≡ n = omega arith in
-    rw (run_no name row rows e, same) refl
+      let same : n + 0 ≡ n = omega arith in
+      rw (run_no name row rows e, same) refl
 ]
 
 begins_join : (name : List ℕ) (named : NamedLine) (ds : List DeviceSpec) → name ≢ named.name → BeginsOther name (join_line named ds)

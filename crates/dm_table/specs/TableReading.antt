@@ -50,6 +50,7 @@ has_dev _ = true
 abbrev pub is_checked : List (List ℕ) → Bool
 is_checked row = is_line row && has_names row
 
+-- rows that are so
 abbrev pub AreChecked : List (List (List ℕ)) → Type 0
 AreChecked = AllByRecursion (λ row. IsTrue (is_checked row))
 

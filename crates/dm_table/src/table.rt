@@ -52,10 +52,24 @@ impl Model for Table {
 
 impl Table {
     /// The lines as a table, with no memory taken.
-    pub(crate) fn from_vec(lines: Vec<Line>) -> Table
+    pub fn from_vec(lines: Vec<Line>) -> Table
         ensures { result ≡ lines.items }
     {
         Table { lines }
+    }
+
+    /// The lines, with no memory taken.
+    pub fn into_vec(self) -> Vec<Line>
+        ensures { result.items ≡ self }
+    {
+        self.lines
+    }
+
+    /// The lines in their order.
+    pub fn as_slice(&self) -> &[Line]
+        ensures { result.now ≡ self.now }
+    {
+        self.lines.as_slice()
     }
 }
 

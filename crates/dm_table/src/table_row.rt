@@ -16,7 +16,10 @@ use crate::number::number;
 use std::alloc::{AllocError, Global};
 
 /// The fields of each line, without the empty one that a space at its end leaves. One pass.
-pub(crate) fn rows_of<'a>(alloc: Global, lines: &[&'a [u8]]) -> Result<Vec<Vec<&'a [u8]>>, AllocError>
+pub(crate) fn rows_of<'a>(
+    alloc: Global,
+    lines: &[&'a [u8]],
+) -> Result<Vec<Vec<&'a [u8]>>, AllocError>
     ensures { IfOk result (λ v. row_texts v.items ≡ rows_of (texts lines.now)) }
 {
     let mut rows = Vec::new(alloc);

@@ -143,7 +143,12 @@ fn run_len(name: &[u8], rows: &[Vec<&[u8]>]) -> usize
 }
 
 /// The device of a name and its rows, the first of which is line `number`.
-fn device_of(alloc: Global, name: &[u8], run: &[Vec<&[u8]>], number: u64) -> Result<DeviceSpec, AllocError>
+fn device_of(
+    alloc: Global,
+    name: &[u8],
+    run: &[Vec<&[u8]>],
+    number: u64,
+) -> Result<DeviceSpec, AllocError>
     requires name { IsTrue (is_device_name name.now) }
     requires names { AreChecked (row_texts run.now) }
     requires room { number + length run.now < 2 ^ 64 }

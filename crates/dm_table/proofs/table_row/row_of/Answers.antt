@@ -16,8 +16,8 @@ returns c =
     let test : c.ends_empty.result ≡ ends_empty (texts c.in_ok-fields.fields.items) = c.ends_empty.ensures ∙ rw c.deref.ensures.value refl in
     elim c.if-ends_empty.branch [
       | then-ends_empty w ↦
-        let none : w.pop.result ≡ None → w.pop.new.self.items ≡ [] = λ e. nil_from_length _ (omega (arith, w.pop.new.self.ok.0, (MatchOption-at_none _ _ e w.pop.ensures.cases).1)) in
-        rw w.fields-is (front-popped c.in_ok-fields.fields.items w.pop.new.self.items w.pop.result w.pop.ensures.items none
-        ∙ sym (spaced (texts c.in_ok-fields.fields.items) (sym test ∙ w.if-ends_empty.true)) ∙ ap without_last_space all)
+          let none : w.pop.result ≡ None → w.pop.new.self.items ≡ [] = λ e. nil_from_length _ (omega (arith, w.pop.new.self.ok.0, (MatchOption-at_none _ _ e w.pop.ensures.cases).1)) in
+          rw w.fields-is (front-popped c.in_ok-fields.fields.items w.pop.new.self.items w.pop.result w.pop.ensures.items none
+          ∙ sym (spaced (texts c.in_ok-fields.fields.items) (sym test ∙ w.if-ends_empty.true)) ∙ ap without_last_space all)
       | else-ends_empty w ↦ rw w.fields-is (sym (not_spaced (texts c.in_ok-fields.fields.items) (sym test ∙ w.if-ends_empty.false)) ∙ ap without_last_space all)
     ]
