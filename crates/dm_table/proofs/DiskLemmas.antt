@@ -1,5 +1,5 @@
 -- What no check finds fault with describes its disks, and what describes disks no check finds fault with.
-use Rattle.std.proofs.Common.{◌≡◌, ℕ, suc, ◌+◌, ◌^◌, ◌<◌, true, false, nat_le, not, ◌&&◌, List, [], ◌∷◌, ◌++◌, length, map, get_or, drop, Some, None, Result, Ok, Err, Vec, refl, sym, ap, subst, ◌∙◌}
+use Rattle.std.proofs.Common.{◌≡◌, ℕ, Bool, suc, ◌+◌, ◌^◌, ◌<◌, true, false, nat_le, not, ◌&&◌, List, [], ◌∷◌, ◌++◌, length, map, get_or, drop, Some, None, Result, Ok, Err, Vec, refl, sym, ap, subst, ◌∙◌}
 use Rattle.std.specs.Prelude.{decimal, is_none}
 use Rattle.std.specs.Global.{Global}
 use Rattle.std.specs.List.{flat_map, join_with_byte, AllByRecursion}
@@ -20,13 +20,27 @@ use Rattle.dm_table.proofs.FieldLemmas.{IsClearOf, parts_at-first, parts_at-clea
 use Rattle.dm_table.proofs.FaultLemmas.{first_or-none, first_fault-all, faults_from-nil, faults_from-good, append-nil_both, unended-nil, unless-ok, unless-err, unless-passed}
 use denote.Ref.{Bor}
 
+-- the tests of the checks
+
+abbrev no_text : List ℕ → Bool
+no_text line = not (is_text line)
+
+abbrev no_pair : List (List ℕ) → Bool
+no_pair row = not (is_pair row)
+
+abbrev no_number : List (List ℕ) → Bool
+no_number row = is_none (number_of (second row))
+
+abbrev pub no_name : List (List ℕ) → Bool
+no_name row = not (is_disk_name (first row))
+
 -- the row at an index has a disk's name, where no name from there on is bad
 pub name_at : (rows : List (Vec (Bor (List ℕ)) Global)) (i n : ℕ) (row : Vec (Bor (List ℕ)) Global) (row_slices : List (Bor (List ℕ))) → i < length rows → row ≡ get_or rows i row → row_slices ≡ row.items
-    → faults_from Disks Name (λ row. not (is_disk_name (first row))) n (row_texts (drop i rows)) ≡ [] → is_disk_name (first (texts row_slices)) ≡ true
+    → faults_from Disks Name no_name n (row_texts (drop i rows)) ≡ [] → is_disk_name (first (texts row_slices)) ≡ true
 name_at rows i n row row_slices below is_row is_slices none =
-    let here : faults_from Disks Name (λ row. not (is_disk_name (first row))) n (row_texts (get_or rows i row ∷ drop (i + 1) rows)) ≡ [] =
-    ap (λ (left : List (Vec (Bor (List ℕ)) Global)). faults_from Disks Name (λ row. not (is_disk_name (first row))) n (row_texts left)) (sym (drop_more rows i row below)) ∙ none in
-    let good = (faults_from-nil Disks Name (λ row. not (is_disk_name (first row))) n (row_texts (get_or rows i row ∷ drop (i + 1) rows)) here).0 in
+    let here : faults_from Disks Name no_name n (row_texts (get_or rows i row ∷ drop (i + 1) rows)) ≡ [] =
+    ap (λ (left : List (Vec (Bor (List ℕ)) Global)). faults_from Disks Name no_name n (row_texts left)) (sym (drop_more rows i row below)) ∙ none in
+    let good = (faults_from-nil Disks Name no_name n (row_texts (get_or rows i row ∷ drop (i + 1) rows)) here).0 in
     rw (is_slices, is_row) (not-false _ good)
 
 -- From rows to disks
@@ -39,14 +53,14 @@ row_line n (name ∷ sectors ∷ []) pair some = ap (λ (text : List ℕ). name 
 row_line n (name ∷ sectors ∷ more ∷ others) pair some = absurd cc
 
 -- lines in order are the lines of their disks
-lines_spell : (n : ℕ) (lines : List (List ℕ)) → AllByRecursion (λ row. not (is_pair row) ≡ false) (map fields lines) → AllByRecursion (λ row. is_none (number_of (second row)) ≡ false) (map fields lines)
+lines_spell : (n : ℕ) (lines : List (List ℕ)) → AllByRecursion (λ row. no_pair row ≡ false) (map fields lines) → AllByRecursion (λ row. no_number row ≡ false) (map fields lines)
     → flat_map (λ line. line ++ 10 ∷ []) lines ≡ flat_map (λ disk. disk_line disk ++ 10 ∷ []) (disks_from n (map fields lines))
 lines_spell n [] pairs numbers = refl
 lines_spell n (line ∷ lines) pairs numbers =
     let here : line ≡ disk_line (disk_of n (fields line)) = sym (join-parts_at 32 line) ∙ row_line n (fields line) (not-false _ pairs.0) numbers.0 in
     rw (← here, lines_spell (suc n) lines pairs.1 numbers.1) refl
 
-rows_listed : (n : ℕ) (rows : List (List (List ℕ))) → AllByRecursion (λ row. is_none (number_of (second row)) ≡ false) rows → AllByRecursion (λ row. not (is_disk_name (first row)) ≡ false) rows → AreListed n (disks_from n rows)
+rows_listed : (n : ℕ) (rows : List (List (List ℕ))) → AllByRecursion (λ row. no_number row ≡ false) rows → AllByRecursion (λ row. no_name row ≡ false) rows → AreListed n (disks_from n rows)
 rows_listed n [] numbers names = tt
 rows_listed n (row ∷ rows) numbers names = (
   record { name = not-false _ names.0; len = (Spells-number_of (second row) _ (Some-not_none (number_of (second row)) numbers.0)).short; at = refl },
@@ -61,10 +75,10 @@ disk_checks-none text h =
     let b = first_or-none (bad_syntax rows (rest_of text)) _ a.1 in
     let c = first_or-none (bad_field rows) _ b.1 in
     let d = first_or-none (bad_name rows) _ c.1 in
-    let syntax = append-nil_both (faults_from Disks Syntax (λ row. not (is_pair row)) 1 rows) (unended Disks (length rows + 1) (rest_of text)) b.0 in
-    let pairs = faults_from-nil Disks Syntax (λ row. not (is_pair row)) 1 rows syntax.0 in
-    let numbers = faults_from-nil Disks Field (λ row. is_none (number_of (second row))) 1 rows c.0 in
-    let names = faults_from-nil Disks Name (λ row. not (is_disk_name (first row))) 1 rows d.0 in
+    let syntax = append-nil_both (faults_from Disks Syntax no_pair 1 rows) (unended Disks (length rows + 1) (rest_of text)) b.0 in
+    let pairs = faults_from-nil Disks Syntax no_pair 1 rows syntax.0 in
+    let numbers = faults_from-nil Disks Field no_number 1 rows c.0 in
+    let names = faults_from-nil Disks Name no_name 1 rows d.0 in
     let ended = unended-nil Disks (length rows + 1) (rest_of text) syntax.1 in
     record { spelled = lines_of-whole text ended ∙ lines_spell 1 (lines_of text) pairs numbers; listed = rows_listed 1 rows numbers names }
 
@@ -103,20 +117,20 @@ lines_clear (disk ∷ disks) h = (is_text-clear (disk_line disk) (line_text disk
 
 -- each check of the rows that disks are written as
 
-texts_pass : (disks : List Disk) → AreNamed disks → AllByRecursion (λ line. not (is_text line) ≡ false) (map disk_line disks ++ [] ∷ [])
+texts_pass : (disks : List Disk) → AreNamed disks → AllByRecursion (λ line. no_text line ≡ false) (map disk_line disks ++ [] ∷ [])
 texts_pass [] h = (refl, tt)
 texts_pass (disk ∷ disks) h = (not_from_true _ (line_text disk h.0.0 h.0.1), texts_pass disks h.1)
 
-pairs_pass : (disks : List Disk) → AreNamed disks → AllByRecursion (λ row. not (is_pair row) ≡ false) (map disk_row disks)
+pairs_pass : (disks : List Disk) → AreNamed disks → AllByRecursion (λ row. no_pair row ≡ false) (map disk_row disks)
 pairs_pass [] h = tt
 pairs_pass (disk ∷ disks) h =
     (not_from_true _ (and_from _ _ (disk_name_parts disk.name h.0.0).some (lt-ltb _ _ (decimal_some disk.len h.0.1))), pairs_pass disks h.1)
 
-numbers_pass : (disks : List Disk) → AreNamed disks → AllByRecursion (λ row. is_none (number_of (second row)) ≡ false) (map disk_row disks)
+numbers_pass : (disks : List Disk) → AreNamed disks → AllByRecursion (λ row. no_number row ≡ false) (map disk_row disks)
 numbers_pass [] h = tt
 numbers_pass (disk ∷ disks) h = (ap is_none (number_of-decimal disk.len h.0.1), numbers_pass disks h.1)
 
-names_pass : (disks : List Disk) → AreNamed disks → AllByRecursion (λ row. not (is_disk_name (first row)) ≡ false) (map disk_row disks)
+names_pass : (disks : List Disk) → AreNamed disks → AllByRecursion (λ row. no_name row ≡ false) (map disk_row disks)
 names_pass [] h = tt
 names_pass (disk ∷ disks) h = (not_from_true _ h.0.0, names_pass disks h.1)
 
@@ -140,15 +154,15 @@ read_as text disks describes =
     let parts : parts_at 10 text ≡ map disk_line disks ++ [] ∷ [] = ap (parts_at 10) whole ∙ parts_at-lines (map disk_line disks) clear in
     let rows : map fields (lines_of text) ≡ map disk_row disks = ap (λ (t : List ℕ). map fields (lines_of t)) whole ∙ ap (map fields) (lines_of-lines (map disk_line disks) clear) ∙ rows_again disks names in
     let rest : rest_of text ≡ [] = ap rest_of whole ∙ rest_of-lines (map disk_line disks) clear in
-    let no_byte : not_text Disks text ≡ [] = ap (faults_from Disks NotText (λ line. not (is_text line)) 1) parts ∙ faults_from-good Disks NotText (λ line. not (is_text line)) 1 (map disk_line disks ++ [] ∷ []) (texts_pass disks names) in
-    let no_row : faults_from Disks Syntax (λ row. not (is_pair row)) 1 (map disk_row disks) ≡ [] = faults_from-good Disks Syntax (λ row. not (is_pair row)) 1 (map disk_row disks) (pairs_pass disks names) in
+    let no_byte : not_text Disks text ≡ [] = ap (faults_from Disks NotText no_text 1) parts ∙ faults_from-good Disks NotText no_text 1 (map disk_line disks ++ [] ∷ []) (texts_pass disks names) in
+    let no_row : faults_from Disks Syntax no_pair 1 (map disk_row disks) ≡ [] = faults_from-good Disks Syntax no_pair 1 (map disk_row disks) (pairs_pass disks names) in
     let no_syntax : bad_syntax (map disk_row disks) [] ≡ [] = rw no_row refl in
-    let no_field : bad_field (map disk_row disks) ≡ [] = faults_from-good Disks Field (λ row. is_none (number_of (second row))) 1 (map disk_row disks) (numbers_pass disks names) in
-    let no_name : bad_name (map disk_row disks) ≡ [] = faults_from-good Disks Name (λ row. not (is_disk_name (first row))) 1 (map disk_row disks) (names_pass disks names) in
+    let no_field : bad_field (map disk_row disks) ≡ [] = faults_from-good Disks Field no_number 1 (map disk_row disks) (numbers_pass disks names) in
+    let no_named : bad_name (map disk_row disks) ≡ [] = faults_from-good Disks Name no_name 1 (map disk_row disks) (names_pass disks names) in
     let same : disk_checks text ≡ not_text Disks text ∷ bad_syntax (map disk_row disks) [] ∷ bad_field (map disk_row disks) ∷ bad_name (map disk_row disks) ∷ [] =
     ap (λ (r : List (List (List ℕ))). checks_of (not_text Disks text) r (rest_of text)) rows ∙ ap (checks_of (not_text Disks text) (map disk_row disks)) rest in
     record {
-      passed = ap first_fault same ∙ first_fault-all (not_text Disks text ∷ bad_syntax (map disk_row disks) [] ∷ bad_field (map disk_row disks) ∷ bad_name (map disk_row disks) ∷ []) (no_byte, (no_syntax, (no_field, (no_name, tt))));
+      passed = ap first_fault same ∙ first_fault-all (not_text Disks text ∷ bad_syntax (map disk_row disks) [] ∷ bad_field (map disk_row disks) ∷ bad_name (map disk_row disks) ∷ []) (no_byte, (no_syntax, (no_field, (no_named, tt))));
       rows = ap (disks_from 1) rows ∙ disks_again 1 disks describes.listed;
     }
 

@@ -5,3 +5,8 @@ pub mod FaultLemmas
 pub mod RequestLemmas
 mod Portions
 pub mod DiskLemmas
+pub mod TableGroups
+pub mod TableRows
+pub mod TableDescribed
+pub mod TableFields
+pub mod TableRuns

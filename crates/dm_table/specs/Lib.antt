@@ -4,6 +4,7 @@ pub mod Fields
 pub mod LoadFault
 pub mod DiskList
 pub mod TableText
+pub mod TableReading
 pub mod RequestLine
 pub mod DeviceIo
 pub mod ShortIo

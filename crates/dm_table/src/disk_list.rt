@@ -22,12 +22,18 @@ use crate::place::{Part, Place};
 use crate::text_checks::{text_lines, unended};
 use std::alloc::{AllocError, Global};
 
-/// The disks of a disk list, in its order: a line `NAME SECTORS` for each, with one space between,
-/// sectors of 512 bytes, and a newline behind each line. A disk's place is its line.
+/// The disks of a disk list, in its order.
 ///
-/// Else the fault of the first of these checks that finds anything, at its first line: `NotText`,
-/// `Syntax`, `Field`, `Name`; or `Memory`, of number 0, where an allocation was refused. The time
-/// is linear in the text: one pass a check.
+/// The form is this project's own: a line `NAME SECTORS` for each disk, with one space between and
+/// a newline at the end. A length counts sectors of 512 bytes and is below 10^19. The place of a
+/// disk is its line, from 1.
+///
+/// Each check runs over the whole text, and the first that finds anything gives the fault, at its
+/// first line: `NotText` for a byte outside 0x20 to 0x7E, `Syntax` for a line that is not two
+/// fields or that no newline ends, `Field` for a length that is no number, `Name` for a name that
+/// is none of a disk. `Memory`, of number 0, comes wherever an allocation was refused.
+///
+/// The time is linear in the text: one pass a check.
 pub fn parse_disks(alloc: Global, text: &[u8]) -> Result<Vec<Disk>, LoadFault>
     // What is accepted describes these disks.
     ensures accepted { IfOk result (λ disks. DescribesDisks text.now disks.items) }

@@ -20,6 +20,8 @@ mod request;
 mod request_line;
 mod short_io;
 mod table;
+mod table_row;
+mod table_text;
 mod text_checks;
 
 pub use counted::Counted;
@@ -33,3 +35,4 @@ pub use request::{MOST_SECTORS, Op, Request, RequestFault};
 pub use request_line::parse_request;
 pub use short_io::{ShortIn, ShortOut};
 pub use table::{DevRef, DeviceSpec, Line, Table, Target};
+pub use table_text::parse_table;

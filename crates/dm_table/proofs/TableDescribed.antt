@@ -1,0 +1,149 @@
+-- Table text in which no check finds anything describes the devices that are read from it, and text that describes devices is read as them.
+use Rattle.std.proofs.Common.{◌≡◌, ◌≢◌, ℕ, suc, ◌+◌, Bool, true, false, eqb, nat_le, not, ◌&&◌, List, [], ◌∷◌, ◌++◌, length, map, All, Option, Some, None, Result, Ok, Err, refl, sym, ap, subst, ◌∙◌, arith}
+use Rattle.std.specs.List.{flat_map, list_all, AllByRecursion}
+use Rattle.std.proofs.lemmas.Bool.{not-false, not_from_true, and_parts}
+use Rattle.std.proofs.lemmas.Bool.Decides.{nat_tests}
+use Rattle.std.proofs.lemmas.List.{append-nil}
+use Rattle.std.proofs.lemmas.List.Elements.{All-from_recursion}
+use Rattle.dm_table.specs.declared.table.DeviceSpec.{DeviceSpec}
+use Rattle.dm_table.specs.declared.place.Part.TheVariants.{Source}
+use Rattle.dm_table.specs.declared.load_fault.LoadKind.TheVariants.{NotText, Syntax, Field, Name}
+use Rattle.dm_table.specs.declared.load_fault.LoadFault.{LoadFault}
+use Rattle.dm_table.specs.Fields.{parts_at, front, back, lines_of, rest_of, lines_and_rest}
+use Rattle.dm_table.specs.LoadFault.{first_or, first_fault, faults_from, fault_at, unless, is_text, not_text, unended}
+use Rattle.dm_table.specs.TableText.{NamedLine, Says, DescribesTable, named_lines, row_of, is_row, is_line, has_names, table_checks}
+use Rattle.dm_table.specs.TableReading.{name_of_row, line_in, named_from, joined, devices_from, rows_of, bad_syntax, bad_field, bad_name, read_rows, read_table}
+use Rattle.dm_table.proofs.ByteLemmas.{is_text-clear}
+use Rattle.dm_table.proofs.FaultLemmas.{first_fault-none, first_fault-all, faults_from-nil, faults_from-good, append-nil_both, unended-nil, unless-ok, unless-err, unless-passed}
+use Rattle.dm_table.proofs.FieldLemmas.{IsClearOf, lines_of-whole, parts_at-lines, front-push, back-push}
+use Rattle.dm_table.proofs.TableGroups.{lines_of_joined, each_joined, apart_joined, devices_again}
+use Rattle.dm_table.proofs.TableRows.{row_for, row_said, line_writes, row_written, text_written, row_passes, line_passes, names_pass, line_again}
+
+-- the rows of a text
+abbrev rows : List ℕ → List (List (List ℕ))
+rows text = map row_of (lines_of text)
+
+-- a test that all rows pass
+abbrev AllRowsPass : (List (List ℕ) → Bool) → List (List (List ℕ)) → Type 0
+AllRowsPass test rs = AllByRecursion (λ row. not (test row) ≡ false) rs
+
+-- the lines of rows in order say what is read from them
+lines_say : (n : ℕ) (ls : List (List ℕ)) → AllRowsPass is_row (map row_of ls) → AllRowsPass is_line (map row_of ls) → AllRowsPass has_names (map row_of ls) → Says n ls (named_from n (map row_of ls))
+lines_say n [] r l h = tt
+lines_say n (line ∷ ls) r l h =
+    let a = not-false _ r.0 in
+    let b = not-false _ l.0 in
+    (line_writes n line a b, row_said n (row_of line) a b (not-false _ h.0), lines_say (suc n) ls r.1 l.1 h.1)
+
+pub described : (text : List ℕ) → first_fault (table_checks text) ≡ None → DescribesTable text (devices_from 1 (rows text))
+described text h =
+    let bad_rows = faults_from Source Syntax (λ row. not (is_row row)) 1 (rows text) in
+    let rest = unended Source (length (rows text) + 1) (rest_of text) in
+    let none = first_fault-none (table_checks text) h in
+    let s = append-nil_both bad_rows rest none.1.0 in
+    let in_order = faults_from-nil Source Syntax (λ row. not (is_row row)) 1 (rows text) s.0 in
+    let with_values = faults_from-nil Source Field (λ row. not (is_line row)) 1 (rows text) none.1.1.0 in
+    let with_names = faults_from-nil Source Name (λ row. not (has_names row)) 1 (rows text) none.1.1.1.0 in
+    let ends = unended-nil Source (length (rows text) + 1) (rest_of text) s.1 in
+    record {
+      lines = lines_of text;
+      ended = lines_of-whole text ends;
+      said = rw (lines_of_joined (named_from 1 (rows text))) (lines_say 1 (lines_of text) in_order with_values with_names);
+      each = each_joined (named_from 1 (rows text));
+      apart = apart_joined (named_from 1 (rows text));
+    }
+
+-- What lines that say something are
+
+texts_said : (n : ℕ) (ls : List (List ℕ)) (ns : List NamedLine) → Says n ls ns → AllByRecursion (λ line. is_text line ≡ true) ls
+texts_said n [] [] s = tt
+texts_said n [] (named ∷ ns) s = absurd s
+texts_said n (line ∷ ls) [] s = absurd s
+texts_said n (line ∷ ls) (named ∷ ns) s = (text_written n line named s.0 s.1, texts_said (suc n) ls ns s.2)
+
+rows_said : (n : ℕ) (ls : List (List ℕ)) (ns : List NamedLine) → Says n ls ns → map row_of ls ≡ map row_for ns
+rows_said n [] [] s = refl
+rows_said n [] (named ∷ ns) s = absurd s
+rows_said n (line ∷ ls) [] s = absurd s
+rows_said n (line ∷ ls) (named ∷ ns) s = rw (row_written n line named s.0 s.1, rows_said (suc n) ls ns s.2) refl
+
+rows_pass : (n : ℕ) (ls : List (List ℕ)) (ns : List NamedLine) → Says n ls ns → AllRowsPass is_row (map row_for ns)
+rows_pass n [] [] s = tt
+rows_pass n [] (named ∷ ns) s = absurd s
+rows_pass n (line ∷ ls) [] s = absurd s
+rows_pass n (line ∷ ls) (named ∷ ns) s = (not_from_true _ (row_passes n named s.1), rows_pass (suc n) ls ns s.2)
+
+lines_pass : (n : ℕ) (ls : List (List ℕ)) (ns : List NamedLine) → Says n ls ns → AllRowsPass is_line (map row_for ns)
+lines_pass n [] [] s = tt
+lines_pass n [] (named ∷ ns) s = absurd s
+lines_pass n (line ∷ ls) [] s = absurd s
+lines_pass n (line ∷ ls) (named ∷ ns) s = (not_from_true _ (line_passes n named s.1), lines_pass (suc n) ls ns s.2)
+
+all_names_pass : (n : ℕ) (ls : List (List ℕ)) (ns : List NamedLine) → Says n ls ns → AllRowsPass has_names (map row_for ns)
+all_names_pass n [] [] s = tt
+all_names_pass n [] (named ∷ ns) s = absurd s
+all_names_pass n (line ∷ ls) [] s = absurd s
+all_names_pass n (line ∷ ls) (named ∷ ns) s = (not_from_true _ (names_pass n named s.1), all_names_pass (suc n) ls ns s.2)
+
+named_again : (n : ℕ) (ls : List (List ℕ)) (ns : List NamedLine) → Says n ls ns → named_from n (map row_for ns) ≡ ns
+named_again n [] [] s = refl
+named_again n [] (named ∷ ns) s = absurd s
+named_again n (line ∷ ls) [] s = absurd s
+named_again n (line ∷ ls) (named ∷ ns) s =
+    ap (λ (more : List NamedLine). record { name = name_of_row (row_for named); line = line_in n (row_for named) } ∷ more) (named_again (suc n) ls ns s.2)
+    ∙ ap (λ (one : NamedLine). one ∷ ns) (line_again n named s.1)
+
+lines_clear : (ls : List (List ℕ)) → AllByRecursion (λ line. is_text line ≡ true) ls → AllByRecursion (IsClearOf 10) ls
+lines_clear [] h = tt
+lines_clear (line ∷ ls) h = (is_text-clear line h.0, lines_clear ls h.1)
+
+texts_pass : (ls : List (List ℕ)) → AllByRecursion (λ line. is_text line ≡ true) ls → AllByRecursion (λ line. not (is_text line) ≡ false) (ls ++ [] ∷ [])
+texts_pass [] h = (refl, tt)
+texts_pass (line ∷ ls) h = (not_from_true _ h.0, texts_pass ls h.1)
+
+none_along : (check : List (List (List ℕ)) → List LoadFault) (rs qs : List (List (List ℕ))) → rs ≡ qs → check qs ≡ [] → check rs ≡ []
+none_along check rs qs e h = ap check e ∙ h
+
+pub again : (text : List ℕ) (ds : List DeviceSpec) → DescribesTable text ds → (first_fault (table_checks text) ≡ None) × (devices_from 1 (rows text) ≡ ds)
+again text ds d =
+    let ns = named_lines ds in
+    let clean = texts_said 1 d.lines ns d.said in
+    let parts : parts_at 10 text ≡ d.lines ++ [] ∷ [] = ap (parts_at 10) d.ended ∙ parts_at-lines d.lines (lines_clear d.lines clean) in
+    let lines : lines_of text ≡ d.lines = ap front parts ∙ front-push d.lines [] in
+    let rest : rest_of text ≡ [] = ap (back []) parts ∙ back-push [] d.lines [] in
+    let rs : rows text ≡ map row_for ns = ap (map row_of) lines ∙ rows_said 1 d.lines ns d.said in
+    let no_bytes : not_text Source text ≡ [] = ap (λ (ls : List (List ℕ)). faults_from Source NotText (λ line. not (is_text line)) 1 ls) parts ∙ faults_from-good Source NotText (λ line. not (is_text line)) 1 (d.lines ++ [] ∷ []) (texts_pass d.lines clean) in
+    let no_rows = none_along (λ r. faults_from Source Syntax (λ row. not (is_row row)) 1 r) (rows text) (map row_for ns) rs (faults_from-good Source Syntax (λ row. not (is_row row)) 1 (map row_for ns) (rows_pass 1 d.lines ns d.said)) in
+    let no_lines = none_along (λ r. faults_from Source Field (λ row. not (is_line row)) 1 r) (rows text) (map row_for ns) rs (faults_from-good Source Field (λ row. not (is_line row)) 1 (map row_for ns) (lines_pass 1 d.lines ns d.said)) in
+    let no_names = none_along (λ r. faults_from Source Name (λ row. not (has_names row)) 1 r) (rows text) (map row_for ns) rs (faults_from-good Source Name (λ row. not (has_names row)) 1 (map row_for ns) (all_names_pass 1 d.lines ns d.said)) in
+    let no_syntax : faults_from Source Syntax (λ row. not (is_row row)) 1 (rows text) ++ unended Source (length (rows text) + 1) (rest_of text) ≡ [] = rw (no_rows, rest) refl in
+    (first_fault-all (table_checks text) (no_bytes, (no_syntax, (no_lines, (no_names, tt)))), ap (devices_from 1) rs ∙ ap joined (named_again 1 d.lines ns d.said) ∙ devices_again ds d.each d.apart)
+
+-- a text describes no other devices
+pub one_description : (text : List ℕ) (a b : List DeviceSpec) → DescribesTable text a → DescribesTable text b → a ≡ b
+one_description text a b d e = sym (again text a d).1 ∙ (again text b e).1
+
+-- How a text is read
+
+pub read_if_described : (text : List ℕ) (ds : List DeviceSpec) → DescribesTable text ds → read_table text ≡ Ok ds
+unfolding read_table
+read_if_described text ds d = let a = again text ds d in rw (a.0, a.1) refl
+
+pub described_if_read : (text : List ℕ) (ds : List DeviceSpec) → read_table text ≡ Ok ds → (first_fault (table_checks text) ≡ None) × DescribesTable text ds
+unfolding read_table
+described_if_read text ds h =
+    let a = unless-ok (first_fault (table_checks text)) (devices_from 1 (rows text)) ds h in
+    (a.0, subst (λ (x : List DeviceSpec). DescribesTable text x) a.1 (described text a.0))
+
+pub fault_if_refused : (text : List ℕ) (f : LoadFault) → read_table text ≡ Err f → first_fault (table_checks text) ≡ Some f
+unfolding read_table
+fault_if_refused text f h = unless-err (first_fault (table_checks text)) (devices_from 1 (rows text)) f h
+
+-- a text whose bytes are all text is read by its rows and its rest
+pub read_table-rows : (text : List ℕ) (lines : List (List ℕ)) (rest : List ℕ) (rs : List (List (List ℕ))) → unless (first_or (not_text Source text) None) (lines_and_rest text) ≡ Ok (lines, rest) → rs ≡ rows_of lines
+    → read_table text ≡ read_rows rs rest
+unfolding read_table
+read_table-rows text lines rest rs passed is_rows =
+    let own = rows text in
+    let a = unless-passed (not_text Source text) (first_fault (bad_syntax own (rest_of text) ∷ bad_field own ∷ bad_name own ∷ [])) (lines_and_rest text) (lines, rest) (devices_from 1 own) passed in
+    a.1 ∙ ap (λ (cut : List (List ℕ) × List ℕ). read_rows (rows_of cut.0) cut.1) a.0 ∙ ap (λ (r : List (List (List ℕ))). read_rows r rest) (sym is_rows)

@@ -1,0 +1,320 @@
+-- A line of table text and its row of fields: a row that the tests pass is that of a line, and the row of a line passes them.
+use Rattle.std.proofs.Common.{◌≡◌, ◌≢◌, ◌⊎◌, inl, inr, ℕ, suc, ◌+◌, ◌^◌, ◌<◌, ◌≤◌, Bool, true, false, cond, eqb, nat_le, nat_lt, nat_eq, not, ◌&&◌, List, [], ◌∷◌, ◌++◌, length, map, take, drop, All, Option, Some, None, refl, sym, ap, subst, ◌∙◌, append_assoc, arith}
+use Rattle.std.specs.Prelude.{decimal, codes, is_some, unwrap_or}
+use Rattle.std.specs.Cmp.Lexicographic.{pointwise}
+use Rattle.std.specs.Char.{is_ascii_digit}
+use Rattle.std.specs.List.{list_all, join_with_byte, AllByRecursion}
+use Rattle.std.proofs.lemmas.Bool.{and_parts, and_from, ltb-true, lt-ltb, leb-true, eqb-true, eq-eqb, not-true, cond-true, cond-false, cases_Bool}
+use Rattle.std.proofs.lemmas.Bool.Decides.{nat_tests, Decides-eqb}
+use Rattle.std.proofs.lemmas.List.{length-append}
+use Rattle.std.proofs.lemmas.List.Elements.{All-from_recursion}
+use Rattle.std.proofs.lemmas.List.Splits.{slice_split_at, slice_split_none, join_with_byte-slice_split}
+use Rattle.std.proofs.lemmas.Slice.Eq.{starts_is}
+use Rattle.std.proofs.lemmas.Fmt.{decimal_nonempty}
+use Rattle.dm_table.specs.declared.table.DevRef.{DevRef}
+use Rattle.dm_table.specs.declared.table.DevRef.TheVariants.{Device, Disk}
+use Rattle.dm_table.specs.declared.table.Target.{Target}
+use Rattle.dm_table.specs.declared.table.Target.TheVariants.{Linear, Error}
+use Rattle.dm_table.specs.declared.table.Line.{Line}
+use Rattle.dm_table.specs.Name.{is_device_byte, is_device_name, is_disk_byte, is_disk_name, names_device, mapper}
+use Rattle.dm_table.specs.Number.{Spells, number_of}
+use Rattle.dm_table.specs.Fields.{parts_at, front, back, fields}
+use Rattle.dm_table.specs.LoadFault.{is_text}
+use Rattle.dm_table.specs.TableText.{NamedLine, dev_text, target_text, line_text, Writes, IsDevRef, IsTarget, IsSaid, without_last_space, row_of, is_label, name_in, is_row, is_target, is_line, is_dev, has_names}
+use Rattle.dm_table.specs.TableReading.{number_in, dev_in, target_in, name_of_row, line_in}
+use Rattle.dm_table.proofs.NumberLemmas.{Spells-number_of, number_of-decimal, decimal_digits, decimal_some, Some-is_some}
+use Rattle.dm_table.proofs.ByteLemmas.{All-list_all, list_all-weaker, list_all-both, device_name_parts, disk_name_parts}
+use Rattle.dm_table.proofs.FieldLemmas.{IsClearOf, parts_at-first, parts_at-clear, join-parts_at, front-push, back-push}
+use Rattle.dm_table.proofs.TableGroups.{same_name}
+
+-- The fields that a line is written with
+
+abbrev pub target_fields : Target → List (List ℕ)
+target_fields (Linear to offset) = codes "linear" ∷ dev_text to ∷ decimal offset ∷ []
+target_fields Error = codes "error" ∷ []
+
+abbrev label_for : NamedLine → List ℕ
+label_for named = named.name ++ 58 ∷ []
+
+abbrev others_for : NamedLine → List (List ℕ)
+others_for named = decimal named.line.start ∷ decimal named.line.len ∷ target_fields named.line.target
+
+abbrev pub row_for : NamedLine → List (List ℕ)
+row_for named = label_for named ∷ others_for named
+
+row_text : (name start len : List ℕ) (target : Target) → join_with_byte 32 ((name ++ 58 ∷ []) ∷ start ∷ len ∷ target_fields target) ≡ name ++ 58 ∷ 32 ∷ start ++ 32 ∷ len ++ 32 ∷ target_text target
+row_text name start len (Linear to offset) = simp append_assoc
+row_text name start len Error = simp append_assoc
+
+pub line_joined : (named : NamedLine) → join_with_byte 32 (row_for named) ≡ line_text named
+line_joined named = row_text named.name (decimal named.line.start) (decimal named.line.len) named.line.target
+
+-- The last field, where a space ends the line
+
+space_cases : (fs : List (List ℕ)) → (without_last_space fs ≡ fs) ⊎ (without_last_space fs ++ [] ∷ [] ≡ fs)
+space_cases [] = inl refl
+space_cases ([] ∷ []) = inr refl
+space_cases ((b ∷ bs) ∷ []) = inl refl
+space_cases (f ∷ g ∷ fs) = elim (space_cases (g ∷ fs)) [
+  | inl e ↦ inl (ap (λ (rest : List (List ℕ)). f ∷ rest) e)
+  | inr e ↦ inr (ap (λ (rest : List (List ℕ)). f ∷ rest) e)
+]
+
+space_dropped : (fs : List (List ℕ)) → without_last_space (fs ++ [] ∷ []) ≡ fs
+space_dropped [] = refl
+space_dropped (f ∷ []) = refl
+space_dropped (f ∷ g ∷ fs) = ap (λ (rest : List (List ℕ)). f ∷ rest) (space_dropped (g ∷ fs))
+
+space_joined : (f : List ℕ) (fs : List (List ℕ)) → join_with_byte 32 (f ∷ fs ++ [] ∷ []) ≡ join_with_byte 32 (f ∷ fs) ++ 32 ∷ []
+space_joined f [] = refl
+space_joined f (g ∷ fs) = rw (space_joined g fs) (sym (append_assoc f (32 ∷ join_with_byte 32 (g ∷ fs)) (32 ∷ [])))
+
+-- From a row that the tests pass to its line
+
+number_spelled : (field : List ℕ) → is_some (number_of field) ≡ true → Spells field (number_in field)
+number_spelled field e = Spells-number_of field (number_in field) (Some-is_some (number_of field) e)
+
+starts_with_mapper : (text : List ℕ) → names_device text ≡ true → text ≡ mapper ++ drop (length mapper) text
+starts_with_mapper text e = (starts_is Decides-eqb text mapper (names_device text) refl).0 e
+
+dev_spelled : (text : List ℕ) → dev_text (dev_in text) ≡ text
+dev_spelled text = elim (cases_Bool (names_device text)) [
+  | inl e ↦ rw e (sym (starts_with_mapper text e))
+  | inr e ↦ rw e refl
+]
+
+dev_said : (text : List ℕ) → is_dev text ≡ true → IsDevRef (dev_in text)
+dev_said text h = elim (cases_Bool (names_device text)) [
+  | inl e ↦ rw e (sym (cond-true (names_device text) (is_device_name (drop (length mapper) text)) (is_disk_name text) e) ∙ h)
+  | inr e ↦ rw e (sym (cond-false (names_device text) (is_device_name (drop (length mapper) text)) (is_disk_name text) e) ∙ h)
+]
+
+target_row : (fs : List (List ℕ)) → is_target fs ≡ true → target_fields (target_in fs) ≡ fs
+target_row [] h = absurd cc
+target_row (type ∷ []) h = ap (λ (t : List ℕ). t ∷ []) (sym (same_name type (codes "error") h))
+target_row (type ∷ to ∷ []) h = absurd cc
+target_row (type ∷ to ∷ offset ∷ []) h =
+    let a = and_parts (pointwise nat_eq type (codes "linear")) (is_some (number_of offset)) h in
+    rw (← same_name type (codes "linear") a.0, dev_spelled to, ← (number_spelled offset a.1).digits) refl
+target_row (type ∷ to ∷ offset ∷ more ∷ rest) h = absurd cc
+
+last_split : (xs : List ℕ) → 0 < length xs → xs ≡ front xs ++ back 0 xs ∷ []
+last_split [] h = absurd (omega arith)
+last_split (x ∷ []) h = refl
+last_split (x ∷ y ∷ xs) h = ap (λ (rest : List ℕ). x ∷ rest) (last_split (y ∷ xs) (omega arith))
+
+label_spelled : (label : List ℕ) → is_label label ≡ true → name_in label ++ 58 ∷ [] ≡ label
+label_spelled label h =
+    let a = and_parts (nat_lt 1 (length label)) (eqb (back 0 label) 58) h in
+    let long : 1 < length label = ltb-true 1 (length label) a.0 in
+    sym (last_split label (omega arith) ∙ ap (λ (b : ℕ). front label ++ b ∷ []) (eqb-true (back 0 label) 58 a.1))
+
+-- a row in order is that of its line
+pub row_again : (n : ℕ) (row : List (List ℕ)) → is_row row ≡ true → is_line row ≡ true → row_for (record { name = name_of_row row; line = line_in n row }) ≡ row
+row_again n [] r l = absurd cc
+row_again n (a ∷ []) r l = absurd cc
+row_again n (a ∷ b ∷ []) r l = absurd cc
+row_again n (a ∷ b ∷ c ∷ []) r l = absurd cc
+row_again n (label ∷ start ∷ len ∷ type ∷ arguments) r l =
+    let a = and_parts (is_label label) (list_all (λ field. nat_lt 0 (length field)) (start ∷ len ∷ type ∷ arguments)) r in
+    let b = and_parts (is_some (number_of start)) (is_some (number_of len) && is_target (type ∷ arguments)) l in
+    let c = and_parts (is_some (number_of len)) (is_target (type ∷ arguments)) b.1 in
+    rw (label_spelled label a.0, ← (number_spelled start b.0).digits, ← (number_spelled len c.0).digits, target_row (type ∷ arguments) c.1) refl
+
+pub row_said : (n : ℕ) (row : List (List ℕ)) → is_row row ≡ true → is_line row ≡ true → has_names row ≡ true → IsSaid n (record { name = name_of_row row; line = line_in n row })
+row_said n [] r l h = absurd cc
+row_said n (a ∷ []) r l h = absurd cc
+row_said n (a ∷ b ∷ []) r l h = absurd cc
+row_said n (a ∷ b ∷ c ∷ []) r l h = absurd cc
+row_said n (label ∷ start ∷ len ∷ type ∷ []) r l h =
+    let b = and_parts (is_some (number_of start)) (is_some (number_of len) && is_target (type ∷ [])) l in
+    let c = and_parts (is_some (number_of len)) (is_target (type ∷ [])) b.1 in
+    record { name = h; start = (number_spelled start b.0).short; len = (number_spelled len c.0).short; target = tt; at = refl }
+row_said n (label ∷ start ∷ len ∷ type ∷ to ∷ []) r l h =
+    let b = and_parts (is_some (number_of start)) (is_some (number_of len) && false) l in
+    let c = and_parts (is_some (number_of len)) false b.1 in
+    absurd (let e : false ≡ true = c.1 in cc)
+row_said n (label ∷ start ∷ len ∷ type ∷ to ∷ offset ∷ []) r l h =
+    let b = and_parts (is_some (number_of start)) (is_some (number_of len) && is_target (type ∷ to ∷ offset ∷ [])) l in
+    let c = and_parts (is_some (number_of len)) (is_target (type ∷ to ∷ offset ∷ [])) b.1 in
+    let d = and_parts (pointwise nat_eq type (codes "linear")) (is_some (number_of offset)) c.1 in
+    let e = and_parts (is_device_name (name_in label)) (is_dev to) h in
+    record {
+      name = e.0;
+      start = (number_spelled start b.0).short;
+      len = (number_spelled len c.0).short;
+      target = (dev_said to e.1, (number_spelled offset d.1).short);
+      at = refl;
+    }
+row_said n (label ∷ start ∷ len ∷ type ∷ to ∷ offset ∷ more ∷ rest) r l h =
+    let b = and_parts (is_some (number_of start)) (is_some (number_of len) && false) l in
+    let c = and_parts (is_some (number_of len)) false b.1 in
+    absurd (let e : false ≡ true = c.1 in cc)
+
+row_begins : (row : List (List ℕ)) → is_row row ≡ true → join_with_byte 32 (row ++ [] ∷ []) ≡ join_with_byte 32 row ++ 32 ∷ []
+row_begins [] r = absurd cc
+row_begins (f ∷ fs) r = space_joined f fs
+
+-- a line whose row is in order is written as what its row says
+pub line_writes : (n : ℕ) (line : List ℕ) → is_row (row_of line) ≡ true → is_line (row_of line) ≡ true → Writes line (record { name = name_of_row (row_of line); line = line_in n (row_of line) })
+line_writes n line r l =
+    let whole : line ≡ join_with_byte 32 (fields line) = sym (join-parts_at 32 line) in
+    let named : NamedLine = record { name = name_of_row (row_of line); line = line_in n (row_of line) } in
+    let spelled : join_with_byte 32 (row_of line) ≡ line_text named = ap (join_with_byte 32) (sym (row_again n (row_of line) r l)) ∙ line_joined named in
+    elim (space_cases (fields line)) [
+      | inl e ↦ inl (whole ∙ ap (join_with_byte 32) (sym e) ∙ spelled)
+      | inr e ↦ inr (whole ∙ ap (join_with_byte 32) (sym e) ∙ row_begins (row_of line) r ∙ ap (λ (t : List ℕ). t ++ 32 ∷ []) spelled)
+    ]
+
+-- From a line to its row
+
+-- a byte of a field: text, and no space
+abbrev is_ink : ℕ → Bool
+is_ink b = nat_le 33 b && nat_le b 126
+
+-- a field that is there
+abbrev IsInked : List ℕ → Type 0
+IsInked field = (nat_lt 0 (length field) ≡ true) × (list_all is_ink field ≡ true)
+
+ink_space : (b : ℕ) → is_ink b ≡ true → eqb b 32 ≡ false
+ink_space b h = grind (arith, nat_tests)
+
+ink_clear : (field : List ℕ) → list_all is_ink field ≡ true → IsClearOf 32 field
+ink_clear field h = All-list_all is_ink (λ b. eqb b 32 ≡ false) ink_space field h
+
+ink_text : (b : ℕ) → is_ink b ≡ true → (nat_le 32 b && nat_le b 126) ≡ true
+ink_text b h = grind (arith, nat_tests)
+
+device_ink : (b : ℕ) → is_device_byte b ≡ true → is_ink b ≡ true
+device_ink b h = grind (arith, nat_tests)
+
+disk_ink : (b : ℕ) → is_disk_byte b ≡ true → is_ink b ≡ true
+disk_ink b h = grind (arith, nat_tests)
+
+digit_ink : (b : ℕ) → is_ascii_digit b ≡ true → is_ink b ≡ true
+digit_ink b h = grind (arith, nat_tests)
+
+name_inked : (name : List ℕ) → is_device_name name ≡ true → IsInked name
+name_inked name h = let a = device_name_parts name h in (a.some, list_all-weaker is_device_byte is_ink device_ink name a.bytes)
+
+label_inked : (name : List ℕ) → is_device_name name ≡ true → IsInked (name ++ 58 ∷ [])
+label_inked name h = (lt-ltb _ _ (omega (arith, length-append name (58 ∷ []))), list_all-both is_ink name (58 ∷ []) (name_inked name h).1 refl)
+
+number_inked : (n : ℕ) → n < 10 ^ 19 → IsInked (decimal n)
+number_inked n h = (lt-ltb _ _ (decimal_some n h), list_all-weaker is_ascii_digit is_ink digit_ink (decimal n) (decimal_digits n h))
+
+dev_inked : (to : DevRef) → IsDevRef to → IsInked (dev_text to)
+dev_inked (Device name) h = (lt-ltb 0 (length (mapper ++ name)) (omega (arith, length-append mapper name)), (name_inked name h).1)
+dev_inked (Disk name) h = let a = disk_name_parts name h in (a.some, list_all-weaker is_disk_byte is_ink disk_ink name a.bytes)
+
+target_inked : (target : Target) → IsTarget target → AllByRecursion IsInked (target_fields target)
+target_inked (Linear to offset) h = ((refl, refl), (dev_inked to h.0, (number_inked offset h.1, tt)))
+target_inked Error h = ((refl, refl), tt)
+
+row_inked : (n : ℕ) (named : NamedLine) → IsSaid n named → AllByRecursion IsInked (row_for named)
+row_inked n named h = (label_inked named.name h.name, (number_inked named.line.start h.start, (number_inked named.line.len h.len, target_inked named.line.target h.target)))
+
+-- fields that are there, and at most one last empty one, are those of the line that they make
+fields_joined : (f : List ℕ) (fs : List (List ℕ)) → AllByRecursion (λ g. list_all is_ink g ≡ true) (f ∷ fs) → fields (join_with_byte 32 (f ∷ fs)) ≡ f ∷ fs
+fields_joined f [] h = parts_at-clear 32 f (ink_clear f h.0)
+fields_joined f (g ∷ fs) h =
+    parts_at-first 32 f (join_with_byte 32 (g ∷ fs)) (ink_clear f h.0)
+    ∙ ap (λ (rest : List (List ℕ)). f ∷ rest) (fields_joined g fs h.1)
+
+inks : (fs : List (List ℕ)) → AllByRecursion IsInked fs → AllByRecursion (λ g. list_all is_ink g ≡ true) fs
+inks [] h = tt
+inks (f ∷ fs) h = (h.0.1, inks fs h.1)
+
+inks_and_space : (fs : List (List ℕ)) → AllByRecursion IsInked fs → AllByRecursion (λ g. list_all is_ink g ≡ true) (fs ++ [] ∷ [])
+inks_and_space [] h = (refl, tt)
+inks_and_space (f ∷ fs) h = (h.0.1, inks_and_space fs h.1)
+
+no_space : (fs : List (List ℕ)) → AllByRecursion IsInked fs → without_last_space fs ≡ fs
+no_space [] h = refl
+no_space ([] ∷ []) h = absurd (let e : false ≡ true = h.0.0 in cc)
+no_space ((b ∷ bs) ∷ []) h = refl
+no_space (f ∷ g ∷ fs) h = ap (λ (rest : List (List ℕ)). f ∷ rest) (no_space (g ∷ fs) h.1)
+
+row_kept : (f : List ℕ) (fs : List (List ℕ)) → AllByRecursion IsInked (f ∷ fs) → row_of (join_with_byte 32 (f ∷ fs)) ≡ f ∷ fs
+row_kept f fs h = ap without_last_space (fields_joined f fs (inks (f ∷ fs) h)) ∙ no_space (f ∷ fs) h
+
+row_kept_spaced : (f : List ℕ) (fs : List (List ℕ)) → AllByRecursion IsInked (f ∷ fs) → row_of (join_with_byte 32 (f ∷ fs) ++ 32 ∷ []) ≡ f ∷ fs
+row_kept_spaced f fs h =
+    ap row_of (sym (space_joined f fs)) ∙ ap without_last_space (fields_joined f (fs ++ [] ∷ []) (inks_and_space (f ∷ fs) h)) ∙ space_dropped (f ∷ fs)
+
+-- a line that is written so has that row
+pub row_written : (n : ℕ) (text : List ℕ) (named : NamedLine) → Writes text named → IsSaid n named → row_of text ≡ row_for named
+row_written n text named w h =
+    let inked = row_inked n named h in
+    elim w [
+      | inl e ↦ ap row_of (e ∙ sym (line_joined named)) ∙ row_kept (label_for named) (others_for named) inked
+      | inr e ↦ ap row_of (e ∙ ap (λ (t : List ℕ). t ++ 32 ∷ []) (sym (line_joined named))) ∙ row_kept_spaced (label_for named) (others_for named) inked
+    ]
+
+joined_text : (f : List ℕ) (fs : List (List ℕ)) → AllByRecursion IsInked (f ∷ fs) → is_text (join_with_byte 32 (f ∷ fs)) ≡ true
+joined_text f [] h = list_all-weaker is_ink _ ink_text f h.0.1
+joined_text f (g ∷ fs) h = list_all-both _ f (32 ∷ join_with_byte 32 (g ∷ fs)) (list_all-weaker is_ink _ ink_text f h.0.1) (joined_text g fs h.1)
+
+-- and is text
+pub text_written : (n : ℕ) (text : List ℕ) (named : NamedLine) → Writes text named → IsSaid n named → is_text text ≡ true
+text_written n text named w h =
+    let clean : is_text (line_text named) ≡ true = ap is_text (sym (line_joined named)) ∙ joined_text (label_for named) (others_for named) (row_inked n named h) in
+    elim w [
+      | inl e ↦ ap is_text e ∙ clean
+      | inr e ↦ ap is_text e ∙ list_all-both _ (line_text named) (32 ∷ []) clean refl
+    ]
+
+-- The row of a line passes the tests
+
+filled : (fs : List (List ℕ)) → AllByRecursion IsInked fs → list_all (λ field. nat_lt 0 (length field)) fs ≡ true
+filled [] h = refl
+filled (f ∷ fs) h = and_from _ _ h.0.0 (filled fs h.1)
+
+label_passes : (name : List ℕ) → is_device_name name ≡ true → is_label (name ++ 58 ∷ []) ≡ true
+label_passes name h =
+    let long : 0 < length name = ltb-true 0 (length name) (name_inked name h).0 in
+    and_from _ _ (lt-ltb 1 _ (omega (arith, length-append name (58 ∷ [])))) (eq-eqb _ _ (back-push 0 name 58))
+
+row_ok : (label start len : List ℕ) (target : Target) → is_label label ≡ true → AllByRecursion IsInked (start ∷ len ∷ target_fields target) → is_row (label ∷ start ∷ len ∷ target_fields target) ≡ true
+row_ok label start len (Linear to offset) l h = and_from _ _ l (filled (start ∷ len ∷ target_fields (Linear to offset)) h)
+row_ok label start len Error l h = and_from _ _ l (filled (start ∷ len ∷ target_fields Error) h)
+
+pub row_passes : (n : ℕ) (named : NamedLine) → IsSaid n named → is_row (row_for named) ≡ true
+row_passes n named h = row_ok (label_for named) (decimal named.line.start) (decimal named.line.len) named.line.target (label_passes named.name h.name) (row_inked n named h).1
+
+number_passes : (n : ℕ) → n < 10 ^ 19 → is_some (number_of (decimal n)) ≡ true
+number_passes n h = ap is_some (number_of-decimal n h)
+
+target_passes : (target : Target) → IsTarget target → is_target (target_fields target) ≡ true
+target_passes (Linear to offset) h = number_passes offset h.1
+target_passes Error h = refl
+
+pub line_passes : (n : ℕ) (named : NamedLine) → IsSaid n named → is_line (row_for named) ≡ true
+line_passes n named h = and_from _ _ (number_passes named.line.start h.start) (and_from _ _ (number_passes named.line.len h.len) (target_passes named.line.target h.target))
+
+dev_passes : (to : DevRef) → IsDevRef to → is_dev (dev_text to) ≡ true
+dev_passes (Device name) h = h
+dev_passes (Disk name) h = cond-false (names_device name) (is_device_name (drop (length mapper) name)) (is_disk_name name) (not-true _ (disk_name_parts name h).own) ∙ h
+
+dev_again : (to : DevRef) → IsDevRef to → dev_in (dev_text to) ≡ to
+dev_again (Device name) h = refl
+dev_again (Disk name) h = rw (not-true _ (disk_name_parts name h).own) refl
+
+names_ok : (name start len : List ℕ) (target : Target) → is_device_name name ≡ true → IsTarget target → has_names ((name ++ 58 ∷ []) ∷ start ∷ len ∷ target_fields target) ≡ true
+names_ok name start len (Linear to offset) h t = and_from _ _ (ap is_device_name (front-push name 58) ∙ h) (dev_passes to t.0)
+names_ok name start len Error h t = ap is_device_name (front-push name 58) ∙ h
+
+pub names_pass : (n : ℕ) (named : NamedLine) → IsSaid n named → has_names (row_for named) ≡ true
+names_pass n named h = names_ok named.name (decimal named.line.start) (decimal named.line.len) named.line.target h.name h.target
+
+number_is : (n : ℕ) → n < 10 ^ 19 → number_in (decimal n) ≡ n
+number_is n h = ap (λ (o : Option ℕ). unwrap_or o 0) (number_of-decimal n h)
+
+target_again : (target : Target) → IsTarget target → target_in (target_fields target) ≡ target
+target_again (Linear to offset) h = rw (dev_again to h.0, number_is offset h.1) refl
+target_again Error h = refl
+
+-- and is read as that line
+pub line_again : (n : ℕ) (named : NamedLine) → IsSaid n named → record { name = name_of_row (row_for named); line = line_in n (row_for named) } ≡ named
+line_again n named h =
+    rw (front-push named.name 58, number_is named.line.start h.start, number_is named.line.len h.len, target_again named.line.target h.target, ← h.at) refl
