@@ -1,0 +1,5 @@
+pub mod NumberLemmas
+pub mod ByteLemmas
+pub mod FieldLemmas
+pub mod FaultLemmas
+pub mod RequestLemmas

@@ -1,11 +1,17 @@
 -- Texts cut at a byte: lines at newlines, fields at spaces.
 use Rattle.std.specs.Prelude.{ℕ, ◌==◌, List, [], ◌∷◌, map}
 use Rattle.std.specs.List.{slice_split}
+use Rattle.std.specs.Global.{Vec}
+use Rattle.dm_table.specs.declared.fields.Lines.{Lines}
 use denote.Ref.{Bor}
 
 -- what slices point to
 abbrev pub texts : List (Bor (List ℕ)) → List (List ℕ)
 texts = map (λ slice. slice.now)
+
+-- the fields that rows of slices point to
+abbrev pub row_texts : List (Vec (Bor (List ℕ))) → List (List (List ℕ))
+row_texts = map (λ row. texts row.items)
 
 -- the parts of a text between the bytes that are c: always one more than there are such bytes
 abbrev pub parts_at : ℕ → List ℕ → List (List ℕ)
@@ -30,6 +36,13 @@ lines_of text = front (parts_at 10 text)
 -- what stands after the last newline
 abbrev pub rest_of : List ℕ → List ℕ
 rest_of text = back [] (parts_at 10 text)
+
+-- both of a text, and both of what a text was cut into
+abbrev pub lines_and_rest : List ℕ → List (List ℕ) × List ℕ
+lines_and_rest text = (lines_of text, rest_of text)
+
+abbrev pub cut_text : Lines → List (List ℕ) × List ℕ
+cut_text cut = (texts cut.lines.items, cut.rest.now)
 
 -- the fields of a line, at single spaces
 abbrev pub fields : List ℕ → List (List ℕ)

@@ -1,5 +1,6 @@
 -- Request lines: R DEV START LEN and W DEV START LEN, without the newline.
 use Rattle.std.specs.Prelude.{◌≡◌, ℕ, ◌^◌, ◌<◌, ◌≤◌, ◌==◌, Bool, true, false, ◌&&◌, ◌||◌, List, [], ◌∷◌, ◌++◌, length, decimal, Option, Some, None, nat_le, is_some, unwrap_or, if◌then◌else◌}
+use Rattle.dm_table.specs.declared.request.TheConstants.{MOST_SECTORS}
 use Rattle.dm_table.specs.declared.request.Op.{Op}
 use Rattle.dm_table.specs.declared.request.Op.TheVariants.{Read, Write}
 use Rattle.dm_table.specs.declared.request.Request.{Request}
@@ -29,13 +30,17 @@ op_text Write = 87
 abbrev pub request_text : RequestValues → List ℕ
 request_text values = op_text values.op ∷ 32 ∷ values.device ++ 32 ∷ decimal values.start ++ 32 ∷ decimal values.len
 
+-- the fields of a line in the form of a request
+abbrev pub row_of : Op → List ℕ → List ℕ → List ℕ → List (List ℕ)
+row_of op device start len = (op_text op ∷ []) ∷ device ∷ start ∷ len ∷ []
+
 -- the line says this request: at most 1,048,576 sectors of a device that can be named
 pub record DescribesRequest (line : List ℕ) (values : RequestValues) : Type 0 where
   pub written : line ≡ request_text values
   pub device : is_device_name values.device ≡ true
   pub start : values.start < 10 ^ 19
   pub least : 1 ≤ values.len
-  pub most : values.len ≤ 1048576
+  pub most : values.len ≤ MOST_SECTORS
 
 -- Its checks
 
@@ -46,7 +51,7 @@ is_op _ = false
 
 -- a length in its limits
 abbrev pub is_length : ℕ → Bool
-is_length len = nat_le 1 len && nat_le len 1048576
+is_length len = nat_le 1 len && nat_le len MOST_SECTORS
 
 -- four fields: an operation, a device name, and two that are not empty
 abbrev pub has_form : List (List ℕ) → Bool

@@ -9,12 +9,16 @@
 mod counted;
 mod device_io;
 mod disk;
+mod fields;
 mod history;
 mod load_fault;
 mod name;
+mod number;
 mod place;
 mod request;
+mod request_line;
 mod table;
+mod text_checks;
 
 pub use counted::Counted;
 pub use device_io::{InFault, Input, OutFault, Output};
@@ -22,5 +26,6 @@ pub use disk::Disk;
 pub use load_fault::{LoadFault, LoadKind};
 pub use name::{CheckFault, DiskName, Name};
 pub use place::{Part, Place};
-pub use request::{Op, Request, RequestFault};
+pub use request::{MOST_SECTORS, Op, Request, RequestFault};
+pub use request_line::parse_request;
 pub use table::{DevRef, DeviceSpec, Line, Table, Target};

@@ -3,8 +3,8 @@
 //! One type serves all readers and checks, so that a caller tells a user about any of them alike.
 //! The kinds stand in the order in which the documents number them; add none in between.
 
-ghost use Rattle.std.specs.Prelude.{◌≡◌};
-ghost use Rattle.dm_table.specs.LoadFault.{IsMemoryFault};
+ghost use Rattle.std.specs.Prelude.{◌≡◌, ◌+◌, ◌^◌, ◌<◌};
+ghost use Rattle.dm_table.specs.LoadFault.{IsMemoryFault, fault_at};
 
 use crate::place::{Part, Place};
 use thiserror::Error;
@@ -90,6 +90,21 @@ impl LoadFault {
         LoadFault {
             kind: LoadKind::Memory,
             at: Place { part, number: 0 },
+        }
+    }
+
+    /// The fault at the line or device of an index from 0, as places count from 1. Each index of a
+    /// slice of slices or vectors is below 2^63.
+    pub(crate) fn at_index(part: Part, kind: LoadKind, index: usize) -> LoadFault
+        requires { index < 2 ^ 63 }
+        ensures { result ≡ fault_at part kind (index + 1) }
+    {
+        LoadFault {
+            kind,
+            at: Place {
+                part,
+                number: index as u64 + 1,
+            },
         }
     }
 }

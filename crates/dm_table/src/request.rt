@@ -1,8 +1,15 @@
-//! Request lines: `R DEV START LEN` and `W DEV START LEN`.
+//! Requests: what a line of requests asks for, and why it is refused.
+//!
+//! A request borrows its device from its line, so that reading one takes no memory. A field that is
+//! added here is one of a line in `request_line`.
 
 ghost use Rattle.std.specs.Prelude.{◌≤◌};
+ghost use Rattle.dm_table.specs.declared.request.TheConstants.{MOST_SECTORS};
 
 use thiserror::Error;
+
+/// The most sectors that one request may have.
+pub const MOST_SECTORS: u64 = 1_048_576;
 
 /// Whether a request reads or writes.
 #[derive(Clone, Copy, Debug, PartialEq, Eq)]
@@ -20,7 +27,7 @@ pub struct Request<'a> {
     pub start: u64,
     pub len: u64,
     ghost at_least: { 1 ≤ len },
-    ghost at_most: { len ≤ 1048576 },
+    ghost at_most: { len ≤ MOST_SECTORS },
 }
 
 /// What is wrong with a request line.
@@ -32,7 +39,7 @@ pub enum RequestFault {
     /// A start or a length that is no number.
     #[error("number")]
     Number,
-    /// A length of 0, or above 1,048,576.
+    /// A length of 0, or above `MOST_SECTORS`.
     #[error("length")]
     Length,
 }

@@ -4,6 +4,8 @@
 //! sectors to a target. A new target is a variant of `Target` here, an arm in `table_text`, and
 //! a definition of its text and its meaning.
 
+ghost use Rattle.std.specs.Prelude.{◌≡◌};
+
 use crate::name::{DiskName, Name};
 use crate::place::Place;
 use std::marker::Model;
@@ -46,6 +48,29 @@ impl Model for Table {
     ghost Value = { List Line };
 
     ghost view = { λ table. table.lines.items };
+}
+
+impl Table {
+    /// The lines as a table, with no memory taken.
+    pub fn from_vec(lines: Vec<Line>) -> Table
+        ensures { result ≡ lines.items }
+    {
+        Table { lines }
+    }
+
+    /// The lines, with no memory taken.
+    pub fn into_vec(self) -> Vec<Line>
+        ensures { result.items ≡ self }
+    {
+        self.lines
+    }
+
+    /// The lines in their order.
+    pub fn as_slice(&self) -> &[Line]
+        ensures { result.now ≡ self.now }
+    {
+        self.lines.as_slice()
+    }
 }
 
 /// A device: its name, whether it is read-only, its table, and the place of its description.

@@ -1,0 +1,55 @@
+//! Texts cut at a byte: lines at newlines, fields at spaces.
+//!
+//! A text is cut once, and all checks look at its parts; the parts borrow the text. A form that
+//! cuts at another byte calls `cut` too.
+
+ghost use Rattle.std.specs.Prelude.{◌≡◌, [], map, IfOk};
+ghost use Rattle.dm_table.specs.Fields.{texts, row_texts, parts_at, front, back, fields};
+
+use memchr::memchr;
+use std::alloc::{AllocError, Global};
+
+/// The lines that a newline ends, and what stands after the last newline.
+#[derive(Drop)]
+pub(crate) struct Lines<'a> {
+    pub lines: Vec<&'a [u8]>,
+    pub rest: &'a [u8],
+}
+
+/// The parts of a text between the bytes that are `at`. One pass over the text.
+pub(crate) fn cut<'a>(alloc: Global, at: u8, text: &'a [u8]) -> Result<Vec<&'a [u8]>, AllocError>
+    ensures { IfOk result (λ v. texts v.items ≡ parts_at at text.now) }
+{
+    let mut parts = Vec::new(alloc);
+    let mut rest = text;
+    while let Some(end) = memchr(at, rest) {
+        let (part, after) = rest.split_at(end);
+        parts.push(part)?;
+        rest = &after[1..];
+    }
+    parts.push(rest)?;
+    Ok(parts)
+}
+
+/// The last part is what stands after the last newline, the others are lines.
+pub(crate) fn without_rest<'a>(mut parts: Vec<&'a [u8]>) -> Lines<'a>
+    ensures lines { texts result.lines.items ≡ front (texts parts.entry.items) }
+    ensures rest { result.rest.now ≡ back [] (texts parts.entry.items) }
+{
+    let rest = parts.pop().unwrap_or(b"");
+    Lines { lines: parts, rest }
+}
+
+/// The fields of each line. One pass over the lines.
+pub(crate) fn cut_fields<'a>(
+    alloc: Global,
+    lines: &[&'a [u8]],
+) -> Result<Vec<Vec<&'a [u8]>>, AllocError>
+    ensures { IfOk result (λ v. row_texts v.items ≡ map fields (texts lines.now)) }
+{
+    let mut rows = Vec::new(alloc);
+    for line in lines {
+        rows.push(cut(alloc, b' ', *line)?)?;
+    }
+    Ok(rows)
+}
