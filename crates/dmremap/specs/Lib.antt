@@ -6,3 +6,5 @@ pub mod WriteAll
 pub mod Lines
 pub mod Found
 pub mod Outcome
+pub mod Loaded
+pub mod Run

@@ -1,6 +1,8 @@
 -- What becomes of one sector of a request.
 use Rattle.std.specs.Prelude.{ℕ, suc, ◌==◌, ◌&&◌, Bool, true, false, List, nat_eq}
 use Rattle.std.specs.Cmp.Lexicographic.{pointwise}
+use Rattle.dmremap.specs.declared.unit.SectorUnit.{SectorUnit}
+use Rattle.dmremap.specs.declared.unit.SectorUnit.TheVariants as variants
 
 -- the unit of one sector: a read or a write of a sector of a disk, or an error
 pub data BlockUnit : Type 0 where
@@ -29,3 +31,9 @@ joins (WriteOf disk sector) Fails = false
 joins Fails (ReadOf other next) = false
 joins Fails (WriteOf other next) = false
 joins Fails Fails = true
+
+-- the unit that a value of the code stands for
+abbrev pub unit_view : SectorUnit → BlockUnit
+unit_view (variants.Read disk sector) = ReadOf disk.now sector
+unit_view (variants.Write disk sector) = WriteOf disk.now sector
+unit_view variants.Error = Fails

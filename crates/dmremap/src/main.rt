@@ -2,10 +2,13 @@
 #![tactic(auto)]
 
 mod ending;
+mod join;
 mod line_buffer;
 mod lines;
+mod loaded;
 mod run;
 mod soundness;
+mod unit;
 mod write_all;
 
 fn main() {}
