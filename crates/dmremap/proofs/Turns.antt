@@ -113,7 +113,7 @@ served_after o w v ending.TheVariants.ReadFault h = (ap (λ t. w ++ t) h.0, h.1)
 served_after o w v ending.TheVariants.WriteFault h = tt
 
 -- a run that ends with what comes next, with v written for it
-pub at_end : (devices : List DeviceSpec) (h0 h1 h2 held w v : List ℕ) (f0 f1 f2 e0 e1 e2 n : ℕ) (answer : Answer) (e : ending.Ending) → Told devices (since h0 h1) held w n
+at_end : (devices : List DeviceSpec) (h0 h1 h2 held w v : List ℕ) (f0 f1 f2 e0 e1 e2 n : ℕ) (answer : Answer) (e : ending.Ending) → Told devices (since h0 h1) held w n
     → h1 ≡ h0 ++ since h0 h1 → h2 ≡ h1 ++ since h1 h2 → f1 ≡ f0 → e1 ≡ e0
     → answer ≡ next_answer (stand_of f1 f2 e1 e2) (line_parts (held ++ since h1 h2)) → ((rest : Outcome) → IsServed (answer_outcome devices n answer rest) v e)
     → IsServed (run_outcome devices (record { bytes = since h0 h2; stand = stand_of f0 f2 e0 e2 })) (w ++ v) e
@@ -128,7 +128,16 @@ at_end devices h0 h1 h2 held w v f0 f1 f2 e0 e1 e2 n answer e told reads more fa
     ap (after_text w) settled ∙ sym (told stand new) ∙ ap (λ xs. outcome_from devices stand 1 (line_parts xs)) (sym (since_more h0 h1 h2 reads more)) in
     subst (λ (o : Outcome). IsServed o (w ++ v) e) whole (served_after (answer_outcome devices n answer b.0) w v e (served b.0))
 
--- the same, with nothing written for it
+-- the same, by what the output took
+pub served_more : (devices : List DeviceSpec) (h0 h1 h2 w0 w1 w2 held : List ℕ) (f0 f1 f2 e0 e1 e2 n : ℕ) (answer : Answer) (e : ending.Ending) → Told devices (since h0 h1) held (since w0 w1) n
+    → h1 ≡ h0 ++ since h0 h1 → h2 ≡ h1 ++ since h1 h2 → w1 ≡ w0 ++ since w0 w1 → w2 ≡ w1 ++ since w1 w2 → f1 ≡ f0 → e1 ≡ e0
+    → answer ≡ next_answer (stand_of f1 f2 e1 e2) (line_parts (held ++ since h1 h2)) → ((rest : Outcome) → IsServed (answer_outcome devices n answer rest) (since w1 w2) e)
+    → IsServed (run_outcome devices (record { bytes = since h0 h2; stand = stand_of f0 f2 e0 e2 })) (since w0 w2) e
+served_more devices h0 h1 h2 w0 w1 w2 held f0 f1 f2 e0 e1 e2 n answer e told reads more appends appends_more faults ends next served =
+    subst (λ (xs : List ℕ). IsServed (run_outcome devices (record { bytes = since h0 h2; stand = stand_of f0 f2 e0 e2 })) xs e) (sym (since_more w0 w1 w2 appends appends_more))
+    (at_end devices h0 h1 h2 held (since w0 w1) (since w1 w2) f0 f1 f2 e0 e1 e2 n answer e told reads more faults ends next served)
+
+-- the same, with nothing written for what comes next
 pub at_quiet_end : (devices : List DeviceSpec) (h0 h1 h2 held w : List ℕ) (f0 f1 f2 e0 e1 e2 n : ℕ) (answer : Answer) (e : ending.Ending) → Told devices (since h0 h1) held w n
     → h1 ≡ h0 ++ since h0 h1 → h2 ≡ h1 ++ since h1 h2 → f1 ≡ f0 → e1 ≡ e0
     → answer ≡ next_answer (stand_of f1 f2 e1 e2) (line_parts (held ++ since h1 h2)) → ((rest : Outcome) → IsServed (answer_outcome devices n answer rest) [] e)
