@@ -3,3 +3,4 @@ pub mod ByteLemmas
 pub mod FieldLemmas
 pub mod FaultLemmas
 pub mod RequestLemmas
+mod Portions

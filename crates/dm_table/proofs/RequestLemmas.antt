@@ -12,7 +12,7 @@ use Rattle.dm_table.specs.declared.request.RequestFault.{RequestFault}
 use Rattle.dm_table.specs.Name.{is_device_name}
 use Rattle.dm_table.specs.Number.{number_of}
 use Rattle.dm_table.specs.Fields.{fields}
-use Rattle.dm_table.specs.RequestLine.{RequestValues, DescribesRequest, request_text, row_of, op_text, is_op, has_form, has_numbers, has_length, request_fault}
+use Rattle.dm_table.specs.RequestLine.{RequestValues, DescribesRequest, request_text, row_of, op_text, is_op, has_form, has_numbers, has_length, request_fault, op_in, values_in, request_values}
 use Rattle.dm_table.proofs.ByteLemmas.{All-list_all, device_name-clear, digits-clear}
 use Rattle.dm_table.proofs.FieldLemmas.{IsClearOf, parts_at-first, parts_at-clear, join-parts_at}
 use Rattle.dm_table.proofs.NumberLemmas.{Spells-number_of, number_of-decimal, decimal_digits, decimal_some}
@@ -128,3 +128,18 @@ sound line values said =
 -- so a line with a fault says none
 pub refused : (line : List ℕ) (values : RequestValues) (fault : RequestFault) → request_fault line ≡ Some fault → DescribesRequest line values → ⊥
 refused line values fault found said = let none = sound line values said in cc
+
+-- The values
+
+op_is : (op : Op) → op_in (op_text op ∷ []) ≡ op
+op_is Read = refl
+op_is Write = refl
+
+-- the values that a line says are those in its fields
+pub values-said : (line : List ℕ) (values : RequestValues) → DescribesRequest line values → values ≡ request_values line
+unfolding values_with
+values-said line values said =
+    let small : values.len < 10 ^ 19 = omega (arith, said.most) in
+    let whole : request_values line ≡ values_with values.op values.device values.start values.len =
+    rw (fields_are line values said, number_of-decimal values.start said.start, number_of-decimal values.len small, op_is values.op) refl in
+    sym whole

@@ -6,3 +6,4 @@ pub mod DiskList
 pub mod TableText
 pub mod RequestLine
 pub mod DeviceIo
+pub mod ShortIo

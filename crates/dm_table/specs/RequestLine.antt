@@ -1,5 +1,6 @@
 -- Request lines: R DEV START LEN and W DEV START LEN, without the newline.
-use Rattle.std.specs.Prelude.{◌≡◌, ℕ, ◌^◌, ◌<◌, ◌≤◌, ◌==◌, Bool, true, false, ◌&&◌, ◌||◌, List, [], ◌∷◌, ◌++◌, length, decimal, Option, Some, None, nat_le, is_some, unwrap_or, if◌then◌else◌}
+use Rattle.std.specs.Prelude.{◌≡◌, ℕ, ◌^◌, ◌<◌, ◌≤◌, ◌==◌, Bool, true, false, ◌&&◌, ◌||◌, List, [], ◌∷◌, ◌++◌, length, decimal, Option, Some, None, nat_le, is_some, unwrap_or, if◌then◌else◌, nat_eq}
+use Rattle.std.specs.Cmp.Lexicographic.{pointwise}
 use Rattle.dm_table.specs.declared.request.TheConstants.{MOST_SECTORS}
 use Rattle.dm_table.specs.declared.request.Op.{Op}
 use Rattle.dm_table.specs.declared.request.Op.TheVariants.{Read, Write}
@@ -74,18 +75,17 @@ request_fault line =
     if has_form (fields line) then (if has_numbers (fields line) then (if has_length (fields line) then None else Some Length) else Some Number)
     else Some Form
 
--- the letter of a read
-abbrev pub is_read : List ℕ → Bool
-is_read (letter ∷ []) = letter == 82
-is_read _ = false
+-- What a line without a fault asks for
 
--- the values in the fields of a line, told where it has no fault
+-- a letter's operation
 abbrev pub op_in : List ℕ → Op
-op_in letter = if is_read letter then Read else Write
+op_in letter = if pointwise nat_eq letter (82 ∷ []) then Read else Write
 
+-- the values in four fields
 abbrev pub values_in : List (List ℕ) → RequestValues
 values_in (op ∷ device ∷ start ∷ len ∷ []) = record { op = op_in op; device = device; start = unwrap_or (number_of start) 0; len = unwrap_or (number_of len) 0 }
 values_in _ = record { op = Read; device = []; start = 0; len = 0 }
 
+-- the values that a line says
 abbrev pub request_values : List ℕ → RequestValues
 request_values line = values_in (fields line)

@@ -17,6 +17,7 @@ mod number;
 mod place;
 mod request;
 mod request_line;
+mod short_io;
 mod table;
 mod text_checks;
 
@@ -28,4 +29,5 @@ pub use name::{CheckFault, DiskName, Name};
 pub use place::{Part, Place};
 pub use request::{MOST_SECTORS, Op, Request, RequestFault};
 pub use request_line::parse_request;
+pub use short_io::{ShortIn, ShortOut};
 pub use table::{DevRef, DeviceSpec, Line, Table, Target};

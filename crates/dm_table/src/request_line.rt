@@ -101,11 +101,10 @@ pub fn parse_request<'a>(line: &'a [u8], number: u64) -> Result<Request<'a>, Req
     // What is accepted is what the line says.
     ensures accepted { IfOk result (λ request. DescribesRequest line.now (values_of request)) }
     ensures numbered { IfOk result (λ request. request.number ≡ number) }
+    ensures values { IfOk result (λ request. values_of request ≡ request_values line.now) }
     // What the line says is accepted, and it says one thing at most.
     ensures only { (values : RequestValues) → DescribesRequest line.now values → IsOkAnd result (λ request. values_of request ≡ values) }
     ensures unique { (a b : RequestValues) → DescribesRequest line.now a → DescribesRequest line.now b → a ≡ b }
-    // Where it is accepted, its values are those in its fields.
-    ensures values { IfOk result (λ request. values_of request ≡ request_values line.now) }
     // Else it is the first fault that applies.
     ensures fault { IfErr result (λ fault. request_fault line.now ≡ Some fault) }
     ensures sound { OnOk result (request_fault line.now ≡ None) }

@@ -1,6 +1,8 @@
+pub mod AnswerLemmas
 pub mod Growth
-pub mod LineParts
 pub mod Held
+pub mod LineParts
 pub mod Passes
+pub mod PieceLemmas
 pub mod Sound
 pub mod Turns

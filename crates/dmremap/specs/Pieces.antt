@@ -1,7 +1,7 @@
 -- Pieces: units in a row that go on from one another.
-use Rattle.std.specs.Prelude.{◌≡◌, ℕ, zero, suc, ◌<◌, List, [], ◌∷◌, ◌++◌, codes, decimal, if◌then◌else◌}
+use Rattle.std.specs.Prelude.{◌≡◌, ℕ, zero, suc, ◌+◌, ◌<◌, ◌==◌, ◌&&◌, Bool, true, false, List, [], ◌∷◌, ◌++◌, codes, decimal, if◌then◌else◌}
 use Rattle.std.specs.List.{flat_map, AllByRecursion}
-use Rattle.dmremap.specs.Units.{BlockUnit, ReadOf, WriteOf, Fails, next_unit, joins}
+use Rattle.dmremap.specs.Units.{BlockUnit, ReadOf, WriteOf, Fails, is_same, next_unit, joins}
 
 -- a unit, and how many go on from one another from it on, itself among them
 pub record Piece : Type 0 where
@@ -27,6 +27,18 @@ onto unit (piece ∷ pieces) =
 abbrev pub fewest : List BlockUnit → List Piece
 fewest [] = []
 fewest (unit ∷ units) = onto unit (fewest units)
+
+-- the unit goes on from a piece of len units
+abbrev pub is_after : BlockUnit → ℕ → BlockUnit → Bool
+is_after (ReadOf disk sector) len (ReadOf other next) = is_same disk other && next == sector + len
+is_after (ReadOf disk sector) len (WriteOf other next) = false
+is_after (ReadOf disk sector) len Fails = false
+is_after (WriteOf disk sector) len (ReadOf other next) = false
+is_after (WriteOf disk sector) len (WriteOf other next) = is_same disk other && next == sector + len
+is_after (WriteOf disk sector) len Fails = false
+is_after Fails len (ReadOf other next) = false
+is_after Fails len (WriteOf other next) = false
+is_after Fails len Fails = true
 
 -- the pieces have these units, and none is empty
 pub record ArePiecesOf (units : List BlockUnit) (pieces : List Piece) : Type 0 where

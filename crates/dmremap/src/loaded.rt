@@ -77,7 +77,6 @@ impl Loaded {
             // A sound description's only device is named by none of its lines.
             unreachable!()
         };
-        let disk = disk.as_str();
         let sector = *offset + (sector - line.start);
         match op {
             Op::Read => SectorUnit::Read { disk, sector },

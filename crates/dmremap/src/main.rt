@@ -6,6 +6,7 @@ mod join;
 mod line_buffer;
 mod lines;
 mod loaded;
+mod piece;
 mod run;
 mod soundness;
 mod unit;

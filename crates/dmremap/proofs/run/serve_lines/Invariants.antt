@@ -1,8 +1,7 @@
-use Rattle.std.proofs.Common.{◌≡◌, ◌+◌, ◌-◌, ◌≤◌, ◌++◌, List, ℕ}
-use Rattle.dm_table.specs.DeviceIo.{Stand, since}
-use Rattle.dmremap.specs.Lines.{line_parts}
-use Rattle.dmremap.specs.Outcome.{outcome_from, after_text}
+use Rattle.std.proofs.Common.{◌≡◌, ◌+◌, ◌-◌, ◌≤◌, ◌++◌}
+use Rattle.dm_table.specs.DeviceIo.{since}
 use Rattle.dmremap.specs.declared.run.TheConstants.{MOST_REQUESTS}
+use Rattle.dmremap.proofs.Turns.{Told}
 use Rattle.dmremap.proofs.run.serve_lines.Given as goal
 
 -- what is written so far, and then the outcome from the held bytes on, is that of all, whatever is still to come
@@ -10,7 +9,6 @@ abbrev pub invariant-lines : goal.invariant-lines
 invariant-lines g l =
     let handed = g.R.Input.handed in
     let written = g.W.Output.written in
-    let devices = l.fn.loaded.devices in
     record {
       few : l.number ≤ MOST_REQUESTS;
       reads : handed l.reader ≡ handed l.fn.reader ++ since (handed l.fn.reader) (handed l.reader);
@@ -19,8 +17,7 @@ invariant-lines g l =
       ends : g.R.Input.ends l.reader ≡ g.R.Input.ends l.fn.reader;
       write_faults : g.W.Output.faults l.writer ≡ g.W.Output.faults l.fn.writer;
       flushes : g.W.Output.flushes l.writer ≡ g.W.Output.flushes l.fn.writer;
-      told : (stand : Stand) (more : List ℕ) → outcome_from devices stand 1 (line_parts (since (handed l.fn.reader) (handed l.reader) ++ more))
-          ≡ after_text (since (written l.fn.writer) (written l.writer)) (outcome_from devices stand (l.number + 1) (line_parts (l.lines ++ more)));
+      told : Told l.fn.loaded.devices (since (handed l.fn.reader) (handed l.reader)) l.lines (since (written l.fn.writer) (written l.writer)) (l.number + 1);
     }
 
 abbrev pub decreases-lines : goal.decreases-lines

@@ -1,0 +1,26 @@
+-- A list that is handed out portion by portion, each copied to the front of a slice.
+use Rattle.std.proofs.Common.{◌≡◌, ◌≤◌, ◌+◌, ◌-◌, ◌++◌, ℕ, List, length, take, drop, sym, ap, ◌∙◌, arith, length-take-le, length-drop}
+use Rattle.std.proofs.Math.Seq.{take-add}
+use Rattle.std.proofs.lemmas.List.{take_at, take_all, take-append-drop, drop-drop}
+
+-- all that lies behind a place
+abbrev pub behind : List ℕ → ℕ → List ℕ
+behind bytes at = take (length bytes - at) (drop at bytes)
+
+pub behind_is : (bytes : List ℕ) (at : ℕ) → behind bytes at ≡ drop at bytes
+behind_is bytes at = take_all (length bytes - at) (drop at bytes) (omega (arith, length-drop at bytes))
+
+-- the front of a slice that begins with a portion is the portion
+pub front_is : (bytes portion tail : List ℕ) (at n : ℕ) → portion ≡ take n (behind bytes at) → n ≤ length (behind bytes at)
+    → take n (portion ++ tail) ≡ take n (drop at bytes)
+front_is bytes portion tail at n e fits =
+    take_at portion tail n (ap length e ∙ length-take-le n (behind bytes at) fits) ∙ e ∙ ap (λ xs. take n xs) (behind_is bytes at)
+
+-- what was handed out grows by the portion
+pub handed_grows : (bytes given : List ℕ) (at n : ℕ) → given ≡ take n (drop at bytes) → take (at + n) bytes ≡ take at bytes ++ given
+handed_grows bytes given at n e = take-add at n bytes ∙ ap (λ xs. take at bytes ++ xs) (sym e)
+
+-- what is left loses the portion
+pub left_shrinks : (bytes given : List ℕ) (at n : ℕ) → given ≡ take n (drop at bytes) → drop at bytes ≡ given ++ drop (at + n) bytes
+left_shrinks bytes given at n e =
+    sym (take-append-drop n (drop at bytes)) ∙ ap (λ xs. xs ++ drop n (drop at bytes)) (sym e) ∙ ap (λ xs. given ++ xs) (drop-drop n at bytes)
