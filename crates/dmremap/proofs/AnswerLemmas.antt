@@ -1,8 +1,7 @@
 -- The answer to a request, one unit at a time.
-use Rattle.std.proofs.Common.{◌≡◌, ℕ, zero, suc, ◌+◌, ◌-◌, ◌≤◌, ◌<◌, Bool, true, false, cond, List, Result, Ok, Err, [], ◌∷◌, ◌++◌, length, drop, refl, sym, ap, subst, ◌∙◌, append_assoc, add-one, arith}
+use Rattle.std.proofs.Common.{◌≡◌, ℕ, zero, suc, ◌+◌, ◌-◌, ◌≤◌, ◌<◌, Bool, true, false, cond, List, Result, Ok, Err, [], ◌∷◌, ◌++◌, refl, sym, ap, ◌∙◌, append_assoc, add-one, arith}
 use Rattle.std.specs.Prelude.{replicate, nat_lt, OnOk}
 use Rattle.std.proofs.lemmas.Bool.{lt-ltb, le-ltb}
-use Rattle.std.specs.List.{flat_map}
 use Rattle.std.proofs.lemmas.List.{append-nil}
 use Rattle.dm_table.specs.declared.table.DeviceSpec.{DeviceSpec}
 use Rattle.dm_table.specs.declared.request.Op.{Op}
@@ -95,12 +94,12 @@ told_last devices op name start distance len number zero all old mid new first o
 told_last devices op name start distance len number (suc held) all old mid new first over some e f wrote told =
     let none : len - distance ≡ 0 = omega arith in
     sym (
-      told
-      ∙ ap (λ (n : ℕ). since old mid ++ pieces_text number (fewest (run first (suc held) ++ units_from devices op name (start + distance) n))) none
-      ∙ ap (λ (us : List BlockUnit). since old mid ++ pieces_text number (fewest us)) (append-nil (run first (suc held)))
-      ∙ ap (λ (ps : List Piece). since old mid ++ pieces_text number ps) (fewest-run first held)
-      ∙ ap (λ (xs : List ℕ). since old mid ++ xs) (append-nil (piece_text number (record { first = first; len = suc held })) ∙ sym wrote)
-      ∙ sym (since-more old mid new e f)
+    told
+    ∙ ap (λ (n : ℕ). since old mid ++ pieces_text number (fewest (run first (suc held) ++ units_from devices op name (start + distance) n))) none
+    ∙ ap (λ (us : List BlockUnit). since old mid ++ pieces_text number (fewest us)) (append-nil (run first (suc held)))
+    ∙ ap (λ (ps : List Piece). since old mid ++ pieces_text number ps) (fewest-run first held)
+    ∙ ap (λ (xs : List ℕ). since old mid ++ xs) (append-nil (piece_text number (record { first = first; len = suc held })) ∙ sym wrote)
+    ∙ sym (since-more old mid new e f)
     )
 
 -- units that all fail are one piece

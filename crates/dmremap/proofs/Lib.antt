@@ -6,3 +6,4 @@ pub mod LineParts
 pub mod Passes
 pub mod PieceLemmas
 pub mod Sound
+pub mod Turns

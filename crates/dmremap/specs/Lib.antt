@@ -5,6 +5,7 @@ pub mod Mapping
 pub mod Outcome
 pub mod PieceView
 pub mod Pieces
+pub mod Run
 pub mod Soundness
 pub mod Units
 pub mod Words

@@ -1,4 +1,4 @@
-use Rattle.std.proofs.Common.{◌≡◌, ◌∙◌, ◌<◌, ◌+◌, sym, arith, rules}
+use Rattle.std.proofs.Common.{◌∙◌, ◌<◌, ◌+◌, arith, rules}
 use Rattle.dm_table.specs.RequestLine.{values_of}
 use Rattle.dmremap.specs.Units.{unit_view}
 use Rattle.dmremap.specs.PieceView.{piece_view}
@@ -35,7 +35,7 @@ loop-distance-preserved g c =
       some = c.in_ok-held.ensures.len.0;
       few = omega (arith, c.in_ok-held.ensures.len.1);
       told = told_more c.args.loaded.now.devices asked.op asked.device.now asked.start c.loop-distance.distance asked.len asked.number _
-      (written c.args.writer.now) (written c.loop-distance.writer) (written c.join.new.writer) (piece_view c.loop-distance.held) (piece_view c.in_ok-held.held) (unit_view c.unit_at-unit.result) c.loop-distance-test.true c.unit_at-unit.ensures so_far.appends c.in_ok-held.ensures.appends c.in_ok-held.ensures.told so_far.told;
+          (written c.args.writer.now) (written c.loop-distance.writer) (written c.join.new.writer) (piece_view c.loop-distance.held) (piece_view c.in_ok-held.held) (unit_view c.unit_at-unit.result) c.loop-distance-test.true c.unit_at-unit.ensures so_far.appends c.in_ok-held.ensures.appends c.in_ok-held.ensures.told so_far.told;
       appends = appends-more (written c.args.writer.now) (written c.loop-distance.writer) (written c.join.new.writer) so_far.appends c.in_ok-held.ensures.appends;
       faults = omega (arith, c.in_ok-held.ensures.faults, so_far.faults);
       flushes = c.in_ok-held.ensures.flushes ∙ so_far.flushes;

@@ -16,8 +16,8 @@ invariant-loop-distance g l =
       some : 1 ≤ l.held.len;
       few : l.held.len ≤ l.distance;
       told : pieces_text number (fewest (units_from devices asked.op asked.device.now asked.start asked.len))
-      ≡ since (written l.fn.writer) (written l.writer)
-      ++ pieces_text number (fewest (run (unit_view l.held.first) l.held.len ++ units_from devices asked.op asked.device.now (asked.start + l.distance) (asked.len - l.distance)));
+          ≡ since (written l.fn.writer) (written l.writer)
+          ++ pieces_text number (fewest (run (unit_view l.held.first) l.held.len ++ units_from devices asked.op asked.device.now (asked.start + l.distance) (asked.len - l.distance)));
       appends : written l.writer ≡ written l.fn.writer ++ since (written l.fn.writer) (written l.writer);
       faults : g.W.Output.faults l.writer ≡ g.W.Output.faults l.fn.writer;
       flushes : g.W.Output.flushes l.writer ≡ g.W.Output.flushes l.fn.writer;
