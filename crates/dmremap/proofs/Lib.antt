@@ -7,3 +7,4 @@ pub mod Passes
 pub mod PieceLemmas
 pub mod Sound
 pub mod Turns
+pub mod FateLemmas

@@ -14,3 +14,4 @@ pub mod Load
 pub mod Messages
 pub mod Parts
 pub mod Whole
+pub mod Fate

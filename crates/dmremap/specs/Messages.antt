@@ -6,6 +6,8 @@ use Rattle.dm_table.specs.declared.load_fault.LoadKind.{LoadKind}
 use Rattle.dm_table.specs.declared.load_fault.LoadKind.TheVariants as kinds
 use Rattle.dm_table.specs.declared.load_fault.LoadFault.{LoadFault}
 use Rattle.dmremap.specs.WriteAll.{IsBeginning}
+use Rattle.dmremap.specs.declared.ending.Ending.{Ending}
+use Rattle.dmremap.specs.declared.ending.Ending.TheVariants as endings
 use Rattle.dmremap.specs.declared.ending.RequestWord.{RequestWord}
 use Rattle.dmremap.specs.declared.ending.RequestWord.TheVariants as words
 
@@ -78,6 +80,25 @@ read_message = codes "dmremap: requests: read\n"
 
 abbrev pub write_message : List ℕ
 write_message = codes "dmremap: output: write\n"
+
+-- the message of an ending: none where all requests were answered
+abbrev pub ending_message : Ending → List ℕ
+ending_message endings.Done = []
+ending_message (endings.BadRequest number word) = request_message number word
+ending_message endings.ReadFault = read_message
+ending_message endings.WriteFault = write_message
+
+-- the exit status of an ending
+abbrev pub ending_status : Ending → ℕ
+ending_status endings.Done = 0
+ending_status (endings.BadRequest number word) = 3
+ending_status endings.ReadFault = 4
+ending_status endings.WriteFault = 5
+
+-- the exit status of a refused load
+abbrev pub load_status : LoadKind → ℕ
+load_status kinds.Memory = 6
+load_status kind = 1
 
 -- the message was written whole, or a beginning of it where its stream failed
 pub record IsTold (message written : List ℕ) (faults_old faults_new : ℕ) : Type 0 where

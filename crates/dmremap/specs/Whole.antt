@@ -3,11 +3,10 @@ use Rattle.std.specs.Prelude.{◌≡◌, ℕ, List, [], Option, None, Some}
 use Rattle.dm_table.specs.declared.place.Part.TheVariants.{Source, Disks}
 use Rattle.dm_table.specs.DeviceIo.{Delivery}
 use Rattle.dmremap.specs.declared.ending.Ending.{Ending}
-use Rattle.dmremap.specs.declared.ending.Ending.TheVariants as endings
 use Rattle.dmremap.specs.Parts.{part_read}
 use Rattle.dmremap.specs.Load.{Load, RefusedBy, SoundAs, PartsGive}
 use Rattle.dmremap.specs.Outcome.{Outcome, run_outcome}
-use Rattle.dmremap.specs.Messages.{load_message, request_message, read_message, write_message}
+use Rattle.dmremap.specs.Messages.{load_message, ending_message, ending_status}
 
 -- what a run gives
 pub record Whole : Type 0 where
@@ -15,12 +14,9 @@ pub record Whole : Type 0 where
   pub message : List ℕ
   pub status : ℕ
 
--- how a run ends, where the output did not fail
+-- how a run ends
 abbrev pub ended : List ℕ → Ending → Whole
-ended output endings.Done = record { output = output; message = []; status = 0 }
-ended output (endings.BadRequest number word) = record { output = output; message = request_message number word; status = 3 }
-ended output endings.ReadFault = record { output = output; message = read_message; status = 4 }
-ended output endings.WriteFault = record { output = output; message = write_message; status = 5 }
+ended output ending = record { output = output; message = ending_message ending; status = ending_status ending }
 
 -- the same where the ending may not be settled yet
 abbrev pub ended_if : List ℕ → Option Ending → Option Whole

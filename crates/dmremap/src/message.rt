@@ -5,9 +5,9 @@
 
 ghost use Rattle.std.specs.Prelude.{◌≡◌, ◌≤◌, length};
 ghost use Rattle.dm_table.specs.DeviceIo.{since};
-ghost use Rattle.dmremap.specs.Messages.{IsTold, part_word, kind_word, request_word, load_message, request_message};
+ghost use Rattle.dmremap.specs.Messages.{IsTold, part_word, kind_word, request_word, load_message, request_message, ending_message};
 
-use crate::ending::RequestWord;
+use crate::ending::{Ending, RequestWord};
 use crate::fixed_text::{put, put_number};
 use crate::write_all::write_all;
 use arrayvec::ArrayVec;
@@ -47,8 +47,22 @@ pub(crate) fn load_message(fault: LoadFault) -> Message
     text
 }
 
+/// The message of an ending: empty where all requests were answered.
+pub(crate) fn ending_message(ending: Ending) -> Message
+    ensures { result.items ≡ ending_message ending }
+{
+    let mut text = ArrayVec::new();
+    match ending {
+        Ending::Done => {}
+        Ending::BadRequest(number, word) => return request_message(number, word),
+        Ending::ReadFault => put(&mut text, b"dmremap: requests: read\n"),
+        Ending::WriteFault => put(&mut text, b"dmremap: output: write\n"),
+    }
+    text
+}
+
 /// The message of a bad request.
-pub(crate) fn request_message(number: u64, word: RequestWord) -> Message
+fn request_message(number: u64, word: RequestWord) -> Message
     ensures { result.items ≡ request_message number word }
 {
     let mut text = ArrayVec::new();

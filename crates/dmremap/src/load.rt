@@ -1,0 +1,60 @@
+//! The load: both parts are read, then their texts, then what they describe is checked.
+//!
+//! Nothing is kept of a refused load. The order here is the order of the refusals: a part that was
+//! not read goes before any text, the source's text before the disk list's, and the texts before
+//! what they describe.
+
+ghost use Rattle.std.specs.Prelude.{◌≡◌, ◌≢◌, IfOk, IfErr, IsSome};
+ghost use Rattle.dm_table.specs.DeviceIo.{delivery};
+ghost use Rattle.dm_table.specs.declared.place.Part.TheVariants.{Source, Disks};
+ghost use Rattle.dm_table.specs.declared.load_fault.LoadKind.TheVariants.{Memory};
+ghost use Rattle.dmremap.specs.Parts.{part_read, delivery_if, TextOf, Refuses};
+ghost use Rattle.dmremap.specs.Load.{PartsGive, TextsGive, RefusedBy, SoundAs};
+
+use crate::loaded::Loaded;
+use crate::source::read_part;
+use dm_table::{Input, LoadFault, Part, parse_disks, parse_table};
+use std::alloc::Global;
+
+/// What the table text and the disk list give.
+///
+/// `Memory` only for want of it; else the first fault of the first check that finds any.
+pub(crate) fn load<S: Input, D: Input>(
+    alloc: Global,
+    source: &mut S,
+    disks: &mut Option<D>,
+) -> Result<Loaded, LoadFault>
+    requires { IsSome disks.old }
+    ensures sound { IfOk result (λ loaded. PartsGive
+        (part_read Source (delivery S.handed S.faults S.ends source.old source.new))
+        (part_read Disks (delivery_if D.handed D.faults D.ends disks.old disks.new)) (SoundAs loaded)) }
+    ensures refused { IfErr result (λ fault. fault.kind ≢ Memory → PartsGive
+        (part_read Source (delivery S.handed S.faults S.ends source.old source.new))
+        (part_read Disks (delivery_if D.handed D.faults D.ends disks.old disks.new)) (RefusedBy fault)) }
+{
+    let source = read_part(alloc, Part::Source, source)?;
+    let disks = read_disks(alloc, disks)?;
+    load_texts(alloc, &source, &disks)
+}
+
+/// The text of a disk list that is there.
+fn read_disks<D: Input>(alloc: Global, disks: &mut Option<D>) -> Result<Vec<u8>, LoadFault>
+    requires { IsSome disks.old }
+    ensures text { IfOk result (λ text. part_read Disks (delivery_if D.handed D.faults D.ends disks.old disks.new) ≡ TextOf text.items) }
+    ensures refused { IfErr result (λ fault. fault.kind ≢ Memory → part_read Disks (delivery_if D.handed D.faults D.ends disks.old disks.new) ≡ Refuses fault) }
+{
+    match disks {
+        Some(input) => read_part(alloc, Part::Disks, input),
+        None => unreachable!(),
+    }
+}
+
+/// What two texts give.
+fn load_texts(alloc: Global, source: &[u8], list: &[u8]) -> Result<Loaded, LoadFault>
+    ensures sound { IfOk result (λ loaded. TextsGive source.now list.now (SoundAs loaded)) }
+    ensures refused { IfErr result (λ fault. fault.kind ≢ Memory → TextsGive source.now list.now (RefusedBy fault)) }
+{
+    let devices = parse_table(alloc, source)?;
+    let disks = parse_disks(alloc, list)?;
+    Loaded::new(alloc, devices, disks)
+}

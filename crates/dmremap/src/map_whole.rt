@@ -1,0 +1,142 @@
+//! The whole way, from a source, a disk list and requests to the output and a message.
+//!
+//! What comes out goes by the bytes that were delivered and by nothing else; its contract is the
+//! promise that the program makes. `main` hands in the real files and streams, tests hand in memory.
+
+ghost use Rattle.std.specs.Prelude.{◌≡◌, ◌≢◌, ◌+◌, ◌<◌, ◌≤◌, ◌++◌, ◌↔◌, [], List, ℕ, false, is_some, IsSome};
+ghost use Rattle.dm_table.specs.DeviceIo.{delivery, since};
+ghost use Rattle.dmremap.specs.Parts.{delivery_if};
+ghost use Rattle.dmremap.specs.Messages.{IsTold, memory_message, write_message};
+ghost use Rattle.dmremap.specs.Whole.{GiveWhole};
+ghost use Rattle.dmremap.specs.Fate.{IsFated, IsFlushed, fate_status, fate_message};
+ghost use Rattle.dmremap.specs.Words.{has_disk_list};
+
+use crate::ending::Ending;
+use crate::load::load;
+use crate::message::{Message, ending_message, load_message, tell};
+use crate::run::run;
+use crate::words::Format;
+use dm_table::{Input, LoadFault, LoadKind, Output};
+use std::alloc::Global;
+
+/// How the whole way went.
+#[derive(Clone, Copy)]
+pub(crate) enum Fate {
+    /// The load was refused, and nothing was written.
+    Refused(LoadFault),
+    /// The requests were answered, up to this ending.
+    Ran(Ending),
+}
+
+/// Maps requests through a table to its disks: reads the source and the disk list whole, checks
+/// them, and writes for each request the pieces that it touches. It answers the exit status.
+///
+/// | Status | When |
+/// |---|---|
+/// | 0 | all requests were answered |
+/// | 1 | the source or the disk list was refused; nothing was written or flushed |
+/// | 3 | a request was bad; those before it were answered |
+/// | 4 | reading requests failed; those before were answered |
+/// | 5 | writing or flushing the output failed |
+/// | 6 | memory ran out while loading; nothing was written or flushed |
+///
+/// At most one message is written, after the output was flushed. A refused load has the message of
+/// its first fault. No memory is taken once the load is done.
+///
+/// Cost: near-linear in the source and the disk list; then in the requests, and for each request
+/// in its sectors times the lines of its device.
+pub fn map_whole<S: Input, D: Input, Q: Input, W: Output, M: Output>(
+    alloc: Global,
+    format: Format,
+    status: bool,
+    source: &mut S,
+    disks: &mut Option<D>,
+    requests: &mut Q,
+    output: &mut W,
+    messages: &mut M,
+) -> u8
+    requires unflagged { status ≡ false }
+    requires disks { is_some disks.old ≡ has_disk_list format }
+
+    // Save where the output failed or memory ran out, all is what the deliveries give.
+    ensures whole { result ≢ 5 → result ≢ 6 → (message : List ℕ) × GiveWhole
+        (delivery S.handed S.faults S.ends source.old source.new)
+        (delivery_if D.handed D.faults D.ends disks.old disks.new)
+        (delivery Q.handed Q.faults Q.ends requests.old requests.new)
+        (record { output = since (W.written output.old) (W.written output.new); message = message; status = result })
+        × IsTold message (since (M.written messages.old) (M.written messages.new)) (M.faults messages.old) (M.faults messages.new) }
+
+    // The output failed in the call: that goes before all else.
+    ensures write_fault { W.faults output.old < W.faults output.new ↔ (result ≡ 5) }
+    ensures write_message { result ≡ 5 → IsTold write_message
+        (since (M.written messages.old) (M.written messages.new)) (M.faults messages.old) (M.faults messages.new) }
+
+    // Memory ran out: nothing was written.
+    ensures memory { result ≡ 6 → (since (W.written output.old) (W.written output.new) ≡ [])
+        × IsTold memory_message (since (M.written messages.old) (M.written messages.new)) (M.faults messages.old) (M.faults messages.new) }
+
+    // Reading requests failed in the call.
+    ensures read_fault { result ≡ 4 → Q.faults requests.old < Q.faults requests.new }
+
+    // The output only grows. It is flushed once, at the end; not at all where the load was refused.
+    ensures appends { W.written output.new ≡ W.written output.old ++ since (W.written output.old) (W.written output.new) }
+    ensures flushed { result ≢ 1 → result ≢ 5 → result ≢ 6 →
+        (W.waiting output.new ≡ []) × (W.flushes output.new ≡ W.flushes output.old + 1) }
+    ensures refused { result ≡ 1 → W.flushes output.new ≡ W.flushes output.old }
+    ensures unloaded { result ≡ 6 → W.flushes output.new ≡ W.flushes output.old }
+    ensures once { W.flushes output.new ≤ W.flushes output.old + 1 }
+{
+    let _ = status;
+    let fate = match format {
+        Format::Table => load_and_run(alloc, source, disks, requests, output),
+    };
+    tell(messages, fate_message(fate).as_slice());
+    status_of(fate)
+}
+
+/// All but the message.
+fn load_and_run<S: Input, D: Input, Q: Input, W: Output>(
+    alloc: Global,
+    source: &mut S,
+    disks: &mut Option<D>,
+    requests: &mut Q,
+    output: &mut W,
+) -> Fate
+    requires { IsSome disks.old }
+    ensures fated { IsFated
+        (delivery S.handed S.faults S.ends source.old source.new)
+        (delivery_if D.handed D.faults D.ends disks.old disks.new)
+        (delivery Q.handed Q.faults Q.ends requests.old requests.new)
+        (since (W.written output.old) (W.written output.new)) result }
+    ensures appends { W.written output.new ≡ W.written output.old ++ since (W.written output.old) (W.written output.new) }
+    ensures write_fault { W.faults output.old < W.faults output.new ↔ (fate_status result ≡ 5) }
+    ensures read_fault { fate_status result ≡ 4 → Q.faults requests.old < Q.faults requests.new }
+    ensures flushes { IsFlushed result (W.waiting output.new) (W.flushes output.old) (W.flushes output.new) }
+{
+    match load(alloc, source, disks) {
+        Ok(loaded) => Fate::Ran(run(&loaded, requests, output)),
+        Err(fault) => Fate::Refused(fault),
+    }
+}
+
+/// The message of a fate: none where all requests were answered.
+fn fate_message(fate: Fate) -> Message
+    ensures { result.items ≡ fate_message fate }
+{
+    match fate {
+        Fate::Refused(fault) => load_message(fault),
+        Fate::Ran(ending) => ending_message(ending),
+    }
+}
+
+fn status_of(fate: Fate) -> u8
+    ensures { result ≡ fate_status fate }
+{
+    match fate {
+        Fate::Refused(fault) => { if fault.kind == LoadKind::Memory { 6 } else { 1 } }
+        Fate::Ran(Ending::Done) => 0,
+        Fate::Ran(Ending::BadRequest(_, _)) => 3,
+        Fate::Ran(Ending::ReadFault) => 4,
+        Fate::Ran(Ending::WriteFault) => 5,
+    }
+}
