@@ -8,3 +8,4 @@ pub mod PieceLemmas
 pub mod Sound
 pub mod Turns
 pub mod FateLemmas
+pub mod FewestLemmas
