@@ -1,2 +1,5 @@
 pub mod Passes
+pub mod FirstFaults
+pub mod NameLemmas
 pub mod Sound
+pub mod Found

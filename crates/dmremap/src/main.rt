@@ -1,7 +1,10 @@
 //! dmremap.
 #![tactic(auto)]
 
+mod layout;
+mod limits;
 mod loaded;
+mod names;
 mod soundness;
 mod unit;
 

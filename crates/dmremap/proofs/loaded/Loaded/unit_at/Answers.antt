@@ -34,11 +34,11 @@ returns-in-Read c =
     let named : device_named c.args.self.now.devices c.args.device.now ≡ Some c.in-Some.device.now = sym c.in-Some.ensures.device in
     let at : line_of c.in-Some.device.now.lines c.args.sector ≡ Some c.in-Some-line_of.line.now = rw (← c.as_slice.ensures) (sym c.in-Some-line_of.ensures) in
     let target : c.in-Some-line_of.line.now.target ≡ Linear (Disk c.in-Disk.disk) c.in-Linear.offset = cc in
-    rw (c.as_str-disk.ensures, c.in-Read.is) (sym (read_at c.args.self.now.devices c.args.device.now c.args.sector _ _ _ _ named at target))
+    rw (c.as_str-disk.ensures.text, c.in-Read.is) (sym (read_at c.args.self.now.devices c.args.device.now c.args.sector _ _ _ _ named at target))
 
 pub returns-in-Write-2 : goal.returns-in-Write-2
 returns-in-Write-2 c =
     let named : device_named c.args.self.now.devices c.args.device.now ≡ Some c.in-Some.device.now = sym c.in-Some.ensures.device in
     let at : line_of c.in-Some.device.now.lines c.args.sector ≡ Some c.in-Some-line_of.line.now = rw (← c.as_slice.ensures) (sym c.in-Some-line_of.ensures) in
     let target : c.in-Some-line_of.line.now.target ≡ Linear (Disk c.in-Disk.disk) c.in-Linear.offset = cc in
-    rw (c.as_str-disk.ensures, c.in-Write.is) (sym (write_at c.args.self.now.devices c.args.device.now c.args.sector _ _ _ _ named at target c.if-device.false))
+    rw (c.as_str-disk.ensures.text, c.in-Write.is) (sym (write_at c.args.self.now.devices c.args.device.now c.args.sector _ _ _ _ named at target c.if-device.false))
