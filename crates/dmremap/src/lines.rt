@@ -25,7 +25,7 @@ pub(crate) enum Next<'a> {
     End,
     /// A clean end behind bytes without a newline.
     Unended,
-    /// More than 4,096 bytes without a newline.
+    /// A line of more than 4,096 bytes, or so many without a newline yet.
     Long,
     /// The input failed before the next line was whole.
     ReadFault,
