@@ -8,6 +8,7 @@ pub mod Growth
 pub mod Held
 pub mod LineParts
 pub mod NameLemmas
+pub mod OneWhole
 pub mod Passes
 pub mod PieceLemmas
 pub mod Sound
