@@ -108,6 +108,8 @@ pub fn parse_request<'a>(line: &'a [u8], number: u64) -> Result<Request<'a>, Req
     // Else it is the first fault that applies.
     ensures fault { IfErr result (λ fault. request_fault line.now ≡ Some fault) }
     ensures sound { OnOk result (request_fault line.now ≡ None) }
+    // The figure of the limit.
+    ensures limit { MOST_SECTORS ≡ 1048576 }
 {
     let Some(cut) = request_fields(line) else {
         return Err(RequestFault::Form);

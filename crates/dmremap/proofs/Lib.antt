@@ -9,6 +9,7 @@ pub mod Held
 pub mod LineParts
 pub mod LoadLemmas
 pub mod NameLemmas
+pub mod OneWhole
 pub mod Passes
 pub mod PieceLemmas
 pub mod Sound

@@ -4,7 +4,7 @@
 //! promise that the program makes. `main` hands in the real files and streams, tests hand in memory.
 
 ghost use Rattle.std.specs.Prelude.{◌≡◌, ◌≢◌, ◌+◌, ◌<◌, ◌≤◌, ◌^◌, ◌++◌, ◌↔◌, [], List, ℕ, false, is_some, IsSome};
-ghost use Rattle.dm_table.specs.DeviceIo.{delivery, since};
+ghost use Rattle.dm_table.specs.DeviceIo.{Delivery, delivery, since};
 ghost use Rattle.dm_table.specs.declared.place.Part.TheVariants.{Source, Disks};
 ghost use Rattle.dmremap.specs.Load.{PartsGive, SoundAs};
 ghost use Rattle.dmremap.specs.Loaded.{Description};
@@ -14,7 +14,9 @@ ghost use Rattle.dmremap.specs.declared.run.TheConstants.{MOST_REQUESTS};
 ghost use Rattle.dmremap.specs.declared.soundness.TheConstants.{MOST_DEVICES, MOST_DISKS, MOST_LENGTH, MOST_LINES};
 ghost use Rattle.dmremap.specs.declared.source.TheConstants.{MOST_PART_BYTES};
 ghost use Rattle.dmremap.specs.Messages.{IsTold, memory_message, write_message};
-ghost use Rattle.dmremap.specs.Whole.{GiveWhole};
+ghost use Rattle.dmremap.specs.Whole.{Whole, GiveWhole};
+ghost use Rattle.dmremap.specs.Units.{BlockUnit};
+ghost use Rattle.dmremap.specs.Pieces.{AreFewest, fewest};
 ghost use Rattle.dmremap.specs.Fate.{IsFated, IsFlushed, OnRefused, fate_status, fate_message};
 ghost use Rattle.dmremap.specs.Words.{has_disk_list};
 
@@ -64,6 +66,11 @@ pub fn map_whole<S: Input, D: Input, Q: Input, W: Output, M: Output>(
 ) -> u8
     requires unflagged { status ≡ false }
     requires disks { is_some disks.old ≡ has_disk_list format }
+
+    // What the deliveries give is one run.
+    ensures one { (s d q : Delivery) (a b : Whole) → GiveWhole s d q a → GiveWhole s d q b → a ≡ b }
+    // The pieces of an answer are the fewest that its units can be made of.
+    ensures fewest { (units : List BlockUnit) → AreFewest units (fewest units) }
 
     // Save where the output failed or memory ran out, all is what the deliveries give.
     ensures whole { result ≢ 5 → result ≢ 6 → (message : List ℕ) × GiveWhole

@@ -5,6 +5,8 @@ use Rattle.dmremap.specs.Messages.{IsTold}
 use Rattle.dmremap.specs.Fate.{fate_message, fate_status}
 use Rattle.dmremap.specs.Whole.{GiveWhole}
 use Rattle.dmremap.proofs.FateLemmas.{whole_at, sound_at_five, unasked_one, unasked_six}
+use Rattle.dmremap.proofs.OneWhole.{one_whole}
+use Rattle.dmremap.proofs.FewestLemmas.{fewest_is}
 use Rattle.dmremap.proofs.map_whole.map_whole.Goals as goal
 
 pub returns-clause-whole : goal.returns-clause-whole
@@ -29,3 +31,10 @@ returns-clause-unasked g c = λ one. unasked_one c.load_and_run-fate.result _ c.
 
 pub returns-clause-unasked_memory : goal.returns-clause-unasked_memory
 returns-clause-unasked_memory g c = λ six. unasked_six c.load_and_run-fate.result _ c.load_and_run-fate.ensures.unasked (sym c.status_of.ensures ∙ six)
+
+-- The clauses that speak of no run are laws of the definitions.
+pub returns-clause-one : goal.returns-clause-one
+returns-clause-one g c = one_whole
+
+pub returns-clause-fewest : goal.returns-clause-fewest
+returns-clause-fewest g c = fewest_is

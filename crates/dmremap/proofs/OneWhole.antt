@@ -1,0 +1,83 @@
+-- What is delivered gives one run: the texts describe one description at the most, and none where a check of the texts finds a fault.
+use Rattle.std.proofs.Common.{◌≡◌, ◌⊎◌, inl, inr, ℕ, List, [], ◌∷◌, ◌++◌, Option, Some, None, sym, ap, ◌∙◌}
+use Rattle.dm_table.specs.declared.table.DeviceSpec.{DeviceSpec}
+use Rattle.dm_table.specs.declared.disk.Disk.{Disk}
+use Rattle.dm_table.specs.declared.place.Part.TheVariants.{Source, Disks}
+use Rattle.dm_table.specs.declared.load_fault.LoadFault.{LoadFault}
+use Rattle.dm_table.specs.LoadFault.{first_or, first_fault}
+use Rattle.dm_table.specs.TableText.{table_checks}
+use Rattle.dm_table.specs.DiskList.{disk_checks}
+use Rattle.dm_table.specs.DeviceIo.{Delivery}
+use Rattle.dm_table.proofs.FaultLemmas.{first_or-none}
+use Rattle.dm_table.proofs.TableDescribed.{again, one_description}
+use Rattle.dm_table.proofs.DiskLemmas.{read_disks-described, read_disks-ok, DescribesDisks-unique}
+use Rattle.dmremap.specs.Parts.{PartRead, TextOf, Refuses, Unread, part_read}
+use Rattle.dmremap.specs.Soundness.{load_checks}
+use Rattle.dmremap.specs.Loaded.{Description}
+use Rattle.dmremap.specs.Load.{Load, RefusedBy, SoundAs, Describes, GivesFault, TextsGive, PartsGive}
+use Rattle.dmremap.specs.Whole.{Whole, whole_of, GiveWhole}
+
+-- What two texts describe
+
+abbrev described_as : List DeviceSpec → List Disk → Description
+described_as devices disks = record { devices = devices; disks = disks }
+
+pub one_description_of : (source list : List ℕ) (a b : Description) → Describes source list a → Describes source list b → a ≡ b
+one_description_of source list a b is_a is_b =
+    ap (λ (devices : List DeviceSpec). described_as devices a.disks) (one_description source a.devices b.devices is_a.table is_b.table)
+    ∙ ap (described_as b.devices) (DescribesDisks-unique list a.disks b.disks is_a.disks is_b.disks)
+
+-- checks of which none finds anything, before others of which none does
+none_both : (checks more : List (List LoadFault)) → first_fault checks ≡ None → first_fault more ≡ None → first_fault (checks ++ more) ≡ None
+none_both [] more a b = b
+none_both (check ∷ checks) more a b =
+    let first = first_or-none check (first_fault checks) a in
+    ap (λ (found : List LoadFault). first_or found (first_fault (checks ++ more))) first.0 ∙ none_both checks more first.1 b
+
+-- no check of the texts finds a fault in texts that describe something
+pub no_fault_of_texts : (source list : List ℕ) (description : Description) → Describes source list description → first_fault (table_checks source ++ disk_checks list) ≡ None
+no_fault_of_texts source list description is =
+    none_both (table_checks source) (disk_checks list) (again source description.devices is.table).0
+    (read_disks-ok list description.disks (read_disks-described list description.disks is.disks)).0
+
+-- What they give
+
+-- what the checks of a description find first
+abbrev found_in : Description → Option LoadFault
+found_in description = first_fault (load_checks description.devices description.disks)
+
+-- two descriptions of the same texts have the same first fault, or none
+same_found : (source list : List ℕ) (a b : Description) → Describes source list a → Describes source list b → found_in a ≡ found_in b
+same_found source list a b is_a is_b = ap found_in (one_description_of source list a b is_a is_b)
+
+one_fault : (source list : List ℕ) (f g : LoadFault) → GivesFault source list f → GivesFault source list g → f ≡ g
+one_fault source list f g (inl a) (inl b) = cc
+one_fault source list f g (inl a) (inr b) = let none = no_fault_of_texts source list b.0 b.1 in absurd cc
+one_fault source list f g (inr a) (inl b) = let none = no_fault_of_texts source list a.0 a.1 in absurd cc
+one_fault source list f g (inr a) (inr b) = let same = same_found source list a.0 b.0 a.1 b.1 in cc (a.2, b.2)
+
+-- texts that describe what is sound give no fault
+no_fault : (source list : List ℕ) (f : LoadFault) (description : Description) → GivesFault source list f → Describes source list description → found_in description ≡ None → ⊥
+no_fault source list f description (inl a) is sound = let none = no_fault_of_texts source list description is in cc
+no_fault source list f description (inr a) is sound = let same = same_found source list a.0 description a.1 is in cc a.2
+
+one_of_texts : (source list : List ℕ) (a b : Load) → TextsGive source list a → TextsGive source list b → a ≡ b
+one_of_texts source list (RefusedBy f) (RefusedBy g) is_a is_b = ap RefusedBy (one_fault source list f g is_a is_b)
+one_of_texts source list (RefusedBy f) (SoundAs b) is_a is_b = absurd (no_fault source list f b is_a is_b.0 is_b.1)
+one_of_texts source list (SoundAs a) (RefusedBy g) is_a is_b = absurd (no_fault source list g a is_b is_a.0 is_a.1)
+one_of_texts source list (SoundAs a) (SoundAs b) is_a is_b = ap SoundAs (one_description_of source list a b is_a.0 is_b.0)
+
+pub one_load : (source list : PartRead) (a b : Load) → PartsGive source list a → PartsGive source list b → a ≡ b
+one_load (Refuses fault) list a b is_a is_b = is_a ∙ sym is_b
+one_load (TextOf source) (Refuses fault) a b is_a is_b = is_a ∙ sym is_b
+one_load (TextOf source) (TextOf list) a b is_a is_b = one_of_texts source list a b is_a is_b
+one_load (TextOf source) Unread a b is_a is_b = absurd is_a
+one_load Unread list a b is_a is_b = absurd is_a
+
+-- What the run gives
+
+pub one_whole : (source disks requests : Delivery) (a b : Whole) → GiveWhole source disks requests a → GiveWhole source disks requests b → a ≡ b
+one_whole source disks requests a b is_a is_b =
+    let same = one_load (part_read Source source) (part_read Disks disks) is_a.load is_b.load is_a.loaded is_b.loaded in
+    let some : Some a ≡ Some b = sym is_a.is ∙ ap (λ (load : Load). whole_of load requests) same ∙ is_b.is in
+    cc
