@@ -11,6 +11,9 @@ ghost use Rattle.dmremap.specs.Whole.{GiveWhole};
 ghost use Rattle.dmremap.specs.Fate.{IsFated, IsFlushed, fate_status, fate_message};
 ghost use Rattle.dmremap.specs.Words.{has_disk_list};
 
+#[cfg(test)]
+mod tests;
+
 use crate::ending::Ending;
 use crate::load::load;
 use crate::message::{Message, ending_message, load_message, tell};
