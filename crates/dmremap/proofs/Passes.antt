@@ -29,7 +29,7 @@ faults_by_none kind place bad (x ∷ xs) e =
     let parts = cond_none (record { kind = kind; at = place x }) (faults_by kind place bad xs) (bad x) e in
     (parts.0, faults_by_none kind place bad xs parts.1)
 
-first_none : (check : List LoadFault) (later : Option LoadFault) → first_or check later ≡ None → (check ≡ []) × (later ≡ None)
+pub first_none : (check : List LoadFault) (later : Option LoadFault) → first_or check later ≡ None → (check ≡ []) × (later ≡ None)
 first_none [] later e = (refl, e)
 first_none (fault ∷ faults) later e = absurd cc
 

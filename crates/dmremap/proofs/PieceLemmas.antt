@@ -68,7 +68,7 @@ pub record BeginsWith (unit : BlockUnit) (pieces : List Piece) : Type 0 where
   pub later : List Piece
   pub is : pieces ≡ record { first = unit; len = len } ∷ later
 
-onto_begins : (unit : BlockUnit) (pieces : List Piece) → BeginsWith unit (onto unit pieces)
+pub onto_begins : (unit : BlockUnit) (pieces : List Piece) → BeginsWith unit (onto unit pieces)
 onto_begins unit [] = record { len = 1; later = []; is = refl }
 onto_begins unit (piece ∷ pieces) =
     let P : Bool → Type 0 = λ b. BeginsWith unit (cond b (record { first = unit; len = suc piece.len } ∷ pieces) (record { first = unit; len = 1 } ∷ piece ∷ pieces)) in
@@ -78,7 +78,7 @@ onto_begins unit (piece ∷ pieces) =
     ]
 
 -- a unit before pieces, by whether the first of them goes on from it
-onto-joined : (unit first : BlockUnit) (len : ℕ) (pieces : List Piece) → joins unit first ≡ true → onto unit (record { first = first; len = len } ∷ pieces) ≡ record { first = unit; len = suc len } ∷ pieces
+pub onto-joined : (unit first : BlockUnit) (len : ℕ) (pieces : List Piece) → joins unit first ≡ true → onto unit (record { first = first; len = len } ∷ pieces) ≡ record { first = unit; len = suc len } ∷ pieces
 onto-joined unit first len pieces e = rw e refl
 
 onto-apart : (unit first : BlockUnit) (len : ℕ) (pieces : List Piece) → joins unit first ≡ false → onto unit (record { first = first; len = len } ∷ pieces) ≡ record { first = unit; len = 1 } ∷ record { first = first; len = len } ∷ pieces

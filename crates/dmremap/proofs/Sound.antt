@@ -1,8 +1,9 @@
 -- What a sound description says of the line of a sector.
-use Rattle.std.proofs.Common.{◌≡◌, ℕ, ◌+◌, ◌-◌, ◌^◌, ◌<◌, ◌≤◌, Bool, true, false, cond, List, [], ◌∷◌, Option, Some, None, refl, sym, subst, arith, length}
-use Rattle.std.specs.Prelude.{find, slice_get, is_none, nat_le, nat_lt, ◌||◌}
+use Rattle.std.proofs.Common.{◌≡◌, ℕ, ◌+◌, ◌-◌, ◌^◌, ◌<◌, ◌≤◌, Bool, true, false, cond, List, [], ◌∷◌, Option, Some, None, refl, sym, subst, arith}
+use Rattle.std.specs.Prelude.{find, is_none, nat_le, nat_lt, ◌||◌}
 use Rattle.std.specs.List.{list_any, AllByRecursion}
 use Rattle.std.proofs.lemmas.Bool.{and_parts, or_parts, leb-true, ltb-true, ltb-false}
+use Rattle.std.proofs.lemmas.List.Elements.{All-from_recursion}
 use Rattle.std.proofs.lemmas.Slice.Eq.{bytes_eq-Decides}
 use Rattle.dm_table.specs.declared.table.DevRef.TheVariants.{Device, Disk}
 use Rattle.dm_table.specs.declared.table.Target.{Target}
@@ -13,7 +14,7 @@ use Rattle.dm_table.specs.declared.disk.Disk as disks
 use Rattle.dm_table.specs.declared.load_fault.LoadKind.TheVariants.{Limit, Unknown, Cycle}
 use Rattle.dmremap.specs.Units.{ReadOf, WriteOf, is_same}
 use Rattle.dmremap.specs.Mapping.{device_named, line_of, holds, end_of, read_unit, write_unit}
-use Rattle.dmremap.specs.Soundness.{all_lines, is_far, is_large, is_unknown, names}
+use Rattle.dmremap.specs.Soundness.{HaveSmallEnds, all_lines, is_far, is_large, is_unknown, names}
 use Rattle.dmremap.specs.Loaded.{Description, IsSound}
 use Rattle.dmremap.proofs.Passes.{append_none, all_parts, faults_by_none, Passes, passes}
 
@@ -38,12 +39,16 @@ target_sound device ds (targets.Linear (Disk name) offset) far known own = ltb-f
 target_sound device ds (targets.Linear (Device name) offset) far known own = is_self device name (is_same device.name name) refl own known
 target_sound device ds targets.Error far known own = tt
 
-line_sound : (device : DeviceSpec) (ds : List disks.Disk) (line : Line) → is_large line ≡ false → is_unknown (device ∷ []) ds line.target ≡ false → names device.name line.target ≡ false → IsLineSound line
-line_sound device ds line large known own =
+pub line_small : (line : Line) → is_large line ≡ false → (line.start + line.len ≤ 2 ^ 50) × (is_far line.target ≡ false)
+line_small line large =
     let a = or_parts (nat_lt (2 ^ 50) line.start) (nat_lt (2 ^ 50) line.len || (nat_lt (2 ^ 50) (line.start + line.len) || is_far line.target)) large in
     let b = or_parts (nat_lt (2 ^ 50) line.len) (nat_lt (2 ^ 50) (line.start + line.len) || is_far line.target) a.1 in
     let c = or_parts (nat_lt (2 ^ 50) (line.start + line.len)) (is_far line.target) b.1 in
-    record { end = ltb-false _ _ c.0; target = target_sound device ds line.target c.1 known own }
+    (ltb-false _ _ c.0, c.1)
+
+line_sound : (device : DeviceSpec) (ds : List disks.Disk) (line : Line) → is_large line ≡ false → is_unknown (device ∷ []) ds line.target ≡ false → names device.name line.target ≡ false → IsLineSound line
+line_sound device ds line large known own =
+    let small = line_small line large in record { end = small.0; target = target_sound device ds line.target small.1 known own }
 
 lines_sound : (device : DeviceSpec) (ds : List disks.Disk) (lines : List Line) → AllByRecursion (λ line. is_large line ≡ false) lines → AllByRecursion (λ line. is_unknown (device ∷ []) ds line.target ≡ false) lines → list_any (λ line. names device.name line.target) lines ≡ false → AllByRecursion IsLineSound lines
 lines_sound device ds [] large known own = tt
@@ -99,19 +104,14 @@ write_at devices name sector device line disk offset named at target writable = 
 
 -- The end of a device
 
--- the last of lines, all of them sound
-pub record IsLast (lines : List Line) (line : Line) : Type 0 where
-  pub end : end_of lines ≡ line.start + line.len
-  pub sound : IsLineSound line
+pub end_small : (lines : List Line) → AllByRecursion IsLineSound lines → end_of lines ≤ 2 ^ 50
+end_small [] sound = omega arith
+end_small (line ∷ []) sound = sound.0.end
+end_small (line ∷ next ∷ lines) sound = end_small (next ∷ lines) sound.1
 
-last_of : (first line : Line) (lines : List Line) → AllByRecursion IsLineSound (first ∷ lines) → slice_get (first ∷ lines) (length lines) ≡ Some line → IsLast (first ∷ lines) line
-last_of first line [] sound e =
-    let same : first ≡ line = cc in subst (λ (other : Line). IsLast (first ∷ []) other) same (record { end = refl; sound = sound.0 })
-last_of first line (next ∷ lines) sound e =
-    let rest = last_of next line lines sound.1 e in record { end = rest.end; sound = rest.sound }
+ends_small : (lines : List Line) → AllByRecursion IsLineSound lines → AllByRecursion (λ line. line.start + line.len ≤ 2 ^ 50) lines
+ends_small [] sound = tt
+ends_small (line ∷ lines) sound = (sound.0.end, ends_small lines sound.1)
 
-pub last_line : (lines : List Line) (line : Line) → AllByRecursion IsLineSound lines → slice_get lines (length lines - 1) ≡ Some line → IsLast lines line
-last_line [] line sound e = absurd cc
-last_line (first ∷ lines) line sound e =
-    let place : length (first ∷ lines) - 1 ≡ length lines = omega arith in
-    last_of first line lines sound (subst (λ (i : ℕ). slice_get (first ∷ lines) i ≡ Some line) place e)
+pub small_ends : (lines : List Line) → AllByRecursion IsLineSound lines → HaveSmallEnds lines
+small_ends lines sound = All-from_recursion (λ line. line.start + line.len ≤ 2 ^ 50) lines (ends_small lines sound)

@@ -1,5 +1,5 @@
 -- Pieces: units in a row that go on from one another.
-use Rattle.std.specs.Prelude.{◌≡◌, ℕ, zero, suc, ◌+◌, ◌<◌, ◌==◌, ◌&&◌, Bool, true, false, List, [], ◌∷◌, ◌++◌, codes, decimal, if◌then◌else◌}
+use Rattle.std.specs.Prelude.{◌≡◌, ℕ, zero, suc, ◌+◌, ◌<◌, ◌≤◌, ◌==◌, ◌&&◌, Bool, true, false, List, [], ◌∷◌, ◌++◌, length, codes, decimal, if◌then◌else◌}
 use Rattle.std.specs.List.{flat_map, AllByRecursion}
 use Rattle.dmremap.specs.Units.{BlockUnit, ReadOf, WriteOf, Fails, is_same, next_unit, joins}
 
@@ -44,6 +44,11 @@ is_after Fails len Fails = true
 pub record ArePiecesOf (units : List BlockUnit) (pieces : List Piece) : Type 0 where
   pub flatten : flat_map units_in pieces ≡ units
   pub each : AllByRecursion (λ piece. 0 < piece.len) pieces
+
+-- the pieces that fewest gives are such, and no others of the units are fewer
+pub record AreFewest (units : List BlockUnit) (pieces : List Piece) : Type 0 where
+  pub are : ArePiecesOf units pieces
+  pub least : (others : List Piece) → ArePiecesOf units others → length pieces ≤ length others
 
 -- How pieces are written
 

@@ -1,6 +1,6 @@
 -- The checks of a load, over the devices and the disks that the texts say.
-use Rattle.std.specs.Prelude.{ℕ, ◌+◌, Bool, true, false, ◌||◌, ◌==◌, List, [], ◌∷◌, ◌++◌, Option, Some, None, drop, find, is_none, nat_lt, if◌then◌else◌}
-use Rattle.std.specs.List.{flat_map, list_any}
+use Rattle.std.specs.Prelude.{ℕ, ◌+◌, ◌≤◌, Bool, true, false, ◌||◌, ◌==◌, List, [], ◌∷◌, ◌++◌, Option, Some, None, drop, find, is_none, nat_lt, if◌then◌else◌}
+use Rattle.std.specs.List.{All, flat_map, list_any}
 use Rattle.dm_table.specs.declared.table.DevRef.{DevRef}
 use Rattle.dm_table.specs.declared.table.DevRef.TheVariants as refs
 use Rattle.dm_table.specs.declared.table.Target.{Target}
@@ -49,6 +49,10 @@ abbrev pub is_large : Line → Bool
 is_large line =
     nat_lt MOST_SECTORS line.start || (nat_lt MOST_SECTORS line.len || (nat_lt MOST_SECTORS (line.start + line.len) || is_far line.target))
 
+-- lines whose ends are within the limit, so that they can be added up
+abbrev pub HaveSmallEnds : List Line → Type 0
+HaveSmallEnds lines = All (λ line. line.start + line.len ≤ MOST_SECTORS) lines
+
 -- too large a line, then a disk
 abbrev pub too_large : List DeviceSpec → List Disk → List LoadFault
 too_large devices disks =
@@ -72,11 +76,13 @@ abbrev pub without_lines : DeviceSpec → List Line → List LoadFault
 without_lines device [] = fault Empty device.at ∷ []
 without_lines device (line ∷ lines) = []
 
--- a device without lines or a line of length 0, then a disk of length 0
+-- a device without lines, or its lines of length 0
+abbrev pub empty_in : DeviceSpec → List LoadFault
+empty_in device = without_lines device device.lines ++ faults_by Empty (λ line. line.at) (λ line. line.len == 0) device.lines
+
+-- an empty device or line, then a disk of length 0
 abbrev pub empty : List DeviceSpec → List Disk → List LoadFault
-empty devices disks =
-    flat_map (λ device. without_lines device device.lines ++ faults_by Empty (λ line. line.at) (λ line. line.len == 0) device.lines) devices
-    ++ faults_by Empty (λ disk. disk.at) (λ disk. disk.len == 0) disks
+empty devices disks = flat_map empty_in devices ++ faults_by Empty (λ disk. disk.at) (λ disk. disk.len == 0) disks
 
 -- lines that start after, or before, the end of the one before, which ends here
 abbrev pub misplaced_from : ℕ → List Line → List LoadFault

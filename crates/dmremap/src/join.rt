@@ -6,9 +6,9 @@
 ghost use Rattle.std.specs.Prelude.{◌≡◌, ◌+◌, ◌++◌, ◌^◌, ◌<◌, ◌≤◌, ◌∷◌, List, OnOk, IfOk};
 ghost use Rattle.dm_table.specs.DeviceIo.{since, fault_of};
 ghost use Rattle.dm_table.specs.RequestLine.{values_of};
-ghost use Rattle.dmremap.specs.Mapping.{end_of, device_named, lines_or_none};
+ghost use Rattle.dmremap.specs.Mapping.{end_of, device_named, lines_or_none, request_units};
 ghost use Rattle.dmremap.specs.Outcome.{request_answer};
-ghost use Rattle.dmremap.specs.Pieces.{piece_text, pieces_text, fewest, units_in};
+ghost use Rattle.dmremap.specs.Pieces.{AreFewest, piece_text, pieces_text, fewest, units_in};
 ghost use Rattle.dmremap.specs.Units.{BlockUnit, unit_view};
 ghost use Rattle.dmremap.specs.PieceView.{piece_view};
 
@@ -28,6 +28,8 @@ pub(crate) fn answer_request<W: Output>(
     writer: &mut W,
 ) -> Result<(), OutFault>
     requires { end ≡ end_of (lines_or_none (device_named loaded.now.devices request.now.device.now)) }
+    // The pieces of the answer are the fewest that its units can be made of.
+    ensures fewest { AreFewest (request_units loaded.now.devices (values_of request.now)) (fewest (request_units loaded.now.devices (values_of request.now))) }
     ensures appends { W.written writer.new ≡ W.written writer.old ++ since (W.written writer.old) (W.written writer.new) }
     ensures ok { OnOk result (since (W.written writer.old) (W.written writer.new) ≡ request_answer loaded.now.devices request.now.number (values_of request.now)) }
     ensures faults { W.faults writer.new ≡ W.faults writer.old + fault_of result }

@@ -3,14 +3,21 @@
 //! The invariant carries the soundness, so nothing above asks for it again: a value is made only
 //! through the checks. What a request needs of a device stands here and not at its tables.
 
-ghost use Rattle.std.specs.Prelude.{◌≡◌, ◌≤◌, ◌^◌, IfSome, is_none, option_copied, slice_get, length, ◌-◌};
+ghost use Rattle.std.specs.Prelude.{◌≡◌, ◌≢◌, ◌≤◌, ◌^◌, IfErr, IfOk, IfSome, None, OnOk, Some, is_none, option_copied};
+ghost use Rattle.dm_table.specs.LoadFault.{IsMemoryFault, first_fault};
+ghost use Rattle.dm_table.specs.declared.load_fault.LoadKind.TheVariants.{Memory};
+ghost use Rattle.dm_table.specs.declared.place.Part.TheVariants.{Source};
 ghost use Rattle.dm_table.specs.declared.table.Line.{Line};
 ghost use Rattle.dm_table.specs.declared.table.DeviceSpec.{DeviceSpec};
 ghost use Rattle.dmremap.specs.Mapping.{device_named, end_of, lines_or_none, line_of, unit_of};
+ghost use Rattle.dmremap.specs.Soundness.{load_checks};
 ghost use Rattle.dmremap.specs.Units.{unit_view};
 
+use crate::layout::end_of;
+use crate::soundness::check;
 use crate::unit::SectorUnit;
-use dm_table::{DevRef, DeviceSpec, Disk, Line, Op, Target};
+use dm_table::{DevRef, DeviceSpec, Disk, Line, LoadFault, Op, Target};
+use std::alloc::Global;
 use std::marker::Model;
 
 /// A sound description: at most one device, whose lines lie on listed disks.
@@ -33,6 +40,25 @@ impl Model for Loaded {
 impl Loaded {
     ghost use Rattle.dmremap.specs.Loaded.{IsSound};
 
+    /// A description that passes the checks of a load, or the first fault that they find.
+    ///
+    /// Cost: near-linear in lines, devices and disks. `Memory`, with number 0, if an allocation
+    /// was refused.
+    pub(crate) fn new(
+        alloc: Global,
+        devices: Vec<DeviceSpec>,
+        disks: Vec<Disk>,
+    ) -> Result<Loaded, LoadFault>
+        ensures devices { IfOk result (λ loaded. loaded.devices ≡ devices.items) }
+        ensures disks { IfOk result (λ loaded. loaded.disks ≡ disks.items) }
+        ensures sound { OnOk result (first_fault (load_checks devices.items disks.items) ≡ None) }
+        ensures fault { IfErr result (λ fault. fault.kind ≢ Memory → first_fault (load_checks devices.items disks.items) ≡ Some fault) }
+        ensures memory { IfErr result (λ fault. fault.kind ≡ Memory → IsMemoryFault Source fault) }
+    {
+        check(alloc, devices.as_slice(), disks.as_slice())?;
+        Ok(Loaded { devices, disks })
+    }
+
     /// The device of a name.
     fn device(&self, name: &str) -> Option<&DeviceSpec>
         ensures device { option_copied result ≡ device_named self.now.devices name.now }
@@ -51,10 +77,7 @@ impl Loaded {
         ensures small { IfSome result (λ end. end ≤ 2 ^ 50) }
     {
         let device = self.device(name)?;
-        match device.lines.as_slice().last() {
-            Some(line) => Some(line.start + line.len),
-            None => Some(0),
-        }
+        Some(end_of(device.lines.as_slice()))
     }
 
     /// The unit of a sector of a device.

@@ -1,25 +1,20 @@
-use Rattle.std.proofs.Common.{◌≡◌, Some, sym, arith, length, ◌-◌}
-use Rattle.std.specs.Prelude.{slice_get}
-use Rattle.dmremap.specs.Mapping.{device_named}
-use Rattle.dmremap.proofs.Sound.{device_lines_sound, last_line}
+use Rattle.std.proofs.Common.{◌≡◌, ◌≤◌, ◌^◌, Some, refl, sym}
+use Rattle.dmremap.specs.Mapping.{device_named, end_of}
+use Rattle.dmremap.proofs.Sound.{device_lines_sound, end_small, small_ends}
 use Rattle.dmremap.proofs.loaded.Loaded.device_end.Goals as goal
 
-pub overflow_add-result : goal.overflow_add-result
-overflow_add-result c =
+pub end_of-requires : goal.end_of-requires
+end_of-requires c =
     let named : device_named c.args.self.now.devices c.args.name.now ≡ Some c.in_ok-device.device.now = sym c.in_ok-device.ensures.device in
-    let at : slice_get c.in_ok-device.device.now.lines (length c.in_ok-device.device.now.lines - 1) ≡ Some c.in-Some.line.now = rw (← c.as_slice.ensures) (sym c.in-Some.ensures.value) in
-    let last = last_line _ _ (device_lines_sound c.args.self.now c.args.name.now _ c.device.ensures.sound named) at in
-    omega (arith, last.sound.end)
+    rw c.as_slice.ensures (small_ends _ (device_lines_sound c.args.self.now c.args.name.now _ c.device.ensures.sound named))
 
-pub returns-in-Some-clause-end : goal.returns-in-Some-clause-end
-returns-in-Some-clause-end c =
+pub returns-clause-end : goal.returns-clause-end
+returns-clause-end c =
     let named : device_named c.args.self.now.devices c.args.name.now ≡ Some c.in_ok-device.device.now = sym c.in_ok-device.ensures.device in
-    let at : slice_get c.in_ok-device.device.now.lines (length c.in_ok-device.device.now.lines - 1) ≡ Some c.in-Some.line.now = rw (← c.as_slice.ensures) (sym c.in-Some.ensures.value) in
-    let last = last_line _ _ (device_lines_sound c.args.self.now c.args.name.now _ c.device.ensures.sound named) at in
-    rw named (sym last.end)
+    rw (c.end_of.ensures, c.as_slice.ensures, named) refl
 
-pub returns-in-Some-clause-small : goal.returns-in-Some-clause-small
-returns-in-Some-clause-small c =
+pub returns-clause-small : goal.returns-clause-small
+returns-clause-small c =
     let named : device_named c.args.self.now.devices c.args.name.now ≡ Some c.in_ok-device.device.now = sym c.in_ok-device.ensures.device in
-    let at : slice_get c.in_ok-device.device.now.lines (length c.in_ok-device.device.now.lines - 1) ≡ Some c.in-Some.line.now = rw (← c.as_slice.ensures) (sym c.in-Some.ensures.value) in
-    (last_line _ _ (device_lines_sound c.args.self.now c.args.name.now _ c.device.ensures.sound named) at).sound.end
+    let small : end_of c.in_ok-device.device.now.lines ≤ 2 ^ 50 = end_small _ (device_lines_sound c.args.self.now c.args.name.now _ c.device.ensures.sound named) in
+    rw (c.end_of.ensures, c.as_slice.ensures) small

@@ -1,0 +1,13 @@
+use Rattle.std.proofs.Common.{Some, None, sym, ap, ◌∙◌}
+use Rattle.dm_table.specs.declared.load_fault.LoadKind.TheVariants.{Range}
+use Rattle.dmremap.specs.Soundness.{all_lines, passes_end}
+use Rattle.dmremap.proofs.FirstFaults.{first_by, passes_on, stops}
+use Rattle.dmremap.proofs.names.Names.range.Goals as goal
+
+pub returns-in-Some : goal.returns-in-Some
+returns-in-Some c =
+    ap Some c.fault.ensures ∙ sym (first_by Range (λ line. line.at) (λ line. passes_end c.args.self.now.devices.now c.args.self.now.disks.now line.len line.target) (all_lines c.args.self.now.devices.now) None ∙ stops Range (λ line. line.at) _ _ None (sym c.in-Some.ensures))
+
+pub returns-in-None : goal.returns-in-None
+returns-in-None c =
+    sym (first_by Range (λ line. line.at) (λ line. passes_end c.args.self.now.devices.now c.args.self.now.disks.now line.len line.target) (all_lines c.args.self.now.devices.now) None ∙ passes_on Range (λ line. line.at) _ None (sym c.in-None.ensures))
