@@ -42,6 +42,7 @@ const VOLUME: Case<'static> = Case {
 };
 
 /// What must come of a run.
+#[derive(Clone, Copy)]
 struct Answer<'a> {
     output: &'a [u8],
     message: &'a [u8],
@@ -114,6 +115,10 @@ fn check_streams(
         &mut messages,
     );
     assert_eq!(rt; output.as_slice(), answer.output, "the output of {name}");
-    assert_eq!(rt; messages.as_slice(), answer.message, "the message of {name}");
+    assert_eq!(rt;
+        messages.as_slice(),
+        answer.message,
+        "the message of {name}"
+    );
     assert_eq!(rt; status, answer.status, "the status of {name}");
 }

@@ -104,7 +104,13 @@ fn the_cutting_of_reads_shows_nowhere(rt: HostRuntime) {
     let alloc = rt.alloc();
     for step in 1..17 {
         let streams = LINE_AND_REST.streams(&rt, alloc, step);
-        check_streams(&rt, alloc, LINE_AND_REST.name, streams, &LINE_AND_REST.answer());
+        check_streams(
+            &rt,
+            alloc,
+            LINE_AND_REST.name,
+            streams,
+            &LINE_AND_REST.answer(),
+        );
         let streams = VOLUME.streams(&rt, alloc, step);
         check_streams(&rt, alloc, VOLUME.name, streams, &VOLUME.answer());
     }

@@ -81,8 +81,16 @@ fn parts_are_read_before_any_text(rt: HostRuntime) -> Result<(), Fail> {
         ((bad, false), (long, false), "dmremap: disks: long\n"),
         ((bad, false), (long, true), "dmremap: disks: long\n"),
         ((bad, false), (full, true), "dmremap: disks: read\n"),
-        ((bad, false), (full, false), "dmremap: source: syntax at 1\n"),
-        ((full, false), (bad, false), "dmremap: source: syntax at 1\n"),
+        (
+            (bad, false),
+            (full, false),
+            "dmremap: source: syntax at 1\n",
+        ),
+        (
+            (full, false),
+            (bad, false),
+            "dmremap: source: syntax at 1\n",
+        ),
         ((full, true), (long, true), "dmremap: source: read\n"),
         ((long, true), ("", true), "dmremap: source: long\n"),
         ((long, false), ("", true), "dmremap: source: long\n"),

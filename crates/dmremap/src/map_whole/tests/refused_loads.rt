@@ -108,21 +108,36 @@ fn descriptions(rt: HostRuntime) -> Result<(), Fail> {
         ("a: 0 8 error\na: 7 8 error\n", "source: overlap at 2"),
         ("a: 0 8 error\na: 0 8 error\n", "source: overlap at 2"),
         ("a: 0 8 linear sdb 0\n", "source: unknown at 1"),
-        ("a: 0 8 error\na: 8 8 linear /dev/mapper/b 0\n", "source: unknown at 2"),
+        (
+            "a: 0 8 error\na: 8 8 linear /dev/mapper/b 0\n",
+            "source: unknown at 2",
+        ),
         ("a: 0 8 linear a 0\n", "source: unknown at 1"),
         ("a: 0 8 linear /dev/mapper/sda 0\n", "source: unknown at 1"),
         ("a: 0 8 linear /dev/mapper/a 0\n", "source: cycle at 1"),
-        ("a: 0 8 error\na: 8 8 linear /dev/mapper/a 0\n", "source: cycle at 1"),
+        (
+            "a: 0 8 error\na: 8 8 linear /dev/mapper/a 0\n",
+            "source: cycle at 1",
+        ),
         ("a: 0 100 linear sda 51\n", "source: range at 1"),
-        ("a: 0 8 error\na: 8 1 linear sda 150\n", "source: range at 2"),
+        (
+            "a: 0 8 error\na: 8 1 linear sda 150\n",
+            "source: range at 2",
+        ),
         ("a: 0 151 linear sda 0\n", "source: range at 1"),
         ("a: 0 1 linear sda 1125899906842624\n", "source: range at 1"),
         ("a: 0 8 error\nb: 0 8 error\n", "source: limit at 2"),
-        ("a: 0 8 error\nb: 0 8 error\na: 8 8 error\n", "source: limit at 2"),
+        (
+            "a: 0 8 error\nb: 0 8 error\na: 8 8 error\n",
+            "source: limit at 2",
+        ),
         ("a: 1125899906842625 1 error\n", "source: limit at 1"),
         ("a: 0 1125899906842625 error\n", "source: limit at 1"),
         ("a: 0 9999999999999999999 error\n", "source: limit at 1"),
-        ("a: 0 1125899906842624 error\na: 1125899906842624 1 error\n", "source: limit at 2"),
+        (
+            "a: 0 1125899906842624 error\na: 1125899906842624 1 error\n",
+            "source: limit at 2",
+        ),
         ("a: 0 1 linear sda 1125899906842625\n", "source: limit at 1"),
     ];
     for (source, words) in cases {
@@ -136,7 +151,11 @@ fn the_first_check_goes_first(rt: HostRuntime) -> Result<(), Fail> {
     let good = "a: 0 8 error\n";
     let cases = [
         // In one text each check runs to its end before the next.
-        ("a,: 0 8 error\n\na: 8 8 erro\n\u{7f}", "", "source: text at 4"),
+        (
+            "a,: 0 8 error\n\na: 8 8 erro\n\u{7f}",
+            "",
+            "source: text at 4",
+        ),
         ("a,: 0 8 error\na: 8 8 erro\n\n", "", "source: syntax at 3"),
         ("a: 8 8 erro\na: 8 8 error", "", "source: syntax at 2"),
         ("a,: 0 8 error\na: 8 8 erro\n", "", "source: field at 2"),
@@ -145,18 +164,54 @@ fn the_first_check_goes_first(rt: HostRuntime) -> Result<(), Fail> {
         (good, "s,a 8\nsdb x\n", "disks: field at 2"),
         // The source's text goes before the disk list's, and both before what they describe.
         ("a,: 0 8 error\n", "\u{7f}", "source: name at 1"),
-        ("a: 1 0 error\nb: 0 8 error\n", "s,a 8\n", "disks: name at 1"),
+        (
+            "a: 1 0 error\nb: 0 8 error\n",
+            "s,a 8\n",
+            "disks: name at 1",
+        ),
         // Then the checks of what they describe, in their order.
-        ("a: 1 1125899906842625 error\nb: 0 0 error\n", "sda 0\n", "source: limit at 2"),
-        ("a: 1125899906842625 0 error\n", "sda 1125899906842625\n", "source: limit at 1"),
-        ("a: 1 0 error\n", "sda 0\nsda 1125899906842625\n", "disks: limit at 2"),
+        (
+            "a: 1 1125899906842625 error\nb: 0 0 error\n",
+            "sda 0\n",
+            "source: limit at 2",
+        ),
+        (
+            "a: 1125899906842625 0 error\n",
+            "sda 1125899906842625\n",
+            "source: limit at 1",
+        ),
+        (
+            "a: 1 0 error\n",
+            "sda 0\nsda 1125899906842625\n",
+            "disks: limit at 2",
+        ),
         ("a: 1 0 error\n", "sda 0\nsda 0\n", "disks: twice at 2"),
-        ("a: 1 8 error\na: 9 0 error\n", "sda 0\n", "source: empty at 2"),
+        (
+            "a: 1 8 error\na: 9 0 error\n",
+            "sda 0\n",
+            "source: empty at 2",
+        ),
         ("a: 1 8 linear sdb 0\n", "sda 0\n", "disks: empty at 1"),
-        ("a: 0 8 linear sdb 0\na: 9 8 error\na: 0 8 error\n", "", "source: gap at 2"),
-        ("a: 0 8 linear sdb 0\na: 7 8 error\na: 99 8 error\n", "", "source: overlap at 2"),
-        ("a: 0 8 linear /dev/mapper/a 0\na: 8 8 linear sdb 0\n", "", "source: unknown at 2"),
-        ("a: 0 9 linear sda 0\na: 9 8 linear /dev/mapper/a 0\n", "sda 8\n", "source: cycle at 1"),
+        (
+            "a: 0 8 linear sdb 0\na: 9 8 error\na: 0 8 error\n",
+            "",
+            "source: gap at 2",
+        ),
+        (
+            "a: 0 8 linear sdb 0\na: 7 8 error\na: 99 8 error\n",
+            "",
+            "source: overlap at 2",
+        ),
+        (
+            "a: 0 8 linear /dev/mapper/a 0\na: 8 8 linear sdb 0\n",
+            "",
+            "source: unknown at 2",
+        ),
+        (
+            "a: 0 9 linear sda 0\na: 9 8 linear /dev/mapper/a 0\n",
+            "sda 8\n",
+            "source: cycle at 1",
+        ),
     ];
     for (source, disks, words) in cases {
         check_refused(&rt, rt.alloc(), source, disks, words)?;
