@@ -1,24 +1,20 @@
 -- A line of table text and its row of fields: a row that the tests pass is that of a line, and the row of a line passes them.
-use Rattle.std.proofs.Common.{◌≡◌, ◌≢◌, ◌⊎◌, inl, inr, ℕ, suc, ◌+◌, ◌^◌, ◌<◌, ◌≤◌, Bool, true, false, cond, eqb, nat_le, nat_lt, nat_eq, not, ◌&&◌, List, [], ◌∷◌, ◌++◌, length, map, take, drop, All, Option, Some, None, refl, sym, ap, subst, ◌∙◌, append_assoc, arith}
+use Rattle.std.proofs.Common.{◌≡◌, ◌⊎◌, inl, inr, ℕ, ◌^◌, ◌<◌, Bool, true, false, eqb, nat_le, nat_lt, nat_eq, ◌&&◌, List, [], ◌∷◌, ◌++◌, length, drop, Option, refl, sym, ap, ◌∙◌, append_assoc, arith}
 use Rattle.std.specs.Prelude.{decimal, codes, is_some, unwrap_or}
 use Rattle.std.specs.Cmp.Lexicographic.{pointwise}
 use Rattle.std.specs.Char.{is_ascii_digit}
 use Rattle.std.specs.List.{list_all, join_with_byte, AllByRecursion}
-use Rattle.std.proofs.lemmas.Bool.{and_parts, and_from, ltb-true, lt-ltb, leb-true, eqb-true, eq-eqb, not-true, cond-true, cond-false, cases_Bool}
+use Rattle.std.proofs.lemmas.Bool.{and_parts, and_from, ltb-true, lt-ltb, eqb-true, eq-eqb, not-true, cond-true, cond-false, cases_Bool}
 use Rattle.std.proofs.lemmas.Bool.Decides.{nat_tests, Decides-eqb}
 use Rattle.std.proofs.lemmas.List.{length-append}
-use Rattle.std.proofs.lemmas.List.Elements.{All-from_recursion}
-use Rattle.std.proofs.lemmas.List.Splits.{slice_split_at, slice_split_none, join_with_byte-slice_split}
 use Rattle.std.proofs.lemmas.Slice.Eq.{starts_is}
-use Rattle.std.proofs.lemmas.Fmt.{decimal_nonempty}
 use Rattle.dm_table.specs.declared.table.DevRef.{DevRef}
 use Rattle.dm_table.specs.declared.table.DevRef.TheVariants.{Device, Disk}
 use Rattle.dm_table.specs.declared.table.Target.{Target}
 use Rattle.dm_table.specs.declared.table.Target.TheVariants.{Linear, Error}
-use Rattle.dm_table.specs.declared.table.Line.{Line}
 use Rattle.dm_table.specs.Name.{is_device_byte, is_device_name, is_disk_byte, is_disk_name, names_device, mapper}
 use Rattle.dm_table.specs.Number.{Spells, number_of}
-use Rattle.dm_table.specs.Fields.{parts_at, front, back, fields}
+use Rattle.dm_table.specs.Fields.{front, back, fields}
 use Rattle.dm_table.specs.LoadFault.{is_text}
 use Rattle.dm_table.specs.TableText.{NamedLine, dev_text, target_text, line_text, Writes, IsDevRef, IsTarget, IsSaid, without_last_space, row_of, is_label, name_in, is_row, is_target, is_line, is_dev, has_names}
 use Rattle.dm_table.specs.TableReading.{number_in, dev_in, target_in, name_of_row, line_in}

@@ -1,6 +1,5 @@
 -- Rows that passed the checks, and runs of rows of one name.
-use Rattle.std.proofs.Common.{◌≡◌, ◌≢◌, ◌⊎◌, inl, inr, ℕ, zero, suc, ◌+◌, ◌-◌, ◌<◌, ◌≤◌, Bool, true, false, cond, not, nat_eq, ◌&&◌, List, [], ◌∷◌, ◌++◌, length, map, get_or, take, drop, Option, Some, None, Vec, refl, sym, ap, subst, ◌∙◌, arith, append_assoc}
-use Rattle.std.specs.Prelude.{IsTrue, is_some}
+use Rattle.std.proofs.Common.{◌≡◌, ◌≢◌, inl, inr, ℕ, zero, suc, ◌+◌, ◌-◌, ◌<◌, ◌≤◌, true, false, not, nat_eq, ◌&&◌, List, [], ◌∷◌, ◌++◌, length, get_or, take, drop, Vec, refl, sym, ap, ◌∙◌, arith, append_assoc}
 use Rattle.std.specs.Global.{Global}
 use Rattle.std.specs.Cmp.Lexicographic.{pointwise}
 use denote.Ref.{Bor}
@@ -9,17 +8,15 @@ use Rattle.std.proofs.lemmas.Bool.{and_parts, and_from, cases_Bool, not-false}
 use Rattle.std.proofs.lemmas.List.{drop_more, take_rest, take-map, drop-map, drop-drop, length-map, length-drop, length-take-le, get_or-drop}
 use Rattle.std.proofs.lemmas.List.Sums.{prefix_len-le-length}
 use Rattle.dm_table.specs.declared.table.Line.{Line}
-use Rattle.dm_table.specs.declared.table.Target.{Target}
 use Rattle.dm_table.specs.declared.table.Target.TheVariants.{Error}
 use Rattle.dm_table.specs.declared.table.DeviceSpec.{DeviceSpec}
 use Rattle.dm_table.specs.declared.place.Place.{Place}
 use Rattle.dm_table.specs.declared.place.Part.TheVariants.{Source}
 use Rattle.dm_table.specs.declared.load_fault.LoadKind.TheVariants.{Field, Name}
 use Rattle.dm_table.specs.Name.{is_device_name}
-use Rattle.dm_table.specs.Number.{number_of}
 use Rattle.dm_table.specs.Fields.{texts, row_texts}
-use Rattle.dm_table.specs.TableText.{NamedLine, name_in, is_target, is_line, is_dev, has_names}
-use Rattle.dm_table.specs.TableReading.{number_in, target_in, has_dev, is_checked, AreChecked, name_of_row, line_in, lines_from, named_from, run_device, join_line, joined, devices_from, bad_field, bad_name}
+use Rattle.dm_table.specs.TableText.{NamedLine, name_in, is_line, is_dev, has_names}
+use Rattle.dm_table.specs.TableReading.{target_in, has_dev, is_checked, AreChecked, name_of_row, line_in, lines_from, named_from, run_device, join_line, joined, devices_from, bad_field, bad_name}
 use Rattle.dm_table.proofs.FaultLemmas.{faults_from-nil}
 use Rattle.dm_table.proofs.TableGroups.{same_name, is_same_name, other_name, named_of, BeginsOther, run_joins}
 

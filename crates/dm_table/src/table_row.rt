@@ -165,7 +165,8 @@ fn is_dev(text: &[u8]) -> bool
 
 /// What stands behind `/dev/mapper/`, where the text speaks of a device of the stack.
 pub(crate) fn device_name_in(text: &[u8]) -> Option<&[u8]>
-    ensures { MatchOption result (names_device text.now ≡ false) (λ name. (names_device text.now ≡ true) × (name.now ≡ drop (length mapper) text.now)) }
+    ensures { MatchOption result (names_device text.now ≡ false)
+        (λ name. (names_device text.now ≡ true) × (name.now ≡ drop (length mapper) text.now)) }
 {
     text.strip_prefix(b"/dev/mapper/")
 }

@@ -26,26 +26,29 @@ use crate::table_row::{device_name_in, has_names, is_line, is_row, name_of_row, 
 use crate::text_checks::{text_lines, unended};
 use std::alloc::{AllocError, Global};
 
-/// The devices of table text, in its order: neighbouring lines of one name are one device, whose
-/// place is its first line. A line may end with one space, and all devices are writable.
+/// The devices of table text, in its order. Neighbouring lines of one name are one device, whose
+/// place is its first line; a line may end with one space; all devices are writable. Starts,
+/// lengths and offsets are sectors of 512 bytes, below 10^19. The form is that of dmsetup(8).
 ///
-/// Refuses, at the first line concerned: `NotText` for a byte outside 0x20 to 0x7E; `Syntax` for a
-/// line that is not at least four fields with single spaces between them, the first with a name
-/// and a colon at its end, and for a missing last newline; `Field` for a number that is none, an
-/// unknown target type or wrong arguments; `Name` for a text that is no name of a device or a
-/// disk. Each check runs over the whole text before the next. `Memory` where an allocation was
-/// refused. Linear in the text. The form is that of dmsetup(8).
+/// Else the fault of the first of these checks that finds anything, at its first line: `NotText`,
+/// a byte other than 0x20 to 0x7E; `Syntax`, fewer than four fields with single spaces between
+/// them, a first field without a name and a colon, or no newline at the end; `Field`, a number
+/// that is none, an unknown target type or wrong arguments; `Name`, no name of a device or a disk.
+/// Or `Memory`, of number 0, where an allocation was refused. The time is linear in the text.
 pub fn parse_table(alloc: Global, text: &[u8]) -> Result<Vec<DeviceSpec>, LoadFault>
     // What is accepted describes these devices.
     ensures accepted { IfOk result (λ v. DescribesTable text.now v.items) }
     // What describes devices is read as them, unless memory runs out.
-    ensures only { (devices : List DeviceSpec) → DescribesTable text.now devices → Answers Source (λ v. v.items) result (Ok devices) }
+    ensures only { (devices : List DeviceSpec) → DescribesTable text.now devices
+        → Answers Source (λ v. v.items) result (Ok devices) }
     // A text describes no two lists of devices.
-    ensures unique { (a b : List DeviceSpec) → DescribesTable text.now a → DescribesTable text.now b → a ≡ b }
+    ensures unique { (a b : List DeviceSpec) → DescribesTable text.now a → DescribesTable text.now b
+        → a ≡ b }
 
     // A refusal is the first fault of the first check that finds any.
     ensures sound { OnOk result (first_fault (table_checks text.now) ≡ None) }
-    ensures fault { IfErr result (λ f. f.kind ≢ Memory → first_fault (table_checks text.now) ≡ Some f) }
+    ensures fault { IfErr result (λ f. f.kind ≢ Memory
+        → first_fault (table_checks text.now) ≡ Some f) }
     ensures memory { IfErr result (λ f. f.kind ≡ Memory → IsMemoryFault Source f) }
 {
     read(alloc, text)
@@ -132,7 +135,8 @@ fn devices_of(alloc: Global, rows: &[Vec<&[u8]>]) -> Result<Vec<DeviceSpec>, All
 
 /// How many rows there are before the first of another name.
 fn run_len(name: &[u8], rows: &[Vec<&[u8]>]) -> usize
-    ensures { result ≡ prefix_len (λ row. pointwise nat_eq name.now (name_of_row row)) (row_texts rows.now) }
+    ensures { result
+        ≡ prefix_len (λ row. pointwise nat_eq name.now (name_of_row row)) (row_texts rows.now) }
 {
     for (index, row) in rows.iter().enumerate() {
         if name != name_of_row(row) {

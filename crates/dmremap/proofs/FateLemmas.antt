@@ -7,8 +7,11 @@ use Rattle.dmremap.specs.declared.ending.Ending.{Ending}
 use Rattle.dmremap.specs.declared.ending.Ending.TheVariants as endings
 use Rattle.dmremap.specs.declared.map_whole.Fate.{Fate}
 use Rattle.dmremap.specs.declared.map_whole.Fate.TheVariants.{Refused, Ran}
-use Rattle.dmremap.specs.Load.{RefusedBy, SoundAs}
-use Rattle.dmremap.specs.Fate.{fate_message, fate_status, IsFated, IsFlushed}
+use Rattle.dm_table.specs.declared.place.Part.TheVariants.{Source, Disks}
+use Rattle.dmremap.specs.Load.{RefusedBy, SoundAs, PartsGive}
+use Rattle.dmremap.specs.Loaded.{Description}
+use Rattle.dmremap.specs.Parts.{part_read}
+use Rattle.dmremap.specs.Fate.{fate_message, fate_status, IsFated, IsFlushed, OnRefused}
 use Rattle.dmremap.specs.Messages.{load_message, load_status, ending_message, ending_status, memory_message, write_message}
 use Rattle.dmremap.specs.Outcome.{Outcome, run_outcome}
 use Rattle.dmremap.specs.Run.{IsServed}
@@ -29,21 +32,21 @@ no_write_fault kind h = omega arith
 
 -- an ending that was served is that of the outcome
 served_is : (outcome : Outcome) (output : List ℕ) (ending : Ending) → ending_status ending ≢ 5 → IsServed outcome output ending → (outcome.output ≡ output) × (outcome.ending ≡ Some ending)
-served_is outcome output endings.Done no h = h
-served_is outcome output (endings.BadRequest number word) no h = h
-served_is outcome output endings.ReadFault no h = h
-served_is outcome output endings.WriteFault no h = absurd (no refl)
+served_is outcome output endings.Done other h = h
+served_is outcome output (endings.BadRequest number word) other h = h
+served_is outcome output endings.ReadFault other h = h
+served_is outcome output endings.WriteFault other h = absurd (other refl)
 
 -- a fate in which the output did not fail and memory did not run out is a whole run
 pub whole_from : (source disks requests : Delivery) (output : List ℕ) (fate : Fate) → IsFated source disks requests output fate → fate_status fate ≢ 5 → fate_status fate ≢ 6 → GiveWhole source disks requests (record { output = output; message = fate_message fate; status = fate_status fate })
-whole_from source disks requests output (Refused fault) fated no none =
+whole_from source disks requests output (Refused fault) fated other none =
     let kind = refused_kind fault.kind none in
     let text : List ℕ → Option Whole = λ out. Some (record { output = out; message = load_message fault; status = 1 }) in
     let status : ℕ → Option Whole = λ n. Some (record { output = output; message = load_message fault; status = n }) in
     record { load = RefusedBy fault; loaded = fated.1 kind.0; is = ap text (sym fated.0) ∙ ap status kind.1 }
-whole_from source disks requests output (Ran ending) fated no none =
+whole_from source disks requests output (Ran ending) fated other none =
     let outcome = run_outcome fated.0.devices requests in
-    let served = served_is outcome output ending no fated.2 in
+    let served = served_is outcome output ending other fated.2 in
     record { load = SoundAs fated.0; loaded = fated.1; is = ap (ended_if outcome.output) served.1 ∙ ap (λ (out : List ℕ). ended_if out (Some ending)) served.0 }
 
 -- status 6 is want of memory while loading
@@ -90,3 +93,29 @@ at_most_once (Ran endings.Done) waiting old new h = omega (arith, h.1)
 at_most_once (Ran (endings.BadRequest number word)) waiting old new h = omega (arith, h.1)
 at_most_once (Ran endings.ReadFault) waiting old new h = omega (arith, h.1)
 at_most_once (Ran endings.WriteFault) waiting old new h = h
+
+-- the same of the status that was answered
+pub whole_at : (source disks requests : Delivery) (output : List ℕ) (fate : Fate) (status : ℕ) → status ≡ fate_status fate → IsFated source disks requests output fate → status ≢ 5 → status ≢ 6 → GiveWhole source disks requests (record { output = output; message = fate_message fate; status = status })
+whole_at source disks requests output fate status is fated five six =
+    subst (λ (n : ℕ). GiveWhole source disks requests (record { output = output; message = fate_message fate; status = n })) (sym is)
+    (whole_from source disks requests output fate fated (λ e. five (is ∙ e)) (λ e. six (is ∙ e)))
+
+-- a failed output comes of a sound load
+pub sound_at_five : (source disks requests : Delivery) (output : List ℕ) (fate : Fate) → IsFated source disks requests output fate → fate_status fate ≡ 5 → (description : Description) × PartsGive (part_read Source source) (part_read Disks disks) (SoundAs description)
+sound_at_five source disks requests output (Refused fault) fated five = absurd (no_write_fault fault.kind five)
+sound_at_five source disks requests output (Ran ending) fated five = (fated.0, fated.1)
+
+-- requests are not asked for where the load is refused
+pub unasked_one : (fate : Fate) (P : Type 0) → OnRefused fate P → fate_status fate ≡ 1 → P
+unasked_one (Refused fault) P h one = h
+unasked_one (Ran endings.Done) P h one = absurd (omega arith)
+unasked_one (Ran (endings.BadRequest number word)) P h one = absurd (omega arith)
+unasked_one (Ran endings.ReadFault) P h one = absurd (omega arith)
+unasked_one (Ran endings.WriteFault) P h one = absurd (omega arith)
+
+pub unasked_six : (fate : Fate) (P : Type 0) → OnRefused fate P → fate_status fate ≡ 6 → P
+unasked_six (Refused fault) P h six = h
+unasked_six (Ran endings.Done) P h six = absurd (omega arith)
+unasked_six (Ran (endings.BadRequest number word)) P h six = absurd (omega arith)
+unasked_six (Ran endings.ReadFault) P h six = absurd (omega arith)
+unasked_six (Ran endings.WriteFault) P h six = absurd (omega arith)

@@ -7,6 +7,7 @@ pub mod Found
 pub mod Growth
 pub mod Held
 pub mod LineParts
+pub mod LoadLemmas
 pub mod NameLemmas
 pub mod Passes
 pub mod PieceLemmas

@@ -1,8 +1,10 @@
 -- Where the parts between newlines end.
-use Rattle.std.proofs.Common.{◌≡◌, ℕ, zero, suc, ◌+◌, ◌<◌, ◌≤◌, ◌==◌, cond, Bool, true, false, List, [], ◌∷◌, length, get_or, take, drop, refl, ap, ◌∙◌, arith, length-take}
+use Rattle.std.proofs.Common.{◌≡◌, ℕ, zero, suc, ◌+◌, ◌<◌, ◌≤◌, ◌++◌, ◌==◌, cond, Bool, true, false, List, [], ◌∷◌, length, get_or, take, drop, refl, sym, ap, ◌∙◌, arith, length-take, take-append-drop}
 use Rattle.std.specs.List.{onto_first}
 use Rattle.std.proofs.lemmas.List.Splits.{slice_split-cons_yes, slice_split-cons_no}
 use Rattle.std.proofs.lemmas.Bool.{le-ltb, lt-ltb}
+use Rattle.std.proofs.lemmas.List.{drop-drop}
+use Rattle.std.proofs.Math.Seq.{take-add}
 use Rattle.dm_table.specs.DeviceIo.{Stand}
 use Rattle.dmremap.specs.declared.lines.TheConstants.{MOST_LINE_BYTES}
 use Rattle.dmremap.specs.Lines.{line_parts, next_answer, ALine, ALong}
@@ -36,6 +38,36 @@ some_part (x ∷ xs) = let s = some_part xs in elim (is_newline x) as (λ b. (pa
   | true ↦ ([], line_parts xs, refl)
   | false ↦ (x ∷ s.0, s.1, ap (onto_first x) s.2)
 ]
+
+-- a front without a newline lengthens the first part
+pub parts_behind : (front xs : List ℕ) (part : List ℕ) (parts : List (List ℕ)) → line_parts front ≡ front ∷ [] → line_parts xs ≡ part ∷ parts → line_parts (front ++ xs) ≡ (front ++ part) ∷ parts
+parts_behind [] xs part parts clear e = e
+parts_behind (x ∷ front) xs part parts clear e =
+    let s = some_part front in
+    let P : Bool → Type 0 = λ b. cond b ([] ∷ line_parts front) (onto_first x (line_parts front)) ≡ (x ∷ front) ∷ [] → cond b ([] ∷ line_parts (front ++ xs)) (onto_first x (line_parts (front ++ xs))) ≡ (x ∷ front ++ part) ∷ parts in
+    let at_newline : P true = λ f. cc in
+    let at_other : P false = λ f.
+    let opened : (x ∷ s.0) ∷ s.1 ≡ (x ∷ front) ∷ [] = sym (ap (onto_first x) s.2) ∙ f in
+    let first : s.0 ≡ front = cc in
+    let rest : s.1 ≡ [] = cc in
+    let same : line_parts front ≡ front ∷ [] = s.2 ∙ ap (λ ys. s.0 ∷ ys) rest ∙ ap (λ (l : List ℕ). l ∷ []) first in
+    ap (onto_first x) (parts_behind front xs part parts same e) in
+    (elim (is_newline x) as P [ true ↦ at_newline | false ↦ at_other ]) clear
+
+-- the parts by those behind the bytes that were searched: none of them ends
+pub still_one : (xs : List ℕ) (n : ℕ) → line_parts (take n xs) ≡ take n xs ∷ [] → line_parts (drop n xs) ≡ drop n xs ∷ [] → line_parts xs ≡ xs ∷ []
+still_one xs n clear e =
+    let whole = take-append-drop n xs in
+    ap line_parts (sym whole) ∙ parts_behind (take n xs) (drop n xs) (drop n xs) [] clear e ∙ ap (λ (l : List ℕ). l ∷ []) whole
+
+-- or the first of them does
+pub first_behind : (xs : List ℕ) (n k : ℕ) → line_parts (take n xs) ≡ take n xs ∷ [] → line_parts (drop n xs) ≡ take k (drop n xs) ∷ line_parts (drop (k + 1) (drop n xs))
+    → line_parts xs ≡ take (n + k) xs ∷ line_parts (drop (n + k + 1) xs)
+first_behind xs n k clear e =
+    let place : n + (k + 1) ≡ n + k + 1 = omega arith in
+    ap line_parts (sym (take-append-drop n xs)) ∙ parts_behind (take n xs) (drop n xs) _ _ clear e
+    ∙ ap (λ (l : List ℕ). l ∷ line_parts (drop (k + 1) (drop n xs))) (sym (take-add n k xs))
+    ∙ ap (λ ys. take (n + k) xs ∷ line_parts ys) (drop-drop (k + 1) n xs ∙ ap (λ i. drop i xs) place)
 
 -- a line that is not too long comes next
 pub next_line : (stand : Stand) (line rest : List ℕ) → length line ≤ MOST_LINE_BYTES → next_answer stand (line ∷ line_parts rest) ≡ ALine line

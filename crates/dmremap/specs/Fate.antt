@@ -36,3 +36,8 @@ IsFlushed (Ran endings.Done) waiting old new = (waiting ≡ []) × (new ≡ old 
 IsFlushed (Ran (endings.BadRequest number word)) waiting old new = (waiting ≡ []) × (new ≡ old + 1)
 IsFlushed (Ran endings.ReadFault) waiting old new = (waiting ≡ []) × (new ≡ old + 1)
 IsFlushed (Ran endings.WriteFault) waiting old new = new ≤ old + 1
+
+-- a fact where the load was refused
+abbrev pub OnRefused : Fate → Type 0 → Type 0
+OnRefused (Refused fault) P = P
+OnRefused (Ran ending) P = Unit {0}

@@ -1,8 +1,8 @@
 -- Lengths by names, and what a look-up answers.
 use Rattle.std.specs.Prelude.{ℕ, Bool, List, map, Option, option_map, is_some}
+use Rattle.std.specs.Borrow.{Bor}
 use Rattle.std.specs.Map.{lookup}
 use Rattle.indexmap.specs.IndexMap.{IndexMap}
-use denote.Ref.{Bor}
 use Rattle.dm_table.specs.declared.table.DevRef.{DevRef}
 use Rattle.dm_table.specs.declared.table.DevRef.TheVariants as refs
 use Rattle.dm_table.specs.declared.table.DeviceSpec.{DeviceSpec}

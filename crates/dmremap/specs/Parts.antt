@@ -1,5 +1,5 @@
 -- What the parts of a load deliver: a text, or why it was not read.
-use Rattle.std.specs.Prelude.{ℕ, List, [], Option, None, Some, length, nat_lt, if◌then◌else◌}
+use Rattle.std.specs.Prelude.{◌≡◌, ℕ, List, [], Option, None, Some, length, nat_lt, if◌then◌else◌}
 use Rattle.dm_table.specs.declared.place.Part.{Part}
 use Rattle.dm_table.specs.declared.load_fault.LoadFault.{LoadFault}
 use Rattle.dm_table.specs.declared.load_fault.LoadKind.TheVariants.{Read, Long}
@@ -29,3 +29,9 @@ abbrev pub delivery_if : {X : Type 0} → (X → List ℕ) → (X → ℕ) → (
 delivery_if handed faults ends (Some old) (Some new) = delivery handed faults ends old new
 delivery_if handed faults ends (Some old) None = record { bytes = []; stand = Open }
 delivery_if handed faults ends None new = record { bytes = []; stand = Open }
+
+-- nothing was asked of an input
+pub record IsUnchanged {X : Type 0} (handed : X → List ℕ) (faults ends : X → ℕ) (old new : X) : Type 0 where
+  pub same_handed : handed new ≡ handed old
+  pub same_faults : faults new ≡ faults old
+  pub same_ends : ends new ≡ ends old

@@ -14,7 +14,7 @@ use Rattle.dm_table.specs.declared.load_fault.LoadKind.TheVariants.{Limit, Twice
 use Rattle.dm_table.specs.declared.load_fault.LoadFault.{LoadFault}
 use Rattle.dmremap.specs.Units.{is_same}
 use Rattle.dmremap.specs.Mapping.{device_named, lines_or_none, end_of}
-use Rattle.dmremap.specs.declared.soundness.TheConstants.{MOST_DEVICES, MOST_DISKS, MOST_LINES, MOST_SECTORS}
+use Rattle.dmremap.specs.declared.soundness.TheConstants.{MOST_DEVICES, MOST_DISKS, MOST_LINES, MOST_LENGTH}
 
 -- a fault of a kind at a place
 abbrev pub fault : LoadKind → Place → LoadFault
@@ -41,23 +41,23 @@ too_many devices disks =
 
 -- an offset above the limit
 abbrev pub is_far : Target → Bool
-is_far (targets.Linear to offset) = nat_lt MOST_SECTORS offset
+is_far (targets.Linear to offset) = nat_lt MOST_LENGTH offset
 is_far targets.Error = false
 
 -- a start, a length, an end or an offset above the limit
 abbrev pub is_large : Line → Bool
 is_large line =
-    nat_lt MOST_SECTORS line.start || (nat_lt MOST_SECTORS line.len || (nat_lt MOST_SECTORS (line.start + line.len) || is_far line.target))
+    nat_lt MOST_LENGTH line.start || (nat_lt MOST_LENGTH line.len || (nat_lt MOST_LENGTH (line.start + line.len) || is_far line.target))
 
 -- lines whose ends are within the limit, so that they can be added up
 abbrev pub HaveSmallEnds : List Line → Type 0
-HaveSmallEnds lines = All (λ line. line.start + line.len ≤ MOST_SECTORS) lines
+HaveSmallEnds lines = All (λ line. line.start + line.len ≤ MOST_LENGTH) lines
 
 -- too large a line, then a disk
 abbrev pub too_large : List DeviceSpec → List Disk → List LoadFault
 too_large devices disks =
     faults_by Limit (λ line. line.at) is_large (all_lines devices)
-    ++ faults_by Limit (λ disk. disk.at) (λ disk. nat_lt MOST_SECTORS disk.len) disks
+    ++ faults_by Limit (λ disk. disk.at) (λ disk. nat_lt MOST_LENGTH disk.len) disks
 
 -- the elements whose name is among the names before them, seen first
 abbrev pub twice_after : {X : Type 0} → (X → List ℕ) → (X → Place) → List (List ℕ) → List X → List LoadFault

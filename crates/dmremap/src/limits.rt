@@ -6,7 +6,7 @@ ghost use Rattle.std.specs.Prelude.{◌≡◌, None, find, nat_lt, option_copied
 ghost use Rattle.dm_table.specs.LoadFault.{first_or};
 ghost use Rattle.dmremap.specs.Soundness.{all_lines, is_far, is_large, too_large, too_many};
 
-use crate::soundness::{MOST_DEVICES, MOST_DISKS, MOST_LINES, MOST_SECTORS, fault};
+use crate::soundness::{MOST_DEVICES, MOST_DISKS, MOST_LINES, MOST_LENGTH, fault};
 use dm_table::{DeviceSpec, Disk, Line, LoadFault, LoadKind, Target};
 
 /// The first device, disk or line above the count that is allowed.
@@ -54,9 +54,9 @@ pub(crate) fn too_large(devices: &[DeviceSpec], disks: &[Disk]) -> Option<LoadFa
 }
 
 fn large_disk(disks: &[Disk]) -> Option<&Disk>
-    ensures { option_copied result ≡ find (λ disk. nat_lt MOST_SECTORS disk.len) disks.now }
+    ensures { option_copied result ≡ find (λ disk. nat_lt MOST_LENGTH disk.len) disks.now }
 {
-    disks.iter().find(|disk| MOST_SECTORS < disk.len)
+    disks.iter().find(|disk| MOST_LENGTH < disk.len)
 }
 
 fn large_line(devices: &[DeviceSpec]) -> Option<&Line>
@@ -72,9 +72,9 @@ fn large_line(devices: &[DeviceSpec]) -> Option<&Line>
 fn is_large(line: &Line) -> bool
     ensures { result ≡ is_large line.now }
 {
-    MOST_SECTORS < line.start
-        || MOST_SECTORS < line.len
-        || MOST_SECTORS - line.start < line.len
+    MOST_LENGTH < line.start
+        || MOST_LENGTH < line.len
+        || MOST_LENGTH - line.start < line.len
         || is_far(&line.target)
 }
 
@@ -82,7 +82,7 @@ fn is_far(target: &Target) -> bool
     ensures { result ≡ is_far target.now }
 {
     match target {
-        Target::Linear { offset, .. } => MOST_SECTORS < *offset,
+        Target::Linear { offset, .. } => MOST_LENGTH < *offset,
         Target::Error => false,
     }
 }

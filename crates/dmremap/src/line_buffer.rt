@@ -8,13 +8,17 @@ ghost use Rattle.dm_table.specs.Fields.{parts_at};
 use dm_table::{InFault, Input};
 use memchr::memchr;
 
-/// The length of the first line, where its newline is held.
-pub(crate) fn line_len(held: &[u8]) -> Option<usize>
+/// The length of the first line, where its newline is held. The first `searched` bytes have none,
+/// and are not looked at.
+pub(crate) fn line_len(held: &[u8], searched: usize) -> Option<usize>
+    requires within { searched ≤ length held.now }
+    requires clear { parts_at 10 (take searched held.now) ≡ take searched held.now ∷ [] }
     ensures { MatchOption result
         (parts_at 10 held.now ≡ held.now ∷ [])
         (λ n. (n < length held.now) × (parts_at 10 held.now ≡ take n held.now ∷ parts_at 10 (drop (n + 1) held.now))) }
 {
-    memchr(b'\n', held)
+    let n = memchr(b'\n', &held[searched..])?;
+    Some(searched + n)
 }
 
 /// Makes room for more than `room` bytes behind those from `start` to `end`, and answers where they

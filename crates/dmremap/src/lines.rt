@@ -1,7 +1,7 @@
 //! The lines of an input, out of a buffer that holds what was read and not yet answered.
 //! A clause sees those bytes alone, so what is answered goes by the bytes and never by their cutting.
-//! No memory is taken. The buffer holds many lines, and a held byte is looked at once for each read at most.
-ghost use Rattle.std.specs.Prelude.{◌≡◌, ◌+◌, ◌≤◌, ◌++◌, ◌↔◌, [], length, IfOk, OnErr, IsTrue};
+//! No memory is taken, and the search for a newline goes on where the last one stopped: a byte is searched once.
+ghost use Rattle.std.specs.Prelude.{◌≡◌, ◌+◌, ◌≤◌, ◌++◌, [], ◌∷◌, length, take, IfOk, OnErr};
 ghost use Rattle.std.specs.Borrow.{sem};
 ghost use Rattle.std.specs.Io.BufRead.{Rests};
 ghost use Rattle.dm_table.specs.DeviceIo.{delivery, since, fault_of, end_of};
@@ -25,7 +25,7 @@ pub(crate) enum Next<'a> {
     End,
     /// A clean end behind bytes without a newline.
     Unended,
-    /// More than 4,096 bytes without a newline.
+    /// A line of more than 4,096 bytes, or so many without a newline yet.
     Long,
     /// The input failed before the next line was whole.
     ReadFault,
@@ -75,19 +75,21 @@ impl Lines {
         }
     }
 
-    /// Whether nothing is held.
-    fn is_empty(&self) -> bool
-        ensures { IsTrue result ↔ (self.now ≡ []) }
+    /// How many bytes are held.
+    fn len(&self) -> usize
+        ensures { result ≡ length self.now }
     {
-        self.start == self.end
+        self.end - self.start
     }
 
-    /// What the held bytes alone say.
-    fn look(&self) -> Option<Found>
+    /// What the held bytes alone say, where the first `searched` of them have no newline.
+    fn look(&self, searched: usize) -> Option<Found>
+        requires within { searched ≤ length self.now }
+        requires clear { line_parts (take searched self.now) ≡ take searched self.now ∷ [] }
         ensures { IsLook result self.now }
     {
         let held = &self.buffer[self.start..self.end];
-        if let Some(n) = line_len(held) {
+        if let Some(n) = line_len(held, searched) {
             return Some(if n > MOST_LINE_BYTES {
                 Found::Long
             } else {
@@ -133,14 +135,16 @@ impl Lines {
         ensures answer { next_answer (delivery R.handed R.faults R.ends reader.old reader.new).stand (line_parts self.new)
             ≡ found_answer result self.new }
     {
+        let mut searched = 0;
         'turns: loop {
-            if let Some(found) = self.look() {
+            if let Some(found) = self.look(searched) {
                 return found;
             }
+            searched = self.len();
             match self.fill(reader) {
                 Err(InFault) => return Found::ReadFault,
                 Ok(0) => {
-                    return if self.is_empty() {
+                    return if searched == 0 {
                         Found::End
                     } else {
                         Found::Unended
@@ -152,7 +156,8 @@ impl Lines {
     }
 
     /// The next line, or why there is none. Only a line is gone from what is held.
-    /// Costs time linear in what it reads and answers, and takes no memory.
+    ///
+    /// Cost: time linear in the bytes read and answered, however they come, and no memory.
     pub(crate) fn next<R: Input>(&mut self, reader: &mut R) -> Next<'_>
         ensures* after { sem 𝓛 (Rests the_row self.entry (λ new.
             new ≡ left_of (answer_of result) (self.old ++ since (R.handed reader.old) (R.handed reader.new)))) }

@@ -80,9 +80,10 @@ impl Loaded {
         Some(end_of(device.lines.as_slice()))
     }
 
-    /// The unit of a sector of a device.
+    /// The unit of a sector of a device: that of the sector below it, on a disk.
     ///
-    /// Cost: a walk over the device's lines.
+    /// It is an error at an error line, past the end, for a name that no device has, and for a
+    /// write to a read-only device. Cost: a walk over the device's lines.
     #[tactic(auto, unfolding(crate::specs::Mapping::read_unit, crate::specs::Mapping::write_unit))]
     pub(crate) fn unit_at(&self, op: Op, device: &str, sector: u64) -> SectorUnit<'_>
         ensures { unit_view result ≡ unit_of self.now.devices op device.now sector }

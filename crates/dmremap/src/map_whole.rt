@@ -3,12 +3,19 @@
 //! What comes out goes by the bytes that were delivered and by nothing else; its contract is the
 //! promise that the program makes. `main` hands in the real files and streams, tests hand in memory.
 
-ghost use Rattle.std.specs.Prelude.{◌≡◌, ◌≢◌, ◌+◌, ◌<◌, ◌≤◌, ◌++◌, ◌↔◌, [], List, ℕ, false, is_some, IsSome};
+ghost use Rattle.std.specs.Prelude.{◌≡◌, ◌≢◌, ◌+◌, ◌<◌, ◌≤◌, ◌^◌, ◌++◌, ◌↔◌, [], List, ℕ, false, is_some, IsSome};
 ghost use Rattle.dm_table.specs.DeviceIo.{delivery, since};
-ghost use Rattle.dmremap.specs.Parts.{delivery_if};
+ghost use Rattle.dm_table.specs.declared.place.Part.TheVariants.{Source, Disks};
+ghost use Rattle.dmremap.specs.Load.{PartsGive, SoundAs};
+ghost use Rattle.dmremap.specs.Loaded.{Description};
+ghost use Rattle.dmremap.specs.Parts.{IsUnchanged, delivery_if, part_read};
+ghost use Rattle.dmremap.specs.declared.lines.TheConstants.{MOST_LINE_BYTES};
+ghost use Rattle.dmremap.specs.declared.run.TheConstants.{MOST_REQUESTS};
+ghost use Rattle.dmremap.specs.declared.soundness.TheConstants.{MOST_DEVICES, MOST_DISKS, MOST_LENGTH, MOST_LINES};
+ghost use Rattle.dmremap.specs.declared.source.TheConstants.{MOST_PART_BYTES};
 ghost use Rattle.dmremap.specs.Messages.{IsTold, memory_message, write_message};
 ghost use Rattle.dmremap.specs.Whole.{GiveWhole};
-ghost use Rattle.dmremap.specs.Fate.{IsFated, IsFlushed, fate_status, fate_message};
+ghost use Rattle.dmremap.specs.Fate.{IsFated, IsFlushed, OnRefused, fate_status, fate_message};
 ghost use Rattle.dmremap.specs.Words.{has_disk_list};
 
 #[cfg(test)]
@@ -71,6 +78,9 @@ pub fn map_whole<S: Input, D: Input, Q: Input, W: Output, M: Output>(
 
     // The output failed in the call: that goes before all else.
     ensures write_fault { W.faults output.old < W.faults output.new ↔ (result ≡ 5) }
+    ensures loaded { result ≡ 5 → (description : Description) × PartsGive
+        (part_read Source (delivery S.handed S.faults S.ends source.old source.new))
+        (part_read Disks (delivery_if D.handed D.faults D.ends disks.old disks.new)) (SoundAs description) }
     ensures write_message { result ≡ 5 → IsTold write_message
         (since (M.written messages.old) (M.written messages.new)) (M.faults messages.old) (M.faults messages.new) }
 
@@ -78,16 +88,25 @@ pub fn map_whole<S: Input, D: Input, Q: Input, W: Output, M: Output>(
     ensures memory { result ≡ 6 → (since (W.written output.old) (W.written output.new) ≡ [])
         × IsTold memory_message (since (M.written messages.old) (M.written messages.new)) (M.faults messages.old) (M.faults messages.new) }
 
+    // Requests are not asked for where the load was refused.
+    ensures unasked { result ≡ 1 → IsUnchanged Q.handed Q.faults Q.ends requests.old requests.new }
+    ensures unasked_memory { result ≡ 6 → IsUnchanged Q.handed Q.faults Q.ends requests.old requests.new }
+
     // Reading requests failed in the call.
     ensures read_fault { result ≡ 4 → Q.faults requests.old < Q.faults requests.new }
 
-    // The output only grows. It is flushed once, at the end; not at all where the load was refused.
+    // What was told and written only grows. The output is flushed once, at the end; not at all where the load was refused.
+    ensures tells { M.written messages.new ≡ M.written messages.old ++ since (M.written messages.old) (M.written messages.new) }
     ensures appends { W.written output.new ≡ W.written output.old ++ since (W.written output.old) (W.written output.new) }
     ensures flushed { result ≢ 1 → result ≢ 5 → result ≢ 6 →
         (W.waiting output.new ≡ []) × (W.flushes output.new ≡ W.flushes output.old + 1) }
     ensures refused { result ≡ 1 → W.flushes output.new ≡ W.flushes output.old }
     ensures unloaded { result ≡ 6 → W.flushes output.new ≡ W.flushes output.old }
     ensures once { W.flushes output.new ≤ W.flushes output.old + 1 }
+
+    // The figures of the limits.
+    ensures limits { (MOST_PART_BYTES ≡ 1048576) × (MOST_LINE_BYTES ≡ 4096) × (MOST_REQUESTS ≡ 1000000000000)
+        × (MOST_DEVICES ≡ 1) × (MOST_DISKS ≡ 1024) × (MOST_LINES ≡ 65536) × (MOST_LENGTH ≡ 2 ^ 50) }
 {
     let _ = status;
     let fate = match format {
@@ -114,6 +133,7 @@ fn load_and_run<S: Input, D: Input, Q: Input, W: Output>(
     ensures appends { W.written output.new ≡ W.written output.old ++ since (W.written output.old) (W.written output.new) }
     ensures write_fault { W.faults output.old < W.faults output.new ↔ (fate_status result ≡ 5) }
     ensures read_fault { fate_status result ≡ 4 → Q.faults requests.old < Q.faults requests.new }
+    ensures unasked { OnRefused result (IsUnchanged Q.handed Q.faults Q.ends requests.old requests.new) }
     ensures flushes { IsFlushed result (W.waiting output.new) (W.flushes output.old) (W.flushes output.new) }
 {
     match load(alloc, source, disks) {

@@ -3,7 +3,7 @@
 //! The words are fixed by `specs/Messages.antt`, since users match on them. A new kind of refusal
 //! is an arm here and there.
 
-ghost use Rattle.std.specs.Prelude.{◌≡◌, ◌≤◌, length};
+ghost use Rattle.std.specs.Prelude.{◌≡◌, ◌≤◌, ◌++◌, length};
 ghost use Rattle.dm_table.specs.DeviceIo.{since};
 ghost use Rattle.dmremap.specs.Messages.{IsTold, part_word, kind_word, request_word, load_message, request_message, ending_message};
 
@@ -18,7 +18,8 @@ pub(crate) type Message = ArrayVec<u8, 96>;
 
 /// Writes a message, as far as its stream takes it.
 pub(crate) fn tell<M: Output>(messages: &mut M, message: &[u8])
-    ensures { IsTold message.now (since (M.written messages.old) (M.written messages.new)) (M.faults messages.old) (M.faults messages.new) }
+    ensures appends { M.written messages.new ≡ M.written messages.old ++ since (M.written messages.old) (M.written messages.new) }
+    ensures told { IsTold message.now (since (M.written messages.old) (M.written messages.new)) (M.faults messages.old) (M.faults messages.new) }
 {
     let _ = write_all(messages, message);
 }

@@ -72,10 +72,10 @@ impl<'a> Names<'a> {
     pub(crate) fn unknown(&self) -> Option<LoadFault>
         ensures { result ≡ first_or (unknown self.now.devices.now self.now.disks.now) None }
     {
-        match self.unknown_line() {
-            Some(line) => Some(fault(LoadKind::Unknown, line.at)),
-            None => None,
+        if let Some(line) = self.unknown_line() {
+            return Some(fault(LoadKind::Unknown, line.at));
         }
+        None
     }
 
     fn unknown_line(&self) -> Option<&Line>
@@ -100,10 +100,10 @@ impl<'a> Names<'a> {
     pub(crate) fn range(&self) -> Option<LoadFault>
         ensures { result ≡ first_or (range self.now.devices.now self.now.disks.now) None }
     {
-        match self.long_line() {
-            Some(line) => Some(fault(LoadKind::Range, line.at)),
-            None => None,
+        if let Some(line) = self.long_line() {
+            return Some(fault(LoadKind::Range, line.at));
         }
+        None
     }
 
     fn long_line(&self) -> Option<&Line>
@@ -178,10 +178,10 @@ fn disk_lens(alloc: Global, disks: &[Disk]) -> Result<Lens<'_>, LoadFault>
 pub(crate) fn cycle(devices: &[DeviceSpec]) -> Option<LoadFault>
     ensures { result ≡ first_or (cycle devices.now) None }
 {
-    match self_named(devices) {
-        Some(device) => Some(fault(LoadKind::Cycle, device.at)),
-        None => None,
+    if let Some(device) = self_named(devices) {
+        return Some(fault(LoadKind::Cycle, device.at));
     }
+    None
 }
 
 fn self_named(devices: &[DeviceSpec]) -> Option<&DeviceSpec>

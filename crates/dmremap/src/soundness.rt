@@ -26,7 +26,7 @@ pub const MOST_DISKS: usize = 1024;
 pub const MOST_LINES: usize = 65536;
 
 /// The most sectors of a device or a disk, and the greatest offset: 2^50.
-pub const MOST_SECTORS: u64 = 1 << 50;
+pub const MOST_LENGTH: u64 = 1 << 50;
 
 /// Runs the checks of a load in their order, up to the first that finds a fault.
 ///

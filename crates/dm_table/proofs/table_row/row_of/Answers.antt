@@ -1,5 +1,5 @@
 -- The last field goes where it is empty: then it was there.
-use Rattle.std.proofs.Common.{◌≡◌, true, false, List, ℕ, [], None, sym, ap, ◌∙◌, refl, arith}
+use Rattle.std.proofs.Common.{◌≡◌, [], None, sym, ap, ◌∙◌, refl, arith}
 use Rattle.std.proofs.lemmas.List.{nil_from_length}
 use Rattle.std.proofs.lemmas.Option.{MatchOption-at_none}
 use Rattle.dm_table.specs.Fields.{texts, fields}

@@ -10,6 +10,6 @@ returns-in-Some c =
     ap Some c.fault.ensures
     ∙ sym (first_by Cycle (λ device. device.at) (λ device. list_any (λ line. names device.name line.target) device.lines) c.args.devices.now None ∙ stops Cycle (λ device. device.at) _ _ None (sym c.in-Some.ensures))
 
-pub returns-in-None : goal.returns-in-None
-returns-in-None c =
-    sym (first_by Cycle (λ device. device.at) (λ device. list_any (λ line. names device.name line.target) device.lines) c.args.devices.now None ∙ passes_on Cycle (λ device. device.at) _ None (sym c.in-None.ensures))
+pub returns : goal.returns
+returns c =
+    sym (first_by Cycle (λ device. device.at) (λ device. list_any (λ line. names device.name line.target) device.lines) c.args.devices.now None ∙ passes_on Cycle (λ device. device.at) _ None (sym c.in_default.ensures))

@@ -1,13 +1,16 @@
-use Rattle.std.proofs.Common.{◌≡◌, ◌-◌, ◌++◌, length}
+use Rattle.std.proofs.Common.{◌≡◌, ◌-◌, ◌≤◌, ◌++◌, [], ◌∷◌, length, take}
 use Rattle.dm_table.specs.DeviceIo.{since}
+use Rattle.dmremap.specs.Lines.{line_parts}
 use Rattle.dmremap.specs.declared.lines.TheConstants.{ROOM}
 use Rattle.dmremap.proofs.lines.Lines.advance.Given as goal
 
--- what came is held, and neither an end nor a fault was met
+-- what came is held, its front was searched, and neither an end nor a fault was met
 abbrev pub invariant-turns : goal.invariant-turns
 invariant-turns g l =
     let handed = g.R.Input.handed in
     record {
+      within : l.searched ≤ length l.self;
+      clear : line_parts (take l.searched l.self) ≡ take l.searched l.self ∷ [];
       held : l.self ≡ l.fn.self ++ since (handed l.fn.reader) (handed l.reader);
       bytes : handed l.reader ≡ handed l.fn.reader ++ since (handed l.fn.reader) (handed l.reader);
       faults : g.R.Input.faults l.reader ≡ g.R.Input.faults l.fn.reader;

@@ -8,6 +8,6 @@ pub returns-in-Some : goal.returns-in-Some
 returns-in-Some c =
     ap Some c.fault.ensures ∙ sym (first_by Range (λ line. line.at) (λ line. passes_end c.args.self.now.devices.now c.args.self.now.disks.now line.len line.target) (all_lines c.args.self.now.devices.now) None ∙ stops Range (λ line. line.at) _ _ None (sym c.in-Some.ensures))
 
-pub returns-in-None : goal.returns-in-None
-returns-in-None c =
-    sym (first_by Range (λ line. line.at) (λ line. passes_end c.args.self.now.devices.now c.args.self.now.disks.now line.len line.target) (all_lines c.args.self.now.devices.now) None ∙ passes_on Range (λ line. line.at) _ None (sym c.in-None.ensures))
+pub returns : goal.returns
+returns c =
+    sym (first_by Range (λ line. line.at) (λ line. passes_end c.args.self.now.devices.now c.args.self.now.disks.now line.len line.target) (all_lines c.args.self.now.devices.now) None ∙ passes_on Range (λ line. line.at) _ None (sym c.in_default.ensures))

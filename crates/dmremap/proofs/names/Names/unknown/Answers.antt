@@ -8,6 +8,6 @@ pub returns-in-Some : goal.returns-in-Some
 returns-in-Some c =
     ap Some c.fault.ensures ∙ sym (first_by Unknown (λ line. line.at) (λ line. is_unknown c.args.self.now.devices.now c.args.self.now.disks.now line.target) (all_lines c.args.self.now.devices.now) None ∙ stops Unknown (λ line. line.at) _ _ None (sym c.in-Some.ensures))
 
-pub returns-in-None : goal.returns-in-None
-returns-in-None c =
-    sym (first_by Unknown (λ line. line.at) (λ line. is_unknown c.args.self.now.devices.now c.args.self.now.disks.now line.target) (all_lines c.args.self.now.devices.now) None ∙ passes_on Unknown (λ line. line.at) _ None (sym c.in-None.ensures))
+pub returns : goal.returns
+returns c =
+    sym (first_by Unknown (λ line. line.at) (λ line. is_unknown c.args.self.now.devices.now c.args.self.now.disks.now line.target) (all_lines c.args.self.now.devices.now) None ∙ passes_on Unknown (λ line. line.at) _ None (sym c.in_default.ensures))
