@@ -20,6 +20,9 @@ ghost use Rattle.dmremap.specs.Pieces.{AreFewest, fewest};
 ghost use Rattle.dmremap.specs.Fate.{IsFated, IsFlushed, OnRefused, fate_status, fate_message};
 ghost use Rattle.dmremap.specs.Words.{has_disk_list};
 
+#[cfg(test)]
+mod tests;
+
 use crate::ending::Ending;
 use crate::load::load;
 use crate::message::{Message, ending_message, load_message, tell};

@@ -1,0 +1,259 @@
+//! Loads that are refused: each kind in each part, and which of several faults is told.
+//!
+//! A refused load has no output and status 1, so a row says only both texts and the message. The
+//! kinds that need a target which is not read yet have no row.
+
+use super::*;
+use std::alloc::AllocError;
+use std::test::Fail;
+
+/// Asserts that two texts are refused with a message, of which only its own words are given.
+fn check_refused(
+    rt: &impl Abort,
+    alloc: Global,
+    source: &str,
+    disks: &str,
+    words: &str,
+) -> Result<(), AllocError> {
+    let message = format!(in alloc; "dmremap: {words}\n")?;
+    let name = format!(in alloc; "{source:?} over {disks:?}")?;
+    let case = Case {
+        name: name.as_str(),
+        source,
+        disks,
+        output: "",
+        message: message.as_str(),
+        status: 1,
+        ..VOLUME
+    };
+    check(rt, alloc, &case);
+    Ok(())
+}
+
+#[test]
+fn table_texts(rt: HostRuntime) -> Result<(), Fail> {
+    let cases = [
+        ("a: 0 8 error\na: 8 8\terror\n", "source: text at 2"),
+        ("a: 0 8 error\r\n", "source: text at 1"),
+        ("a: 0 8 error\na: 8 8 error\u{7f}", "source: text at 2"),
+        ("\u{e9}: 0 8 error\n", "source: text at 1"),
+        ("\n", "source: syntax at 1"),
+        ("a: 0 8 error\n\na: 8 8 error\n", "source: syntax at 2"),
+        ("a: 0 8\n", "source: syntax at 1"),
+        ("a 0 8 error\n", "source: syntax at 1"),
+        (": 0 8 error\n", "source: syntax at 1"),
+        ("a : 0 8 error\n", "source: syntax at 1"),
+        (" a: 0 8 error\n", "source: syntax at 1"),
+        ("a: 0  8 error\n", "source: syntax at 1"),
+        ("a: 0 8 error  \n", "source: syntax at 1"),
+        ("a: 0 8 error", "source: syntax at 1"),
+        ("a: 0 8 error\na: 8 8 error", "source: syntax at 2"),
+        ("a: 00 8 error\n", "source: field at 1"),
+        ("a: 0 08 error\n", "source: field at 1"),
+        ("a: 0 -8 error\n", "source: field at 1"),
+        ("a: 10000000000000000000 8 error\n", "source: field at 1"),
+        ("a: 0 8 error\na: 8 8 linea sda 0\n", "source: field at 2"),
+        ("a: 0 8 error 0\n", "source: field at 1"),
+        ("a: 0 8 linear\n", "source: field at 1"),
+        ("a: 0 8 linear sda\n", "source: field at 1"),
+        ("a: 0 8 linear sda x\n", "source: field at 1"),
+        ("a: 0 8 linear sda 0 0\n", "source: field at 1"),
+        ("a,: 0 8 error\n", "source: name at 1"),
+        ("a: 0 8 error\na: 8 8 linear s;a 0\n", "source: name at 2"),
+        ("a: 0 8 linear s\\a 0\n", "source: name at 1"),
+        ("a: 0 8 linear /dev/mapper/ 0\n", "source: name at 1"),
+        ("a: 0 8 linear /dev/mapper/a/b 0\n", "source: name at 1"),
+    ];
+    for (source, words) in cases {
+        check_refused(&rt, rt.alloc(), source, VOLUME.disks, words)?;
+    }
+    Ok(())
+}
+
+#[test]
+fn disk_lists(rt: HostRuntime) -> Result<(), Fail> {
+    let cases = [
+        ("sda 150\nsdb\t1\n", "disks: text at 2"),
+        ("sda 150\r\n", "disks: text at 1"),
+        ("sda 150\n\n", "disks: syntax at 2"),
+        ("sda\n", "disks: syntax at 1"),
+        ("sda 150 \n", "disks: syntax at 1"),
+        (" sda 150\n", "disks: syntax at 1"),
+        ("sda  150\n", "disks: syntax at 1"),
+        ("sda 150 1\n", "disks: syntax at 1"),
+        ("sda 150", "disks: syntax at 1"),
+        ("sda 0150\n", "disks: field at 1"),
+        ("sda 150\nsdb x\n", "disks: field at 2"),
+        ("sda 10000000000000000000\n", "disks: field at 1"),
+        ("sda 150\ns,b 1\n", "disks: name at 2"),
+        ("sda 150\n/dev/mapper/b 1\n", "disks: name at 2"),
+        ("sda 150\nsdb 1\nsda 150\n", "disks: twice at 3"),
+        ("sda 150\nsdb 0\n", "disks: empty at 2"),
+        ("sda 1125899906842625\n", "disks: limit at 1"),
+        ("sda 9999999999999999999\n", "disks: limit at 1"),
+    ];
+    for (disks, words) in cases {
+        check_refused(&rt, rt.alloc(), VOLUME.source, disks, words)?;
+    }
+    Ok(())
+}
+
+#[test]
+fn descriptions(rt: HostRuntime) -> Result<(), Fail> {
+    let cases = [
+        ("a: 0 0 error\n", "source: empty at 1"),
+        ("a: 0 8 error\na: 8 0 error\n", "source: empty at 2"),
+        ("a: 1 8 error\n", "source: gap at 1"),
+        ("a: 0 8 error\na: 9 8 error\n", "source: gap at 2"),
+        ("a: 0 8 error\na: 7 8 error\n", "source: overlap at 2"),
+        ("a: 0 8 error\na: 0 8 error\n", "source: overlap at 2"),
+        ("a: 0 8 linear sdb 0\n", "source: unknown at 1"),
+        (
+            "a: 0 8 error\na: 8 8 linear /dev/mapper/b 0\n",
+            "source: unknown at 2",
+        ),
+        ("a: 0 8 linear a 0\n", "source: unknown at 1"),
+        ("a: 0 8 linear /dev/mapper/sda 0\n", "source: unknown at 1"),
+        ("a: 0 8 linear /dev/mapper/a 0\n", "source: cycle at 1"),
+        (
+            "a: 0 8 error\na: 8 8 linear /dev/mapper/a 0\n",
+            "source: cycle at 1",
+        ),
+        ("a: 0 100 linear sda 51\n", "source: range at 1"),
+        (
+            "a: 0 8 error\na: 8 1 linear sda 150\n",
+            "source: range at 2",
+        ),
+        ("a: 0 151 linear sda 0\n", "source: range at 1"),
+        ("a: 0 1 linear sda 1125899906842624\n", "source: range at 1"),
+        ("a: 0 8 error\nb: 0 8 error\n", "source: limit at 2"),
+        (
+            "a: 0 8 error\nb: 0 8 error\na: 8 8 error\n",
+            "source: limit at 2",
+        ),
+        ("a: 1125899906842625 1 error\n", "source: limit at 1"),
+        ("a: 0 1125899906842625 error\n", "source: limit at 1"),
+        ("a: 0 9999999999999999999 error\n", "source: limit at 1"),
+        (
+            "a: 0 1125899906842624 error\na: 1125899906842624 1 error\n",
+            "source: limit at 2",
+        ),
+        ("a: 0 1 linear sda 1125899906842625\n", "source: limit at 1"),
+    ];
+    for (source, words) in cases {
+        check_refused(&rt, rt.alloc(), source, VOLUME.disks, words)?;
+    }
+    Ok(())
+}
+
+#[test]
+fn the_first_check_goes_first(rt: HostRuntime) -> Result<(), Fail> {
+    let good = "a: 0 8 error\n";
+    let cases = [
+        // In one text each check runs to its end before the next.
+        (
+            "a,: 0 8 error\n\na: 8 8 erro\n\u{7f}",
+            "",
+            "source: text at 4",
+        ),
+        ("a,: 0 8 error\na: 8 8 erro\n\n", "", "source: syntax at 3"),
+        ("a: 8 8 erro\na: 8 8 error", "", "source: syntax at 2"),
+        ("a,: 0 8 error\na: 8 8 erro\n", "", "source: field at 2"),
+        (good, "s,a 8\nsdb x\nsdc\n\u{7f}", "disks: text at 4"),
+        (good, "s,a 8\nsdb x\nsdc\n", "disks: syntax at 3"),
+        (good, "s,a 8\nsdb x\n", "disks: field at 2"),
+        // The source's text goes before the disk list's, and both before what they describe.
+        ("a,: 0 8 error\n", "\u{7f}", "source: name at 1"),
+        (
+            "a: 1 0 error\nb: 0 8 error\n",
+            "s,a 8\n",
+            "disks: name at 1",
+        ),
+        // Then the checks of what they describe, in their order.
+        (
+            "a: 1 1125899906842625 error\nb: 0 0 error\n",
+            "sda 0\n",
+            "source: limit at 2",
+        ),
+        (
+            "a: 1125899906842625 0 error\n",
+            "sda 1125899906842625\n",
+            "source: limit at 1",
+        ),
+        (
+            "a: 1 0 error\n",
+            "sda 0\nsda 1125899906842625\n",
+            "disks: limit at 2",
+        ),
+        ("a: 1 0 error\n", "sda 0\nsda 0\n", "disks: twice at 2"),
+        (
+            "a: 1 8 error\na: 9 0 error\n",
+            "sda 0\n",
+            "source: empty at 2",
+        ),
+        ("a: 1 8 linear sdb 0\n", "sda 0\n", "disks: empty at 1"),
+        (
+            "a: 0 8 linear sdb 0\na: 9 8 error\na: 0 8 error\n",
+            "",
+            "source: gap at 2",
+        ),
+        (
+            "a: 0 8 linear sdb 0\na: 7 8 error\na: 99 8 error\n",
+            "",
+            "source: overlap at 2",
+        ),
+        (
+            "a: 0 8 linear /dev/mapper/a 0\na: 8 8 linear sdb 0\n",
+            "",
+            "source: unknown at 2",
+        ),
+        (
+            "a: 0 9 linear sda 0\na: 9 8 linear /dev/mapper/a 0\n",
+            "sda 8\n",
+            "source: cycle at 1",
+        ),
+    ];
+    for (source, disks, words) in cases {
+        check_refused(&rt, rt.alloc(), source, disks, words)?;
+    }
+    Ok(())
+}
+
+/// A text of so many letters between two others.
+fn around_letters(
+    alloc: Global,
+    before: &str,
+    letters: usize,
+    behind: &str,
+) -> Result<String, AllocError> {
+    let mut text = String::from_str(alloc, before)?;
+    for _ in 0..letters {
+        text.push('a')?;
+    }
+    text.push_str(behind)?;
+    Ok(text)
+}
+
+#[test]
+fn names_of_the_greatest_length(rt: HostRuntime) -> Result<(), Fail> {
+    let alloc = rt.alloc();
+    // The greatest lengths pass this check, and show in the one behind it.
+    for (letters, words) in [(127, "source: gap at 1"), (128, "source: name at 1")] {
+        let source = around_letters(alloc, "", letters, ": 1 8 error\n")?;
+        check_refused(&rt, alloc, source.as_str(), VOLUME.disks, words)?;
+    }
+    for (letters, words) in [(127, "source: unknown at 1"), (128, "source: name at 1")] {
+        let source = around_letters(alloc, "a: 0 8 linear /dev/mapper/", letters, " 0\n")?;
+        let disks = VOLUME.disks;
+        check_refused(&rt, alloc, source.as_str(), disks, words)?;
+    }
+    for (letters, words) in [(255, "source: unknown at 1"), (256, "source: name at 1")] {
+        let source = around_letters(alloc, "a: 0 8 linear ", letters, " 0\n")?;
+        check_refused(&rt, alloc, source.as_str(), VOLUME.disks, words)?;
+    }
+    for (letters, words) in [(255, "source: unknown at 1"), (256, "disks: name at 1")] {
+        let disks = around_letters(alloc, "", letters, " 8\n")?;
+        check_refused(&rt, alloc, VOLUME.source, disks.as_str(), words)?;
+    }
+    Ok(())
+}
