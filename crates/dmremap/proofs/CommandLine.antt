@@ -7,7 +7,7 @@ use Rattle.clap.specs.declared.error.Error.{Error}
 use Rattle.clap.specs.declared.parser.matches.ArgMatches.{ArgMatches}
 use Rattle.clap.specs.declared.error.kind.ErrorKind.{ErrorKind}
 use Rattle.clap.proofs.OnLiterals.{clap_on_literals}
-use Rattle.dmremap.specs.Words.{IsFaultOf, IsTaken, TakesFormats, TaskWords, task_of, command_line, fault_from, is_memory}
+use Rattle.dmremap.specs.Words.{IsFaultOf, IsTaken, TakesFormats, TaskWords, task_of, command_line, fault_from, has_lone_hyphen, is_memory}
 use Rattle.dmremap.specs.declared.words.WordsFault.TheVariants.{Words, Memory}
 
 -- clap's matches are those that the definitions compute, whatever the parser of FORMAT
@@ -25,14 +25,15 @@ among_first : (k : ErrorKind) (first second : Kinds) → IsAmong k first → IsA
 among_first k [] second among = absurd among
 among_first k (x ∷ xs) second among = among
 
--- an error that clap's clause allows is the fault that it becomes
-pub refused : (parser : ValueParser) (words : List Text) (error : Error) → TakesFormats parser → HasKind (fault_of (command_line parser) words) error
+-- an error that clap's clause allows is the fault that it becomes, where no lone hyphen was found
+pub refused : (parser : ValueParser) (words : List Text) (error : Error) → has_lone_hyphen words ≡ false → TakesFormats parser → HasKind (fault_of (command_line parser) words) error
     → IsFaultOf words (fault_from error)
-refused parser words error formats has_kind = go (is_memory (kind_of error)) refl
+refused parser words error no_hyphen formats has_kind = go (is_memory (kind_of error)) refl
   where
     go : (b : Bool) → is_memory (kind_of error) ≡ b → IsFaultOf words (cond b Memory (Words error))
     go true e = tt
-    go false e = record {
+    go false e = inr record {
+      hyphen = no_hyphen;
       parser = parser;
       formats = formats;
       among = elim has_kind [
