@@ -1,4 +1,4 @@
-use Rattle.std.proofs.Common.{ℕ, ◌+◌, ◌-◌, ◌<◌, ◌≡◌, ◌∙◌, List, Bool, ◌∷◌, [], true, false, cond, not, codes, length, get_or, take, drop, add-one, arith, refl, ap, sym}
+use Rattle.std.proofs.Common.{ℕ, ◌+◌, ◌-◌, ◌<◌, ◌≡◌, ◌∙◌, List, ◌∷◌, [], true, false, cond, not, codes, length, get_or, take, drop, add-one, arith, refl, ap, sym}
 use Rattle.std.proofs.lemmas.List.Sums.{take_while-cons}
 use Rattle.std.proofs.Math.Seq.{drop-cons, take-length}
 use Rattle.std.specs.Borrow.{Bor}
