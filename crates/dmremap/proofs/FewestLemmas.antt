@@ -35,10 +35,10 @@ onto_adds unit (piece ∷ pieces) =
     let P : Bool → Type 0 = λ b. joins unit piece.first ≡ b → AddsUnit unit (piece ∷ pieces) (cond b longer apart) in
     (elim (joins unit piece.first) as P [
       | true ↦ λ e. record {
-          flatten = ap (λ (u : BlockUnit). unit ∷ run u piece.len ++ flat_map units_in pieces) (sym (joined_next unit piece.first e));
-          each = λ h. (some_len piece.len, h.1);
-          most = omega arith;
-        }
+        flatten = ap (λ (u : BlockUnit). unit ∷ run u piece.len ++ flat_map units_in pieces) (sym (joined_next unit piece.first e));
+        each = λ h. (some_len piece.len, h.1);
+        most = omega arith;
+      }
       | false ↦ λ e. record { flatten = refl; each = λ h. (some_len 0, h); most = omega arith }
     ]) refl
 

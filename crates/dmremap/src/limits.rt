@@ -6,7 +6,7 @@ ghost use Rattle.std.specs.Prelude.{◌≡◌, None, find, nat_lt, option_copied
 ghost use Rattle.dm_table.specs.LoadFault.{first_or};
 ghost use Rattle.dmremap.specs.Soundness.{all_lines, is_far, is_large, too_large, too_many};
 
-use crate::soundness::{MOST_DEVICES, MOST_DISKS, MOST_LINES, MOST_LENGTH, fault};
+use crate::soundness::{MOST_DEVICES, MOST_DISKS, MOST_LENGTH, MOST_LINES, fault};
 use dm_table::{DeviceSpec, Disk, Line, LoadFault, LoadKind, Target};
 
 /// The first device, disk or line above the count that is allowed.

@@ -34,7 +34,7 @@ use part_file::PartFile;
 use std::io;
 use std::io::BufWriter;
 use std::process::ExitCode;
-use words::{Format, Task, WordsFault, read_words};
+use words::{Format, Task, WordsFault, not_text, read_words};
 
 fn main(rt: HostRuntime) -> ExitCode {
     let status = match answer(&rt) {
@@ -65,7 +65,7 @@ fn arguments_of(rt: &HostRuntime) -> Result<Vec<String>, WordsFault> {
     match std::env::args(rt) {
         Ok(arguments) => Ok(arguments.collect(rt.alloc())?),
         Err(error) if error.kind() == io::ErrorKind::OutOfMemory => Err(WordsFault::Memory),
-        Err(_) => Err(WordsFault::NotText),
+        Err(_) => Err(not_text(rt.alloc())),
     }
 }
 

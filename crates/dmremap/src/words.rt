@@ -8,9 +8,10 @@ ghost use Rattle.clap.specs.Walk.{texts};
 ghost use Rattle.clap.specs.Words.{AddsSubcommand, app_of, found_of, kind_of, rows_of, rule_of};
 ghost use Rattle.clap.specs.Words.{subcommand_rows_of, with_subcommand};
 ghost use Rattle.dmremap.specs.Words.{TakesFormats, command_line, disks_rule, format_named};
-ghost use Rattle.dmremap.specs.Words.{IsFaultOf, IsJobOf, fault_from, format_rule, has_disk_list};
+ghost use Rattle.dmremap.specs.Words.{IsFaultOf, IsJobOf, IsNotText, fault_from, format_rule, has_disk_list};
 ghost use Rattle.dmremap.specs.Words.{has_its_disks, has_lone_hyphen, map_app, map_task};
 ghost use Rattle.dmremap.specs.Words.{required_rule, status_of, task_of, words_of};
+ghost use Rattle.clap.specs.declared.error.kind.ErrorKind.TheVariants as kind;
 ghost use Rattle.dmremap.specs.declared.words.WordsFault.TheVariants as fault;
 
 #[cfg(test)]
@@ -57,9 +58,6 @@ pub enum WordsFault {
     /// DISKS is missing though the format asks for it, or is there though it doesn't.
     #[error("dmremap: words: disks")]
     Disks,
-    /// An argument isn't UTF-8, so that there are no words to read.
-    #[error("error: invalid UTF-8 was detected in one or more arguments")]
-    NotText,
     /// Memory ran out.
     #[error("dmremap: memory")]
     Memory,
@@ -99,6 +97,8 @@ Exit status
 
 Example
   dmremap map table stack.table disks.txt < requests.txt";
+
+const NOT_TEXT: &str = "invalid UTF-8 was detected in one or more arguments";
 
 const FORMATS: &[&str] = &["table"];
 
@@ -172,7 +172,7 @@ impl WordsFault {
     {
         match self {
             WordsFault::Words(error) => { if error.use_stderr() { 2 } else { 0 } }
-            WordsFault::Disks | WordsFault::NotText => 2,
+            WordsFault::Disks => 2,
             WordsFault::Memory => 6,
         }
     }
@@ -254,6 +254,22 @@ fn program<'a>(alloc: Global) -> Result<Command<'a>, AllocError>
             .arg_required_else_help(true)
             .subcommand(map)?,
     )
+}
+
+/// What is answered where an argument isn't UTF-8, so that there are no words to read.
+pub fn not_text(alloc: Global) -> WordsFault
+    ensures { IsNotText result }
+{
+    match not_text_error(alloc) {
+        Ok(error) => WordsFault::Words(error),
+        Err(AllocError) => WordsFault::Memory,
+    }
+}
+
+fn not_text_error(alloc: Global) -> Result<clap::Error, AllocError>
+    ensures { IfOk result (λ error. kind_of error ≡ kind.InvalidValue) }
+{
+    program(alloc)?.error(ErrorKind::InvalidValue, NOT_TEXT)
 }
 
 // Whether a word behind the program's name is a hyphen alone, before the first `--`.
