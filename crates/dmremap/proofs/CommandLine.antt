@@ -1,13 +1,14 @@
 -- What clap's clauses say of the program's own command line.
-use Rattle.std.proofs.Common.{◌≡◌, ◌∙◌, Bool, List, Some, [], ◌∷◌, true, false, true≢false, ap, refl, sym, inl, inr, cond, option_and_then}
+use Rattle.std.proofs.Common.{◌≡◌, ◌∙◌, Bool, List, Option, Some, None, is_some, [], ◌∷◌, true, false, true≢false, ap, refl, subst, sym, inl, inr, cond, option_and_then}
 use Rattle.clap.specs.Kinds.{HasKind, IsAmong, Kinds, or_else}
 use Rattle.clap.specs.Words.{App, HasMatchesOf, Text, fault_of, is_simple, is_simple_and_free, kind_of, subcommand_of, subcommand_rows_of}
 use Rattle.clap.specs.declared.builder.value_parser.ValueParser.{ValueParser}
 use Rattle.clap.specs.declared.error.Error.{Error}
 use Rattle.clap.specs.declared.parser.matches.ArgMatches.{ArgMatches}
 use Rattle.clap.specs.declared.error.kind.ErrorKind.{ErrorKind}
+use Rattle.clap.specs.declared.error.kind.ErrorKind.TheVariants as kind
 use Rattle.clap.proofs.OnLiterals.{clap_on_literals}
-use Rattle.dmremap.specs.Words.{IsFaultOf, IsTaken, TakesFormats, TaskWords, task_of, command_line, fault_from, is_memory}
+use Rattle.dmremap.specs.Words.{IsFaultOf, IsRefused, IsTaken, TakesFormats, TaskWords, command_line, fault_from, has_lone_hyphen, is_memory, refusal_of, task_in, task_of}
 use Rattle.dmremap.specs.declared.words.WordsFault.TheVariants.{Words, Memory}
 
 -- clap's matches are those that the definitions compute, whatever the parser of FORMAT
@@ -25,14 +26,15 @@ among_first : (k : ErrorKind) (first second : Kinds) → IsAmong k first → IsA
 among_first k [] second among = absurd among
 among_first k (x ∷ xs) second among = among
 
--- an error that clap's clause allows is the fault that it becomes
-pub refused : (parser : ValueParser) (words : List Text) (error : Error) → TakesFormats parser → HasKind (fault_of (command_line parser) words) error
+-- an error that clap's clause allows is the fault that it becomes, where no lone hyphen was found
+pub refused : (parser : ValueParser) (words : List Text) (error : Error) → has_lone_hyphen words ≡ false → TakesFormats parser → HasKind (fault_of (command_line parser) words) error
     → IsFaultOf words (fault_from error)
-refused parser words error formats has_kind = go (is_memory (kind_of error)) refl
+refused parser words error no_hyphen formats has_kind = go (is_memory (kind_of error)) refl
   where
     go : (b : Bool) → is_memory (kind_of error) ≡ b → IsFaultOf words (cond b Memory (Words error))
     go true e = tt
-    go false e = record {
+    go false e = inr record {
+      hyphen = no_hyphen;
       parser = parser;
       formats = formats;
       among = elim has_kind [
@@ -53,4 +55,25 @@ taken parser line words task matches formats line_is kinds has_matches task_is =
       formats = formats;
       taken = ap (λ (a : App). fault_of a words) (sym line_is) ∙ kinds (ap is_simple_and_free line_is ∙ simple_and_free parser);
       task = sym (task_is ∙ ap (option_and_then (λ met. task_of met.0 met.1)) (met ∙ ap (λ (a : App). subcommand_of a words) line_is));
+    }
+
+-- words that clap takes, and whose matches give no task, lack a word
+pub lacking : (parser : ValueParser) (line : App) (words : List Text) (error : Error) (matches : ArgMatches) → has_lone_hyphen words ≡ false
+    → TakesFormats parser → line ≡ command_line parser → (is_simple_and_free line ≡ true → fault_of line words ≡ []) → HasMatchesOf line words matches
+    → None ≡ option_and_then (λ met. task_of met.0 met.1) (subcommand_rows_of matches) → kind_of error ≡ kind.MissingRequiredArgument → IsRefused words error
+lacking parser line words error matches no_hyphen formats line_is kinds has_matches task_is kind_is =
+    let met : subcommand_rows_of matches ≡ subcommand_of line words = (has_matches (ap is_simple line_is ∙ simple parser)).1 in
+    let no_fault : fault_of (command_line parser) words ≡ [] =
+    ap (λ (a : App). fault_of a words) (sym line_is) ∙ kinds (ap is_simple_and_free line_is ∙ simple_and_free parser) in
+    let no_task : task_in (command_line parser) words ≡ None =
+    sym (task_is ∙ ap (option_and_then (λ met. task_of met.0 met.1)) (met ∙ ap (λ (a : App). subcommand_of a words) line_is)) in
+    let lacks : refusal_of (command_line parser) words ≡ kind.MissingRequiredArgument ∷ [] =
+    ap (λ (ks : Kinds). or_else ks (cond (is_some (task_in (command_line parser) words)) [] (kind.MissingRequiredArgument ∷ []))) no_fault
+    ∙ ap (λ (t : Option TaskWords). cond (is_some t) [] (kind.MissingRequiredArgument ∷ [])) no_task in
+    record {
+      hyphen = no_hyphen;
+      parser = parser;
+      formats = formats;
+      among = subst (IsAmong (kind_of error)) (sym lacks) (inl kind_is);
+      no_memory = λ memory. true≢false (sym (ap is_memory memory) ∙ ap is_memory kind_is);
     }

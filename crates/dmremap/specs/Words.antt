@@ -1,8 +1,9 @@
 -- The command line of the program, and the job or the refusal that words have by it.
-use Rattle.std.specs.Prelude.{◌≡◌, ◌≢◌, ◌∷◌, [], ℕ, Bool, true, false, List, Option, Some, ⊤}
-use Rattle.std.specs.Prelude.{None, codes, is_some, map, not, option_and_then, option_map}
+use Rattle.std.specs.Prelude.{◌≡◌, ◌≢◌, ◌⊎◌, ◌∷◌, [], ℕ, Bool, true, false, List, Option, Some, ⊤}
+use Rattle.std.specs.Prelude.{None, codes, drop, is_some, map, not, option_and_then, option_map}
 use Rattle.std.specs.Prelude.{if◌then◌else◌}
 use Rattle.std.specs.Borrow.{Bor}
+use Rattle.std.specs.List.{before_first, list_any}
 use Rattle.std.specs.Str.{bytes_eq}
 use Rattle.clap.specs.Kinds.{IsAmong, Kinds, or_else}
 use Rattle.clap.specs.Simple.{on_top}
@@ -19,7 +20,7 @@ use Rattle.dmremap.specs.declared.words.Task.{Task}
 use Rattle.dmremap.specs.declared.words.Task.TheVariants.{Map}
 use Rattle.dmremap.specs.declared.words.Job.{Job}
 use Rattle.dmremap.specs.declared.words.WordsFault.{WordsFault}
-use Rattle.dmremap.specs.declared.words.WordsFault.TheVariants.{Words, Disks, Memory}
+use Rattle.dmremap.specs.declared.words.WordsFault.TheVariants.{Words, Disks, NotText, Memory}
 
 -- ---- the command line
 
@@ -102,6 +103,15 @@ has_its_disks (map_words format file disks) =
 
 -- ---- what is answered to words
 
+-- a word of these is a hyphen alone, before the first `--`
+abbrev pub lone_hyphen_in : List Text → Bool
+lone_hyphen_in words = list_any (λ w. bytes_eq w (codes "-"))
+    (before_first (λ w. bytes_eq w (codes "--")) words)
+
+-- so is a word behind the program's name
+abbrev pub has_lone_hyphen : List Text → Bool
+has_lone_hyphen words = lone_hyphen_in (drop 1 words)
+
 -- the kinds of a refusal: clap's, and a missing argument at words that clap takes and that give no
 -- task
 abbrev pub refusal_of : App → List Text → Kinds
@@ -115,27 +125,38 @@ pub record IsTaken (words : List Text) (asked : TaskWords) : Type 0 where
   pub taken : fault_of (command_line parser) words ≡ []
   pub task : task_in (command_line parser) words ≡ Some asked
 
--- clap refuses the words by this error, which is no want of memory
+-- clap refuses the words by this error, which is no want of memory; they have no lone hyphen
 pub record IsRefused (words : List Text) (error : Error) : Type 0 where
+  pub hyphen : has_lone_hyphen words ≡ false
   pub parser : ValueParser
   pub formats : TakesFormats parser
   pub among : IsAmong (kind_of error) (refusal_of (command_line parser) words)
   pub no_memory : kind_of error ≢ kind.OutOfMemory
 
+-- a lone hyphen is refused as an unknown argument, whatever else the words are
+abbrev pub RefusesHyphen : List Text → Error → Type 0
+RefusesHyphen words error =
+    (has_lone_hyphen words ≡ true) × (kind_of error ≡ kind.UnknownArgument)
+
 -- the words ask for this job
 pub record IsJobOf (words : List Text) (job : Job) : Type 0 where
+  pub hyphen : has_lone_hyphen words ≡ false
   pub task : IsTaken words (words_of job.task)
   pub disks : has_its_disks (words_of job.task) ≡ true
   pub status : job.status ≡ false
 
--- the words ask for a task with DISKS missing or too much
-abbrev pub LacksItsDisks : List Text → Type 0
-LacksItsDisks words = (task : TaskWords) × IsTaken words task × (has_its_disks task ≡ false)
+-- the words ask for a task with DISKS missing or too much, and have no lone hyphen
+pub record LacksItsDisks (words : List Text) : Type 0 where
+  pub hyphen : has_lone_hyphen words ≡ false
+  pub asked : TaskWords
+  pub task : IsTaken words asked
+  pub disks : has_its_disks asked ≡ false
 
--- the words have this fault; want of memory can come at any words
+-- the words have this fault: they are text, and want of memory can come at any words
 abbrev pub IsFaultOf : List Text → WordsFault → Type 0
-IsFaultOf words (Words error) = IsRefused words error
+IsFaultOf words (Words error) = RefusesHyphen words error ⊎ IsRefused words error
 IsFaultOf words Disks = LacksItsDisks words
+IsFaultOf words NotText = ⊥
 IsFaultOf words Memory = ⊤
 
 -- ---- the exit status of a fault
@@ -150,6 +171,7 @@ is_shown _ = false
 abbrev pub status_of : WordsFault → ℕ
 status_of (Words error) = if is_shown (kind_of error) then 0 else 2
 status_of Disks = 2
+status_of NotText = 2
 status_of Memory = 6
 
 -- ---- clap's errors as faults

@@ -34,28 +34,39 @@ use part_file::PartFile;
 use std::io;
 use std::io::BufWriter;
 use std::process::ExitCode;
-use words::{Format, Job, Task, WordsFault, read_words};
+use words::{Format, Task, WordsFault, read_words};
 
-fn main(rt: HostRuntime) -> io::Result<ExitCode> {
-    let alloc = rt.alloc();
-    let arguments: Vec<String> = std::env::args(&rt)?.collect(alloc)?;
-    let mut words = Vec::new(alloc);
-    for argument in &arguments {
-        words.push(argument.as_str())?;
-    }
-    let status = match read_words(alloc, words.as_slice()) {
-        Ok(Job {
-            task:
-                Task::Map {
-                    format,
-                    file,
-                    disks,
-                },
-            status,
-        }) => map_files(&rt, format, status, file, disks)?,
-        Err(fault) => refuse(&rt, &fault)?,
+fn main(rt: HostRuntime) -> ExitCode {
+    let status = match answer(&rt) {
+        Ok(status) => status,
+        Err(fault) => refuse(&rt, &fault),
     };
-    Ok(ExitCode::from(status))
+    ExitCode::from(status)
+}
+
+/// Does what the words ask for, and answers the status of that.
+fn answer(rt: &HostRuntime) -> Result<u8, WordsFault> {
+    let arguments = arguments_of(rt)?;
+    let words: Vec<&str> = arguments
+        .iter()
+        .map(|argument| argument.as_str())
+        .collect(rt.alloc())?;
+    let job = read_words(rt.alloc(), words.as_slice())?;
+    let Task::Map {
+        format,
+        file,
+        disks,
+    } = job.task;
+    map_files(rt, format, job.status, file, disks)
+}
+
+/// The words that the program is given, of which the first is its name.
+fn arguments_of(rt: &HostRuntime) -> Result<Vec<String>, WordsFault> {
+    match std::env::args(rt) {
+        Ok(arguments) => Ok(arguments.collect(rt.alloc())?),
+        Err(error) if error.kind() == io::ErrorKind::OutOfMemory => Err(WordsFault::Memory),
+        Err(_) => Err(WordsFault::NotText),
+    }
 }
 
 /// Maps the requests of the standard input through the tables of a file.
@@ -65,12 +76,12 @@ fn map_files(
     status: bool,
     file: &str,
     disks: Option<&str>,
-) -> io::Result<u8>
+) -> Result<u8, WordsFault>
     requires unflagged { status ≡ false }
     requires disks { is_some disks ≡ has_disk_list format }
 {
     let Ok(output) = BufWriter::new(rt.alloc(), rt.stdout()) else {
-        return refuse(rt, &WordsFault::Memory);
+        return Err(WordsFault::Memory);
     };
     let mut disks = match disks {
         Some(path) => Some(Counted::new(PartFile::open(rt, path))),
@@ -88,8 +99,8 @@ fn map_files(
     ))
 }
 
-/// Prints why there is no job, and answers its status.
-fn refuse(rt: &HostRuntime, fault: &WordsFault) -> io::Result<u8> {
-    fault.print(rt)?;
-    Ok(fault.status())
+/// Prints why there is no job, and answers its status, which stands where nothing can be printed.
+fn refuse(rt: &HostRuntime, fault: &WordsFault) -> u8 {
+    let _ = fault.print(rt);
+    fault.status()
 }

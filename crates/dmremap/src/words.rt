@@ -9,8 +9,8 @@ ghost use Rattle.clap.specs.Words.{AddsSubcommand, app_of, found_of, kind_of, ro
 ghost use Rattle.clap.specs.Words.{subcommand_rows_of, with_subcommand};
 ghost use Rattle.dmremap.specs.Words.{TakesFormats, command_line, disks_rule, format_named};
 ghost use Rattle.dmremap.specs.Words.{IsFaultOf, IsJobOf, fault_from, format_rule, has_disk_list};
-ghost use Rattle.dmremap.specs.Words.{has_its_disks, map_app, map_task, required_rule, status_of};
-ghost use Rattle.dmremap.specs.Words.{task_of, words_of};
+ghost use Rattle.dmremap.specs.Words.{has_its_disks, has_lone_hyphen, map_app, map_task};
+ghost use Rattle.dmremap.specs.Words.{required_rule, status_of, task_of, words_of};
 ghost use Rattle.dmremap.specs.declared.words.WordsFault.TheVariants as fault;
 
 #[cfg(test)]
@@ -57,6 +57,9 @@ pub enum WordsFault {
     /// DISKS is missing though the format asks for it, or is there though it doesn't.
     #[error("dmremap: words: disks")]
     Disks,
+    /// An argument isn't UTF-8, so that there are no words to read.
+    #[error("error: invalid UTF-8 was detected in one or more arguments")]
+    NotText,
     /// Memory ran out.
     #[error("dmremap: memory")]
     Memory,
@@ -169,7 +172,7 @@ impl WordsFault {
     {
         match self {
             WordsFault::Words(error) => { if error.use_stderr() { 2 } else { 0 } }
-            WordsFault::Disks => 2,
+            WordsFault::Disks | WordsFault::NotText => 2,
             WordsFault::Memory => 6,
         }
     }
@@ -253,15 +256,38 @@ fn program<'a>(alloc: Global) -> Result<Command<'a>, AllocError>
     )
 }
 
+// Whether a word behind the program's name is a hyphen alone, before the first `--`.
+fn has_lone_hyphen(words: &[&str]) -> bool
+    ensures { result ≡ has_lone_hyphen (texts words.now) }
+{
+    let [_, rest @ ..] = words else {
+        return false;
+    };
+    for word in rest {
+        if *word == "--" {
+            return false;
+        }
+        if *word == "-" {
+            return true;
+        }
+    }
+    false
+}
+
 /// The job that the words ask for, of which the first is the program's name. No file is opened.
-/// A wrong presence of DISKS is answered only where clap takes the words. A request for help is a
-/// refusal with clap's help as its text, and so are no words at all. The command line is built anew
-/// at each call, and the words are walked once.
+/// A hyphen alone, which clap would take as a value, is refused before the first `--`, whatever
+/// else the words are. A wrong presence of DISKS is answered only where clap takes the words. A
+/// request for help is a refusal with clap's help as its text, and so are no words at all. The
+/// command line is built anew at each call, and the words are walked twice.
 pub fn read_words<'a>(alloc: Global, words: &'a [&'a str]) -> Result<Job<'a>, WordsFault>
     ensures job { IfOk result (IsJobOf (texts words.now)) }
     ensures fault { IfErr result (IsFaultOf (texts words.now)) }
 {
     let mut program = program(alloc)?;
+    if has_lone_hyphen(words) {
+        let error = program.error(ErrorKind::UnknownArgument, "unexpected argument '-' found")?;
+        return Err(WordsFault::Words(error));
+    }
     let matches = program.try_get_matches_from_mut(words)?;
     let Some(task) = Task::of_matches(&matches) else {
         let error = program.error(

@@ -21,6 +21,14 @@ fn map_table_gives_its_texts(rt: HostRuntime) {
 }
 
 #[test]
+fn a_hyphen_behind_dashes_is_a_file(rt: HostRuntime) {
+    let words = ["dmremap", "map", "table", "--", "-", "d"];
+    let job = read_words(rt.alloc(), words.as_slice()).expect(&rt, "a job");
+    let Task::Map { file, disks, .. } = job.task;
+    assert!(rt; file == "-" && disks == Some("d") && !job.status);
+}
+
+#[test]
 fn disks_are_asked_for(rt: HostRuntime) {
     let words = ["dmremap", "map", "table", "a.table"];
     let (status, text) = refusal(&rt, rt.alloc(), words.as_slice());
@@ -30,7 +38,7 @@ fn disks_are_asked_for(rt: HostRuntime) {
 
 #[test]
 fn other_words_are_refused(rt: HostRuntime) {
-    let cases: [(&[&str], &str); 10] = [
+    let cases: [(&[&str], &str); 12] = [
         (&[], "Usage: dmremap <COMMAND>"),
         (&["dmremap"], "Usage: dmremap <COMMAND>"),
         (&["dmremap", "map"], "<FORMAT> <FILE>"),
@@ -57,6 +65,14 @@ fn other_words_are_refused(rt: HostRuntime) {
         (
             &["dmremap", "map", "-x", "table", "a", "b"],
             "unexpected argument '-x'",
+        ),
+        (
+            &["dmremap", "map", "table", "-", "d"],
+            "error: unexpected argument '-' found",
+        ),
+        (
+            &["dmremap", "map", "table", "f", "-"],
+            "error: unexpected argument '-' found",
         ),
         (
             &["dmremap", "map", "--version"],

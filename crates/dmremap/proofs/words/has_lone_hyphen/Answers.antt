@@ -1,0 +1,60 @@
+use Rattle.std.proofs.Common.{ℕ, ◌+◌, ◌-◌, ◌<◌, ◌≡◌, ◌∙◌, List, ◌∷◌, [], true, false, cond, not, codes, length, get_or, take, drop, add-one, arith, refl, ap, sym}
+use Rattle.std.proofs.lemmas.List.Sums.{take_while-cons}
+use Rattle.std.proofs.Math.Seq.{drop-cons, take-length}
+use Rattle.std.specs.Borrow.{Bor}
+use Rattle.std.specs.List.{before_first, list_any}
+use Rattle.std.specs.Str.{bytes_eq}
+use Rattle.clap.specs.Walk.{texts}
+use Rattle.clap.specs.Words.{Text}
+use Rattle.dmremap.specs.Words.{lone_hyphen_in}
+use Rattle.dmremap.proofs.words.has_lone_hyphen.Goals as goal
+
+-- the first word decides, where it is `--` or a hyphen alone
+lone-cons : (word : Text) (words : List Text) → lone_hyphen_in (word ∷ words)
+    ≡ list_any (λ w. bytes_eq w (codes "-")) (cond (not (bytes_eq word (codes "--"))) (word ∷ before_first (λ w. bytes_eq w (codes "--")) words) [])
+lone-cons word words = ap (list_any (λ w. bytes_eq w (codes "-"))) (take_while-cons (λ w. not (bytes_eq w (codes "--"))) word words)
+
+-- no hyphen is looked for from the first `--` on
+lone-dashes : (word : Text) (words : List Text) → bytes_eq word (codes "--") ≡ true → lone_hyphen_in (word ∷ words) ≡ false
+lone-dashes word words dashes = rw dashes refl
+
+-- the first word is a hyphen
+lone-hyphen : (word : Text) (words : List Text) → bytes_eq word (codes "--") ≡ false → bytes_eq word (codes "-") ≡ true
+    → lone_hyphen_in (word ∷ words) ≡ true
+lone-hyphen word words no_dashes hyphen = lone-cons word words ∙ rw (no_dashes, hyphen) refl
+
+-- the first word is another
+lone-other : (word : Text) (words : List Text) → bytes_eq word (codes "--") ≡ false → bytes_eq word (codes "-") ≡ false
+    → lone_hyphen_in (word ∷ words) ≡ lone_hyphen_in words
+lone-other word words no_dashes no_hyphen = lone-cons word words ∙ rw (no_dashes, no_hyphen) refl
+
+-- among references, the texts from a place on begin with the one that stands there
+texts-drop : (words : List (Bor Text)) (i : ℕ) (d : Bor Text) → i < length words
+    → texts (drop i words) ≡ (get_or words i d).now ∷ texts (drop (i + 1) words)
+texts-drop words i d lt = ap texts (drop-cons words i d lt) ∙ rw (add-one i) refl
+
+-- a hyphen alone stands at this place
+lone-hyphen_at : (words : List (Bor Text)) (i : ℕ) (d : Bor Text) → i < length words → bytes_eq (get_or words i d).now (codes "--") ≡ false
+    → bytes_eq (get_or words i d).now (codes "-") ≡ true → lone_hyphen_in (texts (drop i words)) ≡ true
+lone-hyphen_at words i d lt no_dashes hyphen = ap lone_hyphen_in (texts-drop words i d lt) ∙ lone-hyphen (get_or words i d).now (texts (drop (i + 1) words)) no_dashes hyphen
+
+-- the word at this place is another
+lone-other_at : (words : List (Bor Text)) (i : ℕ) (d : Bor Text) → i < length words → bytes_eq (get_or words i d).now (codes "--") ≡ false
+    → bytes_eq (get_or words i d).now (codes "-") ≡ false → lone_hyphen_in (texts (drop i words)) ≡ lone_hyphen_in (texts (drop (i + 1) words))
+lone-other_at words i d lt no_dashes no_hyphen = ap lone_hyphen_in (texts-drop words i d lt) ∙ lone-other (get_or words i d).now (texts (drop (i + 1) words)) no_dashes no_hyphen
+
+-- the words behind the first
+texts-behind_first : (words : List (Bor Text)) → texts (take (length words - 1) (drop 1 words)) ≡ drop 1 (texts words)
+texts-behind_first [] = refl
+texts-behind_first (word ∷ words) =
+    let less : length (word ∷ words) - 1 ≡ length words = omega arith in ap (λ n. texts (take n words)) less ∙ ap texts (take-length words)
+
+pub returns-then-eq-2 : goal.returns-then-eq-2
+returns-then-eq-2 c =
+    sym (ap lone_hyphen_in (sym (texts-behind_first c.args.words.now)) ∙ c.loop-word.invariant
+    ∙ lone-hyphen_at _ _ _ c.loop-word-test.true (sym c.eq.ensures ∙ c.if-eq.false) (sym c.eq-in-loop-word.ensures ∙ c.if-eq-2.true))
+
+pub loop-word-preserved : goal.loop-word-preserved
+loop-word-preserved c =
+    c.loop-word.invariant
+    ∙ lone-other_at _ _ _ c.loop-word-test.true (sym c.eq.ensures ∙ c.if-eq.false) (sym c.eq-in-loop-word.ensures ∙ c.if-eq-2.false)

@@ -1,0 +1,7 @@
+use Rattle.std.proofs.Common.{◌≡◌, drop}
+use Rattle.clap.specs.Walk.{texts}
+use Rattle.dmremap.specs.Words.{lone_hyphen_in}
+use Rattle.dmremap.proofs.words.has_lone_hyphen.Given as goal
+
+abbrev pub invariant-loop-word : goal.invariant-loop-word
+invariant-loop-word l = lone_hyphen_in (texts l.rest) ≡ lone_hyphen_in (texts (drop l.word-index l.rest))
