@@ -1,0 +1,4 @@
+pub mod Tree
+pub mod TreeCode
+pub mod View
+pub mod TreeFalls

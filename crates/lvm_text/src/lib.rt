@@ -1,0 +1,6 @@
+//! LVM2 configuration text.
+#![tactic(auto)]
+
+mod tree;
+
+pub use tree::{Node, Scalar, Section, Value};
