@@ -2,3 +2,11 @@ pub mod Tree
 pub mod TreeCode
 pub mod View
 pub mod TreeFalls
+pub mod Token
+pub mod Spelling
+pub mod Grammar
+pub mod Checks
+pub mod Reading
+pub mod Scan
+pub mod Machine
+pub mod TokenView
