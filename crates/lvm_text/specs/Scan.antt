@@ -34,7 +34,7 @@ unfoldable pub piece_at : List ℕ → Option (Piece × List ℕ)
 piece_at [] = None
 piece_at (b ∷ bs) =
     if is_white b then Some (White b, bs)
-    else if b == 35 then option_map (λ n. (Comment (take n bs), drop (n + 1) bs)) (line_length bs)
-    else if b == 34 then option_map (λ n. (Lexeme (Text (take n bs)), drop (n + 1) bs)) (raw_length bs)
+    else if b == 35 then option_map (λ n. (Comment (take n bs), drop (suc n) bs)) (line_length bs)
+    else if b == 34 then option_map (λ n. (Lexeme (Text (take n bs)), drop (suc n) bs)) (raw_length bs)
     else if is_word_byte b then Some (Lexeme (Word (take (word_length (b ∷ bs)) (b ∷ bs))), drop (word_length (b ∷ bs)) (b ∷ bs))
     else option_map (λ t. (Lexeme t, bs)) (sign_of b)

@@ -4,6 +4,7 @@
 #![tactic(auto)]
 
 mod fault;
+mod scan;
 mod syntax;
 mod token;
 mod tree;
