@@ -39,6 +39,12 @@ HasFault text (Number n) = IsUnsound text (Number n)
 HasFault text (KeyTwice n) = IsUnsound text (KeyTwice n)
 HasFault text Memory = Unit {0}
 
+-- a fault of tokens alone, or want of memory
+abbrev pub IsTokenFault : List ℕ → TextFault → Type 0
+IsTokenFault text (Token n) = IsBadToken text n
+IsTokenFault text Memory = Unit {0}
+IsTokenFault text _ = ⊥
+
 -- this is what parse answers, unless memory runs out
 abbrev pub Answers : Result Tree TextFault → Result Tree TextFault → Type 0
 Answers (Err Memory) said = Unit {0}

@@ -4,6 +4,7 @@
 #![tactic(auto)]
 
 mod fault;
+mod piece;
 mod scan;
 mod syntax;
 mod token;

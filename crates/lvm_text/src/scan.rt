@@ -3,8 +3,8 @@
 //! here, with its length.
 
 ghost use Rattle.std.specs.Prelude.{◌≡◌, None, is_none};
-ghost use Rattle.lvm_text.specs.Spelling.{is_white, is_word_byte, is_escapable, is_line, is_end};
-ghost use Rattle.lvm_text.specs.Scan.{line_length, word_length, raw_length};
+ghost use Rattle.lvm_text.specs.Spelling.{is_white, is_word_byte, is_line, is_end};
+ghost use Rattle.lvm_text.specs.Scan.{line_length, word_length, raw_length, is_escape};
 
 use memchr::{memchr, memchr3};
 
@@ -47,10 +47,14 @@ pub(crate) fn word_length(bytes: &[u8]) -> usize
     bytes.len()
 }
 
-fn is_escapable(byte: u8) -> bool
-    ensures { result ≡ is_escapable byte }
+/// Whether a backslash stands here, before a quote or a backslash.
+fn is_escape(bytes: &[u8]) -> bool
+    ensures { result ≡ is_escape bytes.now }
 {
-    byte == b'"' || byte == b'\\'
+    match bytes {
+        [first, next, ..] => *first == b'\\' && (*next == b'"' || *next == b'\\'),
+        _ => false,
+    }
 }
 
 /// How many bytes stand before the quote that closes a string, if one does.
@@ -63,7 +67,7 @@ pub(crate) fn raw_length(bytes: &[u8]) -> Option<usize>
         if bytes[at] == b'"' {
             return Some(at);
         }
-        if bytes[at] == b'\n' || at + 1 == bytes.len() || !is_escapable(bytes[at + 1]) {
+        if !is_escape(&bytes[at..]) {
             return None;
         }
         at += 2;
@@ -75,8 +79,8 @@ pub(crate) fn raw_length(bytes: &[u8]) -> Option<usize>
 pub(crate) fn is_end(bytes: &[u8]) -> bool
     ensures { result ≡ is_end bytes.now }
 {
-    match bytes {
-        [] => true,
-        [first, more @ ..] => *first == b'#' && line_length(more).is_none(),
+    if bytes.is_empty() {
+        return true;
     }
+    bytes[0] == b'#' && line_length(&bytes[1..]).is_none()
 }
