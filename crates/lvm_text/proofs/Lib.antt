@@ -1,5 +1,8 @@
 pub mod Tests
 pub mod Scans
 pub mod Cuts
+pub mod Digits
+pub mod Fronts
+pub mod Pieces
 pub mod Boundaries
 pub mod Searches

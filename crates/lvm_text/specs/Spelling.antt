@@ -1,5 +1,5 @@
 -- How a text spells its tokens, with white space and comments between them.
-use Rattle.std.specs.Prelude.{◌≡◌, ◌≢◌, ℕ, ◌+◌, Bool, true, false, ◌&&◌, ◌||◌, not, ◌==◌, nat_le, List, [], ◌∷◌, ◌++◌, count_by}
+use Rattle.std.specs.Prelude.{◌≡◌, ◌≢◌, ℕ, ◌+◌, Bool, true, false, ◌&&◌, ◌||◌, not, ◌==◌, nat_le, List, [], ◌∷◌, ◌++◌, suc, if◌then◌else◌}
 use Rattle.std.specs.List.{list_all}
 use Rattle.lvm_text.specs.Token.{Token, Word, Text, Open, Close, ListOpen, ListClose, Equals, Comma, Placed}
 
@@ -15,8 +15,10 @@ is_word_byte b = (nat_le 97 b && nat_le b 122) || ((nat_le 65 b && nat_le b 90) 
 abbrev pub is_newline : ℕ → Bool
 is_newline b = b == 10
 
+-- how many newlines there are
 abbrev pub newlines : List ℕ → ℕ
-newlines = count_by is_newline
+newlines [] = 0
+newlines (b ∷ bs) = if is_newline b then suc (newlines bs) else newlines bs
 
 -- a quote or a backslash, which stand in a string behind a backslash alone
 abbrev pub is_escapable : ℕ → Bool
@@ -79,6 +81,10 @@ abbrev pub IsPiece : Piece → List ℕ → Type 0
 IsPiece (White b) after = is_white b ≡ true
 IsPiece (Comment c) after = is_line c ≡ true
 IsPiece (Lexeme t) after = IsToken t after
+
+-- a piece, whatever comes after it
+abbrev pub SomePiece : Piece → Type 0
+SomePiece p = (after : List ℕ) × IsPiece p after
 
 -- the text is a piece, and then what comes after
 abbrev pub Begins : List ℕ → Piece → List ℕ → Type 0

@@ -4,6 +4,7 @@
 #![tactic(auto)]
 
 mod fault;
+mod number;
 mod piece;
 mod scan;
 mod syntax;

@@ -1,4 +1,15 @@
-//! The places of the grammar.
+//! The grammar of a text, as the places where a parser may stand.
+//! Sections nest without bound here, so a number of open ones stands for a stack. A new form of value is a
+//! place and its steps; the proof then asks how the place is completed.
+
+ghost use Rattle.std.specs.Prelude.{◌≡◌, ◌<◌, ◌^◌, Some, is_some, MatchOption};
+ghost use Rattle.lvm_text.specs.Grammar.{scalar_of, is_key, IsSyntaxLine};
+ghost use Rattle.lvm_text.specs.Machine.{step, run};
+ghost use Rattle.lvm_text.specs.TokenView.{token_view, views};
+ghost use Rattle.lvm_text.specs.declared.syntax.Place.TheVariants.{Key};
+
+use crate::number::are_digits;
+use crate::token::{Placed, Token};
 
 /// A place in a value, or between two.
 #[derive(Clone, Copy, Debug, PartialEq, Eq)]
@@ -15,4 +26,42 @@ enum Place {
     Next,
     /// After a scalar of a list.
     After,
+}
+
+/// Whether a word may be a key.
+fn is_key(word: &str) -> bool
+    ensures { result ≡ is_key word.now }
+{
+    let bytes = word.as_bytes();
+    !bytes.is_empty() && bytes[0] != b'-'
+}
+
+/// Whether a token may be a scalar.
+fn is_scalar(token: Token<'_>) -> bool
+    ensures { result ≡ is_some (scalar_of (token_view token.entry)) }
+{
+    match token {
+        Token::Word(word) => are_digits(word.as_bytes()),
+        Token::Text(_) => true,
+        _ => false,
+    }
+}
+
+/// The open sections and the place after a token, if it may stand here.
+fn step(depth: u64, place: Place, token: Token<'_>) -> Option<(u64, Place)>
+    requires { depth < 2 ^ 63 }
+    ensures { result ≡ step depth place (token_view token.entry) }
+{
+    match (place, token) {
+        (Place::Key, Token::Word(word)) if is_key(word) => Some((depth, Place::AfterKey)),
+        (Place::Key, Token::Close) if depth > 0 => Some((depth - 1, Place::Key)),
+        (Place::AfterKey, Token::Open) => Some((depth + 1, Place::Key)),
+        (Place::AfterKey, Token::Equals) => Some((depth, Place::Content)),
+        (Place::Content, Token::ListOpen) => Some((depth, Place::First)),
+        (Place::Content, _) if is_scalar(token) => Some((depth, Place::Key)),
+        (Place::First | Place::After, Token::ListClose) => Some((depth, Place::Key)),
+        (Place::After, Token::Comma) => Some((depth, Place::Next)),
+        (Place::First | Place::Next, _) if is_scalar(token) => Some((depth, Place::After)),
+        _ => None,
+    }
 }
