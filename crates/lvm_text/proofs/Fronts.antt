@@ -1,11 +1,14 @@
 -- The parser's places say which tokens can still become a text.
-use Rattle.std.proofs.Common.{◌≡◌, ◌≢◌, ℕ, zero, suc, ◌+◌, ◌-◌, ◌<◌, Bool, true, false, cond, nat_lt, List, [], ◌∷◌, ◌++◌, Option, Some, None, refl, sym, ap, subst, ◌∙◌, append_assoc, arith, inl, inr}
+use Rattle.std.proofs.Common.{◌≡◌, ◌≢◌, ℕ, zero, suc, ◌+◌, ◌-◌, ◌<◌, ◌≤◌, Bool, true, false, cond, nat_lt, List, [], ◌∷◌, ◌++◌, Option, Some, None, refl, sym, ap, subst, ◌∙◌, append_assoc, arith, inl, inr}
 use Rattle.std.specs.Prelude.{is_some, option_and_then}
-use Rattle.std.proofs.lemmas.Bool.{lt-ltb}
+use Rattle.std.proofs.lemmas.Bool.{lt-ltb, eqb-true, eq-eqb}
+use Rattle.std.proofs.lemmas.Option.{some_pair_parts, same_Some}
+use Rattle.std.specs.Prelude.{MatchOption}
+use Rattle.lvm_text.proofs.Tests.{cond_elim}
 use Rattle.lvm_text.specs.Token.{Token, Word, Text, Open, Close, ListOpen, ListClose, Equals, Comma, Placed}
 use Rattle.lvm_text.specs.Tree.{Scalar, Values, Nothing, Section, Single, Several}
 use Rattle.lvm_text.specs.Grammar.{scalar_of, is_key, ReadsMore, ReadsList, Reads, IsText, IsFront, IsBreak, IsUnfinished, IsSyntaxLine}
-use Rattle.lvm_text.specs.Machine.{State, scalar_then, step, run}
+use Rattle.lvm_text.specs.Machine.{State, scalar_then, step, run, is_over}
 use Rattle.lvm_text.specs.declared.syntax.Place.{Place}
 use Rattle.lvm_text.specs.declared.syntax.Place.TheVariants as at
 
@@ -115,14 +118,17 @@ there : (o : Option Scalar) → is_some o ≡ true → (s : Scalar) × (o ≡ So
 there None e = absurd cc
 there (Some s) e = (s, refl)
 
+same_state : (d : ℕ) (p : Place) → ◌≡◌ {A = Option State} (Some (d, p)) (Some done) → (d ≡ 0) × (p ≡ at.Key)
+same_state d p e = some_pair_parts d 0 p at.Key e
+
 end : (d : ℕ) (p : Place) → run d p [] ≡ Some done → Holds d p []
 end zero at.Key e = (Nothing, refl)
-end (suc d) at.Key e = absurd cc
-end d at.AfterKey e = absurd cc
-end d at.Content e = absurd cc
-end d at.First e = absurd cc
-end d at.Next e = absurd cc
-end d at.After e = absurd cc
+end (suc d) at.Key e = let wrong : suc d ≡ 0 = (same_state (suc d) at.Key e).0 in absurd (omega arith)
+end d at.AfterKey e = let wrong : at.AfterKey ≡ at.Key = (same_state d at.AfterKey e).1 in absurd cc
+end d at.Content e = let wrong : at.Content ≡ at.Key = (same_state d at.Content e).1 in absurd cc
+end d at.First e = let wrong : at.First ≡ at.Key = (same_state d at.First e).1 in absurd cc
+end d at.Next e = let wrong : at.Next ≡ at.Key = (same_state d at.Next e).1 in absurd cc
+end d at.After e = let wrong : at.After ≡ at.Key = (same_state d at.After e).1 in absurd cc
 
 abbrev After : List Placed → Type 0
 After ts = (d : ℕ) (p : Place) → run d p ts ≡ Some done → Holds d p ts
@@ -219,7 +225,7 @@ front_run ts h = reached (run 0 at.Key ts) (λ s. run s.0 s.1 h.more) (sym (run-
 
 -- The line of a fault
 
-last_run : (before : List Placed) (t : Placed) (s : State) → run 0 at.Key before ≡ Some s → run 0 at.Key (before ++ t ∷ []) ≡ option_and_then (λ x. Some x) (step s.0 s.1 t.0)
+pub last_run : (before : List Placed) (t : Placed) (s : State) → run 0 at.Key before ≡ Some s → run 0 at.Key (before ++ t ∷ []) ≡ option_and_then (λ x. Some x) (step s.0 s.1 t.0)
 last_run before t s e = run-append 0 at.Key before (t ∷ []) ∙ ap (option_and_then (λ x. run x.0 x.1 (t ∷ []))) e
 
 pub broken : (before after : List Placed) (t : Token) (n : ℕ) (s : State) → run 0 at.Key before ≡ Some s → step s.0 s.1 t ≡ None → IsBreak (before ++ (t, n) ∷ after) n
@@ -239,3 +245,35 @@ unfinished ts s e ne = record {
   front = front_from ts s e;
   unfinished = λ v h. let same : Some s ≡ Some done = sym e ∙ text_run ts v h in ne cc;
 }
+
+-- one step opens one section at most
+if_shallow : (b : Bool) (next : State) (d : ℕ) → next.0 ≤ suc d → MatchOption (cond b (Some next) None) (Unit {0}) (λ s. s.0 ≤ suc d)
+if_shallow true next d h = h
+if_shallow false next d h = tt
+
+pub shallow : (d : ℕ) (p : Place) (t : Token) → MatchOption (step d p t) (Unit {0}) (λ s. s.0 ≤ suc d)
+shallow d at.Key (Word w) = if_shallow (is_key w) (d, at.AfterKey) d (omega arith)
+shallow d at.Key Close = if_shallow (nat_lt 0 d) (d - 1, at.Key) d (omega arith)
+shallow d at.AfterKey Open = omega arith
+shallow d at.AfterKey Equals = omega arith
+shallow d at.Content ListOpen = omega arith
+shallow d at.Content t = if_shallow (is_some (scalar_of t)) (d, at.Key) d (omega arith)
+shallow d at.First ListClose = omega arith
+shallow d at.First t = if_shallow (is_some (scalar_of t)) (d, at.After) d (omega arith)
+shallow d at.After ListClose = omega arith
+shallow d at.After Comma = omega arith
+shallow d at.Next t = if_shallow (is_some (scalar_of t)) (d, at.After) d (omega arith)
+shallow d p t = tt
+
+-- the end of a text
+pub over : (d : ℕ) (p : Place) → is_over d p ≡ true → ◌≡◌ {A = State} (d, p) done
+over d at.Key h = ap (λ (n : ℕ). (n, at.Key)) (eqb-true d 0 h)
+over d p h = absurd cc
+
+pub not_over : (d : ℕ) (p : Place) → is_over d p ≡ false → ◌≢◌ {A = State} (d, p) done
+not_over d at.Key h e = let wrong : true ≡ false = sym (eq-eqb d 0 (ap (λ (s : State). s.0) e)) ∙ h in absurd cc
+not_over d at.AfterKey h e = let wrong : at.AfterKey ≡ at.Key = ap (λ (s : State). s.1) e in absurd cc
+not_over d at.Content h e = let wrong : at.Content ≡ at.Key = ap (λ (s : State). s.1) e in absurd cc
+not_over d at.First h e = let wrong : at.First ≡ at.Key = ap (λ (s : State). s.1) e in absurd cc
+not_over d at.Next h e = let wrong : at.Next ≡ at.Key = ap (λ (s : State). s.1) e in absurd cc
+not_over d at.After h e = let wrong : at.After ≡ at.Key = ap (λ (s : State). s.1) e in absurd cc

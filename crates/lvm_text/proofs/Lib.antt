@@ -3,6 +3,7 @@ pub mod Scans
 pub mod Cuts
 pub mod Digits
 pub mod Fronts
+pub mod Steps
 pub mod Pieces
 pub mod Boundaries
 pub mod Searches

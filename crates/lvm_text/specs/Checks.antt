@@ -11,6 +11,11 @@ use Rattle.lvm_text.specs.declared.fault.TextFault.TheVariants.{Deep, Number, Ke
 abbrev pub hit : Bool → ℕ → List ℕ → List ℕ
 hit b n later = if b then n ∷ later else later
 
+-- the first line, if there is one
+abbrev pub head_line : List ℕ → Option ℕ
+head_line [] = None
+head_line (n ∷ ns) = Some n
+
 -- the level behind a token, from that before it
 abbrev pub level_after : Token → ℕ → ℕ
 level_after Open level = suc level

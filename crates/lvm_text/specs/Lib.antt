@@ -10,3 +10,4 @@ pub mod Reading
 pub mod Scan
 pub mod Machine
 pub mod TokenView
+pub mod Build

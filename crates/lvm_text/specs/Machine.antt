@@ -1,5 +1,5 @@
 -- The parser's places. That they say which tokens can still become a text is proved, not assumed.
-use Rattle.std.specs.Prelude.{ℕ, suc, ◌-◌, Bool, List, [], ◌∷◌, Option, Some, None, is_some, option_and_then, if◌then◌else◌, nat_lt}
+use Rattle.std.specs.Prelude.{ℕ, suc, ◌-◌, Bool, false, ◌==◌, List, [], ◌∷◌, Option, Some, None, is_some, option_and_then, if◌then◌else◌, nat_lt}
 use Rattle.lvm_text.specs.Token.{Token, Word, Text, Open, Close, ListOpen, ListClose, Equals, Comma, Placed}
 use Rattle.lvm_text.specs.Grammar.{scalar_of, is_key}
 use Rattle.lvm_text.specs.declared.syntax.Place.{Place}
@@ -33,3 +33,8 @@ step d at.Next t = scalar_then t (d, at.After)
 abbrev pub run : ℕ → Place → List Placed → Option State
 run d p [] = Some (d, p)
 run d p (t ∷ ts) = option_and_then (λ s. run s.0 s.1 ts) (step d p t.0)
+
+-- a place where a text may end
+abbrev pub is_over : ℕ → Place → Bool
+is_over d at.Key = d == 0
+is_over d _ = false

@@ -3,6 +3,8 @@
 //! whole text before the next begins. A new check goes between two of these, in `parse`.
 #![tactic(auto)]
 
+mod build;
+mod check;
 mod fault;
 mod number;
 mod piece;

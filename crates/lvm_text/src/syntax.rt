@@ -4,7 +4,7 @@
 
 ghost use Rattle.std.specs.Prelude.{◌≡◌, ◌<◌, ◌^◌, Some, is_some, MatchOption};
 ghost use Rattle.lvm_text.specs.Grammar.{scalar_of, is_key, IsSyntaxLine};
-ghost use Rattle.lvm_text.specs.Machine.{step, run};
+ghost use Rattle.lvm_text.specs.Machine.{step, run, is_over};
 ghost use Rattle.lvm_text.specs.TokenView.{token_view, views};
 ghost use Rattle.lvm_text.specs.declared.syntax.Place.TheVariants.{Key};
 
@@ -63,5 +63,36 @@ fn step(depth: u64, place: Place, token: Token<'_>) -> Option<(u64, Place)>
         (Place::After, Token::Comma) => Some((depth, Place::Next)),
         (Place::First | Place::Next, _) if is_scalar(token) => Some((depth, Place::After)),
         _ => None,
+    }
+}
+
+/// Whether a text may end here.
+fn is_over(depth: u64, place: Place) -> bool
+    ensures { result ≡ is_over depth place }
+{
+    match place {
+        Place::Key => depth == 0,
+        _ => false,
+    }
+}
+
+/// The line of a fault of syntax, where `end` is that of the end of the text: the line of the first token
+/// that no text has in its place.
+pub(crate) fn syntax_line(tokens: &[Placed<'_>], end: u64) -> Option<u64>
+    ensures { MatchOption result (run 0 Key (views tokens.now) ≡ Some (0, Key)) (IsSyntaxLine (views tokens.now) end) }
+{
+    let mut depth = 0;
+    let mut place = Place::Key;
+    for placed in tokens {
+        let Some((next_depth, next_place)) = step(depth, place, placed.token) else {
+            return Some(placed.line);
+        };
+        depth = next_depth;
+        place = next_place;
+    }
+    if is_over(depth, place) {
+        None
+    } else {
+        Some(end)
     }
 }

@@ -27,22 +27,22 @@ pub enum Value<'a> {
 #[derive(Debug, Drop)]
 pub struct Node<'a> {
     pub value: Value<'a>,
-    line: u64,
+    pub(crate) line: u64,
 }
 
 #[cycle(tree)]
 #[derive(Debug, Drop)]
-struct Entry<'a> {
-    key: &'a str,
-    node: Node<'a>,
+pub(crate) struct Entry<'a> {
+    pub(crate) key: &'a str,
+    pub(crate) node: Node<'a>,
 }
 
 /// The values of a section, in source order.
 #[cycle(tree)]
 #[derive(Debug, Drop)]
 pub struct Section<'a> {
-    line: u64,
-    entries: Vec<Entry<'a>>,
+    pub(crate) line: u64,
+    pub(crate) entries: Vec<Entry<'a>>,
 }
 
 impl<'a> Model for Section<'a> {
