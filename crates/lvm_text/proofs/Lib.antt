@@ -3,6 +3,7 @@ pub mod Scans
 pub mod Cuts
 pub mod Digits
 pub mod Fronts
+pub mod Building
 pub mod Steps
 pub mod Pieces
 pub mod Boundaries
