@@ -8,7 +8,8 @@ use Rattle.lvm_text.specs.Token.{Token, Word, Text, Open, Close, ListOpen, ListC
 use Rattle.lvm_text.specs.Tree.{Scalar, Values, Nothing, Section, Single, Several}
 use Rattle.lvm_text.specs.Grammar.{scalar_of, ReadsList, ReadsMore, Reads}
 use Rattle.lvm_text.specs.Build.{is_open, begins_key, scalar_first, item_of, ReadsScalars, ReadsLeaf, ReadsValue, ReadsValues, before}
-use Rattle.lvm_text.specs.View.{scalar_view, put, values_of}
+use Rattle.lvm_text.specs.View.{scalar_view, put, values_of, has_line, lines_agree}
+use Rattle.std.proofs.lemmas.Bool.{and_parts, and_from}
 use Rattle.lvm_text.specs.TokenView.{token_view, view, views}
 use Rattle.lvm_text.specs.declared.token.Placed as code
 use Rattle.lvm_text.specs.declared.tree.Scalar as code_tree
@@ -199,3 +200,9 @@ pub leaf_result : (line : ℕ) (tokens : List Placed) (first : Placed) (after : 
     → IfOk r (λ x. ReadsLeaf after x.0 (views (drop x.1 ts))) → IfOk r (λ x. ReadsValue line tokens x.0 (views (drop x.1 ts)))
 leaf_result line tokens first after ts (Ok x) e o leaf = value_leaf line tokens first after x.0 (views (drop x.1 ts)) e o leaf
 leaf_result line tokens first after ts (Err x) e o leaf = tt
+
+pub lines_agree-push : (es : List Entry) (e : Entry) → lines_agree es ≡ true → has_line e.node.line e.node.value ≡ true → lines_agree (es ++ e ∷ []) ≡ true
+lines_agree-push [] e h l = and_from _ _ l refl
+lines_agree-push (x ∷ es) e h l =
+    let a = and_parts (has_line x.node.line x.node.value) (lines_agree es) h in
+    and_from _ _ a.0 (lines_agree-push es e a.1 l)

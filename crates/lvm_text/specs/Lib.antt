@@ -11,3 +11,5 @@ pub mod Scan
 pub mod Machine
 pub mod TokenView
 pub mod Build
+pub mod Iterate
+pub mod Repeat

@@ -2,11 +2,11 @@
 //! Syntax, depth and integers were checked before, so nothing is refused here, and what is made of other
 //! tokens says nothing. Sections inside sections are calls inside calls: at most 16, since depth was checked.
 
-ghost use Rattle.std.specs.Prelude.{◌≡◌, ◌≤◌, ◌<◌, ◌+◌, ◌∷◌, [], drop, length, option_map, IfOk, IfSome, MatchOption, false};
+ghost use Rattle.std.specs.Prelude.{◌≡◌, ◌≤◌, ◌<◌, ◌+◌, ◌∷◌, [], drop, length, option_map, IfOk, IfSome, MatchOption, ℕ, true, false};
 ghost use Rattle.lvm_text.specs.Token as spec;
 ghost use Rattle.lvm_text.specs.Grammar.{scalar_of};
 ghost use Rattle.lvm_text.specs.TokenView.{token_view, views};
-ghost use Rattle.lvm_text.specs.View.{scalar_view, scalar_views};
+ghost use Rattle.lvm_text.specs.View.{scalar_view, scalar_views, has_line};
 ghost use Rattle.lvm_text.specs.Build.{is_comma, is_open, is_list_open, begins_key, scalar_first, item_of, ReadsScalars, ShowsScalar, ReadsLeaf, ReadsValue, ReadsValues};
 
 use crate::number::{are_digits, number_of};
@@ -131,7 +131,8 @@ fn scalars_at<'a>(
 
 /// The value of a scalar; for what is none, which syntax rules out, no value is said.
 fn value_of_scalar(scalar: Option<Scalar<'_>>) -> Value<'_>
-    ensures { ShowsScalar scalar.entry result }
+    ensures shows { ShowsScalar scalar.entry result }
+    ensures no_section { (n : ℕ) → has_line n result ≡ true }
 {
     match scalar {
         Some(Scalar::Text(text)) => Value::Text(text),
@@ -148,6 +149,7 @@ fn leaf_at<'a>(
 ) -> Result<(Value<'a>, usize), AllocError>
     requires { start ≤ length tokens.now }
     ensures read { IfOk result (λ r. ReadsLeaf (views (drop start tokens.now)) r.0 (views (drop r.1 tokens.now))) }
+    ensures no_section { IfOk result (λ r. (n : ℕ) → has_line n r.0 ≡ true) }
     ensures later { IfOk result (λ r. (start ≤ r.1) × (r.1 ≤ length tokens.now)) }
 {
     let Some(first) = token_at(tokens, start) else {
@@ -169,6 +171,7 @@ fn value_at<'a>(
     start: usize,
 ) -> Result<(Value<'a>, usize), AllocError>
     requires { start ≤ length tokens.now }
+    ensures agrees { IfOk result (λ r. has_line line r.0 ≡ true) }
     ensures read { IfOk result (λ r. ReadsValue line (views (drop start tokens.now)) r.0 (views (drop r.1 tokens.now))) }
     ensures later { IfOk result (λ r. (start ≤ r.1) × (r.1 ≤ length tokens.now)) }
 {

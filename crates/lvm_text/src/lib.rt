@@ -8,10 +8,11 @@ mod check;
 mod fault;
 mod number;
 mod piece;
+mod repeat;
 mod scan;
 mod syntax;
 mod token;
 mod tree;
 
 pub use fault::TextFault;
-pub use tree::{Node, Scalar, Section, Value};
+pub use tree::{Node, Scalar, Section, Sections, Value};

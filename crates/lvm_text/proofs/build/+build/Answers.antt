@@ -1,9 +1,10 @@
 use Rattle.std.proofs.Common.{sym, ◌∙◌, ap, subst, ◌≡◌, ◌+◌, ◌++◌, ◌∷◌, [], List, drop, arith, false, true}
 use Rattle.lvm_text.specs.Build.{ReadsValue, begins_key}
 use Rattle.lvm_text.specs.TokenView.{token_view, view, views}
+use Rattle.lvm_text.specs.View.{lines_agree}
 use Rattle.lvm_text.specs.declared.tree.Entry.{Entry}
 use Rattle.lvm_text.specs.declared.tree.Value.TheVariants as values
-use Rattle.lvm_text.proofs.Building.{ValuesSoFar, values_more, values_end, value_nothing, value_section, leaf_result, behind_views}
+use Rattle.lvm_text.proofs.Building.{ValuesSoFar, values_more, values_end, value_nothing, value_section, leaf_result, behind_views, lines_agree-push}
 use Rattle.lvm_text.proofs.build.+build.Goals as goal
 
 pub section_at-loop-key-preserved : goal.section_at-loop-key-preserved
@@ -15,6 +16,7 @@ section_at-loop-key-preserved t c =
         c.loop-key.invariant.so_far c.in-Some.ensures.0 c.in_ok-value.ensures.read in
     record {
       so_far = subst (λ (es : List Entry). ValuesSoFar start es after) (sym c.in_ok-push.ensures.items) more;
+      agree = ap lines_agree c.in_ok-push.ensures.items ∙ lines_agree-push c.loop-key.entries.items entry c.loop-key.invariant.agree c.in_ok-value.ensures.agrees;
       begun = omega (arith, c.in_ok-value.ensures.later, c.loop-key.invariant.begun);
       within = c.in_ok-value.ensures.later.1;
     }

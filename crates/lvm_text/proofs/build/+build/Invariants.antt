@@ -1,5 +1,6 @@
-use Rattle.std.proofs.Common.{◌≤◌, ◌-◌, length, drop}
+use Rattle.std.proofs.Common.{◌≡◌, ◌≤◌, ◌-◌, true, length, drop}
 use Rattle.lvm_text.specs.TokenView.{views}
+use Rattle.lvm_text.specs.View.{lines_agree}
 use Rattle.lvm_text.proofs.Building.{ValuesSoFar}
 use Rattle.lvm_text.proofs.build.+build.Given as goal
 
@@ -12,6 +13,7 @@ decreases-value_at l = length l.tokens.now - l.start
 abbrev pub invariant-section_at-loop-key : goal.invariant-section_at-loop-key
 invariant-section_at-loop-key l = record {
   so_far : ValuesSoFar (views (drop l.start l.tokens)) l.entries.items (views (drop l.at l.tokens));
+  agree : lines_agree l.entries.items ≡ true;
   begun : l.start ≤ l.at;
   within : l.at ≤ length l.tokens
 }
