@@ -132,7 +132,7 @@ value_nothing line ts value rest none = λ k v more r stop. at k v more r stop w
   at k (Single q n s later) more r stop = let same : ts ≡ (Equals, r.1) ∷ (r.3, r.2) ∷ r.4 = cc in let wrong : [] ≡ (Equals, r.1) ∷ (r.3, r.2) ∷ r.4 = sym none ∙ same in absurd cc
   at k (Several q n ss later) more r stop = let same : ts ≡ (Equals, r.1) ∷ (ListOpen, r.2) ∷ r.3 = cc in let wrong : [] ≡ (Equals, r.1) ∷ (ListOpen, r.2) ∷ r.3 = sym none ∙ same in absurd cc
 
-list_same : (x y : Placed) (ts us : List Placed) → ◌≡◌ {A = List Placed} (x ∷ ts) (y ∷ us) → (x ≡ y) × (ts ≡ us)
+pub list_same : (x y : Placed) (ts us : List Placed) → ◌≡◌ {A = List Placed} (x ∷ ts) (y ∷ us) → (x ≡ y) × (ts ≡ us)
 list_same x y ts us e = (cc, cc)
 
 pub record SameKey (k q : List ℕ) (line n : ℕ) (ts us : List Placed) : Type 0 where
@@ -140,7 +140,7 @@ pub record SameKey (k q : List ℕ) (line n : ℕ) (ts us : List Placed) : Type 
   pub at : line ≡ n
   pub after : ts ≡ us
 
-same_key : (k q : List ℕ) (line n : ℕ) (ts us : List Placed) → ◌≡◌ {A = List Placed} ((Word k, line) ∷ ts) ((Word q, n) ∷ us) → SameKey k q line n ts us
+pub same_key : (k q : List ℕ) (line n : ℕ) (ts us : List Placed) → ◌≡◌ {A = List Placed} ((Word k, line) ∷ ts) ((Word q, n) ∷ us) → SameKey k q line n ts us
 same_key k q line n ts us e =
     let x = list_same (Word k, line) (Word q, n) ts us e in
     let word : Word k ≡ Word q = ap (λ (p : Placed). p.0) x.0 in

@@ -3,6 +3,9 @@ pub mod Scans
 pub mod Cuts
 pub mod Digits
 pub mod Fronts
+pub mod Unique
+pub mod Looks
+pub mod Repeats
 pub mod Building
 pub mod Steps
 pub mod Pieces

@@ -30,14 +30,14 @@ pub record IsUnsound (text : List ℕ) (fault : TextFault) : Type 0 where
   pub grammar : IsText tokens values
   pub hit : fault_of tokens values ≡ Some fault
 
--- the text has this fault; want of memory is none of the text
+-- the text has this fault; want of memory is no fault of a text
 abbrev pub HasFault : List ℕ → TextFault → Type 0
 HasFault text (Token n) = IsBadToken text n
 HasFault text (Syntax n) = IsBadSyntax text n
 HasFault text (Deep n) = IsUnsound text (Deep n)
 HasFault text (Number n) = IsUnsound text (Number n)
 HasFault text (KeyTwice n) = IsUnsound text (KeyTwice n)
-HasFault text Memory = Unit {0}
+HasFault text Memory = ⊥
 
 -- a fault of tokens alone, or want of memory
 abbrev pub IsTokenFault : List ℕ → TextFault → Type 0
