@@ -158,9 +158,11 @@ value_section line tokens first inner inside after rest e o read d k (Section q 
     let s = same_key k q line n tokens ((Open, r.1) ∷ r.3) r.5 in
     let a : inner ≡ r.3 = (list_same first (Open, r.1) inner r.3 (sym e ∙ s.after)).1 in
     let x = read in_ ((Close, r.2) ∷ r.4) (subst (λ (ts : List Placed). Reads ts in_ ((Close, r.2) ∷ r.4)) (sym a) r.6) refl in
-    let b : r.4 ≡ rest = ap (drop 1) x.1 ∙ sym d in
-    (later, ap (λ (v : Values). Section q n v later) x.0 ∙ ap (λ (w : List ℕ). Section w n inside later) (sym s.key) ∙ ap (λ (m : ℕ). Section k m inside later) (sym s.at),
-     subst (λ (ts : List Placed). Reads ts later more) b r.7)
+    let b : r.4 ≡ rest = ap (drop 1) x.1 ∙ sym d in (
+      later,
+      ap (λ (v : Values). Section q n v later) x.0 ∙ ap (λ (w : List ℕ). Section w n inside later) (sym s.key) ∙ ap (λ (m : ℕ). Section k m inside later) (sym s.at),
+      subst (λ (ts : List Placed). Reads ts later more) b r.7,
+    )
 value_section line tokens first inner inside after rest e o read d k (Single q n x later) more r stop =
     let s = same_key k q line n tokens ((Equals, r.1) ∷ (r.3, r.2) ∷ r.4) r.5 in
     let wrong : true ≡ false = sym o ∙ not_open first inner tokens Equals r.1 ((r.3, r.2) ∷ r.4) e s.after in

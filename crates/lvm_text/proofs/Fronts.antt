@@ -236,8 +236,8 @@ broken before after t n s e none = record {
   whole = refl;
   front = front_from before s e;
   broken = λ h. let x = front_run (before ++ (t, n) ∷ []) h in
-    let wrong : None ≡ Some x.0 = sym (ap (option_and_then (λ (y : State). Some y)) none) ∙ sym (last_run before (t, n) s e) ∙ x.1 in
-    absurd cc;
+      let wrong : None ≡ Some x.0 = sym (ap (option_and_then (λ (y : State). Some y)) none) ∙ sym (last_run before (t, n) s e) ∙ x.1 in
+      absurd cc;
 }
 
 pub unfinished : (ts : List Placed) (s : State) → run 0 at.Key ts ≡ Some s → s ≢ done → IsUnfinished ts

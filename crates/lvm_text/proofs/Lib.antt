@@ -3,6 +3,7 @@ pub mod Scans
 pub mod Cuts
 pub mod Digits
 pub mod Fronts
+pub mod Trees
 pub mod Unique
 pub mod Looks
 pub mod Repeats

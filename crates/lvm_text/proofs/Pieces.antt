@@ -100,14 +100,14 @@ raw_newlines (b ∷ []) h = rw (plain_byte b h) refl
 raw_newlines (b ∷ c ∷ bs) h =
     elim (or_cases (is_plain b && is_raw (c ∷ bs)) (eqb b 92 && (is_escapable c && is_raw bs)) h) [
       | inl plain ↦
-        let a = and_parts (is_plain b) (is_raw (c ∷ bs)) plain in
-        let rest : newlines (c ∷ bs) ≡ 0 = raw_newlines (c ∷ bs) a.1 in
-        let first : eqb b 10 ≡ false = plain_byte b a.0 in
-        rw first rest
+          let a = and_parts (is_plain b) (is_raw (c ∷ bs)) plain in
+          let rest : newlines (c ∷ bs) ≡ 0 = raw_newlines (c ∷ bs) a.1 in
+          let first : eqb b 10 ≡ false = plain_byte b a.0 in
+          rw first rest
       | inr escaped ↦
-        let a = and_parts (eqb b 92) (is_escapable c && is_raw bs) escaped in
-        let e = and_parts (is_escapable c) (is_raw bs) a.1 in
-        rw (slash_byte b a.0, escapable_byte c e.0, raw_newlines bs e.1) refl
+          let a = and_parts (eqb b 92) (is_escapable c && is_raw bs) escaped in
+          let e = and_parts (is_escapable c) (is_raw bs) a.1 in
+          rw (slash_byte b a.0, escapable_byte c e.0, raw_newlines bs e.1) refl
     ]
 
 pub white_newlines : (b : ℕ) → b ≢ 10 → newlines (b ∷ []) ≡ 0

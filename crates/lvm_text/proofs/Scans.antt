@@ -79,13 +79,13 @@ raw_again (b ∷ []) after h =
 raw_again (b ∷ c ∷ bs) after h =
     elim (or_cases (is_plain b && is_raw (c ∷ bs)) (eqb b 92 && (is_escapable c && is_raw bs)) h) [
       | inl plain ↦
-        let a = and_parts (is_plain b) (is_raw (c ∷ bs)) plain in
-        let p = plain_parts b a.0 in
-        rw (p.0, p.1, p.2, raw_again (c ∷ bs) after a.1) refl
+          let a = and_parts (is_plain b) (is_raw (c ∷ bs)) plain in
+          let p = plain_parts b a.0 in
+          rw (p.0, p.1, p.2, raw_again (c ∷ bs) after a.1) refl
       | inr escaped ↦
-        let a = and_parts (eqb b 92) (is_escapable c && is_raw bs) escaped in
-        let e = and_parts (is_escapable c) (is_raw bs) a.1 in
-        rw (eqb-true b 92 a.0, e.0, raw_again bs after e.1) refl
+          let a = and_parts (eqb b 92) (is_escapable c && is_raw bs) escaped in
+          let e = and_parts (is_escapable c) (is_raw bs) a.1 in
+          rw (eqb-true b 92 a.0, e.0, raw_again bs after e.1) refl
     ]
 
 pub record Raw (bs : List ℕ) (n : ℕ) : Type 0 where

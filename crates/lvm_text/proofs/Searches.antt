@@ -153,9 +153,10 @@ pub escape_at : (bs : List ℕ) (k : ℕ) → At bs k → is_escape (take (lengt
 escape_at bs k h e =
     let x = raw_escape (drop k bs) (ap is_escape (sym (take_rest bs k)) ∙ e) in
     let long : 2 ≤ length (drop k bs) = x.1 in
-    let within : k < length bs = h.within in
-    (omega (arith, length-drop k bs),
-     sym (plus_plus k 2 (raw_length (drop (k + 2) bs))) ∙ ap (λ (xs : List ℕ). plus k (plus 2 (raw_length xs))) (sym (drop-drop 2 k bs)) ∙ ap (plus k) (sym x.0) ∙ h.same)
+    let within : k < length bs = h.within in (
+      omega (arith, length-drop k bs),
+      sym (plus_plus k 2 (raw_length (drop (k + 2) bs))) ∙ ap (λ (xs : List ℕ). plus k (plus 2 (raw_length xs))) (sym (drop-drop 2 k bs)) ∙ ap (plus k) (sym x.0) ∙ h.same,
+    )
 
 pub ended_at : (bs : List ℕ) (i : ℕ) → plus i (raw_length (drop i bs)) ≡ raw_length bs → Stop bs i None → None ≡ raw_length bs
 ended_at bs i inv h =

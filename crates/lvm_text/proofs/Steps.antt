@@ -31,9 +31,10 @@ refused ts i x depth place end lt e none =
 
 pub stepped : (ts : List Placed) (i : ℕ) (x : Placed) (depth : ℕ) (place : Place) (next : State) → i < length ts → run 0 at.Key (views (take i ts)) ≡ Some (depth, place)
     → Some next ≡ step depth place (token_view (get_or ts i x).token) → (run 0 at.Key (views (take (i + 1) ts)) ≡ Some next) × (next.0 ≤ suc depth)
-stepped ts i x depth place next lt e s =
-    (ap (run 0 at.Key) (views_more ts i x lt) ∙ last_run (views (take i ts)) (view (get_or ts i x)) (depth, place) e ∙ ap (option_and_then (λ (y : State). Some y)) (sym s),
-     MatchOption-at_some (Unit {0}) (λ y. y.0 ≤ suc depth) next (sym s) (shallow depth place (token_view (get_or ts i x).token)))
+stepped ts i x depth place next lt e s = (
+  ap (run 0 at.Key) (views_more ts i x lt) ∙ last_run (views (take i ts)) (view (get_or ts i x)) (depth, place) e ∙ ap (option_and_then (λ (y : State). Some y)) (sym s),
+  MatchOption-at_some (Unit {0}) (λ y. y.0 ≤ suc depth) next (sym s) (shallow depth place (token_view (get_or ts i x).token)),
+)
 
 take_whole : (ts : List Placed) (n : ℕ) → length ts ≤ n → take n ts ≡ ts
 take_whole [] zero h = refl

@@ -50,9 +50,9 @@ ShowsScalar scalar value = (s : tree.Scalar) → option_map scalar_view scalar �
 -- behind an equals sign, the tokens are this value's, and then the rest
 pub record ReadsLeaf (tokens : List Placed) (value : Value) (rest : List Placed) : Type 0 where
   pub single : (t : Token) (m : ℕ) (s : tree.Scalar) (b : List Placed) → tokens ≡ (t, m) ∷ b → scalar_of t ≡ Some s
-    → ((k : List ℕ) (n : ℕ) (v : Values) → Single k n s v ≡ put k n value v) × (b ≡ rest)
+      → ((k : List ℕ) (n : ℕ) (v : Values) → Single k n s v ≡ put k n value v) × (b ≡ rest)
   pub several : (o : ℕ) (a : List Placed) (ss : List tree.Scalar) (b : List Placed) → tokens ≡ (ListOpen, o) ∷ a → ReadsList a ss b
-    → ((k : List ℕ) (n : ℕ) (v : Values) → Several k n ss v ≡ put k n value v) × (b ≡ rest)
+      → ((k : List ℕ) (n : ℕ) (v : Values) → Several k n ss v ≡ put k n value v) × (b ≡ rest)
 
 -- behind a key of this line, the tokens are the value's, and then those of the values after it
 abbrev pub ReadsValue : ℕ → List Placed → Value → List Placed → Type 0

@@ -49,3 +49,9 @@ IsTokenFault text _ = ⊥
 abbrev pub Answers : Result Tree TextFault → Result Tree TextFault → Type 0
 Answers (Err Memory) said = Unit {0}
 Answers result said = result ≡ said
+
+-- of tokens that are a text of these values: the tree, or the fault of the first check that hits
+abbrev pub TreeOf : List Placed → Values → Result Tree TextFault → Type 0
+TreeOf ts v (Ok t) = (t ≡ record { line = 1; values = v }) × (fault_of ts v ≡ None)
+TreeOf ts v (Err Memory) = Unit {0}
+TreeOf ts v (Err f) = fault_of ts v ≡ Some f

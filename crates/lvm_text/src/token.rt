@@ -38,13 +38,7 @@ fn newlines(piece: Piece<'_>) -> u64
     ensures { result ≡ newlines (spelling (piece_view piece.entry)) }
 {
     match piece {
-        Piece::White(byte) => {
-            if byte == b'\n' {
-                1
-            } else {
-                0
-            }
-        }
+        Piece::White(byte) => { if byte == b'\n' { 1 } else { 0 } }
         Piece::Comment(_) => 1,
         Piece::Lexeme(_) => 0,
     }

@@ -13,7 +13,7 @@ section_at-loop-key-preserved t c =
     let after = views (drop c.in_ok-value.after c.args.tokens.now) in
     let entry : Entry = record { key = c.in-Some.key; node = record { value = c.in_ok-value.value; line = c.in-Some.key_line } } in
     let more = values_more start c.loop-key.entries.items (views (drop c.loop-key.at c.args.tokens.now)) (views (drop (c.loop-key.at + 1) c.args.tokens.now)) after entry
-        c.loop-key.invariant.so_far c.in-Some.ensures.0 c.in_ok-value.ensures.read in
+    c.loop-key.invariant.so_far c.in-Some.ensures.0 c.in_ok-value.ensures.read in
     record {
       so_far = subst (λ (es : List Entry). ValuesSoFar start es after) (sym c.in_ok-push.ensures.items) more;
       agree = ap lines_agree c.in_ok-push.ensures.items ∙ lines_agree-push c.loop-key.entries.items entry c.loop-key.invariant.agree c.in_ok-value.ensures.agrees;

@@ -15,7 +15,7 @@ invariant-section_at-loop-key l = record {
   so_far : ValuesSoFar (views (drop l.start l.tokens)) l.entries.items (views (drop l.at l.tokens));
   agree : lines_agree l.entries.items ≡ true;
   begun : l.start ≤ l.at;
-  within : l.at ≤ length l.tokens
+  within : l.at ≤ length l.tokens;
 }
 
 abbrev pub decreases-section_at-loop-key : goal.decreases-section_at-loop-key

@@ -13,7 +13,7 @@ loop-scalar-preserved c =
     let after = views (drop c.in-Some.after c.args.tokens.now) in
     let more = list_more start (scalar_views c.loop-scalar.scalars.items) (views (drop c.loop-scalar.at c.args.tokens.now)) (scalar_view c.in-Some.scalar) after c.loop-scalar.invariant.so_far c.in-Some.ensures.item in
     let pushed : scalar_views c.push.new.self.items ≡ scalar_views c.loop-scalar.scalars.items ++ scalar_view c.in-Some.scalar ∷ [] =
-        ap scalar_views c.in_ok-push.ensures.items ∙ map_push scalar_view c.loop-scalar.scalars.items c.in-Some.scalar in
+    ap scalar_views c.in_ok-push.ensures.items ∙ map_push scalar_view c.loop-scalar.scalars.items c.in-Some.scalar in
     record {
       so_far = subst (λ (xs : List tree.Scalar). ListSoFar start xs after) (sym pushed) more;
       begun = omega (arith, c.in-Some.ensures.later, c.loop-scalar.invariant.begun);

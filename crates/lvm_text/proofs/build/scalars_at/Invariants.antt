@@ -8,7 +8,7 @@ abbrev pub invariant-loop-scalar : goal.invariant-loop-scalar
 invariant-loop-scalar l = record {
   so_far : ListSoFar (views (drop l.start l.tokens)) (scalar_views l.scalars.items) (views (drop l.at l.tokens));
   begun : l.start ≤ l.at;
-  within : l.at ≤ length l.tokens
+  within : l.at ≤ length l.tokens;
 }
 
 abbrev pub decreases-loop-scalar : goal.decreases-loop-scalar

@@ -7,5 +7,5 @@ use Rattle.lvm_text.proofs.syntax.syntax_line.Given as goal
 abbrev pub invariant-loop-placed : goal.invariant-loop-placed
 invariant-loop-placed l = record {
   reached : run 0 Key (views (take l.placed-index l.tokens)) ≡ Some (l.depth, l.place);
-  shallow : l.depth ≤ l.placed-index
+  shallow : l.depth ≤ l.placed-index;
 }

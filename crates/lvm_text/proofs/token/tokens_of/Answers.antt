@@ -29,8 +29,9 @@ loop-rest-preserved c =
     let b = begins c.loop-rest.rest.now (piece_view c.in-Some.piece) c.in-Some.after.now c.in-Some.ensures in
     let s = shorter c.loop-rest.rest.now (piece_view c.in-Some.piece) c.in-Some.after.now b in
     let more = before_more c.args.text.now c.loop-rest.line (views c.loop-rest.tokens.items) c.loop-rest.rest.now (piece_view c.in-Some.piece) c.in-Some.after.now c.loop-rest.invariant.1 b in
-    let line : c.loop-rest.line + newlines (spelling (piece_view c.in-Some.piece)) ≡ c.loop-rest.line + c.newlines-line.result = ap (λ (n : ℕ). c.loop-rest.line + n) (sym c.newlines-line.ensures) in
-    (search rules,
-     subst (λ (n : ℕ). Before c.args.text.now n (views c.keep.new.tokens.items) c.in-Some.after.now) line
-     (subst (λ (ts : List Placed). Before c.args.text.now (c.loop-rest.line + newlines (spelling (piece_view c.in-Some.piece))) ts c.in-Some.after.now) (sym c.in_ok-keep.ensures) more),
-     omega (arith, s.1, c.newlines-line.ensures, c.loop-rest.invariant.2))
+    let line : c.loop-rest.line + newlines (spelling (piece_view c.in-Some.piece)) ≡ c.loop-rest.line + c.newlines-line.result = ap (λ (n : ℕ). c.loop-rest.line + n) (sym c.newlines-line.ensures) in (
+      search rules,
+      subst (λ (n : ℕ). Before c.args.text.now n (views c.keep.new.tokens.items) c.in-Some.after.now) line
+          (subst (λ (ts : List Placed). Before c.args.text.now (c.loop-rest.line + newlines (spelling (piece_view c.in-Some.piece))) ts c.in-Some.after.now) (sym c.in_ok-keep.ensures) more),
+      omega (arith, s.1, c.newlines-line.ensures, c.loop-rest.invariant.2),
+    )

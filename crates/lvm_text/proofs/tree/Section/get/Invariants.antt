@@ -6,5 +6,5 @@ use Rattle.lvm_text.proofs.tree.Section.get.Given as goal
 abbrev pub invariant-loop-entry : goal.invariant-loop-entry
 invariant-loop-entry l = record {
   agree : lines_agree l.entry-items ≡ true;
-  same : node_of l.key (values_of (drop l.entry-index l.entry-items)) ≡ node_of l.key l.self.values
+  same : node_of l.key (values_of (drop l.entry-index l.entry-items)) ≡ node_of l.key l.self.values;
 }
