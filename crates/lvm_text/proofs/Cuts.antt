@@ -8,7 +8,7 @@ use Rattle.std.proofs.lemmas.Option.{same_Some, MatchOption-at_some}
 use Rattle.lvm_text.specs.Token.{Token, Word, Text, Open, Close, ListOpen, ListClose, Equals, Comma, Placed}
 use Rattle.lvm_text.specs.Spelling.{Piece, White, Comment, Lexeme, spelling, token_spelling, IsWord, IsToken, IsPiece, Begins, Cut, is_white, is_line, is_word_byte, is_end, begins_word, line_after, tokens_from, put_token, newlines, Spells, IsBadToken}
 use Rattle.lvm_text.specs.Scan.{line_length, word_length, raw_length, sign_of, piece_at}
-use Rattle.lvm_text.proofs.Tests.{cond_elim, mapped, bool_is}
+use Rattle.lvm_text.proofs.Cases.{cond_elim, mapped, bool_is}
 use Rattle.lvm_text.proofs.Scans.{line_again, line_none, Line, line_found, word_again, Run, word_found, raw_again, Raw, raw_found}
 
 -- A piece is found

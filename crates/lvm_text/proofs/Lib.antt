@@ -1,4 +1,4 @@
-pub mod Tests
+pub mod Cases
 pub mod Scans
 pub mod Cuts
 pub mod Digits

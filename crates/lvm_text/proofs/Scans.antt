@@ -5,7 +5,7 @@ use Rattle.std.specs.List.{list_all}
 use Rattle.std.proofs.lemmas.Bool.{and_parts, and_from, or_cases, not-false, not-true, not_from_false, eqb-true, eq-eqb, or_left, or_right}
 use Rattle.lvm_text.specs.Spelling.{is_newline, is_line, is_word_byte, begins_word, is_plain, is_escapable, is_raw}
 use Rattle.lvm_text.specs.Scan.{line_length, word_length, raw_length}
-use Rattle.lvm_text.proofs.Tests.{cond_elim, mapped}
+use Rattle.lvm_text.proofs.Cases.{cond_elim, mapped}
 
 -- Lines
 

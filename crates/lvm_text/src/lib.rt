@@ -21,6 +21,9 @@ mod syntax;
 mod token;
 mod tree;
 
+#[cfg(test)]
+mod tests;
+
 pub use fault::TextFault;
 use std::alloc::Global;
 pub use tree::{Node, Scalar, Section, Sections, Value};
