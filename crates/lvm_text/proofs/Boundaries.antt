@@ -1,5 +1,5 @@
 -- Where a text is cut, a character begins.
-use Rattle.std.proofs.Common.{◌≡◌, ℕ, zero, suc, ◌+◌, ◌<◌, ◌≤◌, Bool, true, false, cond, eqb, List, [], ◌∷◌, length, get_or, drop, Option, Some, None, refl, sym, ap, subst, ◌∙◌, arith, inl, inr}
+use Rattle.std.proofs.Common.{◌≡◌, ℕ, zero, suc, ◌<◌, ◌≤◌, true, cond, eqb, List, [], ◌∷◌, length, get_or, drop, Option, Some, None, refl, sym, subst, arith}
 use Rattle.std.specs.Prelude.{MatchOption, option_map, IsUtf8, IsCharBoundary}
 use Rattle.std.proofs.lemmas.Bool.{eqb-true}
 use Rattle.std.proofs.lemmas.Bool.Decides.{nat_tests}
@@ -7,7 +7,7 @@ use Rattle.std.proofs.lemmas.Option.{MatchOption-at_some}
 use Rattle.std.proofs.lemmas.Str.{IsUtf8-drop, IsCharBoundary-start, IsCharBoundary-before_ascii, IsCharBoundary-after_ascii}
 use Rattle.lvm_text.specs.Spelling.{is_word_byte, is_escapable}
 use Rattle.lvm_text.specs.Scan.{line_length, word_length, raw_length}
-use Rattle.lvm_text.proofs.Cases.{cond_elim, mapped, bool_is}
+use Rattle.lvm_text.proofs.Cases.{cond_elim, mapped}
 
 -- behind an ASCII byte at the front of what a text ends with
 pub after_byte : (text rest : List ℕ) (i : ℕ) → IsUtf8 text → i < length text → get_or text i 0 < 128 → rest ≡ drop i text → get_or rest 0 0 ≡ get_or text i 0 → 0 < length rest → IsCharBoundary rest 1

@@ -1,22 +1,19 @@
 -- What the builder has read so far.
-use Rattle.std.proofs.Common.{◌≡◌, ℕ, zero, suc, ◌+◌, ◌<◌, ◌≤◌, Bool, true, false, List, [], ◌∷◌, ◌++◌, length, map, take, drop, Option, Some, None, refl, sym, ap, subst, ◌∙◌, append_assoc, arith, inl, inr, ◌⊎◌}
+use Rattle.std.proofs.Common.{◌≡◌, ℕ, true, false, List, [], ◌∷◌, ◌++◌, drop, Option, Some, None, refl, sym, ap, subst, ◌∙◌, append_assoc, inl, inr, ◌⊎◌}
 use Rattle.std.specs.Prelude.{option_map, Result, Ok, Err, IfOk}
 use Rattle.std.specs.declared.alloc.AllocError.{AllocError}
-use Rattle.std.proofs.lemmas.List.{append-nil, map_push}
+use Rattle.std.proofs.lemmas.List.{append-nil}
 use Rattle.std.proofs.lemmas.Option.{same_Some}
 use Rattle.lvm_text.specs.Token.{Token, Word, Text, Open, Close, ListOpen, ListClose, Equals, Comma, Placed}
 use Rattle.lvm_text.specs.Tree.{Scalar, Values, Nothing, Section, Single, Several}
 use Rattle.lvm_text.specs.Grammar.{scalar_of, ReadsList, ReadsMore, Reads}
 use Rattle.lvm_text.specs.Build.{is_open, begins_key, scalar_first, item_of, ReadsScalars, ReadsLeaf, ReadsValue, ReadsValues, before}
-use Rattle.lvm_text.specs.View.{scalar_view, put, values_of, has_line, lines_agree}
+use Rattle.lvm_text.specs.View.{put, values_of, has_line, lines_agree}
 use Rattle.std.proofs.lemmas.Bool.{and_parts, and_from}
-use Rattle.lvm_text.specs.TokenView.{token_view, view, views}
+use Rattle.lvm_text.specs.TokenView.{token_view, views}
 use Rattle.lvm_text.specs.declared.token.Placed as code
-use Rattle.lvm_text.specs.declared.tree.Scalar as code_tree
 use Rattle.lvm_text.specs.declared.tree.Value.{Value}
-use Rattle.lvm_text.specs.declared.tree.Value.TheVariants as values
 use Rattle.lvm_text.specs.declared.tree.Entry.{Entry}
-use Rattle.lvm_text.specs.Tree.{Tree}
 
 -- Lists
 

@@ -1,15 +1,15 @@
 -- A text is cut into pieces in one way.
-use Rattle.std.proofs.Common.{◌≡◌, ℕ, zero, suc, ◌+◌, Bool, true, false, cond, not, ◌&&◌, ◌||◌, eqb, nat_le, List, [], ◌∷◌, ◌++◌, length, take, drop, Option, Some, None, refl, sym, ap, subst, ◌∙◌, append_assoc, arith, inl, inr}
+use Rattle.std.proofs.Common.{◌≡◌, ℕ, suc, ◌+◌, true, false, cond, eqb, List, [], ◌∷◌, ◌++◌, length, take, drop, Option, Some, None, refl, sym, ap, subst, ◌∙◌, append_assoc, arith}
 use Rattle.std.specs.Prelude.{MatchOption, option_map}
 use Rattle.std.specs.List.{list_all}
-use Rattle.std.proofs.lemmas.Bool.{and_parts, and_from, or_cases, not-false, not-true, not_from_false, eqb-true, eq-eqb, or_left, or_right}
+use Rattle.std.proofs.lemmas.Bool.{and_parts, eqb-true}
 use Rattle.std.proofs.lemmas.Bool.Decides.{nat_tests}
-use Rattle.std.proofs.lemmas.Option.{same_Some, MatchOption-at_some}
+use Rattle.std.proofs.lemmas.Option.{same_Some}
 use Rattle.lvm_text.specs.Token.{Token, Word, Text, Open, Close, ListOpen, ListClose, Equals, Comma, Placed}
-use Rattle.lvm_text.specs.Spelling.{Piece, White, Comment, Lexeme, spelling, token_spelling, IsWord, IsToken, IsPiece, Begins, Cut, is_white, is_line, is_word_byte, is_end, begins_word, line_after, tokens_from, put_token, newlines, Spells, IsBadToken}
+use Rattle.lvm_text.specs.Spelling.{Piece, White, Comment, Lexeme, spelling, token_spelling, IsWord, IsToken, IsPiece, Begins, Cut, is_white, is_line, is_word_byte, is_end, line_after, tokens_from, put_token, newlines, Spells, IsBadToken}
 use Rattle.lvm_text.specs.Scan.{line_length, word_length, raw_length, sign_of, piece_at}
-use Rattle.lvm_text.proofs.Cases.{cond_elim, mapped, bool_is}
-use Rattle.lvm_text.proofs.Scans.{line_again, line_none, Line, line_found, word_again, Run, word_found, raw_again, Raw, raw_found}
+use Rattle.lvm_text.proofs.Cases.{cond_elim, mapped}
+use Rattle.lvm_text.proofs.Scans.{line_again, line_none, Line, line_found, word_again, word_found, raw_again, Raw, raw_found}
 
 -- A piece is found
 

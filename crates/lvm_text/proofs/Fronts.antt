@@ -1,13 +1,12 @@
 -- The parser's places say which tokens can still become a text.
-use Rattle.std.proofs.Common.{◌≡◌, ◌≢◌, ℕ, zero, suc, ◌+◌, ◌-◌, ◌<◌, ◌≤◌, Bool, true, false, cond, nat_lt, List, [], ◌∷◌, ◌++◌, Option, Some, None, refl, sym, ap, subst, ◌∙◌, append_assoc, arith, inl, inr}
+use Rattle.std.proofs.Common.{◌≡◌, ◌≢◌, ℕ, zero, suc, ◌-◌, ◌≤◌, Bool, true, false, cond, nat_lt, List, [], ◌∷◌, ◌++◌, Option, Some, None, refl, sym, ap, ◌∙◌, arith}
 use Rattle.std.specs.Prelude.{is_some, option_and_then}
 use Rattle.std.proofs.lemmas.Bool.{lt-ltb, eqb-true, eq-eqb}
-use Rattle.std.proofs.lemmas.Option.{some_pair_parts, same_Some}
+use Rattle.std.proofs.lemmas.Option.{some_pair_parts}
 use Rattle.std.specs.Prelude.{MatchOption}
-use Rattle.lvm_text.proofs.Cases.{cond_elim}
 use Rattle.lvm_text.specs.Token.{Token, Word, Text, Open, Close, ListOpen, ListClose, Equals, Comma, Placed}
 use Rattle.lvm_text.specs.Tree.{Scalar, Values, Nothing, Section, Single, Several}
-use Rattle.lvm_text.specs.Grammar.{scalar_of, is_key, ReadsMore, ReadsList, Reads, IsText, IsFront, IsBreak, IsUnfinished, IsSyntaxLine}
+use Rattle.lvm_text.specs.Grammar.{scalar_of, is_key, ReadsMore, ReadsList, Reads, IsText, IsFront, IsBreak, IsUnfinished}
 use Rattle.lvm_text.specs.Machine.{State, scalar_then, step, run, is_over}
 use Rattle.lvm_text.specs.declared.syntax.Place.{Place}
 use Rattle.lvm_text.specs.declared.syntax.Place.TheVariants as at

@@ -1,8 +1,8 @@
 -- Looking a key up, and going over the sections.
-use Rattle.std.proofs.Common.{◌≡◌, ℕ, zero, suc, ◌+◌, ◌<◌, Bool, true, false, cond, eqb, ◌&&◌, List, [], ◌∷◌, ◌++◌, length, get_or, drop, Option, Some, None, refl, sym, ap, subst, ◌∙◌, arith, add-one, drop-cons}
+use Rattle.std.proofs.Common.{◌≡◌, ℕ, zero, suc, ◌+◌, ◌<◌, true, false, cond, List, [], ◌∷◌, length, get_or, drop, Some, refl, sym, ap, ◌∙◌, arith, add-one, drop-cons}
 use Rattle.std.specs.Prelude.{bytes_eq}
 use Rattle.std.proofs.lemmas.Bool.{and_parts, eqb-true}
-use Rattle.lvm_text.specs.Tree.{Values, Tree, Shown, Content, Inner, node_of, sections_of}
+use Rattle.lvm_text.specs.Tree.{Values, Tree, Shown, Inner, node_of, sections_of}
 use Rattle.lvm_text.specs.View.{put, values_of, has_line, lines_agree, content_view, node_view, put_section, sections_in}
 use Rattle.lvm_text.specs.declared.tree.Value.{Value}
 use Rattle.lvm_text.specs.declared.tree.Value.TheVariants as variants

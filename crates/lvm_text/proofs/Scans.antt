@@ -1,9 +1,9 @@
 -- What the lengths of pieces say of a text, and which lengths a spelled piece has.
-use Rattle.std.proofs.Common.{◌≡◌, ℕ, zero, suc, Bool, true, false, cond, not, ◌&&◌, ◌||◌, eqb, List, [], ◌∷◌, ◌++◌, length, take, drop, Option, Some, None, refl, sym, ap, ◌∙◌, arith, inl, inr}
+use Rattle.std.proofs.Common.{◌≡◌, ℕ, suc, Bool, true, false, cond, not, ◌&&◌, ◌||◌, eqb, List, [], ◌∷◌, ◌++◌, length, take, drop, Option, Some, None, refl, ap, inl, inr}
 use Rattle.std.specs.Prelude.{MatchOption, option_map}
 use Rattle.std.specs.List.{list_all}
-use Rattle.std.proofs.lemmas.Bool.{and_parts, and_from, or_cases, not-false, not-true, not_from_false, eqb-true, eq-eqb, or_left, or_right}
-use Rattle.lvm_text.specs.Spelling.{is_newline, is_line, is_word_byte, begins_word, is_plain, is_escapable, is_raw}
+use Rattle.std.proofs.lemmas.Bool.{and_parts, and_from, or_cases, not-true, not_from_false, eqb-true, or_left, or_right}
+use Rattle.lvm_text.specs.Spelling.{is_line, is_word_byte, begins_word, is_plain, is_escapable, is_raw}
 use Rattle.lvm_text.specs.Scan.{line_length, word_length, raw_length}
 use Rattle.lvm_text.proofs.Cases.{cond_elim, mapped}
 

@@ -1,9 +1,9 @@
 -- The first place of a byte, as a length of what stands before it.
-use Rattle.std.proofs.Common.{◌≡◌, ◌≢◌, ℕ, zero, suc, ◌+◌, ◌-◌, ◌<◌, ◌≤◌, Bool, true, false, cond, not, ◌&&◌, ◌||◌, eqb, List, [], ◌∷◌, length, get_or, take, drop, Option, Some, None, refl, sym, ap, subst, ◌∙◌, arith, length-drop, inl, inr}
+use Rattle.std.proofs.Common.{◌≡◌, ◌≢◌, ℕ, zero, suc, ◌+◌, ◌-◌, ◌<◌, ◌≤◌, Bool, true, false, cond, not, ◌&&◌, ◌||◌, eqb, List, [], ◌∷◌, length, get_or, take, drop, Option, Some, None, refl, sym, ap, subst, ◌∙◌, arith, length-drop}
 use Rattle.std.specs.Prelude.{option_map, is_some, is_none}
-use Rattle.std.proofs.lemmas.Bool.{and_parts, or_cases, false_from_ne_true, eqb-true, ne_eqb}
+use Rattle.std.proofs.lemmas.Bool.{and_parts, false_from_ne_true, eqb-true, ne_eqb}
 use Rattle.std.proofs.lemmas.List.{take_rest, drop-drop}
-use Rattle.memchr.specs.Find.{Nowhere, Passes, is_byte, is_byte3, IsFirstByte}
+use Rattle.memchr.specs.Find.{is_byte, is_byte3, IsFirstByte}
 use Rattle.lvm_text.specs.Spelling.{is_line, is_end, is_escapable}
 use Rattle.lvm_text.specs.Scan.{line_length, raw_length, is_escape}
 use Rattle.lvm_text.proofs.Boundaries.{first_of_drop}

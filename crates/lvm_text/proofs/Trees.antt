@@ -1,13 +1,12 @@
 -- From the tree of tokens to what the text says.
-use Rattle.std.proofs.Common.{◌≡◌, ◌≢◌, ℕ, List, [], ◌∷◌, ◌++◌, Option, Some, None, refl, sym, ap, subst, ◌∙◌, inl, inr}
+use Rattle.std.proofs.Common.{◌≡◌, ◌≢◌, ℕ, List, [], ◌∷◌, Option, Some, None, refl, sym, ap, subst, ◌∙◌}
 use Rattle.std.specs.Prelude.{Result, Ok, Err, IfOk, IfErr}
 use Rattle.lvm_text.specs.Token.{Close, Placed}
 use Rattle.lvm_text.specs.Tree.{Values, Tree}
 use Rattle.lvm_text.specs.Spelling.{Spells}
 use Rattle.lvm_text.specs.Grammar.{IsText}
-use Rattle.lvm_text.specs.Build.{ReadsValues}
 use Rattle.lvm_text.specs.Machine.{run}
-use Rattle.lvm_text.specs.Checks.{head_line, first_line, deep_lines, number_lines, twice_lines, fault_of}
+use Rattle.lvm_text.specs.Checks.{first_line, deep_lines, number_lines, twice_lines, fault_of}
 use Rattle.lvm_text.specs.Reading.{Describes, HasFault, TreeOf}
 use Rattle.lvm_text.specs.declared.syntax.Place.TheVariants as at
 use Rattle.lvm_text.specs.declared.fault.TextFault.{TextFault}

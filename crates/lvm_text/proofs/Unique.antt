@@ -1,11 +1,11 @@
 -- A text says one thing: one tree, or one fault.
-use Rattle.std.proofs.Common.{◌≡◌, ◌≢◌, ℕ, zero, suc, ◌+◌, Bool, true, false, List, [], ◌∷◌, ◌++◌, Option, Some, None, refl, sym, ap, subst, ◌∙◌, append_assoc, inl, inr, ◌⊎◌}
+use Rattle.std.proofs.Common.{◌≡◌, ◌≢◌, ℕ, ◌+◌, true, false, List, [], ◌∷◌, ◌++◌, Some, None, refl, sym, ap, subst, ◌∙◌, append_assoc, inl, inr, ◌⊎◌}
 use Rattle.std.specs.Prelude.{Result, Ok, Err, IfOk, IfErr}
 use Rattle.std.proofs.lemmas.Option.{same_Some}
 use Rattle.std.proofs.lemmas.List.{append-nil}
-use Rattle.lvm_text.specs.Token.{Token, Word, Text, Open, Close, ListOpen, ListClose, Equals, Comma, Placed}
+use Rattle.lvm_text.specs.Token.{Token, Word, Open, Close, ListOpen, ListClose, Equals, Comma, Placed}
 use Rattle.lvm_text.specs.Tree.{Scalar, Values, Nothing, Section, Single, Several, Tree}
-use Rattle.lvm_text.specs.Grammar.{scalar_of, ReadsList, ReadsMore, Reads, IsText, IsFront, IsBreak, IsUnfinished, IsSyntaxLine}
+use Rattle.lvm_text.specs.Grammar.{scalar_of, ReadsList, ReadsMore, Reads, IsText, IsFront, IsBreak, IsSyntaxLine}
 use Rattle.lvm_text.specs.Build.{begins_key}
 use Rattle.lvm_text.specs.Spelling.{Spells, newlines}
 use Rattle.lvm_text.specs.Checks.{fault_of}

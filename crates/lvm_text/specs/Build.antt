@@ -1,30 +1,35 @@
 -- What the tree's builder reads, from the tokens that are left.
-use Rattle.std.specs.Prelude.{◌≡◌, ℕ, Bool, true, false, List, [], ◌∷◌, map, Option, Some, None, option_map, if◌then◌else◌}
-use Rattle.lvm_text.specs.Token.{Token, Word, Open, Comma, Equals, ListOpen, Placed}
+use Rattle.std.specs.Prelude.{◌≡◌, ℕ, Bool, true, false, List, [], ◌∷◌, Option, Some, None, option_map, if◌then◌else◌}
+use Rattle.lvm_text.specs.Token.{Token, Word, Open, Comma, ListOpen, Placed}
 use Rattle.lvm_text.specs.Tree as tree
 use Rattle.lvm_text.specs.Tree.{Values, Nothing, Single, Several}
-use Rattle.lvm_text.specs.Grammar.{scalar_of, ReadsList, ReadsMore, Reads}
+use Rattle.lvm_text.specs.Grammar.{scalar_of, ReadsList, Reads}
 use Rattle.lvm_text.specs.View.{scalar_view, put}
 use Rattle.lvm_text.specs.declared.tree.Scalar.{Scalar}
 use Rattle.lvm_text.specs.declared.tree.Value.{Value}
 use Rattle.lvm_text.specs.declared.tree.Entry.{Entry}
 
+-- a token that may be a key
 abbrev pub is_word : Token → Bool
 is_word (Word w) = true
 is_word _ = false
 
+-- the first token may be a key
 abbrev pub begins_key : List Placed → Bool
 begins_key [] = false
 begins_key (t ∷ ts) = is_word t.0
 
+-- a comma
 abbrev pub is_comma : Token → Bool
 is_comma Comma = true
 is_comma _ = false
 
+-- an opening brace
 abbrev pub is_open : Token → Bool
 is_open Open = true
 is_open _ = false
 
+-- an opening bracket
 abbrev pub is_list_open : Token → Bool
 is_list_open ListOpen = true
 is_list_open _ = false

@@ -1,7 +1,7 @@
 -- The checks of a text that the grammar spells: for each the lines where it hits, in source order.
-use Rattle.std.specs.Prelude.{◌≡◌, ℕ, suc, ◌-◌, Bool, true, false, ◌&&◌, nat_lt, List, [], ◌∷◌, ◌++◌, Option, Some, None, is_none, bytes_eq, if◌then◌else◌}
+use Rattle.std.specs.Prelude.{ℕ, suc, ◌-◌, Bool, true, false, ◌&&◌, nat_lt, List, [], ◌∷◌, ◌++◌, Option, Some, None, is_none, bytes_eq, if◌then◌else◌}
 use Rattle.std.specs.List.{list_any}
-use Rattle.lvm_text.specs.Token.{Token, Word, Text, Open, Close, ListOpen, ListClose, Equals, Comma, Placed}
+use Rattle.lvm_text.specs.Token.{Token, Word, Open, Close, ListOpen, Equals, Comma, Placed}
 use Rattle.lvm_text.specs.Tree.{Values, Nothing, Section, Single, Several}
 use Rattle.lvm_text.specs.Grammar.{number_of}
 use Rattle.lvm_text.specs.declared.fault.TextFault.{TextFault}
@@ -49,6 +49,7 @@ abbrev pub number_lines : Token → List Placed → List ℕ
 number_lines before [] = []
 number_lines before (t ∷ ts) = hit (leads_scalar before && is_refused t.0) t.1 (number_lines t.0 ts)
 
+-- the key is one of these
 abbrev pub has_key : List ℕ → List (List ℕ) → Bool
 has_key key keys = list_any (λ k. bytes_eq k key) keys
 

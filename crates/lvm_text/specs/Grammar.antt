@@ -7,6 +7,7 @@ use Rattle.lvm_text.specs.Token.{Token, Word, Text, Open, Close, ListOpen, ListC
 use Rattle.lvm_text.specs.Tree as tree
 use Rattle.lvm_text.specs.Tree.{Values, Nothing, Section, Single, Several}
 
+-- digits alone
 abbrev pub are_digits : List ℕ → Bool
 are_digits = list_all is_ascii_digit
 

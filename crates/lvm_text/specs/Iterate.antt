@@ -10,5 +10,6 @@ use denote.Ref.{Bor}
 abbrev pub item_view : Bor (List ℕ) × Bor Section → List ℕ × Tree
 item_view item = (item.0.now, item.1.now)
 
+-- the keys and sections that are left, in source order
 abbrev pub sections_left : Sections → List (List ℕ × Tree)
 sections_left s = sections_in (drop s.at s.entries.now)

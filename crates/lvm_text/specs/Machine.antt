@@ -1,6 +1,6 @@
 -- The parser's places. That they say which tokens can still become a text is proved, not assumed.
 use Rattle.std.specs.Prelude.{ℕ, suc, ◌-◌, Bool, false, ◌==◌, List, [], ◌∷◌, Option, Some, None, is_some, option_and_then, if◌then◌else◌, nat_lt}
-use Rattle.lvm_text.specs.Token.{Token, Word, Text, Open, Close, ListOpen, ListClose, Equals, Comma, Placed}
+use Rattle.lvm_text.specs.Token.{Token, Word, Open, Close, ListOpen, ListClose, Equals, Comma, Placed}
 use Rattle.lvm_text.specs.Grammar.{scalar_of, is_key}
 use Rattle.lvm_text.specs.declared.syntax.Place.{Place}
 use Rattle.lvm_text.specs.declared.syntax.Place.TheVariants as at
@@ -13,6 +13,7 @@ State = ℕ × Place
 abbrev pub scalar_then : Token → State → Option State
 scalar_then t next = if is_some (scalar_of t) then Some next else None
 
+-- the state after a token, if it may stand here
 abbrev pub step : ℕ → Place → Token → Option State
 step d at.Key (Word w) = if is_key w then Some (d, at.AfterKey) else None
 step d at.Key Close = if nat_lt 0 d then Some (d - 1, at.Key) else None

@@ -1,5 +1,5 @@
 -- What a text says, and the fault of one that says nothing.
-use Rattle.std.specs.Prelude.{◌≡◌, ◌≢◌, ℕ, ◌+◌, List, [], Option, Some, None, Result, Ok, Err}
+use Rattle.std.specs.Prelude.{◌≡◌, ℕ, ◌+◌, List, Some, None, Result, Ok, Err}
 use Rattle.lvm_text.specs.Token.{Placed}
 use Rattle.lvm_text.specs.Tree.{Tree, Values}
 use Rattle.lvm_text.specs.Spelling.{Spells, IsBadToken, newlines}

@@ -1,7 +1,7 @@
 -- How many bytes a piece of a text takes.
-use Rattle.std.specs.Prelude.{ℕ, suc, ◌+◌, Bool, false, ◌&&◌, ◌||◌, ◌==◌, List, [], ◌∷◌, take, drop, Option, Some, None, option_map, if◌then◌else◌}
+use Rattle.std.specs.Prelude.{ℕ, suc, Bool, false, ◌&&◌, ◌==◌, List, [], ◌∷◌, take, drop, Option, Some, None, option_map, if◌then◌else◌}
 use Rattle.lvm_text.specs.Token.{Token, Word, Text, Open, Close, ListOpen, ListClose, Equals, Comma}
-use Rattle.lvm_text.specs.Spelling.{Piece, White, Comment, Lexeme, is_white, is_word_byte, is_plain, is_escapable}
+use Rattle.lvm_text.specs.Spelling.{Piece, White, Comment, Lexeme, is_white, is_word_byte, is_escapable}
 
 -- up to the newline
 abbrev pub line_length : List ℕ → Option ℕ

@@ -5,6 +5,7 @@ use Rattle.lvm_text.specs.Token.{Token, Word, Text, Open, Close, ListOpen, ListC
 
 -- The bytes
 
+-- a space, a tab or a newline
 abbrev pub is_white : ℕ → Bool
 is_white b = b == 32 || (b == 9 || b == 10)
 
@@ -12,6 +13,7 @@ is_white b = b == 32 || (b == 9 || b == 10)
 abbrev pub is_word_byte : ℕ → Bool
 is_word_byte b = (nat_le 97 b && nat_le b 122) || ((nat_le 65 b && nat_le b 90) || ((nat_le 48 b && nat_le b 57) || (b == 95 || (b == 43 || (b == 46 || b == 45)))))
 
+-- a newline
 abbrev pub is_newline : ℕ → Bool
 is_newline b = b == 10
 
@@ -38,6 +40,7 @@ is_raw (b ∷ c ∷ bs) = (is_plain b && is_raw (c ∷ bs)) || (b == 92 && (is_e
 abbrev pub is_line : List ℕ → Bool
 is_line bs = list_all (λ b. not (is_newline b)) bs
 
+-- the first byte may stand in a word
 abbrev pub begins_word : List ℕ → Bool
 begins_word [] = false
 begins_word (b ∷ bs) = is_word_byte b
@@ -50,6 +53,7 @@ pub data Piece : Type 0 where
   Comment : List ℕ → Piece
   Lexeme : Token → Piece
 
+-- the bytes of a token
 abbrev pub token_spelling : Token → List ℕ
 token_spelling (Word w) = w
 token_spelling (Text t) = 34 ∷ (t ++ 34 ∷ [])
@@ -60,6 +64,7 @@ token_spelling ListClose = 93 ∷ []
 token_spelling Equals = 61 ∷ []
 token_spelling Comma = 44 ∷ []
 
+-- the bytes of a piece
 abbrev pub spelling : Piece → List ℕ
 spelling (White b) = b ∷ []
 spelling (Comment c) = 35 ∷ (c ++ 10 ∷ [])
@@ -71,6 +76,7 @@ pub record IsWord (w after : List ℕ) : Type 0 where
   pub bytes : list_all is_word_byte w ≡ true
   pub longest : begins_word after ≡ false
 
+-- a token, where these bytes come after it
 abbrev pub IsToken : Token → List ℕ → Type 0
 IsToken (Word w) after = IsWord w after
 IsToken (Text t) after = is_raw t ≡ true

@@ -9,6 +9,7 @@ use Rattle.lvm_text.specs.declared.piece.Piece.TheVariants as pieces
 use Rattle.lvm_text.specs.Spelling as Spelling
 use denote.Ref.{Bor}
 
+-- a token
 abbrev pub token_view : Token → spec.Token
 token_view (token.Word w) = spec.Word w.now
 token_view (token.Text t) = spec.Text t.now
@@ -19,12 +20,15 @@ token_view token.ListClose = spec.ListClose
 token_view token.Equals = spec.Equals
 token_view token.Comma = spec.Comma
 
+-- a token and its line
 abbrev pub view : Placed → spec.Placed
 view t = (token_view t.token, t.line)
 
+-- tokens and their lines
 abbrev pub views : List Placed → List spec.Placed
 views = map view
 
+-- a piece
 abbrev pub piece_view : Piece → Spelling.Piece
 piece_view (pieces.White b) = Spelling.White b
 piece_view (pieces.Comment c) = Spelling.Comment c.now

@@ -19,14 +19,17 @@ Held = Unit {0} ⊎ (Flat ⊎ List Flat)
 abbrev pub Item : Type 0
 Item = Unit {0} ⊎ ((List ℕ × ℕ) × Held)
 
+-- a scalar as an integer or a string
 abbrev pub flat_scalar : Scalar → Flat
 flat_scalar (Int n) = inl n
 flat_scalar (Text t) = inr t
 
+-- the scalar again
 abbrev pub scalar_back : Flat → Scalar
 scalar_back (inl n) = Int n
 scalar_back (inr t) = Text t
 
+-- values as a list
 abbrev pub flat_values : Values → List Item
 flat_values Nothing = []
 flat_values (Section k n inner rest) = inr ((k, n), inl tt) ∷ (flat_values inner ++ inl tt ∷ flat_values rest)
@@ -37,15 +40,18 @@ flat_values (Several k n ss rest) = inr ((k, n), inr (inr (map flat_scalar ss)))
 abbrev pub Pile : Type 0
 Pile = Values × List Values
 
+-- a section that is entered, before the values inside it and those after it
 abbrev pub entered : List ℕ → ℕ → Values → List Values → Pile
 entered k n inner [] = (Nothing, [])
 entered k n inner (rest ∷ more) = (Section k n inner rest, more)
 
+-- a key and what it holds, before the rest
 abbrev pub held : List ℕ → ℕ → Held → Pile → Pile
 held k n (inl u) pile = entered k n pile.0 pile.1
 held k n (inr (inl s)) pile = (Single k n (scalar_back s) pile.0, pile.1)
 held k n (inr (inr ss)) pile = (Several k n (map scalar_back ss) pile.0, pile.1)
 
+-- the values of a list, and those after each section that is left
 abbrev pub pile_of : List Item → Pile
 pile_of [] = (Nothing, [])
 pile_of (inl u ∷ is) = (Nothing, (pile_of is).0 ∷ (pile_of is).1)
@@ -68,19 +74,23 @@ pile_is (Section k n inner rest) is more e =
 pile_is (Single k n s rest) is more e = rw (pile_is rest is more e, scalar_is s) refl
 pile_is (Several k n ss rest) is more e = rw (pile_is rest is more e, scalars_are ss) refl
 
+-- the values again
 abbrev pub values_back : List Item → Values
 values_back is = (pile_of is).0
 
 pub values_back-flat_values : (v : Values) → values_back (flat_values v) ≡ v
 values_back-flat_values v = ap values_back (sym (append-nil (flat_values v))) ∙ ap (λ (p : Pile). p.0) (pile_is v [] [] refl)
 
+-- the code of a scalar
 abbrev coded_flat : Coded Flat
 coded_flat = coded⊎ coded_ℕ (coded_list coded_ℕ)
 
+-- the code of values
 abbrev pub values_code : Coded Values
 values_code =
     code_by (List Item) (coded_list (coded⊎ coded_unit (coded× (coded× (coded_list coded_ℕ) coded_ℕ) (coded⊎ coded_unit (coded⊎ coded_flat (coded_list coded_flat))))))
     flat_values values_back values_back-flat_values
 
+-- the code of a tree
 abbrev pub tree_code : Coded Tree
 tree_code = code_by (ℕ × Values) (coded× coded_ℕ values_code) (λ t. (t.line, t.values)) (λ p. record { line = p.0; values = p.1 }) (λ _. refl)

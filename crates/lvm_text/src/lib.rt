@@ -18,11 +18,10 @@ mod reading;
 mod repeat;
 mod scan;
 mod syntax;
-mod token;
-mod tree;
-
 #[cfg(test)]
 mod tests;
+mod token;
+mod tree;
 
 pub use fault::TextFault;
 use std::alloc::Global;

@@ -1,6 +1,5 @@
-use Rattle.std.proofs.Common.{sym, ◌∙◌, ap, subst, ◌≡◌, ◌+◌, ◌++◌, ◌∷◌, [], List, drop, arith, false, true}
-use Rattle.lvm_text.specs.Build.{ReadsValue, begins_key}
-use Rattle.lvm_text.specs.TokenView.{token_view, view, views}
+use Rattle.std.proofs.Common.{sym, ◌∙◌, ap, subst, ◌+◌, List, drop, arith}
+use Rattle.lvm_text.specs.TokenView.{view, views}
 use Rattle.lvm_text.specs.View.{lines_agree}
 use Rattle.lvm_text.specs.declared.tree.Entry.{Entry}
 use Rattle.lvm_text.specs.declared.tree.Value.TheVariants as values

@@ -1,9 +1,8 @@
-use Rattle.std.proofs.Common.{sym, ◌∙◌, ap, subst, ◌≡◌, ◌++◌, ◌∷◌, [], List, drop, map, arith}
+use Rattle.std.proofs.Common.{sym, ◌∙◌, ap, subst, ◌≡◌, ◌++◌, ◌∷◌, [], List, drop, arith}
 use Rattle.std.proofs.lemmas.List.{map_push}
 use Rattle.lvm_text.specs.Tree as tree
 use Rattle.lvm_text.specs.TokenView.{views}
 use Rattle.lvm_text.specs.View.{scalar_view, scalar_views}
-use Rattle.lvm_text.specs.declared.tree.Scalar.{Scalar}
 use Rattle.lvm_text.proofs.Building.{ListSoFar, list_more, list_ends, behind_views}
 use Rattle.lvm_text.proofs.build.scalars_at.Goals as goal
 

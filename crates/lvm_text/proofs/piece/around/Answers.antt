@@ -1,4 +1,4 @@
-use Rattle.std.proofs.Common.{ap, ◌∙◌, sym, ◌<◌, length, get_or, List, ℕ, drop, take, suc, arith, add-one, ◌≡◌, ◌+◌, ◌-◌}
+use Rattle.std.proofs.Common.{ap, ◌∙◌, ◌<◌, length, get_or, List, ℕ, drop, arith, add-one}
 use Rattle.std.proofs.lemmas.List.{drop-drop}
 use Rattle.lvm_text.proofs.Boundaries.{after_byte, first_of_drop}
 use Rattle.lvm_text.proofs.piece.around.Goals as goal

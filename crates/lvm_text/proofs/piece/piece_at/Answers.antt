@@ -1,6 +1,6 @@
-use Rattle.std.proofs.Common.{◌∙◌, ◌≡◌, ◌<◌, ◌≤◌, sym, ap, subst, eqb, length, List, ℕ, get_or, arith, true, false}
+use Rattle.std.proofs.Common.{◌∙◌, ◌≤◌, ap, subst, eqb, length, List, ℕ, get_or}
 use Rattle.lvm_text.specs.Scan.{piece_from}
-use Rattle.lvm_text.proofs.Pieces.{piece_nil, piece_beyond, piece_cons, whole_cons, some_bytes}
+use Rattle.lvm_text.proofs.Pieces.{piece_nil, piece_beyond, piece_cons, some_bytes}
 use Rattle.lvm_text.proofs.piece.piece_at.Goals as goal
 
 pub returns-then-is_empty : goal.returns-then-is_empty

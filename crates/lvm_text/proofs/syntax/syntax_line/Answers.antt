@@ -1,5 +1,5 @@
-use Rattle.std.proofs.Common.{sym, ◌∙◌, arith, ◌≤◌, ◌+◌}
-use Rattle.lvm_text.proofs.Steps.{refused, stepped, finished, unended}
+use Rattle.std.proofs.Common.{sym, arith}
+use Rattle.lvm_text.proofs.Steps.{refused, stepped, unended}
 use Rattle.lvm_text.proofs.syntax.syntax_line.Goals as goal
 
 pub returns-in_default : goal.returns-in_default

@@ -1,9 +1,8 @@
-use Rattle.std.proofs.Common.{rules, sym, ◌∙◌, ap, subst, ◌≡◌, ◌+◌, ◌<◌, ◌≤◌, ℕ, List, length, arith}
-use Rattle.std.specs.Prelude.{IsUtf8}
+use Rattle.std.proofs.Common.{rules, sym, ◌∙◌, ap, subst, ◌≡◌, ◌+◌, ℕ, List, arith}
 use Rattle.lvm_text.specs.Token.{Placed}
 use Rattle.lvm_text.specs.Spelling.{is_end, newlines, spelling}
 use Rattle.lvm_text.specs.TokenView.{views, piece_view}
-use Rattle.lvm_text.proofs.Cuts.{Before, before_more, bad_here, spells_whole}
+use Rattle.lvm_text.proofs.Cuts.{Before, before_more, bad_here}
 use Rattle.lvm_text.proofs.Pieces.{begins, shorter}
 use Rattle.lvm_text.proofs.token.tokens_of.Goals as goal
 

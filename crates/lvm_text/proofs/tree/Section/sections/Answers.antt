@@ -1,4 +1,4 @@
-use Rattle.std.proofs.Common.{sym, ap, ◌∙◌, List}
+use Rattle.std.proofs.Common.{sym, ap, ◌∙◌}
 use Rattle.lvm_text.specs.Tree.{Tree, sections_of}
 use Rattle.lvm_text.specs.View.{sections_in}
 use Rattle.lvm_text.proofs.Looks.{sections_are}
