@@ -20,7 +20,7 @@ use Rattle.dmremap.specs.declared.words.Task.{Task}
 use Rattle.dmremap.specs.declared.words.Task.TheVariants.{Map}
 use Rattle.dmremap.specs.declared.words.Job.{Job}
 use Rattle.dmremap.specs.declared.words.WordsFault.{WordsFault}
-use Rattle.dmremap.specs.declared.words.WordsFault.TheVariants.{Words, Disks, NotText, Memory}
+use Rattle.dmremap.specs.declared.words.WordsFault.TheVariants.{Words, Disks, Memory}
 
 -- ---- the command line
 
@@ -156,7 +156,6 @@ pub record LacksItsDisks (words : List Text) : Type 0 where
 abbrev pub IsFaultOf : List Text → WordsFault → Type 0
 IsFaultOf words (Words error) = RefusesHyphen words error ⊎ IsRefused words error
 IsFaultOf words Disks = LacksItsDisks words
-IsFaultOf words NotText = ⊥
 IsFaultOf words Memory = ⊤
 
 -- what is answered to arguments that are no text: an invalid value
@@ -177,7 +176,6 @@ is_shown _ = false
 abbrev pub status_of : WordsFault → ℕ
 status_of (Words error) = if is_shown (kind_of error) then 0 else 2
 status_of Disks = 2
-status_of NotText = 2
 status_of Memory = 6
 
 -- ---- clap's errors as faults

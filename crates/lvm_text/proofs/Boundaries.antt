@@ -1,0 +1,92 @@
+-- Where a text is cut, a character begins.
+use Rattle.std.proofs.Common.{◌≡◌, ℕ, zero, suc, ◌<◌, ◌≤◌, true, cond, eqb, List, [], ◌∷◌, length, get_or, drop, Option, Some, None, refl, sym, subst, arith}
+use Rattle.std.specs.Prelude.{MatchOption, option_map, IsUtf8, IsCharBoundary}
+use Rattle.std.proofs.lemmas.Bool.{eqb-true}
+use Rattle.std.proofs.lemmas.Bool.Decides.{nat_tests}
+use Rattle.std.proofs.lemmas.Option.{MatchOption-at_some}
+use Rattle.std.proofs.lemmas.Str.{IsUtf8-drop, IsCharBoundary-start, IsCharBoundary-before_ascii, IsCharBoundary-after_ascii}
+use Rattle.lvm_text.specs.Spelling.{is_word_byte, is_escapable}
+use Rattle.lvm_text.specs.Scan.{line_length, word_length, raw_length}
+use Rattle.lvm_text.proofs.Cases.{cond_elim, mapped}
+
+-- behind an ASCII byte at the front of what a text ends with
+pub after_byte : (text rest : List ℕ) (i : ℕ) → IsUtf8 text → i < length text → get_or text i 0 < 128 → rest ≡ drop i text → get_or rest 0 0 ≡ get_or text i 0 → 0 < length rest → IsCharBoundary rest 1
+after_byte text rest i u lt ascii e same some =
+    let v : IsUtf8 rest = subst IsUtf8 (sym e) (IsUtf8-drop text i u (IsCharBoundary-before_ascii text i lt ascii)) in
+    IsCharBoundary-after_ascii rest 0 v some (rw same ascii)
+
+pub first_of_drop : (bs : List ℕ) (k : ℕ) → get_or (drop k bs) 0 0 ≡ get_or bs k 0
+first_of_drop [] zero = refl
+first_of_drop [] (suc k) = refl
+first_of_drop (b ∷ bs) zero = refl
+first_of_drop (b ∷ bs) (suc k) = first_of_drop bs k
+
+-- this byte stands at this place
+pub record Here (byte : ℕ) (bs : List ℕ) (n : ℕ) : Type 0 where
+  pub within : n < length bs
+  pub is : get_or bs n 0 ≡ byte
+
+later : (byte b : ℕ) (bs : List ℕ) (n : ℕ) → Here byte bs n → Here byte (b ∷ bs) (suc n)
+later byte b bs n h = let lt : n < length bs = h.within in record { within = omega arith; is = h.is }
+
+line_here : (bs : List ℕ) → MatchOption (line_length bs) (Unit {0}) (Here 10 bs)
+line_here [] = tt
+line_here (b ∷ bs) =
+    cond_elim (eqb b 10) (λ r. MatchOption r (Unit {0}) (Here 10 (b ∷ bs))) (Some 0) (option_map suc (line_length bs))
+    (λ is. record { within = omega arith; is = eqb-true b 10 is })
+    (λ none. mapped (line_length bs) suc (Here 10 bs) (Here 10 (b ∷ bs)) (later 10 b bs) (line_here bs))
+
+pub line_at : (bs : List ℕ) (n : ℕ) → line_length bs ≡ Some n → Here 10 bs n
+line_at bs n e = MatchOption-at_some (Unit {0}) (Here 10 bs) n e (line_here bs)
+
+raw_here : (bs : List ℕ) → MatchOption (raw_length bs) (Unit {0}) (Here 34 bs)
+raw_here [] = tt
+raw_here (b ∷ []) =
+    cond_elim (eqb b 34) (λ r. MatchOption r (Unit {0}) (Here 34 (b ∷ []))) (Some 0) None
+    (λ is. record { within = omega arith; is = eqb-true b 34 is })
+    (λ none. tt)
+raw_here (b ∷ c ∷ bs) =
+    let P : Option ℕ → Type 0 = λ r. MatchOption r (Unit {0}) (Here 34 (b ∷ c ∷ bs)) in
+    let plain : Option ℕ = option_map suc (raw_length (c ∷ bs)) in
+    let escaped : Option ℕ = option_map (λ n. suc (suc n)) (raw_length bs) in
+    cond_elim (eqb b 34) P (Some 0) (cond (eqb b 92) (cond (is_escapable c) escaped None) (cond (eqb b 10) None plain))
+    (λ is. record { within = omega arith; is = eqb-true b 34 is })
+    (λ e1. cond_elim (eqb b 92) P (cond (is_escapable c) escaped None) (cond (eqb b 10) None plain)
+    (λ e2. cond_elim (is_escapable c) P escaped None
+    (λ e3. mapped (raw_length bs) (λ n. suc (suc n)) (Here 34 bs) (Here 34 (b ∷ c ∷ bs)) (λ n h. later 34 b (c ∷ bs) (suc n) (later 34 c bs n h)) (raw_here bs))
+    (λ e3. tt))
+    (λ e2. cond_elim (eqb b 10) P None plain
+    (λ e3. tt)
+    (λ e3. mapped (raw_length (c ∷ bs)) suc (Here 34 (c ∷ bs)) (Here 34 (b ∷ c ∷ bs)) (later 34 b (c ∷ bs)) (raw_here (c ∷ bs)))))
+
+pub raw_at : (bs : List ℕ) (n : ℕ) → raw_length bs ≡ Some n → Here 34 bs n
+raw_at bs n e = MatchOption-at_some (Unit {0}) (Here 34 bs) n e (raw_here bs)
+
+-- the bytes of a word
+word_byte_ascii : (b : ℕ) → is_word_byte b ≡ true → b < 128
+word_byte_ascii b h = grind (arith, nat_tests)
+
+pub record Within (bs : List ℕ) (n : ℕ) : Type 0 where
+  pub most : n ≤ length bs
+  pub ascii : (k : ℕ) → k < n → get_or bs k 0 < 128
+
+word_within : (bs : List ℕ) → Within bs (word_length bs)
+word_within [] = record { most = omega arith; ascii = λ k lt. absurd (omega arith) }
+word_within (b ∷ bs) =
+    cond_elim (is_word_byte b) (Within (b ∷ bs)) (suc (word_length bs)) 0
+    (λ is. record { most = omega (arith, (word_within bs).most); ascii = λ k lt. at k is lt (word_within bs).ascii })
+    (λ none. record { most = omega arith; ascii = λ k lt. absurd (omega arith) })
+  where
+    at : (k : ℕ) → is_word_byte b ≡ true → k < suc (word_length bs) → ((j : ℕ) → j < word_length bs → get_or bs j 0 < 128) → get_or (b ∷ bs) k 0 < 128
+    at zero is lt f = word_byte_ascii b is
+    at (suc k) is lt f = f k (omega arith)
+
+ascii_boundary : (bs : List ℕ) (n : ℕ) → IsUtf8 bs → Within bs n → IsCharBoundary bs n
+ascii_boundary bs zero u h = IsCharBoundary-start bs u
+ascii_boundary bs (suc n) u h =
+    let most : suc n ≤ length bs = h.most in
+    let b = IsCharBoundary-after_ascii bs n u (omega arith) (h.ascii n (omega arith)) in
+    subst (IsCharBoundary bs) (omega arith) b
+
+pub word_boundary : (bs : List ℕ) → IsUtf8 bs → IsCharBoundary bs (word_length bs)
+word_boundary bs u = ascii_boundary bs (word_length bs) u (word_within bs)

@@ -1,0 +1,278 @@
+-- The parser's places say which tokens can still become a text.
+use Rattle.std.proofs.Common.{◌≡◌, ◌≢◌, ℕ, zero, suc, ◌-◌, ◌≤◌, Bool, true, false, cond, nat_lt, List, [], ◌∷◌, ◌++◌, Option, Some, None, refl, sym, ap, ◌∙◌, arith}
+use Rattle.std.specs.Prelude.{is_some, option_and_then}
+use Rattle.std.proofs.lemmas.Bool.{lt-ltb, eqb-true, eq-eqb}
+use Rattle.std.proofs.lemmas.Option.{some_pair_parts}
+use Rattle.std.specs.Prelude.{MatchOption}
+use Rattle.lvm_text.specs.Token.{Token, Word, Text, Open, Close, ListOpen, ListClose, Equals, Comma, Placed}
+use Rattle.lvm_text.specs.Tree.{Scalar, Values, Nothing, Section, Single, Several}
+use Rattle.lvm_text.specs.Grammar.{scalar_of, is_key, ReadsMore, ReadsList, Reads, IsText, IsFront, IsBreak, IsUnfinished}
+use Rattle.lvm_text.specs.Machine.{State, scalar_then, step, run, is_over}
+use Rattle.lvm_text.specs.declared.syntax.Place.{Place}
+use Rattle.lvm_text.specs.declared.syntax.Place.TheVariants as at
+
+-- Runs
+
+chain : (o : Option State) (f g h : State → Option State) → ((s : State) → h s ≡ option_and_then g (f s)) → option_and_then h o ≡ option_and_then g (option_and_then f o)
+chain None f g h e = refl
+chain (Some s) f g h e = e s
+
+pub run-append : (d : ℕ) (p : Place) (a b : List Placed) → run d p (a ++ b) ≡ option_and_then (λ s. run s.0 s.1 b) (run d p a)
+run-append d p [] b = refl
+run-append d p (t ∷ a) b = chain (step d p t.0) (λ s. run s.0 s.1 a) (λ s. run s.0 s.1 b) (λ s. run s.0 s.1 (a ++ b)) (λ s. run-append s.0 s.1 a b)
+
+abbrev pub done : State
+done = (0, at.Key)
+
+-- A text is run through
+
+scalar_next : (t : Token) (s : Scalar) (next : State) → scalar_of t ≡ Some s → scalar_then t next ≡ Some next
+scalar_next t s next e = ap (λ (o : Option Scalar). cond (is_some o) (Some next) None) e
+
+content_step : (d : ℕ) (t : Token) (s : Scalar) → scalar_of t ≡ Some s → step d at.Content t ≡ Some (d, at.Key)
+content_step d (Word w) s e = scalar_next (Word w) s (d, at.Key) e
+content_step d (Text w) s e = refl
+content_step d Open s e = absurd cc
+content_step d Close s e = absurd cc
+content_step d ListOpen s e = absurd cc
+content_step d ListClose s e = absurd cc
+content_step d Equals s e = absurd cc
+content_step d Comma s e = absurd cc
+
+first_step : (d : ℕ) (t : Token) (s : Scalar) → scalar_of t ≡ Some s → step d at.First t ≡ Some (d, at.After)
+first_step d (Word w) s e = scalar_next (Word w) s (d, at.After) e
+first_step d (Text w) s e = refl
+first_step d Open s e = absurd cc
+first_step d Close s e = absurd cc
+first_step d ListOpen s e = absurd cc
+first_step d ListClose s e = absurd cc
+first_step d Equals s e = absurd cc
+first_step d Comma s e = absurd cc
+
+then_run : (d : ℕ) (p : Place) (t : Placed) (a : List Placed) (s : State) → step d p t.0 ≡ Some s → run d p (t ∷ a) ≡ run s.0 s.1 a
+then_run d p t a s e = ap (option_and_then (λ x. run x.0 x.1 a)) e
+
+close_run : (d n : ℕ) (b : List Placed) → run (suc d) at.Key ((Close, n) ∷ b) ≡ run d at.Key b
+close_run d n b =
+    let lt : nat_lt 0 (suc d) ≡ true = lt-ltb _ _ (omega arith) in
+    let back : suc d - 1 ≡ d = omega arith in
+    rw (lt, back) refl
+
+key_run : (d n : ℕ) (k : List ℕ) (a : List Placed) → is_key k ≡ true → run d at.Key ((Word k, n) ∷ a) ≡ run d at.AfterKey a
+key_run d n k a e = rw e refl
+
+more_run : (ss : List Scalar) (d : ℕ) (ts more : List Placed) → ReadsMore ts ss more → run d at.After ts ≡ run d at.Key more
+more_run [] d ts more h = ap (run d at.After) h.1
+more_run (s ∷ ss) d ts more h =
+    ap (run d at.After) h.4 ∙ then_run d at.Next (h.2, h.1) h.3 (d, at.After) (scalar_next h.2 s (d, at.After) h.5) ∙ more_run ss d h.3 more h.6
+
+list_run : (ss : List Scalar) (d : ℕ) (ts more : List Placed) → ReadsList ts ss more → run d at.First ts ≡ run d at.Key more
+list_run [] d ts more h = ap (run d at.First) h.1
+list_run (s ∷ ss) d ts more h =
+    ap (run d at.First) h.3 ∙ then_run d at.First (h.1, h.0) h.2 (d, at.After) (first_step d h.1 s h.4) ∙ more_run ss d h.2 more h.5
+
+pub reads_run : (v : Values) (d : ℕ) (ts more : List Placed) → Reads ts v more → run d at.Key ts ≡ run d at.Key more
+reads_run Nothing d ts more h = ap (run d at.Key) h
+reads_run (Section k n inner rest) d ts more h =
+    ap (run d at.Key) h.5 ∙ key_run d n k ((Open, h.1) ∷ h.3) h.0 ∙ reads_run inner (suc d) h.3 ((Close, h.2) ∷ h.4) h.6 ∙ close_run d h.2 h.4 ∙ reads_run rest d h.4 more h.7
+reads_run (Single k n s rest) d ts more h =
+    ap (run d at.Key) h.5 ∙ key_run d n k ((Equals, h.1) ∷ (h.3, h.2) ∷ h.4) h.0 ∙ then_run d at.Content (h.3, h.2) h.4 (d, at.Key) (content_step d h.3 s h.6) ∙ reads_run rest d h.4 more h.7
+reads_run (Several k n ss rest) d ts more h =
+    ap (run d at.Key) h.5 ∙ key_run d n k ((Equals, h.1) ∷ (ListOpen, h.2) ∷ h.3) h.0 ∙ list_run ss d h.3 h.4 h.6 ∙ reads_run rest d h.4 more h.7
+
+-- What is run through is a text
+
+-- values up to each closing brace of the open sections, and up to the end
+abbrev pub Stacked : ℕ → List Placed → Type 0
+Stacked zero ts = (v : Values) × Reads ts v []
+Stacked (suc d) ts = (v : Values) × (c : ℕ) × (b : List Placed) × Reads ts v ((Close, c) ∷ b) × Stacked d b
+
+before_section : (d : ℕ) (k : List ℕ) (n o : ℕ) (a : List Placed) → is_key k ≡ true → Stacked (suc d) a → Stacked d ((Word k, n) ∷ (Open, o) ∷ a)
+before_section zero k n o a e h = (Section k n h.0 h.4.0, (e, o, h.1, a, h.2, refl, h.3, h.4.1))
+before_section (suc d) k n o a e h = (Section k n h.0 h.4.0, h.4.1, h.4.2, (e, o, h.1, a, h.2, refl, h.3, h.4.3), h.4.4)
+
+before_single : (d : ℕ) (k : List ℕ) (n e : ℕ) (t : Token) (m : ℕ) (s : Scalar) (b : List Placed) → is_key k ≡ true → scalar_of t ≡ Some s → Stacked d b → Stacked d ((Word k, n) ∷ (Equals, e) ∷ (t, m) ∷ b)
+before_single zero k n e t m s b i x h = (Single k n s h.0, (i, e, m, t, b, refl, x, h.1))
+before_single (suc d) k n e t m s b i x h = (Single k n s h.0, h.1, h.2, (i, e, m, t, b, refl, x, h.3), h.4)
+
+before_list : (d : ℕ) (k : List ℕ) (n e o : ℕ) (ss : List Scalar) (a b : List Placed) → is_key k ≡ true → ReadsList a ss b → Stacked d b → Stacked d ((Word k, n) ∷ (Equals, e) ∷ (ListOpen, o) ∷ a)
+before_list zero k n e o ss a b i x h = (Several k n ss h.0, (i, e, o, a, b, refl, x, h.1))
+before_list (suc d) k n e o ss a b i x h = (Several k n ss h.0, h.1, h.2, (i, e, o, a, b, refl, x, h.3), h.4)
+
+-- what the tokens after a place are, if they end a text
+abbrev pub Holds : ℕ → Place → List Placed → Type 0
+Holds d at.Key ts = Stacked d ts
+Holds d at.AfterKey ts = (k : List ℕ) (n : ℕ) → is_key k ≡ true → Stacked d ((Word k, n) ∷ ts)
+Holds d at.Content ts = (k : List ℕ) (n e : ℕ) → is_key k ≡ true → Stacked d ((Word k, n) ∷ (Equals, e) ∷ ts)
+Holds d at.First ts = (ss : List Scalar) × (b : List Placed) × ReadsList ts ss b × Stacked d b
+Holds d at.Next ts = (n : ℕ) × (t : Token) × (a : List Placed) × (s : Scalar) × (ss : List Scalar) × (b : List Placed) × (ts ≡ (t, n) ∷ a) × (scalar_of t ≡ Some s) × ReadsMore a ss b × Stacked d b
+Holds d at.After ts = (ss : List Scalar) × (b : List Placed) × ReadsMore ts ss b × Stacked d b
+
+-- a step that was taken, and the run after it
+taken : (b : Bool) (next : State) (f : State → Option State) → option_and_then f (cond b (Some next) None) ≡ Some done → (b ≡ true) × (f next ≡ Some done)
+taken true next f e = (refl, e)
+taken false next f e = absurd cc
+
+there : (o : Option Scalar) → is_some o ≡ true → (s : Scalar) × (o ≡ Some s)
+there None e = absurd cc
+there (Some s) e = (s, refl)
+
+same_state : (d : ℕ) (p : Place) → ◌≡◌ {A = Option State} (Some (d, p)) (Some done) → (d ≡ 0) × (p ≡ at.Key)
+same_state d p e = some_pair_parts d 0 p at.Key e
+
+end : (d : ℕ) (p : Place) → run d p [] ≡ Some done → Holds d p []
+end zero at.Key e = (Nothing, refl)
+end (suc d) at.Key e = let wrong : suc d ≡ 0 = (same_state (suc d) at.Key e).0 in absurd (omega arith)
+end d at.AfterKey e = let wrong : at.AfterKey ≡ at.Key = (same_state d at.AfterKey e).1 in absurd cc
+end d at.Content e = let wrong : at.Content ≡ at.Key = (same_state d at.Content e).1 in absurd cc
+end d at.First e = let wrong : at.First ≡ at.Key = (same_state d at.First e).1 in absurd cc
+end d at.Next e = let wrong : at.Next ≡ at.Key = (same_state d at.Next e).1 in absurd cc
+end d at.After e = let wrong : at.After ≡ at.Key = (same_state d at.After e).1 in absurd cc
+
+abbrev After : List Placed → Type 0
+After ts = (d : ℕ) (p : Place) → run d p ts ≡ Some done → Holds d p ts
+
+content_word : (t : Token) (n : ℕ) (ts : List Placed) (d : ℕ) → After ts → option_and_then (λ s. run s.0 s.1 ts) (scalar_then t (d, at.Key)) ≡ Some done → Holds d at.Content ((t, n) ∷ ts)
+content_word t n ts d ih e =
+    let a = taken (is_some (scalar_of t)) (d, at.Key) (λ s. run s.0 s.1 ts) e in
+    let s = there (scalar_of t) a.0 in
+    λ k m q i. before_single d k m q t n s.0 ts i s.1 (ih d at.Key a.1)
+
+first_word : (t : Token) (n : ℕ) (ts : List Placed) (d : ℕ) → After ts → option_and_then (λ s. run s.0 s.1 ts) (scalar_then t (d, at.After)) ≡ Some done → Holds d at.First ((t, n) ∷ ts)
+first_word t n ts d ih e =
+    let a = taken (is_some (scalar_of t)) (d, at.After) (λ s. run s.0 s.1 ts) e in
+    let s = there (scalar_of t) a.0 in
+    let h = ih d at.After a.1 in
+    (s.0 ∷ h.0, h.1, (n, t, ts, refl, s.1, h.2), h.3)
+
+next_word : (t : Token) (n : ℕ) (ts : List Placed) (d : ℕ) → After ts → option_and_then (λ s. run s.0 s.1 ts) (scalar_then t (d, at.After)) ≡ Some done → Holds d at.Next ((t, n) ∷ ts)
+next_word t n ts d ih e =
+    let a = taken (is_some (scalar_of t)) (d, at.After) (λ s. run s.0 s.1 ts) e in
+    let s = there (scalar_of t) a.0 in
+    let h = ih d at.After a.1 in
+    (n, t, ts, s.0, h.0, h.1, refl, s.1, h.2, h.3)
+
+close_key : (d n : ℕ) (ts : List Placed) → After ts → run d at.Key ((Close, n) ∷ ts) ≡ Some done → Stacked d ((Close, n) ∷ ts)
+close_key zero n ts ih e = absurd cc
+close_key (suc d) n ts ih e = (Nothing, n, ts, refl, ih d at.Key (sym (close_run d n ts) ∙ e))
+
+one : (p : Place) (t : Token) (n : ℕ) (ts : List Placed) (d : ℕ) → After ts → run d p ((t, n) ∷ ts) ≡ Some done → Holds d p ((t, n) ∷ ts)
+one at.Key (Word w) n ts d ih e = let a = taken (is_key w) (d, at.AfterKey) (λ s. run s.0 s.1 ts) e in ih d at.AfterKey a.1 w n a.0
+one at.Key Close n ts d ih e = close_key d n ts ih e
+one at.AfterKey Open n ts d ih e = λ k m i. before_section d k m n ts i (ih (suc d) at.Key e)
+one at.AfterKey Equals n ts d ih e = λ k m i. ih d at.Content e k m n i
+one at.Content ListOpen n ts d ih e = λ k m q i. let h = ih d at.First e in before_list d k m q n h.0 ts h.1 i h.2 h.3
+one at.Content (Word w) n ts d ih e = content_word (Word w) n ts d ih e
+one at.Content (Text w) n ts d ih e = content_word (Text w) n ts d ih e
+one at.First ListClose n ts d ih e = ([], ts, (n, refl), ih d at.Key e)
+one at.First (Word w) n ts d ih e = first_word (Word w) n ts d ih e
+one at.First (Text w) n ts d ih e = first_word (Text w) n ts d ih e
+one at.After ListClose n ts d ih e = ([], ts, (n, refl), ih d at.Key e)
+one at.After Comma n ts d ih e = let h = ih d at.Next e in (h.3 ∷ h.4, h.5, (n, h.0, h.1, h.2, ap (λ (xs : List Placed). (Comma, n) ∷ xs) h.6, h.7, h.8), h.9)
+one at.Next t n ts d ih e = next_word t n ts d ih e
+one p t n ts d ih e = absurd cc
+
+pub holds : (ts : List Placed) (d : ℕ) (p : Place) → run d p ts ≡ Some done → Holds d p ts
+holds [] d p e = end d p e
+holds (t ∷ ts) d p e = one p t.0 t.1 ts d (λ x q. holds ts x q) e
+
+pub text_from : (ts : List Placed) → run 0 at.Key ts ≡ Some done → (v : Values) × IsText ts v
+text_from ts e = holds ts 0 at.Key e
+
+pub text_run : (ts : List Placed) (v : Values) → IsText ts v → run 0 at.Key ts ≡ Some done
+text_run ts v h = reads_run v 0 ts [] h
+
+-- Every place that is reached can be completed
+
+abbrev closes : ℕ → List Placed
+closes zero = []
+closes (suc d) = (Close, 1) ∷ closes d
+
+closes_run : (d : ℕ) → run d at.Key (closes d) ≡ Some done
+closes_run zero = refl
+closes_run (suc d) = close_run d 1 (closes d) ∙ closes_run d
+
+abbrev closing : ℕ → Place → List Placed
+closing d at.Key = closes d
+closing d at.AfterKey = (Equals, 1) ∷ (Text [], 1) ∷ closes d
+closing d at.Content = (Text [], 1) ∷ closes d
+closing d at.First = (ListClose, 1) ∷ closes d
+closing d at.Next = (Text [], 1) ∷ (ListClose, 1) ∷ closes d
+closing d at.After = (ListClose, 1) ∷ closes d
+
+closing_run : (d : ℕ) (p : Place) → run d p (closing d p) ≡ Some done
+closing_run d at.Key = closes_run d
+closing_run d at.AfterKey = closes_run d
+closing_run d at.Content = closes_run d
+closing_run d at.First = closes_run d
+closing_run d at.Next = closes_run d
+closing_run d at.After = closes_run d
+
+pub front_from : (ts : List Placed) (s : State) → run 0 at.Key ts ≡ Some s → IsFront ts
+front_from ts s e =
+    let more = closing s.0 s.1 in
+    let whole = run-append 0 at.Key ts more ∙ ap (option_and_then (λ x. run x.0 x.1 more)) e ∙ closing_run s.0 s.1 in
+    let t = text_from (ts ++ more) whole in
+    record { more = more; values = t.0; text = t.1 }
+
+reached : (o : Option State) (f : State → Option State) → option_and_then f o ≡ Some done → (s : State) × (o ≡ Some s)
+reached None f e = absurd cc
+reached (Some s) f e = (s, refl)
+
+pub front_run : (ts : List Placed) → IsFront ts → (s : State) × (run 0 at.Key ts ≡ Some s)
+front_run ts h = reached (run 0 at.Key ts) (λ s. run s.0 s.1 h.more) (sym (run-append 0 at.Key ts h.more) ∙ text_run (ts ++ h.more) h.values h.text)
+
+-- The line of a fault
+
+pub last_run : (before : List Placed) (t : Placed) (s : State) → run 0 at.Key before ≡ Some s → run 0 at.Key (before ++ t ∷ []) ≡ option_and_then (λ x. Some x) (step s.0 s.1 t.0)
+last_run before t s e = run-append 0 at.Key before (t ∷ []) ∙ ap (option_and_then (λ x. run x.0 x.1 (t ∷ []))) e
+
+pub broken : (before after : List Placed) (t : Token) (n : ℕ) (s : State) → run 0 at.Key before ≡ Some s → step s.0 s.1 t ≡ None → IsBreak (before ++ (t, n) ∷ after) n
+broken before after t n s e none = record {
+  before = before;
+  token = t;
+  after = after;
+  whole = refl;
+  front = front_from before s e;
+  broken = λ h. let x = front_run (before ++ (t, n) ∷ []) h in
+      let wrong : None ≡ Some x.0 = sym (ap (option_and_then (λ (y : State). Some y)) none) ∙ sym (last_run before (t, n) s e) ∙ x.1 in
+      absurd cc;
+}
+
+pub unfinished : (ts : List Placed) (s : State) → run 0 at.Key ts ≡ Some s → s ≢ done → IsUnfinished ts
+unfinished ts s e ne = record {
+  front = front_from ts s e;
+  unfinished = λ v h. let same : Some s ≡ Some done = sym e ∙ text_run ts v h in ne cc;
+}
+
+-- one step opens one section at most
+if_shallow : (b : Bool) (next : State) (d : ℕ) → next.0 ≤ suc d → MatchOption (cond b (Some next) None) (Unit {0}) (λ s. s.0 ≤ suc d)
+if_shallow true next d h = h
+if_shallow false next d h = tt
+
+pub shallow : (d : ℕ) (p : Place) (t : Token) → MatchOption (step d p t) (Unit {0}) (λ s. s.0 ≤ suc d)
+shallow d at.Key (Word w) = if_shallow (is_key w) (d, at.AfterKey) d (omega arith)
+shallow d at.Key Close = if_shallow (nat_lt 0 d) (d - 1, at.Key) d (omega arith)
+shallow d at.AfterKey Open = omega arith
+shallow d at.AfterKey Equals = omega arith
+shallow d at.Content ListOpen = omega arith
+shallow d at.Content t = if_shallow (is_some (scalar_of t)) (d, at.Key) d (omega arith)
+shallow d at.First ListClose = omega arith
+shallow d at.First t = if_shallow (is_some (scalar_of t)) (d, at.After) d (omega arith)
+shallow d at.After ListClose = omega arith
+shallow d at.After Comma = omega arith
+shallow d at.Next t = if_shallow (is_some (scalar_of t)) (d, at.After) d (omega arith)
+shallow d p t = tt
+
+-- the end of a text
+pub over : (d : ℕ) (p : Place) → is_over d p ≡ true → ◌≡◌ {A = State} (d, p) done
+over d at.Key h = ap (λ (n : ℕ). (n, at.Key)) (eqb-true d 0 h)
+over d p h = absurd cc
+
+pub not_over : (d : ℕ) (p : Place) → is_over d p ≡ false → ◌≢◌ {A = State} (d, p) done
+not_over d at.Key h e = let wrong : true ≡ false = sym (eq-eqb d 0 (ap (λ (s : State). s.0) e)) ∙ h in absurd cc
+not_over d at.AfterKey h e = let wrong : at.AfterKey ≡ at.Key = ap (λ (s : State). s.1) e in absurd cc
+not_over d at.Content h e = let wrong : at.Content ≡ at.Key = ap (λ (s : State). s.1) e in absurd cc
+not_over d at.First h e = let wrong : at.First ≡ at.Key = ap (λ (s : State). s.1) e in absurd cc
+not_over d at.Next h e = let wrong : at.Next ≡ at.Key = ap (λ (s : State). s.1) e in absurd cc
+not_over d at.After h e = let wrong : at.After ≡ at.Key = ap (λ (s : State). s.1) e in absurd cc

@@ -1,0 +1,14 @@
+pub mod Cases
+pub mod Scans
+pub mod Cuts
+pub mod Digits
+pub mod Fronts
+pub mod Trees
+pub mod Unique
+pub mod Looks
+pub mod Repeats
+pub mod Building
+pub mod Steps
+pub mod Pieces
+pub mod Boundaries
+pub mod Searches

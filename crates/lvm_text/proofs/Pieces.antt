@@ -1,0 +1,146 @@
+-- The pieces at the front of a text, and the newlines in them.
+use Rattle.std.proofs.Common.{◌≡◌, ◌≢◌, ℕ, suc, ◌+◌, ◌<◌, ◌≤◌, Bool, true, false, cond, not, ◌&&◌, eqb, List, [], ◌∷◌, ◌++◌, length, get_or, drop, Some, None, refl, sym, ap, arith, inl, inr, length-append}
+use Rattle.std.specs.List.{list_all}
+use Rattle.std.proofs.lemmas.Bool.{and_parts, or_cases, not-true, eqb-true}
+use Rattle.std.proofs.lemmas.Bool.Decides.{nat_tests}
+use Rattle.std.proofs.lemmas.Option.{MatchOption-at_some}
+use Rattle.lvm_text.specs.Token.{Token, Word, Text, Open, Close, ListOpen, ListClose, Equals, Comma}
+use Rattle.lvm_text.specs.Spelling.{Piece, White, Comment, Lexeme, spelling, token_spelling, IsToken, IsPiece, Begins, is_white, is_line, is_word_byte, is_raw, is_plain, is_escapable, newlines}
+use Rattle.lvm_text.specs.Scan.{piece_at, piece_from}
+use Rattle.lvm_text.proofs.Cuts.{Found, piece_found}
+
+-- The front
+
+true_false : true ≡ false → ⊥
+true_false h = cc
+
+pub piece_nil : (bs : List ℕ) → true ≡ eqb (length bs) 0 → None ≡ piece_at bs
+unfolding piece_at
+piece_nil [] h = refl
+piece_nil (b ∷ bs) h = let none : suc (length bs) ≡ 0 = eqb-true _ _ (sym h) in absurd (omega arith)
+
+beyond : (b : ℕ) → 128 ≤ b → (is_white b ≡ false) × (eqb b 35 ≡ false) × (eqb b 34 ≡ false) × (is_word_byte b ≡ false)
+beyond b h = (grind (arith, nat_tests), grind (arith, nat_tests), grind (arith, nat_tests), grind (arith, nat_tests))
+
+beyond_sign : (b : ℕ) → 128 ≤ b → (eqb b 123 ≡ false) × (eqb b 125 ≡ false) × (eqb b 91 ≡ false) × (eqb b 93 ≡ false) × (eqb b 61 ≡ false) × (eqb b 44 ≡ false)
+beyond_sign b h = (grind (arith, nat_tests), grind (arith, nat_tests), grind (arith, nat_tests), grind (arith, nat_tests), grind (arith, nat_tests), grind (arith, nat_tests))
+
+pub piece_beyond : (bs : List ℕ) → 128 ≤ get_or bs 0 0 → None ≡ piece_at bs
+unfolding piece_at
+piece_beyond [] h = refl
+piece_beyond (b ∷ bs) h =
+    let t = beyond b h in
+    let s = beyond_sign b h in
+    rw (t.0, t.1, t.2, t.3, s.0, s.1, s.2, s.3, s.4, s.5) refl
+
+pub piece_cons : (bs rest : List ℕ) → 0 < length bs → rest ≡ drop 1 bs → piece_from (get_or bs 0 0) rest ≡ piece_at bs
+unfolding piece_at
+piece_cons [] rest lt e = absurd (omega arith)
+piece_cons (b ∷ bs) rest lt e = ap (piece_from b) e
+
+pub whole_cons : (bs rest : List ℕ) → 0 < length bs → rest ≡ drop 1 bs → bs ≡ get_or bs 0 0 ∷ rest
+whole_cons [] rest lt e = absurd (omega arith)
+whole_cons (b ∷ bs) rest lt e = ap (λ (xs : List ℕ). b ∷ xs) (sym e)
+
+-- what the code found is spelled at the front
+pub begins : (bs : List ℕ) (p : Piece) (after : List ℕ) → Some (p, after) ≡ piece_at bs → Begins bs p after
+begins bs p after e = MatchOption-at_some (Unit {0}) (Found bs) (p, after) (sym e) (piece_found bs)
+
+spelling_some : (p : Piece) (after : List ℕ) → IsPiece p after → 0 < length (spelling p)
+spelling_some (White b) after h = omega arith
+spelling_some (Comment c) after h = omega arith
+spelling_some (Lexeme (Word [])) after h = absurd (h.some refl)
+spelling_some (Lexeme (Word (b ∷ w))) after h = omega arith
+spelling_some (Lexeme (Text t)) after h = omega arith
+spelling_some (Lexeme Open) after h = omega arith
+spelling_some (Lexeme Close) after h = omega arith
+spelling_some (Lexeme ListOpen) after h = omega arith
+spelling_some (Lexeme ListClose) after h = omega arith
+spelling_some (Lexeme Equals) after h = omega arith
+spelling_some (Lexeme Comma) after h = omega arith
+
+more_lines : (t : Bool) (a b n : ℕ) → a ≡ b + n → cond t (suc a) a ≡ cond t (suc b) b + n
+more_lines true a b n h = omega arith
+more_lines false a b n h = h
+
+newlines-append : (a b : List ℕ) → newlines (a ++ b) ≡ newlines a + newlines b
+newlines-append [] b = omega arith
+newlines-append (x ∷ a) b = more_lines (eqb x 10) _ _ (newlines b) (newlines-append a b)
+
+-- The newlines
+
+line_newlines : (c : List ℕ) → is_line c ≡ true → newlines c ≡ 0
+line_newlines [] h = refl
+line_newlines (b ∷ c) h =
+    let a = and_parts (not (eqb b 10)) (is_line c) h in
+    rw (not-true _ a.0, line_newlines c a.1) refl
+
+word_byte : (b : ℕ) → is_word_byte b ≡ true → eqb b 10 ≡ false
+word_byte b h = grind (arith, nat_tests)
+
+word_newlines : (w : List ℕ) → list_all is_word_byte w ≡ true → newlines w ≡ 0
+word_newlines [] h = refl
+word_newlines (b ∷ w) h =
+    let a = and_parts (is_word_byte b) (list_all is_word_byte w) h in
+    rw (word_byte b a.0, word_newlines w a.1) refl
+
+plain_byte : (b : ℕ) → is_plain b ≡ true → eqb b 10 ≡ false
+plain_byte b h = grind (arith, nat_tests)
+
+slash_byte : (b : ℕ) → eqb b 92 ≡ true → eqb b 10 ≡ false
+slash_byte b h = grind (arith, nat_tests)
+
+escapable_byte : (b : ℕ) → is_escapable b ≡ true → eqb b 10 ≡ false
+escapable_byte b h = grind (arith, nat_tests)
+
+raw_newlines : (t : List ℕ) → is_raw t ≡ true → newlines t ≡ 0
+raw_newlines [] h = refl
+raw_newlines (b ∷ []) h = rw (plain_byte b h) refl
+raw_newlines (b ∷ c ∷ bs) h =
+    elim (or_cases (is_plain b && is_raw (c ∷ bs)) (eqb b 92 && (is_escapable c && is_raw bs)) h) [
+      | inl plain ↦
+          let a = and_parts (is_plain b) (is_raw (c ∷ bs)) plain in
+          let rest : newlines (c ∷ bs) ≡ 0 = raw_newlines (c ∷ bs) a.1 in
+          let first : eqb b 10 ≡ false = plain_byte b a.0 in
+          rw first rest
+      | inr escaped ↦
+          let a = and_parts (eqb b 92) (is_escapable c && is_raw bs) escaped in
+          let e = and_parts (is_escapable c) (is_raw bs) a.1 in
+          rw (slash_byte b a.0, escapable_byte c e.0, raw_newlines bs e.1) refl
+    ]
+
+pub white_newlines : (b : ℕ) → b ≢ 10 → newlines (b ∷ []) ≡ 0
+white_newlines b h = let none : eqb b 10 ≡ false = grind (arith, nat_tests) in rw none refl
+
+pub comment_newlines : (c : List ℕ) → is_line c ≡ true → newlines (35 ∷ (c ++ 10 ∷ [])) ≡ 1
+comment_newlines c h = omega (arith, newlines-append c (10 ∷ []), line_newlines c h)
+
+pub token_newlines : (t : Token) (after : List ℕ) → IsToken t after → newlines (token_spelling t) ≡ 0
+token_newlines (Word w) after h = word_newlines w h.bytes
+token_newlines (Text t) after h = omega (arith, newlines-append t (34 ∷ []), raw_newlines t h)
+token_newlines Open after h = refl
+token_newlines Close after h = refl
+token_newlines ListOpen after h = refl
+token_newlines ListClose after h = refl
+token_newlines Equals after h = refl
+token_newlines Comma after h = refl
+
+most_lines : (t : Bool) (a b : ℕ) → a ≤ b → cond t (suc a) a ≤ suc b
+most_lines true a b h = omega arith
+most_lines false a b h = omega arith
+
+newlines-le-length : (bs : List ℕ) → newlines bs ≤ length bs
+newlines-le-length [] = omega arith
+newlines-le-length (b ∷ bs) = most_lines (eqb b 10) _ _ (newlines-le-length bs)
+
+-- a piece shortens the text by at least one byte, and by at least its newlines
+pub shorter : (bs : List ℕ) (p : Piece) (after : List ℕ) → Begins bs p after → (length after < length bs) × (newlines (spelling p) + length after ≤ length bs)
+shorter bs p after h =
+    let all : length bs ≡ length (spelling p ++ after) = ap length h.0 in
+    let some : 0 < length (spelling p) = spelling_some p after h.1 in
+    let most : newlines (spelling p) ≤ length (spelling p) = newlines-le-length (spelling p) in
+    (omega (arith, length-append (spelling p) after), omega (arith, length-append (spelling p) after))
+
+pub some_bytes : (bs : List ℕ) → false ≡ eqb (length bs) 0 → 0 < length bs
+some_bytes [] h = absurd (true_false (sym h))
+some_bytes (b ∷ bs) h = omega arith

@@ -1,0 +1,22 @@
+use Rattle.std.proofs.Common.{◌≡◌, ◌≤◌, ◌-◌, true, length, drop}
+use Rattle.lvm_text.specs.TokenView.{views}
+use Rattle.lvm_text.specs.View.{lines_agree}
+use Rattle.lvm_text.proofs.Building.{ValuesSoFar}
+use Rattle.lvm_text.proofs.build.+build.Given as goal
+
+abbrev pub decreases-section_at : goal.decreases-section_at
+decreases-section_at l = length l.tokens.now - l.start
+
+abbrev pub decreases-value_at : goal.decreases-value_at
+decreases-value_at l = length l.tokens.now - l.start
+
+abbrev pub invariant-section_at-loop-key : goal.invariant-section_at-loop-key
+invariant-section_at-loop-key l = record {
+  so_far : ValuesSoFar (views (drop l.start l.tokens)) l.entries.items (views (drop l.at l.tokens));
+  agree : lines_agree l.entries.items ≡ true;
+  begun : l.start ≤ l.at;
+  within : l.at ≤ length l.tokens;
+}
+
+abbrev pub decreases-section_at-loop-key : goal.decreases-section_at-loop-key
+decreases-section_at-loop-key l = length l.tokens - l.at

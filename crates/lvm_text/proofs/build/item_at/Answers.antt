@@ -1,0 +1,8 @@
+use Rattle.std.proofs.Common.{sym, ◌∙◌, drop, ◌+◌}
+use Rattle.lvm_text.proofs.Building.{item_none}
+use Rattle.lvm_text.proofs.build.item_at.Goals as goal
+
+pub returns-in-None-clause-item : goal.returns-in-None-clause-item
+returns-in-None-clause-item c =
+    item_none (drop c.behind_comma-place.result c.args.tokens.now) c.in_ok-first.first (drop (c.behind_comma-place.result + 1) c.args.tokens.now) c.in_ok-first.ensures.0 c.in-None.ensures
+    ∙ sym c.behind_comma-place.ensures.same

@@ -1,0 +1,15 @@
+use Rattle.std.proofs.Common.{◌≤◌, ◌-◌, length, drop}
+use Rattle.lvm_text.specs.TokenView.{views}
+use Rattle.lvm_text.specs.View.{scalar_views}
+use Rattle.lvm_text.proofs.Building.{ListSoFar}
+use Rattle.lvm_text.proofs.build.scalars_at.Given as goal
+
+abbrev pub invariant-loop-scalar : goal.invariant-loop-scalar
+invariant-loop-scalar l = record {
+  so_far : ListSoFar (views (drop l.start l.tokens)) (scalar_views l.scalars.items) (views (drop l.at l.tokens));
+  begun : l.start ≤ l.at;
+  within : l.at ≤ length l.tokens;
+}
+
+abbrev pub decreases-loop-scalar : goal.decreases-loop-scalar
+decreases-loop-scalar l = length l.tokens - l.at

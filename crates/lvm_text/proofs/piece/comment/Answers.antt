@@ -1,0 +1,10 @@
+use Rattle.std.proofs.Common.{sym, ap, ◌∙◌, arith}
+use Rattle.lvm_text.specs.Scan.{line_length}
+use Rattle.lvm_text.proofs.Boundaries.{line_at}
+use Rattle.lvm_text.proofs.piece.comment.Goals as goal
+
+pub around-requires-clause-within : goal.around-requires-clause-within
+around-requires-clause-within c = (line_at c.args.rest.now c.in_ok-end.end (ap line_length (sym c.as_bytes.ensures.value) ∙ sym c.in_ok-end.ensures)).within
+
+pub around-requires-clause-ascii : goal.around-requires-clause-ascii
+around-requires-clause-ascii c = omega (arith, (line_at c.args.rest.now c.in_ok-end.end (ap line_length (sym c.as_bytes.ensures.value) ∙ sym c.in_ok-end.ensures)).is)

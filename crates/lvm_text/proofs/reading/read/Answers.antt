@@ -1,0 +1,22 @@
+use Rattle.std.proofs.Common.{◌≡◌, sym, subst, ◌∙◌, List, Some}
+use Rattle.lvm_text.specs.Spelling.{Spells}
+use Rattle.lvm_text.specs.Machine.{run}
+use Rattle.lvm_text.specs.TokenView.{views}
+use Rattle.lvm_text.specs.declared.token.Placed.{Placed}
+use Rattle.lvm_text.specs.declared.syntax.Place.TheVariants.{Key}
+use Rattle.lvm_text.proofs.Trees.{tree_accepted, tree_fault}
+use Rattle.lvm_text.proofs.reading.read.Goals as goal
+
+pub returns-clause-accepted : goal.returns-clause-accepted
+returns-clause-accepted c =
+    tree_accepted c.args.text.now (views c.deref-2.result.now) c.tree_of.result
+    (subst (λ (ts : List Placed). Spells c.args.text.now (views ts)) (sym c.deref-2.ensures.value) c.in_ok-tokens.ensures)
+    (subst (λ (ts : List Placed). run 0 Key (views ts) ≡ Some (0, Key)) (c.deref.ensures.value ∙ sym c.deref-2.ensures.value) c.in_default.ensures)
+    c.tree_of.ensures
+
+pub returns-clause-fault : goal.returns-clause-fault
+returns-clause-fault c =
+    tree_fault c.args.text.now (views c.deref-2.result.now) c.tree_of.result
+    (subst (λ (ts : List Placed). Spells c.args.text.now (views ts)) (sym c.deref-2.ensures.value) c.in_ok-tokens.ensures)
+    (subst (λ (ts : List Placed). run 0 Key (views ts) ≡ Some (0, Key)) (c.deref.ensures.value ∙ sym c.deref-2.ensures.value) c.in_default.ensures)
+    c.tree_of.ensures

@@ -1,0 +1,10 @@
+use Rattle.std.proofs.Common.{◌≡◌, ◌-◌, ◌≤◌, drop, length}
+use Rattle.lvm_text.specs.Scan.{raw_length}
+use Rattle.lvm_text.proofs.Searches.{plus}
+use Rattle.lvm_text.proofs.scan.raw_length.Given as goal
+
+abbrev pub invariant-loop-plain : goal.invariant-loop-plain
+invariant-loop-plain l = record { in_range : l.at ≤ length l.bytes; same : plus l.at (raw_length (drop l.at l.bytes)) ≡ raw_length l.bytes }
+
+abbrev pub decreases-loop-plain : goal.decreases-loop-plain
+decreases-loop-plain l = length l.bytes - l.at

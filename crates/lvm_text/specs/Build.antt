@@ -1,0 +1,75 @@
+-- What the tree's builder reads, from the tokens that are left.
+use Rattle.std.specs.Prelude.{◌≡◌, ℕ, Bool, true, false, List, [], ◌∷◌, Option, Some, None, option_map, if◌then◌else◌}
+use Rattle.lvm_text.specs.Token.{Token, Word, Open, Comma, ListOpen, Placed}
+use Rattle.lvm_text.specs.Tree as tree
+use Rattle.lvm_text.specs.Tree.{Values, Nothing, Single, Several}
+use Rattle.lvm_text.specs.Grammar.{scalar_of, ReadsList, Reads}
+use Rattle.lvm_text.specs.View.{scalar_view, put}
+use Rattle.lvm_text.specs.declared.tree.Scalar.{Scalar}
+use Rattle.lvm_text.specs.declared.tree.Value.{Value}
+use Rattle.lvm_text.specs.declared.tree.Entry.{Entry}
+
+-- a token that may be a key
+abbrev pub is_word : Token → Bool
+is_word (Word w) = true
+is_word _ = false
+
+-- the first token may be a key
+abbrev pub begins_key : List Placed → Bool
+begins_key [] = false
+begins_key (t ∷ ts) = is_word t.0
+
+-- a comma
+abbrev pub is_comma : Token → Bool
+is_comma Comma = true
+is_comma _ = false
+
+-- an opening brace
+abbrev pub is_open : Token → Bool
+is_open Open = true
+is_open _ = false
+
+-- an opening bracket
+abbrev pub is_list_open : Token → Bool
+is_list_open ListOpen = true
+is_list_open _ = false
+
+-- the first token as a scalar, and those after it
+abbrev pub scalar_first : List Placed → Option (tree.Scalar × List Placed)
+scalar_first [] = None
+scalar_first (t ∷ ts) = option_map (λ s. (s, ts)) (scalar_of t.0)
+
+-- a scalar of a list, behind a comma if one stands there, and what comes after it
+abbrev pub item_of : List Placed → Option (tree.Scalar × List Placed)
+item_of [] = None
+item_of (t ∷ ts) = if is_comma t.0 then scalar_first ts else scalar_first (t ∷ ts)
+
+-- behind an opening bracket, the tokens are these scalars, and after the closing one the rest
+abbrev pub ReadsScalars : List Placed → List tree.Scalar → List Placed → Type 0
+ReadsScalars tokens scalars rest = (ss : List tree.Scalar) (b : List Placed) → ReadsList tokens ss b → (ss ≡ scalars) × (b ≡ rest)
+
+-- the value shows the scalar, if there is one
+abbrev pub ShowsScalar : Option Scalar → Value → Type 0
+ShowsScalar scalar value = (s : tree.Scalar) → option_map scalar_view scalar ≡ Some s → (k : List ℕ) (n : ℕ) (v : Values) → Single k n s v ≡ put k n value v
+
+-- behind an equals sign, the tokens are this value's, and then the rest
+pub record ReadsLeaf (tokens : List Placed) (value : Value) (rest : List Placed) : Type 0 where
+  pub single : (t : Token) (m : ℕ) (s : tree.Scalar) (b : List Placed) → tokens ≡ (t, m) ∷ b → scalar_of t ≡ Some s
+      → ((k : List ℕ) (n : ℕ) (v : Values) → Single k n s v ≡ put k n value v) × (b ≡ rest)
+  pub several : (o : ℕ) (a : List Placed) (ss : List tree.Scalar) (b : List Placed) → tokens ≡ (ListOpen, o) ∷ a → ReadsList a ss b
+      → ((k : List ℕ) (n : ℕ) (v : Values) → Several k n ss v ≡ put k n value v) × (b ≡ rest)
+
+-- behind a key of this line, the tokens are the value's, and then those of the values after it
+abbrev pub ReadsValue : ℕ → List Placed → Value → List Placed → Type 0
+ReadsValue line tokens value rest =
+    (k : List ℕ) (v : Values) (more : List Placed) → Reads ((Word k, line) ∷ tokens) v more → begins_key more ≡ false
+    → (later : Values) × (v ≡ put k line value later) × Reads rest later more
+
+-- the tokens are these values, and then the rest, which begins with no key
+abbrev pub ReadsValues : List Placed → Values → List Placed → Type 0
+ReadsValues tokens values rest = (v : Values) (more : List Placed) → Reads tokens v more → begins_key more ≡ false → (v ≡ values) × (more ≡ rest)
+
+-- the entries, and then later values
+abbrev pub before : List Entry → Values → Values
+before [] later = later
+before (e ∷ es) later = put e.key.now e.node.line e.node.value (before es later)

@@ -1,0 +1,70 @@
+-- The checks of a text that the grammar spells: for each the lines where it hits, in source order.
+use Rattle.std.specs.Prelude.{ℕ, suc, ◌-◌, Bool, true, false, ◌&&◌, nat_lt, List, [], ◌∷◌, ◌++◌, Option, Some, None, is_none, bytes_eq, if◌then◌else◌}
+use Rattle.std.specs.List.{list_any}
+use Rattle.lvm_text.specs.Token.{Token, Word, Open, Close, ListOpen, Equals, Comma, Placed}
+use Rattle.lvm_text.specs.Tree.{Values, Nothing, Section, Single, Several}
+use Rattle.lvm_text.specs.Grammar.{number_of}
+use Rattle.lvm_text.specs.declared.fault.TextFault.{TextFault}
+use Rattle.lvm_text.specs.declared.fault.TextFault.TheVariants.{Deep, Number, KeyTwice}
+
+-- a line where a test hits, before later lines
+abbrev pub hit : Bool → ℕ → List ℕ → List ℕ
+hit b n later = if b then n ∷ later else later
+
+-- the first line, if there is one
+abbrev pub head_line : List ℕ → Option ℕ
+head_line [] = None
+head_line (n ∷ ns) = Some n
+
+-- the level behind a token, from that before it
+abbrev pub level_after : Token → ℕ → ℕ
+level_after Open level = suc level
+level_after Close level = level - 1
+level_after _ level = level
+
+-- a brace that opens a level above 16, from this level on
+abbrev pub opens_deep : Token → ℕ → Bool
+opens_deep Open level = nat_lt 15 level
+opens_deep _ level = false
+
+-- the braces that open a level above 16
+abbrev pub deep_lines : ℕ → List Placed → List ℕ
+deep_lines level [] = []
+deep_lines level (t ∷ ts) = hit (opens_deep t.0 level) t.1 (deep_lines (level_after t.0 level) ts)
+
+-- a scalar stands behind one of these
+abbrev pub leads_scalar : Token → Bool
+leads_scalar Equals = true
+leads_scalar ListOpen = true
+leads_scalar Comma = true
+leads_scalar _ = false
+
+-- a word that is no integer in range
+abbrev pub is_refused : Token → Bool
+is_refused (Word w) = is_none (number_of w)
+is_refused _ = false
+
+-- the integers out of range, where this token stands before
+abbrev pub number_lines : Token → List Placed → List ℕ
+number_lines before [] = []
+number_lines before (t ∷ ts) = hit (leads_scalar before && is_refused t.0) t.1 (number_lines t.0 ts)
+
+-- the key is one of these
+abbrev pub has_key : List ℕ → List (List ℕ) → Bool
+has_key key keys = list_any (λ k. bytes_eq k key) keys
+
+-- the keys that an earlier key of their section equals, where these keys stand before
+abbrev pub twice_lines : List (List ℕ) → Values → List ℕ
+twice_lines before Nothing = []
+twice_lines before (Section k n inner rest) = hit (has_key k before) n (twice_lines [] inner ++ twice_lines (k ∷ before) rest)
+twice_lines before (Single k n s rest) = hit (has_key k before) n (twice_lines (k ∷ before) rest)
+twice_lines before (Several k n ss rest) = hit (has_key k before) n (twice_lines (k ∷ before) rest)
+
+-- the fault at the first of these lines, or a later one
+abbrev pub first_line : (ℕ → TextFault) → List ℕ → Option TextFault → Option TextFault
+first_line fault [] later = later
+first_line fault (n ∷ ns) later = Some (fault n)
+
+-- the first check that hits, at its first line
+abbrev pub fault_of : List Placed → Values → Option TextFault
+fault_of ts v = first_line (λ n. Deep n) (deep_lines 0 ts) (first_line (λ n. Number n) (number_lines Close ts) (first_line (λ n. KeyTwice n) (twice_lines [] v) None))

@@ -1,0 +1,76 @@
+-- The grammar of a text by its tokens, and the beginnings of its texts.
+use Rattle.std.specs.Prelude.{◌≡◌, ℕ, ◌^◌, ◌⊎◌, Bool, true, false, ◌&&◌, not, ◌==◌, nat_le, nat_lt, List, [], ◌∷◌, ◌++◌, length, Option, Some, None, unwrap_or, if◌then◌else◌}
+use Rattle.std.specs.List.{list_all}
+use Rattle.std.specs.Char.{is_ascii_digit}
+use Rattle.std.specs.Str.Parse.{digits_value}
+use Rattle.lvm_text.specs.Token.{Token, Word, Text, Open, Close, ListOpen, ListClose, Equals, Comma, Placed}
+use Rattle.lvm_text.specs.Tree as tree
+use Rattle.lvm_text.specs.Tree.{Values, Nothing, Section, Single, Several}
+
+-- digits alone
+abbrev pub are_digits : List ℕ → Bool
+are_digits = list_all is_ascii_digit
+
+-- the integer of a word: 1 to 19 digits, below 2^63
+unfoldable pub number_of : List ℕ → Option ℕ
+number_of word = if are_digits word && (nat_le (length word) 19 && nat_lt (digits_value 10 word) (2 ^ 63)) then Some (digits_value 10 word) else None
+
+-- a word that may be a key: one that begins with no hyphen
+abbrev pub is_key : List ℕ → Bool
+is_key [] = false
+is_key (b ∷ bs) = not (b == 45)
+
+-- what a token is as a scalar: a word of digits alone, or a string. Of an integer out of range, which a
+-- check refuses, no number is said
+abbrev pub scalar_of : Token → Option tree.Scalar
+scalar_of (Word w) = if are_digits w then Some (tree.Int (unwrap_or (number_of w) 0)) else None
+scalar_of (Text t) = Some (tree.Text t)
+scalar_of _ = None
+
+-- after a scalar of a list: a comma and a scalar for each of these, the closing bracket, and more
+abbrev pub ReadsMore : List Placed → List tree.Scalar → List Placed → Type 0
+ReadsMore ts [] more = (c : ℕ) × (ts ≡ (ListClose, c) ∷ more)
+ReadsMore ts (s ∷ ss) more = (c n : ℕ) × (t : Token) × (a : List Placed) × (ts ≡ (Comma, c) ∷ (t, n) ∷ a) × (scalar_of t ≡ Some s) × ReadsMore a ss more
+
+-- after an opening bracket: these scalars, the closing bracket, and more
+abbrev pub ReadsList : List Placed → List tree.Scalar → List Placed → Type 0
+ReadsList ts [] more = (c : ℕ) × (ts ≡ (ListClose, c) ∷ more)
+ReadsList ts (s ∷ ss) more = (n : ℕ) × (t : Token) × (a : List Placed) × (ts ≡ (t, n) ∷ a) × (scalar_of t ≡ Some s) × ReadsMore a ss more
+
+-- the tokens are these values, and then more
+abbrev pub Reads : List Placed → Values → List Placed → Type 0
+Reads ts Nothing more = ts ≡ more
+Reads ts (Section k n inner rest) more =
+    (is_key k ≡ true) × (o c : ℕ) × (a b : List Placed) × (ts ≡ (Word k, n) ∷ (Open, o) ∷ a) × Reads a inner ((Close, c) ∷ b) × Reads b rest more
+Reads ts (Single k n s rest) more =
+    (is_key k ≡ true) × (e m : ℕ) × (t : Token) × (b : List Placed) × (ts ≡ (Word k, n) ∷ (Equals, e) ∷ (t, m) ∷ b) × (scalar_of t ≡ Some s) × Reads b rest more
+Reads ts (Several k n ss rest) more =
+    (is_key k ≡ true) × (e o : ℕ) × (a b : List Placed) × (ts ≡ (Word k, n) ∷ (Equals, e) ∷ (ListOpen, o) ∷ a) × ReadsList a ss b × Reads b rest more
+
+-- the tokens are a text: these values and no more
+abbrev pub IsText : List Placed → Values → Type 0
+IsText ts v = Reads ts v []
+
+-- the tokens are the beginning of a text: some tokens complete them
+pub record IsFront (ts : List Placed) : Type 0 where
+  pub more : List Placed
+  pub values : Values
+  pub text : IsText (ts ++ more) values
+
+-- the tokens before are the beginning of a text, and with this one they are none
+pub record IsBreak (ts : List Placed) (line : ℕ) : Type 0 where
+  pub before : List Placed
+  pub token : Token
+  pub after : List Placed
+  pub whole : ts ≡ before ++ (token, line) ∷ after
+  pub front : IsFront before
+  pub broken : ¬ (IsFront (before ++ (token, line) ∷ []))
+
+-- the tokens are the beginning of a text and no text
+pub record IsUnfinished (ts : List Placed) : Type 0 where
+  pub front : IsFront ts
+  pub unfinished : (v : Values) → ¬ (IsText ts v)
+
+-- the line of a fault of syntax, where end is the line of the end of the text
+abbrev pub IsSyntaxLine : List Placed → ℕ → ℕ → Type 0
+IsSyntaxLine ts end line = IsBreak ts line ⊎ (IsUnfinished ts × (line ≡ end))

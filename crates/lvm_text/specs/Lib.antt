@@ -1,0 +1,15 @@
+pub mod Tree
+pub mod TreeCode
+pub mod View
+pub mod TreeFalls
+pub mod Token
+pub mod Spelling
+pub mod Grammar
+pub mod Checks
+pub mod Reading
+pub mod Scan
+pub mod Machine
+pub mod TokenView
+pub mod Build
+pub mod Iterate
+pub mod Repeat

@@ -1,0 +1,57 @@
+-- What a text says, and the fault of one that says nothing.
+use Rattle.std.specs.Prelude.{◌≡◌, ℕ, ◌+◌, List, Some, None, Result, Ok, Err}
+use Rattle.lvm_text.specs.Token.{Placed}
+use Rattle.lvm_text.specs.Tree.{Tree, Values}
+use Rattle.lvm_text.specs.Spelling.{Spells, IsBadToken, newlines}
+use Rattle.lvm_text.specs.Grammar.{IsText, IsSyntaxLine}
+use Rattle.lvm_text.specs.Checks.{fault_of}
+use Rattle.lvm_text.specs.declared.fault.TextFault.{TextFault}
+use Rattle.lvm_text.specs.declared.fault.TextFault.TheVariants.{Token, Syntax, Deep, Number, KeyTwice, Memory}
+
+-- the text says this tree: it spells tokens that are a text of these values, and no check hits
+pub record Describes (text : List ℕ) (t : Tree) : Type 0 where
+  pub tokens : List Placed
+  pub spelled : Spells text tokens
+  pub grammar : IsText tokens t.values
+  pub sound : fault_of tokens t.values ≡ None
+  pub top : t.line ≡ 1
+
+-- tokens that are no text, at this line
+pub record IsBadSyntax (text : List ℕ) (line : ℕ) : Type 0 where
+  pub tokens : List Placed
+  pub spelled : Spells text tokens
+  pub place : IsSyntaxLine tokens (1 + newlines text) line
+
+-- a text of the grammar, with this fault
+pub record IsUnsound (text : List ℕ) (fault : TextFault) : Type 0 where
+  pub tokens : List Placed
+  pub values : Values
+  pub spelled : Spells text tokens
+  pub grammar : IsText tokens values
+  pub hit : fault_of tokens values ≡ Some fault
+
+-- the text has this fault; want of memory is no fault of a text
+abbrev pub HasFault : List ℕ → TextFault → Type 0
+HasFault text (Token n) = IsBadToken text n
+HasFault text (Syntax n) = IsBadSyntax text n
+HasFault text (Deep n) = IsUnsound text (Deep n)
+HasFault text (Number n) = IsUnsound text (Number n)
+HasFault text (KeyTwice n) = IsUnsound text (KeyTwice n)
+HasFault text Memory = ⊥
+
+-- a fault of tokens alone, or want of memory
+abbrev pub IsTokenFault : List ℕ → TextFault → Type 0
+IsTokenFault text (Token n) = IsBadToken text n
+IsTokenFault text Memory = Unit {0}
+IsTokenFault text _ = ⊥
+
+-- this is what parse answers, unless memory runs out
+abbrev pub Answers : Result Tree TextFault → Result Tree TextFault → Type 0
+Answers (Err Memory) said = Unit {0}
+Answers result said = result ≡ said
+
+-- of tokens that are a text of these values: the tree, or the fault of the first check that hits
+abbrev pub TreeOf : List Placed → Values → Result Tree TextFault → Type 0
+TreeOf ts v (Ok t) = (t ≡ record { line = 1; values = v }) × (fault_of ts v ≡ None)
+TreeOf ts v (Err Memory) = Unit {0}
+TreeOf ts v (Err f) = fault_of ts v ≡ Some f

@@ -1,0 +1,10 @@
+-- The keys inside a value that stand twice.
+use Rattle.std.specs.Prelude.{ℕ, List, []}
+use Rattle.lvm_text.specs.Checks.{twice_lines}
+use Rattle.lvm_text.specs.declared.tree.Value.{Value}
+use Rattle.lvm_text.specs.declared.tree.Value.TheVariants as variants
+
+-- the lines of keys inside a value that an earlier key of their section equals
+abbrev pub inner_lines : Value → List ℕ
+inner_lines (variants.Section s) = twice_lines [] s.values
+inner_lines _ = []

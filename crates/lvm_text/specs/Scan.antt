@@ -1,0 +1,50 @@
+-- How many bytes a piece of a text takes.
+use Rattle.std.specs.Prelude.{ℕ, suc, Bool, false, ◌&&◌, ◌==◌, List, [], ◌∷◌, take, drop, Option, Some, None, option_map, if◌then◌else◌}
+use Rattle.lvm_text.specs.Token.{Token, Word, Text, Open, Close, ListOpen, ListClose, Equals, Comma}
+use Rattle.lvm_text.specs.Spelling.{Piece, White, Comment, Lexeme, is_white, is_word_byte, is_escapable}
+
+-- up to the newline
+abbrev pub line_length : List ℕ → Option ℕ
+line_length [] = None
+line_length (b ∷ bs) = if b == 10 then Some 0 else option_map suc (line_length bs)
+
+-- up to a byte of no word
+abbrev pub word_length : List ℕ → ℕ
+word_length [] = 0
+word_length (b ∷ bs) = if is_word_byte b then suc (word_length bs) else 0
+
+-- up to the closing quote
+abbrev pub raw_length : List ℕ → Option ℕ
+raw_length [] = None
+raw_length (b ∷ []) = if b == 34 then Some 0 else None
+raw_length (b ∷ c ∷ bs) =
+    if b == 34 then Some 0
+    else if b == 92 then (if is_escapable c then option_map (λ n. suc (suc n)) (raw_length bs) else None)
+    else if b == 10 then None
+    else option_map suc (raw_length (c ∷ bs))
+
+-- a backslash before a byte that may stand behind one
+abbrev pub is_escape : List ℕ → Bool
+is_escape [] = false
+is_escape (b ∷ []) = false
+is_escape (b ∷ c ∷ bs) = b == 92 && is_escapable c
+
+-- a sign, and none for any other byte
+abbrev pub sign_of : ℕ → Option Token
+sign_of b =
+    if b == 123 then Some Open else if b == 125 then Some Close else if b == 91 then Some ListOpen
+    else if b == 93 then Some ListClose else if b == 61 then Some Equals else if b == 44 then Some Comma else None
+
+-- the piece that begins with this byte before these, and what comes after it
+abbrev pub piece_from : ℕ → List ℕ → Option (Piece × List ℕ)
+piece_from b bs =
+    if is_white b then Some (White b, bs)
+    else if b == 35 then option_map (λ n. (Comment (take n bs), drop (suc n) bs)) (line_length bs)
+    else if b == 34 then option_map (λ n. (Lexeme (Text (take n bs)), drop (suc n) bs)) (raw_length bs)
+    else if is_word_byte b then Some (Lexeme (Word (take (word_length (b ∷ bs)) (b ∷ bs))), drop (word_length (b ∷ bs)) (b ∷ bs))
+    else option_map (λ t. (Lexeme t, bs)) (sign_of b)
+
+-- the piece at the front, and what comes after it
+unfoldable pub piece_at : List ℕ → Option (Piece × List ℕ)
+piece_at [] = None
+piece_at (b ∷ bs) = piece_from b bs

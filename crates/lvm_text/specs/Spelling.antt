@@ -1,0 +1,140 @@
+-- How a text spells its tokens, with white space and comments between them.
+use Rattle.std.specs.Prelude.{◌≡◌, ◌≢◌, ℕ, ◌+◌, Bool, true, false, ◌&&◌, ◌||◌, not, ◌==◌, nat_le, List, [], ◌∷◌, ◌++◌, suc, if◌then◌else◌}
+use Rattle.std.specs.List.{list_all}
+use Rattle.lvm_text.specs.Token.{Token, Word, Text, Open, Close, ListOpen, ListClose, Equals, Comma, Placed}
+
+-- The bytes
+
+-- a space, a tab or a newline
+abbrev pub is_white : ℕ → Bool
+is_white b = b == 32 || (b == 9 || b == 10)
+
+-- a letter, a digit or one of _ + . -
+abbrev pub is_word_byte : ℕ → Bool
+is_word_byte b = (nat_le 97 b && nat_le b 122) || ((nat_le 65 b && nat_le b 90) || ((nat_le 48 b && nat_le b 57) || (b == 95 || (b == 43 || (b == 46 || b == 45)))))
+
+-- a newline
+abbrev pub is_newline : ℕ → Bool
+is_newline b = b == 10
+
+-- how many newlines there are
+abbrev pub newlines : List ℕ → ℕ
+newlines [] = 0
+newlines (b ∷ bs) = if is_newline b then suc (newlines bs) else newlines bs
+
+-- a quote or a backslash, which stand in a string behind a backslash alone
+abbrev pub is_escapable : ℕ → Bool
+is_escapable b = b == 34 || b == 92
+
+-- any other byte of a string
+abbrev pub is_plain : ℕ → Bool
+is_plain b = not (b == 34 || (b == 92 || b == 10))
+
+-- the raw text of a string
+abbrev pub is_raw : List ℕ → Bool
+is_raw [] = true
+is_raw (b ∷ []) = is_plain b
+is_raw (b ∷ c ∷ bs) = (is_plain b && is_raw (c ∷ bs)) || (b == 92 && (is_escapable c && is_raw bs))
+
+-- no newline
+abbrev pub is_line : List ℕ → Bool
+is_line bs = list_all (λ b. not (is_newline b)) bs
+
+-- the first byte may stand in a word
+abbrev pub begins_word : List ℕ → Bool
+begins_word [] = false
+begins_word (b ∷ bs) = is_word_byte b
+
+-- The pieces
+
+-- a white byte, a comment without its sign and its newline, or a token
+pub data Piece : Type 0 where
+  White : ℕ → Piece
+  Comment : List ℕ → Piece
+  Lexeme : Token → Piece
+
+-- the bytes of a token
+abbrev pub token_spelling : Token → List ℕ
+token_spelling (Word w) = w
+token_spelling (Text t) = 34 ∷ (t ++ 34 ∷ [])
+token_spelling Open = 123 ∷ []
+token_spelling Close = 125 ∷ []
+token_spelling ListOpen = 91 ∷ []
+token_spelling ListClose = 93 ∷ []
+token_spelling Equals = 61 ∷ []
+token_spelling Comma = 44 ∷ []
+
+-- the bytes of a piece
+abbrev pub spelling : Piece → List ℕ
+spelling (White b) = b ∷ []
+spelling (Comment c) = 35 ∷ (c ++ 10 ∷ [])
+spelling (Lexeme t) = token_spelling t
+
+-- a longest run of word bytes, before what comes after
+pub record IsWord (w after : List ℕ) : Type 0 where
+  pub some : w ≢ []
+  pub bytes : list_all is_word_byte w ≡ true
+  pub longest : begins_word after ≡ false
+
+-- a token, where these bytes come after it
+abbrev pub IsToken : Token → List ℕ → Type 0
+IsToken (Word w) after = IsWord w after
+IsToken (Text t) after = is_raw t ≡ true
+IsToken _ after = Unit {0}
+
+-- a piece, where these bytes come after it
+abbrev pub IsPiece : Piece → List ℕ → Type 0
+IsPiece (White b) after = is_white b ≡ true
+IsPiece (Comment c) after = is_line c ≡ true
+IsPiece (Lexeme t) after = IsToken t after
+
+-- a piece, whatever comes after it
+abbrev pub SomePiece : Piece → Type 0
+SomePiece p = (after : List ℕ) × IsPiece p after
+
+-- the text is a piece, and then what comes after
+abbrev pub Begins : List ℕ → Piece → List ℕ → Type 0
+Begins text p after = (text ≡ spelling p ++ after) × IsPiece p after
+
+-- the text is these pieces, and then the rest
+abbrev pub Cut : List ℕ → List Piece → List ℕ → Type 0
+Cut text [] rest = text ≡ rest
+Cut text (p ∷ ps) rest = (after : List ℕ) × Begins text p after × Cut after ps rest
+
+-- nothing is left but a comment that the end of the text ends
+abbrev pub is_end : List ℕ → Bool
+is_end [] = true
+is_end (b ∷ bs) = b == 35 && is_line bs
+
+-- the line after the pieces, from line n on
+abbrev pub line_after : ℕ → List Piece → ℕ
+line_after n [] = n
+line_after n (p ∷ ps) = line_after (n + newlines (spelling p)) ps
+
+-- a piece's token, before those of later pieces
+abbrev pub put_token : Piece → ℕ → List Placed → List Placed
+put_token (Lexeme t) n later = (t, n) ∷ later
+put_token (White b) n later = later
+put_token (Comment c) n later = later
+
+-- the tokens of the pieces, each with its line, from line n on
+abbrev pub tokens_from : ℕ → List Piece → List Placed
+tokens_from n [] = []
+tokens_from n (p ∷ ps) = put_token p n (tokens_from (n + newlines (spelling p)) ps)
+
+-- the text spells these tokens
+pub record Spells (text : List ℕ) (ts : List Placed) : Type 0 where
+  pub pieces : List Piece
+  pub rest : List ℕ
+  pub cut : Cut text pieces rest
+  pub end : is_end rest ≡ true
+  pub tokens : ts ≡ tokens_from 1 pieces
+
+-- at this line begins something that is no white space, no comment and no token
+pub record IsBadToken (text : List ℕ) (line : ℕ) : Type 0 where
+  pub pieces : List Piece
+  pub rest : List ℕ
+  pub cut : Cut text pieces rest
+  pub more : is_end rest ≡ false
+  pub bad : (p : Piece) (after : List ℕ) → ¬ (Begins rest p after)
+  pub at : line ≡ line_after 1 pieces

@@ -1,0 +1,17 @@
+-- The tokens of a text.
+use Rattle.std.specs.Prelude.{ℕ, List}
+
+-- a word, the raw text between quotes, or one of the signs { } [ ] = ,
+pub data Token : Type 0 where
+  Word : List ℕ → Token
+  Text : List ℕ → Token
+  Open : Token
+  Close : Token
+  ListOpen : Token
+  ListClose : Token
+  Equals : Token
+  Comma : Token
+
+-- a token and the line where it begins
+abbrev pub Placed : Type 0
+Placed = Token × ℕ

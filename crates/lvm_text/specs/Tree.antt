@@ -1,0 +1,51 @@
+-- The tree of a text.
+use Rattle.std.specs.Prelude.{ℕ, ◌+◌, List, [], ◌∷◌, Option, Some, None, bytes_eq, if◌then◌else◌}
+
+-- an integer, or the raw text between quotes
+pub data Scalar : Type 0 where
+  Int : ℕ → Scalar
+  Text : List ℕ → Scalar
+
+-- the values of a section from one of them on, each with its key and the line of that
+pub data Values : Type 0 where
+  Nothing : Values
+  Section : (key : List ℕ) (line : ℕ) (inner rest : Values) → Values
+  Single : (key : List ℕ) (line : ℕ) (scalar : Scalar) (rest : Values) → Values
+  Several : (key : List ℕ) (line : ℕ) (scalars : List Scalar) (rest : Values) → Values
+
+-- a section: the line of its key, and its values
+pub record Tree : Type 0 where
+  pub line : ℕ
+  pub values : Values
+
+-- how many values there are, inner ones with them
+abbrev pub size_of : Values → ℕ
+size_of Nothing = 0
+size_of (Section k n inner rest) = (size_of inner + size_of rest) + 1
+size_of (Single k n s rest) = size_of rest + 1
+size_of (Several k n ss rest) = size_of rest + 1
+
+-- what a key holds
+pub data Content : Type 0 where
+  Inner : Tree → Content
+  Whole : Scalar → Content
+  Items : List Scalar → Content
+
+-- what a key holds, and its line
+pub record Shown : Type 0 where
+  pub line : ℕ
+  pub content : Content
+
+-- what a key holds among the values, the first time that it is there
+abbrev pub node_of : List ℕ → Values → Option Shown
+node_of key Nothing = None
+node_of key (Section k n inner rest) = if bytes_eq k key then Some (record { line = n; content = Inner (record { line = n; values = inner }) }) else node_of key rest
+node_of key (Single k n s rest) = if bytes_eq k key then Some (record { line = n; content = Whole s }) else node_of key rest
+node_of key (Several k n ss rest) = if bytes_eq k key then Some (record { line = n; content = Items ss }) else node_of key rest
+
+-- the keys that hold sections, with these
+abbrev pub sections_of : Values → List (List ℕ × Tree)
+sections_of Nothing = []
+sections_of (Section k n inner rest) = (k, record { line = n; values = inner }) ∷ sections_of rest
+sections_of (Single k n s rest) = sections_of rest
+sections_of (Several k n ss rest) = sections_of rest

@@ -1,0 +1,213 @@
+//! The tree of tokens that are a text.
+//! Syntax, depth and integers were checked before, so nothing is refused here, and what is made of other
+//! tokens says nothing. Sections inside sections are calls inside calls: at most 16, since depth was checked.
+
+ghost use Rattle.std.specs.Prelude.{◌≡◌, ◌≤◌, ◌<◌, ◌+◌, ◌∷◌, [], drop, length, option_map, IfOk, IfSome, MatchOption, ℕ, true, false};
+ghost use Rattle.lvm_text.specs.Token as spec;
+ghost use Rattle.lvm_text.specs.Grammar.{scalar_of};
+ghost use Rattle.lvm_text.specs.TokenView.{token_view, views};
+ghost use Rattle.lvm_text.specs.View.{scalar_view, scalar_views, has_line};
+ghost use Rattle.lvm_text.specs.Build.{is_comma, is_open, is_list_open, begins_key, scalar_first, item_of, ReadsScalars, ShowsScalar, ReadsLeaf, ReadsValue, ReadsValues};
+
+use crate::number::{are_digits, number_of};
+use crate::token::{Placed, Token};
+use crate::tree::{Entry, Node, Scalar, Section, Value};
+use std::alloc::{AllocError, Global};
+
+/// The token at a place.
+fn token_at<'a>(tokens: &[Placed<'a>], at: usize) -> Option<Placed<'a>>
+    ensures { MatchOption result (drop at tokens.now ≡ []) (λ t. (drop at tokens.now ≡ t ∷ drop (at + 1) tokens.now) × (at < length tokens.now)) }
+{
+    if at < tokens.len() {
+        Some(tokens[at])
+    } else {
+        None
+    }
+}
+
+/// The place behind a token, or the end.
+fn behind(tokens: &[Placed<'_>], at: usize) -> usize
+    requires { at ≤ length tokens.now }
+    ensures rest { drop result tokens.now ≡ drop 1 (drop at tokens.now) }
+    ensures within { result ≤ length tokens.now }
+    ensures later { at ≤ result }
+{
+    if at < tokens.len() { at + 1 } else { at }
+}
+
+/// The key at a place, and its line.
+fn key_at<'a>(tokens: &[Placed<'a>], at: usize) -> Option<(&'a str, u64)>
+    ensures { MatchOption result (begins_key (views (drop at tokens.now)) ≡ false) (λ r. (views (drop at tokens.now) ≡ (spec.Word r.0.now, r.1) ∷ views (drop (at + 1) tokens.now)) × (at < length tokens.now)) }
+{
+    let first = token_at(tokens, at)?;
+    match first.token {
+        Token::Word(key) => Some((key, first.line)),
+        _ => None,
+    }
+}
+
+/// The scalar that a token is.
+fn scalar_of(token: Token<'_>) -> Option<Scalar<'_>>
+    ensures { option_map scalar_view result ≡ scalar_of (token_view token.entry) }
+{
+    match token {
+        Token::Word(word) if are_digits(word.as_bytes()) => {
+            Some(Scalar::Int(number_of(word.as_bytes()).unwrap_or(0)))
+        }
+        Token::Text(text) => Some(Scalar::Text(text)),
+        _ => None,
+    }
+}
+
+fn is_comma(token: Token<'_>) -> bool
+    ensures { result ≡ is_comma (token_view token.entry) }
+{
+    match token {
+        Token::Comma => true,
+        _ => false,
+    }
+}
+
+fn is_open(token: Token<'_>) -> bool
+    ensures { result ≡ is_open (token_view token.entry) }
+{
+    match token {
+        Token::Open => true,
+        _ => false,
+    }
+}
+
+fn is_list_open(token: Token<'_>) -> bool
+    ensures { result ≡ is_list_open (token_view token.entry) }
+{
+    match token {
+        Token::ListOpen => true,
+        _ => false,
+    }
+}
+
+/// The place behind a comma, if one stands here.
+fn behind_comma(tokens: &[Placed<'_>], at: usize) -> usize
+    ensures same { item_of (views (drop at tokens.now)) ≡ scalar_first (views (drop result tokens.now)) }
+    ensures later { at ≤ result }
+{
+    let Some(first) = token_at(tokens, at) else {
+        return at;
+    };
+    if is_comma(first.token) { at + 1 } else { at }
+}
+
+/// A scalar of a list, behind a comma if one stands there, and the place behind it.
+fn item_at<'a>(tokens: &[Placed<'a>], at: usize) -> Option<(Scalar<'a>, usize)>
+    ensures item { option_map (λ r. (scalar_view r.0, views (drop r.1 tokens.now))) result ≡ item_of (views (drop at tokens.now)) }
+    ensures later { IfSome result (λ r. (at < r.1) × (r.1 ≤ length tokens.now)) }
+{
+    let place = behind_comma(tokens, at);
+    let first = token_at(tokens, place)?;
+    match scalar_of(first.token) {
+        Some(scalar) => Some((scalar, place + 1)),
+        None => None,
+    }
+}
+
+/// The scalars of a list, from behind its opening bracket, and the place behind the closing one.
+fn scalars_at<'a>(
+    alloc: Global,
+    tokens: &[Placed<'a>],
+    start: usize,
+) -> Result<(Vec<Scalar<'a>>, usize), AllocError>
+    requires { start ≤ length tokens.now }
+    ensures read { IfOk result (λ r. ReadsScalars (views (drop start tokens.now)) (scalar_views r.0.items) (views (drop r.1 tokens.now))) }
+    ensures later { IfOk result (λ r. (start ≤ r.1) × (r.1 ≤ length tokens.now)) }
+{
+    let mut scalars = Vec::new(alloc);
+    let mut at = start;
+    while let Some((scalar, after)) = item_at(tokens, at) {
+        scalars.push(scalar)?;
+        at = after;
+    }
+    Ok((scalars, behind(tokens, at)))
+}
+
+/// The value of a scalar; for what is none, which syntax rules out, no value is said.
+fn value_of_scalar(scalar: Option<Scalar<'_>>) -> Value<'_>
+    ensures shows { ShowsScalar scalar.entry result }
+    ensures no_section { (n : ℕ) → has_line n result ≡ true }
+{
+    match scalar {
+        Some(Scalar::Text(text)) => Value::Text(text),
+        Some(Scalar::Int(value)) => Value::Int(value),
+        None => Value::Int(0),
+    }
+}
+
+/// A scalar or a list, from behind the equals sign, and the place behind it.
+fn leaf_at<'a>(
+    alloc: Global,
+    tokens: &[Placed<'a>],
+    start: usize,
+) -> Result<(Value<'a>, usize), AllocError>
+    requires { start ≤ length tokens.now }
+    ensures read { IfOk result (λ r. ReadsLeaf (views (drop start tokens.now)) r.0 (views (drop r.1 tokens.now))) }
+    ensures no_section { IfOk result (λ r. (n : ℕ) → has_line n r.0 ≡ true) }
+    ensures later { IfOk result (λ r. (start ≤ r.1) × (r.1 ≤ length tokens.now)) }
+{
+    let Some(first) = token_at(tokens, start) else {
+        return Ok((Value::Int(0), start));
+    };
+    if is_list_open(first.token) {
+        let (scalars, after) = scalars_at(alloc, tokens, start + 1)?;
+        return Ok((Value::List(scalars), after));
+    }
+    Ok((value_of_scalar(scalar_of(first.token)), start + 1))
+}
+
+/// What a key of this line holds, from behind the key, and the place behind it.
+#[cycle(build)]
+fn value_at<'a>(
+    alloc: Global,
+    tokens: &[Placed<'a>],
+    line: u64,
+    start: usize,
+) -> Result<(Value<'a>, usize), AllocError>
+    requires { start ≤ length tokens.now }
+    ensures agrees { IfOk result (λ r. has_line line r.0 ≡ true) }
+    ensures read { IfOk result (λ r. ReadsValue line (views (drop start tokens.now)) r.0 (views (drop r.1 tokens.now))) }
+    ensures later { IfOk result (λ r. (start ≤ r.1) × (r.1 ≤ length tokens.now)) }
+{
+    let Some(first) = token_at(tokens, start) else {
+        return Ok((Value::Int(0), start));
+    };
+    if is_open(first.token) {
+        let (section, after) = section_at(alloc, tokens, line, start + 1)?;
+        return Ok((Value::Section(section), behind(tokens, after)));
+    }
+    leaf_at(alloc, tokens, start + 1)
+}
+
+/// The section of this line whose values begin at a place, and the place behind them.
+#[cycle(build)]
+pub(crate) fn section_at<'a>(
+    alloc: Global,
+    tokens: &[Placed<'a>],
+    line: u64,
+    start: usize,
+) -> Result<(Section<'a>, usize), AllocError>
+    requires { start ≤ length tokens.now }
+    ensures line { IfOk result (λ r. r.0.line ≡ line) }
+    ensures read { IfOk result (λ r. ReadsValues (views (drop start tokens.now)) r.0.values (views (drop r.1 tokens.now))) }
+    ensures later { IfOk result (λ r. (start ≤ r.1) × (r.1 ≤ length tokens.now)) }
+{
+    let mut entries = Vec::new(alloc);
+    let mut at = start;
+    while let Some((key, key_line)) = key_at(tokens, at) {
+        let (value, after) = value_at(alloc, tokens, key_line, at + 1)?;
+        let node = Node {
+            value,
+            line: key_line,
+        };
+        entries.push(Entry { key, node })?;
+        at = after;
+    }
+    Ok((Section { line, entries }, at))
+}

@@ -1,0 +1,80 @@
+//! The checks of tokens that are a text by the grammar.
+//! Each answers its first line in source order; `parse` asks them in their order.
+
+ghost use Rattle.std.specs.Prelude.{◌≡◌, ◌<◌, ◌^◌};
+ghost use Rattle.lvm_text.specs.Token as spec;
+ghost use Rattle.lvm_text.specs.TokenView.{token_view, views};
+ghost use Rattle.lvm_text.specs.Checks.{head_line, level_after, opens_deep, deep_lines, leads_scalar, is_refused, number_lines};
+
+use crate::number::number_of;
+use crate::token::{Placed, Token};
+
+/// Whether a token opens a level above 16.
+fn opens_deep(token: Token<'_>, level: u64) -> bool
+    ensures { result ≡ opens_deep (token_view token.entry) level }
+{
+    match token {
+        Token::Open => level > 15,
+        _ => false,
+    }
+}
+
+/// The level behind a token.
+fn level_after(token: Token<'_>, level: u64) -> u64
+    requires { level < 2 ^ 63 }
+    ensures { result ≡ level_after (token_view token.entry) level }
+{
+    match token {
+        Token::Open => level + 1,
+        Token::Close => level.saturating_sub(1),
+        _ => level,
+    }
+}
+
+/// The line of the first brace that opens level 17.
+pub(crate) fn deep_line(tokens: &[Placed<'_>]) -> Option<u64>
+    ensures { result ≡ head_line (deep_lines 0 (views tokens.now)) }
+{
+    let mut level = 0;
+    for placed in tokens {
+        if opens_deep(placed.token, level) {
+            return Some(placed.line);
+        }
+        level = level_after(placed.token, level);
+    }
+    None
+}
+
+/// Whether a scalar stands behind a token.
+fn leads_scalar(token: Token<'_>) -> bool
+    ensures { result ≡ leads_scalar (token_view token.entry) }
+{
+    match token {
+        Token::Equals | Token::ListOpen | Token::Comma => true,
+        _ => false,
+    }
+}
+
+/// Whether a token is a word that is no integer in range.
+fn is_refused(token: Token<'_>) -> bool
+    ensures { result ≡ is_refused (token_view token.entry) }
+{
+    match token {
+        Token::Word(word) => number_of(word.as_bytes()).is_none(),
+        _ => false,
+    }
+}
+
+/// The line of the first integer out of range.
+pub(crate) fn number_line(tokens: &[Placed<'_>]) -> Option<u64>
+    ensures { result ≡ head_line (number_lines spec.Close (views tokens.now)) }
+{
+    let mut before = Token::Close;
+    for placed in tokens {
+        if leads_scalar(before) && is_refused(placed.token) {
+            return Some(placed.line);
+        }
+        before = placed.token;
+    }
+    None
+}

@@ -1,0 +1,38 @@
+//! Integers of a text.
+//! Leading zeros are allowed, so 19 digits bound the work and a `u64` holds what they say; the bound 2^63
+//! is asked of the value. A sign or a decimal point would be a change of `scalar_of`.
+
+ghost use Rattle.std.specs.Prelude.{◌≡◌, ◌≤◌, length, IsTrue};
+ghost use Rattle.std.specs.Str.Parse.{digits_value};
+ghost use Rattle.lvm_text.specs.Grammar.{are_digits, number_of};
+
+/// Whether a word has digits alone.
+pub(crate) fn are_digits(word: &[u8]) -> bool
+    ensures { result ≡ are_digits word.now }
+{
+    word.iter().all(|byte| byte.is_ascii_digit())
+}
+
+fn value_of(word: &[u8]) -> u64
+    requires digits { IsTrue (are_digits word.now) }
+    requires short { length word.now ≤ 19 }
+    ensures { result ≡ digits_value 10 word.now }
+{
+    let mut value = 0u64;
+    for byte in word {
+        value = value * 10 + u64::from(*byte - b'0');
+    }
+    value
+}
+
+/// The integer that a word is: 1 to 19 digits, below 2^63.
+#[tactic(auto, unfolding(crate::specs::Grammar::number_of))]
+pub(crate) fn number_of(word: &[u8]) -> Option<u64>
+    ensures { result ≡ number_of word.now }
+{
+    if !are_digits(word) || word.len() > 19 {
+        return None;
+    }
+    let value = value_of(word);
+    if value < 1 << 63 { Some(value) } else { None }
+}

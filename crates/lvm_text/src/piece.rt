@@ -1,0 +1,111 @@
+//! The pieces of a text: white bytes, comments and tokens.
+//! A text is cut at its front, piece by piece, so a piece is found by its first byte. A new form of token
+//! is a case of `piece_at`.
+
+ghost use Rattle.std.specs.Prelude.{◌≡◌, ◌<◌, ◌∷◌, ℕ, suc, None, Some, length, take, drop, slice_index, option_map, if◌then◌else◌, IsCharBoundary};
+ghost use Rattle.lvm_text.specs.Spelling.{White, Comment, Lexeme, is_word_byte};
+ghost use Rattle.lvm_text.specs.Token as spec;
+ghost use Rattle.lvm_text.specs.Scan.{line_length, word_length, raw_length, sign_of, piece_from, piece_at};
+ghost use Rattle.lvm_text.specs.TokenView.{piece_view, found_view, token_view};
+
+use crate::scan::{is_white, is_word_byte, line_length, raw_length, word_length};
+use crate::token::Token;
+
+/// A white byte, the text of a comment, or a token.
+#[derive(Clone, Copy, Debug)]
+pub(crate) enum Piece<'a> {
+    White(u8),
+    Comment(&'a str),
+    Lexeme(Token<'a>),
+}
+
+/// What stands before an ASCII byte, and what comes after it.
+fn around(text: &str, at: usize) -> (&str, &str)
+    requires within { at < length text.now }
+    requires ascii { slice_index text.now at < 128 }
+    ensures before { result.0.now ≡ take at text.now }
+    ensures after { result.1.now ≡ drop (suc at) text.now }
+{
+    let (before, rest) = text.split_at(at);
+    let (_, after) = rest.split_at(1);
+    (before, after)
+}
+
+/// A comment, from behind its sign.
+fn comment(rest: &str) -> Option<(Piece<'_>, &str)>
+    ensures { found_view result ≡ option_map (λ n. (Comment (take n rest.now), drop (suc n) rest.now)) (line_length rest.now) }
+{
+    let end = line_length(rest.as_bytes())?;
+    let (text, after) = around(rest, end);
+    Some((Piece::Comment(text), after))
+}
+
+/// A string, from behind its opening quote.
+fn string(rest: &str) -> Option<(Piece<'_>, &str)>
+    ensures { found_view result ≡ option_map (λ n. (Lexeme (spec.Text (take n rest.now)), drop (suc n) rest.now)) (raw_length rest.now) }
+{
+    let end = raw_length(rest.as_bytes())?;
+    let (text, after) = around(rest, end);
+    Some((Piece::Lexeme(Token::Text(text)), after))
+}
+
+/// A word.
+fn word(rest: &str) -> (Piece<'_>, &str)
+    ensures piece { piece_view result.0 ≡ Lexeme (spec.Word (take (word_length rest.now) rest.now)) }
+    ensures after { result.1.now ≡ drop (word_length rest.now) rest.now }
+{
+    let (word, after) = rest.split_at(word_length(rest.as_bytes()));
+    (Piece::Lexeme(Token::Word(word)), after)
+}
+
+/// The sign that a byte is.
+fn sign_of<'a>(byte: u8) -> Option<Token<'a>>
+    ensures { option_map token_view result ≡ sign_of byte }
+{
+    match byte {
+        b'{' => Some(Token::Open),
+        b'}' => Some(Token::Close),
+        b'[' => Some(Token::ListOpen),
+        b']' => Some(Token::ListClose),
+        b'=' => Some(Token::Equals),
+        b',' => Some(Token::Comma),
+        _ => None,
+    }
+}
+
+/// The piece that begins with a byte before the rest.
+fn piece_from<'a>(text: &'a str, first: u8, rest: &'a str) -> Option<(Piece<'a>, &'a str)>
+    requires { text.now ≡ first ∷ rest.now }
+    ensures { found_view result ≡ piece_from first rest.now }
+{
+    if is_white(first) {
+        return Some((Piece::White(first), rest));
+    }
+    if first == b'#' {
+        return comment(rest);
+    }
+    if first == b'"' {
+        return string(rest);
+    }
+    if is_word_byte(first) {
+        return Some(word(text));
+    }
+    let sign = sign_of(first)?;
+    Some((Piece::Lexeme(sign), rest))
+}
+
+/// The piece at the front of a text, and what comes after it. `None` at the end, and where none begins.
+pub(crate) fn piece_at(text: &str) -> Option<(Piece<'_>, &str)>
+    ensures { found_view result ≡ piece_at text.now }
+{
+    let bytes = text.as_bytes();
+    if bytes.is_empty() {
+        return None;
+    }
+    let first = bytes[0];
+    if first >= 128 {
+        return None;
+    }
+    let (_, rest) = around(text, 0);
+    piece_from(text, first, rest)
+}

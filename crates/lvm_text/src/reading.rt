@@ -1,0 +1,62 @@
+//! The reading of a whole text: tokens, then their checks, then the tree.
+//! Each check goes over the whole text before the next begins, since the order of checks, and not that of
+//! lines, says which fault is answered. A new check goes between two of these.
+
+ghost use Rattle.std.specs.Prelude.{◌≡◌, ◌≢◌, ◌+◌, Ok, Err, IfOk, IfErr};
+ghost use Rattle.lvm_text.specs.Tree.{Values};
+ghost use Rattle.lvm_text.specs.Spelling.{newlines};
+ghost use Rattle.lvm_text.specs.Grammar.{IsText};
+ghost use Rattle.lvm_text.specs.TokenView.{views};
+ghost use Rattle.lvm_text.specs.Reading.{Describes, HasFault, TreeOf};
+ghost use Rattle.lvm_text.specs.declared.fault.TextFault.TheVariants.{Memory};
+
+use crate::build::section_at;
+use crate::check::{deep_line, number_line};
+use crate::fault::TextFault;
+use crate::repeat::repeated_line;
+use crate::syntax::syntax_line;
+use crate::token::{Placed, tokens_of};
+use crate::tree::Section;
+use std::alloc::Global;
+
+/// The line of the end of a text: one more than it has newlines.
+fn end_line(text: &str) -> u64
+    ensures { result ≡ 1 + newlines text.now }
+{
+    let mut line = 1;
+    for byte in text.as_bytes() {
+        if *byte == b'\n' {
+            line += 1;
+        }
+    }
+    line
+}
+
+/// The tree of tokens that are a text, or the first of the checks that hits.
+fn tree_of<'a>(alloc: Global, tokens: &[Placed<'a>]) -> Result<Section<'a>, TextFault>
+    ensures { (v : Values) → IsText (views tokens.now) v → TreeOf (views tokens.now) v result }
+{
+    if let Some(line) = deep_line(tokens) {
+        return Err(TextFault::Deep(line));
+    }
+    if let Some(line) = number_line(tokens) {
+        return Err(TextFault::Number(line));
+    }
+    let (section, _) = section_at(alloc, tokens, 1, 0)?;
+    if let Some(line) = repeated_line(alloc, &section)? {
+        return Err(TextFault::KeyTwice(line));
+    }
+    Ok(section)
+}
+
+/// The tree that a text says, or its fault.
+pub(crate) fn read(alloc: Global, text: &str) -> Result<Section<'_>, TextFault>
+    ensures accepted { IfOk result (Describes text.now) }
+    ensures fault { IfErr result (λ f. f ≢ Memory → HasFault text.now f) }
+{
+    let tokens = tokens_of(alloc, text)?;
+    if let Some(line) = syntax_line(&tokens, end_line(text)) {
+        return Err(TextFault::Syntax(line));
+    }
+    tree_of(alloc, &tokens)
+}

@@ -1,0 +1,98 @@
+//! The grammar of a text, as the places where a parser may stand.
+//! Sections nest without bound here, so a number of open ones stands for a stack. A new form of value is a
+//! place and its steps; the proof then asks how the place is completed.
+
+ghost use Rattle.std.specs.Prelude.{◌≡◌, ◌<◌, ◌^◌, Some, is_some, MatchOption};
+ghost use Rattle.lvm_text.specs.Grammar.{scalar_of, is_key, IsSyntaxLine};
+ghost use Rattle.lvm_text.specs.Machine.{step, run, is_over};
+ghost use Rattle.lvm_text.specs.TokenView.{token_view, views};
+ghost use Rattle.lvm_text.specs.declared.syntax.Place.TheVariants.{Key};
+
+use crate::number::are_digits;
+use crate::token::{Placed, Token};
+
+/// A place in a value, or between two.
+#[derive(Clone, Copy, Debug, PartialEq, Eq)]
+enum Place {
+    /// Before a key or a closing brace.
+    Key,
+    /// After a key.
+    AfterKey,
+    /// After an equals sign.
+    Content,
+    /// After an opening bracket.
+    First,
+    /// After a comma.
+    Next,
+    /// After a scalar of a list.
+    After,
+}
+
+/// Whether a word may be a key.
+fn is_key(word: &str) -> bool
+    ensures { result ≡ is_key word.now }
+{
+    let bytes = word.as_bytes();
+    !bytes.is_empty() && bytes[0] != b'-'
+}
+
+/// Whether a token may be a scalar.
+fn is_scalar(token: Token<'_>) -> bool
+    ensures { result ≡ is_some (scalar_of (token_view token.entry)) }
+{
+    match token {
+        Token::Word(word) => are_digits(word.as_bytes()),
+        Token::Text(_) => true,
+        _ => false,
+    }
+}
+
+/// The open sections and the place after a token, if it may stand here.
+fn step(depth: u64, place: Place, token: Token<'_>) -> Option<(u64, Place)>
+    requires { depth < 2 ^ 63 }
+    ensures { result ≡ step depth place (token_view token.entry) }
+{
+    match (place, token) {
+        (Place::Key, Token::Word(word)) if is_key(word) => Some((depth, Place::AfterKey)),
+        (Place::Key, Token::Close) if depth > 0 => Some((depth - 1, Place::Key)),
+        (Place::AfterKey, Token::Open) => Some((depth + 1, Place::Key)),
+        (Place::AfterKey, Token::Equals) => Some((depth, Place::Content)),
+        (Place::Content, Token::ListOpen) => Some((depth, Place::First)),
+        (Place::Content, _) if is_scalar(token) => Some((depth, Place::Key)),
+        (Place::First | Place::After, Token::ListClose) => Some((depth, Place::Key)),
+        (Place::After, Token::Comma) => Some((depth, Place::Next)),
+        (Place::First | Place::Next, _) if is_scalar(token) => Some((depth, Place::After)),
+        _ => None,
+    }
+}
+
+/// Whether a text may end here.
+fn is_over(depth: u64, place: Place) -> bool
+    ensures { result ≡ is_over depth place }
+{
+    match place {
+        Place::Key => depth == 0,
+        _ => false,
+    }
+}
+
+/// The line of a fault of syntax, where `end` is that of the end of the text: the line of the first token
+/// that no text has in its place.
+pub(crate) fn syntax_line(tokens: &[Placed<'_>], end: u64) -> Option<u64>
+    ensures { MatchOption result (run 0 Key (views tokens.now) ≡ Some (0, Key)) (IsSyntaxLine (views tokens.now) end) }
+{
+    let mut depth = 0;
+    let mut place = Place::Key;
+    for placed in tokens {
+        let Some((next_depth, next_place)) = step(depth, place, placed.token) else {
+            return Some(placed.line);
+        };
+        depth = next_depth;
+        place = next_place;
+    }
+    if is_over(depth, place) {
+        None
+    } else {
+        Some(end)
+    }
+}
