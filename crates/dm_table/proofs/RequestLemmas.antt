@@ -12,7 +12,7 @@ use Rattle.dm_table.specs.declared.request.RequestFault.{RequestFault}
 use Rattle.dm_table.specs.Name.{is_device_name}
 use Rattle.dm_table.specs.Number.{number_of}
 use Rattle.dm_table.specs.Fields.{fields}
-use Rattle.dm_table.specs.RequestLine.{RequestValues, DescribesRequest, request_text, row_of, op_text, is_op, has_form, has_numbers, has_length, request_fault, op_in, values_in, request_values}
+use Rattle.dm_table.specs.RequestLine.{RequestValues, DescribesRequest, request_text, row_of, op_text, is_op, has_form, has_numbers, has_length, request_fault, op_in, request_values}
 use Rattle.dm_table.proofs.ByteLemmas.{All-list_all, device_name-clear, digits-clear}
 use Rattle.dm_table.proofs.FieldLemmas.{IsClearOf, parts_at-first, parts_at-clear, join-parts_at}
 use Rattle.dm_table.proofs.NumberLemmas.{Spells-number_of, number_of-decimal, decimal_digits, decimal_some}
