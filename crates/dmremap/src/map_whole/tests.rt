@@ -49,6 +49,15 @@ struct Answer<'a> {
     status: u8,
 }
 
+/// A load that is refused by a message.
+fn refusal(message: &str) -> Answer<'_> {
+    Answer {
+        output: "".as_bytes(),
+        message: message.as_bytes(),
+        status: 1,
+    }
+}
+
 /// The streams of a run.
 #[derive(Drop)]
 struct Streams<'a> {

@@ -11,15 +11,6 @@ use std::test::Fail;
 
 const WRITE_MESSAGE: &str = "dmremap: output: write\n";
 
-/// A load that is refused by a message.
-fn refusal(message: &str) -> Answer<'_> {
-    Answer {
-        output: "".as_bytes(),
-        message: message.as_bytes(),
-        status: 1,
-    }
-}
-
 #[test]
 fn the_source_fails_after_each_byte(rt: HostRuntime) {
     let alloc = rt.alloc();

@@ -38,36 +38,57 @@ fn large_table(alloc: Global, letters: usize) -> Result<String, AllocError> {
     Ok(text)
 }
 
+/// The answers to a request within and to one behind the disk's line.
+fn large_output(alloc: Global, letters: usize) -> Result<String, AllocError> {
+    let mut text = String::from_str(alloc, "1 R ")?;
+    push_letters(&mut text, letters)?;
+    text.push_str(" 0 1\n2 error 1\n")?;
+    Ok(text)
+}
+
+/// Texts that hang on the length of a disk's name.
+#[derive(Drop)]
+struct LargeTexts {
+    source: String,
+    disks: String,
+    output: String,
+}
+
+impl LargeTexts {
+    fn new(alloc: Global, letters: usize) -> Result<LargeTexts, AllocError> {
+        Ok(LargeTexts {
+            source: large_table(alloc, letters)?,
+            disks: one_disk(alloc, letters)?,
+            output: large_output(alloc, letters)?,
+        })
+    }
+
+    fn case(&self) -> Case<'_> {
+        Case {
+            name: "a large table",
+            source: self.source.as_str(),
+            disks: self.disks.as_str(),
+            requests: "R a 62330 1\nR a 62331 1\n",
+            output: self.output.as_str(),
+            ..VOLUME
+        }
+    }
+}
+
 #[test]
 fn the_largest_table(rt: HostRuntime) -> Result<(), Fail> {
     let alloc = rt.alloc();
     // The greatest source is sound, and its last line is found.
-    let disks = one_disk(alloc, 55)?;
-    let source = large_table(alloc, 55)?;
-    assert_eq!(rt; source.len(), 1_048_576);
-    let mut output = String::from_str(alloc, "1 R ")?;
-    push_letters(&mut output, 55)?;
-    output.push_str(" 0 1\n2 error 1\n")?;
+    let texts = LargeTexts::new(alloc, 55)?;
+    assert_eq!(rt; texts.source.len(), 1_048_576);
+    check(&rt, alloc, &texts.case());
+    let texts = LargeTexts::new(alloc, 56)?;
+    assert_eq!(rt; texts.source.len(), 1_048_577);
     let case = Case {
-        name: "the largest source",
-        source: source.as_str(),
-        disks: disks.as_str(),
-        requests: "R a 62330 1\nR a 62331 1\n",
-        output: output.as_str(),
-        ..VOLUME
-    };
-    check(&rt, alloc, &case);
-    let disks = one_disk(alloc, 56)?;
-    let source = large_table(alloc, 56)?;
-    assert_eq!(rt; source.len(), 1_048_577);
-    let case = Case {
-        name: "a byte more",
-        source: source.as_str(),
-        disks: disks.as_str(),
         output: "",
         message: "dmremap: source: long\n",
         status: 1,
-        ..VOLUME
+        ..texts.case()
     };
     check(&rt, alloc, &case);
     Ok(())

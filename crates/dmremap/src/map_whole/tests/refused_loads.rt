@@ -8,25 +8,28 @@ use std::alloc::AllocError;
 use std::test::Fail;
 
 /// Asserts that two texts are refused with a message, of which only its own words are given.
-fn check_refused(
+fn check_refused<'a>(
     rt: &impl Abort,
     alloc: Global,
-    source: &str,
-    disks: &str,
+    source: &'a str,
+    disks: &'a str,
     words: &str,
 ) -> Result<(), AllocError> {
-    let message = format!(in alloc; "dmremap: {words}\n")?;
     let name = format!(in alloc; "{source:?} over {disks:?}")?;
+    let message = format!(in alloc; "dmremap: {words}\n")?;
     let case = Case {
-        name: name.as_str(),
         source,
         disks,
-        output: "",
-        message: message.as_str(),
-        status: 1,
         ..VOLUME
     };
-    check(rt, alloc, &case);
+    let streams = case.streams(rt, alloc, PLENTY);
+    check_streams(
+        rt,
+        alloc,
+        name.as_str(),
+        streams,
+        &refusal(message.as_str()),
+    );
     Ok(())
 }
 
