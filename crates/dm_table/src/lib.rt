@@ -34,5 +34,5 @@ pub use place::{Part, Place};
 pub use request::{MOST_SECTORS, Op, Request, RequestFault};
 pub use request_line::parse_request;
 pub use short_io::{ShortIn, ShortOut};
-pub use table::{DevRef, DeviceSpec, Line, Table, Target};
+pub use table::{Column, Columns, DevRef, DeviceSpec, Line, Table, Target};
 pub use table_text::parse_table;

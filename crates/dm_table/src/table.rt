@@ -17,11 +17,60 @@ pub enum DevRef {
     Disk(DiskName),
 }
 
-/// What becomes of a line's sectors. Offsets are in sectors.
+/// A column of stripes: those sectors of a lower device that begin at an offset, in sectors.
+#[derive(Debug, Drop)]
+pub struct Column {
+    pub to: DevRef,
+    pub offset: u64,
+}
+
+/// The columns of a striped line, in the order of the text. A clause sees them as a list.
+#[derive(Debug, Drop)]
+pub struct Columns {
+    columns: Vec<Column>,
+}
+
+impl Model for Columns {
+    ghost use Rattle.std.specs.Prelude.{List};
+    ghost use Rattle.dm_table.specs.declared.table.Column.{Column};
+
+    ghost Value = { List Column };
+
+    ghost view = { λ row. row.columns.items };
+}
+
+impl Columns {
+    /// The columns as one value, with no memory taken.
+    pub fn from_vec(columns: Vec<Column>) -> Columns
+        ensures { result ≡ columns.items }
+    {
+        Columns { columns }
+    }
+
+    /// The columns, with no memory taken.
+    pub fn into_vec(self) -> Vec<Column>
+        ensures { result.items ≡ self }
+    {
+        self.columns
+    }
+
+    /// The columns in their order.
+    pub fn as_slice(&self) -> &[Column]
+        ensures { result.now ≡ self.now }
+    {
+        self.columns.as_slice()
+    }
+}
+
+/// What becomes of a line's sectors. Offsets and chunks are in sectors.
 #[derive(Debug, Drop)]
 pub enum Target {
     /// They are those of a lower device, from an offset on.
     Linear { to: DevRef, offset: u64 },
+    /// They go to the columns in turn, a chunk at a time.
+    Striped { chunk: u64, columns: Columns },
+    /// Reads give zeros, and writes are dropped.
+    Zero,
     /// Every request fails.
     Error,
 }
