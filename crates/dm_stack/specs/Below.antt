@@ -1,0 +1,105 @@
+-- The line of a sector, and what lies below it (the kernel's admin guide, device-mapper/linear and striped).
+use Rattle.std.specs.Prelude.{ℕ, ◌+◌, ◌-◌, ◌*◌, ◌/◌, ◌%◌, ◌&&◌, ◌≡◌, ◌≤◌, ◌<◌, ◌^◌, Bool, List, Option, Some, None, find, length, map, nat_le, nat_lt, option_map, slice_get}
+use Rattle.std.specs.List.{AllByRecursion}
+use Rattle.dm_table.specs.declared.table.Column.{Column}
+use Rattle.dm_table.specs.declared.table.Target.{Target}
+use Rattle.dm_table.specs.declared.table.Target.TheVariants as targets
+use Rattle.dm_table.specs.declared.table.Line.{Line}
+use Rattle.dm_stack.specs.declared.id.Lower.{Lower}
+use Rattle.dm_stack.specs.declared.found.FoundColumn.{FoundColumn}
+use Rattle.dm_stack.specs.declared.found.FoundTarget.{FoundTarget}
+use Rattle.dm_stack.specs.declared.found.FoundTarget.TheVariants as found
+use Rattle.dm_stack.specs.declared.found.FoundLine.{FoundLine}
+use Rattle.dm_stack.specs.Description.{Description, lower_of, lower_len, lines_at}
+
+-- a line has the sectors from its start to before its end
+abbrev pub holds : ℕ → Line → Bool
+holds sector line = nat_le line.start sector && nat_lt sector (line.start + line.len)
+
+-- the line of a sector
+abbrev pub line_of : List Line → ℕ → Option Line
+line_of lines sector = find (holds sector) lines
+
+-- what a line says, with ids for names
+abbrev pub found_columns : Description → List Column → List FoundColumn
+found_columns stack columns = map (λ column. record { to = lower_of stack column.to; offset = column.offset }) columns
+
+abbrev pub found_target : Description → Target → FoundTarget
+found_target stack (targets.Linear to offset) = found.Linear (lower_of stack to) offset
+found_target stack (targets.Striped chunk columns) = found.Striped chunk (found_columns stack columns)
+found_target stack targets.Zero = found.Zero
+found_target stack targets.Error = found.Error
+
+abbrev pub found_line : Description → Line → FoundLine
+found_line stack line = record { start = line.start; len = line.len; target = found_target stack line.target }
+
+-- what lies below a sector: a sector of a device or a disk, zeros, or an error
+pub data Below : Type 0 where
+  Lies : Lower → ℕ → Below
+  IsZero : Below
+  IsError : Below
+
+-- the column of a stripe, and the sector in it, at a distance from the line's start
+abbrev pub column_of : (chunk count distance : ℕ) → ℕ
+column_of chunk count distance = (distance / chunk) % count
+
+abbrev pub in_column : (chunk count distance : ℕ) → ℕ
+in_column chunk count distance = (distance / chunk / count) * chunk + distance % chunk
+
+abbrev pub below_column : Option FoundColumn → ℕ → Below
+below_column (Some column) sector = Lies column.to (column.offset + sector)
+below_column None sector = IsError
+
+-- what lies below a sector at a distance from the start of a line of this target
+abbrev pub below_target : FoundTarget → ℕ → Below
+below_target (found.Linear to offset) distance = Lies to (offset + distance)
+below_target (found.Striped chunk columns) distance =
+    below_column (slice_get columns (column_of chunk (length columns) distance)) (in_column chunk (length columns) distance)
+below_target found.Zero distance = IsZero
+below_target found.Error distance = IsError
+
+abbrev pub below_line : Option FoundLine → ℕ → Below
+below_line (Some line) sector = below_target line.target (sector - line.start)
+below_line None sector = IsError
+
+-- the lines of a device, with ids for names
+abbrev pub found_lines : Description → ℕ → List FoundLine
+found_lines stack device = map (found_line stack) (lines_at stack device)
+
+-- the line of a sector of a device, with ids for names
+abbrev pub found_at : Description → ℕ → ℕ → Option FoundLine
+found_at stack device sector = option_map (found_line stack) (line_of (lines_at stack device) sector)
+
+-- what lies below a sector of a device
+abbrev pub below : Description → ℕ → ℕ → Below
+below stack device sector = below_line (found_at stack device sector) sector
+
+-- A line of a sound stack, that holds a sector
+
+-- the first so many sectors of what is named from an offset on are there
+abbrev pub LiesIn : Description → Lower → ℕ → ℕ → Type 0
+LiesIn stack to offset len = offset + len ≤ lower_len stack to
+
+-- the columns of a stripe are as long as their share of the line
+pub record AreStripes (stack : Description) (len chunk : ℕ) (columns : List FoundColumn) : Type 0 where
+  pub some : 0 < length columns
+  pub few : length columns ≤ 128
+  pub chunk_some : 0 < chunk
+  pub chunk_small : chunk < 2 ^ 32
+  pub column_len : ℕ
+  pub chunks : ℕ
+  pub shares : len ≡ length columns * column_len
+  pub whole : column_len ≡ chunks * chunk
+  pub inside : AllByRecursion (λ column. LiesIn stack column.to column.offset column_len) columns
+
+abbrev pub IsTargetSound : Description → ℕ → FoundTarget → Type 0
+IsTargetSound stack len (found.Linear to offset) = LiesIn stack to offset len
+IsTargetSound stack len (found.Striped chunk columns) = AreStripes stack len chunk columns
+IsTargetSound stack len found.Zero = Unit {0}
+IsTargetSound stack len found.Error = Unit {0}
+
+pub record HoldsSoundly (stack : Description) (line : FoundLine) (sector : ℕ) : Type 0 where
+  pub from : line.start ≤ sector
+  pub before : sector < line.start + line.len
+  pub small : line.start + line.len ≤ 2 ^ 50
+  pub target : IsTargetSound stack line.len line.target

@@ -1,0 +1,117 @@
+-- What a stack is, for every definition: its devices with their lines, and its disks, by their places in the lists.
+use Rattle.std.specs.Prelude.{ℕ, ◌+◌, ◌&&◌, Bool, false, List, [], ◌∷◌, Option, Some, None, find, map, nat_eq, nat_le, nat_lt, slice_get}
+use Rattle.std.specs.List.{flat_map, position_or_len}
+use Rattle.std.specs.Cmp.Lexicographic.{pointwise}
+use Rattle.dm_table.specs.declared.table.DevRef.{DevRef}
+use Rattle.dm_table.specs.declared.table.DevRef.TheVariants as refs
+use Rattle.dm_table.specs.declared.table.Column.{Column}
+use Rattle.dm_table.specs.declared.table.Target.{Target}
+use Rattle.dm_table.specs.declared.table.Target.TheVariants as targets
+use Rattle.dm_table.specs.declared.table.Line.{Line}
+use Rattle.dm_table.specs.declared.table.DeviceSpec.{DeviceSpec}
+use Rattle.dm_table.specs.declared.disk.Disk.{Disk}
+use Rattle.dm_stack.specs.declared.id.Lower.{Lower}
+use Rattle.dm_stack.specs.declared.id.Lower.TheVariants as lowers
+
+-- the devices that one list says, and the disks that the other says
+pub record Description : Type 0 where
+  pub devices : List DeviceSpec
+  pub disks : List Disk
+
+-- one text
+abbrev pub is_same : List ℕ → List ℕ → Bool
+is_same = pointwise nat_eq
+
+-- the first device, and the first disk, of a name
+abbrev pub device_named : List DeviceSpec → List ℕ → Option DeviceSpec
+device_named devices name = find (λ device. is_same device.name name) devices
+
+abbrev pub disk_named : List Disk → List ℕ → Option Disk
+disk_named disks name = find (λ disk. is_same disk.name name) disks
+
+-- the id of a name: the index of the first of that name, or that behind the last where none has it
+abbrev pub device_id : Description → List ℕ → ℕ
+device_id stack name = position_or_len (λ device. is_same device.name name) stack.devices
+
+abbrev pub disk_id : Description → List ℕ → ℕ
+disk_id stack name = position_or_len (λ disk. is_same disk.name name) stack.disks
+
+-- what a line names, by its id
+abbrev pub lower_of : Description → DevRef → Lower
+lower_of stack (refs.Device name) = lowers.Device (device_id stack name)
+lower_of stack (refs.Disk name) = lowers.Disk (disk_id stack name)
+
+-- a device ends where its last line does
+abbrev pub end_of : List Line → ℕ
+end_of [] = 0
+end_of (line ∷ []) = line.start + line.len
+end_of (line ∷ next ∷ lines) = end_of (next ∷ lines)
+
+-- the name of a device, and of a disk, that may be missing
+abbrev pub name_or_none : Option DeviceSpec → List ℕ
+name_or_none (Some device) = device.name
+name_or_none None = []
+
+abbrev pub disk_name_or_none : Option Disk → List ℕ
+disk_name_or_none (Some disk) = disk.name
+disk_name_or_none None = []
+
+-- what a device that may be missing says
+abbrev pub lines_or_none : Option DeviceSpec → List Line
+lines_or_none (Some device) = device.lines
+lines_or_none None = []
+
+abbrev pub is_read_only : Option DeviceSpec → Bool
+is_read_only (Some device) = device.ro
+is_read_only None = false
+
+-- the length of a disk that may be missing
+abbrev pub len_or_none : Option Disk → ℕ
+len_or_none (Some disk) = disk.len
+len_or_none None = 0
+
+-- names, the lines of a device, whether it is read-only, and lengths in sectors, by ids
+abbrev pub name_at : Description → ℕ → List ℕ
+name_at stack device = name_or_none (slice_get stack.devices device)
+
+abbrev pub disk_name_at : Description → ℕ → List ℕ
+disk_name_at stack disk = disk_name_or_none (slice_get stack.disks disk)
+
+abbrev pub lines_at : Description → ℕ → List Line
+lines_at stack device = lines_or_none (slice_get stack.devices device)
+
+abbrev pub is_ro_at : Description → ℕ → Bool
+is_ro_at stack device = is_read_only (slice_get stack.devices device)
+
+abbrev pub device_len : Description → ℕ → ℕ
+device_len stack device = end_of (lines_at stack device)
+
+abbrev pub disk_len : Description → ℕ → ℕ
+disk_len stack disk = len_or_none (slice_get stack.disks disk)
+
+abbrev pub lower_len : Description → Lower → ℕ
+lower_len stack (lowers.Device device) = device_len stack device
+lower_len stack (lowers.Disk disk) = disk_len stack disk
+
+-- what the columns of a line name, and what the line does
+abbrev pub column_refs : List Column → List DevRef
+column_refs columns = map (λ column. column.to) columns
+
+abbrev pub target_refs : Target → List DevRef
+target_refs (targets.Linear to offset) = to ∷ []
+target_refs (targets.Striped chunk columns) = column_refs columns
+target_refs targets.Zero = []
+target_refs targets.Error = []
+
+-- the devices among what is named, by their ids
+abbrev pub ref_link : Description → DevRef → List ℕ
+ref_link stack (refs.Device name) = device_id stack name ∷ []
+ref_link stack (refs.Disk name) = []
+
+-- the devices that a device names, by their ids
+abbrev pub device_links : Description → DeviceSpec → List ℕ
+device_links stack device = flat_map (λ line. flat_map (ref_link stack) (target_refs line.target)) device.lines
+
+-- which devices name which
+abbrev pub links : Description → List (List ℕ)
+links stack = map (device_links stack) stack.devices

@@ -1,0 +1,6 @@
+pub mod Below
+pub mod Description
+pub mod Graph
+pub mod Loaded
+pub mod NameIndex
+pub mod Soundness

@@ -1,0 +1,34 @@
+-- What a stack keeps beside its description, and what a looker is.
+use Rattle.std.specs.Prelude.{◌≡◌, ℕ, suc, ◌^◌, List, length, map, nat_lt, if◌then◌else◌}
+use Rattle.std.specs.List.{range_with_len}
+use Rattle.dm_table.specs.declared.table.DeviceSpec.{DeviceSpec}
+use Rattle.dm_stack.specs.declared.found.FoundLine.{FoundLine}
+use Rattle.dm_stack.specs.Description.{Description}
+use Rattle.dm_stack.specs.Below.{found_line}
+use Rattle.dm_stack.specs.Graph.{greatest}
+use Rattle.dm_stack.specs.Soundness.{IsSound, depth_of}
+
+-- the lines of a device, with ids for names
+abbrev pub found_table : Description → DeviceSpec → List FoundLine
+found_table stack device = map (found_line stack) device.lines
+
+-- the greatest depth of a device; 0 without devices
+abbrev pub stack_depth : Description → ℕ
+stack_depth stack = greatest (map (depth_of stack) (range_with_len 0 (length stack.devices)))
+
+-- a sound description, with its names, its lines by ids and its depth
+pub record IsLoaded (stack : Description) (devices disks : List (List ℕ)) (by_ids : List (List FoundLine)) (deepest : ℕ) : Type 0 where
+  pub sound : IsSound stack
+  pub device_names : devices ≡ map (λ device. device.name) stack.devices
+  pub disk_names : disks ≡ map (λ disk. disk.name) stack.disks
+  pub tables : by_ids ≡ map (found_table stack) stack.devices
+  pub depth : deepest ≡ stack_depth stack
+
+-- a looker: its stack, and the count of its searches
+pub record Looking : Type 0 where
+  pub stack : Description
+  pub searches : ℕ
+
+-- one search more, up to the greatest count
+abbrev pub next_count : ℕ → ℕ
+next_count count = if nat_lt (suc count) (2 ^ 64) then suc count else count

@@ -1,0 +1,192 @@
+-- The checks of a load, over the devices and the disks that it is handed.
+use Rattle.std.specs.Prelude.{◌≡◌, ◌⊎◌, ℕ, suc, ◌+◌, ◌/◌, ◌%◌, ◌≤◌, ◌<◌, Bool, true, false, not, ◌&&◌, ◌||◌, ◌==◌, List, [], ◌∷◌, ◌++◌, Option, Some, None, drop, length, is_none, nat_lt, if◌then◌else◌}
+use Rattle.std.specs.List.{All, flat_map, list_any}
+use Rattle.dm_table.specs.declared.table.DevRef.{DevRef}
+use Rattle.dm_table.specs.declared.table.DevRef.TheVariants as refs
+use Rattle.dm_table.specs.declared.table.Column.{Column}
+use Rattle.dm_table.specs.declared.table.Target.{Target}
+use Rattle.dm_table.specs.declared.table.Target.TheVariants as targets
+use Rattle.dm_table.specs.declared.table.Line.{Line}
+use Rattle.dm_table.specs.declared.table.DeviceSpec.{DeviceSpec}
+use Rattle.dm_table.specs.declared.disk.Disk.{Disk}
+use Rattle.dm_table.specs.declared.place.Place.{Place}
+use Rattle.dm_table.specs.declared.load_fault.LoadKind.{LoadKind}
+use Rattle.dm_table.specs.declared.load_fault.LoadKind.TheVariants.{Limit, Twice, Empty, Gap, Overlap, Unknown, Cycle, Deep, Stripe, Range}
+use Rattle.dm_table.specs.declared.load_fault.LoadFault.{LoadFault}
+use Rattle.dm_table.specs.LoadFault.{first_fault}
+use Rattle.dm_stack.specs.Description.{Description, is_same, device_named, disk_named, lower_of, lower_len, target_refs, links}
+use Rattle.dm_stack.specs.Graph.{Reaches, depth_to}
+use Rattle.dm_stack.specs.declared.graph.TheConstants.{MOST_DEPTH}
+use Rattle.dm_stack.specs.declared.limits.TheConstants.{MOST_DEVICES, MOST_DISKS, MOST_LINES, MOST_LENGTH, MOST_STRIPES, MOST_CHUNK}
+
+-- a fault of a kind at a place
+abbrev pub fault : LoadKind → Place → LoadFault
+fault kind at = record { kind = kind; at = at }
+
+-- the faults of a kind at the elements that are bad, in their order
+abbrev pub faults_by : {X : Type 0} → LoadKind → (X → Place) → (X → Bool) → List X → List LoadFault
+faults_by kind place bad [] = []
+faults_by kind place bad (x ∷ xs) = if bad x then fault kind (place x) ∷ faults_by kind place bad xs else faults_by kind place bad xs
+
+-- the lines of all devices
+abbrev pub all_lines : List DeviceSpec → List Line
+all_lines devices = flat_map (λ device. device.lines) devices
+
+-- the faults of a kind at the lines that are bad
+abbrev pub line_faults : LoadKind → (Line → Bool) → Description → List LoadFault
+line_faults kind bad stack = faults_by kind (λ line. line.at) bad (all_lines stack.devices)
+
+-- the elements behind the first so many
+abbrev pub past : {X : Type 0} → ℕ → (X → Place) → List X → List LoadFault
+past most place xs = faults_by Limit place (λ x. true) (drop most xs)
+
+-- too many devices, then disks, then lines
+abbrev pub too_many : Description → List LoadFault
+too_many stack =
+    past MOST_DEVICES (λ device. device.at) stack.devices ++ past MOST_DISKS (λ disk. disk.at) stack.disks
+    ++ past MOST_LINES (λ line. line.at) (all_lines stack.devices)
+
+-- an offset above the limit
+abbrev pub is_far : Target → Bool
+is_far (targets.Linear to offset) = nat_lt MOST_LENGTH offset
+is_far (targets.Striped chunk columns) = list_any (λ column. nat_lt MOST_LENGTH column.offset) columns
+is_far targets.Zero = false
+is_far targets.Error = false
+
+-- a start, a length, an end or an offset above the limit
+abbrev pub is_large : Line → Bool
+is_large line =
+    nat_lt MOST_LENGTH line.start || (nat_lt MOST_LENGTH line.len || (nat_lt MOST_LENGTH (line.start + line.len) || is_far line.target))
+
+-- lines whose ends are within the limit, so that they can be added up
+abbrev pub HaveSmallEnds : List Line → Type 0
+HaveSmallEnds lines = All (λ line. line.start + line.len ≤ MOST_LENGTH) lines
+
+-- too large a line, then a disk
+abbrev pub too_large : Description → List LoadFault
+too_large stack = line_faults Limit is_large stack ++ faults_by Limit (λ disk. disk.at) (λ disk. nat_lt MOST_LENGTH disk.len) stack.disks
+
+-- the elements whose name is among the names before them, seen first
+abbrev pub twice_after : {X : Type 0} → (X → List ℕ) → (X → Place) → List (List ℕ) → List X → List LoadFault
+twice_after name place seen [] = []
+twice_after name place seen (x ∷ xs) =
+    if list_any (is_same (name x)) seen then fault Twice (place x) ∷ twice_after name place (name x ∷ seen) xs
+    else twice_after name place (name x ∷ seen) xs
+
+-- a device's name that an earlier one has, then a disk's
+abbrev pub twice : Description → List LoadFault
+twice stack =
+    twice_after (λ device. device.name) (λ device. device.at) [] stack.devices
+    ++ twice_after (λ disk. disk.name) (λ disk. disk.at) [] stack.disks
+
+-- a device without lines
+abbrev pub without_lines : DeviceSpec → List Line → List LoadFault
+without_lines device [] = fault Empty device.at ∷ []
+without_lines device (line ∷ lines) = []
+
+-- a device without lines, or its lines of length 0
+abbrev pub empty_in : DeviceSpec → List LoadFault
+empty_in device = without_lines device device.lines ++ faults_by Empty (λ line. line.at) (λ line. line.len == 0) device.lines
+
+-- an empty device or line, then a disk of length 0
+abbrev pub empty : Description → List LoadFault
+empty stack = flat_map empty_in stack.devices ++ faults_by Empty (λ disk. disk.at) (λ disk. disk.len == 0) stack.disks
+
+-- lines that start after, or before, the end of the one before, which ends here
+abbrev pub misplaced_from : ℕ → List Line → List LoadFault
+misplaced_from end [] = []
+misplaced_from end (line ∷ lines) =
+    if nat_lt end line.start then fault Gap line.at ∷ misplaced_from (line.start + line.len) lines
+    else (if nat_lt line.start end then fault Overlap line.at ∷ misplaced_from (line.start + line.len) lines
+    else misplaced_from (line.start + line.len) lines)
+
+abbrev pub misplaced : Description → List LoadFault
+misplaced stack = flat_map (λ device. misplaced_from 0 device.lines) stack.devices
+
+-- a line that names a device or a disk that is not there
+abbrev pub is_unknown_ref : Description → DevRef → Bool
+is_unknown_ref stack (refs.Device name) = is_none (device_named stack.devices name)
+is_unknown_ref stack (refs.Disk name) = is_none (disk_named stack.disks name)
+
+abbrev pub is_unknown : Description → Target → Bool
+is_unknown stack target = list_any (is_unknown_ref stack) (target_refs target)
+
+abbrev pub unknown : Description → List LoadFault
+unknown stack = line_faults Unknown (λ line. is_unknown stack line.target) stack
+
+-- the faults of a kind at the devices whose id is bad, where the first has this id
+abbrev pub faults_at : LoadKind → (ℕ → Bool) → ℕ → List DeviceSpec → List LoadFault
+faults_at kind bad id [] = []
+faults_at kind bad id (device ∷ devices) =
+    if bad id then fault kind device.at ∷ faults_at kind bad (suc id) devices else faults_at kind bad (suc id) devices
+
+-- the depth of a device: 1 plus the greatest of the devices that it names, as far as it can be told from one above the limit
+abbrev pub depth_of : Description → ℕ → ℕ
+depth_of stack device = depth_to (links stack) (suc MOST_DEPTH) device
+
+-- a device of too great a depth
+abbrev pub deep : Description → List LoadFault
+deep stack = faults_at Deep (λ id. nat_lt MOST_DEPTH (depth_of stack id)) 0 stack.devices
+
+-- a number of stripes or a chunk out of its limits, or a length that the stripes or their chunks do not divide
+abbrev pub is_bad_stripe : (len chunk count : ℕ) → Bool
+is_bad_stripe len chunk count =
+    count == 0 || (nat_lt MOST_STRIPES count || (chunk == 0 || (nat_lt MOST_CHUNK chunk || (not (len % count == 0) || not ((len / count) % chunk == 0)))))
+
+abbrev pub has_bad_stripes : Line → Target → Bool
+has_bad_stripes line (targets.Linear to offset) = false
+has_bad_stripes line (targets.Striped chunk columns) = is_bad_stripe line.len chunk (length columns)
+has_bad_stripes line targets.Zero = false
+has_bad_stripes line targets.Error = false
+
+abbrev pub stripe : Description → List LoadFault
+stripe stack = line_faults Stripe (λ line. has_bad_stripes line line.target) stack
+
+-- a line that passes the end of what it names
+abbrev pub is_past : Description → DevRef → (offset len : ℕ) → Bool
+is_past stack to offset len = nat_lt (lower_len stack (lower_of stack to)) (offset + len)
+
+abbrev pub passes_end : Description → ℕ → Target → Bool
+passes_end stack len (targets.Linear to offset) = is_past stack to offset len
+passes_end stack len (targets.Striped chunk columns) = list_any (λ column. is_past stack column.to column.offset (len / length columns)) columns
+passes_end stack len targets.Zero = false
+passes_end stack len targets.Error = false
+
+abbrev pub range : Description → List LoadFault
+range stack = line_faults Range (λ line. passes_end stack line.len line.target) stack
+
+-- the checks of a load before the one for cycles, and those after it, in their order
+abbrev pub checks_before : Description → List (List LoadFault)
+checks_before stack = too_many stack ∷ too_large stack ∷ twice stack ∷ empty stack ∷ misplaced stack ∷ unknown stack ∷ []
+
+abbrev pub checks_after : Description → List (List LoadFault)
+checks_after stack = deep stack ∷ stripe stack ∷ range stack ∷ []
+
+-- a device is on a cycle that reaches itself by what devices name
+abbrev pub IsOnCycle : Description → ℕ → Type 0
+IsOnCycle stack device = Reaches (links stack) device device
+
+abbrev pub HasNoCycle : Description → Type 0
+HasNoCycle stack = (device : ℕ) → device < length stack.devices → IsOnCycle stack device → ⊥
+
+-- the fault is at the first device that is on a cycle
+pub record IsFirstCycle (stack : Description) (found : LoadFault) : Type 0 where
+  pub before : List DeviceSpec
+  pub device : DeviceSpec
+  pub after : List DeviceSpec
+  pub split : stack.devices ≡ before ++ device ∷ after
+  pub none_before : (earlier : ℕ) → earlier < length before → IsOnCycle stack earlier → ⊥
+  pub cycle : IsOnCycle stack (length before)
+  pub is : found ≡ fault Cycle device.at
+
+-- no check finds a fault
+pub record IsSound (stack : Description) : Type 0 where
+  pub before : first_fault (checks_before stack) ≡ None
+  pub acyclic : HasNoCycle stack
+  pub after : first_fault (checks_after stack) ≡ None
+
+-- the first fault of the first check that finds any
+pub data IsRefusedBy (stack : Description) (found : LoadFault) : Type 0 where
+  Early : first_fault (checks_before stack) ≡ Some found → IsRefusedBy stack found
+  OnCycle : first_fault (checks_before stack) ≡ None → IsFirstCycle stack found → IsRefusedBy stack found
+  Late : first_fault (checks_before stack) ≡ None → HasNoCycle stack → first_fault (checks_after stack) ≡ Some found → IsRefusedBy stack found

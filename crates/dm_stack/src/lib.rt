@@ -1,0 +1,19 @@
+//! Checked stacks of devices, and the line of a sector.
+//!
+//! A `Stack` exists only where no check of a load finds a fault, so nothing above asks for
+//! soundness again. Lines are found by a `Looker` alone, which counts its searches.
+#![tactic(auto)]
+
+mod found;
+mod graph;
+mod id;
+mod limits;
+mod looker;
+mod name_index;
+mod stack;
+
+pub use found::{Found, FoundColumn, FoundColumns, FoundLine, FoundTarget};
+pub use graph::MOST_DEPTH;
+pub use id::{DeviceId, DiskId, Lower};
+pub use looker::Looker;
+pub use stack::Stack;

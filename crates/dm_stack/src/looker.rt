@@ -1,0 +1,105 @@
+//! Lookers: what finds the lines of sectors.
+//!
+//! A line is found in no other way, so a bound on a looker's count is one on the work of mapping.
+//! No call hands out the stack, and a looker is not copied: its count is that of all its searches.
+
+ghost use Rattle.std.specs.Prelude.{◌≡◌, ◌<◌, ◌≤◌, ◌^◌, Some, length};
+ghost use Rattle.dm_stack.specs.Below.{HoldsSoundly, found_at};
+ghost use Rattle.dm_stack.specs.Description.{device_len, disk_len, is_ro_at};
+ghost use Rattle.dm_stack.specs.Loaded.{next_count, stack_depth};
+
+use crate::found::Found;
+use crate::id::{DeviceId, DiskId};
+use crate::stack::Stack;
+use std::marker::Model;
+
+/// Finds the lines of sectors in a stack, and counts its searches.
+#[derive(Drop)]
+pub struct Looker<'s> {
+    stack: &'s Stack,
+    searches: u64,
+}
+
+impl<'s> Model for Looker<'s> {
+    ghost use Rattle.dm_stack.specs.Loaded.{Looking};
+
+    ghost Value = { Looking };
+
+    ghost view = { λ looker. record { stack = looker.stack.now; searches = looker.searches } };
+}
+
+impl<'s> Looker<'s> {
+    /// A looker of a stack, with no search counted.
+    pub(crate) fn new(stack: &'s Stack) -> Looker<'s>
+        ensures stack { result.stack ≡ stack.now }
+        ensures searches { result.searches ≡ 0 }
+    {
+        Looker { stack, searches: 0 }
+    }
+
+    /// The line of a sector of a device, with ids for names. The search is counted.
+    ///
+    /// The id is one of the stack, and the sector is below the device's length. Cost: a walk over
+    /// the lines of the device. No memory is taken.
+    pub fn look(&mut self, device: DeviceId, sector: u64) -> Found<'s>
+        requires device { device < length self.old.stack.devices }
+        requires sector { sector < device_len self.old.stack device }
+        ensures line { found_at self.old.stack device sector ≡ Some result.now }
+        ensures holds { HoldsSoundly self.old.stack result.now sector }
+        ensures stack { self.new.stack ≡ self.old.stack }
+        ensures counted { self.new.searches ≡ next_count self.old.searches }
+    {
+        self.searches = self.searches.saturating_add(1);
+        let stack = self.stack;
+        stack.find_line(device, sector)
+    }
+
+    /// The searches so far; it stays at the greatest number once there.
+    pub fn searches(&self) -> u64
+        ensures { result ≡ self.now.searches }
+    {
+        self.searches
+    }
+
+    /// The number of devices of the stack.
+    pub fn device_count(&self) -> usize
+        ensures { result ≡ length self.now.stack.devices }
+    {
+        self.stack.device_count()
+    }
+
+    /// The length of a device of the stack in sectors, from 1 to 2^50.
+    pub fn len(&self, device: DeviceId) -> u64
+        requires { device < length self.now.stack.devices }
+        ensures len { result ≡ device_len self.now.stack device }
+        ensures some { 1 ≤ result }
+        ensures small { result ≤ 2 ^ 50 }
+    {
+        self.stack.len(device)
+    }
+
+    /// The length of a disk of the stack in sectors, from 1 to 2^50.
+    pub fn disk_len(&self, disk: DiskId) -> u64
+        requires { disk < length self.now.stack.disks }
+        ensures len { result ≡ disk_len self.now.stack disk }
+        ensures some { 1 ≤ result }
+        ensures small { result ≤ 2 ^ 50 }
+    {
+        self.stack.disk_len(disk)
+    }
+
+    /// Whether a device of the stack is read-only.
+    pub fn is_ro(&self, device: DeviceId) -> bool
+        requires { device < length self.now.stack.devices }
+        ensures { result ≡ is_ro_at self.now.stack device }
+    {
+        self.stack.is_ro(device)
+    }
+
+    /// The greatest depth of a device of the stack, 0 without devices.
+    pub fn depth(&self) -> u32
+        ensures { result ≡ stack_depth self.now.stack }
+    {
+        self.stack.depth()
+    }
+}

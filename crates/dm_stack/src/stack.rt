@@ -1,0 +1,152 @@
+//! Checked stacks.
+//!
+//! The invariant carries the soundness, so nothing above asks for it again: a value is made only
+//! through the checks of a load. Names are looked up once there; behind it everything goes by ids.
+
+ghost use Rattle.std.specs.Prelude.{◌≡◌, ◌≢◌, ◌<◌, ◌≤◌, ◌^◌, IfErr, IfOk, Some, None, length, position, slice_get, option_map};
+ghost use Rattle.dm_stack.specs.Below.{HoldsSoundly, found_at, found_lines};
+ghost use Rattle.dm_stack.specs.Description.{device_len, disk_len, is_ro_at, is_same, name_at, disk_name_at};
+ghost use Rattle.dm_stack.specs.Loaded.{stack_depth};
+ghost use Rattle.dm_stack.specs.Soundness.{IsSound};
+
+use crate::found::{Found, FoundLine, FoundTable};
+use crate::id::{DeviceId, DiskId};
+use crate::looker::Looker;
+use crate::name_index::NameIndex;
+use dm_table::{DeviceSpec, Disk};
+use std::marker::Model;
+
+/// A stack in which no check of a load finds a fault.
+#[derive(Drop)]
+pub struct Stack {
+    devices: Vec<DeviceSpec>,
+    disks: Vec<Disk>,
+    device_names: NameIndex,
+    disk_names: NameIndex,
+    tables: Vec<FoundTable>,
+    depth: u32,
+}
+
+impl Model for Stack {
+    ghost use Rattle.dm_stack.specs.Description.{Description};
+    ghost use Rattle.dm_stack.specs.Loaded.{IsLoaded};
+
+    ghost Value = { Description };
+
+    ghost view = { λ stack. record { devices = stack.devices.items; disks = stack.disks.items } };
+
+    ghost invariant = { λ stack. IsLoaded (record { devices = stack.devices.items; disks = stack.disks.items }) stack.device_names stack.disk_names stack.tables.items stack.depth };
+}
+
+impl Stack {
+    /// The device of a name.
+    pub fn device(&self, name: &str) -> Option<DeviceId>
+        ensures { result ≡ position (λ device. is_same device.name name.now) self.now.devices }
+    {
+        match self.device_names.find(name) {
+            Some(index) => Some(DeviceId::new(index)),
+            None => None,
+        }
+    }
+
+    /// The length of a device of the stack in sectors, from 1 to 2^50: the end of its last line.
+    pub fn len(&self, device: DeviceId) -> u64
+        requires { device < length self.now.devices }
+        ensures len { result ≡ device_len self.now device }
+        ensures some { 1 ≤ result }
+        ensures small { result ≤ 2 ^ 50 }
+    {
+        let lines = self.lines(device);
+        match lines.last() {
+            Some(line) => line.start + line.len,
+            None => 0,
+        }
+    }
+
+    /// The length of a disk of the stack in sectors, from 1 to 2^50.
+    pub fn disk_len(&self, disk: DiskId) -> u64
+        requires { disk < length self.now.disks }
+        ensures len { result ≡ disk_len self.now disk }
+        ensures some { 1 ≤ result }
+        ensures small { result ≤ 2 ^ 50 }
+    {
+        self.disks[disk.index()].len
+    }
+
+    /// The number of devices, at most 1,024.
+    pub fn device_count(&self) -> usize
+        ensures { result ≡ length self.now.devices }
+    {
+        self.devices.len()
+    }
+
+    /// The number of disks, at most 1,024.
+    pub fn disk_count(&self) -> usize
+        ensures { result ≡ length self.now.disks }
+    {
+        self.disks.len()
+    }
+
+    /// The greatest depth of a device, 0 without devices.
+    pub fn depth(&self) -> u32
+        ensures { result ≡ stack_depth self.now }
+    {
+        self.depth
+    }
+
+    /// Whether a device of the stack is read-only.
+    pub fn is_ro(&self, device: DeviceId) -> bool
+        requires { device < length self.now.devices }
+        ensures { result ≡ is_ro_at self.now device }
+    {
+        self.devices[device.index()].ro
+    }
+
+    /// The name of a device of the stack.
+    pub fn name(&self, device: DeviceId) -> &str
+        requires { device < length self.now.devices }
+        ensures { result.now ≡ name_at self.now device }
+    {
+        self.devices[device.index()].name.as_str()
+    }
+
+    /// The name of a disk of the stack.
+    pub fn disk_name(&self, disk: DiskId) -> &str
+        requires { disk < length self.now.disks }
+        ensures { result.now ≡ disk_name_at self.now disk }
+    {
+        self.disks[disk.index()].name.as_str()
+    }
+
+    /// A looker of this stack, with no search counted.
+    pub fn looker(&self) -> Looker<'_>
+        ensures stack { result.stack ≡ self.now }
+        ensures searches { result.searches ≡ 0 }
+    {
+        Looker::new(self)
+    }
+
+    /// The lines of a device in their order, with ids for names.
+    fn lines(&self, device: DeviceId) -> &[FoundLine]
+        requires { device < length self.now.devices }
+        ensures lines { result.now ≡ found_lines self.now device }
+        ensures sound { IsSound self.now }
+    {
+        self.tables[device.index()].as_slice()
+    }
+
+    /// The line of a sector. This is the one place where a line is found.
+    pub(crate) fn find_line(&self, device: DeviceId, sector: u64) -> Found<'_>
+        requires device { device < length self.now.devices }
+        requires sector { sector < device_len self.now device }
+        ensures line { found_at self.now device sector ≡ Some result.now }
+        ensures holds { HoldsSoundly self.now result.now sector }
+    {
+        for line in self.lines(device) {
+            if sector - line.start < line.len {
+                return line;
+            }
+        }
+        unreachable!()
+    }
+}
