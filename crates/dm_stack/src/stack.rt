@@ -3,8 +3,8 @@
 //! The invariant carries the soundness, so nothing above asks for it again: a value is made only
 //! through the checks of a load. Names are looked up once there; behind it everything goes by ids.
 
-ghost use Rattle.std.specs.Prelude.{◌≡◌, ◌≢◌, ◌<◌, ◌≤◌, ◌^◌, IfErr, IfOk, Some, None, length, position, slice_get, option_map};
-ghost use Rattle.dm_stack.specs.Below.{HoldsSoundly, found_at, found_lines};
+ghost use Rattle.std.specs.Prelude.{◌≡◌, ◌≢◌, ◌<◌, ◌≤◌, ◌^◌, IfErr, IfOk, Some, None, find, length, option_copied, position};
+ghost use Rattle.dm_stack.specs.Below.{HoldsSoundly, found_at, found_lines, has_sector};
 ghost use Rattle.dm_stack.specs.Description.{device_len, disk_len, is_ro_at, is_same, name_at, disk_name_at};
 ghost use Rattle.dm_stack.specs.Loaded.{stack_depth};
 ghost use Rattle.dm_stack.specs.Soundness.{IsSound};
@@ -56,10 +56,9 @@ impl Stack {
         ensures some { 1 ≤ result }
         ensures small { result ≤ 2 ^ 50 }
     {
-        let lines = self.lines(device);
-        match lines.last() {
+        match self.lines(device).last() {
             Some(line) => line.start + line.len,
-            None => 0,
+            None => unreachable!(),
         }
     }
 
@@ -142,11 +141,18 @@ impl Stack {
         ensures line { found_at self.now device sector ≡ Some result.now }
         ensures holds { HoldsSoundly self.now result.now sector }
     {
-        for line in self.lines(device) {
-            if sector - line.start < line.len {
-                return line;
-            }
+        match line_of(self.lines(device), sector) {
+            Some(line) => line,
+            None => unreachable!(),
         }
-        unreachable!()
     }
+}
+
+/// The first line that holds a sector.
+fn line_of(lines: &[FoundLine], sector: u64) -> Option<&FoundLine>
+    ensures { option_copied result ≡ find (has_sector sector) lines.now }
+{
+    lines
+        .iter()
+        .find(|line| line.start <= sector && sector - line.start < line.len)
 }
