@@ -4,6 +4,7 @@
 //! soundness again. Lines are found by a `Looker` alone, which counts its searches.
 #![tactic(auto)]
 
+mod fault;
 mod found;
 mod graph;
 mod id;
