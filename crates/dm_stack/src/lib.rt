@@ -8,6 +8,7 @@ mod fault;
 mod found;
 mod graph;
 mod id;
+mod layout;
 mod limits;
 mod looker;
 mod name_index;
