@@ -1,9 +1,10 @@
 -- What a sound stack says of its devices, of its disks, and of the line of a sector.
 use Rattle.std.proofs.Common.{◌≡◌, ℕ, zero, suc, ◌+◌, ◌-◌, ◌*◌, ◌^◌, ◌<◌, ◌≤◌, Bool, true, false, cond, eqb, nat_lt, nat_le, List, [], ◌∷◌, ◌++◌, length, map, Option, Some, None, refl, sym, ap, subst, ◌∙◌, arith}
 use Rattle.std.specs.Prelude.{◌/◌, ◌%◌, ◌==◌, ◌||◌, ◌&&◌, not, find, position, slice_get, option_map, is_none}
-use Rattle.std.specs.List.{AllByRecursion, flat_map, list_any}
+use Rattle.std.specs.List.{AllByRecursion, flat_map, list_any, position_or_len}
 use Rattle.std.proofs.lemmas.Bool.{and_parts, or_parts, leb-true, le-leb, ltb-true, ltb-false, lt-ltb, le-ltb, eqb-true, not-false}
 use Rattle.std.proofs.lemmas.List.{length-map}
+use Rattle.std.proofs.lemmas.List.Elements.{All-from_recursion}
 use Rattle.std.proofs.Math.Nat.{div-add-mod, mul_comm}
 use Rattle.dm_table.specs.declared.table.Column.{Column}
 use Rattle.dm_table.specs.declared.table.Target.{Target}
@@ -16,7 +17,7 @@ use Rattle.dm_stack.specs.declared.found.FoundColumn.{FoundColumn}
 use Rattle.dm_stack.specs.declared.found.FoundLine.{FoundLine}
 use Rattle.dm_stack.specs.Description.{Description, lower_of, lower_len, lines_at, lines_or_none, end_of, device_len, disk_len, len_or_none}
 use Rattle.dm_stack.specs.Below.{holds, line_of, found_line, found_lines, found_columns, found_target, found_at, has_sector, LiesIn, AreStripes, IsTargetSound, HoldsSoundly}
-use Rattle.dm_stack.specs.Soundness.{fault, faults_by, all_lines, line_faults, is_large, is_far, too_large, without_lines, empty_in, empty, misplaced_from, misplaced, is_bad_stripe, has_bad_stripes, stripe, is_past, passes_end, range, IsSound}
+use Rattle.dm_stack.specs.Soundness.{fault, faults_by, all_lines, line_faults, is_large, is_far, too_large, without_lines, empty_in, empty, misplaced_from, misplaced, is_bad_stripe, has_bad_stripes, stripe, is_past, passes_end, range, HaveSmallEnds, IsSound}
 use Rattle.dm_stack.proofs.Passes.{append_none, all_parts, faults_by_none, PassesBefore, PassesAfter, passes_before, passes_after}
 
 -- A search in a list, and in what its elements become
@@ -30,9 +31,12 @@ find-map f test [] = refl
 find-map {Y = Y} f test (x ∷ xs) =
     ap (λ (later : Option Y). cond (test (f x)) (Some (f x)) later) (find-map f test xs) ∙ cond_map f (test (f x)) x (find (λ y. test (f y)) xs)
 
+pub position_or_len-map : {X Y : Type 0} (f : X → Y) (test : Y → Bool) (xs : List X) → position_or_len test (map f xs) ≡ position_or_len (λ x. test (f x)) xs
+position_or_len-map f test [] = refl
+position_or_len-map f test (x ∷ xs) = ap (λ (n : ℕ). cond (not (test (f x))) (1 + n) 0) (position_or_len-map f test xs)
+
 pub position-map : {X Y : Type 0} (f : X → Y) (test : Y → Bool) (xs : List X) → position test (map f xs) ≡ position (λ x. test (f x)) xs
-position-map f test [] = refl
-position-map f test (x ∷ xs) = rw (position-map f test xs) refl
+position-map f test xs = rw (position_or_len-map f test xs, length-map xs f) refl
 
 cond_found : {X : Type 0} (P : X → Type 0) (test : X → Bool) (first x : X) (later : Option X) (b : Bool) → test first ≡ b → P first → (later ≡ Some x → (test x ≡ true) × P x) → cond b (Some first) later ≡ Some x → (test x ≡ true) × P x
 cond_found {X = X} P test first x later true is here more e = let same : first ≡ x = cc in subst (λ (z : X). (test z ≡ true) × P z) same (is, here)
@@ -262,3 +266,10 @@ pub disk_small : (stack : Description) (id : ℕ) (disk : Disk) → IsSound stac
 disk_small stack id disk sound at =
     let p = passes_before stack sound.before in
     ltb-false _ _ (got (λ d. nat_lt (2 ^ 50) d.len ≡ false) stack.disks id disk (faults_by_none Limit (λ d. d.at) (λ d. nat_lt (2 ^ 50) d.len) stack.disks (append_none _ _ p.small).1) at)
+
+pub small_ends : (lines : List Line) → AllByRecursion (λ line. is_large line ≡ false) lines → HaveSmallEnds lines
+small_ends lines small = All-from_recursion (λ line. line.start + line.len ≤ 2 ^ 50) lines (ends lines small)
+  where
+    ends : (lines : List Line) → AllByRecursion (λ line. is_large line ≡ false) lines → AllByRecursion (λ line. line.start + line.len ≤ 2 ^ 50) lines
+    ends [] small = tt
+    ends (line ∷ lines) small = (line_small line small.0, ends lines small.1)

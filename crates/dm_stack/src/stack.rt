@@ -3,7 +3,7 @@
 //! The invariant carries the soundness, so nothing above asks for it again: a value is made only
 //! through the checks of a load. Names are looked up once there; behind it everything goes by ids.
 
-ghost use Rattle.std.specs.Prelude.{◌≡◌, ◌≢◌, ◌<◌, ◌≤◌, ◌^◌, IfErr, IfOk, Some, None, find, length, option_copied, position};
+ghost use Rattle.std.specs.Prelude.{◌≡◌, ◌≢◌, ◌<◌, ◌≤◌, ◌^◌, IfErr, IfOk, Some, None, find, length, option_copied, position, slice_get};
 ghost use Rattle.dm_stack.specs.Below.{HoldsSoundly, found_at, found_lines, has_sector};
 ghost use Rattle.dm_stack.specs.Description.{device_len, disk_len, is_ro_at, is_same, name_at, disk_name_at};
 ghost use Rattle.dm_stack.specs.Loaded.{stack_depth};
@@ -11,6 +11,7 @@ ghost use Rattle.dm_stack.specs.Soundness.{IsSound};
 
 use crate::found::{Found, FoundLine, FoundTable};
 use crate::id::{DeviceId, DiskId};
+use crate::layout::end_of;
 use crate::looker::Looker;
 use crate::name_index::NameIndex;
 use dm_table::{DeviceSpec, Disk};
@@ -56,10 +57,7 @@ impl Stack {
         ensures some { 1 ≤ result }
         ensures small { result ≤ 2 ^ 50 }
     {
-        match self.lines(device).last() {
-            Some(line) => line.start + line.len,
-            None => unreachable!(),
-        }
+        end_of(self.spec(device).lines.as_slice())
     }
 
     /// The length of a disk of the stack in sectors, from 1 to 2^50.
@@ -123,6 +121,15 @@ impl Stack {
         ensures searches { result.searches ≡ 0 }
     {
         Looker::new(self)
+    }
+
+    /// What describes a device.
+    fn spec(&self, device: DeviceId) -> &DeviceSpec
+        requires { device < length self.now.devices }
+        ensures spec { slice_get self.now.devices device ≡ Some result.now }
+        ensures sound { IsSound self.now }
+    {
+        &self.devices[device.index()]
     }
 
     /// The lines of a device in their order, with ids for names.
