@@ -28,7 +28,8 @@ use std::alloc::{AllocError, Global};
 
 /// The devices of table text, in its order. Neighbouring lines of one name are one device, whose
 /// place is its first line; a line may end with one space; all devices are writable. Starts,
-/// lengths and offsets are sectors of 512 bytes, below 10^19. The form is that of dmsetup(8).
+/// lengths, chunks and offsets are sectors of 512 bytes, below 10^19. The form is that of
+/// dmsetup(8). A striped line counts its columns, and there may be none.
 ///
 /// Else the fault of the first of these checks that finds anything, at its first line: `NotText`,
 /// a byte other than 0x20 to 0x7E; `Syntax`, fewer than four fields with single spaces between
