@@ -1,0 +1,4 @@
+pub mod PathLemmas
+pub mod DepthLemmas
+pub mod RoundLemmas
+pub mod SearchLemmas

@@ -1,0 +1,74 @@
+-- Devices that name one another, by their indexes: paths, what is reached, depths.
+use Rattle.std.specs.Prelude.{◌≡◌, ◌⊎◌, ℕ, zero, suc, ◌+◌, ◌<◌, max, Bool, true, false, not, List, [], ◌∷◌, length, map}
+use Rattle.std.specs.List.{Contains, count_by, range_with_len, slice_index_or}
+use Rattle.std.specs.Global.{Vec}
+
+-- Which devices name which
+
+-- what each device names, seen as lists
+abbrev pub links_in : List (Vec ℕ) → List (List ℕ)
+links_in links = map (λ named. named.items) links
+
+-- what a device names: the list at its index, nothing behind the last
+abbrev pub links_of : List (List ℕ) → ℕ → List ℕ
+links_of g d = slice_index_or g d []
+
+-- a device names another
+abbrev pub Names : List (List ℕ) → ℕ → ℕ → Type 0
+Names g d e = Contains (links_of g d) e
+
+-- every index that is named is that of a device
+abbrev pub IsClosed : List (List ℕ) → Type 0
+IsClosed g = (d e : ℕ) → Names g d e → e < length g
+
+-- What is reached
+
+-- a path from d through these devices to e, each naming the next
+abbrev pub IsPath : List (List ℕ) → ℕ → List ℕ → ℕ → Type 0
+IsPath g d [] e = Names g d e
+IsPath g d (m ∷ ms) e = Names g d m × IsPath g m ms e
+
+-- some path leads from d to e
+pub record Reaches (g : List (List ℕ)) (d e : ℕ) : Type 0 where
+  pub between : List ℕ
+  pub path : IsPath g d between e
+
+-- Depths
+
+-- the greatest of these, 0 of none
+abbrev pub greatest : List ℕ → ℕ
+greatest [] = 0
+greatest (x ∷ xs) = max x (greatest xs)
+
+-- 1 plus the greatest depth of what is named, followed through at most n levels; 0 where no level is left
+unfoldable pub depth_to : List (List ℕ) → ℕ → ℕ → ℕ
+depth_to g zero d = zero
+depth_to g (suc n) d = suc (greatest (map (λ e. depth_to g n e) (links_of g d)))
+
+-- the depth of each device, by its index
+abbrev pub depths_to : List (List ℕ) → ℕ → List ℕ
+depths_to g n = map (λ d. depth_to g n d) (range_with_len 0 (length g))
+
+-- 1 plus the greatest of these numbers at the named indexes
+abbrev pub depth_over : List ℕ → List ℕ → ℕ
+depth_over depths named = suc (greatest (map (λ e. slice_index_or depths e 0) named))
+
+-- A search of what is reached
+
+-- a device is marked as visited
+abbrev pub IsVisited : List Bool → ℕ → Type 0
+IsVisited visited d = slice_index_or visited d false ≡ true
+
+-- how many devices are not visited
+abbrev pub unvisited : List Bool → ℕ
+unvisited visited = count_by not visited
+
+-- what a visit of these devices makes of what was visited and what waits to be looked at
+pub record Visits (named : List ℕ) (visited : List Bool) (waiting : List ℕ) (visited' : List Bool) (waiting' : List ℕ) : Type 0 where
+  pub kept : (e : ℕ) → IsVisited visited e → IsVisited visited' e
+  pub marked : (e : ℕ) → Contains named e → IsVisited visited' e
+  pub only : (e : ℕ) → IsVisited visited' e → IsVisited visited e ⊎ Contains named e
+  pub waiting_kept : (e : ℕ) → Contains waiting e → Contains waiting' e
+  pub waiting_only : (e : ℕ) → Contains waiting' e → Contains waiting e ⊎ IsVisited visited' e
+  pub opened : (e : ℕ) → IsVisited visited' e → IsVisited visited e ⊎ Contains waiting' e
+  pub left : unvisited visited' + length waiting' ≡ unvisited visited + length waiting
