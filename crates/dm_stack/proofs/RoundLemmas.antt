@@ -84,6 +84,12 @@ within_depths links n before passed closed is_before is_passed d e named = omega
 pub bounded_depths : (g : List (List ℕ)) (n most : ℕ) (before passed : List ℕ) → n ≤ most → before ≡ depths_to g n → passed ≡ before → All (λ depth. depth ≤ most) passed
 bounded_depths g n most before passed le is_before is_passed = All-same (λ depth. depth ≤ most) passed (depths_to g n) (is_passed ∙ is_before) (depths_to-bounded g n most le)
 
+-- as many depths as devices
+pub depths-length : (links : List (Vec ℕ Global)) (n : ℕ) (depths : List ℕ) → depths ≡ depths_to (links_in links) n → length depths ≡ length links
+depths-length links n depths is = ap length is ∙ depths_to-length (links_in links) n ∙ length-map links (λ v. v.items)
+
 -- a depth that is below the levels that it was followed through is that of a device that does not reach itself
-pub shallow_at : (g : List (List ℕ)) (n d : ℕ) (depths : List ℕ) → depths ≡ depths_to g n → d < length g → get_or depths d 0 < n → Reaches g d d → ⊥
-shallow_at g n d depths is below shallow = depth_to-no_cycle g n d (omega (arith, ap (λ (xs : List ℕ). get_or xs d 0) is, depths_to-at g n d below))
+pub shallow_at : (links : List (Vec ℕ Global)) (n d : ℕ) (depths : List ℕ) → depths ≡ depths_to (links_in links) n → d < length depths → get_or depths d 0 < n → Reaches (links_in links) d d → ⊥
+shallow_at links n d depths is below shallow =
+    let inside : d < length (links_in links) = omega (arith, ap (λ (xs : List ℕ). length xs) is, depths_to-length (links_in links) n) in
+    depth_to-no_cycle (links_in links) n d (omega (arith, ap (λ (xs : List ℕ). get_or xs d 0) is, depths_to-at (links_in links) n d inside))

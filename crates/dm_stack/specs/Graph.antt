@@ -1,5 +1,5 @@
 -- Devices that name one another, by their indexes: paths, what is reached, depths.
-use Rattle.std.specs.Prelude.{◌≡◌, ◌⊎◌, ℕ, zero, suc, ◌+◌, ◌<◌, max, Bool, true, false, not, List, [], ◌∷◌, length, map}
+use Rattle.std.specs.Prelude.{◌≡◌, ◌⊎◌, ◌↔◌, ℕ, zero, suc, ◌+◌, ◌<◌, max, Bool, true, false, not, List, [], ◌∷◌, length, map}
 use Rattle.std.specs.List.{Contains, count_by, range_with_len, slice_index_or}
 use Rattle.std.specs.Global.{Vec}
 
@@ -63,12 +63,10 @@ IsVisited visited d = slice_index_or visited d false ≡ true
 abbrev pub unvisited : List Bool → ℕ
 unvisited visited = count_by not visited
 
--- what a visit of these devices makes of what was visited and what waits to be looked at
-pub record Visits (named : List ℕ) (visited : List Bool) (waiting : List ℕ) (visited' : List Bool) (waiting' : List ℕ) : Type 0 where
-  pub kept : (e : ℕ) → IsVisited visited e → IsVisited visited' e
-  pub marked : (e : ℕ) → Contains named e → IsVisited visited' e
-  pub only : (e : ℕ) → IsVisited visited' e → IsVisited visited e ⊎ Contains named e
-  pub waiting_kept : (e : ℕ) → Contains waiting e → Contains waiting' e
-  pub waiting_only : (e : ℕ) → Contains waiting' e → Contains waiting e ⊎ IsVisited visited' e
-  pub opened : (e : ℕ) → IsVisited visited' e → IsVisited visited e ⊎ Contains waiting' e
-  pub left : unvisited visited' + length waiting' ≡ unvisited visited + length waiting
+-- what a visit of these devices makes of what was visited before and of what waited to be looked at
+pub record Visits (named : List ℕ) (before after : List Bool) (waited waits : List ℕ) : Type 0 where
+  pub marks : (e : ℕ) → IsVisited after e ↔ (IsVisited before e ⊎ Contains named e)
+  pub still : (e : ℕ) → Contains waited e → Contains waits e
+  pub fresh : (e : ℕ) → IsVisited after e → IsVisited before e ⊎ Contains waits e
+  pub only : (e : ℕ) → Contains waits e → Contains waited e ⊎ IsVisited after e
+  pub left : unvisited after + length waits ≡ unvisited before + length waited

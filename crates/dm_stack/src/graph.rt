@@ -2,11 +2,11 @@
 //!
 //! Depths come first, by rounds that are linear in the links, since only a device that is too deep
 //! can reach itself; the search of what a device reaches is then asked of few devices or none.
-//! Keep `MOST_DEPTH` in step with the rounds of `depths`, which end one level behind it.
+//! The clauses write the bound as 33, one level more than `MOST_DEPTH`: change both together.
 
-ghost use Rattle.std.specs.Prelude.{◌≡◌, ◌≤◌, ◌<◌, ℕ, length, map, IfOk, IfSome, IfNone, OnOk, IsTrue, false, vec_len};
+ghost use Rattle.std.specs.Prelude.{◌≡◌, ◌≤◌, ◌<◌, ℕ, length, map, IfOk, IfSome, IfNone, OnOk, IsTrue, false};
 ghost use Rattle.std.specs.List.{All, Contains};
-ghost use Rattle.dm_stack.specs.Graph.{IsClosed, Names, Reaches, Visits, depth_over, depth_to, depths_to, links_in, links_of};
+ghost use Rattle.dm_stack.specs.Graph.{IsClosed, Names, Reaches, Visits, depth_over, depths_to, links_in};
 
 use std::alloc::{AllocError, Global};
 
@@ -36,11 +36,7 @@ pub(crate) fn depths(alloc: Global, links: &[Vec<usize>]) -> Result<Vec<u32>, Al
 }
 
 /// The depths through one level more than these.
-fn next_depths(
-    alloc: Global,
-    links: &[Vec<usize>],
-    depths: &[u32],
-) -> Result<Vec<u32>, AllocError>
+fn next_depths(alloc: Global, links: &[Vec<usize>], depths: &[u32]) -> Result<Vec<u32>, AllocError>
     requires closed { (d e : ℕ) → Names (links_in links.now) d e → e < length depths.now }
     requires bounded { All (λ depth. depth ≤ 33) depths.now }
     ensures { IfOk result (λ next. next.items ≡ map (depth_over depths.now) (links_in links.now)) }
@@ -68,7 +64,7 @@ fn depth_over(named: &[usize], depths: &[u32]) -> u32
 ///
 /// Fails only for want of memory. Cost: linear in the links, with memory for a mark a device and
 /// for the devices that are still to be looked at.
-fn reaches_itself(
+pub(crate) fn reaches_itself(
     alloc: Global,
     links: &[Vec<usize>],
     device: usize,
@@ -90,7 +86,7 @@ fn reaches_itself(
 /// Visits the named devices; those that were not visited before wait to be looked at.
 fn visit(named: &[usize], visited: &mut [bool], waiting: &mut Vec<usize>) -> Result<(), AllocError>
     requires { (e : ℕ) → Contains named.now e → e < length visited.old }
-    ensures { OnOk result (Visits named.now visited.old waiting.old.items visited.new waiting.new.items) }
+    ensures { OnOk result (Visits named.now visited.old visited.new waiting.old.items waiting.new.items) }
 {
     for device in named {
         if !visited[*device] {

@@ -1,3 +1,4 @@
+-- What a device names has its depth among those that are at hand.
 use Rattle.dm_stack.proofs.RoundLemmas.{named_within}
 use Rattle.dm_stack.proofs.graph.next_depths.Goals as goal
 
