@@ -1,3 +1,7 @@
+pub mod DepthLemmas
 pub mod FirstFaults
 pub mod Passes
+pub mod PathLemmas
+pub mod RoundLemmas
+pub mod SearchLemmas
 pub mod SoundLines
