@@ -3,18 +3,19 @@ use Rattle.std.proofs.Common.{◌≡◌, ◌≢◌, ℕ, ◌+◌, ◌≤◌, Lis
 use Rattle.dm_table.specs.declared.load_fault.LoadKind.{LoadKind}
 use Rattle.dm_table.specs.declared.load_fault.LoadKind.TheVariants as kinds
 use Rattle.dm_table.specs.DeviceIo.{Delivery}
-use Rattle.dmremap.specs.declared.ending.Ending.{Ending}
-use Rattle.dmremap.specs.declared.ending.Ending.TheVariants as endings
+use Rattle.dm_stream.specs.declared.ending.Ending.{Ending}
+use Rattle.dm_stream.specs.declared.ending.Ending.TheVariants as endings
 use Rattle.dmremap.specs.declared.map_whole.Fate.{Fate}
 use Rattle.dmremap.specs.declared.map_whole.Fate.TheVariants.{Refused, Ran}
 use Rattle.dm_table.specs.declared.place.Part.TheVariants.{Source, Disks}
 use Rattle.dmremap.specs.Load.{RefusedBy, SoundAs, PartsGive}
-use Rattle.dmremap.specs.Loaded.{Description}
+use Rattle.dm_stack.specs.Description.{Description}
 use Rattle.dmremap.specs.Parts.{part_read}
 use Rattle.dmremap.specs.Fate.{fate_message, fate_status, IsFated, IsFlushed, OnRefused}
-use Rattle.dmremap.specs.Messages.{load_message, load_status, ending_message, ending_status, memory_message, write_message}
-use Rattle.dmremap.specs.Outcome.{Outcome, run_outcome}
-use Rattle.dmremap.specs.Run.{IsServed}
+use Rattle.dm_stream.specs.Messages.{ending_message, write_message}
+use Rattle.dm_stream.specs.Outcome.{Outcome, run_outcome}
+use Rattle.dm_stream.specs.Run.{IsServed}
+use Rattle.dmremap.specs.Messages.{load_message, load_status, ending_status, memory_message}
 use Rattle.dmremap.specs.Whole.{Whole, GiveWhole, whole_of, ended_if}
 
 -- a load is refused for want of memory, or with status 1
@@ -45,7 +46,7 @@ whole_from source disks requests output (Refused fault) fated other none =
     let status : ℕ → Option Whole = λ n. Some (record { output = output; message = load_message fault; status = n }) in
     record { load = RefusedBy fault; loaded = fated.1 kind.0; is = ap text (sym fated.0) ∙ ap status kind.1 }
 whole_from source disks requests output (Ran ending) fated other none =
-    let outcome = run_outcome fated.0.devices requests in
+    let outcome = run_outcome fated.0 requests in
     let served = served_is outcome output ending other fated.2 in
     record { load = SoundAs fated.0; loaded = fated.1; is = ap (ended_if outcome.output) served.1 ∙ ap (λ (out : List ℕ). ended_if out (Some ending)) served.0 }
 

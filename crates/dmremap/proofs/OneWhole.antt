@@ -1,5 +1,5 @@
 -- What is delivered gives one run: the texts describe one description at the most, and none where a check of the texts finds a fault.
-use Rattle.std.proofs.Common.{◌≡◌, ◌⊎◌, inl, inr, ℕ, List, [], ◌∷◌, ◌++◌, Option, Some, None, sym, ap, ◌∙◌}
+use Rattle.std.proofs.Common.{◌≡◌, ◌⊎◌, inl, inr, ℕ, List, [], ◌∷◌, ◌++◌, Option, Some, None, sym, ap, subst, ◌∙◌}
 use Rattle.dm_table.specs.declared.table.DeviceSpec.{DeviceSpec}
 use Rattle.dm_table.specs.declared.disk.Disk.{Disk}
 use Rattle.dm_table.specs.declared.place.Part.TheVariants.{Source, Disks}
@@ -12,8 +12,9 @@ use Rattle.dm_table.proofs.FaultLemmas.{first_or-none}
 use Rattle.dm_table.proofs.TableDescribed.{again, one_description}
 use Rattle.dm_table.proofs.DiskLemmas.{read_disks-described, read_disks-ok, DescribesDisks-unique}
 use Rattle.dmremap.specs.Parts.{PartRead, TextOf, Refuses, Unread, part_read}
-use Rattle.dmremap.specs.Soundness.{load_checks}
-use Rattle.dmremap.specs.Loaded.{Description}
+use Rattle.dm_stack.specs.Description.{Description}
+use Rattle.dm_stack.specs.Soundness.{IsSound, IsRefusedBy}
+use Rattle.dm_stack.proofs.OneFault.{one_refusal, sound_or_refused}
 use Rattle.dmremap.specs.Load.{Load, RefusedBy, SoundAs, Describes, GivesFault, TextsGive, PartsGive}
 use Rattle.dmremap.specs.Whole.{Whole, whole_of, GiveWhole}
 
@@ -42,24 +43,20 @@ no_fault_of_texts source list description is =
 
 -- What they give
 
--- what the checks of a description find first
-abbrev found_in : Description → Option LoadFault
-found_in description = first_fault (load_checks description.devices description.disks)
-
--- two descriptions of the same texts have the same first fault, or none
-same_found : (source list : List ℕ) (a b : Description) → Describes source list a → Describes source list b → found_in a ≡ found_in b
-same_found source list a b is_a is_b = ap found_in (one_description_of source list a b is_a is_b)
-
 one_fault : (source list : List ℕ) (f g : LoadFault) → GivesFault source list f → GivesFault source list g → f ≡ g
 one_fault source list f g (inl a) (inl b) = cc
 one_fault source list f g (inl a) (inr b) = let none = no_fault_of_texts source list b.0 b.1 in absurd cc
 one_fault source list f g (inr a) (inl b) = let none = no_fault_of_texts source list a.0 a.1 in absurd cc
-one_fault source list f g (inr a) (inr b) = let same = same_found source list a.0 b.0 a.1 b.1 in cc (a.2, b.2)
+one_fault source list f g (inr a) (inr b) =
+    let same = one_description_of source list a.0 b.0 a.1 b.1 in
+    one_refusal b.0 f g (subst (λ (description : Description). IsRefusedBy description f) same a.2) b.2
 
 -- texts that describe what is sound give no fault
-no_fault : (source list : List ℕ) (f : LoadFault) (description : Description) → GivesFault source list f → Describes source list description → found_in description ≡ None → ⊥
+no_fault : (source list : List ℕ) (f : LoadFault) (description : Description) → GivesFault source list f → Describes source list description → IsSound description → ⊥
 no_fault source list f description (inl a) is sound = let none = no_fault_of_texts source list description is in cc
-no_fault source list f description (inr a) is sound = let same = same_found source list a.0 description a.1 is in cc a.2
+no_fault source list f description (inr a) is sound =
+    let same = one_description_of source list a.0 description a.1 is in
+    sound_or_refused description f sound (subst (λ (other : Description). IsRefusedBy other f) same a.2)
 
 one_of_texts : (source list : List ℕ) (a b : Load) → TextsGive source list a → TextsGive source list b → a ≡ b
 one_of_texts source list (RefusedBy f) (RefusedBy g) is_a is_b = ap RefusedBy (one_fault source list f g is_a is_b)

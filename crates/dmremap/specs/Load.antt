@@ -1,12 +1,12 @@
 -- What a load gives: a sound description, or the first fault of the first check that finds any.
-use Rattle.std.specs.Prelude.{◌≡◌, ◌⊎◌, ℕ, List, ◌++◌, None, Some}
+use Rattle.std.specs.Prelude.{◌≡◌, ◌⊎◌, ℕ, List, ◌++◌, Some}
 use Rattle.dm_table.specs.declared.load_fault.LoadFault.{LoadFault}
 use Rattle.dm_table.specs.LoadFault.{first_fault}
 use Rattle.dm_table.specs.TableText.{DescribesTable, table_checks}
 use Rattle.dm_table.specs.DiskList.{DescribesDisks, disk_checks}
 use Rattle.dmremap.specs.Parts.{PartRead, TextOf, Refuses, Unread}
-use Rattle.dmremap.specs.Soundness.{load_checks}
-use Rattle.dmremap.specs.Loaded.{Description}
+use Rattle.dm_stack.specs.Description.{Description}
+use Rattle.dm_stack.specs.Soundness.{IsSound, IsRefusedBy}
 
 -- what a load gives
 pub data Load : Type 0 where
@@ -22,13 +22,13 @@ pub record Describes (source list : List ℕ) (description : Description) : Type
 abbrev pub GivesFault : List ℕ → List ℕ → LoadFault → Type 0
 GivesFault source list fault =
     (first_fault (table_checks source ++ disk_checks list) ≡ Some fault)
-    ⊎ ((description : Description) × Describes source list description × (first_fault (load_checks description.devices description.disks) ≡ Some fault))
+    ⊎ ((description : Description) × Describes source list description × IsRefusedBy description fault)
 
 -- what the two texts give
 abbrev pub TextsGive : List ℕ → List ℕ → Load → Type 0
 TextsGive source list (RefusedBy fault) = GivesFault source list fault
 TextsGive source list (SoundAs description) =
-    Describes source list description × (first_fault (load_checks description.devices description.disks) ≡ None)
+    Describes source list description × IsSound description
 
 -- what the two parts give: one that was not read is refused before any text is looked into
 abbrev pub PartsGive : PartRead → PartRead → Load → Type 0

@@ -1,15 +1,12 @@
--- The messages, and the exit status that goes with each.
+-- The messages of a refused load, and the exit statuses.
 use Rattle.std.specs.Prelude.{◌≡◌, ℕ, List, [], ◌++◌, codes, decimal}
 use Rattle.dm_table.specs.declared.place.Part.{Part}
 use Rattle.dm_table.specs.declared.place.Part.TheVariants.{Source, Disks}
 use Rattle.dm_table.specs.declared.load_fault.LoadKind.{LoadKind}
 use Rattle.dm_table.specs.declared.load_fault.LoadKind.TheVariants as kinds
 use Rattle.dm_table.specs.declared.load_fault.LoadFault.{LoadFault}
-use Rattle.dmremap.specs.WriteAll.{IsBeginning}
-use Rattle.dmremap.specs.declared.ending.Ending.{Ending}
-use Rattle.dmremap.specs.declared.ending.Ending.TheVariants as endings
-use Rattle.dmremap.specs.declared.ending.RequestWord.{RequestWord}
-use Rattle.dmremap.specs.declared.ending.RequestWord.TheVariants as words
+use Rattle.dm_stream.specs.declared.ending.Ending.{Ending}
+use Rattle.dm_stream.specs.declared.ending.Ending.TheVariants as endings
 
 -- the word of a part
 abbrev pub part_word : Part → List ℕ
@@ -61,33 +58,6 @@ kind_message part kind number = place_message part kind number
 abbrev pub load_message : LoadFault → List ℕ
 load_message fault = kind_message fault.at.part fault.kind fault.at.number
 
--- the word of a bad request
-abbrev pub request_word : RequestWord → List ℕ
-request_word words.Long = codes "long"
-request_word words.Unended = codes "unended"
-request_word words.Many = codes "many"
-request_word words.Form = codes "form"
-request_word words.Number = codes "number"
-request_word words.Length = codes "length"
-request_word words.Unknown = codes "unknown"
-
--- the message of a bad request
-abbrev pub request_message : ℕ → RequestWord → List ℕ
-request_message number word = codes "dmremap: request " ++ decimal number ++ codes ": " ++ request_word word ++ codes "\n"
-
-abbrev pub read_message : List ℕ
-read_message = codes "dmremap: requests: read\n"
-
-abbrev pub write_message : List ℕ
-write_message = codes "dmremap: output: write\n"
-
--- the message of an ending: none where all requests were answered
-abbrev pub ending_message : Ending → List ℕ
-ending_message endings.Done = []
-ending_message (endings.BadRequest number word) = request_message number word
-ending_message endings.ReadFault = read_message
-ending_message endings.WriteFault = write_message
-
 -- the exit status of an ending
 abbrev pub ending_status : Ending → ℕ
 ending_status endings.Done = 0
@@ -99,8 +69,3 @@ ending_status endings.WriteFault = 5
 abbrev pub load_status : LoadKind → ℕ
 load_status kinds.Memory = 6
 load_status kind = 1
-
--- the message was written whole, or a beginning of it where its stream failed
-pub record IsTold (message written : List ℕ) (faults_old faults_new : ℕ) : Type 0 where
-  pub beginning : IsBeginning message written
-  pub whole : faults_new ≡ faults_old → written ≡ message

@@ -2,11 +2,12 @@
 use Rattle.std.specs.Prelude.{◌≡◌, ℕ, List, [], Option, None, Some}
 use Rattle.dm_table.specs.declared.place.Part.TheVariants.{Source, Disks}
 use Rattle.dm_table.specs.DeviceIo.{Delivery}
-use Rattle.dmremap.specs.declared.ending.Ending.{Ending}
+use Rattle.dm_stream.specs.declared.ending.Ending.{Ending}
 use Rattle.dmremap.specs.Parts.{part_read}
 use Rattle.dmremap.specs.Load.{Load, RefusedBy, SoundAs, PartsGive}
-use Rattle.dmremap.specs.Outcome.{Outcome, run_outcome}
-use Rattle.dmremap.specs.Messages.{load_message, ending_message, ending_status}
+use Rattle.dm_stream.specs.Outcome.{Outcome, run_outcome}
+use Rattle.dm_stream.specs.Messages.{ending_message}
+use Rattle.dmremap.specs.Messages.{load_message, ending_status}
 
 -- what a run gives
 pub record Whole : Type 0 where
@@ -27,7 +28,7 @@ ended_if output None = None
 abbrev pub whole_of : Load → Delivery → Option Whole
 whole_of (RefusedBy fault) requests = Some (record { output = []; message = load_message fault; status = 1 })
 whole_of (SoundAs description) requests =
-    let outcome = run_outcome description.devices requests in ended_if outcome.output outcome.ending
+    let outcome = run_outcome description requests in ended_if outcome.output outcome.ending
 
 -- the deliveries of the source, of the disk list and of the requests give this run
 pub record GiveWhole (source disks requests : Delivery) (whole : Whole) : Type 0 where

@@ -11,8 +11,8 @@ ghost use Rattle.dm_table.specs.declared.load_fault.LoadKind.TheVariants.{Memory
 ghost use Rattle.dmremap.specs.Parts.{part_read, delivery_if, TextOf, Refuses};
 ghost use Rattle.dmremap.specs.Load.{PartsGive, TextsGive, RefusedBy, SoundAs};
 
-use crate::loaded::Loaded;
 use crate::source::read_part;
+use dm_stack::Stack;
 use dm_table::{Input, LoadFault, Part, parse_disks, parse_table};
 use std::alloc::Global;
 
@@ -23,11 +23,11 @@ pub(crate) fn load<S: Input, D: Input>(
     alloc: Global,
     source: &mut S,
     disks: &mut Option<D>,
-) -> Result<Loaded, LoadFault>
+) -> Result<Stack, LoadFault>
     requires { IsSome disks.old }
-    ensures sound { IfOk result (λ loaded. PartsGive
+    ensures sound { IfOk result (λ stack. PartsGive
         (part_read Source (delivery S.handed S.faults S.ends source.old source.new))
-        (part_read Disks (delivery_if D.handed D.faults D.ends disks.old disks.new)) (SoundAs loaded)) }
+        (part_read Disks (delivery_if D.handed D.faults D.ends disks.old disks.new)) (SoundAs stack)) }
     ensures refused { IfErr result (λ fault. fault.kind ≢ Memory → PartsGive
         (part_read Source (delivery S.handed S.faults S.ends source.old source.new))
         (part_read Disks (delivery_if D.handed D.faults D.ends disks.old disks.new)) (RefusedBy fault)) }
@@ -50,11 +50,11 @@ fn read_disks<D: Input>(alloc: Global, disks: &mut Option<D>) -> Result<Vec<u8>,
 }
 
 /// What two texts give.
-fn load_texts(alloc: Global, source: &[u8], list: &[u8]) -> Result<Loaded, LoadFault>
-    ensures sound { IfOk result (λ loaded. TextsGive source.now list.now (SoundAs loaded)) }
+fn load_texts(alloc: Global, source: &[u8], list: &[u8]) -> Result<Stack, LoadFault>
+    ensures sound { IfOk result (λ stack. TextsGive source.now list.now (SoundAs stack)) }
     ensures refused { IfErr result (λ fault. fault.kind ≢ Memory → TextsGive source.now list.now (RefusedBy fault)) }
 {
     let devices = parse_table(alloc, source)?;
     let disks = parse_disks(alloc, list)?;
-    Loaded::new(alloc, devices, disks)
+    Stack::load(alloc, devices, disks)
 }

@@ -7,26 +7,12 @@
 ghost use Rattle.std.specs.Prelude.{◌≡◌, false, is_some};
 ghost use Rattle.dmremap.specs.Words.{has_disk_list};
 
-mod ending;
-mod fixed_text;
-mod join;
-mod layout;
-mod limits;
-mod line_buffer;
-mod lines;
 mod load;
-mod loaded;
 mod map_whole;
 mod message;
-mod names;
 mod part_file;
-mod piece;
-mod run;
-mod soundness;
 mod source;
-mod unit;
 mod words;
-mod write_all;
 
 use dm_table::Counted;
 use map_whole::map_whole;

@@ -6,29 +6,34 @@
 ghost use Rattle.std.specs.Prelude.{◌≡◌, ◌≢◌, ◌+◌, ◌<◌, ◌≤◌, ◌^◌, ◌++◌, ◌↔◌, [], List, ℕ, false, is_some, IsSome};
 ghost use Rattle.dm_table.specs.DeviceIo.{Delivery, delivery, since};
 ghost use Rattle.dm_table.specs.declared.place.Part.TheVariants.{Source, Disks};
+ghost use Rattle.dm_stack.specs.Description.{Description};
+ghost use Rattle.dm_stack.specs.declared.graph.TheConstants.{MOST_DEPTH};
+ghost use Rattle.dm_stack.specs.declared.limits.TheConstants.{MOST_CHUNK, MOST_DEVICES, MOST_DISKS, MOST_LENGTH, MOST_LINES, MOST_STRIPES};
+ghost use Rattle.dm_map.specs.Units.{BlockUnit};
+ghost use Rattle.dm_stream.specs.declared.lines.TheConstants.{MOST_LINE_BYTES};
+ghost use Rattle.dm_stream.specs.declared.run.TheConstants.{MOST_REQUESTS};
+ghost use Rattle.dm_stream.specs.Messages.{IsTold, write_message};
+ghost use Rattle.dm_stream.specs.Outcome.{run_outcome};
+ghost use Rattle.dm_stream.specs.Pieces.{AreFewest, fewest};
+ghost use Rattle.dm_stream.specs.WriteAll.{IsBeginning};
 ghost use Rattle.dmremap.specs.Load.{PartsGive, SoundAs};
-ghost use Rattle.dmremap.specs.Loaded.{Description};
 ghost use Rattle.dmremap.specs.Parts.{IsUnchanged, delivery_if, part_read};
-ghost use Rattle.dmremap.specs.declared.lines.TheConstants.{MOST_LINE_BYTES};
-ghost use Rattle.dmremap.specs.declared.run.TheConstants.{MOST_REQUESTS};
-ghost use Rattle.dmremap.specs.declared.soundness.TheConstants.{MOST_DEVICES, MOST_DISKS, MOST_LENGTH, MOST_LINES};
 ghost use Rattle.dmremap.specs.declared.source.TheConstants.{MOST_PART_BYTES};
-ghost use Rattle.dmremap.specs.Messages.{IsTold, memory_message, write_message};
+ghost use Rattle.dmremap.specs.Messages.{load_message, memory_message};
 ghost use Rattle.dmremap.specs.Whole.{Whole, GiveWhole};
-ghost use Rattle.dmremap.specs.Units.{BlockUnit};
-ghost use Rattle.dmremap.specs.Pieces.{AreFewest, fewest};
-ghost use Rattle.dmremap.specs.Fate.{IsFated, IsFlushed, OnRefused, fate_status, fate_message};
+ghost use Rattle.dmremap.specs.Fate.{IsFated, IsFlushed, IsRun, OnRefused, fate_status, fate_message};
 ghost use Rattle.dmremap.specs.Words.{has_disk_list};
 
 #[cfg(test)]
 mod tests;
 
-use crate::ending::Ending;
 use crate::load::load;
-use crate::message::{Message, ending_message, load_message, tell};
-use crate::run::run;
+use crate::message::load_message;
 use crate::words::Format;
-use dm_table::{Input, LoadFault, LoadKind, Output};
+use dm_map::Mapper;
+use dm_stack::Stack;
+use dm_stream::{Ending, run, tell};
+use dm_table::{Input, LoadFault, LoadKind, Output, Part};
 use std::alloc::Global;
 
 /// How the whole way went.
@@ -56,7 +61,7 @@ pub(crate) enum Fate {
 /// its first fault. No memory is taken once the load is done.
 ///
 /// Cost: near-linear in the source and the disk list; then in the requests, and for each request
-/// in its sectors times the lines of its device.
+/// in its sectors times the lines of the devices that they go through.
 pub fn map_whole<S: Input, D: Input, Q: Input, W: Output, M: Output>(
     alloc: Global,
     format: Format,
@@ -85,9 +90,12 @@ pub fn map_whole<S: Input, D: Input, Q: Input, W: Output, M: Output>(
 
     // The output failed in the call: that goes before all else.
     ensures write_fault { W.faults output.old < W.faults output.new ↔ (result ≡ 5) }
-    ensures loaded { result ≡ 5 → (description : Description) × PartsGive
+    // Then a beginning of the output was written, that of the bytes which the requests delivered.
+    ensures beginning { result ≡ 5 → (description : Description) × PartsGive
         (part_read Source (delivery S.handed S.faults S.ends source.old source.new))
-        (part_read Disks (delivery_if D.handed D.faults D.ends disks.old disks.new)) (SoundAs description) }
+        (part_read Disks (delivery_if D.handed D.faults D.ends disks.old disks.new)) (SoundAs description)
+        × IsBeginning (run_outcome description (delivery Q.handed Q.faults Q.ends requests.old requests.new)).output
+        (since (W.written output.old) (W.written output.new)) }
     ensures write_message { result ≡ 5 → IsTold write_message
         (since (M.written messages.old) (M.written messages.new)) (M.faults messages.old) (M.faults messages.new) }
 
@@ -113,30 +121,34 @@ pub fn map_whole<S: Input, D: Input, Q: Input, W: Output, M: Output>(
 
     // The figures of the limits.
     ensures limits { (MOST_PART_BYTES ≡ 1048576) × (MOST_LINE_BYTES ≡ 4096) × (MOST_REQUESTS ≡ 1000000000000)
-        × (MOST_DEVICES ≡ 1) × (MOST_DISKS ≡ 1024) × (MOST_LINES ≡ 65536) × (MOST_LENGTH ≡ 2 ^ 50) }
+        × (MOST_DEVICES ≡ 1024) × (MOST_DISKS ≡ 1024) × (MOST_LINES ≡ 65536) × (MOST_DEPTH ≡ 32) × (MOST_LENGTH ≡ 2 ^ 50)
+        × (MOST_STRIPES ≡ 128) × (MOST_CHUNK + 1 ≡ 2 ^ 32) }
 {
-    let _ = status;
     let fate = match format {
-        Format::Table => load_and_run(alloc, source, disks, requests, output),
+        Format::Table => load_and_run(alloc, status, source, disks, requests, output, messages),
     };
-    tell(messages, fate_message(fate).as_slice());
     status_of(fate)
 }
 
-/// All but the message.
-fn load_and_run<S: Input, D: Input, Q: Input, W: Output>(
+/// Loads a stack and answers its requests.
+fn load_and_run<S: Input, D: Input, Q: Input, W: Output, M: Output>(
     alloc: Global,
+    status: bool,
     source: &mut S,
     disks: &mut Option<D>,
     requests: &mut Q,
     output: &mut W,
+    messages: &mut M,
 ) -> Fate
-    requires { IsSome disks.old }
+    requires unflagged { status ≡ false }
+    requires disks { IsSome disks.old }
     ensures fated { IsFated
         (delivery S.handed S.faults S.ends source.old source.new)
         (delivery_if D.handed D.faults D.ends disks.old disks.new)
         (delivery Q.handed Q.faults Q.ends requests.old requests.new)
         (since (W.written output.old) (W.written output.new)) result }
+    ensures told { IsTold (fate_message result) (since (M.written messages.old) (M.written messages.new)) (M.faults messages.old) (M.faults messages.new) }
+    ensures tells { M.written messages.new ≡ M.written messages.old ++ since (M.written messages.old) (M.written messages.new) }
     ensures appends { W.written output.new ≡ W.written output.old ++ since (W.written output.old) (W.written output.new) }
     ensures write_fault { W.faults output.old < W.faults output.new ↔ (fate_status result ≡ 5) }
     ensures read_fault { fate_status result ≡ 4 → Q.faults requests.old < Q.faults requests.new }
@@ -144,19 +156,45 @@ fn load_and_run<S: Input, D: Input, Q: Input, W: Output>(
     ensures flushes { IsFlushed result (W.waiting output.new) (W.flushes output.old) (W.flushes output.new) }
 {
     match load(alloc, source, disks) {
-        Ok(loaded) => Fate::Ran(run(&loaded, requests, output)),
-        Err(fault) => Fate::Refused(fault),
+        Ok(stack) => serve(alloc, status, &stack, requests, output, messages),
+        Err(fault) => refuse(fault, messages),
     }
 }
 
-/// The message of a fate: none where all requests were answered.
-fn fate_message(fate: Fate) -> Message
-    ensures { result.items ≡ fate_message fate }
+/// Answers the requests through a stack, for which the last memory is taken here.
+fn serve<Q: Input, W: Output, M: Output>(
+    alloc: Global,
+    status: bool,
+    stack: &Stack,
+    requests: &mut Q,
+    output: &mut W,
+    messages: &mut M,
+) -> Fate
+    requires unflagged { status ≡ false }
+    ensures served { IsRun stack.now (delivery Q.handed Q.faults Q.ends requests.old requests.new)
+        (since (W.written output.old) (W.written output.new)) result }
+    ensures told { IsTold (fate_message result) (since (M.written messages.old) (M.written messages.new)) (M.faults messages.old) (M.faults messages.new) }
+    ensures tells { M.written messages.new ≡ M.written messages.old ++ since (M.written messages.old) (M.written messages.new) }
+    ensures appends { W.written output.new ≡ W.written output.old ++ since (W.written output.old) (W.written output.new) }
+    ensures write_fault { W.faults output.old < W.faults output.new ↔ (fate_status result ≡ 5) }
+    ensures read_fault { fate_status result ≡ 4 → Q.faults requests.old < Q.faults requests.new }
+    ensures unasked { OnRefused result (IsUnchanged Q.handed Q.faults Q.ends requests.old requests.new) }
+    ensures flushes { IsFlushed result (W.waiting output.new) (W.flushes output.old) (W.flushes output.new) }
 {
-    match fate {
-        Fate::Refused(fault) => load_message(fault),
-        Fate::Ran(ending) => ending_message(ending),
+    match Mapper::new(alloc, stack.looker()) {
+        Ok(mut mapper) => { Fate::Ran(run(stack, &mut mapper, requests, output, messages, status)) }
+        Err(_) => refuse(LoadFault::memory(Part::Source), messages),
     }
+}
+
+/// Tells why a load was refused.
+fn refuse<M: Output>(fault: LoadFault, messages: &mut M) -> Fate
+    ensures fate { result ≡ Fate.Refused fault }
+    ensures told { IsTold (load_message fault) (since (M.written messages.old) (M.written messages.new)) (M.faults messages.old) (M.faults messages.new) }
+    ensures tells { M.written messages.new ≡ M.written messages.old ++ since (M.written messages.old) (M.written messages.new) }
+{
+    tell(messages, load_message(fault).as_slice());
+    Fate::Refused(fault)
 }
 
 fn status_of(fate: Fate) -> u8

@@ -1,28 +1,17 @@
-//! The messages: one line each, and at most one a run.
+//! The messages of a refused load: one line each.
 //!
 //! The words are fixed by `specs/Messages.antt`, since users match on them. A new kind of refusal
-//! is an arm here and there.
+//! is an arm here and there. The messages of a run stand where it is.
 
-ghost use Rattle.std.specs.Prelude.{◌≡◌, ◌≤◌, ◌++◌, length};
-ghost use Rattle.dm_table.specs.DeviceIo.{since};
-ghost use Rattle.dmremap.specs.Messages.{IsTold, part_word, kind_word, request_word, load_message, request_message, ending_message};
+ghost use Rattle.std.specs.Prelude.{◌≡◌, ◌≤◌, length};
+ghost use Rattle.dmremap.specs.Messages.{part_word, kind_word, load_message};
 
-use crate::ending::{Ending, RequestWord};
-use crate::fixed_text::{put, put_number};
-use crate::write_all::write_all;
 use arrayvec::ArrayVec;
-use dm_table::{LoadFault, LoadKind, Output, Part};
+use dm_stream::{put, put_number};
+use dm_table::{LoadFault, LoadKind, Part};
 
 /// A message.
-pub(crate) type Message = ArrayVec<u8, 96>;
-
-/// Writes a message, as far as its stream takes it.
-pub(crate) fn tell<M: Output>(messages: &mut M, message: &[u8])
-    ensures appends { M.written messages.new ≡ M.written messages.old ++ since (M.written messages.old) (M.written messages.new) }
-    ensures told { IsTold message.now (since (M.written messages.old) (M.written messages.new)) (M.faults messages.old) (M.faults messages.new) }
-{
-    let _ = write_all(messages, message);
-}
+type Message = ArrayVec<u8, 96>;
 
 /// The message of a refused load.
 pub(crate) fn load_message(fault: LoadFault) -> Message
@@ -44,33 +33,6 @@ pub(crate) fn load_message(fault: LoadFault) -> Message
             put_number(&mut text, fault.at.number);
         }
     }
-    put(&mut text, b"\n");
-    text
-}
-
-/// The message of an ending: empty where all requests were answered.
-pub(crate) fn ending_message(ending: Ending) -> Message
-    ensures { result.items ≡ ending_message ending }
-{
-    let mut text = ArrayVec::new();
-    match ending {
-        Ending::Done => {}
-        Ending::BadRequest(number, word) => return request_message(number, word),
-        Ending::ReadFault => put(&mut text, b"dmremap: requests: read\n"),
-        Ending::WriteFault => put(&mut text, b"dmremap: output: write\n"),
-    }
-    text
-}
-
-/// The message of a bad request.
-fn request_message(number: u64, word: RequestWord) -> Message
-    ensures { result.items ≡ request_message number word }
-{
-    let mut text = ArrayVec::new();
-    put(&mut text, b"dmremap: request ");
-    put_number(&mut text, number);
-    put(&mut text, b": ");
-    put(&mut text, request_word(word));
     put(&mut text, b"\n");
     text
 }
@@ -110,20 +72,5 @@ fn kind_word(kind: LoadKind) -> &'static [u8]
         LoadKind::Extents => b"extents",
         LoadKind::Limit => b"limit",
         LoadKind::Memory => b"memory",
-    }
-}
-
-fn request_word(word: RequestWord) -> &'static [u8]
-    ensures word { result.now ≡ request_word word }
-    ensures short { length result.now ≤ 7 }
-{
-    match word {
-        RequestWord::Long => b"long",
-        RequestWord::Unended => b"unended",
-        RequestWord::Many => b"many",
-        RequestWord::Form => b"form",
-        RequestWord::Number => b"number",
-        RequestWord::Length => b"length",
-        RequestWord::Unknown => b"unknown",
     }
 }

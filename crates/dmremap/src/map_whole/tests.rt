@@ -12,8 +12,10 @@ use std::process::Abort;
 mod bad_requests;
 mod faults;
 mod large_parts;
+mod parts;
 mod refused_loads;
 mod rows;
+mod stacks;
 
 /// More than any stream of a case has, but for the large parts.
 const PLENTY: usize = 4096;

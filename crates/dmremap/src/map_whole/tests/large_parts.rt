@@ -130,11 +130,11 @@ fn the_largest_disk_list(rt: HostRuntime) -> Result<(), Fail> {
     Ok(())
 }
 
-/// So many lines of one text.
-fn lines(alloc: Global, line: &str, count: usize) -> Result<String, AllocError> {
+/// A device of so many lines of one sector.
+fn long_table(alloc: Global, count: usize) -> Result<String, AllocError> {
     let mut text = String::new(alloc);
-    for _ in 0..count {
-        text.push_str(line)?;
+    for start in 0..count {
+        writeln!(text, "a: {start} 1 zero")?;
     }
     Ok(text)
 }
@@ -142,24 +142,25 @@ fn lines(alloc: Global, line: &str, count: usize) -> Result<String, AllocError> 
 #[test]
 fn the_most_lines(rt: HostRuntime) -> Result<(), Fail> {
     let alloc = rt.alloc();
-    // The most lines pass the count and fail the check behind it: with only these targets no table
-    // of so many lines is both sound and short enough.
-    let cases = [
-        (65_536, "dmremap: source: empty at 1\n"),
-        (65_537, "dmremap: source: limit at 65537\n"),
-    ];
-    for (count, message) in cases {
-        let source = lines(alloc, "a: 0 0 error\n", count)?;
-        let case = Case {
-            name: "many lines",
-            source: source.as_str(),
-            output: "",
-            message,
-            status: 1,
-            ..VOLUME
-        };
-        check(&rt, alloc, &case);
-    }
+    let source = long_table(alloc, 65_536)?;
+    let case = Case {
+        name: "the most lines",
+        source: source.as_str(),
+        requests: "R a 0 65536\nW a 65535 2\n",
+        output: "1 zero 65536\n2 error 2\n",
+        ..VOLUME
+    };
+    check(&rt, alloc, &case);
+    let source = long_table(alloc, 65_537)?;
+    let case = Case {
+        name: "a line more",
+        source: source.as_str(),
+        output: "",
+        message: "dmremap: source: limit at 65537\n",
+        status: 1,
+        ..VOLUME
+    };
+    check(&rt, alloc, &case);
     Ok(())
 }
 
@@ -196,13 +197,6 @@ fn the_most_disks(rt: HostRuntime) -> Result<(), Fail> {
         message: "dmremap: disks: limit at 1025\n",
         status: 1,
         ..last
-    };
-    check(&rt, alloc, &case);
-    let case = Case {
-        name: "a disk more, and a device more",
-        source: "a: 0 8 error\nb: 0 8 error\n",
-        message: "dmremap: source: limit at 2\n",
-        ..case
     };
     check(&rt, alloc, &case);
     Ok(())

@@ -129,10 +129,9 @@ fn descriptions(rt: HostRuntime) -> Result<(), Fail> {
         ),
         ("a: 0 151 linear sda 0\n", "source: range at 1"),
         ("a: 0 1 linear sda 1125899906842624\n", "source: range at 1"),
-        ("a: 0 8 error\nb: 0 8 error\n", "source: limit at 2"),
         (
-            "a: 0 8 error\nb: 0 8 error\na: 8 8 error\n",
-            "source: limit at 2",
+            "a: 0 8 zero\nb: 0 8 zero\na: 8 8 zero\n",
+            "source: twice at 3",
         ),
         ("a: 1125899906842625 1 error\n", "source: limit at 1"),
         ("a: 0 1125899906842625 error\n", "source: limit at 1"),
@@ -176,7 +175,7 @@ fn the_first_check_goes_first(rt: HostRuntime) -> Result<(), Fail> {
         (
             "a: 1 1125899906842625 error\nb: 0 0 error\n",
             "sda 0\n",
-            "source: limit at 2",
+            "source: limit at 1",
         ),
         (
             "a: 1125899906842625 0 error\n",
@@ -218,6 +217,98 @@ fn the_first_check_goes_first(rt: HostRuntime) -> Result<(), Fail> {
     ];
     for (source, disks, words) in cases {
         check_refused(&rt, rt.alloc(), source, disks, words)?;
+    }
+    Ok(())
+}
+
+#[test]
+fn stripes(rt: HostRuntime) -> Result<(), Fail> {
+    let cases = [
+        ("a: 0 8 striped 0 8\n", "source: stripe at 1"),
+        ("a: 0 8 striped 1 0 sda 0\n", "source: stripe at 1"),
+        ("a: 0 9 striped 2 1 sda 0 sda 8\n", "source: stripe at 1"),
+        ("a: 0 60 striped 2 8 sda 0 sda 64\n", "source: stripe at 1"),
+        ("a: 0 8 striped 1 4294967296 sda 0\n", "source: stripe at 1"),
+        (
+            "a: 0 8 striped 1 9999999999999999999 sda 0\n",
+            "source: stripe at 1",
+        ),
+        // A column of a stripe ends with its share of the line.
+        ("a: 0 64 striped 2 8 sda 0 sda 118\n", "source: range at 1"),
+        ("a: 0 64 striped 2 8 sda 119 sda 0\n", "source: range at 1"),
+        ("a: 0 64 striped 2 8 sda 0 sdb 0\n", "source: unknown at 1"),
+        (
+            "a: 0 64 striped 2 8 sda 0 sda 1125899906842625\n",
+            "source: limit at 1",
+        ),
+        // Arguments are counted without a sum that could pass the greatest number.
+        ("a: 0 8 striped\n", "source: field at 1"),
+        ("a: 0 8 striped 1\n", "source: field at 1"),
+        ("a: 0 8 striped 1 8\n", "source: field at 1"),
+        ("a: 0 8 striped 1 8 sda\n", "source: field at 1"),
+        ("a: 0 8 striped 1 8 sda 0 sda\n", "source: field at 1"),
+        ("a: 0 8 striped 1 8 sda 0 sda 0\n", "source: field at 1"),
+        ("a: 0 8 striped 2 8 sda 0\n", "source: field at 1"),
+        (
+            "a: 0 8 striped 9223372036854775808 8\n",
+            "source: field at 1",
+        ),
+        (
+            "a: 0 8 striped 9223372036854775809 8 sda 0\n",
+            "source: field at 1",
+        ),
+        ("a: 0 8 striped 01 8 sda 0\n", "source: field at 1"),
+        ("a: 0 8 striped 1 8 sda 00\n", "source: field at 1"),
+        ("a: 0 8 striped 2 4 sda 0 s;a 0\n", "source: name at 1"),
+        ("a: 0 8 zero 0\n", "source: field at 1"),
+    ];
+    for (source, words) in cases {
+        check_refused(&rt, rt.alloc(), source, VOLUME.disks, words)?;
+    }
+    Ok(())
+}
+
+#[test]
+fn several_devices(rt: HostRuntime) -> Result<(), Fail> {
+    let cases = [
+        // A device that only leads into a ring is none of it.
+        (
+            "d: 0 8 linear /dev/mapper/a 0\na: 0 8 linear /dev/mapper/b 0\nb: 0 8 linear /dev/mapper/a 0\n",
+            "source: cycle at 2",
+        ),
+        // A ring goes before a length, and is told at its first device.
+        (
+            "a: 0 9 linear /dev/mapper/b 0\nb: 0 8 linear /dev/mapper/a 0\n",
+            "source: cycle at 1",
+        ),
+        (
+            "a: 0 8 striped 2 4 sda 0 /dev/mapper/b 0\nb: 0 8 linear sda 0\nb: 8 8 linear /dev/mapper/a 0\n",
+            "source: cycle at 1",
+        ),
+        (
+            "a: 0 8 linear sda 0\nb: 0 8 linear /dev/mapper/a 1\n",
+            "source: range at 2",
+        ),
+        (
+            "b: 0 9 linear /dev/mapper/a 0\na: 0 8 zero\n",
+            "source: range at 1",
+        ),
+        (
+            "a: 0 8 zero\nb: 0 8 linear /dev/mapper/c 0\n",
+            "source: unknown at 2",
+        ),
+        ("a: 0 8 zero\na: 9 8 zero\n", "source: gap at 2"),
+        ("a: 0 8 zero\na: 7 8 zero\n", "source: overlap at 2"),
+        // Stripes go before ranges, over all devices.
+        (
+            "a: 0 200 linear sda 0\nb: 0 8 striped 3 1 sda 0 sda 0 sda 0\n",
+            "source: stripe at 2",
+        ),
+        ("a: 0 8 zero\nb: 0 0 zero\n", "source: empty at 2"),
+        ("a: 0 8 zero\nb: 1 8 zero\n", "source: gap at 2"),
+    ];
+    for (source, words) in cases {
+        check_refused(&rt, rt.alloc(), source, VOLUME.disks, words)?;
     }
     Ok(())
 }
