@@ -19,7 +19,7 @@ agree_at (e ∷ es) (suc i) d h lt = agree_at es i d (and_parts (has_line e.node
 same_line : (s : Tree) (n : ℕ) → (s.line ≡ n) → ◌≡◌ {A = Tree} (record { line = n; values = s.values }) s
 same_line s n e = ap (λ (m : ℕ). let t : Tree = record { line = m; values = s.values } in t) (sym e)
 
-node_put : (key k : List ℕ) (n : ℕ) (value : Value) (rest : Values) → has_line n value ≡ true → node_of key (put k n value rest) ≡ cond (bytes_eq k key) (Some (record { line = n; content = content_view value })) (node_of key rest)
+pub node_put : (key k : List ℕ) (n : ℕ) (value : Value) (rest : Values) → has_line n value ≡ true → node_of key (put k n value rest) ≡ cond (bytes_eq k key) (Some (record { line = n; content = content_view value })) (node_of key rest)
 node_put key k n (variants.Section s) rest h =
     ap (λ (t : Tree). let shown : Shown = record { line = n; content = Inner t } in cond (bytes_eq k key) (Some shown) (node_of key rest)) (same_line s n (eqb-true s.line n h))
 node_put key k n (variants.Int i) rest h = refl
