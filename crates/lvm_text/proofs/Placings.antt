@@ -15,7 +15,7 @@ use Rattle.lvm_text.proofs.Looks.{entries_at, node_put}
 use denote.Ref.{Bor}
 
 -- the place from an entry on
-place_at : (es : List Entry) (key : List ℕ) (i : ℕ) (d : Entry) → i < length es
+pub place_at : (es : List Entry) (key : List ℕ) (i : ℕ) (d : Entry) → i < length es
     → place_of key i (drop i es) ≡ cond (bytes_eq (get_or es i d).key.now key) (Some i) (place_of key (i + 1) (drop (i + 1) es))
 place_at es key i d lt = ap (place_of key i) (entries_at es i d lt)
 
