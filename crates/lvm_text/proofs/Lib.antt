@@ -6,6 +6,7 @@ pub mod Fronts
 pub mod Trees
 pub mod Unique
 pub mod Looks
+pub mod Placings
 pub mod Repeats
 pub mod Building
 pub mod Steps

@@ -1,9 +1,9 @@
 -- Looking a key up, and going over the sections.
-use Rattle.std.proofs.Common.{◌≡◌, ℕ, zero, suc, ◌+◌, ◌<◌, true, false, cond, List, [], ◌∷◌, length, get_or, drop, Some, refl, sym, ap, ◌∙◌, arith, add-one, drop-cons}
+use Rattle.std.proofs.Common.{◌≡◌, ℕ, ◌+◌, ◌<◌, true, cond, List, [], ◌∷◌, length, get_or, drop, Some, refl, sym, ap, ◌∙◌, add-one, drop-cons}
 use Rattle.std.specs.Prelude.{bytes_eq}
 use Rattle.std.proofs.lemmas.Bool.{and_parts, eqb-true}
 use Rattle.lvm_text.specs.Tree.{Values, Tree, Shown, Inner, node_of, sections_of}
-use Rattle.lvm_text.specs.View.{put, values_of, has_line, lines_agree, content_view, node_view, put_section, sections_in}
+use Rattle.lvm_text.specs.View.{put, values_of, has_line, lines_agree, content_view, put_section, sections_in}
 use Rattle.lvm_text.specs.declared.tree.Value.{Value}
 use Rattle.lvm_text.specs.declared.tree.Value.TheVariants as variants
 use Rattle.lvm_text.specs.declared.tree.Entry.{Entry}
@@ -11,34 +11,15 @@ use Rattle.lvm_text.specs.declared.tree.Entry.{Entry}
 pub entries_at : (es : List Entry) (i : ℕ) (d : Entry) → i < length es → drop i es ≡ get_or es i d ∷ drop (i + 1) es
 entries_at es i d lt = rw add-one (drop-cons es i d lt)
 
-agree_at : (es : List Entry) (i : ℕ) (d : Entry) → lines_agree es ≡ true → i < length es → has_line (get_or es i d).node.line (get_or es i d).node.value ≡ true
-agree_at [] i d h lt = absurd (omega arith)
-agree_at (e ∷ es) zero d h lt = (and_parts (has_line e.node.line e.node.value) (lines_agree es) h).0
-agree_at (e ∷ es) (suc i) d h lt = agree_at es i d (and_parts (has_line e.node.line e.node.value) (lines_agree es) h).1 (omega arith)
-
 same_line : (s : Tree) (n : ℕ) → (s.line ≡ n) → ◌≡◌ {A = Tree} (record { line = n; values = s.values }) s
 same_line s n e = ap (λ (m : ℕ). let t : Tree = record { line = m; values = s.values } in t) (sym e)
 
-node_put : (key k : List ℕ) (n : ℕ) (value : Value) (rest : Values) → has_line n value ≡ true → node_of key (put k n value rest) ≡ cond (bytes_eq k key) (Some (record { line = n; content = content_view value })) (node_of key rest)
+pub node_put : (key k : List ℕ) (n : ℕ) (value : Value) (rest : Values) → has_line n value ≡ true → node_of key (put k n value rest) ≡ cond (bytes_eq k key) (Some (record { line = n; content = content_view value })) (node_of key rest)
 node_put key k n (variants.Section s) rest h =
     ap (λ (t : Tree). let shown : Shown = record { line = n; content = Inner t } in cond (bytes_eq k key) (Some shown) (node_of key rest)) (same_line s n (eqb-true s.line n h))
 node_put key k n (variants.Int i) rest h = refl
 node_put key k n (variants.Text t) rest h = refl
 node_put key k n (variants.List v) rest h = refl
-
-at_entry : (es : List Entry) (key : List ℕ) (i : ℕ) (d : Entry) → lines_agree es ≡ true → i < length es
-    → node_of key (values_of (drop i es)) ≡ cond (bytes_eq (get_or es i d).key.now key) (Some (node_view (get_or es i d).node)) (node_of key (values_of (drop (i + 1) es)))
-at_entry es key i d h lt =
-    let e = get_or es i d in
-    ap (λ (xs : List Entry). node_of key (values_of xs)) (entries_at es i d lt) ∙ node_put key e.key.now e.node.line e.node.value (values_of (drop (i + 1) es)) (agree_at es i d h lt)
-
-pub found_at : (es : List Entry) (key : List ℕ) (i : ℕ) (d : Entry) → lines_agree es ≡ true → i < length es → bytes_eq (get_or es i d).key.now key ≡ true
-    → node_of key (values_of (drop i es)) ≡ Some (node_view (get_or es i d).node)
-found_at es key i d h lt is = at_entry es key i d h lt ∙ rw is refl
-
-pub passed_at : (es : List Entry) (key : List ℕ) (i : ℕ) (d : Entry) → lines_agree es ≡ true → i < length es → bytes_eq (get_or es i d).key.now key ≡ false
-    → node_of key (values_of (drop i es)) ≡ node_of key (values_of (drop (i + 1) es))
-passed_at es key i d h lt is = at_entry es key i d h lt ∙ rw is refl
 
 sections_put : (k : List ℕ) (n : ℕ) (value : Value) (rest : Values) → has_line n value ≡ true → sections_of (put k n value rest) ≡ put_section k value (sections_of rest)
 sections_put k n (variants.Section s) rest h = ap (λ (t : Tree). (k, t) ∷ sections_of rest) (same_line s n (eqb-true s.line n h))

@@ -1,33 +1,73 @@
 -- Keys that stand twice.
-use Rattle.std.proofs.Common.{◌≡◌, ℕ, ◌+◌, ◌<◌, Bool, true, false, cond, not, ◌||◌, List, [], ◌∷◌, ◌++◌, length, get_or, drop, Option, Some, None, refl, sym, ap, subst, ◌∙◌}
+use Rattle.std.proofs.Common.{◌≡◌, ℕ, ◌+◌, ◌<◌, Bool, true, false, nat_lt, ◌||◌, List, [], ◌∷◌, ◌++◌, length, get_or, drop, Option, Some, None, refl, sym, ap, ◌∙◌, arith}
 use Rattle.std.specs.Prelude.{bytes_eq, is_some}
 use Rattle.std.specs.Ordering.{nat_cmp}
 use Rattle.std.specs.Cmp.Lexicographic.{slice_cmp}
-use Rattle.std.specs.BTreeSet.{BTreeSet, contains, Updates}
-use Rattle.std.proofs.lemmas.Map.Text.{is_eq-slice_cmp}
+use Rattle.std.specs.BTreeMap.{BTreeMap, get_by}
+use Rattle.std.proofs.lemmas.Bool.{lt-ltb, le-ltb}
+use Rattle.std.proofs.lemmas.Slice.Eq.{bytes_eq-Decides}
 use Rattle.lvm_text.specs.Tree.{Values}
 use Rattle.lvm_text.specs.Checks.{head_line, hit, has_key, twice_lines}
 use Rattle.lvm_text.specs.Repeat.{inner_lines}
 use Rattle.lvm_text.specs.View.{put, values_of}
+use Rattle.lvm_text.specs.Places.{place_of, is_before, Finds}
 use Rattle.lvm_text.specs.declared.tree.Value.{Value}
 use Rattle.lvm_text.specs.declared.tree.Value.TheVariants as variants
 use Rattle.lvm_text.specs.declared.tree.Entry.{Entry}
 use Rattle.lvm_text.proofs.Looks.{entries_at}
+use Rattle.lvm_text.proofs.Placings.{place_at}
 use denote.Ref.{Bor}
 
-abbrev pub Keys : Type 0
-Keys = BTreeSet (Bor (List ℕ))
+-- the keys before an entry: each has a place before, and any other key has its place from here on
+pub record Known (es : List Entry) (at : ℕ) (keys : List (List ℕ)) : Type 0 where
+  pub seen : (q : List ℕ) → has_key q keys ≡ true → (n : ℕ) × (place_of q 0 es ≡ Some n) × (n < at)
+  pub other : (q : List ℕ) → has_key q keys ≡ false → place_of q 0 es ≡ place_of q at (drop at es)
 
--- the set has these keys
-abbrev pub HoldsKeys : Keys → List (List ℕ) → Type 0
-HoldsKeys seen keys = (q : Bor (List ℕ)) → contains (λ x y. slice_cmp nat_cmp x.now y.now) seen q ≡ has_key q.now keys
+pub known_start : (es : List Entry) → Known es 0 []
+known_start es = record { seen = λ q h. absurd cc; other = λ q h. refl }
 
-cond_or : (b x y : Bool) → x ≡ y → cond b true x ≡ (b || y)
-cond_or true x y e = refl
-cond_or false x y e = e
+or_false : (b : Bool) → (b || false) ≡ true → b ≡ true
+or_false true h = refl
+or_false false h = absurd cc
 
-pub held_more : (old new : Keys) (key : Bor (List ℕ)) (keys : List (List ℕ)) → HoldsKeys old keys → Updates (λ x y. slice_cmp nat_cmp x.now y.now) old new key true → HoldsKeys new (key.now ∷ keys)
-held_more old new key keys h u = λ q. u.0 q ∙ ap (λ (b : Bool). cond b true (contains (λ x y. slice_cmp nat_cmp x.now y.now) old q)) (is_eq-slice_cmp key.now q.now) ∙ cond_or (bytes_eq key.now q.now) _ _ (h q)
+neither : (b c : Bool) → (b || c) ≡ false → (b ≡ false) × (c ≡ false)
+neither true c h = absurd cc
+neither false c h = (refl, h)
+
+place_here : (es : List Entry) (i : ℕ) (d : Entry) (keys : List (List ℕ)) (q : List ℕ) → i < length es → Known es i keys → has_key q keys ≡ false → bytes_eq (get_or es i d).key.now q ≡ true → place_of q 0 es ≡ Some i
+place_here es i d keys q lt known new same = known.other q new ∙ place_at es q i d lt ∙ rw same refl
+
+place_later : (es : List Entry) (i : ℕ) (d : Entry) (keys : List (List ℕ)) (q : List ℕ) → i < length es → Known es i keys → has_key q keys ≡ false → bytes_eq (get_or es i d).key.now q ≡ false → place_of q 0 es ≡ place_of q (i + 1) (drop (i + 1) es)
+place_later es i d keys q lt known new apart = known.other q new ∙ place_at es q i d lt ∙ rw apart refl
+
+seen_more : (es : List Entry) (i : ℕ) (d : Entry) (keys : List (List ℕ)) (q : List ℕ) → i < length es → Known es i keys → (b : Bool) → has_key q keys ≡ b → (bytes_eq (get_or es i d).key.now q || b) ≡ true → (n : ℕ) × (place_of q 0 es ≡ Some n) × (n < i + 1)
+seen_more es i d keys q lt known true old h = let s = known.seen q old in (s.0, s.1, omega (arith, s.2))
+seen_more es i d keys q lt known false new h = (i, place_here es i d keys q lt known new (or_false _ h), omega arith)
+
+pub known_more : (es : List Entry) (i : ℕ) (d : Entry) (keys : List (List ℕ)) → i < length es → Known es i keys → Known es (i + 1) ((get_or es i d).key.now ∷ keys)
+known_more es i d keys lt known = record {
+  seen = λ q h. seen_more es i d keys q lt known (has_key q keys) refl h;
+  other = λ q h. let n = neither (bytes_eq (get_or es i d).key.now q) (has_key q keys) h in place_later es i d keys q lt known n.1 n.0;
+}
+
+is_before_some : (at : ℕ) (o : Option ℕ) (n : ℕ) → o ≡ Some n → is_before at o ≡ nat_lt n at
+is_before_some at o n e = ap (is_before at) e
+
+-- an entry has a place before its own where its key stands before
+before_is : (es : List Entry) (i : ℕ) (d : Entry) (keys : List (List ℕ)) → i < length es → Known es i keys → (b : Bool) → has_key (get_or es i d).key.now keys ≡ b → is_before i (place_of (get_or es i d).key.now 0 es) ≡ b
+before_is es i d keys lt known true old = let s = known.seen (get_or es i d).key.now old in is_before_some i _ s.0 s.1 ∙ lt-ltb s.0 i s.2
+before_is es i d keys lt known false new = is_before_some i _ i (place_here es i d keys (get_or es i d).key.now lt known new ((bytes_eq-Decides (get_or es i d).key.now (get_or es i d).key.now).1 refl)) ∙ le-ltb i i (omega arith)
+
+-- what the index says of an entry's key, the keys before it say
+pub asked : (es all : List Entry) (i : ℕ) (item : Entry) (keys : List (List ℕ)) (index : BTreeMap (Bor (List ℕ)) ℕ) (b : Bool) → es ≡ all → Finds index 0 all → i < length es → item ≡ get_or es i item → Known es i keys
+    → b ≡ is_before i (get_by (λ k. slice_cmp nat_cmp item.key.now k.now) index) → has_key (get_or es i item).key.now keys ≡ b
+asked es all i item keys index b same finds lt is known e =
+    let key = (get_or es i item).key.now in
+    sym (before_is es i item keys lt known (has_key key keys) refl)
+    ∙ ap (λ (xs : List Entry). is_before i (place_of key 0 xs)) same
+    ∙ ap (is_before i) (sym (finds key))
+    ∙ ap (λ (x : Entry). is_before i (get_by (λ k. slice_cmp nat_cmp x.key.now k.now) index)) (sym is)
+    ∙ sym e
 
 twice_put : (before : List (List ℕ)) (k : List ℕ) (n : ℕ) (value : Value) (rest : Values) → twice_lines before (put k n value rest) ≡ hit (has_key k before) n (inner_lines value ++ twice_lines (k ∷ before) rest)
 twice_put before k n (variants.Section s) rest = refl
@@ -54,42 +94,27 @@ head_later : (xs ys : List ℕ) → None ≡ head_line xs → head_line (xs ++ y
 head_later [] ys e = refl
 head_later (x ∷ xs) ys e = absurd cc
 
-pub twice_inside : (es : List Entry) (before : List (List ℕ)) (i : ℕ) (d : Entry) (n : ℕ) → i < length es → has_key (get_or es i d).key.now before ≡ false → Some n ≡ head_line (inner_lines (get_or es i d).node.value)
+twice_inside : (es : List Entry) (before : List (List ℕ)) (i : ℕ) (d : Entry) (n : ℕ) → i < length es → has_key (get_or es i d).key.now before ≡ false → Some n ≡ head_line (inner_lines (get_or es i d).node.value)
     → head_line (twice_lines before (values_of (drop i es))) ≡ Some n
 twice_inside es before i d n lt new e =
     let x = get_or es i d in
     ap head_line (at_entry es before i d lt) ∙ rw new (head_first (inner_lines x.node.value) (twice_lines (x.key.now ∷ before) (values_of (drop (i + 1) es))) n e)
 
-pub twice_later : (es : List Entry) (before : List (List ℕ)) (i : ℕ) (d : Entry) → i < length es → has_key (get_or es i d).key.now before ≡ false → None ≡ head_line (inner_lines (get_or es i d).node.value)
+twice_later : (es : List Entry) (before : List (List ℕ)) (i : ℕ) (d : Entry) → i < length es → has_key (get_or es i d).key.now before ≡ false → None ≡ head_line (inner_lines (get_or es i d).node.value)
     → head_line (twice_lines before (values_of (drop i es))) ≡ head_line (twice_lines ((get_or es i d).key.now ∷ before) (values_of (drop (i + 1) es)))
 twice_later es before i d lt new e =
     let x = get_or es i d in
     ap head_line (at_entry es before i d lt) ∙ rw new (head_later (inner_lines x.node.value) (twice_lines (x.key.now ∷ before) (values_of (drop (i + 1) es))) e)
 
--- the keys after an entry whose key is new, with nothing inside that stands twice
-pub record Later (es : List Entry) (i : ℕ) (old new : Keys) (all : Option ℕ) : Type 0 where
-  pub before : List (List ℕ)
-  pub same : head_line (twice_lines before (values_of (drop (i + 1) es))) ≡ all
-  pub held : HoldsKeys new before
+pub some_inside : (es : List Entry) (before : List (List ℕ)) (i : ℕ) (d : Entry) (inside : Option ℕ) → i < length es → has_key (get_or es i d).key.now before ≡ false → inside ≡ head_line (inner_lines (get_or es i d).node.value) → is_some inside ≡ true
+    → head_line (twice_lines before (values_of (drop i es))) ≡ inside
+some_inside es before i d None lt new head some = absurd cc
+some_inside es before i d (Some n) lt new head some = twice_inside es before i d n lt new head
 
 none_from : (o : Option ℕ) → is_some o ≡ false → o ≡ None
 none_from None e = refl
 none_from (Some n) e = absurd cc
 
-false_from : (b : Bool) → true ≡ not b → b ≡ false
-false_from true e = absurd cc
-false_from false e = refl
-
-pub next_entry : (es : List Entry) (before : List (List ℕ)) (i : ℕ) (item : Entry) (old new : Keys) (added : Bool) (inside : Option ℕ) (all : Option ℕ) → i < length es → item ≡ get_or es i item
-    → head_line (twice_lines before (values_of (drop i es))) ≡ all → HoldsKeys old before
-    → added ≡ not (contains (λ x y. slice_cmp nat_cmp x.now y.now) old item.key) → added ≡ true → Updates (λ x y. slice_cmp nat_cmp x.now y.now) old new item.key true
-    → inside ≡ head_line (inner_lines item.node.value) → is_some inside ≡ false → Later es i old new all
-next_entry es before i item old new added inside all lt is same held add is_added updates head none =
-    let fresh : has_key item.key.now before ≡ false = sym (held item.key) ∙ false_from _ (sym is_added ∙ add) in
-    let empty : None ≡ head_line (inner_lines item.node.value) = sym (none_from inside none) ∙ head in
-    let later = twice_later es before i item lt (subst (λ (e : Entry). has_key e.key.now before ≡ false) is fresh) (subst (λ (e : Entry). None ≡ head_line (inner_lines e.node.value)) is empty) in
-    record {
-      before = item.key.now ∷ before;
-      same = ap (λ (e : Entry). head_line (twice_lines (e.key.now ∷ before) (values_of (drop (i + 1) es)))) is ∙ sym later ∙ same;
-      held = held_more old new item.key before held updates;
-    }
+pub next_entry : (es : List Entry) (before : List (List ℕ)) (i : ℕ) (d : Entry) (inside all : Option ℕ) → i < length es → has_key (get_or es i d).key.now before ≡ false → inside ≡ head_line (inner_lines (get_or es i d).node.value) → is_some inside ≡ false
+    → head_line (twice_lines before (values_of (drop i es))) ≡ all → head_line (twice_lines ((get_or es i d).key.now ∷ before) (values_of (drop (i + 1) es))) ≡ all
+next_entry es before i d inside all lt new head none same = sym (twice_later es before i d lt new (sym (none_from inside none) ∙ head)) ∙ same

@@ -9,6 +9,7 @@ ghost use Rattle.lvm_text.specs.TokenView.{token_view, views};
 ghost use Rattle.lvm_text.specs.View.{scalar_view, scalar_views, has_line};
 ghost use Rattle.lvm_text.specs.Build.{is_comma, is_open, is_list_open, begins_key, scalar_first, item_of, ReadsScalars, ShowsScalar, ReadsLeaf, ReadsValue, ReadsValues};
 
+use crate::index::index_of;
 use crate::number::{are_digits, number_of};
 use crate::token::{Placed, Token};
 use crate::tree::{Entry, Node, Scalar, Section, Value};
@@ -209,5 +210,11 @@ pub(crate) fn section_at<'a>(
         entries.push(Entry { key, node })?;
         at = after;
     }
-    Ok((Section { line, entries }, at))
+    let index = index_of(alloc, entries.as_slice())?;
+    let section = Section {
+        line,
+        entries,
+        index,
+    };
+    Ok((section, at))
 }

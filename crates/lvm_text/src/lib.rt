@@ -12,6 +12,7 @@ ghost use Rattle.lvm_text.specs.declared.fault.TextFault.TheVariants.{Memory};
 mod build;
 mod check;
 mod fault;
+mod index;
 mod number;
 mod piece;
 mod reading;

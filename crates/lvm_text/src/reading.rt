@@ -43,7 +43,7 @@ fn tree_of<'a>(alloc: Global, tokens: &[Placed<'a>]) -> Result<Section<'a>, Text
         return Err(TextFault::Number(line));
     }
     let (section, _) = section_at(alloc, tokens, 1, 0)?;
-    if let Some(line) = repeated_line(alloc, &section)? {
+    if let Some(line) = repeated_line(&section) {
         return Err(TextFault::KeyTwice(line));
     }
     Ok(section)

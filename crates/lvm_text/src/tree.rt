@@ -2,6 +2,7 @@
 
 ghost use Rattle.std.specs.Prelude.{◌≡◌, option_map};
 
+use std::collections::BTreeMap;
 use std::marker::Model;
 
 /// An integer or a string.
@@ -42,6 +43,7 @@ pub(crate) struct Entry<'a> {
 pub struct Section<'a> {
     pub(crate) line: u64,
     pub(crate) entries: Vec<Entry<'a>>,
+    pub(crate) index: BTreeMap<&'a str, usize>,
 }
 
 impl<'a> Model for Section<'a> {
@@ -57,7 +59,9 @@ impl<'a> Model for Section<'a> {
 
     ghost view = { λ s. record { line = s.line; values = values_of s.entries.items } };
 
-    ghost invariant = { λ s. lines_agree s.entries.items ≡ true };
+    ghost use Rattle.lvm_text.specs.Places.{Finds};
+
+    ghost invariant = { λ s. (lines_agree s.entries.items ≡ true) × Finds s.index 0 s.entries.items };
 
     ghost size = { λ t. size_of t.values };
 
@@ -78,16 +82,14 @@ impl<'a> Section<'a> {
         self.line
     }
 
-    /// The node of a key, and `None` exactly where the section has none. A comparison for each key before it.
+    /// The node of a key, and `None` exactly where the section has none.
+    ///
+    /// Cost: in a section of `n` keys about `log n` comparisons of keys.
     pub fn get(&self, key: &str) -> Option<&Node<'a>>
         ensures { option_map (λ n. node_view n.now) result ≡ node_of key.now self.now.values }
     {
-        for entry in &self.entries {
-            if entry.key == key {
-                return Some(&entry.node);
-            }
-        }
-        None
+        let at = *self.index.get(key)?;
+        Some(&self.entries[at].node)
     }
 
     /// The keys that hold sections, with these, in source order. Each step looks at the keys up to the next.

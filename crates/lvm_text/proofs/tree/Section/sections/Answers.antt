@@ -6,4 +6,4 @@ use Rattle.lvm_text.proofs.tree.Section.sections.Goals as goal
 
 pub returns : goal.returns
 returns c =
-    ap sections_in c.deref.ensures.value ∙ sym (sections_are c.self.inside.entries.items c.self.invariant) ∙ ap (λ (t : Tree). sections_of t.values) c.self.view_is
+    ap sections_in c.deref.ensures.value ∙ sym (sections_are c.self.inside.entries.items c.self.invariant.0) ∙ ap (λ (t : Tree). sections_of t.values) c.self.view_is
