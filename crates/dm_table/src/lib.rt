@@ -31,6 +31,7 @@ pub use device_io::{InFault, Input, OutFault, Output};
 pub use disk::Disk;
 pub use disk_list::parse_disks;
 pub use disk_name::DiskName;
+pub use history::Tally;
 pub use load_fault::{LoadFault, LoadKind};
 pub use name::{CheckFault, Name};
 pub use place::{Part, Place};
