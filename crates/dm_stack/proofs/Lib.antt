@@ -1,1 +1,3 @@
+pub mod FirstFaults
 pub mod NameLemmas
+pub mod Passes

@@ -1,6 +1,7 @@
 pub mod Below
 pub mod Description
 pub mod Graph
+pub mod Links
 pub mod Loaded
 pub mod NameIndex
 pub mod Soundness

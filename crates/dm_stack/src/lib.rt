@@ -4,12 +4,19 @@
 //! soundness again. Lines are found by a `Looker` alone, which counts its searches.
 #![tactic(auto)]
 
+mod fault;
 mod found;
 mod graph;
 mod id;
+mod indexed;
+mod layout;
 mod limits;
+mod links;
 mod looker;
 mod name_index;
+mod names;
+mod ranges;
+mod resolve;
 mod stack;
 
 pub use found::{Found, FoundColumn, FoundColumns, FoundLine, FoundTarget};
