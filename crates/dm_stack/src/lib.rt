@@ -13,6 +13,7 @@ mod limits;
 mod looker;
 mod name_index;
 mod stack;
+mod stripes;
 
 pub use found::{Found, FoundColumn, FoundColumns, FoundLine, FoundTarget};
 pub use graph::MOST_DEPTH;
