@@ -18,6 +18,7 @@ mod names;
 mod ranges;
 mod resolve;
 mod stack;
+mod stripes;
 
 pub use found::{Found, FoundColumn, FoundColumns, FoundLine, FoundTarget};
 pub use graph::MOST_DEPTH;
