@@ -1,3 +1,7 @@
+pub mod DepthLemmas
 pub mod FirstFaults
 pub mod NameLemmas
 pub mod Passes
+pub mod PathLemmas
+pub mod RoundLemmas
+pub mod SearchLemmas
