@@ -1,5 +1,6 @@
 pub mod DepthLemmas
 pub mod FirstFaults
+pub mod ListLemmas
 pub mod NameLemmas
 pub mod Passes
 pub mod PathLemmas

@@ -1,9 +1,12 @@
 -- Names by their places: how a set of names tests them, and which stand twice.
-use Rattle.std.proofs.Common.{◌≡◌, ◌≢◌, ℕ, ◌+◌, ◌<◌, Bool, true, false, not, List, [], ◌∷◌, ◌++◌, Option, Some, None, Err, String, refl, sym, ap, ◌∙◌, cond, drop, get_or, length, map, take}
-use Rattle.std.specs.Prelude.{find, is_none, nat_lt, option_map, position, reverse, string_bytes, unwrap_or, ◌||◌}
-use Rattle.std.specs.List.{list_any, position_or_len}
+use Rattle.std.proofs.Common.{◌≡◌, ◌≢◌, ℕ, ◌+◌, ◌<◌, ◌≤◌, Bool, true, false, not, List, [], ◌∷◌, ◌++◌, Option, Some, None, Err, String, arith, refl, sym, ap, ◌∙◌, cond, drop, get_or, length, map, take}
+use Rattle.std.specs.Prelude.{find, is_none, is_some, nat_lt, option_map, position, reverse, string_bytes, unwrap_or, ◌||◌}
+use Rattle.std.specs.List.{list_any, position_from, position_or_len}
 use Rattle.std.proofs.lemmas.List.{drop_more, length-map, map-append, reverse-append, take_more}
+use Rattle.std.proofs.lemmas.Bool.{ltb-false}
+use Rattle.std.proofs.lemmas.Iterator.Adapters.{position_from-zero}
 use Rattle.std.proofs.lemmas.List.Folds.{list_any-append}
+use Rattle.std.proofs.lemmas.List.Sums.{prefix_len-le-length}
 use Rattle.std.proofs.lemmas.Slice.Eq.{bytes_eq-Decides}
 use Rattle.dm_table.specs.declared.place.Part.{Part}
 use Rattle.dm_table.specs.declared.place.Place.{Place}
@@ -107,3 +110,38 @@ stands_once own place xs i x names within is all seen =
 -- the answer where a name stands twice
 pub refused_twice : {Y : Type 0} (part : Part) (place : Place) (found : Option LoadFault) (value : Y) → found ≡ Some (fault Twice place) → (Twice ≡ Memory → IsMemoryFault part (fault Twice place)) × (Twice ≢ Memory → unless found value ≡ Err (fault Twice place))
 refused_twice {Y} part place found value e = (λ memory. absurd cc, λ other. ap (λ (o : Option LoadFault). unless o value) e)
+
+-- Names that are looked up, by the elements that have them
+
+none_from : {X : Type 0} (test : X → Bool) (i : ℕ) (xs : List X) → is_none (position_from test i xs) ≡ is_none (find test xs)
+none_from test i [] = refl
+none_from test i (x ∷ xs) = none_step i x (position_from test (i + 1) xs) (find test xs) (test x) (none_from test (i + 1) xs) where
+  none_step : {Y : Type 0} (i : ℕ) (x : Y) (place : Option ℕ) (found : Option Y) (b : Bool) → is_none place ≡ is_none found → is_none (cond b (Some i) place) ≡ is_none (cond b (Some x) found)
+  none_step i x place found true e = refl
+  none_step i x place found false e = e
+
+-- no place of a name among the names, and none that has it
+pub unknown_name : {X : Type 0} (own : X → List ℕ) (name : List ℕ) (xs : List X) (names : List (List ℕ)) → names ≡ map own xs → is_none (position (λ other. is_same other name) names) ≡ is_none (find (λ x. is_same (own x) name) xs)
+unknown_name own name xs names e =
+    ap (λ (all : List (List ℕ)). is_none (position (λ other. is_same other name) all)) e
+    ∙ ap is_none (sym (position_mapped own (λ other. is_same other name) (λ x. is_same (own x) name) (λ x. refl) xs) ∙ position_from-zero (λ x. is_same (own x) name) xs)
+    ∙ none_from (λ x. is_same (own x) name) 0 xs
+
+or_end : (end place : ℕ) → place ≤ end → unwrap_or (within end place) end ≡ place
+or_end end place most = by_test (nat_lt place end) refl where
+  by_test : (b : Bool) → nat_lt place end ≡ b → unwrap_or (cond b (Some place) None) end ≡ place
+  by_test true e = refl
+  by_test false e = omega (arith, most, ltb-false place end e)
+
+-- the place of a name among the names, or else the end, is that of the first that has it
+pub place_of_name : {X : Type 0} (own : X → List ℕ) (name : List ℕ) (xs : List X) (names : List (List ℕ)) → names ≡ map own xs → unwrap_or (position (λ other. is_same other name) names) (length xs) ≡ position_or_len (λ x. is_same (own x) name) xs
+place_of_name own name xs names e =
+    ap (λ (all : List (List ℕ)). unwrap_or (position (λ other. is_same other name) all) (length xs)) e
+    ∙ ap (λ (place : Option ℕ). unwrap_or place (length xs)) (sym (position_mapped own (λ other. is_same other name) (λ x. is_same (own x) name) (λ x. refl) xs))
+    ∙ or_end (length xs) (position_or_len (λ x. is_same (own x) name) xs) (prefix_len-le-length _ xs)
+
+pub none_of : {X : Type 0} (found : Option X) (none : Bool) → is_some found ≡ not none → none ≡ is_none found
+none_of None true e = refl
+none_of None false e = absurd cc
+none_of (Some x) true e = absurd cc
+none_of (Some x) false e = refl

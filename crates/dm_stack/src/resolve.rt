@@ -7,7 +7,6 @@ ghost use Rattle.std.specs.Prelude.{◌≡◌, IfOk, None, find, map, option_cop
 ghost use Rattle.std.specs.List.{list_any};
 ghost use Rattle.dm_table.specs.LoadFault.{first_or};
 ghost use Rattle.dm_stack.specs.Below.{found_columns, found_line, found_target};
-ghost use Rattle.dm_stack.specs.Description.{column_refs};
 ghost use Rattle.dm_stack.specs.Loaded.{found_table};
 ghost use Rattle.dm_stack.specs.Soundness.{all_lines, is_unknown, is_unknown_ref, unknown};
 
@@ -50,7 +49,7 @@ fn is_unknown(stack: &Indexed, target: &Target) -> bool
 }
 
 fn has_unknown(stack: &Indexed, columns: &[Column]) -> bool
-    ensures { result ≡ list_any (is_unknown_ref stack.now) (column_refs columns.now) }
+    ensures { result ≡ list_any (λ column. is_unknown_ref stack.now column.to) columns.now }
 {
     columns.iter().any(|column| stack.is_unknown(&column.to))
 }
