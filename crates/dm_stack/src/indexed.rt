@@ -57,9 +57,17 @@ impl<'a> Indexed<'a> {
 
     /// The devices in their order.
     pub(crate) fn devices(&self) -> &'a [DeviceSpec]
-        ensures { result.now ≡ self.now.devices }
+        ensures devices { result.now ≡ self.now.devices }
+        ensures small { All (λ device. HaveSmallEnds device.lines) result.now }
     {
         self.devices
+    }
+
+    /// The disks in their order.
+    pub(crate) fn disks(&self) -> &'a [Disk]
+        ensures { result.now ≡ self.now.disks }
+    {
+        self.disks
     }
 
     /// Whether what a line names is not there.

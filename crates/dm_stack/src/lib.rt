@@ -4,6 +4,7 @@
 //! soundness again. Lines are found by a `Looker` alone, which counts its searches.
 #![tactic(auto)]
 
+mod depth;
 mod fault;
 mod found;
 mod graph;
@@ -12,6 +13,7 @@ mod indexed;
 mod layout;
 mod limits;
 mod links;
+mod load;
 mod looker;
 mod name_index;
 mod names;
