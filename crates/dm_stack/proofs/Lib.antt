@@ -1,6 +1,9 @@
 pub mod DepthLemmas
+pub mod DepthTests
 pub mod FirstFaults
+pub mod HandedOn
 pub mod ListLemmas
+pub mod LoadLemmas
 pub mod NameLemmas
 pub mod Passes
 pub mod PathLemmas
