@@ -39,3 +39,7 @@ told_depths stack depths e =
 
 pub depth_each : (stack : Description) (depths : List ℕ) → depths ≡ depths_to (links stack) 33 → length depths ≡ length stack.devices
 depth_each stack depths e = ap (λ (all : List ℕ). length all) e ∙ depths_to-length (links stack) 33 ∙ length-map stack.devices (device_links stack)
+
+pub told_deep : (stack : Description) (depths : List ℕ) (devices : List DeviceSpec) → depths ≡ depths_to (links stack) 33 → devices ≡ stack.devices → first_or (faults_at Deep (λ id. nat_lt 32 (get_or depths id 0)) 0 devices) None ≡ first_or (deep stack) None
+told_deep stack depths devices e same =
+    ap (λ (all : List DeviceSpec). first_or (faults_at Deep (λ id. nat_lt 32 (get_or depths id 0)) 0 all) None) same ∙ ap (λ (faults : List LoadFault). first_or faults None) (told_depths stack depths e)

@@ -1,5 +1,5 @@
 -- Checks in a row, what is named among devices that are there, and the first ring.
-use Rattle.std.proofs.Common.{◌≡◌, ℕ, zero, suc, ◌+◌, ◌<◌, Bool, true, false, cond, inr, not, List, [], ◌∷◌, ◌++◌, Option, Some, None, Vec, Global, arith, refl, sym, ap, subst, ◌∙◌, drop, get_or, length, map, take}
+use Rattle.std.proofs.Common.{◌≡◌, ℕ, zero, suc, ◌+◌, ◌<◌, Bool, true, false, cond, inl, inr, not, List, [], ◌∷◌, ◌++◌, Option, Some, None, Vec, Global, arith, refl, sym, ap, subst, ◌∙◌, drop, get_or, length, map, take}
 use Rattle.std.specs.Prelude.{IfSome, IfNone, find, is_none, ◌⊎◌}
 use Rattle.std.specs.List.{AllByRecursion, flat_map, list_any, position_or_len, range_with_len}
 use Rattle.std.proofs.lemmas.Bool.{or_parts}
@@ -19,9 +19,9 @@ use Rattle.dm_stack.specs.Below.{found_columns, found_line, found_target}
 use Rattle.dm_stack.specs.Description.{Description, column_refs, device_links, is_same, links, lower_of, ref_link, target_refs}
 use Rattle.dm_stack.specs.Graph.{IsClosed, Reaches, depths_to, greatest, links_in, links_of}
 use Rattle.dm_stack.specs.Links.{column_links, lower_links, table_links, target_links}
-use Rattle.dm_stack.specs.Load.{IsBehind, IsFirstRing}
+use Rattle.dm_stack.specs.Load.{IsBehind, IsFirstRing, IsRefusedBehind}
 use Rattle.dm_stack.specs.Loaded.{found_table, stack_depth}
-use Rattle.dm_stack.specs.Soundness.{HasNoCycle, IsFirstCycle, all_lines, checks_after, checks_before, depth_of, empty, fault, is_unknown, is_unknown_ref, misplaced, too_large, too_many, twice, unknown}
+use Rattle.dm_stack.specs.Soundness.{HasNoCycle, IsFirstCycle, IsRefusedBy, Late, OnCycle, all_lines, checks_after, checks_before, depth_of, empty, fault, is_unknown, is_unknown_ref, misplaced, too_large, too_many, twice, unknown}
 use Rattle.dm_stack.proofs.HandedOn.{all_append}
 use Rattle.dm_stack.proofs.Passes.{all_parts, faults_by_none, first_none}
 
@@ -142,15 +142,15 @@ pub first_ring : (named : List (Vec ℕ Global)) (found : Option ℕ) → IfSome
 first_ring named (Some d) found first none = (omega (arith, found.0, length-map named (λ ids. ids.items)), found.1, first)
 first_ring named None found first none = λ d below. none d (omega (arith, length-map named (λ ids. ids.items)))
 
-pub ring_fault : (stack : Description) (d : ℕ) (device : DeviceSpec) → IsFirstRing (links stack) (Some d) → device ≡ get_or stack.devices d device → IsFirstCycle stack (fault Cycle device.at)
-ring_fault stack d device ring is =
+pub ring_fault : (stack : Description) (d : ℕ) (device other : DeviceSpec) → IsFirstRing (links stack) (Some d) → device ≡ get_or stack.devices d other → IsFirstCycle stack (fault Cycle device.at)
+ring_fault stack d device other ring is =
     let within : d < length stack.devices = omega (arith, ring.0, length-map stack.devices (device_links stack)) in
     let here : length (take d stack.devices) ≡ d = length-take-le d stack.devices (omega arith) in
     record {
       before = take d stack.devices;
       device = device;
       after = drop (d + 1) stack.devices;
-      split = sym (take-append-drop d stack.devices) ∙ ap (λ (rest : List DeviceSpec). take d stack.devices ++ rest) (drop_more stack.devices d device within ∙ ap (λ (y : DeviceSpec). y ∷ drop (d + 1) stack.devices) (sym is));
+      split = sym (take-append-drop d stack.devices) ∙ ap (λ (rest : List DeviceSpec). take d stack.devices ++ rest) (drop_more stack.devices d other within ∙ ap (λ (y : DeviceSpec). y ∷ drop (d + 1) stack.devices) (sym is));
       none_before = λ earlier below. ring.2 earlier (omega (arith, here));
       cycle = subst (λ (i : ℕ). Reaches (links stack) i i) (sym here) ring.1;
       is = refl;
@@ -166,3 +166,7 @@ is_behind stack None acyclic e = (acyclic, sym e)
 pub deepest_is : (stack : Description) (depths : List ℕ) → depths ≡ depths_to (links stack) 33 → greatest depths ≡ stack_depth stack
 deepest_is stack depths e =
     ap greatest e ∙ ap (λ (n : ℕ). greatest (map (depth_of stack) (range_with_len 0 n))) (length-map stack.devices (device_links stack))
+
+pub refused_behind : (stack : Description) (at : LoadFault) → first_fault (checks_before stack) ≡ None → IsRefusedBehind stack at → IsRefusedBy stack at
+refused_behind stack at passed (inl ring) = OnCycle passed ring
+refused_behind stack at passed (inr after) = Late passed after.0 after.1
