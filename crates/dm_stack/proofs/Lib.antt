@@ -6,6 +6,7 @@ pub mod ListLemmas
 pub mod LoadLemmas
 pub mod NameLemmas
 pub mod Passes
+pub mod OneFault
 pub mod PathLemmas
 pub mod RoundLemmas
 pub mod SearchLemmas
