@@ -1,5 +1,5 @@
 -- Checks that test each device by its id.
-use Rattle.std.proofs.Common.{◌≡◌, ℕ, zero, suc, ◌+◌, ◌<◌, ◌≤◌, Bool, true, false, cond, List, [], ◌∷◌, Option, Some, None, arith, refl, sym, ap, ◌∙◌, drop, get_or, length, map}
+use Rattle.std.proofs.Common.{◌≡◌, ℕ, suc, ◌+◌, ◌<◌, Bool, true, false, List, [], ◌∷◌, Some, None, arith, refl, sym, ap, ◌∙◌, drop, get_or, length}
 use Rattle.std.specs.Prelude.{nat_lt}
 use Rattle.std.proofs.lemmas.List.{drop_more, length-map}
 use Rattle.dm_table.specs.declared.load_fault.LoadFault.{LoadFault}
@@ -8,7 +8,7 @@ use Rattle.dm_table.specs.declared.load_fault.LoadKind.TheVariants.{Deep}
 use Rattle.dm_table.specs.declared.table.DeviceSpec.{DeviceSpec}
 use Rattle.dm_table.specs.LoadFault.{first_or}
 use Rattle.dm_stack.specs.Description.{Description, device_links, links}
-use Rattle.dm_stack.specs.Graph.{depth_to, depths_to}
+use Rattle.dm_stack.specs.Graph.{depths_to}
 use Rattle.dm_stack.specs.Soundness.{deep, depth_of, fault, faults_at}
 use Rattle.dm_stack.proofs.RoundLemmas.{depths_to-at, depths_to-length}
 

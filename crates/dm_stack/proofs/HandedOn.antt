@@ -8,14 +8,13 @@ use Rattle.dm_table.specs.declared.place.Place.{Place}
 use Rattle.dm_table.specs.declared.table.Line.{Line}
 use Rattle.dm_table.specs.declared.table.DeviceSpec.{DeviceSpec}
 use Rattle.dm_table.specs.declared.load_fault.LoadKind.{LoadKind}
-use Rattle.dm_table.specs.declared.load_fault.LoadKind.TheVariants.{Limit, Twice, Empty, Gap, Overlap, Unknown, Cycle, Deep, Stripe, Range, Memory}
+use Rattle.dm_table.specs.declared.load_fault.LoadKind.TheVariants.{Limit, Twice, Empty, Gap, Overlap, Unknown, Deep, Stripe, Range, Memory}
 use Rattle.dm_table.specs.declared.load_fault.LoadFault.{LoadFault}
 use Rattle.dm_table.specs.LoadFault.{first_or, first_fault}
 use Rattle.dm_stack.specs.Description.{Description, is_same}
 use Rattle.dm_stack.specs.Load.{IsRefusedBehind}
-use Rattle.dm_stack.specs.Soundness.{HaveSmallEnds, IsRefusedBy, all_lines, checks_after, checks_before, deep, depth_of, empty, empty_in, fault, faults_at, faults_by, has_bad_stripes, is_far, is_large, is_unknown, misplaced, misplaced_from, passes_end, past, range, stripe, too_large, too_many, twice, twice_after, unknown, without_lines}
-use Rattle.dm_stack.specs.Soundness as soundness
-use Rattle.dm_stack.proofs.Passes.{all_parts, append_none, faults_by_none, first_none}
+use Rattle.dm_stack.specs.Soundness.{HaveSmallEnds, all_lines, checks_after, checks_before, deep, depth_of, empty, empty_in, fault, faults_at, faults_by, has_bad_stripes, is_far, is_large, is_unknown, misplaced, misplaced_from, passes_end, past, range, stripe, too_large, too_many, twice, twice_after, unknown, without_lines}
+use Rattle.dm_stack.proofs.Passes.{all_parts, append_none, faults_by_none}
 
 -- Ends within the limit
 

@@ -1,6 +1,6 @@
 -- Names by their places: how a set of names tests them, and which stand twice.
 use Rattle.std.proofs.Common.{◌≡◌, ◌≢◌, ℕ, ◌+◌, ◌<◌, ◌≤◌, Bool, true, false, not, List, [], ◌∷◌, ◌++◌, Option, Some, None, Err, String, arith, refl, sym, ap, ◌∙◌, cond, drop, get_or, length, map, take}
-use Rattle.std.specs.Prelude.{find, is_none, is_some, nat_lt, option_map, position, reverse, string_bytes, unwrap_or, ◌||◌}
+use Rattle.std.specs.Prelude.{find, is_none, is_some, nat_lt, position, reverse, string_bytes, unwrap_or, ◌||◌}
 use Rattle.std.specs.List.{list_any, position_from, position_or_len}
 use Rattle.std.proofs.lemmas.List.{drop_more, length-map, map-append, reverse-append, take_more}
 use Rattle.std.proofs.lemmas.Bool.{ltb-false}

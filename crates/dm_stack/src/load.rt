@@ -71,11 +71,7 @@ pub(crate) fn check(
 }
 
 /// The checks before the one for cycles, and the names of the description.
-fn check_lines(
-    alloc: Global,
-    devices: &[DeviceSpec],
-    disks: &[Disk],
-) -> Result<Names, LoadFault>
+fn check_lines(alloc: Global, devices: &[DeviceSpec], disks: &[Disk]) -> Result<Names, LoadFault>
     ensures devices { IfOk result (λ names. names.devices ≡ map (λ device. device.name) devices.now) }
     ensures disks { IfOk result (λ names. names.disks ≡ map (λ disk. disk.name) disks.now) }
     ensures passed { OnOk result (first_fault (checks_before (record { devices = devices.now; disks = disks.now })) ≡ None) }

@@ -1,4 +1,3 @@
-use Rattle.std.proofs.Common.{◌≡◌, sym, ap, subst, ◌∙◌}
 use Rattle.std.proofs.lemmas.Result.{err_from_is_err_and}
 use Rattle.dm_stack.proofs.OneFault.{never_both, refused_once}
 use Rattle.dm_stack.proofs.stack.Stack.load.Goals as goal
