@@ -11,7 +11,7 @@ ghost use Rattle.dm_stack.specs.declared.graph.TheConstants.{MOST_DEPTH};
 ghost use Rattle.dm_stack.specs.declared.limits.TheConstants.{MOST_CHUNK, MOST_DEVICES, MOST_DISKS, MOST_LENGTH, MOST_LINES, MOST_STRIPES};
 ghost use Rattle.dm_map.specs.Units.{BlockUnit};
 ghost use Rattle.dm_stream.specs.declared.lines.TheConstants.{MOST_LINE_BYTES};
-ghost use Rattle.dm_stream.specs.declared.run.TheConstants.{MOST_REQUESTS};
+ghost use Rattle.dm_stream.specs.declared.serve.TheConstants.{MOST_REQUESTS};
 ghost use Rattle.dm_stream.specs.Messages.{IsTold, write_message};
 ghost use Rattle.dm_stream.specs.Outcome.{run_outcome};
 ghost use Rattle.dm_stream.specs.Pieces.{AreFewest, fewest};

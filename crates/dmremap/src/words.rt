@@ -75,20 +75,24 @@ const DISKS_HELP: &str = "The file of the disks, which the format table asks for
 
 const NOTES: &str = "\
 Requests come from the standard input. Pieces go to the standard output, messages to the standard
-error. START, LEN and OFFSET are whole sectors of 512 bytes.
+error. START, LEN, CHUNK and OFFSET are whole sectors of 512 bytes.
 
 FORMAT is one of
   table  lines `NAME: START LEN TYPE ARGS`, as dmsetup(8) prints them
 
 Lines
   FILE      NAME: START LEN linear DEV OFFSET
+            NAME: START LEN striped COLUMNS CHUNK DEV OFFSET DEV OFFSET ..
+            NAME: START LEN zero
             NAME: START LEN error
   DISKS     DISK LEN
   requests  R NAME START LEN      a read
             W NAME START LEN      a write
   pieces    N R DISK START LEN    of the request in line N, which is a read
             N W DISK START LEN    the same of a write
-            N error LEN           sectors that no disk has
+            N zero LEN            sectors that read as zeros
+            N drop LEN            sectors whose writes are thrown away
+            N error LEN           sectors that fail
 DEV is a disk, or /dev/mapper/NAME for a device of FILE.
 
 Exit status

@@ -11,6 +11,7 @@ use std::process::Abort;
 
 mod bad_requests;
 mod faults;
+mod intervals;
 mod large_parts;
 mod parts;
 mod refused_loads;
