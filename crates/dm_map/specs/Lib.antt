@@ -1,1 +1,4 @@
+pub mod Below
+pub mod Mapper
+pub mod Mapping
 pub mod Units
