@@ -9,7 +9,7 @@ use Rattle.dm_stack.specs.Description.{Description, device_len}
 use Rattle.dm_map.specs.declared.piece.Piece.{Piece}
 use Rattle.dm_map.specs.declared.piece.Piece.TheVariants as pieces
 use Rattle.dm_map.specs.Units.{BlockUnit, Fails, units_in, piece_len, diskless_len}
-use Rattle.dm_map.specs.Mapper.{IsCutShort}
+use Rattle.dm_map.specs.Sink.{OfBeginning}
 use Rattle.dm_map.specs.Mapping.{sector_units, units_from, request_units}
 
 -- what holds, holds where there is a fault
@@ -22,8 +22,8 @@ on_err_then (Ok x) P Q f p = tt
 on_err_then (Err e) P Q f p = f p
 
 -- a sink that failed at all of some units was cut short at them
-pub cut_at_all : {S : Type 0} (left : S → List BlockUnit → S → Type 0) (old : S) (units : List BlockUnit) (new : S) → left old units new → IsCutShort left old units new
-cut_at_all left old units new failed = record { front = units; rest = []; whole = append-nil units; left_at = failed }
+pub cut_at_all : {S : Type 0} (left : S → List BlockUnit → S → Type 0) (old : S) (units : List BlockUnit) (new : S) → left old units new → OfBeginning left old units new
+cut_at_all left old units new failed = record { front = units; rest = []; whole = append-nil units; holds = failed }
 
 -- a piece of errors
 pub units_in_fails : (len : ℕ) → units_in Fails len ≡ replicate len Fails

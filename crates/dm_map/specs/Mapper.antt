@@ -1,9 +1,8 @@
 -- A mapper, and what its answers say.
-use Rattle.std.specs.Prelude.{◌≡◌, ℕ, Bool, List, ◌++◌, Result, Ok, Err}
+use Rattle.std.specs.Prelude.{Bool, Result, Ok, Err}
 use Rattle.dm_stack.specs.Description.{Description}
 use Rattle.dm_map.specs.declared.mapper.MapFault.{MapFault}
 use Rattle.dm_map.specs.declared.mapper.MapFault.TheVariants as faults
-use Rattle.dm_map.specs.Units.{BlockUnit}
 
 -- a mapper: its stack, and whether a sink of it failed
 pub record Mapping : Type 0 where
@@ -20,10 +19,3 @@ abbrev pub OnStopped : {F : Type 0} → Result (Unit {0}) (MapFault F) → Type 
 OnStopped (Ok done) P = Unit {0}
 OnStopped (Err (faults.Sink fault)) P = Unit {0}
 OnStopped (Err faults.Stopped) P = P
-
--- a sink failed at a beginning of these units
-pub record IsCutShort {S : Type 0} (left : S → List BlockUnit → S → Type 0) (old : S) (units : List BlockUnit) (new : S) : Type 0 where
-  pub front : List BlockUnit
-  pub rest : List BlockUnit
-  pub whole : front ++ rest ≡ units
-  pub left_at : left old front new

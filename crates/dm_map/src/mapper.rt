@@ -8,7 +8,8 @@ ghost use Rattle.dm_stack.specs.Description.{Description, device_len, disk_len, 
 ghost use Rattle.dm_table.specs.DeviceIo.{fault_of};
 ghost use Rattle.dm_stack.specs.declared.id.Lower.TheVariants.{Disk};
 ghost use Rattle.dm_map.specs.Mapping.{request_units, sector_units, units_from};
-ghost use Rattle.dm_map.specs.Mapper.{OnSinkFault, OnStopped, IsCutShort};
+ghost use Rattle.dm_map.specs.Mapper.{OnSinkFault, OnStopped};
+ghost use Rattle.dm_map.specs.Sink.{OfBeginning};
 ghost use Rattle.dm_map.specs.Units.{units_of, piece_len, diskless_len, IsOnDisks};
 
 use crate::below::{Below, look_below};
@@ -17,14 +18,19 @@ use crate::sink::Sink;
 use dm_stack::{DeviceId, DiskId, Looker, Lower, MOST_DEPTH};
 use dm_table::{Op, Request};
 use std::alloc::{AllocError, Global};
+use std::fmt;
 use std::marker::Model;
+use thiserror::Error;
 
 /// Why a request was not mapped to its end.
-#[derive(Clone, Copy, Debug, PartialEq, Eq, Drop)]
+#[derive(Clone, Copy, Debug, PartialEq, Eq, Drop, Error)]
+#[error_bound(F: fmt::Display)]
 pub enum MapFault<F> {
     /// The sink failed at a piece of this request.
+    #[error("the sink failed: {0}")]
     Sink(F),
     /// A sink failed at an earlier request, so the mapper answers nothing more.
+    #[error("stopped by an earlier fault")]
     Stopped,
 }
 
@@ -89,7 +95,7 @@ impl<'s> Mapper<'s> {
         ensures took { OnOk result (S.took sink.old (request_units self.old.stack request.now.op device request.now.start request.now.len) sink.new) }
         ensures kept { OnOk result ((S.stack sink.new ≡ S.stack sink.old) × (S.faults sink.new ≡ S.faults sink.old)) }
         ensures going { OnOk result ((self.old.stopped ≡ false) × (self.new.stopped ≡ false)) }
-        ensures left { OnSinkFault result (IsCutShort S.left sink.old (request_units self.old.stack request.now.op device request.now.start request.now.len) sink.new) }
+        ensures left { OnSinkFault result (OfBeginning S.left sink.old (request_units self.old.stack request.now.op device request.now.start request.now.len) sink.new) }
         ensures failed { OnSinkFault result (S.faults sink.new ≡ S.faults sink.old + 1) }
         ensures stops { OnSinkFault result ((self.old.stopped ≡ false) × (self.new.stopped ≡ true)) }
         ensures stopped { OnStopped result ((self.old.stopped ≡ true) × (self.new ≡ self.old) × (sink.new ≡ sink.old)) }
@@ -119,7 +125,7 @@ impl<'s> Mapper<'s> {
         ensures same { self.new ≡ self.old }
         ensures took { OnOk result (S.took sink.old (request_units self.old.stack request.now.op device request.now.start request.now.len) sink.new) }
         ensures kept { OnOk result (S.stack sink.new ≡ S.stack sink.old) }
-        ensures left { OnErr result (IsCutShort S.left sink.old (request_units self.old.stack request.now.op device request.now.start request.now.len) sink.new) }
+        ensures left { OnErr result (OfBeginning S.left sink.old (request_units self.old.stack request.now.op device request.now.start request.now.len) sink.new) }
         ensures faults { S.faults sink.new ≡ S.faults sink.old + fault_of result }
     {
         let end = self.looker.len(device);
@@ -144,7 +150,7 @@ impl<'s> Mapper<'s> {
         ensures same { self.new ≡ self.old }
         ensures took { OnOk result (S.took sink.old (units_from self.old.stack request.now.op device request.now.start request.now.len) sink.new) }
         ensures kept { OnOk result (S.stack sink.new ≡ S.stack sink.old) }
-        ensures left { OnErr result (IsCutShort S.left sink.old (units_from self.old.stack request.now.op device request.now.start request.now.len) sink.new) }
+        ensures left { OnErr result (OfBeginning S.left sink.old (units_from self.old.stack request.now.op device request.now.start request.now.len) sink.new) }
         ensures faults { S.faults sink.new ≡ S.faults sink.old + fault_of result }
     {
         for distance in 0..request.len {

@@ -1,7 +1,7 @@
 use Rattle.std.proofs.Common.{◌≡◌, ◌+◌, ◌-◌, ◌++◌, ap, arith, ◌∙◌}
 use Rattle.dm_stack.specs.declared.id.Lower.TheVariants.{Device}
 use Rattle.dm_map.specs.Mapping.{units_from, sector_units}
-use Rattle.dm_map.specs.Mapper.{IsCutShort}
+use Rattle.dm_map.specs.Sink.{OfBeginning}
 use Rattle.dm_map.proofs.Rows.{diskless-le, on_err, units_from_more, units_from_rest}
 use Rattle.dm_map.proofs.mapper.Mapper.serve_sectors.Goals as goal
 
@@ -11,11 +11,11 @@ returns-in_err-piece-clause-left g c =
     let units = c.walk-piece.ensures.units ∙ ap (λ m. sector_units m.stack r.op 32 (Device d) (r.start + l.distance)) l.invariant.same in
     let failed = rw units at c.in_err-piece.ensures.left in
     let left = g.met.S.Sink.took_then_left c.args.sink.now l.sink c.piece.new.self _ _ l.invariant.taken failed in
-    let cut : IsCutShort g.S.Sink.left c.args.sink.now (units_from st r.op d r.start r.len) c.piece.new.self = record {
+    let cut : OfBeginning g.S.Sink.left c.args.sink.now (units_from st r.op d r.start r.len) c.piece.new.self = record {
       front = units_from st r.op d r.start (l.distance + 1);
       rest = units_from st r.op d (r.start + (l.distance + 1)) (r.len - (l.distance + 1));
       whole = units_from_rest st r.op d r.start l.distance r.len c.loop-distance-test.true;
-      left_at = rw units_from_more left;
+      holds = rw units_from_more left;
     } in
     on_err _ _ cut
 
