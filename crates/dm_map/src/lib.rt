@@ -7,8 +7,10 @@
 mod below;
 mod mapper;
 mod piece;
+mod piece_list;
 mod sink;
 
 pub use mapper::{MapFault, Mapper};
 pub use piece::Piece;
+pub use piece_list::PieceList;
 pub use sink::Sink;
