@@ -1,5 +1,5 @@
 -- Devices that name one another, by their indexes: paths, what is reached, depths.
-use Rattle.std.specs.Prelude.{◌≡◌, ℕ, zero, suc, ◌+◌, ◌<◌, max, Bool, true, false, not, List, [], ◌∷◌, length, map}
+use Rattle.std.specs.Prelude.{◌≡◌, ◌⊎◌, ◌↔◌, ℕ, zero, suc, ◌+◌, ◌<◌, max, Bool, true, false, not, List, [], ◌∷◌, length, map}
 use Rattle.std.specs.List.{Contains, count_by, range_with_len, slice_index_or}
 use Rattle.std.specs.Global.{Vec}
 
@@ -62,3 +62,11 @@ IsVisited visited d = slice_index_or visited d false ≡ true
 -- how many devices are not visited
 abbrev pub unvisited : List Bool → ℕ
 unvisited visited = count_by not visited
+
+-- what a visit of these devices makes of what was visited before and of what waited to be looked at
+pub record Visits (named : List ℕ) (before after : List Bool) (waited waits : List ℕ) : Type 0 where
+  pub marks : (e : ℕ) → IsVisited after e ↔ (IsVisited before e ⊎ Contains named e)
+  pub still : (e : ℕ) → Contains waited e → Contains waits e
+  pub fresh : (e : ℕ) → IsVisited after e → IsVisited before e ⊎ Contains waits e
+  pub only : (e : ℕ) → Contains waits e → Contains waited e ⊎ IsVisited after e
+  pub left : unvisited after + length waits ≡ unvisited before + length waited

@@ -4,9 +4,11 @@
 //! soundness again. Lines are found by a `Looker` alone, which counts its searches.
 #![tactic(auto)]
 
+mod fault;
 mod found;
 mod graph;
 mod id;
+mod layout;
 mod limits;
 mod looker;
 mod name_index;

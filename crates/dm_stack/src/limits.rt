@@ -1,4 +1,15 @@
 //! Counts and numbers above their limits.
+//!
+//! Sums of two numbers within the limits fit 64 bits, so every check behind these adds freely. A
+//! limit that changes here changes for the definitions alike, since they name these constants.
+
+ghost use Rattle.std.specs.Prelude.{◌≡◌, None, find, nat_lt, option_copied, slice_get};
+ghost use Rattle.std.specs.List.{list_any};
+ghost use Rattle.dm_table.specs.LoadFault.{first_or};
+ghost use Rattle.dm_stack.specs.Soundness.{all_lines, is_far, is_large, too_large, too_many};
+
+use crate::fault::fault;
+use dm_table::{Column, DeviceSpec, Disk, Line, LoadFault, LoadKind, Target};
 
 /// The most devices of a stack.
 pub const MOST_DEVICES: usize = 1024;
@@ -17,3 +28,92 @@ pub const MOST_STRIPES: usize = 128;
 
 /// The greatest chunk of a striped line, in sectors: 2^32 - 1.
 pub const MOST_CHUNK: u64 = (1 << 32) - 1;
+
+/// The first device, disk or line above the count that is allowed.
+///
+/// Cost: a walk over the devices.
+pub(crate) fn too_many(devices: &[DeviceSpec], disks: &[Disk]) -> Option<LoadFault>
+    ensures { result ≡ first_or (too_many (record { devices = devices.now; disks = disks.now })) None }
+{
+    if MOST_DEVICES < devices.len() {
+        return Some(fault(LoadKind::Limit, devices[MOST_DEVICES].at));
+    }
+    if MOST_DISKS < disks.len() {
+        return Some(fault(LoadKind::Limit, disks[MOST_DISKS].at));
+    }
+    if let Some(line) = line_at(devices, MOST_LINES) {
+        return Some(fault(LoadKind::Limit, line.at));
+    }
+    None
+}
+
+/// The line of an index among the lines of all devices.
+fn line_at(devices: &[DeviceSpec], index: usize) -> Option<&Line>
+    ensures { option_copied result ≡ slice_get (all_lines devices.now) index }
+{
+    let mut left = index;
+    for device in devices {
+        let lines = device.lines.as_slice();
+        if left < lines.len() {
+            return Some(&lines[left]);
+        }
+        left -= lines.len();
+    }
+    None
+}
+
+/// The first line, or else the first disk, with a number above the limit.
+///
+/// Cost: a walk over the lines and their columns, and over the disks.
+pub(crate) fn too_large(devices: &[DeviceSpec], disks: &[Disk]) -> Option<LoadFault>
+    ensures { result ≡ first_or (too_large (record { devices = devices.now; disks = disks.now })) None }
+{
+    if let Some(line) = large_line(devices) {
+        return Some(fault(LoadKind::Limit, line.at));
+    }
+    if let Some(disk) = large_disk(disks) {
+        return Some(fault(LoadKind::Limit, disk.at));
+    }
+    None
+}
+
+fn large_disk(disks: &[Disk]) -> Option<&Disk>
+    ensures { option_copied result ≡ find (λ disk. nat_lt MOST_LENGTH disk.len) disks.now }
+{
+    disks.iter().find(|disk| MOST_LENGTH < disk.len)
+}
+
+fn large_line(devices: &[DeviceSpec]) -> Option<&Line>
+    ensures { option_copied result ≡ find is_large (all_lines devices.now) }
+{
+    devices
+        .iter()
+        .flat_map(|device| device.lines.as_slice().iter())
+        .find(|line| is_large(line))
+}
+
+/// Whether a start, a length, an end or an offset is above the limit.
+fn is_large(line: &Line) -> bool
+    ensures { result ≡ is_large line.now }
+{
+    MOST_LENGTH < line.start
+        || MOST_LENGTH < line.len
+        || MOST_LENGTH - line.start < line.len
+        || is_far(&line.target)
+}
+
+fn is_far(target: &Target) -> bool
+    ensures { result ≡ is_far target.now }
+{
+    match target {
+        Target::Linear { offset, .. } => MOST_LENGTH < *offset,
+        Target::Striped { columns, .. } => has_far_column(columns.as_slice()),
+        Target::Zero | Target::Error => false,
+    }
+}
+
+fn has_far_column(columns: &[Column]) -> bool
+    ensures { result ≡ list_any (λ column. nat_lt MOST_LENGTH column.offset) columns.now }
+{
+    columns.iter().any(|column| MOST_LENGTH < column.offset)
+}

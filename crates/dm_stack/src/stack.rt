@@ -3,14 +3,15 @@
 //! The invariant carries the soundness, so nothing above asks for it again: a value is made only
 //! through the checks of a load. Names are looked up once there; behind it everything goes by ids.
 
-ghost use Rattle.std.specs.Prelude.{◌≡◌, ◌≢◌, ◌<◌, ◌≤◌, ◌^◌, IfErr, IfOk, Some, None, length, position, slice_get, option_map};
-ghost use Rattle.dm_stack.specs.Below.{HoldsSoundly, found_at, found_lines};
+ghost use Rattle.std.specs.Prelude.{◌≡◌, ◌≢◌, ◌<◌, ◌≤◌, ◌^◌, IfErr, IfOk, Some, None, find, length, option_copied, position, slice_get};
+ghost use Rattle.dm_stack.specs.Below.{HoldsSoundly, found_at, found_lines, has_sector};
 ghost use Rattle.dm_stack.specs.Description.{device_len, disk_len, is_ro_at, is_same, name_at, disk_name_at};
 ghost use Rattle.dm_stack.specs.Loaded.{stack_depth};
 ghost use Rattle.dm_stack.specs.Soundness.{IsSound};
 
 use crate::found::{Found, FoundLine, FoundTable};
 use crate::id::{DeviceId, DiskId};
+use crate::layout::end_of;
 use crate::looker::Looker;
 use crate::name_index::NameIndex;
 use dm_table::{DeviceSpec, Disk};
@@ -56,11 +57,7 @@ impl Stack {
         ensures some { 1 ≤ result }
         ensures small { result ≤ 2 ^ 50 }
     {
-        let lines = self.lines(device);
-        match lines.last() {
-            Some(line) => line.start + line.len,
-            None => 0,
-        }
+        end_of(self.spec(device).lines.as_slice())
     }
 
     /// The length of a disk of the stack in sectors, from 1 to 2^50.
@@ -126,6 +123,15 @@ impl Stack {
         Looker::new(self)
     }
 
+    /// What describes a device.
+    fn spec(&self, device: DeviceId) -> &DeviceSpec
+        requires { device < length self.now.devices }
+        ensures spec { slice_get self.now.devices device ≡ Some result.now }
+        ensures sound { IsSound self.now }
+    {
+        &self.devices[device.index()]
+    }
+
     /// The lines of a device in their order, with ids for names.
     fn lines(&self, device: DeviceId) -> &[FoundLine]
         requires { device < length self.now.devices }
@@ -142,11 +148,18 @@ impl Stack {
         ensures line { found_at self.now device sector ≡ Some result.now }
         ensures holds { HoldsSoundly self.now result.now sector }
     {
-        for line in self.lines(device) {
-            if sector - line.start < line.len {
-                return line;
-            }
+        match line_of(self.lines(device), sector) {
+            Some(line) => line,
+            None => unreachable!(),
         }
-        unreachable!()
     }
+}
+
+/// The first line that holds a sector.
+fn line_of(lines: &[FoundLine], sector: u64) -> Option<&FoundLine>
+    ensures { option_copied result ≡ find (has_sector sector) lines.now }
+{
+    lines
+        .iter()
+        .find(|line| line.start <= sector && sector - line.start < line.len)
 }

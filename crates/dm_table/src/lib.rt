@@ -22,6 +22,7 @@ mod short_io;
 mod table;
 mod table_row;
 mod table_text;
+mod target_row;
 mod text_checks;
 
 pub use counted::Counted;

@@ -1,0 +1,16 @@
+//! The faults of the checks.
+//!
+//! Every check behind the reading answers by this one, so that none makes up a place of its own: a
+//! fault stands at the place of the element where it was found.
+
+ghost use Rattle.std.specs.Prelude.{◌≡◌};
+ghost use Rattle.dm_stack.specs.Soundness.{fault};
+
+use dm_table::{LoadFault, LoadKind, Place};
+
+/// A fault of a kind at a place.
+pub(crate) fn fault(kind: LoadKind, at: Place) -> LoadFault
+    ensures { result ≡ fault kind at }
+{
+    LoadFault { kind, at }
+}
