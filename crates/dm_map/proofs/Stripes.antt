@@ -1,5 +1,5 @@
 -- Stripes: the column of a sector is one of the line's, and its sector there is one of the column's share.
-use Rattle.std.proofs.Common.{◌≡◌, ℕ, zero, suc, ◌+◌, ◌-◌, ◌*◌, ◌/◌, ◌%◌, ◌<◌, ◌≤◌, List, [], ◌∷◌, Option, Some, length, get_or, refl, sym, ap, subst, ◌∙◌, arith}
+use Rattle.std.proofs.Common.{◌≡◌, ℕ, zero, suc, ◌+◌, ◌-◌, ◌*◌, ◌/◌, ◌%◌, ◌<◌, ◌≤◌, List, [], ◌∷◌, Option, Some, length, get_or, refl, ap, subst, ◌∙◌, arith}
 use Rattle.std.specs.Prelude.{slice_get}
 use Rattle.std.specs.List.{AllByRecursion}
 use Rattle.std.proofs.lemmas.Nat.{mul-add-lt}
@@ -9,7 +9,7 @@ use Rattle.dm_stack.specs.declared.found.FoundColumn.{FoundColumn}
 use Rattle.dm_stack.specs.declared.found.FoundLine.{FoundLine}
 use Rattle.dm_stack.specs.declared.found.FoundTarget.TheVariants.{Striped}
 use Rattle.dm_stack.specs.Description.{Description, lower_len}
-use Rattle.dm_stack.specs.Below.{column_of, in_column, below_line, below_target, below_column, Lies, AreStripes, HoldsSoundly, IsTargetSound}
+use Rattle.dm_stack.specs.Below.{column_of, in_column, below_line, below_target, below_column, Lies, AreStripes}
 
 -- a sector of a line lies in its column's share of the line
 pub in_column-lt : (chunk count column_len chunks len distance : ℕ) → 0 < chunk → 0 < count → len ≡ count * column_len → column_len ≡ chunks * chunk → distance < len → in_column chunk count distance < column_len
@@ -21,7 +21,7 @@ in_column-lt chunk count column_len chunks len distance chunk_some count_some sh
     rw whole (omega (arith, place))
 
 -- what holds of each element holds of one
-at_place : {X : Type 0} (P : X → Type 0) (xs : List X) (i : ℕ) (x : X) → AllByRecursion P xs → slice_get xs i ≡ Some x → P x
+pub at_place : {X : Type 0} (P : X → Type 0) (xs : List X) (i : ℕ) (x : X) → AllByRecursion P xs → slice_get xs i ≡ Some x → P x
 at_place P [] i x each e = absurd cc
 at_place P (y ∷ ys) zero x each e = let same : y ≡ x = cc in subst (λ z. P z) same each.0
 at_place P (y ∷ ys) (suc i) x each e = at_place P ys i x each.1 e

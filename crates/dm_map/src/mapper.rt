@@ -1,7 +1,8 @@
 //! The mapper: hands the units of requests to a sink.
 //!
-//! It finds lines through its looker alone and keeps no list, so a request takes no memory. What
-//! becomes of a sector is said in `specs/Mapping.antt`; a new target is a new arm of `step` there.
+//! It looks lines up one step at a time and keeps none, so a request takes no memory. Contracts
+//! say what becomes of a request by `specs/Mapping.antt` alone: this walk may be replaced by a
+//! faster one under the same contracts. A new target is an arm of `look_below`.
 
 ghost use Rattle.std.specs.Prelude.{◌≡◌, ℕ, ◌+◌, ◌^◌, ◌<◌, ◌≤◌, ◌∷◌, false, true, length, nat_lt, IfOk, OnOk, OnErr, []};
 ghost use Rattle.dm_stack.specs.Description.{Description, device_len, disk_len, lower_len};
@@ -34,7 +35,8 @@ pub enum MapFault<F> {
     Stopped,
 }
 
-/// Maps requests through the stack of its looker, one after the other.
+/// Maps requests through the stack of its looker, one after the other. A clause sees its stack,
+/// and whether a sink of it failed.
 #[derive(Drop)]
 pub struct Mapper<'s> {
     looker: Looker<'s>,
@@ -63,13 +65,6 @@ impl<'s> Mapper<'s> {
             looker,
             stopped: false,
         })
-    }
-
-    /// Whether a sink failed at an earlier request.
-    pub fn is_stopped(&self) -> bool
-        ensures { result ≡ self.now.stopped }
-    {
-        self.stopped
     }
 
     /// Hands the units of a request of this device to the sink, in rising order of the sectors. A

@@ -1,4 +1,4 @@
-use Rattle.std.proofs.Common.{◌≡◌, ◌+◌, ◌-◌, ◌<◌, length, get_or, refl, subst, sym, ◌∙◌, arith}
+use Rattle.std.proofs.Common.{◌≡◌, ◌-◌, length, get_or, refl, subst, sym, ◌∙◌, arith}
 use Rattle.dm_stack.specs.Below.{AreStripes, IsTargetSound, column_of}
 use Rattle.dm_map.proofs.Stripes.{column_inside, below_striped}
 use Rattle.dm_map.proofs.below.look_below.Goals as goal

@@ -1,4 +1,4 @@
-use Rattle.std.proofs.Common.{◌≡◌, ◌+◌, ◌-◌, ◌++◌, ap, arith, ◌∙◌}
+use Rattle.std.proofs.Common.{◌+◌, ◌-◌, ap, arith, ◌∙◌}
 use Rattle.dm_stack.specs.declared.id.Lower.TheVariants.{Device}
 use Rattle.dm_map.specs.Mapping.{units_from, sector_units}
 use Rattle.dm_map.specs.Sink.{OfBeginning}
