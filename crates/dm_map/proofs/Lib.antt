@@ -1,0 +1,4 @@
+pub mod LevelLemmas
+pub mod Rows
+pub mod Stripes
+pub mod There

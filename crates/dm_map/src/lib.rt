@@ -4,8 +4,15 @@
 //! a `Sink` in pieces.
 #![tactic(auto)]
 
+mod below;
+mod levels;
+mod mapper;
 mod piece;
+mod piece_list;
 mod sink;
 
+pub use levels::levels_are_enough;
+pub use mapper::{MapFault, Mapper};
 pub use piece::Piece;
+pub use piece_list::PieceList;
 pub use sink::Sink;

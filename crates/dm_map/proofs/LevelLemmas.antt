@@ -1,0 +1,173 @@
+-- Where the levels are at least a device's depth, their number plays no part.
+use Rattle.std.proofs.Common.{◌≡◌, ℕ, zero, suc, ◌+◌, ◌-◌, ◌<◌, ◌≤◌, Bool, true, false, cond, List, [], ◌∷◌, Option, Some, None, length, map, refl, ap, subst, ◌∙◌, arith}
+use Rattle.std.specs.Prelude.{option_map, slice_get, nat_lt}
+use Rattle.std.specs.List.{AllByRecursion, flat_map}
+use Rattle.std.proofs.lemmas.Bool.{ltb-false}
+use Rattle.std.proofs.lemmas.Option.{get_or_from_slice_get, slice_get-map}
+use Rattle.dm_table.specs.declared.table.DevRef.{DevRef}
+use Rattle.dm_table.specs.declared.table.DevRef.TheVariants as refs
+use Rattle.dm_table.specs.declared.table.Column.{Column}
+use Rattle.dm_table.specs.declared.table.Target.{Target}
+use Rattle.dm_table.specs.declared.table.Target.TheVariants as targets
+use Rattle.dm_table.specs.declared.table.Line.{Line}
+use Rattle.dm_table.specs.declared.table.DeviceSpec.{DeviceSpec}
+use Rattle.dm_table.specs.declared.load_fault.LoadKind.{LoadKind}
+use Rattle.dm_table.specs.declared.load_fault.LoadFault.{LoadFault}
+use Rattle.dm_table.specs.declared.request.Op.TheVariants as ops
+use Rattle.dm_stack.specs.declared.id.Lower.{Lower}
+use Rattle.dm_stack.specs.declared.id.Lower.TheVariants.{Device, Disk}
+use Rattle.dm_stack.specs.declared.graph.TheConstants.{MOST_DEPTH}
+use Rattle.dm_stack.specs.declared.found.FoundColumn.{FoundColumn}
+use Rattle.dm_stack.specs.Description.{Description, is_ro_at, lower_of, target_refs, column_refs, ref_link, device_links, links, lines_or_none}
+use Rattle.dm_stack.specs.Graph.{links_of, greatest, depth_to}
+use Rattle.dm_stack.specs.Below.{Below, Lies, IsZero, IsError, below, below_line, below_target, below_column, column_of, in_column, found_line, found_target, found_columns, holds, line_of}
+use Rattle.dm_stack.specs.Soundness.{IsSound, faults_at, depth_of}
+use Rattle.dm_stack.proofs.Passes.{all_parts, passes_after}
+use Rattle.dm_stack.proofs.SoundLines.{found}
+use Rattle.dm_map.specs.Units.{BlockUnit, Zeros, Drops, Fails}
+use Rattle.dm_map.specs.Mapping.{by_below, read_unit, write_units, IsFreeOfLevels}
+use Rattle.dm_map.proofs.Stripes.{at_place}
+
+-- What lies below a device is among what it names
+
+OnLower : (ℕ → Type 0) → Lower → Type 0
+OnLower P (Device device) = P device
+OnLower P (Disk disk) = Unit {0}
+
+OnBelow : (ℕ → Type 0) → Below → Type 0
+OnBelow P (Lies to sector) = OnLower P to
+OnBelow P IsZero = Unit {0}
+OnBelow P IsError = Unit {0}
+
+on_ref : (stack : Description) (P : ℕ → Type 0) (to : DevRef) → AllByRecursion P (ref_link stack to) → OnLower P (lower_of stack to)
+unfolding OnLower
+on_ref stack P (refs.Device name) each = each.0
+on_ref stack P (refs.Disk name) each = tt
+
+on_columns : (stack : Description) (P : ℕ → Type 0) (columns : List Column) → AllByRecursion P (flat_map (ref_link stack) (column_refs columns)) → AllByRecursion (λ column. OnLower P column.to) (found_columns stack columns)
+on_columns stack P [] each = tt
+on_columns stack P (column ∷ columns) each =
+    let parts = all_parts P (ref_link stack column.to) (flat_map (ref_link stack) (column_refs columns)) each in
+    (on_ref stack P column.to parts.0, on_columns stack P columns parts.1)
+
+on_column : (P : ℕ → Type 0) (columns : List FoundColumn) (i sector : ℕ) (found : Option FoundColumn) → AllByRecursion (λ column. OnLower P column.to) columns → slice_get columns i ≡ found → OnBelow P (below_column found sector)
+unfolding OnBelow
+on_column P columns i sector None each e = tt
+on_column P columns i sector (Some column) each e = at_place (λ c. OnLower P c.to) columns i column each e
+
+on_target : (stack : Description) (P : ℕ → Type 0) (target : Target) (distance : ℕ) → AllByRecursion P (flat_map (ref_link stack) (target_refs target)) → OnBelow P (below_target (found_target stack target) distance)
+unfolding OnBelow
+on_target stack P (targets.Linear to offset) distance each = on_ref stack P to (all_parts P (ref_link stack to) [] each).0
+on_target stack P (targets.Striped chunk columns) distance each =
+    on_column P (found_columns stack columns) (column_of chunk (length (found_columns stack columns)) distance) (in_column chunk (length (found_columns stack columns)) distance) _ (on_columns stack P columns each) refl
+on_target stack P targets.Zero distance each = tt
+on_target stack P targets.Error distance each = tt
+
+on_lines : (stack : Description) (P : ℕ → Type 0) (lines : List Line) → AllByRecursion P (flat_map (λ line. flat_map (ref_link stack) (target_refs line.target)) lines) → AllByRecursion (λ line. AllByRecursion P (flat_map (ref_link stack) (target_refs line.target))) lines
+on_lines stack P [] each = tt
+on_lines stack P (line ∷ lines) each =
+    let parts = all_parts P (flat_map (ref_link stack) (target_refs line.target)) (flat_map (λ l. flat_map (ref_link stack) (target_refs l.target)) lines) each in
+    (parts.0, on_lines stack P lines parts.1)
+
+on_line : (stack : Description) (P : ℕ → Type 0) (lines : List Line) (sector : ℕ) (line : Option Line) → AllByRecursion (λ l. AllByRecursion P (flat_map (ref_link stack) (target_refs l.target))) lines → line_of lines sector ≡ line → OnBelow P (below_line (option_map (found_line stack) line) sector)
+unfolding OnBelow
+on_line stack P lines sector None each e = tt
+on_line stack P lines sector (Some line) each e =
+    on_target stack P line.target (sector - line.start) (found (λ l. AllByRecursion P (flat_map (ref_link stack) (target_refs l.target))) (holds sector) lines line each e).1
+
+on_device : (stack : Description) (P : ℕ → Type 0) (device sector : ℕ) (spec : Option DeviceSpec) → slice_get stack.devices device ≡ spec → AllByRecursion P (links_of (links stack) device) → OnBelow P (below_line (option_map (found_line stack) (line_of (lines_or_none spec) sector)) sector)
+unfolding OnBelow
+on_device stack P device sector None e each = tt
+on_device stack P device sector (Some spec) e each =
+    let is : slice_get (links stack) device ≡ Some (device_links stack spec) = slice_get-map (device_links stack) stack.devices device ∙ ap (option_map (device_links stack)) e in
+    let named : links_of (links stack) device ≡ device_links stack spec = get_or_from_slice_get (links stack) device (device_links stack spec) [] is in
+    on_line stack P spec.lines sector (line_of spec.lines sector) (on_lines stack P spec.lines (subst (AllByRecursion P) named each)) refl
+
+on_below : (stack : Description) (P : ℕ → Type 0) (device sector : ℕ) → AllByRecursion P (links_of (links stack) device) → OnBelow P (below stack device sector)
+on_below stack P device sector each = on_device stack P device sector (slice_get stack.devices device) refl each
+
+-- What a device names is less deep
+
+-- a depth that n levels are enough to see, and that is at most j and k
+record IsShallow (g : List (List ℕ)) (n j k device : ℕ) : Type 0 where
+  seen : depth_to g n device < n
+  first : depth_to g n device ≤ j
+  second : depth_to g n device ≤ k
+
+each_shallow : (g : List (List ℕ)) (n j k : ℕ) (xs : List ℕ) → greatest (map (λ e. depth_to g n e) xs) < n → greatest (map (λ e. depth_to g n e) xs) ≤ j → greatest (map (λ e. depth_to g n e) xs) ≤ k → AllByRecursion (IsShallow g n j k) xs
+each_shallow g n j k [] seen first second = tt
+each_shallow g n j k (x ∷ xs) seen first second =
+    (record { seen = omega arith; first = omega arith; second = omega arith }, each_shallow g n j k xs (omega arith) (omega arith) (omega arith))
+
+named_shallow : (g : List (List ℕ)) (n j k device : ℕ) → IsShallow g (suc n) (suc j) (suc k) device → AllByRecursion (IsShallow g n j k) (links_of g device)
+unfolding depth_to
+named_shallow g n j k device h =
+    each_shallow g n j k (links_of g device) (omega (arith, h.seen)) (omega (arith, h.first)) (omega (arith, h.second))
+
+some_level : (g : List (List ℕ)) (n k device : ℕ) → depth_to g (suc n) device ≤ zero → ⊥
+unfolding depth_to
+some_level g n k device h = omega (arith, h)
+
+-- The units at two numbers of levels
+
+same_below : {X : Type 0} (P : ℕ → Type 0) (b : Below) (zeros fails : X) (f h : Lower → ℕ → X) → OnBelow P b → ((to : Lower) (sector : ℕ) → OnLower P to → f to sector ≡ h to sector) → by_below b zeros fails f ≡ by_below b zeros fails h
+unfolding OnBelow
+same_below P (Lies to sector) zeros fails f h on same = same to sector on
+same_below P IsZero zeros fails f h on same = refl
+same_below P IsError zeros fails f h on same = refl
+
+same_read : (stack : Description) (n j k : ℕ) (lower : Lower) (sector : ℕ) → OnLower (IsShallow (links stack) n j k) lower → read_unit stack j lower sector ≡ read_unit stack k lower sector
+unfolding OnLower read_unit
+same_read stack n j k (Disk disk) sector h = refl
+same_read stack zero j k (Device device) sector h = absurd (omega (arith, h.seen))
+same_read stack (suc n) zero k (Device device) sector h = absurd (some_level (links stack) n k device h.first)
+same_read stack (suc n) (suc j) zero (Device device) sector h = absurd (some_level (links stack) n j device h.second)
+same_read stack (suc n) (suc j) (suc k) (Device device) sector h =
+    same_below (IsShallow (links stack) n j k) (below stack device sector) Zeros Fails (λ to s. read_unit stack j to s) (λ to s. read_unit stack k to s)
+    (on_below stack (IsShallow (links stack) n j k) device sector (named_shallow (links stack) n j k device h)) (λ to s on. same_read stack n j k to s on)
+
+same_write : (stack : Description) (n j k : ℕ) (lower : Lower) (sector : ℕ) → OnLower (IsShallow (links stack) n j k) lower → write_units stack j lower sector ≡ write_units stack k lower sector
+unfolding OnLower write_units
+same_write stack n j k (Disk disk) sector h = refl
+same_write stack zero j k (Device device) sector h = absurd (omega (arith, h.seen))
+same_write stack (suc n) zero k (Device device) sector h = absurd (some_level (links stack) n k device h.first)
+same_write stack (suc n) (suc j) zero (Device device) sector h = absurd (some_level (links stack) n j device h.second)
+same_write stack (suc n) (suc j) (suc k) (Device device) sector h =
+    ap (λ (units : List BlockUnit). cond (is_ro_at stack device) (Fails ∷ []) units)
+    (same_below (IsShallow (links stack) n j k) (below stack device sector) (Drops ∷ []) (Fails ∷ []) (λ to s. write_units stack j to s) (λ to s. write_units stack k to s)
+    (on_below stack (IsShallow (links stack) n j k) device sector (named_shallow (links stack) n j k device h)) (λ to s on. same_write stack n j k to s on))
+
+-- A sound stack is nowhere too deep
+
+cond_none : (fault : LoadFault) (later : List LoadFault) (b : Bool) → cond b (fault ∷ later) later ≡ [] → (b ≡ false) × (later ≡ [])
+cond_none fault later true e = absurd cc
+cond_none fault later false e = (refl, e)
+
+none_at : (kind : LoadKind) (bad : ℕ → Bool) (id i : ℕ) (devices : List DeviceSpec) → faults_at kind bad id devices ≡ [] → i < length devices → bad (id + i) ≡ false
+none_at kind bad id i [] e below = absurd (omega arith)
+none_at kind bad id zero (device ∷ devices) e below =
+    let same : id + 0 ≡ id = omega arith in rw same (cond_none _ _ (bad id) e).0
+none_at kind bad id (suc i) (device ∷ devices) e below =
+    let same : id + suc i ≡ suc id + i = omega arith in rw same (none_at kind bad (suc id) i devices (cond_none _ _ (bad id) e).1 (omega arith))
+
+shallow : (stack : Description) (device : ℕ) → IsSound stack → device < length stack.devices → depth_of stack device ≤ MOST_DEPTH
+shallow stack device sound there =
+    let place : 0 + device ≡ device = omega arith in
+    let passes = none_at _ (λ id. nat_lt MOST_DEPTH (depth_of stack id)) 0 device stack.devices (passes_after stack sound.after).shallow there in
+    ltb-false MOST_DEPTH (depth_of stack device) (subst (λ (id : ℕ). nat_lt MOST_DEPTH (depth_of stack id) ≡ false) place passes)
+
+shallow_at : (stack : Description) (device levels : ℕ) → IsSound stack → device < length stack.devices → depth_of stack device ≤ levels → IsShallow (links stack) (suc MOST_DEPTH) levels MOST_DEPTH device
+shallow_at stack device levels sound there enough =
+    let most = shallow stack device sound there in record { seen = omega (arith, most); first = enough; second = most }
+
+pub reads_free : (stack : Description) → IsSound stack → IsFreeOfLevels stack ops.Read
+unfolding OnLower
+reads_free stack sound = record {
+  same = λ device levels sector there enough. ap (λ (unit : BlockUnit). unit ∷ []) (same_read stack (suc MOST_DEPTH) levels MOST_DEPTH (Device device) sector (shallow_at stack device levels sound there enough));
+}
+
+pub writes_free : (stack : Description) → IsSound stack → IsFreeOfLevels stack ops.Write
+unfolding OnLower
+writes_free stack sound = record {
+  same = λ device levels sector there enough. same_write stack (suc MOST_DEPTH) levels MOST_DEPTH (Device device) sector (shallow_at stack device levels sound there enough);
+}
