@@ -1,0 +1,5 @@
+pub mod Growth
+pub mod Held
+pub mod LineParts
+pub mod LineServed
+pub mod Turns

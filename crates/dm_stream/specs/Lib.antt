@@ -1,0 +1,10 @@
+pub mod Found
+pub mod Holding
+pub mod Join
+pub mod Lines
+pub mod Messages
+pub mod Outcome
+pub mod PieceText
+pub mod Pieces
+pub mod Run
+pub mod WriteAll
