@@ -2,4 +2,5 @@ pub mod Growth
 pub mod Held
 pub mod LineParts
 pub mod LineServed
+pub mod RequestServed
 pub mod Turns

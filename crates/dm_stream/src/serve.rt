@@ -3,18 +3,21 @@
 //! What is written goes by the bytes and ends that the requests delivered, and by nothing else.
 //! A new question about a line is asked in `serve_line`, in the order in which `specs/Outcome.antt` asks it.
 
-ghost use Rattle.std.specs.Prelude.{◌≡◌, ◌≢◌, ◌+◌, ◌<◌, ◌≤◌, ◌++◌, ◌↔◌, [], false, OnOk, IsErrOf};
-ghost use Rattle.dm_table.specs.DeviceIo.{delivery, since};
+ghost use Rattle.std.specs.Prelude.{◌≡◌, ◌≢◌, ◌+◌, ◌<◌, ◌≤◌, ◌++◌, ◌↔◌, [], false, length, OnErr, OnOk, IsErrOf};
+ghost use Rattle.dm_table.specs.DeviceIo.{delivery, fault_of, since};
 ghost use Rattle.dm_table.specs.RequestLine.{values_of};
+ghost use Rattle.dm_stream.specs.declared.lines.TheConstants.{MOST_LINE_BYTES};
 ghost use Rattle.dm_stream.specs.Messages.{IsTold, ending_message};
-ghost use Rattle.dm_stream.specs.Outcome.{device_of, of_device, line_outcome, run_outcome};
+ghost use Rattle.dm_stream.specs.Outcome.{device_of, of_device, line_outcome, request_answer, run_outcome};
 ghost use Rattle.dm_stream.specs.Run.{IsServed, IsLineServed, word_for};
+ghost use Rattle.dm_stream.specs.WriteAll.{IsBeginning};
 
 use crate::ending::{Ending, RequestWord};
+use crate::join::Join;
 use crate::lines::{Lines, Next};
 use crate::message::tell_ending;
-use dm_map::Mapper;
-use dm_stack::Stack;
+use dm_map::{MapFault, Mapper};
+use dm_stack::{DeviceId, Stack};
 use dm_table::{Input, OutFault, Output, Request, RequestFault, parse_request};
 
 /// The most requests of a run.
@@ -28,6 +31,37 @@ fn word_of(fault: RequestFault) -> RequestWord
         RequestFault::Form => RequestWord::Form,
         RequestFault::Number => RequestWord::Number,
         RequestFault::Length => RequestWord::Length,
+    }
+}
+
+/// Writes the answer to a request of a device of the stack: what its units are, in the fewest pieces.
+fn answer_request<'s, W: Output>(
+    stack: &'s Stack,
+    mapper: &mut Mapper<'s>,
+    request: &Request<'_>,
+    device: DeviceId,
+    output: &mut W,
+) -> Result<(), OutFault>
+    requires stack { mapper.old.stack ≡ stack.now }
+    requires going { mapper.old.stopped ≡ false }
+    requires device { device < length stack.now.devices }
+    ensures stack { mapper.new.stack ≡ mapper.old.stack }
+    ensures going { OnOk result (mapper.new.stopped ≡ false) }
+    ensures appends { W.written output.new
+        ≡ W.written output.old ++ since (W.written output.old) (W.written output.new) }
+    ensures ok { OnOk result (since (W.written output.old) (W.written output.new)
+        ≡ request_answer stack.now request.now.number device (values_of request.now)) }
+    ensures err { OnErr result (IsBeginning (request_answer stack.now request.now.number device (values_of request.now))
+        (since (W.written output.old) (W.written output.new))) }
+    ensures faults { W.faults output.new ≡ W.faults output.old + fault_of result }
+    ensures flushes { W.flushes output.new ≡ W.flushes output.old }
+{
+    let mut join = Join::new(stack, output);
+    join.begin(request.number);
+    match mapper.request(request, device, &mut join) {
+        Ok(()) => join.finish(),
+        Err(MapFault::Sink(fault)) => Err(fault),
+        Err(MapFault::Stopped) => unreachable!(),
     }
 }
 
@@ -49,13 +83,17 @@ fn serve_request<'s, W: Output>(
     ensures write_fault { W.faults output.old < W.faults output.new ↔ IsErrOf result Ending.WriteFault }
     ensures no_fault { OnOk result (W.faults output.new ≡ W.faults output.old) }
     ensures grows { W.faults output.old ≤ W.faults output.new }
+    ensures fails_once { W.faults output.new ≤ W.faults output.old + 1 }
     ensures no_read_fault { IsErrOf result Ending.ReadFault → ⊥ }
     ensures flushes { W.flushes output.new ≡ W.flushes output.old }
 {
     let Some(device) = stack.device(request.device) else {
         return Err(Ending::BadRequest(request.number, RequestWord::Unknown));
     };
-    Ok(())
+    match answer_request(stack, mapper, request, device, output) {
+        Ok(()) => Ok(()),
+        Err(OutFault) => Err(Ending::WriteFault),
+    }
 }
 
 /// Writes the answer to a line, or says why the run ends with it.
@@ -78,6 +116,7 @@ fn serve_line<'s, W: Output>(
     ensures write_fault { W.faults output.old < W.faults output.new ↔ IsErrOf result Ending.WriteFault }
     ensures no_fault { OnOk result (W.faults output.new ≡ W.faults output.old) }
     ensures grows { W.faults output.old ≤ W.faults output.new }
+    ensures fails_once { W.faults output.new ≤ W.faults output.old + 1 }
     ensures no_read_fault { IsErrOf result Ending.ReadFault → ⊥ }
     ensures flushes { W.flushes output.new ≡ W.flushes output.old }
 {
@@ -111,6 +150,7 @@ fn serve_lines<'s, R: Input, W: Output>(
     ensures no_more { R.faults requests.new + R.ends requests.new ≤ R.faults requests.old + R.ends requests.old + 1 }
     ensures write_fault { W.faults output.old < W.faults output.new ↔ (result ≡ Ending.WriteFault) }
     ensures grows { W.faults output.old ≤ W.faults output.new }
+    ensures fails_once { W.faults output.new ≤ W.faults output.old + 1 }
     ensures flushes { W.flushes output.new ≡ W.flushes output.old }
 {
     let mut lines = Lines::new();
@@ -153,6 +193,7 @@ fn answer_all<'s, R: Input, W: Output>(
     ensures no_more { R.faults requests.new + R.ends requests.new ≤ R.faults requests.old + R.ends requests.old + 1 }
     ensures write_fault { W.faults output.old < W.faults output.new ↔ (result ≡ Ending.WriteFault) }
     ensures grows { W.faults output.old ≤ W.faults output.new }
+    ensures fails_once { W.faults output.new ≤ W.faults output.old + 1 }
     ensures flushed { result ≢ Ending.WriteFault
         → (W.waiting output.new ≡ []) × (W.flushes output.new ≡ W.flushes output.old + 1) }
     ensures once { W.flushes output.new ≤ W.flushes output.old + 1 }
@@ -211,6 +252,9 @@ pub fn run<'s, R: Input, W: Output, E: Output>(
     ensures tells { E.written messages.new
         ≡ E.written messages.old ++ since (E.written messages.old) (E.written messages.new) }
     ensures grows { W.faults output.old ≤ W.faults output.new }
+    ensures fails_once { W.faults output.new ≤ W.faults output.old + 1 }
+    // The figures of the limits.
+    ensures limits { (MOST_LINE_BYTES ≡ 4096) × (MOST_REQUESTS ≡ 1000000000000) }
 {
     let ending = answer_all(stack, mapper, requests, output);
     tell_ending(messages, ending);
