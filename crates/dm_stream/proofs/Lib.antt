@@ -1,0 +1,3 @@
+pub mod FewestLemmas
+pub mod Growth
+pub mod PieceLemmas

@@ -1,0 +1,5 @@
+pub mod Holding
+pub mod Join
+pub mod PieceText
+pub mod Pieces
+pub mod WriteAll
