@@ -1,10 +1,11 @@
 -- The fewest pieces are pieces of their units and apart, no other pieces are, and none are fewer.
-use Rattle.std.proofs.Common.{◌≡◌, ℕ, zero, suc, ◌+◌, ◌<◌, ◌≤◌, Bool, true, false, cond, List, [], ◌∷◌, ◌++◌, length, refl, sym, ap, subst, ◌∙◌, append_assoc, arith}
+use Rattle.std.proofs.Common.{◌≡◌, ℕ, zero, suc, ◌<◌, ◌≤◌, Bool, true, false, cond, List, [], ◌∷◌, ◌++◌, length, refl, sym, ap, subst, ◌∙◌, arith}
 use Rattle.std.specs.List.{flat_map, AllByRecursion}
 use Rattle.std.proofs.lemmas.List.{append-nil}
 use Rattle.dm_map.specs.Units.{BlockUnit, next_unit, units_in}
+use Rattle.dm_stream.specs.JoinLaws.{onto_begins}
 use Rattle.dm_stream.specs.Pieces.{Piece, piece_units, joins, is_after, onto, fewest, ArePiecesOf, AreApart, AreFewest}
-use Rattle.dm_stream.proofs.PieceLemmas.{joins-next, joined_next, is_after-one, is_after-more, onto_begins, onto-joined, fewest-apart, fewest-run}
+use Rattle.dm_stream.proofs.PieceLemmas.{joins-next, joined_next, is_after-one, is_after-more, onto-joined, fewest-apart, fewest-run}
 
 -- a unit before pieces: the units, the lengths and the number of the pieces that come of it
 record AddsUnit (unit : BlockUnit) (old new : List Piece) : Type 0 where
@@ -50,10 +51,10 @@ fewest_apart [] = tt
 fewest_apart (unit ∷ units) = (onto_adds unit (fewest units)).apart (fewest_apart units)
 
 -- one piece before others of which the first does not go on from it
-fewest-before : (first : BlockUnit) (len : ℕ) (next : Piece) (rest : List BlockUnit) (pieces : List Piece) → 0 < len → 0 < next.len → is_after first len next.first ≡ false → fewest (piece_units next ++ rest) ≡ pieces → fewest (units_in first len ++ piece_units next ++ rest) ≡ record { first = first; len = len } ∷ pieces
+fewest-before : (first : BlockUnit) (len : ℕ) (next : Piece) (rest : List BlockUnit) (pieces : List Piece) → 0 < len → 0 < next.len → is_after first len next.first ≡ false → fewest (piece_units next ++ rest) ≡ pieces → fewest (units_in first len ++ (piece_units next ++ rest)) ≡ record { first = first; len = len } ∷ pieces
 fewest-before first zero next rest pieces some next_some apart e = absurd (omega (arith, some))
 fewest-before first (suc len) next rest pieces some next_some apart e =
-    let P : ℕ → Type 0 = λ n. 0 < n → fewest (units_in next.first n ++ rest) ≡ pieces → fewest (units_in first (suc len) ++ units_in next.first n ++ rest) ≡ record { first = first; len = suc len } ∷ pieces in
+    let P : ℕ → Type 0 = λ n. 0 < n → fewest (units_in next.first n ++ rest) ≡ pieces → fewest (units_in first (suc len) ++ (units_in next.first n ++ rest)) ≡ record { first = first; len = suc len } ∷ pieces in
     (elim next.len as P [
       | zero ↦ λ none f. absurd (omega (arith, none))
       | suc n ↦ λ one f. fewest-apart first len next.first (units_in (next_unit next.first) n ++ rest) apart ∙ ap (λ (ps : List Piece). record { first = first; len = suc len } ∷ ps) f

@@ -1,3 +1,5 @@
 pub mod FewestLemmas
 pub mod Growth
+pub mod JoinLemmas
+pub mod OnDisks
 pub mod PieceLemmas

@@ -1,9 +1,10 @@
 -- How the fewest pieces of units in a row come about one unit at a time.
-use Rattle.std.proofs.Common.{◌≡◌, ℕ, zero, suc, ◌+◌, Bool, true, false, cond, eqb, List, [], ◌∷◌, ◌++◌, refl, sym, ap, ◌∙◌, arith}
+use Rattle.std.proofs.Common.{◌≡◌, ℕ, zero, suc, ◌+◌, true, false, eqb, List, [], ◌∷◌, ◌++◌, refl, sym, ap, ◌∙◌, arith}
 use Rattle.std.specs.Prelude.{nat_eq}
 use Rattle.std.specs.Cmp.Lexicographic.{pointwise}
 use Rattle.std.proofs.lemmas.Bool.{and_parts, and_from, eqb-true, eq-eqb}
 use Rattle.dm_map.specs.Units.{BlockUnit, ReadOf, WriteOf, Zeros, Drops, Fails, CopyOf, FillOf, next_unit, units_in}
+use Rattle.dm_stream.specs.JoinLaws.{onto_begins}
 use Rattle.dm_stream.specs.Pieces.{Piece, numbers_of, is_unit, joins, further, is_after, onto, fewest}
 
 -- lists of numbers that are the same are equal, and the other way round
@@ -18,21 +19,21 @@ same_numbers-refl [] = refl
 same_numbers-refl (x ∷ xs) = and_from _ _ (eq-eqb x x refl) (same_numbers-refl xs)
 
 -- a unit is told by its numbers
-number_at : List ℕ → ℕ → ℕ
+abbrev number_at : List ℕ → ℕ → ℕ
 number_at [] at = 0
 number_at (x ∷ xs) zero = x
 number_at (x ∷ xs) (suc at) = number_at xs at
 
-unit_by : (kind disk sector to to_sector : ℕ) → BlockUnit
-unit_by 0 disk sector to to_sector = ReadOf disk sector
-unit_by 1 disk sector to to_sector = WriteOf disk sector
-unit_by 2 disk sector to to_sector = Zeros
-unit_by 3 disk sector to to_sector = Drops
-unit_by 4 disk sector to to_sector = Fails
-unit_by 5 disk sector to to_sector = CopyOf disk sector to to_sector
-unit_by kind disk sector to to_sector = FillOf disk sector
+abbrev unit_by : (kind disk sector to to_sector : ℕ) → BlockUnit
+unit_by zero disk sector to to_sector = ReadOf disk sector
+unit_by (suc zero) disk sector to to_sector = WriteOf disk sector
+unit_by (suc (suc zero)) disk sector to to_sector = Zeros
+unit_by (suc (suc (suc zero))) disk sector to to_sector = Drops
+unit_by (suc (suc (suc (suc zero)))) disk sector to to_sector = Fails
+unit_by (suc (suc (suc (suc (suc zero))))) disk sector to to_sector = CopyOf disk sector to to_sector
+unit_by (suc (suc (suc (suc (suc (suc more)))))) disk sector to to_sector = FillOf disk sector
 
-unit_from : List ℕ → BlockUnit
+abbrev unit_from : List ℕ → BlockUnit
 unit_from numbers = unit_by (number_at numbers 0) (number_at numbers 1) (number_at numbers 2) (number_at numbers 3) (number_at numbers 4)
 
 unit_again : (unit : BlockUnit) → unit_from (numbers_of unit) ≡ unit
@@ -91,27 +92,14 @@ is_after-more unit len after = ap (λ (u : BlockUnit). is_unit u after) (further
 
 -- units that go on from a piece lengthen it
 units-longer : (unit : BlockUnit) (len more : ℕ) → units_in unit len ++ units_in (further unit len) more ≡ units_in unit (len + more)
-units-longer unit zero more = ap (λ (u : BlockUnit). units_in u more) (further-none unit)
+units-longer unit zero more = let e : 0 + more ≡ more = omega arith in ap (λ (u : BlockUnit). units_in u more) (further-none unit) ∙ ap (units_in unit) (sym e)
 units-longer unit (suc len) more =
+    let e : suc len + more ≡ suc (len + more) = omega arith in
     ap (λ (us : List BlockUnit). unit ∷ us) (ap (λ (u : BlockUnit). units_in (next_unit unit) len ++ units_in u more) (further-more unit len) ∙ units-longer (next_unit unit) len more)
+    ∙ ap (units_in unit) (sym e)
 
 pub units_joined : (unit after : BlockUnit) (len more : ℕ) → is_after unit len after ≡ true → units_in unit (len + more) ≡ units_in unit len ++ units_in after more
 units_joined unit after len more e = sym (ap (λ (u : BlockUnit). units_in unit len ++ units_in u more) (sym (one_unit (further unit len) after e)) ∙ units-longer unit len more)
-
--- the first of the fewest pieces begins with the first unit
-pub record BeginsWith (unit : BlockUnit) (pieces : List Piece) : Type 0 where
-  pub len : ℕ
-  pub later : List Piece
-  pub is : pieces ≡ record { first = unit; len = len } ∷ later
-
-pub onto_begins : (unit : BlockUnit) (pieces : List Piece) → BeginsWith unit (onto unit pieces)
-onto_begins unit [] = record { len = 1; later = []; is = refl }
-onto_begins unit (piece ∷ pieces) =
-    let P : Bool → Type 0 = λ b. BeginsWith unit (cond b (record { first = unit; len = suc piece.len } ∷ pieces) (record { first = unit; len = 1 } ∷ piece ∷ pieces)) in
-    elim (joins unit piece.first) as P [
-      | true ↦ record { len = suc piece.len; later = pieces; is = refl }
-      | false ↦ record { len = 1; later = piece ∷ pieces; is = refl }
-    ]
 
 -- a unit before pieces, by whether the first of them goes on from it
 pub onto-joined : (unit first : BlockUnit) (len : ℕ) (pieces : List Piece) → joins unit first ≡ true → onto unit (record { first = first; len = len } ∷ pieces) ≡ record { first = unit; len = suc len } ∷ pieces
