@@ -1,6 +1,7 @@
 pub mod Found
 pub mod Holding
 pub mod Join
+pub mod JoinLaws
 pub mod Lines
 pub mod Messages
 pub mod Outcome
