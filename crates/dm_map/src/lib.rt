@@ -4,8 +4,11 @@
 //! a `Sink` in pieces.
 #![tactic(auto)]
 
+mod below;
+mod mapper;
 mod piece;
 mod sink;
 
+pub use mapper::{MapFault, Mapper};
 pub use piece::Piece;
 pub use sink::Sink;

@@ -1,0 +1,21 @@
+-- A mapper, and what its answers say.
+use Rattle.std.specs.Prelude.{Bool, Result, Ok, Err}
+use Rattle.dm_stack.specs.Description.{Description}
+use Rattle.dm_map.specs.declared.mapper.MapFault.{MapFault}
+use Rattle.dm_map.specs.declared.mapper.MapFault.TheVariants as faults
+
+-- a mapper: its stack, and whether a sink of it failed
+pub record Mapping : Type 0 where
+  pub stack : Description
+  pub stopped : Bool
+
+-- the answer is that the sink failed, or that the mapper is stopped
+abbrev pub OnSinkFault : {F : Type 0} → Result (Unit {0}) (MapFault F) → Type 0 → Type 0
+OnSinkFault (Ok done) P = Unit {0}
+OnSinkFault (Err (faults.Sink fault)) P = P
+OnSinkFault (Err faults.Stopped) P = Unit {0}
+
+abbrev pub OnStopped : {F : Type 0} → Result (Unit {0}) (MapFault F) → Type 0 → Type 0
+OnStopped (Ok done) P = Unit {0}
+OnStopped (Err (faults.Sink fault)) P = Unit {0}
+OnStopped (Err faults.Stopped) P = P

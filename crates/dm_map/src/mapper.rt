@@ -1,0 +1,217 @@
+//! The mapper: hands the units of requests to a sink.
+//!
+//! It finds lines through its looker alone and keeps no list, so a request takes no memory. What
+//! becomes of a sector is said in `specs/Mapping.antt`; a new target is a new arm of `step` there.
+
+ghost use Rattle.std.specs.Prelude.{◌≡◌, ℕ, ◌+◌, ◌^◌, ◌<◌, ◌≤◌, ◌∷◌, false, true, length, nat_lt, IfOk, OnOk, OnErr, []};
+ghost use Rattle.dm_stack.specs.Description.{Description, device_len, disk_len, lower_len};
+ghost use Rattle.dm_table.specs.DeviceIo.{fault_of};
+ghost use Rattle.dm_stack.specs.declared.id.Lower.TheVariants.{Disk};
+ghost use Rattle.dm_map.specs.Mapping.{request_units, sector_units, units_from};
+ghost use Rattle.dm_map.specs.Mapper.{OnSinkFault, OnStopped};
+ghost use Rattle.dm_map.specs.Sink.{OfBeginning};
+ghost use Rattle.dm_map.specs.Units.{units_of, piece_len, diskless_len, IsOnDisks};
+
+use crate::below::{Below, look_below};
+use crate::piece::Piece;
+use crate::sink::Sink;
+use dm_stack::{DeviceId, DiskId, Looker, Lower, MOST_DEPTH};
+use dm_table::{Op, Request};
+use std::alloc::{AllocError, Global};
+use std::fmt;
+use std::marker::Model;
+use thiserror::Error;
+
+/// Why a request was not mapped to its end.
+#[derive(Clone, Copy, Debug, PartialEq, Eq, Drop, Error)]
+#[error_bound(F: fmt::Display)]
+pub enum MapFault<F> {
+    /// The sink failed at a piece of this request.
+    #[error("the sink failed: {0}")]
+    Sink(F),
+    /// A sink failed at an earlier request, so the mapper answers nothing more.
+    #[error("stopped by an earlier fault")]
+    Stopped,
+}
+
+/// Maps requests through the stack of its looker, one after the other.
+#[derive(Drop)]
+pub struct Mapper<'s> {
+    looker: Looker<'s>,
+    stopped: bool,
+}
+
+impl<'s> Model for Mapper<'s> {
+    ghost use Rattle.dm_map.specs.Mapper.{Mapping};
+
+    ghost Value = { Mapping };
+
+    ghost view = { λ mapper. record { stack = mapper.looker.stack; stopped = mapper.stopped } };
+}
+
+impl<'s> Mapper<'s> {
+    /// A mapper of the looker's stack, not stopped.
+    ///
+    /// # Errors
+    ///
+    /// `AllocError` where memory for its state is missing. There is none to keep as yet.
+    pub fn new(_alloc: Global, looker: Looker<'s>) -> Result<Mapper<'s>, AllocError>
+        ensures stack { IfOk result (λ mapper. mapper.stack ≡ looker.entry.stack) }
+        ensures going { IfOk result (λ mapper. mapper.stopped ≡ false) }
+    {
+        Ok(Mapper {
+            looker,
+            stopped: false,
+        })
+    }
+
+    /// Whether a sink failed at an earlier request.
+    pub fn is_stopped(&self) -> bool
+        ensures { result ≡ self.now.stopped }
+    {
+        self.stopped
+    }
+
+    /// Hands the units of a request of this device to the sink, in rising order of the sectors. A
+    /// request that passes the device's end fails as a whole.
+    ///
+    /// The id is one of the mapper's stack, which is also the sink's, and the sink has room for the
+    /// request. Cost: a look-up of a line a sector and level. No memory is taken.
+    ///
+    /// # Errors
+    ///
+    /// `Sink` where the sink failed: it took a beginning of the units, and the mapper is stopped
+    /// from then on. `Stopped` where it was stopped before: nothing changes.
+    pub fn request<S: Sink>(
+        &mut self,
+        request: &Request<'_>,
+        device: DeviceId,
+        sink: &mut S,
+    ) -> Result<(), MapFault<S::Fault>>
+        requires device { device < length self.old.stack.devices }
+        requires stack { S.stack sink.old ≡ self.old.stack }
+        requires room { request.now.len ≤ S.room sink.old }
+        ensures stack { self.new.stack ≡ self.old.stack }
+        ensures took { OnOk result (S.took sink.old (request_units self.old.stack request.now.op device request.now.start request.now.len) sink.new) }
+        ensures kept { OnOk result ((S.stack sink.new ≡ S.stack sink.old) × (S.faults sink.new ≡ S.faults sink.old)) }
+        ensures going { OnOk result ((self.old.stopped ≡ false) × (self.new.stopped ≡ false)) }
+        ensures left { OnSinkFault result (OfBeginning S.left sink.old (request_units self.old.stack request.now.op device request.now.start request.now.len) sink.new) }
+        ensures failed { OnSinkFault result (S.faults sink.new ≡ S.faults sink.old + 1) }
+        ensures stops { OnSinkFault result ((self.old.stopped ≡ false) × (self.new.stopped ≡ true)) }
+        ensures stopped { OnStopped result ((self.old.stopped ≡ true) × (self.new ≡ self.old) × (sink.new ≡ sink.old)) }
+    {
+        if self.stopped {
+            return Err(MapFault::Stopped);
+        }
+        match self.serve(request, device, sink) {
+            Ok(()) => Ok(()),
+            Err(fault) => {
+                self.stopped = true;
+                Err(MapFault::Sink(fault))
+            }
+        }
+    }
+
+    /// Hands over the units of a request, and leaves it to the caller to stop at a fault.
+    fn serve<S: Sink>(
+        &mut self,
+        request: &Request<'_>,
+        device: DeviceId,
+        sink: &mut S,
+    ) -> Result<(), S::Fault>
+        requires device { device < length self.old.stack.devices }
+        requires stack { S.stack sink.old ≡ self.old.stack }
+        requires room { request.now.len ≤ S.room sink.old }
+        ensures same { self.new ≡ self.old }
+        ensures took { OnOk result (S.took sink.old (request_units self.old.stack request.now.op device request.now.start request.now.len) sink.new) }
+        ensures kept { OnOk result (S.stack sink.new ≡ S.stack sink.old) }
+        ensures left { OnErr result (OfBeginning S.left sink.old (request_units self.old.stack request.now.op device request.now.start request.now.len) sink.new) }
+        ensures faults { S.faults sink.new ≡ S.faults sink.old + fault_of result }
+    {
+        let end = self.looker.len(device);
+        if passes_end(request, end) {
+            return sink.piece(Piece::Error { len: request.len });
+        }
+        self.serve_sectors(request, device, sink)
+    }
+
+    /// Hands over the units of a request that lies inside its device, sector by sector.
+    fn serve_sectors<S: Sink>(
+        &mut self,
+        request: &Request<'_>,
+        device: DeviceId,
+        sink: &mut S,
+    ) -> Result<(), S::Fault>
+        requires device { device < length self.old.stack.devices }
+        requires inside { request.now.start + request.now.len ≤ device_len self.old.stack device }
+        requires small { device_len self.old.stack device ≤ 2 ^ 50 }
+        requires stack { S.stack sink.old ≡ self.old.stack }
+        requires room { request.now.len ≤ S.room sink.old }
+        ensures same { self.new ≡ self.old }
+        ensures took { OnOk result (S.took sink.old (units_from self.old.stack request.now.op device request.now.start request.now.len) sink.new) }
+        ensures kept { OnOk result (S.stack sink.new ≡ S.stack sink.old) }
+        ensures left { OnErr result (OfBeginning S.left sink.old (units_from self.old.stack request.now.op device request.now.start request.now.len) sink.new) }
+        ensures faults { S.faults sink.new ≡ S.faults sink.old + fault_of result }
+    {
+        for distance in 0..request.len {
+            let sector = request.start + distance;
+            let piece = self.walk(request.op, MOST_DEPTH, Lower::Device(device), sector);
+            sink.piece(piece)?;
+        }
+        Ok(())
+    }
+
+    /// The piece of one sector, through at most so many levels of devices.
+    #[tactic(auto, using(crate::proofs::There::device_there), unfolding(crate::specs::Mapping::read_unit, crate::specs::Mapping::write_units))]
+    fn walk(&mut self, op: Op, levels: u32, lower: Lower, sector: u64) -> Piece
+        requires { sector < lower_len self.old.stack lower }
+        ensures units { units_of result ≡ sector_units self.old.stack op levels lower sector }
+        ensures one { piece_len result ≡ 1 }
+        ensures lies { IsOnDisks self.old.stack result }
+        ensures same { self.new ≡ self.old }
+    {
+        let device = match lower {
+            Lower::Device(device) => device,
+            Lower::Disk(disk) => return piece_on(op, disk, sector),
+        };
+        if levels == 0 || (op == Op::Write && self.looker.is_ro(device)) {
+            return Piece::Error { len: 1 };
+        }
+        match look_below(&mut self.looker, device, sector) {
+            Below::Lies(to, sector) => self.walk(op, levels - 1, to, sector),
+            Below::IsZero => match op {
+                Op::Read => Piece::Zero { len: 1 },
+                Op::Write => Piece::Drop { len: 1 },
+            },
+            Below::IsError => Piece::Error { len: 1 },
+        }
+    }
+}
+
+/// Whether a request passes the end of a device.
+fn passes_end(request: &Request<'_>, end: u64) -> bool
+    ensures { result ≡ nat_lt end (request.now.start + request.now.len) }
+{
+    end < request.start || end - request.start < request.len
+}
+
+/// The piece of one sector of a disk.
+#[tactic(auto, using(crate::proofs::There::disk_there), unfolding(crate::specs::Mapping::read_unit, crate::specs::Mapping::write_units))]
+fn piece_on(op: Op, disk: DiskId, sector: u64) -> Piece
+    ensures units { (stack : Description) → (levels : ℕ) → units_of result ≡ sector_units stack op levels (Disk disk) sector }
+    ensures one { piece_len result ≡ 1 }
+    ensures lies { (stack : Description) → sector < disk_len stack disk → IsOnDisks stack result }
+{
+    match op {
+        Op::Read => Piece::Read {
+            disk,
+            start: sector,
+            len: 1,
+        },
+        Op::Write => Piece::Write {
+            disk,
+            start: sector,
+            len: 1,
+        },
+    }
+}
