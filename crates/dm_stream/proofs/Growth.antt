@@ -1,0 +1,40 @@
+-- Lists that only grow, told by what is new.
+use Rattle.std.proofs.Common.{Result, Ok, Err, OnErr, [], ◌≡◌, ℕ, ◌+◌, ◌-◌, List, ◌++◌, length, take, drop, sym, ap, ◌∙◌, append_assoc, take-append-drop}
+use Rattle.std.proofs.Math.Seq.{take-add, drop-append_seam}
+use Rattle.std.proofs.lemmas.List.{take_rest, append-nil}
+use Rattle.dm_table.specs.DeviceIo.{since}
+use Rattle.dm_stream.specs.WriteAll.{IsBeginning}
+
+-- what was put behind a list
+pub since_is : (old new more : List ℕ) → new ≡ old ++ more → since old new ≡ more
+since_is old new more e = ap (drop (length old)) e ∙ drop-append_seam old more
+
+-- a list behind which nothing was put
+pub quiet_since : (old new held : List ℕ) → new ≡ old ++ [] → held ≡ held ++ since old new
+quiet_since old new held e = sym (append-nil held) ∙ ap (λ xs. held ++ xs) (sym (since_is old new [] e))
+
+-- what was put behind it in two steps
+pub since_more : (old mid new : List ℕ) → mid ≡ old ++ since old mid → new ≡ mid ++ since mid new → since old new ≡ since old mid ++ since mid new
+since_more old mid new e f =
+    since_is old new (since old mid ++ since mid new) (f ∙ ap (λ xs. xs ++ since mid new) e ∙ append_assoc old (since old mid) (since mid new))
+
+-- a list that grew in two steps grew
+pub grows_more : (old mid new : List ℕ) → mid ≡ old ++ since old mid → new ≡ mid ++ since mid new → new ≡ old ++ since old new
+grows_more old mid new e f =
+    f ∙ ap (λ xs. xs ++ since mid new) e ∙ append_assoc old (since old mid) (since mid new) ∙ ap (λ xs. old ++ xs) (sym (since_more old mid new e f))
+
+-- the first of some bytes are a beginning of them
+pub front_beginning : (old new bytes : List ℕ) (at : ℕ) → new ≡ old ++ take at bytes → IsBeginning bytes (since old new)
+front_beginning old new bytes at e =
+    (drop at bytes, sym (take-append-drop at bytes) ∙ ap (λ xs. xs ++ drop at bytes) (sym (since_is old new (take at bytes) e)))
+
+-- a write behind the first of some bytes
+pub one_write : (old mid new bytes : List ℕ) (at n : ℕ) → mid ≡ old ++ take at bytes → new ≡ mid ++ take n (take (length bytes - at) (drop at bytes)) → new ≡ old ++ take (at + n) bytes
+one_write old mid new bytes at n e f =
+    f ∙ ap (λ xs. mid ++ take n xs) (take_rest bytes at) ∙ ap (λ xs. xs ++ take n (drop at bytes)) e
+    ∙ append_assoc old (take at bytes) (take n (drop at bytes)) ∙ ap (λ xs. old ++ xs) (sym (take-add at n bytes))
+
+-- a fact is one at an error
+pub on_err : {T E : Type 0} (r : Result T E) (P : Type 0) → P → OnErr r P
+on_err (Ok x) P fact = tt
+on_err (Err e) P fact = fact

@@ -1,0 +1,71 @@
+-- What a join took and left at one piece.
+use Rattle.std.proofs.Common.{◌≡◌, ℕ, zero, suc, ◌+◌, ◌≤◌, true, false, List, ◌++◌, Option, Some, None, sym, ap, subst, ◌∙◌, append_assoc, arith}
+use Rattle.std.proofs.lemmas.List.{append-nil}
+use Rattle.std.proofs.lemmas.Grind.{flat_map-append}
+use Rattle.dm_table.specs.DeviceIo.{since}
+use Rattle.dm_stack.specs.Description.{Description}
+use Rattle.dm_map.specs.declared.piece.Piece as code
+use Rattle.dm_map.specs.Units.{BlockUnit, first_unit, next_unit, piece_len, units_in, units_of}
+use Rattle.dm_stream.specs.Holding.{Holding, held_units, piece_view}
+use Rattle.dm_stream.specs.Join.{HasUnits, HasLeft}
+use Rattle.dm_stream.specs.JoinLaws.{last_of_units, some_before, beginning-before}
+use Rattle.dm_stream.specs.Pieces.{Piece, all_but_last, fewest, is_after}
+use Rattle.dm_stream.specs.PieceText.{piece_text, pieces_text}
+use Rattle.dm_stream.specs.WriteAll.{IsBeginning}
+use Rattle.dm_stream.proofs.PieceLemmas.{fewest-apart, fewest-run, units_joined}
+
+-- where a piece does not go on from another, that one is whole
+pub fewest-whole : (first after : BlockUnit) (len more : ℕ) (rest : List BlockUnit) → 1 ≤ len → 1 ≤ more → is_after first len after ≡ false → fewest (units_in first len ++ units_in after more ++ rest) ≡ fewest (units_in first len) ++ fewest (units_in after more ++ rest)
+fewest-whole first after zero more rest some one apart = absurd (omega arith)
+fewest-whole first after (suc len) zero rest some one apart = absurd (omega arith)
+fewest-whole first after (suc len) (suc more) rest some one apart =
+    ap fewest (append_assoc (units_in first (suc len)) (units_in after (suc more)) rest)
+    ∙ fewest-apart first len after (units_in (next_unit after) more ++ rest) apart
+    ∙ ap (λ (ps : List Piece). ps ++ fewest (units_in after (suc more) ++ rest)) (sym (fewest-run first len))
+
+-- the held piece and one that does not go on from it
+pub held_apart : (old : Option code.Piece) (held piece : code.Piece) → old ≡ Some held → 1 ≤ piece_len held → 1 ≤ piece_len piece → is_after (first_unit held) (piece_len held) (first_unit piece) ≡ false
+    → (rest : List BlockUnit) → fewest (held_units old ++ units_of piece ++ rest) ≡ fewest (held_units old) ++ fewest (units_of piece ++ rest)
+held_apart old held piece is some one apart rest =
+    subst (λ (p : Option code.Piece). fewest (held_units p ++ units_of piece ++ rest) ≡ fewest (held_units p) ++ fewest (units_of piece ++ rest)) (sym is)
+    (fewest-whole (first_unit held) (first_unit piece) (piece_len held) (piece_len piece) rest some one apart)
+
+-- the held piece and one that does, as one
+pub held_joined : (old : Option code.Piece) (held piece both : code.Piece) → old ≡ Some held → is_after (first_unit held) (piece_len held) (first_unit piece) ≡ true → first_unit both ≡ first_unit held → piece_len both ≡ piece_len held + piece_len piece → units_of both ≡ held_units old ++ units_of piece
+held_joined old held piece both is after first len =
+    ap (λ (u : BlockUnit). units_in u (piece_len both)) first ∙ ap (units_in (first_unit held)) len
+    ∙ units_joined (first_unit held) (first_unit piece) (piece_len held) (piece_len piece) after
+    ∙ ap (λ (p : Option code.Piece). held_units p ++ units_of piece) (sym is)
+
+-- the line of a piece is the text of its units
+text_run : (stack : Description) (number : ℕ) (first : BlockUnit) (len : ℕ) → 1 ≤ len → piece_text stack number (record { first = first; len = len }) ≡ pieces_text stack number (fewest (units_in first len))
+text_run stack number first zero some = absurd (omega arith)
+text_run stack number first (suc len) some =
+    sym (ap (pieces_text stack number) (fewest-run first len) ∙ append-nil (piece_text stack number (record { first = first; len = suc len })))
+
+pub held_text : (stack : Description) (number : ℕ) (piece : code.Piece) → 1 ≤ piece_len piece → piece_text stack number (piece_view piece) ≡ pieces_text stack number (fewest (units_of piece))
+held_text stack number piece some = text_run stack number (first_unit piece) (piece_len piece) some
+
+some_units : (unit : BlockUnit) (len : ℕ) → 1 ≤ len → HasUnits (units_in unit len)
+some_units unit zero some = absurd (omega arith)
+some_units unit (suc len) some = tt
+
+-- a piece that did not go on, where the held one was not written whole
+pub left_apart : (old mid new : Holding) (piece : code.Piece) (w0 w1 : List ℕ) → 1 ≤ piece_len piece → mid ≡ old → new ≡ record { stack = mid.stack; number = mid.number; piece = None }
+    → ((rest : List BlockUnit) → fewest (held_units old.piece ++ units_of piece ++ rest) ≡ fewest (held_units old.piece) ++ fewest (units_of piece ++ rest))
+    → IsBeginning (pieces_text mid.stack mid.number (fewest (held_units mid.piece))) (since w0 w1) → w1 ≡ w0 ++ since w0 w1
+    → HasLeft old new (units_of piece) w0 w1
+left_apart old mid new piece w0 w1 some same emptied apart begins appends = record {
+  some = some_units (first_unit piece) (piece_len piece) some;
+  beginning = λ rest.
+      subst (λ (xs : List ℕ). IsBeginning xs (since w0 w1))
+      (sym (ap (λ (ps : List Piece). pieces_text old.stack old.number (all_but_last ps)) (apart rest)
+      ∙ ap (pieces_text old.stack old.number) (last_of_units (fewest (held_units old.piece)) (units_of piece ++ rest) (some_before (units_of piece) rest (some_units (first_unit piece) (piece_len piece) some)))
+      ∙ flat_map-append (piece_text old.stack old.number) (fewest (held_units old.piece)) (all_but_last (fewest (units_of piece ++ rest)))))
+      (beginning-before (pieces_text old.stack old.number (fewest (held_units old.piece))) _ (since w0 w1)
+      (subst (λ (h : Holding). IsBeginning (pieces_text h.stack h.number (fewest (held_units h.piece))) (since w0 w1)) same begins));
+  appends = appends;
+  nothing = ap (λ (h : Holding). h.piece) emptied;
+  stack = ap (λ (h : Holding). h.stack) emptied ∙ ap (λ (h : Holding). h.stack) same;
+  number = ap (λ (h : Holding). h.number) emptied ∙ ap (λ (h : Holding). h.number) same;
+}

@@ -1,0 +1,10 @@
+pub mod FewestLemmas
+pub mod Growth
+pub mod Held
+pub mod JoinLemmas
+pub mod LineParts
+pub mod LineServed
+pub mod OnDisks
+pub mod PieceLemmas
+pub mod RequestServed
+pub mod Turns

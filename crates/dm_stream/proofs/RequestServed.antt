@@ -1,0 +1,112 @@
+-- What is written for a request: its units were taken, or a part of them was left.
+use Rattle.std.proofs.Common.{◌≡◌, ◌<◌, ℕ, Bool, ◌++◌, length, List, [], ◌∷◌, Option, None, Some, sym, ap, refl, ◌∙◌, append_assoc, subst}
+use Rattle.std.specs.List.{position}
+use Rattle.std.proofs.lemmas.Grind.{flat_map-append}
+use Rattle.std.proofs.lemmas.List.{append-nil}
+use Rattle.std.proofs.lemmas.List.Quantifiers.{position-Some}
+use Rattle.dm_table.specs.DeviceIo.{since}
+use Rattle.dm_table.specs.RequestLine.{RequestValues}
+use Rattle.dm_stack.specs.Description.{Description}
+use Rattle.dm_map.specs.Units.{BlockUnit}
+use Rattle.dm_stream.specs.Holding.{Holding, held_units}
+use Rattle.dm_stream.specs.Join.{HasTaken, HasLeft}
+use Rattle.dm_stream.specs.Outcome.{Outcome, after_text, of_device, request_answer}
+use Rattle.dm_stream.specs.Pieces.{Piece, fewest, all_but_last}
+use Rattle.dm_stream.specs.PieceText.{piece_text, pieces_text}
+use Rattle.dm_stream.specs.WriteAll.{IsBeginning}
+use Rattle.dm_stream.proofs.Growth.{since_more}
+
+-- a beginning of a text is one of a longer text
+pub beginning_of_more : (text front more : List ℕ) → IsBeginning text front → IsBeginning (text ++ more) front
+beginning_of_more text front more h =
+    (h.0 ++ more, ap (λ (xs : List ℕ). xs ++ more) h.1 ∙ append_assoc front h.0 more)
+
+-- the text without the last piece is a beginning of the whole
+pub but_last : (stack : Description) (number : ℕ) (pieces : List Piece) → IsBeginning (pieces_text stack number pieces) (pieces_text stack number (all_but_last pieces))
+but_last stack number [] = ([], refl)
+but_last stack number (piece ∷ []) = (pieces_text stack number (piece ∷ []), refl)
+but_last stack number (piece ∷ next ∷ pieces) =
+    let h = but_last stack number (next ∷ pieces) in
+    let text = piece_text stack number piece in
+    (h.0, ap (λ (xs : List ℕ). text ++ xs) h.1 ∙ sym (append_assoc text (pieces_text stack number (all_but_last (next ∷ pieces))) h.0))
+
+-- a beginning of a beginning
+pub beginning_through : (text front first : List ℕ) → IsBeginning text front → IsBeginning front first → IsBeginning text first
+beginning_through text front first h k =
+    (k.0 ++ h.0, h.1 ∙ ap (λ (xs : List ℕ). xs ++ h.0) k.1 ∙ append_assoc first k.0 h.0)
+
+-- with nothing held before, the text of what was taken and then that of what is held is that of all
+pub taken_text : (old new : Holding) (units : List BlockUnit) (before after : List ℕ) → old.piece ≡ None → HasTaken old new units before after
+    → pieces_text old.stack old.number (fewest units) ≡ since before after ++ pieces_text old.stack old.number (fewest (held_units new.piece))
+taken_text old new units before after none taken =
+    let text = pieces_text old.stack old.number in
+    let whole : fewest units ≡ taken.settled ++ fewest (held_units new.piece) =
+    ap fewest (sym (append-nil units)) ∙ ap (λ (p : Option _). fewest (held_units p ++ units ++ [])) (sym none)
+    ∙ taken.told [] ∙ ap (λ (us : List BlockUnit). taken.settled ++ fewest us) (append-nil (held_units new.piece)) in
+    ap text whole ∙ flat_map-append (λ p. piece_text old.stack old.number p) taken.settled (fewest (held_units new.piece))
+    ∙ ap (λ (xs : List ℕ). xs ++ text (fewest (held_units new.piece))) (sym taken.wrote)
+
+-- with nothing held before, what was written of units that were left is a beginning of the text of all
+pub left_text : (old new : Holding) (front rest units : List BlockUnit) (before after : List ℕ) → old.piece ≡ None → front ++ rest ≡ units → HasLeft old new front before after
+    → IsBeginning (pieces_text old.stack old.number (fewest units)) (since before after)
+left_text old new front rest units before after none whole left =
+    let all : fewest (held_units old.piece ++ front ++ rest) ≡ fewest units =
+    ap (λ (p : Option _). fewest (held_units p ++ front ++ rest)) none ∙ ap fewest whole in
+    let pieces = fewest (held_units old.piece ++ front ++ rest) in
+    subst (λ (ps : List Piece). IsBeginning (pieces_text old.stack old.number ps) (since before after)) all
+    (beginning_through (pieces_text old.stack old.number pieces) (pieces_text old.stack old.number (all_but_last pieces)) (since before after) (but_last old.stack old.number pieces) (left.beginning rest))
+
+-- a join that holds nothing, under a request's number
+abbrev pub at_start : Description → ℕ → Holding
+at_start stack number = record { stack = stack; number = number; piece = None }
+
+same_text : (stack : Description) (number : ℕ) (old : Holding) (pieces : List Piece) → old ≡ at_start stack number → pieces_text old.stack old.number pieces ≡ pieces_text stack number pieces
+same_text stack number old pieces e = ap (λ (h : Holding). pieces_text h.stack h.number pieces) e
+
+text_kept : (old new : Holding) (pieces : List Piece) → new.stack ≡ old.stack → new.number ≡ old.number → pieces_text new.stack new.number pieces ≡ pieces_text old.stack old.number pieces
+text_kept old new pieces stack number =
+    ap (λ (s : Description). pieces_text s new.number pieces) stack ∙ ap (λ (n : ℕ). pieces_text old.stack n pieces) number
+
+-- all units were taken, and what was held was written
+pub all_written : (stack : Description) (number : ℕ) (old new : Holding) (units : List BlockUnit) (w0 w1 w2 : List ℕ) → old ≡ at_start stack number → HasTaken old new units w0 w1
+    → w2 ≡ w1 ++ since w1 w2 → since w1 w2 ≡ pieces_text new.stack new.number (fewest (held_units new.piece)) → since w0 w2 ≡ pieces_text stack number (fewest units)
+all_written stack number old new units w0 w1 w2 start taken appends wrote =
+    since_more w0 w1 w2 taken.appends appends
+    ∙ ap (λ (xs : List ℕ). since w0 w1 ++ xs) (wrote ∙ text_kept old new (fewest (held_units new.piece)) taken.stack taken.number)
+    ∙ sym (taken_text old new units w0 w1 (ap (λ (h : Holding). h.piece) start) taken)
+    ∙ same_text stack number old (fewest units) start
+
+-- all units were taken, and a beginning of what was held was written
+pub last_cut : (stack : Description) (number : ℕ) (old new : Holding) (units : List BlockUnit) (w0 w1 w2 : List ℕ) → old ≡ at_start stack number → HasTaken old new units w0 w1
+    → w2 ≡ w1 ++ since w1 w2 → IsBeginning (pieces_text new.stack new.number (fewest (held_units new.piece))) (since w1 w2) → IsBeginning (pieces_text stack number (fewest units)) (since w0 w2)
+last_cut stack number old new units w0 w1 w2 start taken appends wrote = (
+  wrote.0,
+  sym (same_text stack number old (fewest units) start)
+  ∙ taken_text old new units w0 w1 (ap (λ (h : Holding). h.piece) start) taken
+  ∙ ap (λ (xs : List ℕ). since w0 w1 ++ xs) (sym (text_kept old new (fewest (held_units new.piece)) taken.stack taken.number) ∙ wrote.1)
+  ∙ sym (append_assoc (since w0 w1) (since w1 w2) wrote.0)
+  ∙ ap (λ (xs : List ℕ). xs ++ wrote.0) (sym (since_more w0 w1 w2 taken.appends appends))
+)
+
+-- the join failed at a piece
+pub cut_short : (stack : Description) (number : ℕ) (old new : Holding) (front rest units : List BlockUnit) (before after : List ℕ) → old ≡ at_start stack number → front ++ rest ≡ units → HasLeft old new front before after
+    → IsBeginning (pieces_text stack number (fewest units)) (since before after)
+cut_short stack number old new front rest units before after start whole left =
+    subst (λ (text : List ℕ). IsBeginning text (since before after)) (same_text stack number old (fewest units) start)
+    (left_text old new front rest units before after (ap (λ (h : Holding). h.piece) start) whole left)
+
+-- the id of a device that was found is in range
+pub in_range : {X : Type 0} (p : X → Bool) (xs : List X) (i : ℕ) → position p xs ≡ Some i → i < length xs
+in_range p [] i e = absurd cc
+in_range p (x ∷ xs) i e = (position-Some p (x ∷ xs) i x e).0
+
+-- what is served of a request to a device that there is
+pub served_whole : (stack : Description) (number device : ℕ) (found : Option ℕ) (values : RequestValues) (written : List ℕ) (rest : Outcome) → found ≡ Some device → written ≡ request_answer stack number device values
+    → of_device stack number found values rest ≡ after_text written rest
+served_whole stack number device found values written rest is wrote =
+    ap (λ (f : Option ℕ). of_device stack number f values rest) is ∙ ap (λ (text : List ℕ). after_text text rest) (sym wrote)
+
+pub served_cut : (stack : Description) (number device : ℕ) (found : Option ℕ) (values : RequestValues) (written : List ℕ) (rest : Outcome) → found ≡ Some device → IsBeginning (request_answer stack number device values) written
+    → IsBeginning (of_device stack number found values rest).output written
+served_cut stack number device found values written rest is begins =
+    subst (λ (f : Option ℕ). IsBeginning (of_device stack number f values rest).output written) (sym is) (beginning_of_more (request_answer stack number device values) written rest.output begins)

@@ -1,0 +1,16 @@
+use Rattle.dm_stream.proofs.Growth.{on_err}
+use Rattle.dm_stream.proofs.JoinLemmas.{left_apart}
+use Rattle.dm_stream.proofs.join.JoinSink.piece.Goals as goal
+
+pub returns-in_err-finish-clause-left : goal.returns-in_err-finish-clause-left
+returns-in_err-finish-clause-left g c =
+    let apart = c.if-lengthen.ensures in
+    let failed = c.in_err-finish.ensures in
+    let written = g.W.Output.written in
+    on_err c.from_residual.result _ (
+      left_apart c.args.self.now.held c.lengthen.new.self c.finish.new.self.held c.args.piece (written c.args.self.now.writer.now) (written c.finish.new.self.writer.now)
+          c.requires.some apart.same failed.nothing apart.apart failed.err failed.appends,
+      failed.faults,
+      failed.flushes,
+      failed.same_reference,
+    )

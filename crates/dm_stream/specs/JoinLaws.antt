@@ -1,0 +1,137 @@
+-- The laws of a join as a sink: what it took, and then took or left, is one. They stand here since only this is in reach of the laws' place.
+use Rattle.std.proofs.Common.{◌≡◌, ℕ, suc, Bool, true, false, cond, List, [], ◌∷◌, ◌++◌, length, drop, refl, sym, ap, subst, ◌∙◌, append_assoc}
+use Rattle.std.proofs.Math.Seq.{drop-append_seam}
+use Rattle.std.proofs.lemmas.List.{append-nil}
+use Rattle.std.proofs.lemmas.Grind.{flat_map-append}
+use Rattle.dm_table.specs.DeviceIo.{since}
+use Rattle.dm_stack.specs.Description.{Description}
+use Rattle.dm_map.specs.Units.{BlockUnit}
+use Rattle.dm_stream.specs.Holding.{Holding, held_units}
+use Rattle.dm_stream.specs.Join.{HasUnits, HasTaken, HasLeft}
+use Rattle.dm_stream.specs.Pieces.{Piece, all_but_last, fewest, joins, onto}
+use Rattle.dm_stream.specs.PieceText.{piece_text, pieces_text}
+use Rattle.dm_stream.specs.WriteAll.{IsBeginning}
+
+-- nothing was put behind a list by no step
+pub since-same : (xs : List ℕ) → since xs xs ≡ []
+since-same [] = refl
+since-same (x ∷ xs) = since-same xs
+
+pub grows-same : (xs : List ℕ) → xs ≡ xs ++ since xs xs
+grows-same xs = sym (append-nil xs) ∙ ap (λ (ys : List ℕ). xs ++ ys) (sym (since-same xs))
+
+-- what was put behind a list in two steps
+since_is : (old new more : List ℕ) → new ≡ old ++ more → since old new ≡ more
+since_is old new more e = ap (drop (length old)) e ∙ drop-append_seam old more
+
+since_more : (old mid new : List ℕ) → mid ≡ old ++ since old mid → new ≡ mid ++ since mid new → since old new ≡ since old mid ++ since mid new
+since_more old mid new e f =
+    since_is old new (since old mid ++ since mid new) (f ∙ ap (λ (xs : List ℕ). xs ++ since mid new) e ∙ append_assoc old (since old mid) (since mid new))
+
+grows_more : (old mid new : List ℕ) → mid ≡ old ++ since old mid → new ≡ mid ++ since mid new → new ≡ old ++ since old new
+grows_more old mid new e f =
+    f ∙ ap (λ (xs : List ℕ). xs ++ since mid new) e ∙ append_assoc old (since old mid) (since mid new) ∙ ap (λ (xs : List ℕ). old ++ xs) (sym (since_more old mid new e f))
+
+-- the first of the fewest pieces begins with the first unit
+pub record BeginsWith (unit : BlockUnit) (pieces : List Piece) : Type 0 where
+  pub len : ℕ
+  pub later : List Piece
+  pub is : pieces ≡ record { first = unit; len = len } ∷ later
+
+pub onto_begins : (unit : BlockUnit) (pieces : List Piece) → BeginsWith unit (onto unit pieces)
+onto_begins unit [] = record { len = 1; later = []; is = refl }
+onto_begins unit (piece ∷ pieces) =
+    let P : Bool → Type 0 = λ b. BeginsWith unit (cond b (record { first = unit; len = suc piece.len } ∷ pieces) (record { first = unit; len = 1 } ∷ piece ∷ pieces)) in
+    elim (joins unit piece.first) as P [
+      | true ↦ record { len = suc piece.len; later = pieces; is = refl }
+      | false ↦ record { len = 1; later = piece ∷ pieces; is = refl }
+    ]
+
+-- the last of pieces is that of those behind others
+last-behind : (ps : List Piece) (q : Piece) (qs : List Piece) → all_but_last (ps ++ q ∷ qs) ≡ ps ++ all_but_last (q ∷ qs)
+last-behind [] q qs = refl
+last-behind (p ∷ []) q qs = refl
+last-behind (p ∷ next ∷ ps) q qs = ap (λ (rs : List Piece). p ∷ rs) (last-behind (next ∷ ps) q qs)
+
+pub last_of_units : (ps : List Piece) (units : List BlockUnit) → HasUnits units → all_but_last (ps ++ fewest units) ≡ ps ++ all_but_last (fewest units)
+last_of_units ps [] some = absurd some
+last_of_units ps (unit ∷ units) some =
+    let b = onto_begins unit (fewest units) in
+    ap (λ (qs : List Piece). all_but_last (ps ++ qs)) b.is ∙ last-behind ps (record { first = unit; len = b.len }) b.later ∙ ap (λ (qs : List Piece). ps ++ all_but_last qs) (sym b.is)
+
+some_behind : (us vs : List BlockUnit) → HasUnits vs → HasUnits (us ++ vs)
+some_behind [] vs some = some
+some_behind (u ∷ us) vs some = tt
+
+pub some_before : (us vs : List BlockUnit) → HasUnits us → HasUnits (us ++ vs)
+some_before [] vs some = absurd some
+some_before (u ∷ us) vs some = tt
+
+-- a beginning of what stands behind a text, and of the text before what stands behind
+beginning-behind : (text more front : List ℕ) → IsBeginning more front → IsBeginning (text ++ more) (text ++ front)
+beginning-behind text more front begins = (begins.0, ap (λ (xs : List ℕ). text ++ xs) begins.1 ∙ sym (append_assoc text front begins.0))
+
+pub beginning-before : (text more front : List ℕ) → IsBeginning text front → IsBeginning (text ++ more) front
+beginning-before text more front begins = (begins.0 ++ more, ap (λ (xs : List ℕ). xs ++ more) begins.1 ∙ append_assoc front begins.0 more)
+
+-- units in three parts
+parts : (hs us vs rest : List BlockUnit) → hs ++ (us ++ vs) ++ rest ≡ hs ++ us ++ (vs ++ rest)
+parts hs us vs rest = ap (λ (xs : List BlockUnit). xs ++ rest) (sym (append_assoc hs us vs)) ∙ append_assoc (hs ++ us) vs rest
+
+pub took_none : (held : Holding) (w : List ℕ) → HasTaken held held [] w w
+took_none held w = record {
+  settled = [];
+  told = λ rest. ap (λ (us : List BlockUnit). fewest (us ++ rest)) (append-nil (held_units held.piece));
+  wrote = since-same w;
+  appends = grows-same w;
+  stack = refl;
+  number = refl;
+}
+
+-- the pieces of two parts, one after the other
+told_both : (hs bs cs us vs : List BlockUnit) (ps qs : List Piece) (rest : List BlockUnit)
+    → ((rest : List BlockUnit) → fewest (hs ++ us ++ rest) ≡ ps ++ fewest (bs ++ rest)) → fewest (bs ++ vs ++ rest) ≡ qs ++ fewest (cs ++ rest)
+    → fewest (hs ++ (us ++ vs) ++ rest) ≡ ps ++ qs ++ fewest (cs ++ rest)
+told_both hs bs cs us vs ps qs rest first second =
+    ap fewest (parts hs us vs rest) ∙ first (vs ++ rest) ∙ ap (λ (xs : List BlockUnit). ps ++ fewest xs) (sym (append_assoc bs vs rest))
+    ∙ ap (λ (xs : List Piece). ps ++ xs) second ∙ sym (append_assoc ps qs (fewest (cs ++ rest)))
+
+same_text : (a b : Holding) (ps : List Piece) → b.stack ≡ a.stack → b.number ≡ a.number → pieces_text b.stack b.number ps ≡ pieces_text a.stack a.number ps
+same_text a b ps e f = ap (λ (stack : Description). pieces_text stack b.number ps) e ∙ ap (λ (number : ℕ). pieces_text a.stack number ps) f
+
+pub took_more : (a b c : Holding) (us vs : List BlockUnit) (w0 w1 w2 : List ℕ) → HasTaken a b us w0 w1 → HasTaken b c vs w1 w2 → HasTaken a c (us ++ vs) w0 w2
+took_more a b c us vs w0 w1 w2 first second = record {
+  settled = first.settled ++ second.settled;
+  told = λ rest. told_both (held_units a.piece) (held_units b.piece) (held_units c.piece) us vs first.settled second.settled rest first.told (second.told rest);
+  wrote =
+      since_more w0 w1 w2 first.appends second.appends
+      ∙ ap (λ (xs : List ℕ). xs ++ since w1 w2) first.wrote
+      ∙ ap (λ (xs : List ℕ). pieces_text a.stack a.number first.settled ++ xs) (second.wrote ∙ same_text a b second.settled first.stack first.number)
+      ∙ sym (flat_map-append (piece_text a.stack a.number) first.settled second.settled);
+  appends = grows_more w0 w1 w2 first.appends second.appends;
+  stack = second.stack ∙ first.stack;
+  number = second.number ∙ first.number;
+}
+
+-- what was left behind settled pieces
+left_behind : (stack : Description) (number : ℕ) (settled : List Piece) (units : List BlockUnit) (all : List Piece) (wrote front : List ℕ) → HasUnits units → all ≡ settled ++ fewest units → wrote ≡ pieces_text stack number settled ++ front
+    → IsBeginning (pieces_text stack number (all_but_last (fewest units))) front → IsBeginning (pieces_text stack number (all_but_last all)) wrote
+left_behind stack number settled units all wrote front some e f begins =
+    subst (λ (xs : List ℕ). IsBeginning xs wrote)
+    (sym (ap (λ (ps : List Piece). pieces_text stack number (all_but_last ps)) e ∙ ap (pieces_text stack number) (last_of_units settled units some) ∙ flat_map-append (piece_text stack number) settled (all_but_last (fewest units))))
+    (subst (IsBeginning (pieces_text stack number settled ++ pieces_text stack number (all_but_last (fewest units)))) (sym f) (beginning-behind (pieces_text stack number settled) _ front begins))
+
+pub left_more : (a b c : Holding) (us vs : List BlockUnit) (w0 w1 w2 : List ℕ) → HasTaken a b us w0 w1 → HasLeft b c vs w1 w2 → HasLeft a c (us ++ vs) w0 w2
+left_more a b c us vs w0 w1 w2 first second = record {
+  some = some_behind us vs second.some;
+  beginning = λ rest.
+      left_behind a.stack a.number first.settled (held_units b.piece ++ vs ++ rest) _ (since w0 w2) (since w1 w2)
+      (some_before (held_units b.piece ++ vs) rest (some_behind (held_units b.piece) vs second.some))
+      (ap fewest (parts (held_units a.piece) us vs rest) ∙ first.told (vs ++ rest) ∙ ap (λ (xs : List BlockUnit). first.settled ++ fewest xs) (sym (append_assoc (held_units b.piece) vs rest)))
+      (since_more w0 w1 w2 first.appends second.appends ∙ ap (λ (xs : List ℕ). xs ++ since w1 w2) first.wrote)
+      (subst (λ (xs : List ℕ). IsBeginning xs (since w1 w2)) (same_text a b (all_but_last (fewest (held_units b.piece ++ vs ++ rest))) first.stack first.number) (second.beginning rest));
+  appends = grows_more w0 w1 w2 first.appends second.appends;
+  nothing = second.nothing;
+  stack = second.stack ∙ first.stack;
+  number = second.number ∙ first.number;
+}

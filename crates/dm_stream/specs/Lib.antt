@@ -1,0 +1,11 @@
+pub mod Found
+pub mod Holding
+pub mod Join
+pub mod JoinLaws
+pub mod Lines
+pub mod Messages
+pub mod Outcome
+pub mod PieceText
+pub mod Pieces
+pub mod Run
+pub mod WriteAll

@@ -1,0 +1,28 @@
+-- How pieces are written: a line each, under the number of their request.
+use Rattle.std.specs.Prelude.{ℕ, List, [], ◌∷◌, ◌++◌, codes, decimal}
+use Rattle.std.specs.List.{flat_map}
+use Rattle.dm_stack.specs.Description.{Description, disk_name_at}
+use Rattle.dm_map.specs.Units.{BlockUnit, ReadOf, WriteOf, Zeros, Drops, Fails, CopyOf, FillOf}
+use Rattle.dm_stream.specs.Pieces.{Piece}
+
+-- a place on a disk: its name and a sector
+abbrev pub place_text : Description → ℕ → ℕ → List ℕ
+place_text stack disk sector = disk_name_at stack disk ++ 32 ∷ decimal sector
+
+-- the line of a piece, behind the number
+abbrev pub unit_text : Description → BlockUnit → ℕ → List ℕ
+unit_text stack (ReadOf disk sector) len = codes "R " ++ place_text stack disk sector ++ 32 ∷ decimal len
+unit_text stack (WriteOf disk sector) len = codes "W " ++ place_text stack disk sector ++ 32 ∷ decimal len
+unit_text stack Zeros len = codes "zero " ++ decimal len
+unit_text stack Drops len = codes "drop " ++ decimal len
+unit_text stack Fails len = codes "error " ++ decimal len
+unit_text stack (CopyOf disk sector to to_sector) len = codes "copy " ++ place_text stack disk sector ++ 32 ∷ decimal len ++ 32 ∷ place_text stack to to_sector
+unit_text stack (FillOf disk sector) len = codes "fill " ++ decimal len ++ 32 ∷ place_text stack disk sector
+
+-- the line of a piece under a request's number
+abbrev pub piece_text : Description → ℕ → Piece → List ℕ
+piece_text stack number piece = decimal number ++ 32 ∷ unit_text stack piece.first piece.len ++ 10 ∷ []
+
+-- the lines of a request's pieces
+abbrev pub pieces_text : Description → ℕ → List Piece → List ℕ
+pieces_text stack number pieces = flat_map (piece_text stack number) pieces

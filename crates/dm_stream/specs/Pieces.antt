@@ -1,0 +1,81 @@
+-- Pieces of units: units in a row that go on from one another, and the fewest of them.
+use Rattle.std.specs.Prelude.{◌≡◌, ℕ, suc, ◌+◌, ◌<◌, ◌≤◌, Bool, false, List, [], ◌∷◌, length, nat_eq, if◌then◌else◌}
+use Rattle.std.specs.List.{flat_map, AllByRecursion}
+use Rattle.std.specs.Cmp.Lexicographic.{pointwise}
+use Rattle.dm_map.specs.Units.{BlockUnit, ReadOf, WriteOf, Zeros, Drops, Fails, CopyOf, FillOf, next_unit, units_in}
+
+-- a unit, and how many go on from one another from it on, itself among them
+pub record Piece : Type 0 where
+  pub first : BlockUnit
+  pub len : ℕ
+
+-- the units of a piece
+abbrev pub piece_units : Piece → List BlockUnit
+piece_units piece = units_in piece.first piece.len
+
+-- a unit as numbers: which kind it is, and its disks and sectors
+abbrev pub numbers_of : BlockUnit → List ℕ
+numbers_of (ReadOf disk sector) = 0 ∷ disk ∷ sector ∷ []
+numbers_of (WriteOf disk sector) = 1 ∷ disk ∷ sector ∷ []
+numbers_of Zeros = 2 ∷ []
+numbers_of Drops = 3 ∷ []
+numbers_of Fails = 4 ∷ []
+numbers_of (CopyOf disk sector to to_sector) = 5 ∷ disk ∷ sector ∷ to ∷ to_sector ∷ []
+numbers_of (FillOf disk sector) = 6 ∷ disk ∷ sector ∷ []
+
+-- they are one unit
+abbrev pub is_unit : BlockUnit → BlockUnit → Bool
+is_unit unit other = pointwise nat_eq (numbers_of unit) (numbers_of other)
+
+-- the second unit goes on from the first: one kind, the same disks, the next sectors
+abbrev pub joins : BlockUnit → BlockUnit → Bool
+joins unit next = is_unit (next_unit unit) next
+
+-- the unit so many sectors on
+abbrev pub further : BlockUnit → ℕ → BlockUnit
+further (ReadOf disk sector) len = ReadOf disk (sector + len)
+further (WriteOf disk sector) len = WriteOf disk (sector + len)
+further Zeros len = Zeros
+further Drops len = Drops
+further Fails len = Fails
+further (CopyOf disk sector to to_sector) len = CopyOf disk (sector + len) to (to_sector + len)
+further (FillOf disk sector) len = FillOf disk (sector + len)
+
+-- the unit goes on from a piece of len units
+abbrev pub is_after : BlockUnit → ℕ → BlockUnit → Bool
+is_after first len unit = is_unit (further first len) unit
+
+-- a unit before pieces: it lengthens the first of them where that goes on from it
+abbrev pub onto : BlockUnit → List Piece → List Piece
+onto unit [] = record { first = unit; len = 1 } ∷ []
+onto unit (piece ∷ pieces) =
+    if joins unit piece.first then record { first = unit; len = suc piece.len } ∷ pieces else record { first = unit; len = 1 } ∷ piece ∷ pieces
+
+-- the pieces of units, as few as can be
+abbrev pub fewest : List BlockUnit → List Piece
+fewest [] = []
+fewest (unit ∷ units) = onto unit (fewest units)
+
+-- pieces without the last
+abbrev pub all_but_last : List Piece → List Piece
+all_but_last [] = []
+all_but_last (piece ∷ []) = []
+all_but_last (piece ∷ next ∷ pieces) = piece ∷ all_but_last (next ∷ pieces)
+
+-- the pieces have these units, and none is empty
+pub record ArePiecesOf (units : List BlockUnit) (pieces : List Piece) : Type 0 where
+  pub flatten : flat_map piece_units pieces ≡ units
+  pub each : AllByRecursion (λ piece. 0 < piece.len) pieces
+
+-- no piece goes on from the one before it
+abbrev pub AreApart : List Piece → Type 0
+AreApart [] = Unit {0}
+AreApart (piece ∷ []) = Unit {0}
+AreApart (piece ∷ next ∷ pieces) = (is_after piece.first piece.len next.first ≡ false) × AreApart (next ∷ pieces)
+
+-- the pieces that fewest gives: the only ones of the units of which none goes on from the one before, and no others are fewer
+pub record AreFewest (units : List BlockUnit) (pieces : List Piece) : Type 0 where
+  pub are : ArePiecesOf units pieces
+  pub apart : AreApart pieces
+  pub only : (others : List Piece) → ArePiecesOf units others → AreApart others → others ≡ pieces
+  pub least : (others : List Piece) → ArePiecesOf units others → length pieces ≤ length others

@@ -1,0 +1,36 @@
+//! How a run over requests ends.
+//!
+//! Each word of a bad request is a variant, in the order in which they are asked; `message` writes
+//! them. A new word goes where its question is asked.
+
+/// What is wrong with a request, by the first question that says so.
+#[derive(Clone, Copy, Debug, PartialEq, Eq)]
+pub enum RequestWord {
+    /// More than 4,096 bytes without the newline.
+    Long,
+    /// A rest without a newline before a clean end.
+    Unended,
+    /// The line after the last that is allowed.
+    Many,
+    /// Not four fields as a request has them.
+    Form,
+    /// A start or a length that is no number.
+    Number,
+    /// A length of 0, or above 1,048,576.
+    Length,
+    /// No device of that name.
+    Unknown,
+}
+
+/// How a run ends.
+#[derive(Clone, Copy, Debug, PartialEq, Eq)]
+pub enum Ending {
+    /// All requests were answered, up to a clean end.
+    Done,
+    /// The request of this number was bad; those before it were answered.
+    BadRequest(u64, RequestWord),
+    /// Reading requests failed; those before it were answered.
+    ReadFault,
+    /// Writing or flushing the output failed.
+    WriteFault,
+}

@@ -1,0 +1,202 @@
+//! The piece that a join holds back, since the next one may go on from it.
+//!
+//! Its invariant keeps it on the disks of the stack, so that its line can always be written. Of a
+//! new kind of piece say here when one goes on from another, and what both are as one.
+
+ghost use Rattle.std.specs.Prelude.{◌≡◌, ◌+◌, ◌-◌, ◌<◌, ◌≤◌, ◌==◌, ◌++◌, ◌^◌, List, Some, None, length};
+ghost use Rattle.std.specs.Bool.{OnTrue, OnFalse};
+ghost use Rattle.dm_stack.specs.Description.{disk_len};
+ghost use Rattle.dm_map.specs.Units.{BlockUnit, IsOnDisks, diskless_len, first_unit, piece_len, units_of};
+ghost use Rattle.dm_stream.specs.Holding.{Fits, IsHeld, held_diskless, held_units};
+ghost use Rattle.dm_stream.specs.Pieces.{fewest, is_after};
+ghost use Rattle.dm_stream.specs.PieceText.{pieces_text};
+
+use crate::piece_text::{PieceText, piece_line};
+use arrayvec::ArrayVec;
+use dm_map::Piece;
+use dm_stack::{DiskId, Stack};
+use std::marker::Model;
+
+/// At most one piece of a request to a stack's devices, under the request's number.
+#[derive(Drop)]
+pub(crate) struct HeldPiece<'s> {
+    stack: &'s Stack,
+    number: u64,
+    piece: Option<Piece>,
+}
+
+impl<'s> Model for HeldPiece<'s> {
+    ghost use Rattle.dm_stream.specs.Holding.{Holding, IsHeld};
+
+    ghost Value = { Holding };
+
+    ghost view = { λ held. record { stack = held.stack.now; number = held.number; piece = held.piece } };
+
+    ghost invariant = { λ held. IsHeld held.stack.now held.piece };
+}
+
+impl<'s> HeldPiece<'s> {
+    /// No piece, under the number 0.
+    pub(crate) fn new(stack: &'s Stack) -> HeldPiece<'s>
+        ensures { result ≡ record { stack = stack.now; number = 0; piece = None } }
+    {
+        HeldPiece {
+            stack,
+            number: 0,
+            piece: None,
+        }
+    }
+
+    /// Sets the number of the request.
+    pub(crate) fn set_number(&mut self, number: u64)
+        ensures { self.new ≡ record { stack = self.old.stack; number = number; piece = self.old.piece } }
+    {
+        self.number = number;
+    }
+
+    /// Lengthens the held piece by one that goes on from it. Answers false, and changes nothing,
+    /// where none is held or the piece does not go on.
+    pub(crate) fn lengthen(&mut self, piece: &Piece) -> bool
+        requires some { 1 ≤ piece_len piece.now }
+        requires lies { IsOnDisks self.old.stack piece.now }
+        requires room { diskless_len piece.now ≤ 2 ^ 64 - 1 - held_diskless self.old.piece }
+        ensures joined { OnTrue result (held_units self.new.piece ≡ held_units self.old.piece ++ units_of piece.now) }
+        ensures diskless { OnTrue result (held_diskless self.new.piece ≡ held_diskless self.old.piece + diskless_len piece.now) }
+        ensures others { OnTrue result ((self.new.stack ≡ self.old.stack) × (self.new.number ≡ self.old.number)) }
+        ensures same { OnFalse result (self.new ≡ self.old) }
+        // Whatever units are to come, the held piece is whole.
+        ensures apart { OnFalse result ((rest : List BlockUnit) → fewest (held_units self.old.piece ++ units_of piece.now ++ rest)
+            ≡ fewest (held_units self.old.piece) ++ fewest (units_of piece.now ++ rest)) }
+    {
+        let Some(held) = self.piece else {
+            return false;
+        };
+        if !goes_on(&held, piece) {
+            return false;
+        }
+        self.piece = Some(longer(self.stack, &held, length_of(piece)));
+        true
+    }
+
+    /// Holds a piece where none is held.
+    pub(crate) fn hold(&mut self, piece: Piece)
+        requires { IsHeld self.old.stack (Some piece) }
+        ensures { self.new ≡ record { stack = self.old.stack; number = self.old.number; piece = Some piece } }
+    {
+        self.piece = Some(piece);
+    }
+
+    /// Lets the held piece go, and answers its line; an empty text where none is held.
+    pub(crate) fn take_line(&mut self) -> PieceText
+        ensures text { result.items ≡ pieces_text self.old.stack self.old.number (fewest (held_units self.old.piece)) }
+        ensures nothing { self.new ≡ record { stack = self.old.stack; number = self.old.number; piece = None } }
+    {
+        match self.piece.take() {
+            Some(piece) => piece_line(self.stack, self.number, &piece),
+            None => ArrayVec::new(),
+        }
+    }
+}
+
+/// Whether the second piece goes on from the first.
+fn goes_on(held: &Piece, piece: &Piece) -> bool
+    ensures { result ≡ is_after (first_unit held.now) (piece_len held.now) (first_unit piece.now) }
+{
+    match *held {
+        Piece::Read { disk, start, len } => {
+            matches!(*piece, Piece::Read { disk: other, start: next, .. } if other == disk && is_behind(start, len, next))
+        }
+        Piece::Write { disk, start, len } => {
+            matches!(*piece, Piece::Write { disk: other, start: next, .. } if other == disk && is_behind(start, len, next))
+        }
+        Piece::Zero { .. } => matches!(*piece, Piece::Zero { .. }),
+        Piece::Drop { .. } => matches!(*piece, Piece::Drop { .. }),
+        Piece::Error { .. } => matches!(*piece, Piece::Error { .. }),
+        Piece::Copy {
+            disk,
+            start,
+            len,
+            to,
+            to_start,
+        } => {
+            matches!(*piece, Piece::Copy { disk: other, start: next, to: other_to, to_start: next_to, .. } if other == disk && is_behind(start, len, next) && other_to == to && is_behind(to_start, len, next_to))
+        }
+        Piece::Fill { len, disk, start } => {
+            matches!(*piece, Piece::Fill { disk: other, start: next, .. } if other == disk && is_behind(start, len, next))
+        }
+    }
+}
+
+/// Whether a sector is the one behind so many from another on.
+fn is_behind(sector: u64, len: u64, next: u64) -> bool
+    ensures { result ≡ (sector + len == next) }
+{
+    sector <= next && next - sector == len
+}
+
+/// A piece with so many more sectors behind it.
+fn longer(stack: &Stack, held: &Piece, more: u64) -> Piece
+    requires { Fits stack.now (first_unit held.now) (piece_len held.now + more) }
+    ensures first { first_unit result ≡ first_unit held.now }
+    ensures len { piece_len result ≡ piece_len held.now + more }
+    ensures lies { IsOnDisks stack.now result }
+{
+    match *held {
+        Piece::Read { disk, start, len } => Piece::Read {
+            disk,
+            start,
+            len: sum(stack, disk, len, more),
+        },
+        Piece::Write { disk, start, len } => Piece::Write {
+            disk,
+            start,
+            len: sum(stack, disk, len, more),
+        },
+        Piece::Zero { len } => Piece::Zero { len: len + more },
+        Piece::Drop { len } => Piece::Drop { len: len + more },
+        Piece::Error { len } => Piece::Error { len: len + more },
+        Piece::Copy {
+            disk,
+            start,
+            len,
+            to,
+            to_start,
+        } => Piece::Copy {
+            disk,
+            start,
+            len: sum(stack, disk, len, more),
+            to,
+            to_start,
+        },
+        Piece::Fill { len, disk, start } => Piece::Fill {
+            len: sum(stack, disk, len, more),
+            disk,
+            start,
+        },
+    }
+}
+
+/// The sum of two numbers of sectors that a disk has.
+fn sum(stack: &Stack, disk: DiskId, len: u64, more: u64) -> u64
+    requires there { disk < length stack.now.disks }
+    requires inside { len + more ≤ disk_len stack.now disk }
+    ensures { result ≡ len + more }
+{
+    prove!(stack.disk_len(disk) <= 1 << 50);
+    len + more
+}
+
+/// The sectors of a piece.
+fn length_of(piece: &Piece) -> u64
+    ensures { result ≡ piece_len piece.now }
+{
+    match *piece {
+        Piece::Read { len, .. }
+        | Piece::Write { len, .. }
+        | Piece::Zero { len }
+        | Piece::Drop { len }
+        | Piece::Error { len }
+        | Piece::Copy { len, .. }
+        | Piece::Fill { len, .. } => len,
+    }
+}

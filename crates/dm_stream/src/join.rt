@@ -1,0 +1,108 @@
+//! Joins: sinks that write lines.
+//!
+//! One piece is held while others go on from it, so a request takes no memory however long it is.
+//! What a join took is told by whole pieces, whatever units are to come; a change here keeps that.
+
+ghost use Rattle.std.specs.Prelude.{◌≡◌, ◌+◌, ◌-◌, ◌++◌, ◌^◌, List, None, OnErr, OnOk};
+ghost use Rattle.dm_table.specs.DeviceIo.{since, fault_of};
+ghost use Rattle.dm_map.specs.Units.{BlockUnit};
+ghost use Rattle.dm_stream.specs.Holding.{held_diskless, held_units};
+ghost use Rattle.dm_stream.specs.Join.{HasTaken, HasLeft};
+ghost use Rattle.dm_stream.specs.Pieces.{AreFewest, fewest};
+ghost use Rattle.dm_stream.specs.PieceText.{pieces_text};
+ghost use Rattle.dm_stream.specs.WriteAll.{IsBeginning};
+ghost use Rattle.dm_stream.specs.JoinLaws.{took_none, took_more, left_more};
+ghost use Rattle.std.proofs.Common.{ap, refl, ◌∙◌};
+
+use crate::held_piece::HeldPiece;
+use crate::write_all::write_all;
+use dm_map::{Piece, Sink};
+use dm_stack::Stack;
+use dm_table::{OutFault, Output};
+
+/// A sink that joins the pieces of a request to the fewest, and writes each as a line.
+#[derive(Drop)]
+pub struct Join<'s, W> {
+    pub(crate) held: HeldPiece<'s>,
+    pub(crate) writer: &'s mut W,
+}
+
+impl<'s, W: Output> Join<'s, W> {
+    /// A join that holds nothing, for requests to the devices of a stack. The number is 0.
+    pub fn new(stack: &'s Stack, writer: &'s mut W) -> Join<'s, W>
+        ensures nothing { result.held ≡ record { stack = stack.now; number = 0; piece = None } }
+        ensures writer { result.writer.now ≡ writer.old }
+        ensures same_reference { result.writer.ghost_name ≡ writer.entry.ghost_name }
+    {
+        Join {
+            held: HeldPiece::new(stack),
+            writer,
+        }
+    }
+
+    /// Sets the number of the request that comes next. Nothing is held.
+    pub fn begin(&mut self, number: u64)
+        requires { self.old.held.piece ≡ None }
+        ensures number { self.new.held ≡ record { stack = self.old.held.stack; number = number; piece = None } }
+        ensures writer { self.new.writer.now ≡ self.old.writer.now }
+        ensures same_reference { self.new.writer.ghost_name ≡ self.old.writer.ghost_name }
+    {
+        self.held.set_number(number);
+    }
+
+    /// Writes the held piece, at a request's end. Nothing is held then, nor where a write fails.
+    ///
+    /// Cost: as many writes as its one line takes. No memory is taken.
+    pub fn finish(&mut self) -> Result<(), OutFault>
+        ensures ok { OnOk result (since (W.written self.old.writer.now) (W.written self.new.writer.now)
+            ≡ pieces_text self.old.held.stack self.old.held.number (fewest (held_units self.old.held.piece))) }
+        ensures err { OnErr result (IsBeginning (pieces_text self.old.held.stack self.old.held.number (fewest (held_units self.old.held.piece)))
+            (since (W.written self.old.writer.now) (W.written self.new.writer.now))) }
+        ensures appends { W.written self.new.writer.now
+            ≡ W.written self.old.writer.now ++ since (W.written self.old.writer.now) (W.written self.new.writer.now) }
+        ensures nothing { self.new.held ≡ record { stack = self.old.held.stack; number = self.old.held.number; piece = None } }
+        ensures faults { W.faults self.new.writer.now ≡ W.faults self.old.writer.now + fault_of result }
+        ensures flushes { W.flushes self.new.writer.now ≡ W.flushes self.old.writer.now }
+        ensures same_reference { self.new.writer.ghost_name ≡ self.old.writer.ghost_name }
+        // No other pieces of a request's units are as few.
+        ensures fewest { (units : List BlockUnit) → AreFewest units (fewest units) }
+    {
+        let line = self.held.take_line();
+        write_all(&mut *self.writer, line.as_slice())
+    }
+}
+
+impl<W: Output> Sink for Join<'_, W> {
+    type Fault = OutFault;
+
+    ghost stack = { λ join. join.held.stack };
+
+    ghost room = { λ join. 2 ^ 64 - 1 - held_diskless join.held.piece };
+
+    ghost faults = { λ join. W.faults join.writer.now };
+
+    ghost took = { λ old units new. HasTaken old.held new.held units (W.written old.writer.now) (W.written new.writer.now)
+        × (W.faults new.writer.now ≡ W.faults old.writer.now)
+        × (W.flushes new.writer.now ≡ W.flushes old.writer.now)
+        × (new.writer.ghost_name ≡ old.writer.ghost_name) };
+
+    ghost left = { λ old units new. HasLeft old.held new.held units (W.written old.writer.now) (W.written new.writer.now)
+        × (W.faults new.writer.now ≡ W.faults old.writer.now + 1)
+        × (W.flushes new.writer.now ≡ W.flushes old.writer.now)
+        × (new.writer.ghost_name ≡ old.writer.ghost_name) };
+
+    ghost took_nothing = { λ s. (took_none s.held (W.written s.writer.now), refl, refl, refl) };
+
+    ghost took_then_took = { λ a b c us vs first second. (took_more a.held b.held c.held us vs _ _ _ first.0 second.0, second.1 ∙ first.1, second.2 ∙ first.2, second.3 ∙ first.3) };
+
+    ghost took_then_left = { λ a b c us vs first second. (left_more a.held b.held c.held us vs _ _ _ first.0 second.0, second.1 ∙ ap (λ n. n + 1) first.1, second.2 ∙ first.2, second.3 ∙ first.3) };
+
+    fn piece(&mut self, piece: Piece) -> Result<(), OutFault> {
+        if self.held.lengthen(&piece) {
+            return Ok(());
+        }
+        self.finish()?;
+        self.held.hold(piece);
+        Ok(())
+    }
+}

@@ -1,0 +1,22 @@
+//! Requests in, lines out: from bytes of requests to bytes of answers.
+//!
+//! Lines come out of whatever an input hands over, however it is cut; each is answered by the
+//! pieces that a mapper gives, joined and written. What a request's units are is said by the crate
+//! of the mapper; here they become text.
+#![tactic(auto)]
+
+mod ending;
+mod fixed_text;
+mod held_piece;
+mod join;
+mod line_buffer;
+mod lines;
+mod message;
+mod piece_text;
+mod serve;
+mod write_all;
+
+pub use ending::{Ending, RequestWord};
+pub use join::Join;
+pub use lines::{Lines, MOST_LINE_BYTES, Next};
+pub use serve::{MOST_REQUESTS, run};

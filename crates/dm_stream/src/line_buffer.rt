@@ -1,0 +1,54 @@
+//! The slice in which lines are held: where a line ends, room for a read, and the read.
+//! These work on a plain slice and two places in it, so that `lines` deals with its value alone.
+//! Held bytes move only where the room behind them is short: a full buffer of small lines stays.
+ghost use Rattle.std.specs.Prelude.{◌≡◌, ◌+◌, ◌-◌, ◌<◌, ◌≤◌, ◌++◌, ◌∷◌, [], length, take, drop, slice_range, IfOk, MatchOption};
+ghost use Rattle.dm_table.specs.DeviceIo.{given, fault_of, end_of};
+ghost use Rattle.dm_table.specs.Fields.{parts_at};
+
+use dm_table::{InFault, Input};
+use memchr::memchr;
+
+/// The length of the first line, where its newline is held. The first `searched` bytes have none,
+/// and are not looked at.
+pub(crate) fn line_len(held: &[u8], searched: usize) -> Option<usize>
+    requires within { searched ≤ length held.now }
+    requires clear { parts_at 10 (take searched held.now) ≡ take searched held.now ∷ [] }
+    ensures { MatchOption result
+        (parts_at 10 held.now ≡ held.now ∷ [])
+        (λ n. (n < length held.now) × (parts_at 10 held.now ≡ take n held.now ∷ parts_at 10 (drop (n + 1) held.now))) }
+{
+    let n = memchr(b'\n', &held[searched..])?;
+    Some(searched + n)
+}
+
+/// Makes room for more than `room` bytes behind those from `start` to `end`, and answers where they
+/// start then. They stay where they are if the room is there.
+pub(crate) fn make_room(buffer: &mut [u8], start: usize, end: usize, room: usize) -> usize
+    requires ordered { start ≤ end }
+    requires within { end ≤ length buffer.old }
+    requires short { end - start + room < length buffer.old }
+    ensures kept { slice_range buffer.new result (result + (end - start)) ≡ slice_range buffer.old start end }
+    ensures room { result + (end - start) + room < length buffer.new }
+{
+    if start < end && room < buffer.len() - end {
+        return start;
+    }
+    buffer.copy_within(start..end, 0);
+    0
+}
+
+/// Reads once, into the buffer behind its first `end` bytes.
+pub(crate) fn read_behind<R: Input>(
+    buffer: &mut [u8],
+    end: usize,
+    reader: &mut R,
+) -> Result<usize, InFault>
+    requires { end < length buffer.old }
+    ensures within { IfOk result (λ n. end + n ≤ length buffer.new) }
+    ensures kept { take end buffer.new ≡ take end buffer.old }
+    ensures bytes { R.handed reader.new ≡ R.handed reader.old ++ given result (drop end buffer.new) }
+    ensures faults { R.faults reader.new ≡ R.faults reader.old + fault_of result }
+    ensures ends { R.ends reader.new ≡ R.ends reader.old + end_of result 1 }
+{
+    reader.read(&mut buffer[end..])
+}

@@ -1,0 +1,188 @@
+//! The lines of an input, out of a buffer that holds what was read and not yet answered.
+//! A clause sees those bytes alone, so what is answered goes by the bytes and never by their cutting.
+//! No memory is taken, and the search for a newline goes on where the last one stopped: a byte is searched once.
+ghost use Rattle.std.specs.Prelude.{◌≡◌, ◌+◌, ◌≤◌, ◌++◌, [], ◌∷◌, length, take, IfOk, OnErr};
+ghost use Rattle.std.specs.Borrow.{sem};
+ghost use Rattle.std.specs.Io.BufRead.{Rests};
+ghost use Rattle.dm_table.specs.DeviceIo.{delivery, since, fault_of, end_of};
+
+use crate::line_buffer::{line_len, make_room, read_behind};
+use dm_table::{InFault, Input};
+use std::marker::Model;
+
+/// The most bytes of a line, without its newline.
+pub const MOST_LINE_BYTES: usize = 4096;
+
+/// How many bytes the buffer has.
+const ROOM: usize = 65536;
+
+/// What comes next.
+#[derive(Clone, Copy, Debug, PartialEq, Eq)]
+pub enum Next<'a> {
+    /// A line, without its newline.
+    Line(&'a [u8]),
+    /// A clean end behind the last newline.
+    End,
+    /// A clean end behind bytes without a newline.
+    Unended,
+    /// A line of more than 4,096 bytes, or so many without a newline yet.
+    Long,
+    /// The input failed before the next line was whole.
+    ReadFault,
+}
+
+/// What comes next, where a line is the front of what is held.
+enum Found {
+    Line(usize),
+    End,
+    Unended,
+    Long,
+    ReadFault,
+}
+
+/// Lines of an input. A clause sees the bytes that were read and not yet answered.
+#[derive(Drop)]
+pub struct Lines {
+    buffer: [u8; ROOM],
+    start: usize,
+    end: usize,
+}
+
+impl Model for Lines {
+    ghost use Rattle.std.specs.Prelude.{◌≤◌, List, ℕ, slice_range};
+    ghost use Rattle.dm_stream.specs.declared.lines.TheConstants.{ROOM};
+
+    ghost Value = { List ℕ };
+
+    ghost view = { λ lines. slice_range lines.buffer lines.start lines.end };
+
+    ghost invariant = { λ lines. (lines.start ≤ lines.end) × (lines.end ≤ ROOM) };
+}
+
+impl Lines {
+    ghost use Rattle.dm_stream.specs.Lines.{line_parts, next_answer, answer_of, left_of, OnLine};
+    ghost use Rattle.dm_stream.specs.Found.{found_answer, FitsIn, IsLook, OnFoundLine};
+    ghost use Rattle.dm_stream.specs.contracts.lines.Lines.{the_row};
+
+    /// Lines of which nothing was read yet.
+    pub fn new() -> Lines
+        ensures { result ≡ [] }
+    {
+        Lines {
+            buffer: [0; ROOM],
+            start: 0,
+            end: 0,
+        }
+    }
+
+    /// How many bytes are held.
+    fn len(&self) -> usize
+        ensures { result ≡ length self.now }
+    {
+        self.end - self.start
+    }
+
+    /// What the held bytes alone say, where the first `searched` of them have no newline.
+    fn look(&self, searched: usize) -> Option<Found>
+        requires within { searched ≤ length self.now }
+        requires clear { line_parts (take searched self.now) ≡ take searched self.now ∷ [] }
+        ensures { IsLook result self.now }
+    {
+        let held = &self.buffer[self.start..self.end];
+        if let Some(n) = line_len(held, searched) {
+            return Some(if n > MOST_LINE_BYTES {
+                Found::Long
+            } else {
+                Found::Line(n)
+            });
+        }
+        if held.len() > MOST_LINE_BYTES {
+            Some(Found::Long)
+        } else {
+            None
+        }
+    }
+
+    /// Reads once, behind what is held.
+    fn fill<R: Input>(&mut self, reader: &mut R) -> Result<usize, InFault>
+        requires { length self.old ≤ MOST_LINE_BYTES }
+        ensures held { self.new ≡ self.old ++ since (R.handed reader.old) (R.handed reader.new) }
+        ensures bytes { R.handed reader.new
+            ≡ R.handed reader.old ++ since (R.handed reader.old) (R.handed reader.new) }
+        ensures count { IfOk result (λ n. length self.new ≡ length self.old + n) }
+        ensures none { IfOk result (λ n. n ≡ 0 → self.new ≡ self.old) }
+        ensures err { OnErr result (self.new ≡ self.old) }
+        ensures room { length self.new ≤ ROOM }
+        ensures faults { R.faults reader.new ≡ R.faults reader.old + fault_of result }
+        ensures ends { R.ends reader.new ≡ R.ends reader.old + end_of result 1 }
+    {
+        let held = self.end - self.start;
+        self.start = make_room(&mut self.buffer, self.start, self.end, MOST_LINE_BYTES);
+        self.end = self.start + held;
+        let n = read_behind(&mut self.buffer, self.end, reader)?;
+        self.end += n;
+        Ok(n)
+    }
+
+    /// Reads until the held bytes settle what comes next. A line stays held.
+    fn advance<R: Input>(&mut self, reader: &mut R) -> Found
+        ensures held { self.new ≡ self.old ++ since (R.handed reader.old) (R.handed reader.new) }
+        ensures bytes { R.handed reader.new
+            ≡ R.handed reader.old ++ since (R.handed reader.old) (R.handed reader.new) }
+        ensures fits { FitsIn result self.new }
+        ensures quiet { OnFoundLine result
+            ((R.faults reader.new ≡ R.faults reader.old) × (R.ends reader.new ≡ R.ends reader.old)) }
+        ensures no_more { R.faults reader.new + R.ends reader.new ≤ R.faults reader.old + R.ends reader.old + 1 }
+        ensures answer { next_answer (delivery R.handed R.faults R.ends reader.old reader.new).stand (line_parts self.new)
+            ≡ found_answer result self.new }
+    {
+        let mut searched = 0;
+        'turns: loop {
+            if let Some(found) = self.look(searched) {
+                return found;
+            }
+            searched = self.len();
+            match self.fill(reader) {
+                Err(InFault) => return Found::ReadFault,
+                Ok(0) => {
+                    return if searched == 0 {
+                        Found::End
+                    } else {
+                        Found::Unended
+                    };
+                }
+                Ok(_) => {}
+            }
+        }
+    }
+
+    /// The next line, or why there is none. Only a line is gone from what is held.
+    ///
+    /// Cost: time linear in the bytes read and answered, however they come, and no memory.
+    pub fn next<R: Input>(&mut self, reader: &mut R) -> Next<'_>
+        ensures* after { sem 𝓛 (Rests the_row self.entry (λ new.
+            new ≡ left_of (answer_of result) (self.old ++ since (R.handed reader.old) (R.handed reader.new)))) }
+        ensures bytes { R.handed reader.new
+            ≡ R.handed reader.old ++ since (R.handed reader.old) (R.handed reader.new) }
+        // A line is answered before an end or a fault is met.
+        ensures quiet { OnLine result
+            ((R.faults reader.new ≡ R.faults reader.old) × (R.ends reader.new ≡ R.ends reader.old)) }
+        // Nothing is read behind an end or a fault.
+        ensures no_more { R.faults reader.new + R.ends reader.new ≤ R.faults reader.old + R.ends reader.old + 1 }
+        ensures answer { answer_of result ≡ next_answer (delivery R.handed R.faults R.ends reader.old reader.new).stand
+            (line_parts (self.old ++ since (R.handed reader.old) (R.handed reader.new))) }
+    {
+        match self.advance(reader) {
+            Found::Line(n) => {
+                let start = self.start;
+                self.start = start + n + 1;
+                let buffer = &self.buffer;
+                Next::Line(&buffer[start..start + n])
+            }
+            Found::End => Next::End,
+            Found::Unended => Next::Unended,
+            Found::Long => Next::Long,
+            Found::ReadFault => Next::ReadFault,
+        }
+    }
+}

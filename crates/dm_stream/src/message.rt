@@ -1,0 +1,71 @@
+//! The messages of a run: one line each, and at most one a run.
+//!
+//! The words are fixed by `specs/Messages.antt`, since users match on them. A new ending is an arm
+//! here and there.
+
+ghost use Rattle.std.specs.Prelude.{◌≡◌, ◌+◌, ◌≤◌, ◌++◌, length};
+ghost use Rattle.dm_table.specs.DeviceIo.{since};
+ghost use Rattle.dm_stream.specs.Messages.{IsTold, request_word, request_message, ending_message};
+
+use crate::ending::{Ending, RequestWord};
+use crate::fixed_text::{put, put_number};
+use crate::write_all::write_all;
+use arrayvec::ArrayVec;
+use dm_table::Output;
+
+/// A message of a run.
+type Message = ArrayVec<u8, 64>;
+
+/// Writes the message of an ending, as far as its stream takes it.
+pub(crate) fn tell_ending<E: Output>(messages: &mut E, ending: Ending)
+    ensures appends { E.written messages.new ≡ E.written messages.old ++ since (E.written messages.old) (E.written messages.new) }
+    ensures told { IsTold (ending_message ending) (since (E.written messages.old) (E.written messages.new)) (E.faults messages.old) (E.faults messages.new) }
+    ensures once { E.faults messages.new ≤ E.faults messages.old + 1 }
+    ensures grows { E.faults messages.old ≤ E.faults messages.new }
+    ensures flushes { E.flushes messages.new ≡ E.flushes messages.old }
+{
+    let _ = write_all(messages, message_of(ending).as_slice());
+}
+
+/// The message of an ending: empty where all requests were answered.
+fn message_of(ending: Ending) -> Message
+    ensures { result.items ≡ ending_message ending }
+{
+    let mut text = ArrayVec::new();
+    match ending {
+        Ending::Done => {}
+        Ending::BadRequest(number, word) => return bad_request(number, word),
+        Ending::ReadFault => put(&mut text, b"dmremap: requests: read\n"),
+        Ending::WriteFault => put(&mut text, b"dmremap: output: write\n"),
+    }
+    text
+}
+
+/// The message of a bad request.
+fn bad_request(number: u64, word: RequestWord) -> Message
+    ensures { result.items ≡ request_message number word }
+{
+    let mut text = ArrayVec::new();
+    put(&mut text, b"dmremap: request ");
+    put_number(&mut text, number);
+    put(&mut text, b": ");
+    put(&mut text, word_text(word));
+    put(&mut text, b"\n");
+    text
+}
+
+/// How the word of a bad request is written.
+fn word_text(word: RequestWord) -> &'static [u8]
+    ensures word { result.now ≡ request_word word }
+    ensures short { length result.now ≤ 7 }
+{
+    match word {
+        RequestWord::Long => b"long",
+        RequestWord::Unended => b"unended",
+        RequestWord::Many => b"many",
+        RequestWord::Form => b"form",
+        RequestWord::Number => b"number",
+        RequestWord::Length => b"length",
+        RequestWord::Unknown => b"unknown",
+    }
+}

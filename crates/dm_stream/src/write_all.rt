@@ -1,0 +1,26 @@
+//! All of some bytes to an output, over as many writes as it takes.
+//! It loops here since an output may take less than it is given, and a byte must never go out twice.
+//! Keep the place behind the bytes that were taken as the only thing that a turn changes.
+ghost use Rattle.std.specs.Prelude.{◌≡◌, ◌+◌, ◌++◌, OnOk, OnErr};
+ghost use Rattle.dm_table.specs.DeviceIo.{since, fault_of};
+ghost use Rattle.dm_stream.specs.WriteAll.{IsBeginning};
+
+use dm_table::{OutFault, Output};
+
+/// Writes all of the bytes, in order. A fault leaves a beginning of them written.
+pub(crate) fn write_all<W: Output>(writer: &mut W, bytes: &[u8]) -> Result<(), OutFault>
+    ensures appends { W.written writer.new
+        ≡ W.written writer.old ++ since (W.written writer.old) (W.written writer.new) }
+    ensures ok { OnOk result (since (W.written writer.old) (W.written writer.new) ≡ bytes.now) }
+    ensures err { OnErr result (IsBeginning bytes.now (since (W.written writer.old) (W.written writer.new))) }
+    ensures waiting { W.waiting writer.new
+        ≡ W.waiting writer.old ++ since (W.written writer.old) (W.written writer.new) }
+    ensures faults { W.faults writer.new ≡ W.faults writer.old + fault_of result }
+    ensures flushes { W.flushes writer.new ≡ W.flushes writer.old }
+{
+    let mut at = 0;
+    while at < bytes.len() {
+        at += writer.write(&bytes[at..])?;
+    }
+    Ok(())
+}
