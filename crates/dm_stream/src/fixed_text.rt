@@ -8,10 +8,10 @@ ghost use Rattle.std.specs.Prelude.{◌≡◌, ◌++◌, ◌+◌, ◌≤◌, len
 use arrayvec::ArrayVec;
 
 /// The most digits of a number of 64 bits.
-pub(crate) const MOST_DIGITS: usize = 20;
+pub const MOST_DIGITS: usize = 20;
 
 /// Puts bytes behind a text.
-pub(crate) fn put<const ROOM: usize>(text: &mut ArrayVec<u8, ROOM>, bytes: &[u8])
+pub fn put<const ROOM: usize>(text: &mut ArrayVec<u8, ROOM>, bytes: &[u8])
     requires { length text.old.items + length bytes.now ≤ ROOM }
     ensures text { text.new.items ≡ text.old.items ++ bytes.now }
     ensures len { length text.new.items ≡ length text.old.items + length bytes.now }
@@ -22,7 +22,7 @@ pub(crate) fn put<const ROOM: usize>(text: &mut ArrayVec<u8, ROOM>, bytes: &[u8]
 }
 
 /// Puts a number behind a text, in decimal digits.
-pub(crate) fn put_number<const ROOM: usize>(text: &mut ArrayVec<u8, ROOM>, number: u64)
+pub fn put_number<const ROOM: usize>(text: &mut ArrayVec<u8, ROOM>, number: u64)
     requires { length text.old.items + MOST_DIGITS ≤ ROOM }
     ensures text { text.new.items ≡ text.old.items ++ decimal number }
     ensures len { length text.new.items ≤ length text.old.items + MOST_DIGITS }
