@@ -5,11 +5,11 @@
 
 ghost use Rattle.std.specs.Prelude.{◌≡◌, ◌≢◌, ◌<◌, ◌≤◌, ◌^◌, IfErr, IfOk, OnOk, Some, None, length, position, slice_get, option_map};
 ghost use Rattle.dm_stack.specs.Below.{HoldsSoundly, found_at, found_lines};
-ghost use Rattle.dm_stack.specs.Description.{device_len, disk_len, is_ro_at, is_same, name_at, disk_name_at};
-ghost use Rattle.dm_stack.specs.Load.{IsNeverRefused, IsOneFault};
+ghost use Rattle.dm_stack.specs.Description.{Description, device_len, disk_len, is_ro_at, is_same, name_at, disk_name_at};
 ghost use Rattle.dm_stack.specs.Loaded.{stack_depth};
 ghost use Rattle.dm_stack.specs.Soundness.{IsRefusedBy, IsSound};
 ghost use Rattle.dm_table.specs.LoadFault.{IsMemoryFault};
+ghost use Rattle.dm_table.specs.declared.load_fault.LoadFault.{LoadFault};
 ghost use Rattle.dm_table.specs.declared.load_fault.LoadKind.TheVariants.{Memory};
 ghost use Rattle.dm_table.specs.declared.place.Part.TheVariants.{Source};
 
@@ -83,8 +83,8 @@ impl Stack {
         ensures sound { OnOk result (IsSound (record { devices = devices.items; disks = disks.items })) }
         ensures fault { IfErr result (λ fault. fault.kind ≢ Memory → IsRefusedBy (record { devices = devices.items; disks = disks.items }) fault) }
         ensures memory { IfErr result (λ fault. fault.kind ≡ Memory → IsMemoryFault Source fault) }
-        ensures never { OnOk result (IsNeverRefused (record { devices = devices.items; disks = disks.items })) }
-        ensures one { IfErr result (λ fault. fault.kind ≢ Memory → IsOneFault (record { devices = devices.items; disks = disks.items }) fault) }
+        ensures one { (stack : Description) (found other : LoadFault) → IsRefusedBy stack found → IsRefusedBy stack other → found ≡ other }
+        ensures never { (stack : Description) (found : LoadFault) → IsSound stack → IsRefusedBy stack found → ⊥ }
     {
         let checked = check(alloc, &devices, &disks)?;
         Ok(Stack {
