@@ -8,7 +8,6 @@ use Rattle.dm_table.specs.declared.load_fault.LoadKind.TheVariants.{Cycle}
 use Rattle.dm_table.specs.declared.load_fault.LoadFault.{LoadFault}
 use Rattle.dm_table.specs.declared.table.DeviceSpec.{DeviceSpec}
 use Rattle.dm_stack.specs.Description.{Description}
-use Rattle.dm_stack.specs.Load.{IsNeverRefused, IsOneFault}
 use Rattle.dm_stack.specs.Soundness.{Early, HasNoCycle, IsFirstCycle, IsRefusedBy, IsSound, Late, OnCycle, fault}
 
 ring_within : (stack : Description) (found : LoadFault) (ring : IsFirstCycle stack found) → length ring.before < length stack.devices
@@ -52,10 +51,7 @@ one_fault stack a b (Late e none after) (Early f) = absurd (some_none _ b f e)
 one_fault stack a b (Late e none after) (OnCycle f ring) = absurd (no_cycle stack b none ring)
 one_fault stack a b (Late e none after) (Late f never last) = same_fault _ a b after last
 
-pub never_both : (stack : Description) → IsSound stack → IsNeverRefused stack
-never_both stack sound found (Early e) = some_none _ found e sound.before
-never_both stack sound found (OnCycle e ring) = no_cycle stack found sound.acyclic ring
-never_both stack sound found (Late e none after) = some_none _ found after sound.after
-
-pub refused_once : (stack : Description) (one : LoadFault) → IsRefusedBy stack one → IsOneFault stack one
-refused_once stack one refused = (λ sound. never_both stack sound one refused, λ found other. one_fault stack found one other refused)
+pub never_both : (stack : Description) (found : LoadFault) → IsSound stack → IsRefusedBy stack found → ⊥
+never_both stack found sound (Early e) = some_none _ found e sound.before
+never_both stack found sound (OnCycle e ring) = no_cycle stack found sound.acyclic ring
+never_both stack found sound (Late e none after) = some_none _ found after sound.after

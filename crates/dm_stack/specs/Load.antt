@@ -4,7 +4,7 @@ use Rattle.dm_table.specs.declared.load_fault.LoadFault.{LoadFault}
 use Rattle.dm_table.specs.LoadFault.{first_fault}
 use Rattle.dm_stack.specs.Description.{Description}
 use Rattle.dm_stack.specs.Graph.{Reaches}
-use Rattle.dm_stack.specs.Soundness.{HasNoCycle, IsFirstCycle, IsRefusedBy, IsSound, checks_after}
+use Rattle.dm_stack.specs.Soundness.{HasNoCycle, IsFirstCycle, checks_after}
 
 -- the first device that reaches itself, or that none does
 abbrev pub IsFirstRing : List (List ℕ) → Option ℕ → Type 0
@@ -23,11 +23,3 @@ PassesBehind stack = HasNoCycle stack × (first_fault (checks_after stack) ≡ N
 abbrev pub IsBehind : Description → Option LoadFault → Type 0
 IsBehind stack (Some found) = IsRefusedBehind stack found
 IsBehind stack None = PassesBehind stack
-
--- no fault refuses it
-abbrev pub IsNeverRefused : Description → Type 0
-IsNeverRefused stack = (found : LoadFault) → IsRefusedBy stack found → ⊥
-
--- it is not sound, and no other fault than this refuses it
-abbrev pub IsOneFault : Description → LoadFault → Type 0
-IsOneFault stack one = (IsSound stack → ⊥) × ((found : LoadFault) → IsRefusedBy stack found → found ≡ one)
