@@ -20,5 +20,5 @@ pub use ending::{Ending, RequestWord};
 pub use fixed_text::{put, put_number};
 pub use join::Join;
 pub use lines::{Lines, MOST_LINE_BYTES, Next};
+pub use message::tell;
 pub use serve::{MOST_REQUESTS, run};
-pub use write_all::write_all;

@@ -16,6 +16,17 @@ use dm_table::Output;
 /// A message of a run.
 type Message = ArrayVec<u8, 64>;
 
+/// Writes a message, as far as its stream takes it. Nothing is flushed.
+pub fn tell<E: Output>(messages: &mut E, message: &[u8])
+    ensures appends { E.written messages.new ≡ E.written messages.old ++ since (E.written messages.old) (E.written messages.new) }
+    ensures told { IsTold message.now (since (E.written messages.old) (E.written messages.new)) (E.faults messages.old) (E.faults messages.new) }
+    ensures once { E.faults messages.new ≤ E.faults messages.old + 1 }
+    ensures grows { E.faults messages.old ≤ E.faults messages.new }
+    ensures flushes { E.flushes messages.new ≡ E.flushes messages.old }
+{
+    let _ = write_all(messages, message);
+}
+
 /// Writes the message of an ending, as far as its stream takes it.
 pub(crate) fn tell_ending<E: Output>(messages: &mut E, ending: Ending)
     ensures appends { E.written messages.new ≡ E.written messages.old ++ since (E.written messages.old) (E.written messages.new) }
@@ -24,7 +35,7 @@ pub(crate) fn tell_ending<E: Output>(messages: &mut E, ending: Ending)
     ensures grows { E.faults messages.old ≤ E.faults messages.new }
     ensures flushes { E.flushes messages.new ≡ E.flushes messages.old }
 {
-    let _ = write_all(messages, message_of(ending).as_slice());
+    tell(messages, message_of(ending).as_slice());
 }
 
 /// The message of an ending: empty where all requests were answered.

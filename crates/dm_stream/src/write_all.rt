@@ -8,7 +8,7 @@ ghost use Rattle.dm_stream.specs.WriteAll.{IsBeginning};
 use dm_table::{OutFault, Output};
 
 /// Writes all of the bytes, in order. A fault leaves a beginning of them written.
-pub fn write_all<W: Output>(writer: &mut W, bytes: &[u8]) -> Result<(), OutFault>
+pub(crate) fn write_all<W: Output>(writer: &mut W, bytes: &[u8]) -> Result<(), OutFault>
     ensures appends { W.written writer.new
         ≡ W.written writer.old ++ since (W.written writer.old) (W.written writer.new) }
     ensures ok { OnOk result (since (W.written writer.old) (W.written writer.new) ≡ bytes.now) }

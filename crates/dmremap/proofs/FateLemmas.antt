@@ -11,10 +11,11 @@ use Rattle.dm_table.specs.declared.place.Part.TheVariants.{Source, Disks}
 use Rattle.dmremap.specs.Load.{RefusedBy, SoundAs, PartsGive}
 use Rattle.dm_stack.specs.Description.{Description}
 use Rattle.dmremap.specs.Parts.{part_read}
-use Rattle.dmremap.specs.Fate.{fate_message, fate_status, IsFated, IsFlushed, OnRefused}
+use Rattle.dmremap.specs.Fate.{fate_message, fate_status, IsFated, IsFlushed, IsRun, OnRefused}
 use Rattle.dm_stream.specs.Messages.{ending_message, write_message}
 use Rattle.dm_stream.specs.Outcome.{Outcome, run_outcome}
 use Rattle.dm_stream.specs.Run.{IsServed}
+use Rattle.dm_stream.specs.WriteAll.{IsBeginning}
 use Rattle.dmremap.specs.Messages.{load_message, load_status, ending_status, memory_message}
 use Rattle.dmremap.specs.Whole.{Whole, GiveWhole, whole_of, ended_if}
 
@@ -101,10 +102,18 @@ whole_at source disks requests output fate status is fated five six =
     subst (λ (n : ℕ). GiveWhole source disks requests (record { output = output; message = fate_message fate; status = n })) (sym is)
     (whole_from source disks requests output fate fated (λ e. five (is ∙ e)) (λ e. six (is ∙ e)))
 
--- a failed output comes of a sound load
-pub sound_at_five : (source disks requests : Delivery) (output : List ℕ) (fate : Fate) → IsFated source disks requests output fate → fate_status fate ≡ 5 → (description : Description) × PartsGive (part_read Source source) (part_read Disks disks) (SoundAs description)
-sound_at_five source disks requests output (Refused fault) fated five = absurd (no_write_fault fault.kind five)
-sound_at_five source disks requests output (Ran ending) fated five = (fated.0, fated.1)
+-- a failed output comes of a sound load, and took a beginning of what there was to write
+pub beginning_at_five : (source disks requests : Delivery) (output : List ℕ) (fate : Fate) → IsFated source disks requests output fate → fate_status fate ≡ 5 → (description : Description) × PartsGive (part_read Source source) (part_read Disks disks) (SoundAs description) × IsBeginning (run_outcome description requests).output output
+beginning_at_five source disks requests output (Refused fault) fated five = absurd (no_write_fault fault.kind five)
+beginning_at_five source disks requests output (Ran endings.Done) fated five = absurd (omega arith)
+beginning_at_five source disks requests output (Ran (endings.BadRequest number word)) fated five = absurd (omega arith)
+beginning_at_five source disks requests output (Ran endings.ReadFault) fated five = absurd (omega arith)
+beginning_at_five source disks requests output (Ran endings.WriteFault) fated five = (fated.0, fated.1, fated.2)
+
+-- a run over what the parts give
+pub fated_from : (source disks requests : Delivery) (description : Description) (output : List ℕ) (fate : Fate) → PartsGive (part_read Source source) (part_read Disks disks) (SoundAs description) → IsRun description requests output fate → IsFated source disks requests output fate
+fated_from source disks requests description output (Refused fault) parts run = (run.0, λ other. absurd (other run.1))
+fated_from source disks requests description output (Ran ending) parts run = (description, parts, run)
 
 -- requests are not asked for where the load is refused
 pub unasked_one : (fate : Fate) (P : Type 0) → OnRefused fate P → fate_status fate ≡ 1 → P

@@ -14,7 +14,7 @@ use Rattle.dm_table.proofs.DiskLemmas.{read_disks-described, read_disks-ok, Desc
 use Rattle.dmremap.specs.Parts.{PartRead, TextOf, Refuses, Unread, part_read}
 use Rattle.dm_stack.specs.Description.{Description}
 use Rattle.dm_stack.specs.Soundness.{IsSound, IsRefusedBy}
-use Rattle.dm_stack.proofs.OneFault.{one_refusal, sound_or_refused}
+use Rattle.dm_stack.proofs.OneFault.{never_both, one_fault as one_refusal}
 use Rattle.dmremap.specs.Load.{Load, RefusedBy, SoundAs, Describes, GivesFault, TextsGive, PartsGive}
 use Rattle.dmremap.specs.Whole.{Whole, whole_of, GiveWhole}
 
@@ -56,7 +56,7 @@ no_fault : (source list : List ℕ) (f : LoadFault) (description : Description) 
 no_fault source list f description (inl a) is sound = let none = no_fault_of_texts source list description is in cc
 no_fault source list f description (inr a) is sound =
     let same = one_description_of source list a.0 description a.1 is in
-    sound_or_refused description f sound (subst (λ (other : Description). IsRefusedBy other f) same a.2)
+    never_both description f sound (subst (λ (other : Description). IsRefusedBy other f) same a.2)
 
 one_of_texts : (source list : List ℕ) (a b : Load) → TextsGive source list a → TextsGive source list b → a ≡ b
 one_of_texts source list (RefusedBy f) (RefusedBy g) is_a is_b = ap RefusedBy (one_fault source list f g is_a is_b)

@@ -32,7 +32,7 @@ use crate::message::load_message;
 use crate::words::Format;
 use dm_map::Mapper;
 use dm_stack::Stack;
-use dm_stream::{Ending, run, write_all};
+use dm_stream::{Ending, run, tell};
 use dm_table::{Input, LoadFault, LoadKind, Output, Part};
 use std::alloc::Global;
 
@@ -193,7 +193,7 @@ fn refuse<M: Output>(fault: LoadFault, messages: &mut M) -> Fate
     ensures told { IsTold (load_message fault) (since (M.written messages.old) (M.written messages.new)) (M.faults messages.old) (M.faults messages.new) }
     ensures tells { M.written messages.new ≡ M.written messages.old ++ since (M.written messages.old) (M.written messages.new) }
 {
-    let _ = write_all(messages, load_message(fault).as_slice());
+    tell(messages, load_message(fault).as_slice());
     Fate::Refused(fault)
 }
 

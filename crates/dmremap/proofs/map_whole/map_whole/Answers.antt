@@ -1,12 +1,11 @@
 use Rattle.std.proofs.Common.{◌≡◌, ◌∙◌, sym, subst, List, ℕ}
 use Rattle.dm_table.specs.DeviceIo.{delivery, since}
 use Rattle.dmremap.specs.Parts.{delivery_if}
-use Rattle.dmremap.specs.Messages.{IsTold}
 use Rattle.dmremap.specs.Fate.{fate_message, fate_status}
 use Rattle.dmremap.specs.Whole.{GiveWhole}
-use Rattle.dmremap.proofs.FateLemmas.{whole_at, sound_at_five, unasked_one, unasked_six}
+use Rattle.dmremap.proofs.FateLemmas.{whole_at, beginning_at_five, unasked_one, unasked_six}
 use Rattle.dmremap.proofs.OneWhole.{one_whole}
-use Rattle.dmremap.proofs.FewestLemmas.{fewest_is}
+use Rattle.dm_stream.proofs.FewestLemmas.{fewest_is}
 use Rattle.dmremap.proofs.map_whole.map_whole.Goals as goal
 
 pub returns-clause-whole : goal.returns-clause-whole
@@ -16,13 +15,11 @@ returns-clause-whole g c = λ five six.
     let requests = delivery g.Q.Input.handed g.Q.Input.faults g.Q.Input.ends c.args.requests.now c.load_and_run-fate.new.requests in
     let output = since (g.W.Output.written c.args.output.now) (g.W.Output.written c.load_and_run-fate.new.output) in
     let fate = c.load_and_run-fate.result in
-    let told : IsTold (fate_message fate) (since (g.M.Output.written c.args.messages.now) (g.M.Output.written c.tell.new.messages)) (g.M.Output.faults c.args.messages.now) (g.M.Output.faults c.tell.new.messages) =
-    subst (λ (text : List ℕ). IsTold text (since (g.M.Output.written c.args.messages.now) (g.M.Output.written c.tell.new.messages)) (g.M.Output.faults c.args.messages.now) (g.M.Output.faults c.tell.new.messages)) (c.as_slice.ensures.value ∙ c.fate_message.ensures) c.tell.ensures.told in
-    (fate_message fate, whole_at source disks requests output fate c.status_of.result c.status_of.ensures c.load_and_run-fate.ensures.fated five six, told)
+    (fate_message fate, whole_at source disks requests output fate c.status_of.result c.status_of.ensures c.load_and_run-fate.ensures.fated five six, c.load_and_run-fate.ensures.told)
 
-pub returns-clause-loaded : goal.returns-clause-loaded
-returns-clause-loaded g c = λ five.
-    sound_at_five (delivery g.S.Input.handed g.S.Input.faults g.S.Input.ends c.args.source.now c.load_and_run-fate.new.source)
+pub returns-clause-beginning : goal.returns-clause-beginning
+returns-clause-beginning g c = λ five.
+    beginning_at_five (delivery g.S.Input.handed g.S.Input.faults g.S.Input.ends c.args.source.now c.load_and_run-fate.new.source)
     (delivery_if g.D.Input.handed g.D.Input.faults g.D.Input.ends c.args.disks.now c.load_and_run-fate.new.disks) (delivery g.Q.Input.handed g.Q.Input.faults g.Q.Input.ends c.args.requests.now c.load_and_run-fate.new.requests)
     (since (g.W.Output.written c.args.output.now) (g.W.Output.written c.load_and_run-fate.new.output)) c.load_and_run-fate.result c.load_and_run-fate.ensures.fated (sym c.status_of.ensures ∙ five)
 
