@@ -5,8 +5,9 @@ pub mod HandedOn
 pub mod ListLemmas
 pub mod LoadLemmas
 pub mod NameLemmas
-pub mod Passes
 pub mod OneFault
+pub mod Passes
 pub mod PathLemmas
 pub mod RoundLemmas
 pub mod SearchLemmas
+pub mod SoundLines

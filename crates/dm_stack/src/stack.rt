@@ -3,11 +3,13 @@
 //! The invariant carries the soundness, so nothing above asks for it again: a value is made only
 //! through the checks of a load. Names are looked up once there; behind it everything goes by ids.
 
-ghost use Rattle.std.specs.Prelude.{◌≡◌, ◌≢◌, ◌<◌, ◌≤◌, ◌^◌, IfErr, IfOk, OnOk, Some, None, length, position, slice_get, option_map};
-ghost use Rattle.dm_stack.specs.Below.{HoldsSoundly, found_at, found_lines};
+ghost use Rattle.std.specs.Prelude.{◌≡◌, ◌≢◌, ◌+◌, ◌<◌, ◌≤◌, ◌^◌, IfErr, IfOk, OnOk, Some, None, find, length, option_copied, position, slice_get};
+ghost use Rattle.dm_stack.specs.Below.{HoldsSoundly, found_at, found_lines, has_sector};
 ghost use Rattle.dm_stack.specs.Description.{Description, device_len, disk_len, is_ro_at, is_same, name_at, disk_name_at};
 ghost use Rattle.dm_stack.specs.Loaded.{stack_depth};
 ghost use Rattle.dm_stack.specs.Soundness.{IsRefusedBy, IsSound};
+ghost use Rattle.dm_stack.specs.declared.graph.TheConstants.{MOST_DEPTH};
+ghost use Rattle.dm_stack.specs.declared.limits.TheConstants.{MOST_CHUNK, MOST_DEVICES, MOST_DISKS, MOST_LENGTH, MOST_LINES, MOST_STRIPES};
 ghost use Rattle.dm_table.specs.LoadFault.{IsMemoryFault};
 ghost use Rattle.dm_table.specs.declared.load_fault.LoadFault.{LoadFault};
 ghost use Rattle.dm_table.specs.declared.load_fault.LoadKind.TheVariants.{Memory};
@@ -15,6 +17,7 @@ ghost use Rattle.dm_table.specs.declared.place.Part.TheVariants.{Source};
 
 use crate::found::{Found, FoundLine, FoundTable};
 use crate::id::{DeviceId, DiskId};
+use crate::layout::end_of;
 use crate::load::check;
 use crate::looker::Looker;
 use crate::name_index::NameIndex;
@@ -85,6 +88,9 @@ impl Stack {
         ensures memory { IfErr result (λ fault. fault.kind ≡ Memory → IsMemoryFault Source fault) }
         ensures one { (stack : Description) (found other : LoadFault) → IsRefusedBy stack found → IsRefusedBy stack other → found ≡ other }
         ensures never { (stack : Description) (found : LoadFault) → IsSound stack → IsRefusedBy stack found → ⊥ }
+        // The figures of the limits.
+        ensures limits { (MOST_DEVICES ≡ 1024) × (MOST_DISKS ≡ 1024) × (MOST_LINES ≡ 65536) × (MOST_DEPTH ≡ 32)
+            × (MOST_LENGTH ≡ 2 ^ 50) × (MOST_STRIPES ≡ 128) × (MOST_CHUNK + 1 ≡ 2 ^ 32) }
     {
         let checked = check(alloc, &devices, &disks)?;
         Ok(Stack {
@@ -114,11 +120,7 @@ impl Stack {
         ensures some { 1 ≤ result }
         ensures small { result ≤ 2 ^ 50 }
     {
-        let lines = self.lines(device);
-        match lines.last() {
-            Some(line) => line.start + line.len,
-            None => 0,
-        }
+        end_of(self.spec(device).lines.as_slice())
     }
 
     /// The length of a disk of the stack in sectors, from 1 to 2^50.
@@ -184,6 +186,15 @@ impl Stack {
         Looker::new(self)
     }
 
+    /// What describes a device.
+    fn spec(&self, device: DeviceId) -> &DeviceSpec
+        requires { device < length self.now.devices }
+        ensures spec { slice_get self.now.devices device ≡ Some result.now }
+        ensures sound { IsSound self.now }
+    {
+        &self.devices[device.index()]
+    }
+
     /// The lines of a device in their order, with ids for names.
     fn lines(&self, device: DeviceId) -> &[FoundLine]
         requires { device < length self.now.devices }
@@ -200,11 +211,18 @@ impl Stack {
         ensures line { found_at self.now device sector ≡ Some result.now }
         ensures holds { HoldsSoundly self.now result.now sector }
     {
-        for line in self.lines(device) {
-            if sector - line.start < line.len {
-                return line;
-            }
+        match line_of(self.lines(device), sector) {
+            Some(line) => line,
+            None => unreachable!(),
         }
-        unreachable!()
     }
+}
+
+/// The first line that holds a sector.
+fn line_of(lines: &[FoundLine], sector: u64) -> Option<&FoundLine>
+    ensures { option_copied result ≡ find (has_sector sector) lines.now }
+{
+    lines
+        .iter()
+        .find(|line| line.start <= sector && sector - line.start < line.len)
 }

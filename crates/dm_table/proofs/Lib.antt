@@ -9,4 +9,5 @@ pub mod TableGroups
 pub mod TableRows
 pub mod TableDescribed
 pub mod TableFields
+pub mod TargetRows
 pub mod TableRuns

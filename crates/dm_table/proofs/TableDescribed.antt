@@ -30,7 +30,7 @@ lines_say n [] r l h = tt
 lines_say n (line ∷ ls) r l h =
     let a = not-false _ r.0 in
     let b = not-false _ l.0 in
-    (line_writes n line a b, row_said n (row_of line) a b (not-false _ h.0), lines_say (suc n) ls r.1 l.1 h.1)
+    (line_writes n line a b, row_said n (row_of line) b (not-false _ h.0), lines_say (suc n) ls r.1 l.1 h.1)
 
 pub described : (text : List ℕ) → first_fault (table_checks text) ≡ None → DescribesTable text (devices_from 1 (rows text))
 described text h =

@@ -48,10 +48,8 @@ not_spaced ((b ∷ bs) ∷ []) e = refl
 not_spaced (f ∷ g ∷ fs) e = ap (λ (rest : List (List ℕ)). f ∷ rest) (not_spaced (g ∷ fs) e)
 
 -- a row of few fields has one name
-pub few_names : (row : List (List ℕ)) → 1 ≤ length row → length row < 5 → is_device_name (name_of_row row) ≡ has_names row
+pub few_names : (row : List (List ℕ)) → 1 ≤ length row → length row < 3 → is_device_name (name_of_row row) ≡ has_names row
 few_names [] low high = absurd (omega arith)
 few_names (a ∷ []) low high = refl
 few_names (a ∷ b ∷ []) low high = refl
-few_names (a ∷ b ∷ c ∷ []) low high = refl
-few_names (a ∷ b ∷ c ∷ d ∷ []) low high = refl
-few_names (a ∷ b ∷ c ∷ d ∷ e ∷ rest) low high = absurd (omega arith)
+few_names (a ∷ b ∷ c ∷ rest) low high = absurd (omega arith)

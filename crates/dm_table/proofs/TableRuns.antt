@@ -8,15 +8,14 @@ use Rattle.std.proofs.lemmas.Bool.{and_parts, and_from, cases_Bool, not-false}
 use Rattle.std.proofs.lemmas.List.{drop_more, take_rest, take-map, drop-map, drop-drop, length-map, length-drop, length-take-le, get_or-drop}
 use Rattle.std.proofs.lemmas.List.Sums.{prefix_len-le-length}
 use Rattle.dm_table.specs.declared.table.Line.{Line}
-use Rattle.dm_table.specs.declared.table.Target.TheVariants.{Error}
 use Rattle.dm_table.specs.declared.table.DeviceSpec.{DeviceSpec}
 use Rattle.dm_table.specs.declared.place.Place.{Place}
 use Rattle.dm_table.specs.declared.place.Part.TheVariants.{Source}
 use Rattle.dm_table.specs.declared.load_fault.LoadKind.TheVariants.{Field, Name}
 use Rattle.dm_table.specs.Name.{is_device_name}
 use Rattle.dm_table.specs.Fields.{texts, row_texts}
-use Rattle.dm_table.specs.TableText.{NamedLine, name_in, is_line, is_dev, has_names}
-use Rattle.dm_table.specs.TableReading.{target_in, has_dev, is_checked, AreChecked, name_of_row, line_in, lines_from, named_from, run_device, join_line, joined, devices_from, bad_field, bad_name}
+use Rattle.dm_table.specs.TableText.{NamedLine, name_in, is_line, has_devs, has_names}
+use Rattle.dm_table.specs.TableReading.{is_checked, AreChecked, name_of_row, line_in, lines_from, named_from, run_device, join_line, joined, devices_from, bad_field, bad_name}
 use Rattle.dm_table.proofs.FaultLemmas.{faults_from-nil}
 use Rattle.dm_table.proofs.TableGroups.{same_name, is_same_name, other_name, named_of, BeginsOther, run_joins}
 
@@ -33,11 +32,9 @@ pub name_checked : (row : List (List ℕ)) → is_checked row ≡ true → is_de
 name_checked [] h = absurd cc
 name_checked (a ∷ []) h = absurd cc
 name_checked (a ∷ b ∷ []) h = absurd cc
-name_checked (a ∷ b ∷ c ∷ []) h = (and_parts (is_line (a ∷ b ∷ c ∷ [])) (is_device_name (name_in a)) h).1
-name_checked (a ∷ b ∷ c ∷ d ∷ []) h = (and_parts (is_line (a ∷ b ∷ c ∷ d ∷ [])) (is_device_name (name_in a)) h).1
-name_checked (a ∷ b ∷ c ∷ d ∷ e ∷ rest) h =
-    let n = (and_parts (is_line (a ∷ b ∷ c ∷ d ∷ e ∷ rest)) (is_device_name (name_in a) && is_dev e) h).1 in
-    (and_parts (is_device_name (name_in a)) (is_dev e) n).0
+name_checked (a ∷ b ∷ c ∷ target) h =
+    let n = (and_parts (is_line (a ∷ b ∷ c ∷ target)) (is_device_name (name_in a) && has_devs target) h).1 in
+    (and_parts (is_device_name (name_in a)) (has_devs target) n).0
 
 -- a row that passed them has three fields before its target
 pub long_checked : (row : List (List ℕ)) → is_checked row ≡ true → 3 ≤ length row
@@ -46,21 +43,10 @@ long_checked (a ∷ []) h = absurd cc
 long_checked (a ∷ b ∷ []) h = absurd cc
 long_checked (a ∷ b ∷ c ∷ rest) h = omega arith
 
-dev_checked : (a start len : List ℕ) (target : List (List ℕ)) → has_names (a ∷ start ∷ len ∷ target) ≡ true → has_dev target ≡ true
-dev_checked a start len [] h = refl
-dev_checked a start len (type ∷ []) h = refl
-dev_checked a start len (type ∷ to ∷ rest) h = (and_parts (is_device_name (name_in a)) (is_dev to) h).1
-
-behind_checked : (a start len : List ℕ) (target : List (List ℕ)) → is_checked (a ∷ start ∷ len ∷ target) ≡ true → has_dev target ≡ true
-behind_checked a start len target h = dev_checked a start len target (and_parts (is_line (a ∷ start ∷ len ∷ target)) (has_names (a ∷ start ∷ len ∷ target)) h).1
-
--- a target of other than three fields takes no arguments
-pub target_alone : (fs : List (List ℕ)) → (length fs ≡ 3 → ⊥) → Error ≡ target_in fs
-target_alone [] h = refl
-target_alone (a ∷ []) h = refl
-target_alone (a ∷ b ∷ []) h = refl
-target_alone (a ∷ b ∷ c ∷ []) h = absurd (h refl)
-target_alone (a ∷ b ∷ c ∷ d ∷ rest) h = refl
+behind_checked : (a start len : List ℕ) (target : List (List ℕ)) → is_checked (a ∷ start ∷ len ∷ target) ≡ true → has_devs target ≡ true
+behind_checked a start len target h =
+    let n = (and_parts (is_line (a ∷ start ∷ len ∷ target)) (has_names (a ∷ start ∷ len ∷ target)) h).1 in
+    (and_parts (is_device_name (name_in a)) (has_devs target) n).1
 
 pub checked_take : (n : ℕ) (rows : List (List (List ℕ))) → AreChecked rows → AreChecked (take n rows)
 checked_take zero rows h = tt
@@ -136,11 +122,11 @@ devices_run name n row rows own =
 -- What the code has in hand: rows of slices
 
 -- the target behind the first three fields of a row
-pub dev_behind : (row : List (Bor (List ℕ))) → is_checked (texts row) ≡ true → has_dev (texts (take (length row - 3) (drop 3 row))) ≡ true
-dev_behind [] h = absurd cc
-dev_behind (a ∷ []) h = absurd cc
-dev_behind (a ∷ b ∷ []) h = absurd cc
-dev_behind (a ∷ b ∷ c ∷ rest) h = rw (take_rest (a ∷ b ∷ c ∷ rest) 3) (behind_checked a.now b.now c.now (texts rest) h)
+pub devs_behind : (row : List (Bor (List ℕ))) → is_checked (texts row) ≡ true → has_devs (texts (take (length row - 3) (drop 3 row))) ≡ true
+devs_behind [] h = absurd cc
+devs_behind (a ∷ []) h = absurd cc
+devs_behind (a ∷ b ∷ []) h = absurd cc
+devs_behind (a ∷ b ∷ c ∷ rest) h = rw (take_rest (a ∷ b ∷ c ∷ rest) 3) (behind_checked a.now b.now c.now (texts rest) h)
 
 -- one row further
 next_row : (run : List (Vec (Bor (List ℕ)) Global)) (i : ℕ) (row : Vec (Bor (List ℕ)) Global) → i < length run → row ≡ get_or run i row → drop i run ≡ row ∷ drop (i + 1) run

@@ -1,34 +1,49 @@
 -- How table text is read where no check finds anything: each row of fields as a line, and neighbouring lines of one name as a device.
-use Rattle.std.specs.Prelude.{ℕ, suc, ◌+◌, Bool, true, false, not, ◌&&◌, List, [], ◌∷◌, ◌++◌, length, map, nat_eq, drop, unwrap_or, IsTrue, Result, if◌then◌else◌}
+use Rattle.std.specs.Prelude.{ℕ, suc, ◌+◌, Bool, true, false, not, ◌&&◌, List, [], ◌∷◌, ◌++◌, length, map, nat_eq, codes, drop, IsTrue, Result, if◌then◌else◌}
 use Rattle.std.specs.Cmp.Lexicographic.{pointwise}
 use Rattle.std.specs.List.{AllByRecursion}
 use Rattle.dm_table.specs.declared.table.DevRef.{DevRef}
 use Rattle.dm_table.specs.declared.table.DevRef.TheVariants.{Device, Disk}
+use Rattle.dm_table.specs.declared.table.Column.{Column}
 use Rattle.dm_table.specs.declared.table.Target.{Target}
-use Rattle.dm_table.specs.declared.table.Target.TheVariants.{Linear, Error}
+use Rattle.dm_table.specs.declared.table.Target.TheVariants.{Linear, Striped, Zero, Error}
 use Rattle.dm_table.specs.declared.table.Line.{Line}
 use Rattle.dm_table.specs.declared.table.DeviceSpec.{DeviceSpec}
 use Rattle.dm_table.specs.declared.place.Part.TheVariants.{Source}
 use Rattle.dm_table.specs.declared.load_fault.LoadKind.TheVariants.{Syntax, Field, Name}
 use Rattle.dm_table.specs.declared.load_fault.LoadFault.{LoadFault}
 use Rattle.dm_table.specs.Name.{names_device, mapper}
-use Rattle.dm_table.specs.Number.{number_of}
+use Rattle.dm_table.specs.Number.{number_in}
 use Rattle.dm_table.specs.Fields.{lines_of}
 use Rattle.dm_table.specs.LoadFault.{first_fault, faults_from, unended, unless}
-use Rattle.dm_table.specs.TableText.{NamedLine, name_in, row_of, is_row, is_line, is_dev, has_names, table_checks}
-
--- the number in a field that is one
-abbrev pub number_in : List ℕ → ℕ
-number_in field = unwrap_or (number_of field) 0
+use Rattle.dm_table.specs.TableText.{NamedLine, name_in, row_of, is_row, is_line, has_names, table_checks}
 
 -- what a text names
 abbrev pub dev_in : List ℕ → DevRef
 dev_in text = if names_device text then Device (drop (length mapper) text) else Disk text
 
+-- columns, each of two arguments
+abbrev pub columns_in : List (List ℕ) → List Column
+columns_in (to ∷ offset ∷ more) = record { to = dev_in to; offset = number_in offset } ∷ columns_in more
+columns_in _ = []
+
+-- the arguments of a linear line as its target
+abbrev pub linear_in : List (List ℕ) → Target
+linear_in (to ∷ offset ∷ []) = Linear (dev_in to) (number_in offset)
+linear_in _ = Error
+
+-- the arguments of a striped line as its target
+abbrev pub striped_in : List (List ℕ) → Target
+striped_in (count ∷ chunk ∷ columns) = Striped (number_in chunk) (columns_in columns)
+striped_in _ = Error
+
 -- the target of a type and its arguments
 abbrev pub target_in : List (List ℕ) → Target
-target_in (type ∷ to ∷ offset ∷ []) = Linear (dev_in to) (number_in offset)
-target_in _ = Error
+target_in [] = Error
+target_in (type ∷ arguments) =
+    if pointwise nat_eq type (codes "linear") then linear_in arguments
+    else (if pointwise nat_eq type (codes "striped") then striped_in arguments
+    else (if pointwise nat_eq type (codes "zero") then Zero else Error))
 
 -- the last field is empty
 abbrev pub ends_empty : List (List ℕ) → Bool
@@ -40,11 +55,6 @@ ends_empty (field ∷ next ∷ fields) = ends_empty (next ∷ fields)
 -- the rows of lines
 abbrev pub rows_of : List (List ℕ) → List (List (List ℕ))
 rows_of = map row_of
-
--- the names among a type and its arguments are names
-abbrev pub has_dev : List (List ℕ) → Bool
-has_dev (type ∷ to ∷ arguments) = is_dev to
-has_dev _ = true
 
 -- a row whose values are in order, so that a line can be made of it
 abbrev pub is_checked : List (List ℕ) → Bool

@@ -3,11 +3,11 @@
 //! Texts and requests share this one form, so that what is read is written back byte by byte.
 //! To take more digits, change `specs/Number.antt` and see that the value still fits a `u64`.
 
-ghost use Rattle.std.specs.Prelude.{◌≡◌, ◌≤◌, length, IsTrue};
+ghost use Rattle.std.specs.Prelude.{◌≡◌, ◌≤◌, length, is_some, IsTrue};
 ghost use Rattle.std.specs.List.{list_all};
 ghost use Rattle.std.specs.Char.{is_ascii_digit};
 ghost use Rattle.std.specs.Str.Parse.{digits_value};
-ghost use Rattle.dm_table.specs.Number.{is_number, number_of};
+ghost use Rattle.dm_table.specs.Number.{is_number, number_of, number_in};
 
 /// The number that a text spells, or `None` where it spells none. One pass.
 #[tactic(auto, unfolding(crate::specs::Number::number_of))]
@@ -19,6 +19,14 @@ pub(crate) fn number(text: &[u8]) -> Option<u64>
     } else {
         None
     }
+}
+
+/// The number in a field that is one.
+pub(crate) fn number_in(field: &[u8]) -> u64
+    requires { IsTrue (is_some (number_of field.now)) }
+    ensures { result ≡ number_in field.now }
+{
+    number(field).unwrap()
 }
 
 fn is_number(text: &[u8]) -> bool

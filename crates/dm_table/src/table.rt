@@ -1,12 +1,13 @@
 //! Devices and their tables, as a text describes them and before any check of the whole.
 //!
 //! The words are those of dmsetup(8): a table is a list of lines, and a line maps a range of
-//! sectors to a target. A new target is a variant of `Target` here, an arm in `table_text`, and
+//! sectors to a target. A new target is a variant of `Target` here, an arm in `target_row`, and
 //! a definition of its text and its meaning.
 
 ghost use Rattle.std.specs.Prelude.{◌≡◌};
 
-use crate::name::{DiskName, Name};
+use crate::disk_name::DiskName;
+use crate::name::Name;
 use crate::place::Place;
 use std::marker::Model;
 
@@ -17,7 +18,7 @@ pub enum DevRef {
     Disk(DiskName),
 }
 
-/// A column of stripes: those sectors of a lower device that begin at an offset, in sectors.
+/// A column of a striped line: the sectors of a lower device from an offset on, in sectors.
 #[derive(Debug, Drop)]
 pub struct Column {
     pub to: DevRef,
@@ -67,7 +68,8 @@ impl Columns {
 pub enum Target {
     /// They are those of a lower device, from an offset on.
     Linear { to: DevRef, offset: u64 },
-    /// They go to the columns in turn, a chunk at a time.
+    /// They go to the columns in turn, `chunk` of them at a time: the first chunk is the first of
+    /// the first column. A text may give a chunk of 0 or no columns; that is for the load to refuse.
     Striped { chunk: u64, columns: Columns },
     /// Reads give zeros, and writes are dropped.
     Zero,

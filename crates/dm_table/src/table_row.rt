@@ -1,18 +1,18 @@
 //! Rows of table text: the fields of one line, and the tests that a line has to pass.
 //!
 //! A row is cut once, and each test looks at its fields alone, so that the checks of a whole text
-//! are loops over tests. A new target type is an arm in `is_target`, with the same arm in `specs/`.
+//! are loops over tests. What a target type takes is told in `target_row`.
 
-ghost use Rattle.std.specs.Prelude.{◌≡◌, true, false, length, drop, nat_lt, MatchOption, IfOk};
+ghost use Rattle.std.specs.Prelude.{◌≡◌, length, nat_lt, IfOk};
 ghost use Rattle.std.specs.List.{list_all};
 ghost use Rattle.dm_table.specs.Fields.{texts, row_texts};
-ghost use Rattle.dm_table.specs.Name.{names_device, mapper};
-ghost use Rattle.dm_table.specs.TableText.{row_of, is_label, name_in, is_row, is_target, is_line, is_dev, has_names};
+ghost use Rattle.dm_table.specs.TableText.{row_of, is_label, name_in, is_row, is_line, has_names};
 ghost use Rattle.dm_table.specs.TableReading.{ends_empty, name_of_row, rows_of};
 
 use crate::fields::cut;
-use crate::name::{is_device_name, is_disk_name};
+use crate::name::is_device_name;
 use crate::number::number;
+use crate::target_row::{has_devs, is_target};
 use std::alloc::{AllocError, Global};
 
 /// The fields of each line, without the empty one that a space at its end leaves. One pass.
@@ -124,49 +124,17 @@ pub(crate) fn is_line(row: &[&[u8]]) -> bool
     }
 }
 
-/// Whether the fields are a known target type with as many arguments as it takes.
-fn is_target(target: &[&[u8]]) -> bool
-    ensures { result ≡ is_target (texts target.now) }
-{
-    match target {
-        [kind] => *kind == b"error".as_slice(),
-        [kind, _, offset] => {
-            let numbered = number(*offset).is_some();
-            *kind == b"linear".as_slice() && numbered
-        }
-        _ => false,
-    }
-}
-
 /// Whether the name of the row, and those in its arguments, are names.
 pub(crate) fn has_names(row: &[&[u8]]) -> bool
     ensures { result ≡ has_names (texts row.now) }
 {
     let named = is_device_name(name_of_row(row));
     match row {
-        [_, _, _, _, to, ..] => {
-            let known = is_dev(*to);
+        [_, _, _, target @ ..] => {
+            let known = has_devs(target);
             named && known
         }
         [_, ..] => named,
         [] => false,
     }
-}
-
-/// Whether the text names a device of the stack, or a disk.
-fn is_dev(text: &[u8]) -> bool
-    ensures { result ≡ is_dev text.now }
-{
-    match device_name_in(text) {
-        Some(name) => is_device_name(name),
-        None => is_disk_name(text),
-    }
-}
-
-/// What stands behind `/dev/mapper/`, where the text speaks of a device of the stack.
-pub(crate) fn device_name_in(text: &[u8]) -> Option<&[u8]>
-    ensures { MatchOption result (names_device text.now ≡ false)
-        (λ name. (names_device text.now ≡ true) × (name.now ≡ drop (length mapper) text.now)) }
-{
-    text.strip_prefix(b"/dev/mapper/")
 }

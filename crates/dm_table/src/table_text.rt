@@ -1,10 +1,10 @@
 //! Table text: a line `NAME: START LEN TYPE ARGS` for each line of a table, as dmsetup(8) has it.
 //!
 //! The text is cut once into rows of fields. Each check is one pass over the rows, in the order of
-//! the definitions, and only rows that passed all of them are read. A new target type is an arm in
-//! `target_of` here and one in `table_row`.
+//! the definitions, and only rows that passed all of them are read. A new target type belongs in
+//! `target_row`.
 
-ghost use Rattle.std.specs.Prelude.{◌≡◌, ◌≢◌, ◌+◌, ◌^◌, ◌<◌, List, None, Some, Ok, IsTrue, length, nat_eq, is_some, IfOk, IfErr, OnOk, IfSome};
+ghost use Rattle.std.specs.Prelude.{◌≡◌, ◌≢◌, ◌+◌, ◌^◌, ◌<◌, List, None, Some, Ok, IsTrue, length, nat_eq, IfOk, IfErr, OnOk, IfSome};
 ghost use Rattle.std.specs.Cmp.Lexicographic.{pointwise};
 ghost use Rattle.std.specs.List.{prefix_len};
 ghost use Rattle.dm_table.specs.declared.place.Part.TheVariants.{Source};
@@ -13,22 +13,23 @@ ghost use Rattle.dm_table.specs.declared.table.DeviceSpec.{DeviceSpec};
 ghost use Rattle.dm_table.specs.Fields.{texts, row_texts};
 ghost use Rattle.dm_table.specs.LoadFault.{Answers, IsMemoryFault, first_or, first_fault};
 ghost use Rattle.dm_table.specs.Name.{is_device_name};
-ghost use Rattle.dm_table.specs.Number.{number_of};
-ghost use Rattle.dm_table.specs.TableText.{DescribesTable, is_target, is_dev, table_checks};
-ghost use Rattle.dm_table.specs.TableReading.{number_in, dev_in, target_in, has_dev, is_checked, AreChecked, line_in, lines_from, name_of_row, run_device, devices_from, bad_syntax, bad_field, bad_name, read_rows, read_table};
+ghost use Rattle.dm_table.specs.TableText.{DescribesTable, table_checks};
+ghost use Rattle.dm_table.specs.TableReading.{is_checked, AreChecked, line_in, lines_from, name_of_row, run_device, devices_from, bad_syntax, bad_field, bad_name, read_rows, read_table};
 
 use crate::load_fault::{LoadFault, LoadKind};
-use crate::name::{DiskName, Name};
-use crate::number::number;
+use crate::name::Name;
+use crate::number::number_in;
 use crate::place::{Part, Place};
-use crate::table::{DevRef, DeviceSpec, Line, Table, Target};
-use crate::table_row::{device_name_in, has_names, is_line, is_row, name_of_row, rows_of};
+use crate::table::{DeviceSpec, Line, Table};
+use crate::table_row::{has_names, is_line, is_row, name_of_row, rows_of};
+use crate::target_row::target_of;
 use crate::text_checks::{text_lines, unended};
 use std::alloc::{AllocError, Global};
 
 /// The devices of table text, in its order. Neighbouring lines of one name are one device, whose
 /// place is its first line; a line may end with one space; all devices are writable. Starts,
-/// lengths and offsets are sectors of 512 bytes, below 10^19. The form is that of dmsetup(8).
+/// lengths, chunks and offsets are sectors of 512 bytes, below 10^19. The form is that of
+/// dmsetup(8). A striped line counts its columns, and there may be none.
 ///
 /// Else the fault of the first of these checks that finds anything, at its first line: `NotText`,
 /// a byte other than 0x20 to 0x7E; `Syntax`, fewer than four fields with single spaces between
@@ -200,36 +201,4 @@ fn line_of(alloc: Global, row: &[&[u8]], number: u64) -> Result<Line, AllocError
         }),
         _ => unreachable!(),
     }
-}
-
-/// The target of a type and its arguments.
-fn target_of(alloc: Global, target: &[&[u8]]) -> Result<Target, AllocError>
-    requires known { IsTrue (is_target (texts target.now)) }
-    requires names { IsTrue (has_dev (texts target.now)) }
-    ensures { IfOk result (λ t. t ≡ target_in (texts target.now)) }
-{
-    match target {
-        [_, to, offset] => Ok(Target::Linear {
-            to: dev_of(alloc, *to)?,
-            offset: number_in(*offset),
-        }),
-        _ => Ok(Target::Error),
-    }
-}
-
-fn dev_of(alloc: Global, text: &[u8]) -> Result<DevRef, AllocError>
-    requires { IsTrue (is_dev text.now) }
-    ensures { IfOk result (λ dev. dev ≡ dev_in text.now) }
-{
-    match device_name_in(text) {
-        Some(name) => Ok(DevRef::Device(Name::of_bytes(alloc, name)?)),
-        None => Ok(DevRef::Disk(DiskName::of_bytes(alloc, text)?)),
-    }
-}
-
-fn number_in(field: &[u8]) -> u64
-    requires { IsTrue (is_some (number_of field.now)) }
-    ensures { result ≡ number_in field.now }
-{
-    number(field).unwrap()
 }

@@ -1,7 +1,7 @@
 use Rattle.std.proofs.Common.{◌≤◌, length, arith}
 use Rattle.std.proofs.lemmas.List.{length-map}
 use Rattle.dm_table.specs.Fields.{texts}
-use Rattle.dm_table.proofs.TableRuns.{long_checked, dev_behind}
+use Rattle.dm_table.proofs.TableRuns.{long_checked, devs_behind}
 use Rattle.dm_table.proofs.table_text.line_of.Goals as goal
 
 pub unreachable-requires : goal.unreachable-requires
@@ -10,4 +10,4 @@ unreachable-requires c =
     absurd (omega arith)
 
 pub target_of-requires-clause-names : goal.target_of-requires-clause-names
-target_of-requires-clause-names c = dev_behind c.args.row.now c.requires
+target_of-requires-clause-names c = devs_behind c.args.row.now c.requires

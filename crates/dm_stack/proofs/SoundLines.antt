@@ -1,0 +1,275 @@
+-- What a sound stack says of its devices, of its disks, and of the line of a sector.
+use Rattle.std.proofs.Common.{◌≡◌, ℕ, zero, suc, ◌+◌, ◌-◌, ◌*◌, ◌^◌, ◌<◌, ◌≤◌, Bool, true, false, cond, eqb, nat_lt, nat_le, List, [], ◌∷◌, ◌++◌, length, map, Option, Some, None, refl, sym, ap, subst, ◌∙◌, arith}
+use Rattle.std.specs.Prelude.{◌/◌, ◌%◌, ◌==◌, ◌||◌, ◌&&◌, not, find, position, slice_get, option_map, is_none}
+use Rattle.std.specs.List.{AllByRecursion, flat_map, list_any, position_or_len}
+use Rattle.std.proofs.lemmas.Bool.{and_parts, or_parts, leb-true, le-leb, ltb-true, ltb-false, lt-ltb, le-ltb, eqb-true, not-false}
+use Rattle.std.proofs.lemmas.List.{length-map}
+use Rattle.std.proofs.lemmas.List.Elements.{All-from_recursion}
+use Rattle.std.proofs.Math.Nat.{div-add-mod, mul_comm}
+use Rattle.dm_table.specs.declared.table.Column.{Column}
+use Rattle.dm_table.specs.declared.table.Target.{Target}
+use Rattle.dm_table.specs.declared.table.Target.TheVariants as targets
+use Rattle.dm_table.specs.declared.table.Line.{Line}
+use Rattle.dm_table.specs.declared.table.DeviceSpec.{DeviceSpec}
+use Rattle.dm_table.specs.declared.disk.Disk.{Disk}
+use Rattle.dm_table.specs.declared.load_fault.LoadKind.TheVariants.{Limit, Empty, Gap, Overlap, Stripe, Range}
+use Rattle.dm_stack.specs.declared.found.FoundColumn.{FoundColumn}
+use Rattle.dm_stack.specs.declared.found.FoundLine.{FoundLine}
+use Rattle.dm_stack.specs.Description.{Description, lower_of, lower_len, lines_at, lines_or_none, end_of, device_len, disk_len, len_or_none}
+use Rattle.dm_stack.specs.Below.{holds, line_of, found_line, found_lines, found_columns, found_target, found_at, has_sector, LiesIn, AreStripes, IsTargetSound, HoldsSoundly}
+use Rattle.dm_stack.specs.Soundness.{fault, faults_by, all_lines, line_faults, is_large, is_far, too_large, without_lines, empty_in, empty, misplaced_from, misplaced, is_bad_stripe, has_bad_stripes, stripe, is_past, passes_end, range, HaveSmallEnds, IsSound}
+use Rattle.dm_stack.proofs.Passes.{append_none, all_parts, faults_by_none, PassesBefore, PassesAfter, passes_before, passes_after}
+
+-- A search in a list, and in what its elements become
+
+cond_map : {X Y : Type 0} (f : X → Y) (b : Bool) (x : X) (later : Option X) → cond b (Some (f x)) (option_map f later) ≡ option_map f (cond b (Some x) later)
+cond_map f true x later = refl
+cond_map f false x later = refl
+
+pub find-map : {X Y : Type 0} (f : X → Y) (test : Y → Bool) (xs : List X) → find test (map f xs) ≡ option_map f (find (λ x. test (f x)) xs)
+find-map f test [] = refl
+find-map {Y = Y} f test (x ∷ xs) =
+    ap (λ (later : Option Y). cond (test (f x)) (Some (f x)) later) (find-map f test xs) ∙ cond_map f (test (f x)) x (find (λ y. test (f y)) xs)
+
+pub position_or_len-map : {X Y : Type 0} (f : X → Y) (test : Y → Bool) (xs : List X) → position_or_len test (map f xs) ≡ position_or_len (λ x. test (f x)) xs
+position_or_len-map f test [] = refl
+position_or_len-map f test (x ∷ xs) = ap (λ (n : ℕ). cond (not (test (f x))) (1 + n) 0) (position_or_len-map f test xs)
+
+pub position-map : {X Y : Type 0} (f : X → Y) (test : Y → Bool) (xs : List X) → position test (map f xs) ≡ position (λ x. test (f x)) xs
+position-map f test xs = rw (position_or_len-map f test xs, length-map xs f) refl
+
+cond_found : {X : Type 0} (P : X → Type 0) (test : X → Bool) (first x : X) (later : Option X) (b : Bool) → test first ≡ b → P first → (later ≡ Some x → (test x ≡ true) × P x) → cond b (Some first) later ≡ Some x → (test x ≡ true) × P x
+cond_found {X = X} P test first x later true is here more e = let same : first ≡ x = cc in subst (λ (z : X). (test z ≡ true) × P z) same (is, here)
+cond_found P test first x later false is here more e = more e
+
+-- what a search found passes its test, and shares what all elements have
+pub found : {X : Type 0} (P : X → Type 0) (test : X → Bool) (xs : List X) (x : X) → AllByRecursion P xs → find test xs ≡ Some x → (test x ≡ true) × P x
+found P test [] x h e = absurd cc
+found P test (first ∷ xs) x h e = cond_found P test first x (find test xs) (test first) refl h.0 (found P test xs x h.1) e
+
+-- Lines that start where the one before ends
+
+cond_empty : {X : Type 0} (b : Bool) (x : X) (xs ys : List X) → cond b (x ∷ xs) ys ≡ [] → (b ≡ false) × (ys ≡ [])
+cond_empty true x xs ys e = absurd cc
+cond_empty false x xs ys e = (refl, e)
+
+record IsPlaced (end : ℕ) (line : Line) (lines : List Line) : Type 0 where
+  start : line.start ≡ end
+  rest : misplaced_from (line.start + line.len) lines ≡ []
+
+placed : (end : ℕ) (line : Line) (lines : List Line) → misplaced_from end (line ∷ lines) ≡ [] → IsPlaced end line lines
+placed end line lines e =
+    let gap = cond_empty (nat_lt end line.start) _ _ _ e in
+    let overlap = cond_empty (nat_lt line.start end) _ _ _ gap.1 in
+    let a : line.start ≤ end = ltb-false _ _ gap.0 in
+    let b : end ≤ line.start = ltb-false _ _ overlap.0 in
+    record { start = omega (arith, a, b); rest = overlap.1 }
+
+-- one of them holds each sector before the end of the last
+pub record IsHeld (lines : List Line) (sector : ℕ) : Type 0 where
+  pub line : Line
+  pub is : line_of lines sector ≡ Some line
+
+held_here : (line : Line) (lines : List Line) (sector : ℕ) (b : Bool) → holds sector line ≡ b → (b ≡ false → IsHeld lines sector) → IsHeld (line ∷ lines) sector
+held_here line lines sector true is later = record { line = line; is = rw is refl }
+held_here line lines sector false is later = let rest = later refl in record { line = rest.line; is = rw is rest.is }
+
+holds_from : (line : Line) (sector : ℕ) → line.start ≤ sector → sector < line.start + line.len → holds sector line ≡ true
+holds_from line sector from before = rw (le-leb line.start sector from, lt-ltb sector (line.start + line.len) before) refl
+
+passed : (line : Line) (sector : ℕ) → line.start ≤ sector → holds sector line ≡ false → line.start + line.len ≤ sector
+passed line sector from none =
+    let parts : nat_lt sector (line.start + line.len) ≡ false = subst (λ (b : Bool). (b && nat_lt sector (line.start + line.len)) ≡ false) (le-leb line.start sector from) none in
+    ltb-false _ _ parts
+
+pub held : (end : ℕ) (lines : List Line) (sector : ℕ) → misplaced_from end lines ≡ [] → end ≤ sector → sector < end_of lines → IsHeld lines sector
+held end [] sector e from before = absurd (omega (arith, before))
+held end (line ∷ []) sector e from before =
+    let at = placed end line [] e in
+    held_here line [] sector (holds sector line) refl (λ none. absurd (let yes : holds sector line ≡ true = holds_from line sector (omega (arith, at.start, from)) before in cc))
+held end (line ∷ next ∷ lines) sector e from before =
+    let at = placed end line (next ∷ lines) e in
+    held_here line (next ∷ lines) sector (holds sector line) refl (λ none. held (line.start + line.len) (next ∷ lines) sector at.rest (passed line sector (omega (arith, at.start, from)) none) before)
+
+-- The lines of one device
+
+pub of_device : (P : Line → Type 0) (devices : List DeviceSpec) (id : ℕ) (device : DeviceSpec) → AllByRecursion P (all_lines devices) → slice_get devices id ≡ Some device → AllByRecursion P device.lines
+of_device P [] id device h e = absurd cc
+of_device P (first ∷ devices) zero device h e =
+    let same : first ≡ device = cc in
+    subst (λ (d : DeviceSpec). AllByRecursion P d.lines) same (all_parts P first.lines (all_lines devices) h).0
+of_device P (first ∷ devices) (suc id) device h e = of_device P devices id device (all_parts P first.lines (all_lines devices) h).1 e
+
+-- Targets within what they name
+
+positive : (n : ℕ) → (n == 0) ≡ false → 0 < n
+positive zero e = absurd cc
+positive (suc n) e = omega arith
+
+share : (n m : ℕ) → (n % m == 0) ≡ true → n ≡ m * (n / m)
+share n m e = let none : n % m ≡ 0 = eqb-true _ _ e in let sum : m * (n / m) + n % m ≡ n = div-add-mod n m in omega (arith, none, sum)
+
+columns_inside : (stack : Description) (len : ℕ) (columns : List Column) → list_any (λ column. is_past stack column.to column.offset len) columns ≡ false → AllByRecursion (λ column. LiesIn stack column.to column.offset len) (found_columns stack columns)
+columns_inside stack len [] e = tt
+columns_inside stack len (column ∷ columns) e =
+    let parts = or_parts (is_past stack column.to column.offset len) _ e in
+    (ltb-false _ _ parts.0, columns_inside stack len columns parts.1)
+
+stripes_sound : (stack : Description) (len chunk : ℕ) (columns : List Column) → is_bad_stripe len chunk (length columns) ≡ false → list_any (λ column. is_past stack column.to column.offset (len / length columns)) columns ≡ false → AreStripes stack len chunk (found_columns stack columns)
+stripes_sound stack len chunk columns good inside =
+    let a = or_parts (length columns == 0) _ good in
+    let b = or_parts (nat_lt 128 (length columns)) _ a.1 in
+    let c = or_parts (chunk == 0) _ b.1 in
+    let d = or_parts (nat_lt 4294967295 chunk) _ c.1 in
+    let f = or_parts (not (len % length columns == 0)) (not ((len / length columns) % chunk == 0)) d.1 in
+    let some : 0 < length columns = positive (length columns) a.0 in
+    let few : length columns ≤ 128 = ltb-false _ _ b.0 in
+    let same : length (found_columns stack columns) ≡ length columns = length-map columns _ in
+    let small : chunk ≤ 4294967295 = ltb-false _ _ d.0 in
+    record {
+        some = subst (λ (n : ℕ). 0 < n) (sym same) some;
+        few = subst (λ (n : ℕ). n ≤ 128) (sym same) few;
+        chunk_some = positive chunk c.0;
+        chunk_small = omega (arith, small);
+        column_len = len / length columns;
+        chunks = len / length columns / chunk;
+        shares = share len (length columns) (not-false _ f.0) ∙ ap (λ (n : ℕ). n * (len / length columns)) (sym same);
+        whole = share (len / length columns) chunk (not-false _ f.1) ∙ mul_comm chunk (len / length columns / chunk);
+        inside = columns_inside stack (len / length columns) columns inside
+    }
+
+target_sound : (stack : Description) (len : ℕ) (line : Line) (target : Target) → has_bad_stripes line target ≡ false → passes_end stack line.len target ≡ false → IsTargetSound stack line.len (found_target stack target)
+target_sound stack len line (targets.Linear to offset) good inside = ltb-false _ _ inside
+target_sound stack len line (targets.Striped chunk columns) good inside = stripes_sound stack line.len chunk columns good inside
+target_sound stack len line targets.Zero good inside = tt
+target_sound stack len line targets.Error good inside = tt
+
+-- The line of a sector of a sound stack
+
+line_small : (line : Line) → is_large line ≡ false → line.start + line.len ≤ 2 ^ 50
+line_small line large =
+    let a = or_parts (nat_lt (2 ^ 50) line.start) (nat_lt (2 ^ 50) line.len || (nat_lt (2 ^ 50) (line.start + line.len) || is_far line.target)) large in
+    let b = or_parts (nat_lt (2 ^ 50) line.len) (nat_lt (2 ^ 50) (line.start + line.len) || is_far line.target) a.1 in
+    let c = or_parts (nat_lt (2 ^ 50) (line.start + line.len)) (is_far line.target) b.1 in
+    ltb-false _ _ c.0
+
+-- what the checks say of the lines of a device
+pub record IsDeviceSound (stack : Description) (device : DeviceSpec) : Type 0 where
+  pub small : AllByRecursion (λ line. is_large line ≡ false) device.lines
+  pub striped : AllByRecursion (λ line. has_bad_stripes line line.target ≡ false) device.lines
+  pub inside : AllByRecursion (λ line. passes_end stack line.len line.target ≡ false) device.lines
+  pub filled : empty_in device ≡ []
+  pub placed : misplaced_from 0 device.lines ≡ []
+
+part_of : {X : Type 0} (check : DeviceSpec → List X) (devices : List DeviceSpec) (id : ℕ) (device : DeviceSpec) → flat_map check devices ≡ [] → slice_get devices id ≡ Some device → check device ≡ []
+part_of check [] id device e at = absurd cc
+part_of {X} check (first ∷ devices) zero device e at =
+    let same : first ≡ device = cc in subst (λ (d : DeviceSpec). check d ≡ []) same (append_none (check first) _ e).0
+part_of check (first ∷ devices) (suc id) device e at = part_of check devices id device (append_none (check first) _ e).1 at
+
+pub device_sound : (stack : Description) (id : ℕ) (device : DeviceSpec) → IsSound stack → slice_get stack.devices id ≡ Some device → IsDeviceSound stack device
+device_sound stack id device sound at =
+    let p = passes_before stack sound.before in
+    let q = passes_after stack sound.after in
+    record {
+        small = of_device (λ line. is_large line ≡ false) stack.devices id device (faults_by_none Limit (λ line. line.at) is_large (all_lines stack.devices) (append_none _ _ p.small).0) at;
+        striped = of_device (λ line. has_bad_stripes line line.target ≡ false) stack.devices id device (faults_by_none Stripe (λ line. line.at) (λ line. has_bad_stripes line line.target) (all_lines stack.devices) q.divided) at;
+        inside = of_device (λ line. passes_end stack line.len line.target ≡ false) stack.devices id device (faults_by_none Range (λ line. line.at) (λ line. passes_end stack line.len line.target) (all_lines stack.devices) q.inside) at;
+        filled = part_of empty_in stack.devices id device (append_none _ _ p.filled).0 at;
+        placed = part_of (λ d. misplaced_from 0 d.lines) stack.devices id device p.placed at
+    }
+
+-- a device is there where its id is below the count
+pub record IsThere {X : Type 0} (xs : List X) (id : ℕ) : Type 0 where
+  pub it : X
+  pub at : slice_get xs id ≡ Some it
+
+pub there : {X : Type 0} (xs : List X) (id : ℕ) → id < length xs → IsThere xs id
+there [] id within = absurd (omega (arith, within))
+there (x ∷ xs) zero within = record { it = x; at = refl }
+there (x ∷ xs) (suc id) within = let rest = there xs id (omega (arith, within)) in record { it = rest.it; at = rest.at }
+
+pub lines_there : (stack : Description) (id : ℕ) (device : DeviceSpec) → slice_get stack.devices id ≡ Some device → lines_at stack id ≡ device.lines
+lines_there stack id device at = ap lines_or_none at
+
+-- the line that a search finds is that of the sector, and sound
+pub record IsFound (stack : Description) (id sector : ℕ) : Type 0 where
+  pub line : FoundLine
+  pub is : found_at stack id sector ≡ Some line
+  pub soundly : HoldsSoundly stack line sector
+
+pub sector_found : (stack : Description) (id sector : ℕ) → IsSound stack → id < length stack.devices → sector < device_len stack id → IsFound stack id sector
+sector_found stack id sector sound within inside =
+    let d = there stack.devices id within in
+    let lines = lines_there stack id d.it d.at in
+    let s = device_sound stack id d.it sound d.at in
+    let h = held 0 d.it.lines sector s.placed (omega arith) (subst (λ (ls : List Line). sector < end_of ls) lines inside) in
+    let a = found (λ line. is_large line ≡ false) (holds sector) d.it.lines h.line s.small h.is in
+    let b = found (λ line. has_bad_stripes line line.target ≡ false) (holds sector) d.it.lines h.line s.striped h.is in
+    let c = found (λ line. passes_end stack line.len line.target ≡ false) (holds sector) d.it.lines h.line s.inside h.is in
+    let parts = and_parts (nat_le h.line.start sector) (nat_lt sector (h.line.start + h.line.len)) a.0 in
+    record {
+        line = found_line stack h.line;
+        is = ap (option_map (found_line stack)) (ap (λ (ls : List Line). line_of ls sector) lines ∙ h.is);
+        soundly = record {
+            from = leb-true _ _ parts.0;
+            before = ltb-true _ _ parts.1;
+            small = line_small h.line a.1;
+            target = target_sound stack h.line.len h.line h.line.target b.1 c.1
+        }
+    }
+
+pub find-found : (stack : Description) (id sector : ℕ) → find (has_sector sector) (found_lines stack id) ≡ found_at stack id sector
+find-found stack id sector = find-map (found_line stack) (has_sector sector) (lines_at stack id)
+
+-- The length of a device
+
+end_some : (line : Line) (lines : List Line) → AllByRecursion (λ other. (other.len == 0) ≡ false) (line ∷ lines) → 0 < end_of (line ∷ lines)
+end_some line [] filled = let some = positive line.len filled.0 in omega (arith, some)
+end_some line (next ∷ lines) filled = end_some next lines filled.1
+
+end_small : (lines : List Line) → AllByRecursion (λ line. is_large line ≡ false) lines → end_of lines ≤ 2 ^ 50
+end_small [] small = omega arith
+end_small (line ∷ []) small = line_small line small.0
+end_small (line ∷ next ∷ lines) small = end_small (next ∷ lines) small.1
+
+filled_lines : (device : DeviceSpec) (lines : List Line) → without_lines device lines ≡ [] → AllByRecursion (λ line. (line.len == 0) ≡ false) lines → 0 < end_of lines
+filled_lines device [] e filled = absurd cc
+filled_lines device (line ∷ lines) e filled = end_some line lines filled
+
+pub device_some : (stack : Description) (id : ℕ) → IsSound stack → id < length stack.devices → 0 < device_len stack id
+device_some stack id sound within =
+    let d = there stack.devices id within in
+    let s = device_sound stack id d.it sound d.at in
+    let parts = append_none (without_lines d.it d.it.lines) _ s.filled in
+    subst (λ (ls : List Line). 0 < end_of ls) (sym (lines_there stack id d.it d.at))
+        (filled_lines d.it d.it.lines parts.0 (faults_by_none Empty (λ line. line.at) (λ line. line.len == 0) d.it.lines parts.1))
+
+pub device_small : (stack : Description) (id : ℕ) → IsSound stack → id < length stack.devices → device_len stack id ≤ 2 ^ 50
+device_small stack id sound within =
+    let d = there stack.devices id within in
+    subst (λ (ls : List Line). end_of ls ≤ 2 ^ 50) (sym (lines_there stack id d.it d.at)) (end_small d.it.lines (device_sound stack id d.it sound d.at).small)
+
+-- The length of a disk
+
+got : {X : Type 0} (P : X → Type 0) (xs : List X) (id : ℕ) (x : X) → AllByRecursion P xs → slice_get xs id ≡ Some x → P x
+got P [] id x h e = absurd cc
+got P (first ∷ xs) zero x h e = let same : first ≡ x = cc in subst P same h.0
+got P (first ∷ xs) (suc id) x h e = got P xs id x h.1 e
+
+pub disk_some : (stack : Description) (id : ℕ) (disk : Disk) → IsSound stack → slice_get stack.disks id ≡ Some disk → 0 < disk.len
+disk_some stack id disk sound at =
+    let p = passes_before stack sound.before in
+    positive disk.len (got (λ d. (d.len == 0) ≡ false) stack.disks id disk (faults_by_none Empty (λ d. d.at) (λ d. d.len == 0) stack.disks (append_none _ _ p.filled).1) at)
+
+pub disk_small : (stack : Description) (id : ℕ) (disk : Disk) → IsSound stack → slice_get stack.disks id ≡ Some disk → disk.len ≤ 2 ^ 50
+disk_small stack id disk sound at =
+    let p = passes_before stack sound.before in
+    ltb-false _ _ (got (λ d. nat_lt (2 ^ 50) d.len ≡ false) stack.disks id disk (faults_by_none Limit (λ d. d.at) (λ d. nat_lt (2 ^ 50) d.len) stack.disks (append_none _ _ p.small).1) at)
+
+pub small_ends : (lines : List Line) → AllByRecursion (λ line. is_large line ≡ false) lines → HaveSmallEnds lines
+small_ends lines small = All-from_recursion (λ line. line.start + line.len ≤ 2 ^ 50) lines (ends lines small)
+  where
+    ends : (lines : List Line) → AllByRecursion (λ line. is_large line ≡ false) lines → AllByRecursion (λ line. line.start + line.len ≤ 2 ^ 50) lines
+    ends [] small = tt
+    ends (line ∷ lines) small = (line_small line small.0, ends lines small.1)
