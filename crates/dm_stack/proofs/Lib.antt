@@ -1,6 +1,11 @@
 pub mod DepthLemmas
+pub mod DepthTests
 pub mod FirstFaults
+pub mod HandedOn
+pub mod ListLemmas
+pub mod LoadLemmas
 pub mod NameLemmas
+pub mod OneFault
 pub mod Passes
 pub mod PathLemmas
 pub mod RoundLemmas

@@ -1,10 +1,20 @@
 -- Names by their places: how a set of names tests them, and which stand twice.
-use Rattle.std.proofs.Common.{◌≡◌, ℕ, ◌+◌, Bool, true, false, not, List, [], ◌∷◌, Option, Some, None, String, refl, sym, ap, ◌∙◌, cond, length, map}
-use Rattle.std.specs.Prelude.{nat_lt, position, string_bytes}
-use Rattle.std.specs.List.{list_any, position_or_len}
-use Rattle.std.proofs.lemmas.List.{length-map}
+use Rattle.std.proofs.Common.{◌≡◌, ◌≢◌, ℕ, ◌+◌, ◌<◌, ◌≤◌, Bool, true, false, not, List, [], ◌∷◌, ◌++◌, Option, Some, None, Err, String, arith, refl, sym, ap, ◌∙◌, cond, drop, get_or, length, map, take}
+use Rattle.std.specs.Prelude.{find, is_none, is_some, nat_lt, position, reverse, string_bytes, unwrap_or, ◌||◌}
+use Rattle.std.specs.List.{list_any, position_from, position_or_len}
+use Rattle.std.proofs.lemmas.List.{drop_more, length-map, map-append, reverse-append, take_more}
+use Rattle.std.proofs.lemmas.Bool.{ltb-false}
+use Rattle.std.proofs.lemmas.Iterator.Adapters.{position_from-zero}
+use Rattle.std.proofs.lemmas.List.Folds.{list_any-append}
+use Rattle.std.proofs.lemmas.List.Sums.{prefix_len-le-length}
 use Rattle.std.proofs.lemmas.Slice.Eq.{bytes_eq-Decides}
+use Rattle.dm_table.specs.declared.place.Part.{Part}
+use Rattle.dm_table.specs.declared.place.Place.{Place}
+use Rattle.dm_table.specs.declared.load_fault.LoadFault.{LoadFault}
+use Rattle.dm_table.specs.declared.load_fault.LoadKind.TheVariants.{Memory, Twice}
+use Rattle.dm_table.specs.LoadFault.{IsMemoryFault, first_or, unless}
 use Rattle.dm_stack.specs.Description.{is_same}
+use Rattle.dm_stack.specs.Soundness.{fault, twice_after}
 
 same_by : (a b : List ℕ) (p q : Bool) → is_same a b ≡ p → is_same b a ≡ q → p ≡ q
 same_by a b true true s t = refl
@@ -41,3 +51,97 @@ position_names name keys = position_mapped string_bytes (λ other. is_same other
 pub any_names : {A : Type 0} (name : List ℕ) (keys : List (String A)) → list_any (λ key. is_same name (string_bytes key)) keys ≡ list_any (λ other. is_same other name) (map string_bytes keys)
 any_names name [] = refl
 any_names name (key ∷ keys) = rw (is_same-sym name (string_bytes key), any_names name keys) refl
+
+-- Names that stand twice
+
+any_swapped : (name : List ℕ) (names : List (List ℕ)) → list_any (λ other. is_same other name) names ≡ list_any (is_same name) names
+any_swapped name [] = refl
+any_swapped name (other ∷ names) = rw (is_same-sym other name, any_swapped name names) refl
+
+or_swap : (p q : Bool) → (p || (q || false)) ≡ (q || p)
+or_swap true true = refl
+or_swap true false = refl
+or_swap false true = refl
+or_swap false false = refl
+
+any_reversed : (test : List ℕ → Bool) (names : List (List ℕ)) → list_any test (reverse names) ≡ list_any test names
+any_reversed test [] = refl
+any_reversed test (name ∷ names) =
+    ap (list_any test) (reverse-append (name ∷ []) names) ∙ list_any-append test (reverse names) (name ∷ []) ∙ ap (λ (p : Bool). p || (test name || false)) (any_reversed test names) ∙ or_swap (list_any test names) (test name)
+
+-- the names of the first so many, the last of them first
+abbrev pub names_before : {X : Type 0} → (X → List ℕ) → List X → ℕ → List (List ℕ)
+names_before own xs i = reverse (map own (take i xs))
+
+-- whether a name is among those that were added
+abbrev pub seen_in : List ℕ → List (List ℕ) → Bool
+seen_in name names = list_any (λ other. is_same other name) names
+
+seen_before : {X : Type 0} (own : X → List ℕ) (name : List ℕ) (xs : List X) (i : ℕ) → seen_in name (map own (take i xs)) ≡ list_any (is_same name) (names_before own xs i)
+seen_before own name xs i = any_swapped name (map own (take i xs)) ∙ sym (any_reversed (is_same name) (map own (take i xs)))
+
+one_before : {X : Type 0} (own : X → List ℕ) (xs : List X) (i : ℕ) (x : X) → i < length xs → x ≡ get_or xs i x → names_before own xs (i + 1) ≡ own x ∷ names_before own xs i
+one_before {X} own xs i x within is =
+    ap (λ (ys : List X). reverse (map own ys)) (take_more xs i x within) ∙ ap reverse (map-append own (take i xs) (get_or xs i x ∷ [])) ∙ reverse-append (map own (take i xs)) (own (get_or xs i x) ∷ []) ∙ ap (λ (y : X). own y ∷ names_before own xs i) (sym is)
+
+pub names_more : {X : Type 0} (own : X → List ℕ) (xs : List X) (i : ℕ) (x : X) → i < length xs → x ≡ get_or xs i x → map own (take (i + 1) xs) ≡ map own (take i xs) ++ own x ∷ []
+names_more {X} own xs i x within is =
+    ap (map own) (take_more xs i x within) ∙ map-append own (take i xs) (get_or xs i x ∷ []) ∙ ap (λ (y : X). map own (take i xs) ++ own y ∷ []) (sym is)
+
+twice_here : {X : Type 0} (own : X → List ℕ) (place : X → Place) (xs : List X) (i : ℕ) (x : X) → i < length xs → x ≡ get_or xs i x → list_any (is_same (own x)) (names_before own xs i) ≡ true → first_or (twice_after own place (names_before own xs i) (drop i xs)) None ≡ Some (fault Twice (place x))
+twice_here {X} own place xs i x within is seen =
+    let at : drop i xs ≡ x ∷ drop (i + 1) xs = drop_more xs i x within ∙ ap (λ (y : X). y ∷ drop (i + 1) xs) (sym is) in
+    rw (at, seen) refl
+
+twice_later : {X : Type 0} (own : X → List ℕ) (place : X → Place) (xs : List X) (i : ℕ) (x : X) → i < length xs → x ≡ get_or xs i x → list_any (is_same (own x)) (names_before own xs i) ≡ false → first_or (twice_after own place (names_before own xs (i + 1)) (drop (i + 1) xs)) None ≡ first_or (twice_after own place (names_before own xs i) (drop i xs)) None
+twice_later {X} own place xs i x within is new =
+    let at : drop i xs ≡ x ∷ drop (i + 1) xs = drop_more xs i x within ∙ ap (λ (y : X). y ∷ drop (i + 1) xs) (sym is) in
+    rw (one_before own xs i x within is, at, new) refl
+
+-- where the next name is among those before it, and where it is not
+pub stands_twice : {X : Type 0} (own : X → List ℕ) (place : X → Place) (xs : List X) (i : ℕ) (x : X) (names : List (List ℕ)) → i < length xs → x ≡ get_or xs i x → names ≡ map own (take i xs) → seen_in (own x) names ≡ true → first_or (twice_after own place (names_before own xs i) (drop i xs)) None ≡ Some (fault Twice (place x))
+stands_twice own place xs i x names within is all seen =
+    twice_here own place xs i x within is (sym (seen_before own (own x) xs i) ∙ ap (seen_in (own x)) (sym all) ∙ seen)
+
+pub stands_once : {X : Type 0} (own : X → List ℕ) (place : X → Place) (xs : List X) (i : ℕ) (x : X) (names : List (List ℕ)) → i < length xs → x ≡ get_or xs i x → names ≡ map own (take i xs) → seen_in (own x) names ≡ false → first_or (twice_after own place (names_before own xs (i + 1)) (drop (i + 1) xs)) None ≡ first_or (twice_after own place (names_before own xs i) (drop i xs)) None
+stands_once own place xs i x names within is all seen =
+    twice_later own place xs i x within is (sym (seen_before own (own x) xs i) ∙ ap (seen_in (own x)) (sym all) ∙ seen)
+
+-- the answer where a name stands twice
+pub refused_twice : {Y : Type 0} (part : Part) (place : Place) (found : Option LoadFault) (value : Y) → found ≡ Some (fault Twice place) → (Twice ≡ Memory → IsMemoryFault part (fault Twice place)) × (Twice ≢ Memory → unless found value ≡ Err (fault Twice place))
+refused_twice {Y} part place found value e = (λ memory. absurd cc, λ other. ap (λ (o : Option LoadFault). unless o value) e)
+
+-- Names that are looked up, by the elements that have them
+
+none_from : {X : Type 0} (test : X → Bool) (i : ℕ) (xs : List X) → is_none (position_from test i xs) ≡ is_none (find test xs)
+none_from test i [] = refl
+none_from test i (x ∷ xs) = none_step i x (position_from test (i + 1) xs) (find test xs) (test x) (none_from test (i + 1) xs) where
+  none_step : {Y : Type 0} (i : ℕ) (x : Y) (place : Option ℕ) (found : Option Y) (b : Bool) → is_none place ≡ is_none found → is_none (cond b (Some i) place) ≡ is_none (cond b (Some x) found)
+  none_step i x place found true e = refl
+  none_step i x place found false e = e
+
+-- no place of a name among the names, and none that has it
+pub unknown_name : {X : Type 0} (own : X → List ℕ) (name : List ℕ) (xs : List X) (names : List (List ℕ)) → names ≡ map own xs → is_none (position (λ other. is_same other name) names) ≡ is_none (find (λ x. is_same (own x) name) xs)
+unknown_name own name xs names e =
+    ap (λ (all : List (List ℕ)). is_none (position (λ other. is_same other name) all)) e
+    ∙ ap is_none (sym (position_mapped own (λ other. is_same other name) (λ x. is_same (own x) name) (λ x. refl) xs) ∙ position_from-zero (λ x. is_same (own x) name) xs)
+    ∙ none_from (λ x. is_same (own x) name) 0 xs
+
+or_end : (end place : ℕ) → place ≤ end → unwrap_or (within end place) end ≡ place
+or_end end place most = by_test (nat_lt place end) refl where
+  by_test : (b : Bool) → nat_lt place end ≡ b → unwrap_or (cond b (Some place) None) end ≡ place
+  by_test true e = refl
+  by_test false e = omega (arith, most, ltb-false place end e)
+
+-- the place of a name among the names, or else the end, is that of the first that has it
+pub place_of_name : {X : Type 0} (own : X → List ℕ) (name : List ℕ) (xs : List X) (names : List (List ℕ)) → names ≡ map own xs → unwrap_or (position (λ other. is_same other name) names) (length xs) ≡ position_or_len (λ x. is_same (own x) name) xs
+place_of_name own name xs names e =
+    ap (λ (all : List (List ℕ)). unwrap_or (position (λ other. is_same other name) all) (length xs)) e
+    ∙ ap (λ (place : Option ℕ). unwrap_or place (length xs)) (sym (position_mapped own (λ other. is_same other name) (λ x. is_same (own x) name) (λ x. refl) xs))
+    ∙ or_end (length xs) (position_or_len (λ x. is_same (own x) name) xs) (prefix_len-le-length _ xs)
+
+pub none_of : {X : Type 0} (found : Option X) (none : Bool) → is_some found ≡ not none → none ≡ is_none found
+none_of None true e = refl
+none_of None false e = absurd cc
+none_of (Some x) true e = absurd cc
+none_of (Some x) false e = refl

@@ -4,15 +4,23 @@
 //! soundness again. Lines are found by a `Looker` alone, which counts its searches.
 #![tactic(auto)]
 
+mod depth;
 mod fault;
 mod found;
 mod graph;
 mod id;
+mod indexed;
 mod layout;
 mod limits;
+mod links;
+mod load;
 mod looker;
 mod name_index;
+mod names;
+mod ranges;
+mod resolve;
 mod stack;
+mod stripes;
 
 pub use found::{Found, FoundColumn, FoundColumns, FoundLine, FoundTarget};
 pub use graph::MOST_DEPTH;

@@ -35,11 +35,11 @@ pub const MOST_CHUNK: u64 = (1 << 32) - 1;
 pub(crate) fn too_many(devices: &[DeviceSpec], disks: &[Disk]) -> Option<LoadFault>
     ensures { result ≡ first_or (too_many (record { devices = devices.now; disks = disks.now })) None }
 {
-    if MOST_DEVICES < devices.len() {
-        return Some(fault(LoadKind::Limit, devices[MOST_DEVICES].at));
+    if let Some(device) = devices.get(MOST_DEVICES) {
+        return Some(fault(LoadKind::Limit, device.at));
     }
-    if MOST_DISKS < disks.len() {
-        return Some(fault(LoadKind::Limit, disks[MOST_DISKS].at));
+    if let Some(disk) = disks.get(MOST_DISKS) {
+        return Some(fault(LoadKind::Limit, disk.at));
     }
     if let Some(line) = line_at(devices, MOST_LINES) {
         return Some(fault(LoadKind::Limit, line.at));

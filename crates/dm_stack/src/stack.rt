@@ -3,18 +3,27 @@
 //! The invariant carries the soundness, so nothing above asks for it again: a value is made only
 //! through the checks of a load. Names are looked up once there; behind it everything goes by ids.
 
-ghost use Rattle.std.specs.Prelude.{◌≡◌, ◌≢◌, ◌<◌, ◌≤◌, ◌^◌, IfErr, IfOk, Some, None, find, length, option_copied, position, slice_get};
+ghost use Rattle.std.specs.Prelude.{◌≡◌, ◌≢◌, ◌+◌, ◌<◌, ◌≤◌, ◌^◌, IfErr, IfOk, IsTrue, OnOk, Some, None, find, length, option_copied, position, slice_get};
+ghost use Rattle.dm_table.specs.Name.{is_disk_name};
 ghost use Rattle.dm_stack.specs.Below.{HoldsSoundly, found_at, found_lines, has_sector};
-ghost use Rattle.dm_stack.specs.Description.{device_len, disk_len, is_ro_at, is_same, name_at, disk_name_at};
+ghost use Rattle.dm_stack.specs.Description.{Description, device_len, disk_len, is_ro_at, is_same, name_at, disk_name_at};
 ghost use Rattle.dm_stack.specs.Loaded.{stack_depth};
-ghost use Rattle.dm_stack.specs.Soundness.{IsSound};
+ghost use Rattle.dm_stack.specs.Soundness.{IsRefusedBy, IsSound};
+ghost use Rattle.dm_stack.specs.declared.graph.TheConstants.{MOST_DEPTH};
+ghost use Rattle.dm_stack.specs.declared.limits.TheConstants.{MOST_CHUNK, MOST_DEVICES, MOST_DISKS, MOST_LENGTH, MOST_LINES, MOST_STRIPES};
+ghost use Rattle.dm_table.specs.LoadFault.{IsMemoryFault};
+ghost use Rattle.dm_table.specs.declared.load_fault.LoadFault.{LoadFault};
+ghost use Rattle.dm_table.specs.declared.load_fault.LoadKind.TheVariants.{Memory};
+ghost use Rattle.dm_table.specs.declared.place.Part.TheVariants.{Source};
 
 use crate::found::{Found, FoundLine, FoundTable};
 use crate::id::{DeviceId, DiskId};
 use crate::layout::end_of;
+use crate::load::check;
 use crate::looker::Looker;
 use crate::name_index::NameIndex;
-use dm_table::{DeviceSpec, Disk};
+use dm_table::{DeviceSpec, Disk, LoadFault};
+use std::alloc::Global;
 use std::marker::Model;
 
 /// A stack in which no check of a load finds a fault.
@@ -40,6 +49,61 @@ impl Model for Stack {
 }
 
 impl Stack {
+    /// Loads a stack, or answers why not: the first fault of the first check that finds any.
+    ///
+    /// Lengths, starts and offsets are in sectors of 512 bytes. The places of devices and disks in
+    /// these lists are their ids. The checks in their order, each with the kind of its fault:
+    ///
+    /// 1. `Limit`: at most 1,024 devices, then 1,024 disks, then 65,536 lines of all tables
+    ///    together. The place is that of the first that is one too many.
+    /// 2. `Limit`: no start, length, end or offset of a line, and then no length of a disk, is above
+    ///    2^50.
+    /// 3. `Twice`: a device whose name an earlier one has, then a disk.
+    /// 4. `Empty`: a device without lines, or a line of length 0, then a disk of length 0.
+    /// 5. `Gap`, `Overlap`: a line that starts after the end of the one before, or before it. The
+    ///    first line starts at 0.
+    /// 6. `Unknown`: a line that names a device or a disk that is not there.
+    /// 7. `Cycle`: the first device that reaches itself by what lines name.
+    /// 8. `Deep`: a device whose depth is above 32. It is 1 plus the greatest of the devices that
+    ///    it names, so that of a device that names none is 1.
+    /// 9. `Stripe`: a striped line with fewer than 1 or more than 128 columns, a chunk below 1 or
+    ///    above 2^32 - 1, or a length that is no multiple of the columns, or whose share of each
+    ///    column is none of the chunk.
+    /// 10. `Range`: a line that passes the end of what it names.
+    ///
+    /// Where a check names no disk, it asks the lines of all devices in their order, or the devices.
+    /// `Memory`, with the number 0, means that memory was refused; it says nothing of the lists.
+    ///
+    /// Cost: near-linear in the lines and their columns, the devices and the disks, with memory for
+    /// a copy of each name and each line; where devices are too deep, a search of what one reaches
+    /// for each of them in turn.
+    pub fn load(
+        alloc: Global,
+        devices: Vec<DeviceSpec>,
+        disks: Vec<Disk>,
+    ) -> Result<Stack, LoadFault>
+        ensures devices { IfOk result (λ stack. stack.devices ≡ devices.items) }
+        ensures disks { IfOk result (λ stack. stack.disks ≡ disks.items) }
+        ensures sound { OnOk result (IsSound (record { devices = devices.items; disks = disks.items })) }
+        ensures fault { IfErr result (λ fault. fault.kind ≢ Memory → IsRefusedBy (record { devices = devices.items; disks = disks.items }) fault) }
+        ensures memory { IfErr result (λ fault. fault.kind ≡ Memory → IsMemoryFault Source fault) }
+        ensures one { (stack : Description) (found other : LoadFault) → IsRefusedBy stack found → IsRefusedBy stack other → found ≡ other }
+        ensures never { (stack : Description) (found : LoadFault) → IsSound stack → IsRefusedBy stack found → ⊥ }
+        // The figures of the limits.
+        ensures limits { (MOST_DEVICES ≡ 1024) × (MOST_DISKS ≡ 1024) × (MOST_LINES ≡ 65536) × (MOST_DEPTH ≡ 32)
+            × (MOST_LENGTH ≡ 2 ^ 50) × (MOST_STRIPES ≡ 128) × (MOST_CHUNK + 1 ≡ 2 ^ 32) }
+    {
+        let checked = check(alloc, &devices, &disks)?;
+        Ok(Stack {
+            devices,
+            disks,
+            device_names: checked.names.devices,
+            disk_names: checked.names.disks,
+            tables: checked.tables,
+            depth: checked.depth,
+        })
+    }
+
     /// The device of a name.
     pub fn device(&self, name: &str) -> Option<DeviceId>
         ensures { result ≡ position (λ device. is_same device.name name.now) self.now.devices }
@@ -110,7 +174,8 @@ impl Stack {
     /// The name of a disk of the stack.
     pub fn disk_name(&self, disk: DiskId) -> &str
         requires { disk < length self.now.disks }
-        ensures { result.now ≡ disk_name_at self.now disk }
+        ensures name { result.now ≡ disk_name_at self.now disk }
+        ensures form { IsTrue (is_disk_name result.now) }
     {
         self.disks[disk.index()].name.as_str()
     }

@@ -1,0 +1,45 @@
+-- Checks that test each device by its id.
+use Rattle.std.proofs.Common.{◌≡◌, ℕ, suc, ◌+◌, ◌<◌, Bool, true, false, List, [], ◌∷◌, Some, None, arith, refl, sym, ap, ◌∙◌, drop, get_or, length}
+use Rattle.std.specs.Prelude.{nat_lt}
+use Rattle.std.proofs.lemmas.List.{drop_more, length-map}
+use Rattle.dm_table.specs.declared.load_fault.LoadFault.{LoadFault}
+use Rattle.dm_table.specs.declared.load_fault.LoadKind.{LoadKind}
+use Rattle.dm_table.specs.declared.load_fault.LoadKind.TheVariants.{Deep}
+use Rattle.dm_table.specs.declared.table.DeviceSpec.{DeviceSpec}
+use Rattle.dm_table.specs.LoadFault.{first_or}
+use Rattle.dm_stack.specs.Description.{Description, device_links, links}
+use Rattle.dm_stack.specs.Graph.{depths_to}
+use Rattle.dm_stack.specs.Soundness.{deep, depth_of, fault, faults_at}
+use Rattle.dm_stack.proofs.RoundLemmas.{depths_to-at, depths_to-length}
+
+pub at_stops : (kind : LoadKind) (bad : ℕ → Bool) (devices : List DeviceSpec) (i : ℕ) (device : DeviceSpec) → i < length devices → device ≡ get_or devices i device → bad i ≡ true → first_or (faults_at kind bad i (drop i devices)) None ≡ Some (fault kind device.at)
+at_stops kind bad devices i device within is here =
+    let at : drop i devices ≡ device ∷ drop (i + 1) devices = drop_more devices i device within ∙ ap (λ (y : DeviceSpec). y ∷ drop (i + 1) devices) (sym is) in
+    rw (at, here) refl
+
+pub at_passes : (kind : LoadKind) (bad : ℕ → Bool) (devices : List DeviceSpec) (i : ℕ) (device : DeviceSpec) → i < length devices → device ≡ get_or devices i device → bad i ≡ false → first_or (faults_at kind bad (i + 1) (drop (i + 1) devices)) None ≡ first_or (faults_at kind bad i (drop i devices)) None
+at_passes kind bad devices i device within is here =
+    let at : drop i devices ≡ device ∷ drop (i + 1) devices = drop_more devices i device within ∙ ap (λ (y : DeviceSpec). y ∷ drop (i + 1) devices) (sym is) in
+    let next : i + 1 ≡ suc i = omega arith in
+    rw (at, here, next) refl
+
+-- tests that agree on the ids of these devices
+same_tests : (kind : LoadKind) (p q : ℕ → Bool) (i : ℕ) (devices : List DeviceSpec) → ((id : ℕ) → id < i + length devices → p id ≡ q id) → faults_at kind p i devices ≡ faults_at kind q i devices
+same_tests kind p q i [] same = refl
+same_tests kind p q i (device ∷ devices) same =
+    let here : p i ≡ q i = same i (omega arith) in
+    let later : faults_at kind p (suc i) devices ≡ faults_at kind q (suc i) devices = same_tests kind p q (suc i) devices (λ id below. same id (omega arith)) in
+    rw (here, later) refl
+
+-- depths that were told, and those that the check asks
+pub told_depths : (stack : Description) (depths : List ℕ) → depths ≡ depths_to (links stack) 33 → faults_at Deep (λ id. nat_lt 32 (get_or depths id 0)) 0 stack.devices ≡ deep stack
+told_depths stack depths e =
+    same_tests Deep (λ id. nat_lt 32 (get_or depths id 0)) (λ id. nat_lt 32 (depth_of stack id)) 0 stack.devices
+    (λ id below. ap (λ (all : List ℕ). nat_lt 32 (get_or all id 0)) e ∙ ap (nat_lt 32) (depths_to-at (links stack) 33 id (omega (arith, length-map stack.devices (device_links stack)))))
+
+pub depth_each : (stack : Description) (depths : List ℕ) → depths ≡ depths_to (links stack) 33 → length depths ≡ length stack.devices
+depth_each stack depths e = ap (λ (all : List ℕ). length all) e ∙ depths_to-length (links stack) 33 ∙ length-map stack.devices (device_links stack)
+
+pub told_deep : (stack : Description) (depths : List ℕ) (devices : List DeviceSpec) → depths ≡ depths_to (links stack) 33 → devices ≡ stack.devices → first_or (faults_at Deep (λ id. nat_lt 32 (get_or depths id 0)) 0 devices) None ≡ first_or (deep stack) None
+told_deep stack depths devices e same =
+    ap (λ (all : List DeviceSpec). first_or (faults_at Deep (λ id. nat_lt 32 (get_or depths id 0)) 0 all) None) same ∙ ap (λ (faults : List LoadFault). first_or faults None) (told_depths stack depths e)

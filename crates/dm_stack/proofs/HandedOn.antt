@@ -1,0 +1,134 @@
+-- What the checks hand on: ends within the limit, and faults that are no want of memory.
+use Rattle.std.proofs.Common.{◌≡◌, ◌≢◌, ℕ, suc, ◌+◌, ◌^◌, ◌≤◌, Bool, true, false, cond, List, [], ◌∷◌, ◌++◌, Option, Some, None, ◌∙◌, ap, drop, inl, inr}
+use Rattle.std.specs.Prelude.{◌==◌, nat_lt, ◌||◌}
+use Rattle.std.specs.List.{All, AllByRecursion, flat_map, list_any}
+use Rattle.std.proofs.lemmas.Bool.{or_parts, ltb-false}
+use Rattle.std.proofs.lemmas.List.Elements.{All-from_recursion}
+use Rattle.dm_table.specs.declared.place.Place.{Place}
+use Rattle.dm_table.specs.declared.table.Line.{Line}
+use Rattle.dm_table.specs.declared.table.DeviceSpec.{DeviceSpec}
+use Rattle.dm_table.specs.declared.load_fault.LoadKind.{LoadKind}
+use Rattle.dm_table.specs.declared.load_fault.LoadKind.TheVariants.{Limit, Twice, Empty, Gap, Overlap, Unknown, Deep, Stripe, Range, Memory}
+use Rattle.dm_table.specs.declared.load_fault.LoadFault.{LoadFault}
+use Rattle.dm_table.specs.LoadFault.{first_or, first_fault}
+use Rattle.dm_stack.specs.Description.{Description, is_same}
+use Rattle.dm_stack.specs.Load.{IsRefusedBehind}
+use Rattle.dm_stack.specs.Soundness.{HaveSmallEnds, all_lines, checks_after, checks_before, deep, depth_of, empty, empty_in, fault, faults_at, faults_by, has_bad_stripes, is_far, is_large, is_unknown, misplaced, misplaced_from, passes_end, past, range, stripe, too_large, too_many, twice, twice_after, unknown, without_lines}
+use Rattle.dm_stack.proofs.Passes.{all_parts, append_none, faults_by_none}
+
+-- Ends within the limit
+
+line_within : (line : Line) → is_large line ≡ false → line.start + line.len ≤ 2 ^ 50
+line_within line large =
+    let a = or_parts (nat_lt (2 ^ 50) line.start) (nat_lt (2 ^ 50) line.len || (nat_lt (2 ^ 50) (line.start + line.len) || is_far line.target)) large in
+    let b = or_parts (nat_lt (2 ^ 50) line.len) (nat_lt (2 ^ 50) (line.start + line.len) || is_far line.target) a.1 in
+    let c = or_parts (nat_lt (2 ^ 50) (line.start + line.len)) (is_far line.target) b.1 in
+    ltb-false _ _ c.0
+
+lines_within : (lines : List Line) → AllByRecursion (λ line. is_large line ≡ false) lines → AllByRecursion (λ line. line.start + line.len ≤ 2 ^ 50) lines
+lines_within [] small = tt
+lines_within (line ∷ lines) small = (line_within line small.0, lines_within lines small.1)
+
+devices_within : (devices : List DeviceSpec) → AllByRecursion (λ line. is_large line ≡ false) (all_lines devices) → AllByRecursion (λ device. HaveSmallEnds device.lines) devices
+devices_within [] small = tt
+devices_within (device ∷ devices) small =
+    let parts = all_parts (λ line. is_large line ≡ false) device.lines (all_lines devices) small in
+    (All-from_recursion (λ line. line.start + line.len ≤ 2 ^ 50) device.lines (lines_within device.lines parts.0), devices_within devices parts.1)
+
+pub ends_within : (stack : Description) → too_large stack ≡ [] → All (λ device. HaveSmallEnds device.lines) stack.devices
+ends_within stack e =
+    let none = append_none _ _ e in
+    All-from_recursion (λ device. HaveSmallEnds device.lines) stack.devices (devices_within stack.devices (faults_by_none Limit (λ line. line.at) is_large (all_lines stack.devices) none.0))
+
+-- Faults that are no want of memory
+
+abbrev pub IsFound : LoadFault → Type 0
+IsFound fault = fault.kind ≢ Memory
+
+pub found_first : (check : List LoadFault) (later : Option LoadFault) (at : LoadFault) → AllByRecursion IsFound check → (later ≡ Some at → IsFound at) → first_or check later ≡ Some at → IsFound at
+found_first [] later at found more e = more e
+found_first (fault ∷ faults) later at found more e = let same : fault.kind ≡ at.kind = cc in λ memory. found.0 (same ∙ memory)
+
+pub all_append : {X : Type 0} (P : X → Type 0) (xs ys : List X) → AllByRecursion P xs → AllByRecursion P ys → AllByRecursion P (xs ++ ys)
+all_append P [] ys h k = k
+all_append P (x ∷ xs) ys h k = (h.0, all_append P xs ys h.1 k)
+
+all_each : {X Y : Type 0} (P : Y → Type 0) (f : X → List Y) (xs : List X) → ((x : X) → AllByRecursion P (f x)) → AllByRecursion P (flat_map f xs)
+all_each P f [] each = tt
+all_each P f (x ∷ xs) each = all_append P (f x) (flat_map f xs) (each x) (all_each P f xs each)
+
+cond_found : (at : LoadFault) (later : List LoadFault) (b : Bool) → IsFound at → AllByRecursion IsFound later → AllByRecursion IsFound (cond b (at ∷ later) later)
+cond_found at later true here more = (here, more)
+cond_found at later false here more = more
+
+by_found : {X : Type 0} (kind : LoadKind) (place : X → Place) (bad : X → Bool) (xs : List X) → kind ≢ Memory → AllByRecursion IsFound (faults_by kind place bad xs)
+by_found kind place bad [] other = tt
+by_found kind place bad (x ∷ xs) other = cond_found (fault kind (place x)) (faults_by kind place bad xs) (bad x) other (by_found kind place bad xs other)
+
+twice_found : {X : Type 0} (own : X → List ℕ) (place : X → Place) (seen : List (List ℕ)) (xs : List X) → AllByRecursion IsFound (twice_after own place seen xs)
+twice_found own place seen [] = tt
+twice_found own place seen (x ∷ xs) =
+    cond_found (fault Twice (place x)) (twice_after own place (own x ∷ seen) xs) (list_any (is_same (own x)) seen) (λ e. cc) (twice_found own place (own x ∷ seen) xs)
+
+without_found : (device : DeviceSpec) (lines : List Line) → AllByRecursion IsFound (without_lines device lines)
+without_found device [] = (λ e. cc, tt)
+without_found device (line ∷ lines) = tt
+
+place_found : (gap overlap : LoadFault) (later : List LoadFault) (p q : Bool) → IsFound gap → IsFound overlap → AllByRecursion IsFound later → AllByRecursion IsFound (cond p (gap ∷ later) (cond q (overlap ∷ later) later))
+place_found gap overlap later true q g o more = (g, more)
+place_found gap overlap later false true g o more = (o, more)
+place_found gap overlap later false false g o more = more
+
+misplaced_found : (end : ℕ) (lines : List Line) → AllByRecursion IsFound (misplaced_from end lines)
+misplaced_found end [] = tt
+misplaced_found end (line ∷ lines) =
+    place_found (fault Gap line.at) (fault Overlap line.at) (misplaced_from (line.start + line.len) lines) (nat_lt end line.start) (nat_lt line.start end) (λ e. cc) (λ e. cc) (misplaced_found (line.start + line.len) lines)
+
+many_found : (stack : Description) → AllByRecursion IsFound (too_many stack)
+many_found stack =
+    all_append IsFound (past 1024 (λ device. device.at) stack.devices ++ past 1024 (λ disk. disk.at) stack.disks) (past 65536 (λ line. line.at) (all_lines stack.devices))
+    (all_append IsFound (past 1024 (λ device. device.at) stack.devices) (past 1024 (λ disk. disk.at) stack.disks)
+    (by_found Limit (λ device. device.at) (λ device. true) (drop 1024 stack.devices) (λ e. cc)) (by_found Limit (λ disk. disk.at) (λ disk. true) (drop 1024 stack.disks) (λ e. cc)))
+    (by_found Limit (λ line. line.at) (λ line. true) (drop 65536 (all_lines stack.devices)) (λ e. cc))
+
+large_found : (stack : Description) → AllByRecursion IsFound (too_large stack)
+large_found stack =
+    all_append IsFound (faults_by Limit (λ line. line.at) is_large (all_lines stack.devices)) (faults_by Limit (λ disk. disk.at) (λ disk. nat_lt (2 ^ 50) disk.len) stack.disks)
+    (by_found Limit (λ line. line.at) is_large (all_lines stack.devices) (λ e. cc)) (by_found Limit (λ disk. disk.at) (λ disk. nat_lt (2 ^ 50) disk.len) stack.disks (λ e. cc))
+
+both_found : (stack : Description) → AllByRecursion IsFound (twice stack)
+both_found stack =
+    all_append IsFound (twice_after (λ device. device.name) (λ device. device.at) [] stack.devices) (twice_after (λ disk. disk.name) (λ disk. disk.at) [] stack.disks)
+    (twice_found (λ device. device.name) (λ device. device.at) [] stack.devices) (twice_found (λ disk. disk.name) (λ disk. disk.at) [] stack.disks)
+
+empty_found : (device : DeviceSpec) → AllByRecursion IsFound (empty_in device)
+empty_found device =
+    all_append IsFound (without_lines device device.lines) (faults_by Empty (λ line. line.at) (λ line. line.len == 0) device.lines) (without_found device device.lines)
+    (by_found Empty (λ line. line.at) (λ line. line.len == 0) device.lines (λ e. cc))
+
+at_found : (kind : LoadKind) (bad : ℕ → Bool) (id : ℕ) (devices : List DeviceSpec) → kind ≢ Memory → AllByRecursion IsFound (faults_at kind bad id devices)
+at_found kind bad id [] other = tt
+at_found kind bad id (device ∷ devices) other = cond_found (fault kind device.at) (faults_at kind bad (suc id) devices) (bad id) other (at_found kind bad (suc id) devices other)
+
+-- a fault of the checks before the one for cycles, and of those after it
+pub before_found : (stack : Description) (at : LoadFault) → first_fault (checks_before stack) ≡ Some at → IsFound at
+before_found stack at e =
+    found_first (too_many stack) _ at (many_found stack)
+    (found_first (too_large stack) _ at (large_found stack)
+    (found_first (twice stack) _ at (both_found stack)
+    (found_first (empty stack) _ at
+    (all_append IsFound (flat_map empty_in stack.devices) (faults_by Empty (λ disk. disk.at) (λ disk. disk.len == 0) stack.disks) (all_each IsFound empty_in stack.devices empty_found)
+    (by_found Empty (λ disk. disk.at) (λ disk. disk.len == 0) stack.disks (λ e. cc)))
+    (found_first (misplaced stack) _ at (all_each IsFound (λ device. misplaced_from 0 device.lines) stack.devices (λ device. misplaced_found 0 device.lines))
+    (found_first (unknown stack) None at (by_found Unknown (λ line. line.at) (λ line. is_unknown stack line.target) (all_lines stack.devices) (λ e. cc)) (λ none. absurd cc)))))) e
+
+pub after_found : (stack : Description) (at : LoadFault) → first_fault (checks_after stack) ≡ Some at → IsFound at
+after_found stack at e =
+    found_first (deep stack) _ at (at_found Deep (λ id. nat_lt 32 (depth_of stack id)) 0 stack.devices (λ e. cc))
+    (found_first (stripe stack) _ at (by_found Stripe (λ line. line.at) (λ line. has_bad_stripes line line.target) (all_lines stack.devices) (λ e. cc))
+    (found_first (range stack) None at (by_found Range (λ line. line.at) (λ line. passes_end stack line.len line.target) (all_lines stack.devices) (λ e. cc)) (λ none. absurd cc))) e
+
+-- a fault of the check for cycles, or of one after it
+pub behind_found : (stack : Description) (at : LoadFault) → IsRefusedBehind stack at → IsFound at
+behind_found stack at (inl ring) = λ memory. let kind = ap (λ (f : LoadFault). f.kind) ring.is in absurd cc
+behind_found stack at (inr after) = after_found stack at after.1

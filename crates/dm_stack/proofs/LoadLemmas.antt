@@ -1,0 +1,172 @@
+-- Checks in a row, what is named among devices that are there, and the first ring.
+use Rattle.std.proofs.Common.{◌≡◌, ℕ, zero, suc, ◌+◌, ◌<◌, Bool, true, false, cond, inl, inr, not, List, [], ◌∷◌, ◌++◌, Option, Some, None, Vec, Global, arith, refl, sym, ap, subst, ◌∙◌, drop, get_or, length, map, take}
+use Rattle.std.specs.Prelude.{IfSome, IfNone, find, is_none}
+use Rattle.std.specs.List.{AllByRecursion, flat_map, list_any, position_or_len, range_with_len}
+use Rattle.std.proofs.lemmas.Bool.{or_parts}
+use Rattle.std.proofs.lemmas.List.{append-nil, drop_more, length-map, length-take-le, take-append-drop}
+use Rattle.std.proofs.lemmas.List.Elements.{All-from_recursion}
+use Rattle.dm_table.specs.declared.table.Column.{Column}
+use Rattle.dm_table.specs.declared.table.DevRef.{DevRef}
+use Rattle.dm_table.specs.declared.table.DevRef.TheVariants as refs
+use Rattle.dm_table.specs.declared.table.DeviceSpec.{DeviceSpec}
+use Rattle.dm_table.specs.declared.table.Line.{Line}
+use Rattle.dm_table.specs.declared.table.Target.{Target}
+use Rattle.dm_table.specs.declared.table.Target.TheVariants as targets
+use Rattle.dm_table.specs.declared.load_fault.LoadKind.TheVariants.{Cycle, Unknown}
+use Rattle.dm_table.specs.declared.load_fault.LoadFault.{LoadFault}
+use Rattle.dm_table.specs.LoadFault.{first_or, first_fault}
+use Rattle.dm_stack.specs.Below.{found_columns, found_line, found_target}
+use Rattle.dm_stack.specs.Description.{Description, column_refs, device_links, is_same, links, lower_of, ref_link, target_refs}
+use Rattle.dm_stack.specs.Graph.{IsClosed, Reaches, depths_to, greatest, links_in, links_of}
+use Rattle.dm_stack.specs.Links.{column_links, lower_links, table_links, target_links}
+use Rattle.dm_stack.specs.Load.{IsBehind, IsFirstRing, IsRefusedBehind}
+use Rattle.dm_stack.specs.Loaded.{found_table, stack_depth}
+use Rattle.dm_stack.specs.Soundness.{HasNoCycle, IsFirstCycle, IsRefusedBy, Late, OnCycle, all_lines, checks_after, checks_before, depth_of, empty, fault, is_unknown, is_unknown_ref, misplaced, too_large, too_many, twice, unknown}
+use Rattle.dm_stack.proofs.HandedOn.{all_append}
+use Rattle.dm_stack.proofs.Passes.{all_parts, faults_by_none, first_none}
+
+-- Checks in a row
+
+two_passed : (a b : List LoadFault) (later : Option LoadFault) → first_or a (first_or b None) ≡ None → first_or a (first_or b later) ≡ later
+two_passed [] [] later e = refl
+two_passed [] (x ∷ b) later e = absurd cc
+two_passed (x ∷ a) b later e = absurd cc
+
+two_stopped : (a b : List LoadFault) (later : Option LoadFault) (at : LoadFault) → first_or a (first_or b None) ≡ Some at → first_or a (first_or b later) ≡ Some at
+two_stopped [] [] later at e = absurd cc
+two_stopped [] (x ∷ b) later at e = e
+two_stopped (x ∷ a) b later at e = e
+
+-- the checks of how lines lie, and of what they name
+abbrev pub layout_checks : Description → List (List LoadFault)
+layout_checks stack = empty stack ∷ misplaced stack ∷ unknown stack ∷ []
+
+pub sizes_passed : (stack : Description) → first_fault (too_many stack ∷ too_large stack ∷ []) ≡ None → first_fault (checks_before stack) ≡ first_or (twice stack) (first_fault (layout_checks stack))
+sizes_passed stack e = two_passed (too_many stack) (too_large stack) _ e
+
+pub sizes_stopped : (stack : Description) (at : LoadFault) → first_fault (too_many stack ∷ too_large stack ∷ []) ≡ Some at → first_fault (checks_before stack) ≡ Some at
+sizes_stopped stack at e = two_stopped (too_many stack) (too_large stack) _ at e
+
+pub small_passed : (stack : Description) → first_fault (too_many stack ∷ too_large stack ∷ []) ≡ None → too_large stack ≡ []
+small_passed stack e = (first_none (too_large stack) None (first_none (too_many stack) _ e).1).0
+
+pub known_passed : (stack : Description) → first_fault (checks_before stack) ≡ None → first_or (unknown stack) None ≡ None
+known_passed stack e =
+    (first_none (misplaced stack) _ (first_none (empty stack) _ (first_none (twice stack) _ (first_none (too_large stack) _ (first_none (too_many stack) _ e).1).1).1).1).1
+
+-- What is named is there
+
+place_step : {X : Type 0} (x : X) (found : Option X) (place end : ℕ) (b : Bool) → is_none (cond b (Some x) found) ≡ false → (is_none found ≡ false → place < end) → cond (not b) (1 + place) 0 < suc end
+place_step x found place end true e more = omega arith
+place_step x found place end false e more = omega (arith, more e)
+
+place_before : {X : Type 0} (test : X → Bool) (xs : List X) → is_none (find test xs) ≡ false → position_or_len test xs < length xs
+place_before test [] e = absurd cc
+place_before test (x ∷ xs) e = place_step x (find test xs) (position_or_len test xs) (length xs) (test x) e (place_before test xs)
+
+-- ids of devices of a stack
+abbrev pub AreThere : Description → List ℕ → Type 0
+AreThere stack ids = AllByRecursion (λ id. id < length stack.devices) ids
+
+refs_there : (stack : Description) (named : List DevRef) → list_any (is_unknown_ref stack) named ≡ false → AreThere stack (flat_map (ref_link stack) named)
+refs_there stack [] e = tt
+refs_there stack (refs.Device name ∷ named) e =
+    let parts = or_parts (is_unknown_ref stack (refs.Device name)) (list_any (is_unknown_ref stack) named) e in
+    (place_before (λ device. is_same device.name name) stack.devices parts.0, refs_there stack named parts.1)
+refs_there stack (refs.Disk name ∷ named) e =
+    refs_there stack named (or_parts (is_unknown_ref stack (refs.Disk name)) (list_any (is_unknown_ref stack) named) e).1
+
+-- the devices that lines name
+abbrev pub line_links : Description → List Line → List ℕ
+line_links stack lines = flat_map (λ line. flat_map (ref_link stack) (target_refs line.target)) lines
+
+lines_there : (stack : Description) (lines : List Line) → AllByRecursion (λ line. is_unknown stack line.target ≡ false) lines → AreThere stack (line_links stack lines)
+lines_there stack [] known = tt
+lines_there stack (line ∷ lines) known =
+    all_append (λ id. id < length stack.devices) (flat_map (ref_link stack) (target_refs line.target)) (line_links stack lines) (refs_there stack (target_refs line.target) known.0) (lines_there stack lines known.1)
+
+devices_there : (stack : Description) (devices : List DeviceSpec) → AllByRecursion (λ line. is_unknown stack line.target ≡ false) (all_lines devices) → AllByRecursion (AreThere stack) (map (device_links stack) devices)
+devices_there stack [] known = tt
+devices_there stack (device ∷ devices) known =
+    let parts = all_parts (λ line. is_unknown stack line.target ≡ false) device.lines (all_lines devices) known in
+    (lines_there stack device.lines parts.0, devices_there stack devices parts.1)
+
+at_or : {X : Type 0} (P : X → Type 0) (xs : List X) (i : ℕ) (other : X) → AllByRecursion P xs → P other → P (get_or xs i other)
+at_or P [] i other each last = last
+at_or P (x ∷ xs) zero other each last = each.0
+at_or P (x ∷ xs) (suc i) other each last = at_or P xs i other each.1 last
+
+pub closed_links : (stack : Description) → first_or (unknown stack) None ≡ None → IsClosed (links stack)
+closed_links stack e =
+    let known = faults_by_none Unknown (λ line. line.at) (λ line. is_unknown stack line.target) (all_lines stack.devices) (first_none (unknown stack) None e).0 in
+    let there = devices_there stack stack.devices known in
+    λ d named is.
+    let inside : AreThere stack (links_of (links stack) d) = at_or (AreThere stack) (links stack) d [] there tt in
+    let below : get_or (links_of (links stack) d) is.0 named < length stack.devices = All-from_recursion (λ id. id < length stack.devices) (links_of (links stack) d) inside is.0 named is.1 in
+    let same : get_or (links_of (links stack) d) is.0 named ≡ named = is.2 in
+    omega (arith, below, same, length-map stack.devices (device_links stack))
+
+-- Lines by ids name what the lines do
+
+lower_link : (stack : Description) (to : DevRef) → lower_links (lower_of stack to) ≡ ref_link stack to
+lower_link stack (refs.Device name) = refl
+lower_link stack (refs.Disk name) = refl
+
+columns_link : (stack : Description) (columns : List Column) → column_links (found_columns stack columns) ≡ flat_map (ref_link stack) (column_refs columns)
+columns_link stack [] = refl
+columns_link stack (column ∷ columns) =
+    ap (λ (ids : List ℕ). ids ++ column_links (found_columns stack columns)) (lower_link stack column.to) ∙ ap (λ (ids : List ℕ). ref_link stack column.to ++ ids) (columns_link stack columns)
+
+target_link : (stack : Description) (target : Target) → target_links (found_target stack target) ≡ flat_map (ref_link stack) (target_refs target)
+target_link stack (targets.Linear to offset) = lower_link stack to ∙ sym (append-nil (ref_link stack to))
+target_link stack (targets.Striped chunk columns) = columns_link stack columns
+target_link stack targets.Zero = refl
+target_link stack targets.Error = refl
+
+lines_link : (stack : Description) (lines : List Line) → table_links (map (found_line stack) lines) ≡ line_links stack lines
+lines_link stack [] = refl
+lines_link stack (line ∷ lines) =
+    ap (λ (ids : List ℕ). ids ++ table_links (map (found_line stack) lines)) (target_link stack line.target) ∙ ap (λ (ids : List ℕ). flat_map (ref_link stack) (target_refs line.target) ++ ids) (lines_link stack lines)
+
+devices_link : (stack : Description) (devices : List DeviceSpec) → map table_links (map (found_table stack) devices) ≡ map (device_links stack) devices
+devices_link stack [] = refl
+devices_link stack (device ∷ devices) =
+    ap (λ (ids : List ℕ). ids ∷ map table_links (map (found_table stack) devices)) (lines_link stack device.lines) ∙ ap (λ (all : List (List ℕ)). device_links stack device ∷ all) (devices_link stack devices)
+
+pub links_same : (stack : Description) → map table_links (map (found_table stack) stack.devices) ≡ links stack
+links_same stack = devices_link stack stack.devices
+
+-- The first that reaches itself
+
+pub first_ring : (named : List (Vec ℕ Global)) (found : Option ℕ) → IfSome found (λ d. (d < length named) × Reaches (links_in named) d d) → IfSome found (λ d. (e : ℕ) → e < d → Reaches (links_in named) e e → ⊥) → IfNone found ((d : ℕ) → d < length named → Reaches (links_in named) d d → ⊥) → IsFirstRing (links_in named) found
+first_ring named (Some d) found first none = (omega (arith, found.0, length-map named (λ ids. ids.items)), found.1, first)
+first_ring named None found first none = λ d below. none d (omega (arith, length-map named (λ ids. ids.items)))
+
+pub ring_fault : (stack : Description) (d : ℕ) (device other : DeviceSpec) → IsFirstRing (links stack) (Some d) → device ≡ get_or stack.devices d other → IsFirstCycle stack (fault Cycle device.at)
+ring_fault stack d device other ring is =
+    let within : d < length stack.devices = omega (arith, ring.0, length-map stack.devices (device_links stack)) in
+    let here : length (take d stack.devices) ≡ d = length-take-le d stack.devices (omega arith) in
+    record {
+      before = take d stack.devices;
+      device = device;
+      after = drop (d + 1) stack.devices;
+      split = sym (take-append-drop d stack.devices) ∙ ap (λ (rest : List DeviceSpec). take d stack.devices ++ rest) (drop_more stack.devices d other within ∙ ap (λ (y : DeviceSpec). y ∷ drop (d + 1) stack.devices) (sym is));
+      none_before = λ earlier below. ring.2 earlier (omega (arith, here));
+      cycle = subst (λ (i : ℕ). Reaches (links stack) i i) (sym here) ring.1;
+      is = refl;
+    }
+
+pub no_ring : (stack : Description) → IsFirstRing (links stack) None → HasNoCycle stack
+no_ring stack none = λ device below. none device (omega (arith, length-map stack.devices (device_links stack)))
+
+pub is_behind : (stack : Description) (found : Option LoadFault) → HasNoCycle stack → found ≡ first_fault (checks_after stack) → IsBehind stack found
+is_behind stack (Some at) acyclic e = inr (acyclic, sym e)
+is_behind stack None acyclic e = (acyclic, sym e)
+
+pub deepest_is : (stack : Description) (depths : List ℕ) → depths ≡ depths_to (links stack) 33 → greatest depths ≡ stack_depth stack
+deepest_is stack depths e =
+    ap greatest e ∙ ap (λ (n : ℕ). greatest (map (depth_of stack) (range_with_len 0 n))) (length-map stack.devices (device_links stack))
+
+pub refused_behind : (stack : Description) (at : LoadFault) → first_fault (checks_before stack) ≡ None → IsRefusedBehind stack at → IsRefusedBy stack at
+refused_behind stack at passed (inl ring) = OnCycle passed ring
+refused_behind stack at passed (inr after) = Late passed after.0 after.1

@@ -1,0 +1,20 @@
+use Rattle.std.proofs.lemmas.Result.{err_from_is_err_and}
+use Rattle.dm_stack.proofs.OneFault.{never_both, one_fault}
+use Rattle.dm_stack.proofs.stack.Stack.load.Goals as goal
+
+pub returns-in_err-checked-clause-fault : goal.returns-in_err-checked-clause-fault
+returns-in_err-checked-clause-fault c =
+    let p = err_from_is_err_and c.from_residual.result c.from_residual.ensures.1 in
+    rw (p.1, p.2, ← c.deref.ensures.value, ← c.deref-2.ensures.value) (λ other. c.in_err-checked.ensures.fault other)
+
+pub returns-in_err-checked-clause-one : goal.returns-in_err-checked-clause-one
+returns-in_err-checked-clause-one c = one_fault
+
+pub returns-in_err-checked-clause-never : goal.returns-in_err-checked-clause-never
+returns-in_err-checked-clause-never c = never_both
+
+pub returns-clause-one : goal.returns-clause-one
+returns-clause-one c = one_fault
+
+pub returns-clause-never : goal.returns-clause-never
+returns-clause-never c = never_both

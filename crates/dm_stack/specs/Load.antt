@@ -1,0 +1,25 @@
+-- What is told of a description once its names and its lines are checked.
+use Rattle.std.specs.Prelude.{◌≡◌, ◌⊎◌, ℕ, ◌<◌, length, List, Option, Some, None}
+use Rattle.dm_table.specs.declared.load_fault.LoadFault.{LoadFault}
+use Rattle.dm_table.specs.LoadFault.{first_fault}
+use Rattle.dm_stack.specs.Description.{Description}
+use Rattle.dm_stack.specs.Graph.{Reaches}
+use Rattle.dm_stack.specs.Soundness.{HasNoCycle, IsFirstCycle, checks_after}
+
+-- the first device that reaches itself, or that none does
+abbrev pub IsFirstRing : List (List ℕ) → Option ℕ → Type 0
+IsFirstRing g (Some d) = (d < length g) × (Reaches g d d) × ((e : ℕ) → e < d → Reaches g e e → ⊥)
+IsFirstRing g None = (d : ℕ) → d < length g → Reaches g d d → ⊥
+
+-- a fault of the check for cycles, or of one after it
+abbrev pub IsRefusedBehind : Description → LoadFault → Type 0
+IsRefusedBehind stack found = IsFirstCycle stack found ⊎ (HasNoCycle stack × (first_fault (checks_after stack) ≡ Some found))
+
+-- neither the check for cycles nor one after it finds a fault
+abbrev pub PassesBehind : Description → Type 0
+PassesBehind stack = HasNoCycle stack × (first_fault (checks_after stack) ≡ None)
+
+-- what the checks of cycles and depths answer
+abbrev pub IsBehind : Description → Option LoadFault → Type 0
+IsBehind stack (Some found) = IsRefusedBehind stack found
+IsBehind stack None = PassesBehind stack

@@ -1,0 +1,41 @@
+//! Devices that are too deep, and the depth of a stack.
+//!
+//! Depths are those that the graph of devices answers, one above the limit at most. Both functions
+//! here walk them once; what a depth is stands there.
+
+ghost use Rattle.std.specs.Prelude.{◌≡◌, None, length, nat_lt};
+ghost use Rattle.std.specs.List.{slice_index_or};
+ghost use Rattle.dm_table.specs.LoadFault.{first_or};
+ghost use Rattle.dm_table.specs.declared.load_fault.LoadKind.TheVariants.{Deep};
+ghost use Rattle.dm_stack.specs.Graph.{greatest};
+ghost use Rattle.dm_stack.specs.Soundness.{faults_at};
+
+use crate::fault::fault;
+use crate::graph::MOST_DEPTH;
+use dm_table::{DeviceSpec, LoadFault, LoadKind};
+
+/// The first device whose depth is above the limit.
+///
+/// Cost: a walk over the devices.
+pub(crate) fn deep(devices: &[DeviceSpec], depths: &[u32]) -> Option<LoadFault>
+    requires { length depths.now ≡ length devices.now }
+    ensures { result ≡ first_or (faults_at Deep (λ id. nat_lt MOST_DEPTH (slice_index_or depths.now id 0)) 0 devices.now) None }
+{
+    for (id, device) in devices.iter().enumerate() {
+        if MOST_DEPTH < depths[id] {
+            return Some(fault(LoadKind::Deep, device.at));
+        }
+    }
+    None
+}
+
+/// The greatest of these depths, 0 of none.
+pub(crate) fn deepest(depths: &[u32]) -> u32
+    ensures { result ≡ greatest depths.now }
+{
+    let mut deepest = 0;
+    for depth in depths {
+        deepest = deepest.max(*depth);
+    }
+    deepest
+}

@@ -1,0 +1,114 @@
+//! Descriptions whose names are indexed.
+//!
+//! The checks behind the one for names, and what makes lines by ids, look names up only here. A
+//! clause sees the description alone: that the indexes are those of its names is the invariant.
+
+ghost use Rattle.std.specs.Prelude.{◌≡◌, map};
+ghost use Rattle.std.specs.List.{All};
+ghost use Rattle.dm_stack.specs.Description.{lower_len, lower_of};
+ghost use Rattle.dm_stack.specs.Soundness.{HaveSmallEnds, is_unknown_ref};
+
+use crate::id::{DeviceId, DiskId, Lower};
+use crate::layout::end_of;
+use crate::name_index::NameIndex;
+use dm_table::{DevRef, DeviceSpec, Disk};
+use std::marker::Model;
+
+/// The devices and the disks of a description, with their names by their places. The ends of its
+/// lines are within the limit.
+#[derive(Drop)]
+pub(crate) struct Indexed<'a> {
+    devices: &'a [DeviceSpec],
+    disks: &'a [Disk],
+    device_names: &'a NameIndex,
+    disk_names: &'a NameIndex,
+}
+
+impl<'a> Model for Indexed<'a> {
+    ghost use Rattle.dm_stack.specs.Description.{Description};
+    ghost use Rattle.dm_stack.specs.NameIndex.{AreIndexed};
+
+    ghost Value = { Description };
+
+    ghost view = { λ stack. record { devices = stack.devices.now; disks = stack.disks.now } };
+
+    ghost invariant = { λ stack. AreIndexed (record { devices = stack.devices.now; disks = stack.disks.now }) stack.device_names.now stack.disk_names.now };
+}
+
+impl<'a> Indexed<'a> {
+    pub(crate) fn new(
+        devices: &'a [DeviceSpec],
+        disks: &'a [Disk],
+        device_names: &'a NameIndex,
+        disk_names: &'a NameIndex,
+    ) -> Indexed<'a>
+        requires devices { device_names.now ≡ map (λ device. device.name) devices.now }
+        requires disks { disk_names.now ≡ map (λ disk. disk.name) disks.now }
+        requires small { All (λ device. HaveSmallEnds device.lines) devices.now }
+        ensures { result ≡ record { devices = devices.now; disks = disks.now } }
+    {
+        Indexed {
+            devices,
+            disks,
+            device_names,
+            disk_names,
+        }
+    }
+
+    /// The devices in their order.
+    pub(crate) fn devices(&self) -> &'a [DeviceSpec]
+        ensures devices { result.now ≡ self.now.devices }
+        ensures small { All (λ device. HaveSmallEnds device.lines) result.now }
+    {
+        self.devices
+    }
+
+    /// The disks in their order.
+    pub(crate) fn disks(&self) -> &'a [Disk]
+        ensures { result.now ≡ self.now.disks }
+    {
+        self.disks
+    }
+
+    /// Whether what a line names is not there.
+    pub(crate) fn is_unknown(&self, to: &DevRef) -> bool
+        ensures { result ≡ is_unknown_ref self.now to.now }
+    {
+        match to {
+            DevRef::Device(name) => self.device_names.find(name.as_str()).is_none(),
+            DevRef::Disk(name) => self.disk_names.find(name.as_str()).is_none(),
+        }
+    }
+
+    /// What a line names by its id; that behind the last where it is not there.
+    pub(crate) fn lower_of(&self, to: &DevRef) -> Lower
+        ensures { result ≡ lower_of self.now to.now }
+    {
+        match to {
+            DevRef::Device(name) => {
+                let found = self.device_names.find(name.as_str());
+                Lower::Device(DeviceId::new(found.unwrap_or(self.devices.len())))
+            }
+            DevRef::Disk(name) => {
+                let found = self.disk_names.find(name.as_str());
+                Lower::Disk(DiskId::new(found.unwrap_or(self.disks.len())))
+            }
+        }
+    }
+
+    /// The length of what is named, in sectors; 0 where it is not there.
+    pub(crate) fn len_of(&self, to: &DevRef) -> u64
+        ensures { result ≡ lower_len self.now (lower_of self.now to.now) }
+    {
+        match self.lower_of(to) {
+            Lower::Device(id) => match self.devices.get(id.index()) {
+                Some(device) => end_of(device.lines.as_slice()),
+                None => 0,
+            },
+            Lower::Disk(id) => match self.disks.get(id.index()) {
+                Some(disk) => disk.len,
+                None => 0,
+            },
+        }
+    }
+}

@@ -1,0 +1,169 @@
+//! The checks of a load in their order, and what a stack keeps of them.
+//!
+//! Each check answers its first fault, and none runs behind one that finds any; so later ones may
+//! rest on what earlier ones passed. A new check takes its place here and in `specs/Soundness.antt`.
+
+ghost use Rattle.std.specs.Prelude.{◌≡◌, ◌≢◌, ◌∷◌, [], IfErr, IfOk, None, OnOk, Some, map};
+ghost use Rattle.dm_table.specs.LoadFault.{IsMemoryFault, first_fault, first_or};
+ghost use Rattle.dm_table.specs.declared.load_fault.LoadKind.TheVariants.{Memory};
+ghost use Rattle.dm_table.specs.declared.place.Part.TheVariants.{Source};
+ghost use Rattle.dm_stack.specs.Description.{links};
+ghost use Rattle.dm_stack.specs.Graph.{IsClosed, depths_to};
+ghost use Rattle.dm_stack.specs.Links.{table_links};
+ghost use Rattle.dm_stack.specs.Load.{IsBehind, IsFirstRing, IsRefusedBehind, PassesBehind};
+ghost use Rattle.dm_stack.specs.Loaded.{IsLoaded, found_table, stack_depth};
+ghost use Rattle.dm_stack.specs.Soundness.{IsRefusedBy, checks_after, checks_before, empty, misplaced, too_large, too_many, unknown};
+
+use crate::depth::{deep, deepest};
+use crate::fault::fault;
+use crate::found::FoundTable;
+use crate::graph::{depths, first_cycle};
+use crate::indexed::Indexed;
+use crate::layout::{empty, misplaced};
+use crate::limits::{too_large, too_many};
+use crate::links::links;
+use crate::names::{Names, index_names};
+use crate::ranges::range;
+use crate::resolve::{tables, unknown};
+use crate::stripes::bad_stripes;
+use dm_table::{DeviceSpec, Disk, LoadFault, LoadKind, Part};
+use std::alloc::{AllocError, Global};
+
+/// What a stack keeps beside its description.
+#[derive(Drop)]
+pub(crate) struct Checked {
+    pub names: Names,
+    pub tables: Vec<FoundTable>,
+    pub depth: u32,
+}
+
+/// The depth of each device, and the first that reaches itself.
+#[derive(Drop)]
+struct Graph {
+    depths: Vec<u32>,
+    cycle: Option<usize>,
+}
+
+/// Runs the checks of a load, up to the first that finds a fault.
+///
+/// Cost: near-linear in lines, columns, devices and disks, and a search of what is reached for each
+/// device that is too deep. `Memory` if memory was refused.
+pub(crate) fn check(
+    alloc: Global,
+    devices: &[DeviceSpec],
+    disks: &[Disk],
+) -> Result<Checked, LoadFault>
+    ensures loaded { IfOk result (λ checked. IsLoaded (record { devices = devices.now; disks = disks.now }) checked.names.devices checked.names.disks checked.tables.items checked.depth) }
+    ensures fault { IfErr result (λ fault. fault.kind ≢ Memory → IsRefusedBy (record { devices = devices.now; disks = disks.now }) fault) }
+    ensures memory { IfErr result (λ fault. fault.kind ≡ Memory → IsMemoryFault Source fault) }
+{
+    let names = check_lines(alloc, devices, disks)?;
+    let stack = Indexed::new(devices, disks, &names.devices, &names.disks);
+    let Ok(tables) = tables(alloc, &stack) else {
+        return Err(LoadFault::memory(Part::Source));
+    };
+    let depth = check_links(alloc, &stack, &tables)?;
+    Ok(Checked {
+        names,
+        tables,
+        depth,
+    })
+}
+
+/// The checks before the one for cycles, and the names of the description.
+fn check_lines(alloc: Global, devices: &[DeviceSpec], disks: &[Disk]) -> Result<Names, LoadFault>
+    ensures devices { IfOk result (λ names. names.devices ≡ map (λ device. device.name) devices.now) }
+    ensures disks { IfOk result (λ names. names.disks ≡ map (λ disk. disk.name) disks.now) }
+    ensures passed { OnOk result (first_fault (checks_before (record { devices = devices.now; disks = disks.now })) ≡ None) }
+    ensures fault { IfErr result (λ fault. fault.kind ≢ Memory → first_fault (checks_before (record { devices = devices.now; disks = disks.now })) ≡ Some fault) }
+    ensures memory { IfErr result (λ fault. fault.kind ≡ Memory → IsMemoryFault Source fault) }
+{
+    if let Some(fault) = check_sizes(devices, disks) {
+        return Err(fault);
+    }
+    let names = index_names(alloc, devices, disks)?;
+    let stack = Indexed::new(devices, disks, &names.devices, &names.disks);
+    if let Some(fault) = check_layout(&stack) {
+        return Err(fault);
+    }
+    Ok(names)
+}
+
+/// The checks of counts and numbers.
+fn check_sizes(devices: &[DeviceSpec], disks: &[Disk]) -> Option<LoadFault>
+    ensures { result ≡ first_fault (too_many (record { devices = devices.now; disks = disks.now }) ∷ too_large (record { devices = devices.now; disks = disks.now }) ∷ []) }
+{
+    if let Some(fault) = too_many(devices, disks) {
+        return Some(fault);
+    }
+    too_large(devices, disks)
+}
+
+/// The checks of how lines lie, and that what they name is there.
+fn check_layout(stack: &Indexed) -> Option<LoadFault>
+    ensures { result ≡ first_fault (empty stack.now ∷ misplaced stack.now ∷ unknown stack.now ∷ []) }
+{
+    if let Some(fault) = empty(stack.devices(), stack.disks()) {
+        return Some(fault);
+    }
+    if let Some(fault) = misplaced(stack.devices()) {
+        return Some(fault);
+    }
+    unknown(stack)
+}
+
+/// The check for cycles and those after it, and the depth of the stack.
+fn check_links(alloc: Global, stack: &Indexed, tables: &[FoundTable]) -> Result<u32, LoadFault>
+    requires known { first_or (unknown stack.now) None ≡ None }
+    requires tables { tables.now ≡ map (found_table stack.now) stack.now.devices }
+    ensures depth { IfOk result (λ depth. depth ≡ stack_depth stack.now) }
+    ensures passed { OnOk result (PassesBehind stack.now) }
+    ensures fault { IfErr result (λ fault. fault.kind ≢ Memory → IsRefusedBehind stack.now fault) }
+    ensures memory { IfErr result (λ fault. fault.kind ≡ Memory → IsMemoryFault Source fault) }
+{
+    let Ok(graph) = follow(alloc, tables) else {
+        return Err(LoadFault::memory(Part::Source));
+    };
+    match check_depths(stack, &graph) {
+        Some(fault) => Err(fault),
+        None => Ok(deepest(&graph.depths)),
+    }
+}
+
+/// Which device reaches itself first, and how deep each is, by lines with ids.
+fn follow(alloc: Global, tables: &[FoundTable]) -> Result<Graph, AllocError>
+    requires { IsClosed (map table_links tables.now) }
+    ensures depths { IfOk result (λ graph. graph.depths.items ≡ depths_to (map table_links tables.now) 33) }
+    ensures cycle { IfOk result (λ graph. IsFirstRing (map table_links tables.now) graph.cycle) }
+{
+    let links = links(alloc, tables)?;
+    let depths = depths(alloc, &links)?;
+    let cycle = first_cycle(alloc, &links, &depths)?;
+    Ok(Graph { depths, cycle })
+}
+
+/// The check for cycles and those after it, where it is known how deep each device is.
+fn check_depths(stack: &Indexed, graph: &Graph) -> Option<LoadFault>
+    requires depths { graph.now.depths.items ≡ depths_to (links stack.now) 33 }
+    requires cycle { IsFirstRing (links stack.now) graph.now.cycle }
+    ensures { IsBehind stack.now result }
+{
+    if let Some(device) = graph.cycle {
+        return Some(fault(LoadKind::Cycle, stack.devices()[device].at));
+    }
+    check_shape(stack, &graph.depths)
+}
+
+/// The checks after the one for cycles.
+fn check_shape(stack: &Indexed, depths: &[u32]) -> Option<LoadFault>
+    requires { depths.now ≡ depths_to (links stack.now) 33 }
+    ensures { result ≡ first_fault (checks_after stack.now) }
+{
+    if let Some(fault) = deep(stack.devices(), depths) {
+        return Some(fault);
+    }
+    if let Some(fault) = bad_stripes(stack.devices()) {
+        return Some(fault);
+    }
+    range(stack)
+}

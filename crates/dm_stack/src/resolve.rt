@@ -1,0 +1,117 @@
+//! Lines by ids: what each names is looked up once, while a stack is loaded.
+//!
+//! What is not there is found by `unknown`, which runs first; making lines by ids then asks for
+//! nothing. A new target is an arm of `is_unknown`, of `target` and of `found_target` in the specs.
+
+ghost use Rattle.std.specs.Prelude.{◌≡◌, IfOk, None, find, map, option_copied};
+ghost use Rattle.std.specs.List.{list_any};
+ghost use Rattle.dm_table.specs.LoadFault.{first_or};
+ghost use Rattle.dm_stack.specs.Below.{found_columns, found_line, found_target};
+ghost use Rattle.dm_stack.specs.Loaded.{found_table};
+ghost use Rattle.dm_stack.specs.Soundness.{all_lines, is_unknown, is_unknown_ref, unknown};
+
+use crate::fault::fault;
+use crate::found::{FoundColumn, FoundColumns, FoundLine, FoundTable, FoundTarget};
+use crate::indexed::Indexed;
+use dm_table::{Column, Line, LoadFault, LoadKind, Target};
+use std::alloc::{AllocError, Global};
+
+/// The first line that names a device or a disk that is not there.
+///
+/// Cost: linear in the lines and their columns.
+pub(crate) fn unknown(stack: &Indexed) -> Option<LoadFault>
+    ensures { result ≡ first_or (unknown stack.now) None }
+{
+    if let Some(line) = unknown_line(stack) {
+        return Some(fault(LoadKind::Unknown, line.at));
+    }
+    None
+}
+
+fn unknown_line<'a>(stack: &Indexed<'a>) -> Option<&'a Line>
+    ensures { option_copied result ≡ find (λ line. is_unknown stack.now line.target) (all_lines stack.now.devices) }
+{
+    stack
+        .devices()
+        .iter()
+        .flat_map(|device| device.lines.as_slice().iter())
+        .find(|line| is_unknown(stack, &line.target))
+}
+
+fn is_unknown(stack: &Indexed, target: &Target) -> bool
+    ensures { result ≡ is_unknown stack.now target.now }
+{
+    match target {
+        Target::Linear { to, .. } => stack.is_unknown(to),
+        Target::Striped { columns, .. } => has_unknown(stack, columns.as_slice()),
+        Target::Zero | Target::Error => false,
+    }
+}
+
+fn has_unknown(stack: &Indexed, columns: &[Column]) -> bool
+    ensures { result ≡ list_any (λ column. is_unknown_ref stack.now column.to) columns.now }
+{
+    columns.iter().any(|column| stack.is_unknown(&column.to))
+}
+
+/// The lines of each device by ids, in their order.
+///
+/// Fails only for want of memory. Cost: linear in the lines and their columns.
+pub(crate) fn tables(alloc: Global, stack: &Indexed) -> Result<Vec<FoundTable>, AllocError>
+    ensures { IfOk result (λ tables. tables.items ≡ map (found_table stack.now) stack.now.devices) }
+{
+    let mut tables = Vec::new(alloc);
+    for device in stack.devices() {
+        tables.push(table(alloc, stack, device.lines.as_slice())?)?;
+    }
+    Ok(tables)
+}
+
+fn table(alloc: Global, stack: &Indexed, lines: &[Line]) -> Result<FoundTable, AllocError>
+    ensures { IfOk result (λ table. table ≡ map (found_line stack.now) lines.now) }
+{
+    let mut found = Vec::new(alloc);
+    for line in lines {
+        let target = target(alloc, stack, &line.target)?;
+        found.push(FoundLine {
+            start: line.start,
+            len: line.len,
+            target,
+        })?;
+    }
+    Ok(FoundTable::from_vec(found))
+}
+
+fn target(alloc: Global, stack: &Indexed, target: &Target) -> Result<FoundTarget, AllocError>
+    ensures { IfOk result (λ found. found ≡ found_target stack.now target.now) }
+{
+    match target {
+        Target::Linear { to, offset } => Ok(FoundTarget::Linear {
+            to: stack.lower_of(to),
+            offset: *offset,
+        }),
+        Target::Striped { chunk, columns } => Ok(FoundTarget::Striped {
+            chunk: *chunk,
+            columns: columns_by_ids(alloc, stack, columns.as_slice())?,
+        }),
+        Target::Zero => Ok(FoundTarget::Zero),
+        Target::Error => Ok(FoundTarget::Error),
+    }
+}
+
+fn columns_by_ids(
+    alloc: Global,
+    stack: &Indexed,
+    columns: &[Column],
+) -> Result<FoundColumns, AllocError>
+    ensures { IfOk result (λ found. found ≡ found_columns stack.now columns.now) }
+{
+    let mut found = Vec::new(alloc);
+    for column in columns {
+        found.push(FoundColumn {
+            to: stack.lower_of(&column.to),
+            offset: column.offset,
+        })?;
+    }
+    Ok(FoundColumns::from_vec(found))
+}
