@@ -4,7 +4,6 @@ pub mod Held
 pub mod JoinLemmas
 pub mod LineParts
 pub mod LineServed
-pub mod OnDisks
 pub mod PieceLemmas
 pub mod RequestServed
 pub mod Turns

@@ -1,5 +1,5 @@
 -- One line of a run: what is asked of it, and what is written for it.
-use Rattle.std.proofs.Common.{◌≡◌, ℕ, ◌++◌, Bool, false, cond, ltb, List, Option, None, Some, Result, Ok, Err, sym, ap, subst, ◌∙◌}
+use Rattle.std.proofs.Common.{◌≡◌, ℕ, Bool, false, cond, ltb, List, Option, None, Result, Ok, Err, sym, ap, subst, ◌∙◌}
 use Rattle.dm_table.specs.declared.request.RequestFault.{RequestFault}
 use Rattle.dm_table.specs.RequestLine.{RequestValues, request_fault, request_values}
 use Rattle.dm_stack.specs.Description.{Description}

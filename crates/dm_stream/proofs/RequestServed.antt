@@ -1,5 +1,5 @@
 -- What is written for a request: its units were taken, or a part of them was left.
-use Rattle.std.proofs.Common.{◌≡◌, ◌<◌, ℕ, Bool, ◌++◌, length, List, [], ◌∷◌, Option, None, Some, sym, ap, refl, ◌∙◌, append_assoc, subst}
+use Rattle.std.proofs.Common.{◌≡◌, ◌<◌, ℕ, Bool, ◌++◌, length, List, [], ◌∷◌, Option, None, Some, Result, Ok, Err, OnOk, OnErr, sym, ap, refl, ◌∙◌, append_assoc, subst}
 use Rattle.std.specs.List.{position}
 use Rattle.std.proofs.lemmas.Grind.{flat_map-append}
 use Rattle.std.proofs.lemmas.List.{append-nil}
@@ -7,7 +7,10 @@ use Rattle.std.proofs.lemmas.List.Quantifiers.{position-Some}
 use Rattle.dm_table.specs.DeviceIo.{since}
 use Rattle.dm_table.specs.RequestLine.{RequestValues}
 use Rattle.dm_stack.specs.Description.{Description}
+use Rattle.dm_map.specs.Mapper.{OnSinkFault}
 use Rattle.dm_map.specs.Units.{BlockUnit}
+use Rattle.dm_map.specs.declared.mapper.MapFault.{MapFault}
+use Rattle.dm_map.specs.declared.mapper.MapFault.TheVariants as faults
 use Rattle.dm_stream.specs.Holding.{Holding, held_units}
 use Rattle.dm_stream.specs.Join.{HasTaken, HasLeft}
 use Rattle.dm_stream.specs.Outcome.{Outcome, after_text, of_device, request_answer}
@@ -15,6 +18,18 @@ use Rattle.dm_stream.specs.Pieces.{Piece, fewest, all_but_last}
 use Rattle.dm_stream.specs.PieceText.{piece_text, pieces_text}
 use Rattle.dm_stream.specs.WriteAll.{IsBeginning}
 use Rattle.dm_stream.proofs.Growth.{since_more}
+
+-- what follows at an answer
+pub on_ok : {T E : Type 0} (r : Result T E) (P Q : Type 0) → (P → Q) → OnOk r P → OnOk r Q
+on_ok (Ok x) P Q f h = f h
+on_ok (Err e) P Q f h = tt
+
+pub on_error : {T E : Type 0} (r : Result T E) (P Q : Type 0) → (P → Q) → OnErr r P → OnErr r Q
+on_error (Ok x) P Q f h = tt
+on_error (Err e) P Q f h = f h
+
+pub on_sink : {F : Type 0} (r : Result (Unit {0}) (MapFault F)) (fault : F) (P : Type 0) → r ≡ Err (faults.Sink fault) → OnSinkFault r P → P
+on_sink r fault P e h = subst (λ (x : Result (Unit {0}) (MapFault _)). OnSinkFault x P) e h
 
 -- a beginning of a text is one of a longer text
 pub beginning_of_more : (text front more : List ℕ) → IsBeginning text front → IsBeginning (text ++ more) front
@@ -82,10 +97,10 @@ pub last_cut : (stack : Description) (number : ℕ) (old new : Holding) (units :
 last_cut stack number old new units w0 w1 w2 start taken appends wrote = (
   wrote.0,
   sym (same_text stack number old (fewest units) start)
-  ∙ taken_text old new units w0 w1 (ap (λ (h : Holding). h.piece) start) taken
-  ∙ ap (λ (xs : List ℕ). since w0 w1 ++ xs) (sym (text_kept old new (fewest (held_units new.piece)) taken.stack taken.number) ∙ wrote.1)
-  ∙ sym (append_assoc (since w0 w1) (since w1 w2) wrote.0)
-  ∙ ap (λ (xs : List ℕ). xs ++ wrote.0) (sym (since_more w0 w1 w2 taken.appends appends))
+      ∙ taken_text old new units w0 w1 (ap (λ (h : Holding). h.piece) start) taken
+      ∙ ap (λ (xs : List ℕ). since w0 w1 ++ xs) (sym (text_kept old new (fewest (held_units new.piece)) taken.stack taken.number) ∙ wrote.1)
+      ∙ sym (append_assoc (since w0 w1) (since w1 w2) wrote.0)
+      ∙ ap (λ (xs : List ℕ). xs ++ wrote.0) (sym (since_more w0 w1 w2 taken.appends appends)),
 )
 
 -- the join failed at a piece

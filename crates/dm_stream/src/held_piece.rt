@@ -80,7 +80,8 @@ impl<'s> HeldPiece<'s> {
 
     /// Holds a piece where none is held.
     pub(crate) fn hold(&mut self, piece: Piece)
-        requires { IsHeld self.old.stack (Some piece) }
+        requires fits { IsHeld self.old.stack (Some piece) }
+        requires none { self.old.piece ≡ None }
         ensures { self.new ≡ record { stack = self.old.stack; number = self.old.number; piece = Some piece } }
     {
         self.piece = Some(piece);

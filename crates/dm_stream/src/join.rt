@@ -21,6 +21,11 @@ use dm_stack::Stack;
 use dm_table::{OutFault, Output};
 
 /// A sink that joins the pieces of a request to the fewest, and writes each as a line.
+///
+/// It keeps its caller's writer for as long as it lives. A piece that does not go on from the held
+/// one has that written; where a write fails, neither is held, and a beginning of the line was
+/// written. The room is what 64 bits leave beside the length of a held piece without a disk, in
+/// sectors of 512 bytes.
 #[derive(Drop)]
 pub struct Join<'s, W> {
     pub(crate) held: HeldPiece<'s>,
@@ -40,7 +45,7 @@ impl<'s, W: Output> Join<'s, W> {
         }
     }
 
-    /// Sets the number of the request that comes next. Nothing is held.
+    /// Sets the number of the request that comes next; the one before is finished, so nothing is held.
     pub fn begin(&mut self, number: u64)
         requires { self.old.held.piece ≡ None }
         ensures number { self.new.held ≡ record { stack = self.old.held.stack; number = number; piece = None } }
@@ -50,9 +55,10 @@ impl<'s, W: Output> Join<'s, W> {
         self.held.set_number(number);
     }
 
-    /// Writes the held piece, at a request's end. Nothing is held then, nor where a write fails.
+    /// Writes the held piece, at a request's end. Nothing is held behind it.
     ///
-    /// Cost: as many writes as its one line takes. No memory is taken.
+    /// `OutFault` where a write failed: a beginning of the line was written. Cost: as many writes as
+    /// the one line takes, and none where nothing is held. No memory is taken.
     pub fn finish(&mut self) -> Result<(), OutFault>
         ensures ok { OnOk result (since (W.written self.old.writer.now) (W.written self.new.writer.now)
             ≡ pieces_text self.old.held.stack self.old.held.number (fewest (held_units self.old.held.piece))) }
@@ -64,7 +70,7 @@ impl<'s, W: Output> Join<'s, W> {
         ensures faults { W.faults self.new.writer.now ≡ W.faults self.old.writer.now + fault_of result }
         ensures flushes { W.flushes self.new.writer.now ≡ W.flushes self.old.writer.now }
         ensures same_reference { self.new.writer.ghost_name ≡ self.old.writer.ghost_name }
-        // No other pieces of a request's units are as few.
+        // They are the only pieces of units of which none goes on from the one before, and none are fewer.
         ensures fewest { (units : List BlockUnit) → AreFewest units (fewest units) }
     {
         let line = self.held.take_line();

@@ -3,7 +3,7 @@
 //! What is written goes by the bytes and ends that the requests delivered, and by nothing else.
 //! A new question about a line is asked in `serve_line`, in the order in which `specs/Outcome.antt` asks it.
 
-ghost use Rattle.std.specs.Prelude.{◌≡◌, ◌≢◌, ◌+◌, ◌<◌, ◌≤◌, ◌++◌, ◌↔◌, [], false, length, OnErr, OnOk, IsErrOf};
+ghost use Rattle.std.specs.Prelude.{◌≡◌, ◌≢◌, ◌+◌, ◌<◌, ◌≤◌, ◌++◌, ◌↔◌, [], None, false, length, OnErr, OnOk, IsErrOf};
 ghost use Rattle.dm_table.specs.DeviceIo.{delivery, fault_of, since};
 ghost use Rattle.dm_table.specs.RequestLine.{values_of};
 ghost use Rattle.dm_stream.specs.declared.lines.TheConstants.{MOST_LINE_BYTES};
@@ -34,6 +34,37 @@ fn word_of(fault: RequestFault) -> RequestWord
     }
 }
 
+/// Joins the units of a request of a device of the stack, and writes them. Nothing is held before.
+fn join_request<W: Output>(
+    mapper: &mut Mapper<'_>,
+    request: &Request<'_>,
+    device: DeviceId,
+    join: &mut Join<'_, W>,
+) -> Result<(), OutFault>
+    requires stack { mapper.old.stack ≡ join.old.held.stack }
+    requires going { mapper.old.stopped ≡ false }
+    requires device { device < length join.old.held.stack.devices }
+    requires nothing { join.old.held.piece ≡ None }
+    ensures stack { mapper.new.stack ≡ mapper.old.stack }
+    ensures going { OnOk result (mapper.new.stopped ≡ false) }
+    ensures same_reference { join.new.writer.ghost_name ≡ join.old.writer.ghost_name }
+    ensures appends { W.written join.new.writer.now
+        ≡ W.written join.old.writer.now ++ since (W.written join.old.writer.now) (W.written join.new.writer.now) }
+    ensures ok { OnOk result (since (W.written join.old.writer.now) (W.written join.new.writer.now)
+        ≡ request_answer join.old.held.stack request.now.number device (values_of request.now)) }
+    ensures err { OnErr result (IsBeginning (request_answer join.old.held.stack request.now.number device (values_of request.now))
+        (since (W.written join.old.writer.now) (W.written join.new.writer.now))) }
+    ensures faults { W.faults join.new.writer.now ≡ W.faults join.old.writer.now + fault_of result }
+    ensures flushes { W.flushes join.new.writer.now ≡ W.flushes join.old.writer.now }
+{
+    join.begin(request.number);
+    match mapper.request(request, device, join) {
+        Ok(()) => join.finish(),
+        Err(MapFault::Sink(fault)) => Err(fault),
+        Err(MapFault::Stopped) => unreachable!(),
+    }
+}
+
 /// Writes the answer to a request of a device of the stack: what its units are, in the fewest pieces.
 fn answer_request<'s, W: Output>(
     stack: &'s Stack,
@@ -57,12 +88,13 @@ fn answer_request<'s, W: Output>(
     ensures flushes { W.flushes output.new ≡ W.flushes output.old }
 {
     let mut join = Join::new(stack, output);
-    join.begin(request.number);
-    match mapper.request(request, device, &mut join) {
-        Ok(()) => join.finish(),
-        Err(MapFault::Sink(fault)) => Err(fault),
-        Err(MapFault::Stopped) => unreachable!(),
-    }
+    let answered = join_request(mapper, request, device, &mut join);
+    // The join ends here by its parts, so that what the output took is known behind it.
+    let Join {
+        held: _held,
+        writer: _writer,
+    } = join;
+    answered
 }
 
 /// Writes the answer to a request, if there is a device of its name.
