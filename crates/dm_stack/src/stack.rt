@@ -3,7 +3,8 @@
 //! The invariant carries the soundness, so nothing above asks for it again: a value is made only
 //! through the checks of a load. Names are looked up once there; behind it everything goes by ids.
 
-ghost use Rattle.std.specs.Prelude.{◌≡◌, ◌≢◌, ◌+◌, ◌<◌, ◌≤◌, ◌^◌, IfErr, IfOk, OnOk, Some, None, find, length, option_copied, position, slice_get};
+ghost use Rattle.std.specs.Prelude.{◌≡◌, ◌≢◌, ◌+◌, ◌<◌, ◌≤◌, ◌^◌, IfErr, IfOk, IsTrue, OnOk, Some, None, find, length, option_copied, position, slice_get};
+ghost use Rattle.dm_table.specs.Name.{is_disk_name};
 ghost use Rattle.dm_stack.specs.Below.{HoldsSoundly, found_at, found_lines, has_sector};
 ghost use Rattle.dm_stack.specs.Description.{Description, device_len, disk_len, is_ro_at, is_same, name_at, disk_name_at};
 ghost use Rattle.dm_stack.specs.Loaded.{stack_depth};
@@ -173,7 +174,8 @@ impl Stack {
     /// The name of a disk of the stack.
     pub fn disk_name(&self, disk: DiskId) -> &str
         requires { disk < length self.now.disks }
-        ensures { result.now ≡ disk_name_at self.now disk }
+        ensures name { result.now ≡ disk_name_at self.now disk }
+        ensures form { IsTrue (is_disk_name result.now) }
     {
         self.disks[disk.index()].name.as_str()
     }
