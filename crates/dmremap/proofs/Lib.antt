@@ -1,4 +1,3 @@
 mod CommandLine
 pub mod FateLemmas
-pub mod LoadLemmas
 pub mod OneWhole

@@ -4,16 +4,19 @@
 //! not read goes before any text, the source's text before the disk list's, and the texts before
 //! what they describe.
 
-ghost use Rattle.std.specs.Prelude.{◌≡◌, ◌≢◌, IfOk, IfErr, IsSome};
+ghost use Rattle.std.specs.Prelude.{◌≡◌, ◌≢◌, ◌++◌, IfOk, IfErr, IsSome, Some};
 ghost use Rattle.dm_table.specs.DeviceIo.{delivery};
 ghost use Rattle.dm_table.specs.declared.place.Part.TheVariants.{Source, Disks};
 ghost use Rattle.dm_table.specs.declared.load_fault.LoadKind.TheVariants.{Memory};
 ghost use Rattle.dmremap.specs.Parts.{part_read, delivery_if, TextOf, Refuses};
-ghost use Rattle.dmremap.specs.Load.{PartsGive, TextsGive, RefusedBy, SoundAs};
+ghost use Rattle.dm_table.specs.LoadFault.{first_fault};
+ghost use Rattle.dm_table.specs.TableText.{table_checks};
+ghost use Rattle.dm_table.specs.DiskList.{disk_checks};
+ghost use Rattle.dmremap.specs.Load.{Describes, PartsGive, TextsGive, RefusedBy, SoundAs};
 
 use crate::source::read_part;
 use dm_stack::Stack;
-use dm_table::{Input, LoadFault, Part, parse_disks, parse_table};
+use dm_table::{DeviceSpec, Disk, Input, LoadFault, Part, parse_disks, parse_table};
 use std::alloc::Global;
 
 /// What the table text and the disk list give.
@@ -54,7 +57,20 @@ fn load_texts(alloc: Global, source: &[u8], list: &[u8]) -> Result<Stack, LoadFa
     ensures sound { IfOk result (λ stack. TextsGive source.now list.now (SoundAs stack)) }
     ensures refused { IfErr result (λ fault. fault.kind ≢ Memory → TextsGive source.now list.now (RefusedBy fault)) }
 {
+    let (devices, disks) = parse_texts(alloc, source, list)?;
+    Stack::load(alloc, devices, disks)
+}
+
+/// What two texts describe, or the first fault of the source's, and else of the disk list's.
+fn parse_texts(
+    alloc: Global,
+    source: &[u8],
+    list: &[u8],
+) -> Result<(Vec<DeviceSpec>, Vec<Disk>), LoadFault>
+    ensures described { IfOk result (λ said. Describes source.now list.now (record { devices = said.0.items; disks = said.1.items })) }
+    ensures refused { IfErr result (λ fault. fault.kind ≢ Memory → first_fault (table_checks source.now ++ disk_checks list.now) ≡ Some fault) }
+{
     let devices = parse_table(alloc, source)?;
     let disks = parse_disks(alloc, list)?;
-    Stack::load(alloc, devices, disks)
+    Ok((devices, disks))
 }

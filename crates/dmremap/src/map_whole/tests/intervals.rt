@@ -59,7 +59,12 @@ fn sectors_of(alloc: Global, output: &str) -> Result<Vec<Sector<'_>>, AllocError
 }
 
 /// Puts the line of so many sectors from a first one on behind a text.
-fn put_line(text: &mut String, number: u64, first: &Sector<'_>, len: u64) -> Result<(), AllocError> {
+fn put_line(
+    text: &mut String,
+    number: u64,
+    first: &Sector<'_>,
+    len: u64,
+) -> Result<(), AllocError> {
     match first.place {
         Some((disk, start)) => writeln!(text, "{number} {} {disk} {start} {len}", first.word)?,
         None => writeln!(text, "{number} {} {len}", first.word)?,
@@ -72,7 +77,10 @@ fn put_lines(text: &mut String, number: u64, sectors: &[Sector<'_>]) -> Result<(
     let mut held: Option<(Sector<'_>, u64)> = None;
     for sector in sectors {
         held = match held {
-            Some((first, len)) if first.goes_on(len, sector) => Some((first, len.saturating_add(1))),
+            Some((first, len)) if first.goes_on(len, sector) => Some((
+                first,
+                len.saturating_add(1),
+            )),
             Some((first, len)) => {
                 put_line(text, number, &first, len)?;
                 Some((*sector, 1))
