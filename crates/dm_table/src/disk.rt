@@ -1,6 +1,6 @@
 //! A listed disk: the bottom of every stack.
 
-use crate::name::DiskName;
+use crate::disk_name::DiskName;
 use crate::place::Place;
 
 /// A disk of `len` sectors of 512 bytes, and the place that describes it.

@@ -14,9 +14,9 @@ ghost use Rattle.dm_table.specs.LoadFault.{Answers, IsMemoryFault, first_or, fir
 ghost use Rattle.dm_table.specs.DiskList.{DescribesDisks, is_pair, first, second, bad_syntax, bad_field, bad_name, disk_checks, disk_of, disks_from, read_disks};
 
 use crate::disk::Disk;
+use crate::disk_name::{DiskName, is_disk_name};
 use crate::fields::cut_fields;
 use crate::load_fault::{LoadFault, LoadKind};
-use crate::name::{DiskName, is_disk_name};
 use crate::number::number;
 use crate::place::{Part, Place};
 use crate::text_checks::{text_lines, unended};

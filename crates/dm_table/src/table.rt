@@ -6,7 +6,8 @@
 
 ghost use Rattle.std.specs.Prelude.{◌≡◌};
 
-use crate::name::{DiskName, Name};
+use crate::disk_name::DiskName;
+use crate::name::Name;
 use crate::place::Place;
 use std::marker::Model;
 

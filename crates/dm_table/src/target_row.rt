@@ -11,7 +11,8 @@ ghost use Rattle.dm_table.specs.Number.{number_of};
 ghost use Rattle.dm_table.specs.TableText.{is_linear, are_columns, is_half, is_striped, is_target, is_dev, are_devs, has_devs};
 ghost use Rattle.dm_table.specs.TableReading.{dev_in, columns_in, linear_in, striped_in, target_in};
 
-use crate::name::{DiskName, Name, is_device_name, is_disk_name};
+use crate::disk_name::{DiskName, is_disk_name};
+use crate::name::{Name, is_device_name};
 use crate::number::{number, number_in};
 use crate::table::{Column, Columns, DevRef, Target};
 use std::alloc::{AllocError, Global};
