@@ -4,5 +4,6 @@ pub mod NameLemmas
 pub mod Passes
 pub mod PathLemmas
 pub mod RoundLemmas
+pub mod SameLine
 pub mod SearchLemmas
 pub mod SoundLines
