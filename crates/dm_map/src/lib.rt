@@ -9,6 +9,7 @@ mod mapper;
 mod piece;
 mod piece_list;
 mod sink;
+mod stretch;
 
 pub use mapper::{MapFault, Mapper};
 pub use piece::Piece;
