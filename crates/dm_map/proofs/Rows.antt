@@ -1,5 +1,5 @@
 -- The units of sectors in a row.
-use Rattle.std.proofs.Common.{◌≡◌, ℕ, zero, suc, ◌+◌, ◌-◌, ◌<◌, List, [], ◌∷◌, ◌++◌, append_assoc, refl, sym, ap, ◌∙◌, arith}
+use Rattle.std.proofs.Common.{◌≡◌, ℕ, zero, suc, ◌+◌, ◌-◌, List, [], ◌∷◌, ◌++◌, append_assoc, refl, sym, ap, ◌∙◌, arith}
 use Rattle.std.proofs.lemmas.List.{append-nil}
 use Rattle.std.specs.Prelude.{nat_lt, true, ◌≤◌, replicate, Result, Ok, Err, OnErr}
 use Rattle.dm_table.specs.declared.request.Op.{Op}
@@ -11,6 +11,7 @@ use Rattle.dm_map.specs.declared.piece.Piece.TheVariants as pieces
 use Rattle.dm_map.specs.Units.{BlockUnit, Fails, units_in, piece_len, diskless_len}
 use Rattle.dm_map.specs.Sink.{OfBeginning}
 use Rattle.dm_map.specs.Mapping.{sector_units, units_from, request_units}
+use Rattle.dm_map.specs.Stretch.{range_units}
 
 -- what holds, holds where there is a fault
 pub on_err : {T E : Type 0} (r : Result T E) (P : Type 0) → P → OnErr r P
@@ -51,12 +52,12 @@ units_from-append stack op device sector (suc m) n =
     let e : sector + suc m ≡ suc sector + m = omega arith in let k : suc m + n ≡ suc (m + n) = omega arith in
     rw (e, k, units_from-append stack op device (suc sector) m n) (sym (append_assoc (sector_units stack op MOST_DEPTH (Device device) sector) _ _))
 
--- one sector more
-pub units_from_more : (stack : Description) (op : Op) (device sector i : ℕ) → units_from stack op device sector (i + 1) ≡ units_from stack op device sector i ++ sector_units stack op MOST_DEPTH (Device device) (sector + i)
-units_from_more stack op device sector i =
-    units_from-append stack op device sector i 1 ∙ ap (λ (units : List BlockUnit). units_from stack op device sector i ++ units) (append-nil _)
+-- what is left behind the first sectors
+pub units_from_rest : (stack : Description) (op : Op) (device sector m n : ℕ) → m ≤ n → units_from stack op device sector m ++ units_from stack op device (sector + m) (n - m) ≡ units_from stack op device sector n
+units_from_rest stack op device sector m n within =
+    sym (units_from-append stack op device sector m (n - m)) ∙ ap (units_from stack op device sector) (let e : m + (n - m) ≡ n = omega arith in e)
 
--- what is left behind one sector more
-pub units_from_rest : (stack : Description) (op : Op) (device sector i n : ℕ) → i < n → units_from stack op device sector (i + 1) ++ units_from stack op device (sector + (i + 1)) (n - (i + 1)) ≡ units_from stack op device sector n
-units_from_rest stack op device sector i n below =
-    sym (units_from-append stack op device sector (i + 1) (n - (i + 1))) ∙ ap (units_from stack op device sector) (let e : (i + 1) + (n - (i + 1)) ≡ n = omega arith in e)
+-- a row is a range of its device
+pub units_from_range : (stack : Description) (op : Op) (device sector n : ℕ) → range_units stack op MOST_DEPTH (Device device) sector n ≡ units_from stack op device sector n
+units_from_range stack op device sector zero = refl
+units_from_range stack op device sector (suc n) = ap (λ (units : List BlockUnit). sector_units stack op MOST_DEPTH (Device device) sector ++ units) (units_from_range stack op device (suc sector) n)

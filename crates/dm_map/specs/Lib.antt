@@ -4,4 +4,5 @@ pub mod Mapper
 pub mod Mapping
 pub mod PieceList
 pub mod Sink
+pub mod Stretch
 pub mod Units

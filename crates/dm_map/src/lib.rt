@@ -10,6 +10,7 @@ mod mapper;
 mod piece;
 mod piece_list;
 mod sink;
+mod stretch;
 
 pub use levels::levels_are_enough;
 pub use mapper::{MapFault, Mapper};

@@ -1,22 +1,22 @@
 //! The mapper: hands the units of requests to a sink.
 //!
-//! It looks lines up one step at a time and keeps none, so a request takes no memory. Contracts
-//! say what becomes of a request by `specs/Mapping.antt` alone: this walk may be replaced by a
-//! faster one under the same contracts. A new target is an arm of `look_below`.
+//! It finds lines through its looker alone and keeps no list, so a request takes no memory. What
+//! becomes of a sector is said in `specs/Mapping.antt`; how a range is cut, in `stretch`.
 
 ghost use Rattle.std.specs.Prelude.{◌≡◌, ℕ, ◌+◌, ◌^◌, ◌<◌, ◌≤◌, ◌∷◌, false, true, length, nat_lt, IfOk, OnOk, OnErr, []};
-ghost use Rattle.dm_stack.specs.Description.{Description, device_len, disk_len, lower_len};
+ghost use Rattle.dm_stack.specs.Description.{Description, device_len};
 ghost use Rattle.dm_table.specs.DeviceIo.{fault_of};
-ghost use Rattle.dm_stack.specs.declared.id.Lower.TheVariants.{Disk};
-ghost use Rattle.dm_map.specs.Mapping.{request_units, sector_units, units_from};
+ghost use Rattle.dm_stack.specs.declared.id.Lower.TheVariants.{Device};
+ghost use Rattle.dm_map.specs.Mapping.{request_units, units_from};
 ghost use Rattle.dm_map.specs.Mapper.{OnSinkFault, OnStopped};
 ghost use Rattle.dm_map.specs.Sink.{OfBeginning};
-ghost use Rattle.dm_map.specs.Units.{units_of, piece_len, diskless_len, IsOnDisks};
+ghost use Rattle.dm_map.specs.Stretch.{end_unit, range_units, stretch_len, IsEndOnDisk};
+ghost use Rattle.dm_map.specs.Units.{units_in, units_of, piece_len, diskless_len, IsOnDisks};
 
-use crate::below::{Below, look_below};
 use crate::piece::Piece;
 use crate::sink::Sink;
-use dm_stack::{DeviceId, DiskId, Looker, Lower, MOST_DEPTH};
+use crate::stretch::{End, Stretch, first_stretch};
+use dm_stack::{DeviceId, Looker, Lower, MOST_DEPTH};
 use dm_table::{Op, Request};
 use std::alloc::{AllocError, Global};
 use std::fmt;
@@ -71,7 +71,8 @@ impl<'s> Mapper<'s> {
     /// request that passes the device's end fails as a whole.
     ///
     /// The id is one of the mapper's stack, which is also the sink's, and the sink has room for the
-    /// request. Cost: a look-up of a line a sector and level. No memory is taken.
+    /// request. Each piece is a stretch of sectors whose path down is in one line, and one chunk, of
+    /// each device. Cost: a look-up of a line a stretch and level. No memory is taken.
     ///
     /// # Errors
     ///
@@ -130,7 +131,7 @@ impl<'s> Mapper<'s> {
         self.serve_sectors(request, device, sink)
     }
 
-    /// Hands over the units of a request that lies inside its device, sector by sector.
+    /// Hands over the units of a request that lies inside its device, one piece a stretch.
     fn serve_sectors<S: Sink>(
         &mut self,
         request: &Request<'_>,
@@ -148,38 +149,34 @@ impl<'s> Mapper<'s> {
         ensures left { OnErr result (OfBeginning S.left sink.old (units_from self.old.stack request.now.op device request.now.start request.now.len) sink.new) }
         ensures faults { S.faults sink.new ≡ S.faults sink.old + fault_of result }
     {
-        for distance in 0..request.len {
-            let sector = request.start + distance;
-            let piece = self.walk(request.op, MOST_DEPTH, Lower::Device(device), sector);
+        let mut served = 0;
+        while served < request.len {
+            let stretch = self.stretch(
+                request.op,
+                device,
+                request.start + served,
+                request.len - served,
+            );
+            let piece = piece_of(request.op, &stretch);
             sink.piece(piece)?;
+            served += stretch.len;
         }
         Ok(())
     }
 
-    /// The piece of one sector, through at most so many levels of devices.
-    #[tactic(auto, using(crate::proofs::There::device_there), unfolding(crate::specs::Mapping::read_unit, crate::specs::Mapping::write_units))]
-    fn walk(&mut self, op: Op, levels: u32, lower: Lower, sector: u64) -> Piece
-        requires { sector < lower_len self.old.stack lower }
-        ensures units { units_of result ≡ sector_units self.old.stack op levels lower sector }
-        ensures one { piece_len result ≡ 1 }
-        ensures lies { IsOnDisks self.old.stack result }
+    /// The first stretch of at most so many sectors of a device.
+    fn stretch(&mut self, op: Op, device: DeviceId, sector: u64, most: u64) -> Stretch
+        requires some { 1 ≤ most }
+        requires inside { sector + most ≤ device_len self.old.stack device }
+        ensures units { range_units self.old.stack op MOST_DEPTH (Device device) sector result.len ≡ units_in (end_unit op result.end) result.len }
+        ensures len { result.len ≡ stretch_len self.old.stack op MOST_DEPTH (Device device) sector most }
+        ensures some { 1 ≤ result.len }
+        ensures most { result.len ≤ most }
+        ensures lies { IsEndOnDisk self.old.stack result.len result.end }
         ensures same { self.new ≡ self.old }
     {
-        let device = match lower {
-            Lower::Device(device) => device,
-            Lower::Disk(disk) => return piece_on(op, disk, sector),
-        };
-        if levels == 0 || (op == Op::Write && self.looker.is_ro(device)) {
-            return Piece::Error { len: 1 };
-        }
-        match look_below(&mut self.looker, device, sector) {
-            Below::Lies(to, sector) => self.walk(op, levels - 1, to, sector),
-            Below::IsZero => match op {
-                Op::Read => Piece::Zero { len: 1 },
-                Op::Write => Piece::Drop { len: 1 },
-            },
-            Below::IsError => Piece::Error { len: 1 },
-        }
+        let lower = Lower::Device(device);
+        first_stretch(&mut self.looker, op, MOST_DEPTH, lower, sector, most)
     }
 }
 
@@ -190,23 +187,18 @@ fn passes_end(request: &Request<'_>, end: u64) -> bool
     end < request.start || end - request.start < request.len
 }
 
-/// The piece of one sector of a disk.
-#[tactic(auto, using(crate::proofs::There::disk_there), unfolding(crate::specs::Mapping::read_unit, crate::specs::Mapping::write_units))]
-fn piece_on(op: Op, disk: DiskId, sector: u64) -> Piece
-    ensures units { (stack : Description) → (levels : ℕ) → units_of result ≡ sector_units stack op levels (Disk disk) sector }
-    ensures one { piece_len result ≡ 1 }
-    ensures lies { (stack : Description) → sector < disk_len stack disk → IsOnDisks stack result }
+/// What is done at a stretch.
+fn piece_of(op: Op, stretch: &Stretch) -> Piece
+    ensures units { units_of result ≡ units_in (end_unit op stretch.now.end) stretch.now.len }
+    ensures len { piece_len result ≡ stretch.now.len }
+    ensures lies { (stack : Description) → IsEndOnDisk stack stretch.now.len stretch.now.end → IsOnDisks stack result }
 {
-    match op {
-        Op::Read => Piece::Read {
-            disk,
-            start: sector,
-            len: 1,
-        },
-        Op::Write => Piece::Write {
-            disk,
-            start: sector,
-            len: 1,
-        },
+    let len = stretch.len;
+    match (op, stretch.end) {
+        (Op::Read, End::OnDisk(disk, start)) => Piece::Read { disk, start, len },
+        (Op::Write, End::OnDisk(disk, start)) => Piece::Write { disk, start, len },
+        (Op::Read, End::InZeros) => Piece::Zero { len },
+        (Op::Write, End::InZeros) => Piece::Drop { len },
+        (_, End::InError) => Piece::Error { len },
     }
 }

@@ -9,5 +9,6 @@ pub mod OneFault
 pub mod Passes
 pub mod PathLemmas
 pub mod RoundLemmas
+pub mod SameLine
 pub mod SearchLemmas
 pub mod SoundLines

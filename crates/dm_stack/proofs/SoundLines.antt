@@ -53,11 +53,11 @@ cond_empty : {X : Type 0} (b : Bool) (x : X) (xs ys : List X) → cond b (x ∷ 
 cond_empty true x xs ys e = absurd cc
 cond_empty false x xs ys e = (refl, e)
 
-record IsPlaced (end : ℕ) (line : Line) (lines : List Line) : Type 0 where
-  start : line.start ≡ end
-  rest : misplaced_from (line.start + line.len) lines ≡ []
+pub record IsPlaced (end : ℕ) (line : Line) (lines : List Line) : Type 0 where
+  pub start : line.start ≡ end
+  pub rest : misplaced_from (line.start + line.len) lines ≡ []
 
-placed : (end : ℕ) (line : Line) (lines : List Line) → misplaced_from end (line ∷ lines) ≡ [] → IsPlaced end line lines
+pub placed : (end : ℕ) (line : Line) (lines : List Line) → misplaced_from end (line ∷ lines) ≡ [] → IsPlaced end line lines
 placed end line lines e =
     let gap = cond_empty (nat_lt end line.start) _ _ _ e in
     let overlap = cond_empty (nat_lt line.start end) _ _ _ gap.1 in

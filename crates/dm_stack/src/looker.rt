@@ -3,7 +3,7 @@
 //! A line is found in no other way, so a bound on a looker's count is one on the work of mapping.
 //! No call hands out the stack, and a looker is not copied: its count is that of all its searches.
 
-ghost use Rattle.std.specs.Prelude.{◌≡◌, ◌<◌, ◌≤◌, ◌^◌, Some, length};
+ghost use Rattle.std.specs.Prelude.{◌≡◌, ℕ, ◌+◌, ◌<◌, ◌≤◌, ◌^◌, Some, length};
 ghost use Rattle.dm_stack.specs.Below.{HoldsSoundly, found_at};
 ghost use Rattle.dm_stack.specs.Description.{device_len, disk_len, is_ro_at};
 ghost use Rattle.dm_stack.specs.Loaded.{next_count, stack_depth};
@@ -37,7 +37,8 @@ impl<'s> Looker<'s> {
         Looker { stack, searches: 0 }
     }
 
-    /// The line of a sector of a device, with ids for names. The search is counted.
+    /// The line of a sector of a device, with ids for names: also that of each other sector that it
+    /// holds. The search is counted.
     ///
     /// The id is one of the stack, and the sector is below the device's length. Cost: a walk over
     /// the lines of the device. No memory is taken.
@@ -46,6 +47,7 @@ impl<'s> Looker<'s> {
         requires sector { sector < device_len self.old.stack device }
         ensures line { found_at self.old.stack device sector ≡ Some result.now }
         ensures holds { HoldsSoundly self.old.stack result.now sector }
+        ensures all { (other : ℕ) → result.now.start ≤ other → other < result.now.start + result.now.len → found_at self.old.stack device other ≡ Some result.now }
         ensures stack { self.new.stack ≡ self.old.stack }
         ensures counted { self.new.searches ≡ next_count self.old.searches }
     {

@@ -10,6 +10,9 @@ use std::test::Fail;
 /// How many sectors each device `a` has.
 const SECTORS: u64 = 24;
 
+/// More bytes than the answers to all ranges have.
+const ROOM: usize = 1 << 20;
+
 /// Stacks whose device `a` has borders of lines and chunks on several levels.
 const STACKS: [&str; 4] = [
     "a: 0 5 linear sda 3\na: 5 7 linear sda 8\na: 12 4 zero\na: 16 4 error\na: 20 4 linear sda 0\n",
@@ -107,9 +110,10 @@ fn output_of(rt: &impl Abort, alloc: Global, source: &str, requests: &str) -> Sh
         mut source,
         disks,
         mut requests,
-        mut output,
+        output: _,
         mut messages,
-    } = case.streams(rt, alloc, 1 << 20);
+    } = case.streams(rt, alloc, ROOM);
+    let mut output = ShortOut::new(alloc, ROOM, ROOM).expect(rt, "an output");
     let mut disks = Some(disks);
     let status = map_whole(
         alloc,

@@ -146,8 +146,8 @@ fn the_most_lines(rt: HostRuntime) -> Result<(), Fail> {
     let case = Case {
         name: "the most lines",
         source: source.as_str(),
-        requests: "R a 0 65536\nW a 65535 2\n",
-        output: "1 zero 65536\n2 error 2\n",
+        requests: "R a 65528 8\nW a 65535 2\n",
+        output: "1 zero 8\n2 error 2\n",
         ..VOLUME
     };
     check(&rt, alloc, &case);

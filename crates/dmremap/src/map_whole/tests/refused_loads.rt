@@ -234,7 +234,7 @@ fn stripes(rt: HostRuntime) -> Result<(), Fail> {
             "source: stripe at 1",
         ),
         // A column of a stripe ends with its share of the line.
-        ("a: 0 64 striped 2 8 sda 0 sda 118\n", "source: range at 1"),
+        ("a: 0 64 striped 2 8 sda 0 sda 119\n", "source: range at 1"),
         ("a: 0 64 striped 2 8 sda 119 sda 0\n", "source: range at 1"),
         ("a: 0 64 striped 2 8 sda 0 sdb 0\n", "source: unknown at 1"),
         (

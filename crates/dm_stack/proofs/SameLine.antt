@@ -1,0 +1,75 @@
+-- The line of a sector is also that of each other sector that it holds.
+use Rattle.std.proofs.Common.{◌≡◌, ℕ, ◌+◌, ◌<◌, ◌≤◌, Bool, true, false, cond, List, [], ◌∷◌, length, Option, Some, None, refl, sym, ap, subst, ◌∙◌, arith}
+use Rattle.std.specs.Prelude.{◌&&◌, nat_le, nat_lt, find, option_map}
+use Rattle.std.proofs.lemmas.Bool.{le-leb, lt-ltb, le-ltb}
+use Rattle.dm_table.specs.declared.table.Line.{Line}
+use Rattle.dm_stack.specs.declared.found.FoundLine.{FoundLine}
+use Rattle.dm_stack.specs.Description.{Description, lines_at}
+use Rattle.dm_stack.specs.Below.{holds, line_of, found_line, found_at}
+use Rattle.dm_stack.specs.Soundness.{misplaced_from, IsSound}
+use Rattle.dm_stack.proofs.SoundLines.{placed, there, device_sound, lines_there}
+
+-- Lines that start where the one before ends
+
+starts_here : (end sector : ℕ) (first line : Line) (lines : List Line) (b : Bool) → first.start ≡ end → (line_of lines sector ≡ Some line → first.start + first.len ≤ line.start) → cond b (Some first) (line_of lines sector) ≡ Some line → end ≤ line.start
+starts_here end sector first line lines true start later is = let same : first ≡ line = cc in let starts = ap (λ (l : Line). l.start) same in omega arith
+starts_here end sector first line lines false start later is = let behind = later is in omega arith
+
+-- a line that was found starts behind the end of those before it
+starts_behind : (end : ℕ) (lines : List Line) (sector : ℕ) (line : Line) → misplaced_from end lines ≡ [] → line_of lines sector ≡ Some line → end ≤ line.start
+starts_behind end [] sector line e is = absurd cc
+starts_behind end (first ∷ lines) sector line e is =
+    let at = placed end first lines e in
+    starts_here end sector first line lines (holds sector first) at.start (λ later. starts_behind (first.start + first.len) lines sector line at.rest later) is
+
+holds_between : (line : Line) (sector : ℕ) → line.start ≤ sector → sector < line.start + line.len → holds sector line ≡ true
+holds_between line sector from before = rw (le-leb line.start sector from, lt-ltb sector (line.start + line.len) before) refl
+
+and_none : (b : Bool) → (b && false) ≡ false
+and_none true = refl
+and_none false = refl
+
+holds_none : (line : Line) (sector : ℕ) → line.start + line.len ≤ sector → holds sector line ≡ false
+holds_none line sector past = rw (le-ltb sector (line.start + line.len) past) (and_none (nat_le line.start sector))
+
+same_here : (sector other : ℕ) (first line : Line) (lines : List Line) (b : Bool) → line.start ≤ other → other < line.start + line.len
+    → (line_of lines sector ≡ Some line → first.start + first.len ≤ line.start) → (line_of lines sector ≡ Some line → line_of lines other ≡ Some line)
+    → cond b (Some first) (line_of lines sector) ≡ Some line → line_of (first ∷ lines) other ≡ Some line
+same_here sector other first line lines true from before behind later is =
+    let same : first ≡ line = cc in
+    let held : holds other first ≡ true = rw same (holds_between line other from before) in
+    rw held (ap Some same)
+same_here sector other first line lines false from before behind later is =
+    let past = behind is in
+    rw (holds_none first other (omega (arith, past, from))) (later is)
+
+same_line : (end : ℕ) (lines : List Line) (sector other : ℕ) (line : Line) → misplaced_from end lines ≡ [] → line_of lines sector ≡ Some line → line.start ≤ other → other < line.start + line.len → line_of lines other ≡ Some line
+same_line end [] sector other line e is from before = absurd cc
+same_line end (first ∷ lines) sector other line e is from before =
+    let at = placed end first lines e in
+    same_here sector other first line lines (holds sector first) from before
+    (λ later. starts_behind (first.start + first.len) lines sector line at.rest later)
+    (λ later. same_line (first.start + first.len) lines sector other line at.rest later from before) is
+
+-- The lines of a device
+
+record IsMapped {X Y : Type 0} (f : X → Y) (o : Option X) (y : Y) : Type 0 where
+  x : X
+  is : o ≡ Some x
+  value : f x ≡ y
+
+mapped : {X Y : Type 0} (f : X → Y) (o : Option X) (y : Y) → option_map f o ≡ Some y → IsMapped f o y
+mapped f (Some x) y is = record { x = x; is = refl; value = cc }
+mapped f None y is = absurd cc
+
+pub same_found : (stack : Description) (id sector other : ℕ) (line : FoundLine) → IsSound stack → id < length stack.devices → found_at stack id sector ≡ Some line → line.start ≤ other → other < line.start + line.len → found_at stack id other ≡ Some line
+same_found stack id sector other line sound within is from before =
+    let d = there stack.devices id within in
+    let s = device_sound stack id d.it sound d.at in
+    let lines = lines_there stack id d.it d.at in
+    let m = mapped (found_line stack) (line_of (lines_at stack id) sector) line is in
+    let start : m.x.start ≡ line.start = ap (λ (l : FoundLine). l.start) m.value in
+    let len : m.x.len ≡ line.len = ap (λ (l : FoundLine). l.len) m.value in
+    let held : line_of d.it.lines sector ≡ Some m.x = sym (ap (λ (ls : List Line). line_of ls sector) lines) ∙ m.is in
+    let same = same_line 0 d.it.lines sector other m.x s.placed held (omega (arith, start, from)) (omega (arith, start, len, before)) in
+    ap (option_map (found_line stack)) (ap (λ (ls : List Line). line_of ls other) lines ∙ same) ∙ ap Some m.value
