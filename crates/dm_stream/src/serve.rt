@@ -3,12 +3,14 @@
 //! What is written goes by the bytes and ends that the requests delivered, and by nothing else.
 //! A new question about a line is asked in `serve_line`, in the order in which `specs/Outcome.antt` asks it.
 
-ghost use Rattle.std.specs.Prelude.{◌≡◌, ◌≢◌, ◌+◌, ◌<◌, ◌≤◌, ◌++◌, ◌↔◌, [], None, false, length, OnErr, OnOk, IsErrOf};
+ghost use Rattle.std.specs.Prelude.{◌≡◌, ◌≢◌, ◌+◌, ◌<◌, ◌≤◌, ◌++◌, ◌↔◌, [], List, None, false, length, OnErr, OnOk, IsErrOf};
 ghost use Rattle.dm_table.specs.DeviceIo.{delivery, fault_of, since};
 ghost use Rattle.dm_table.specs.RequestLine.{values_of};
+ghost use Rattle.dm_map.specs.Units.{BlockUnit};
 ghost use Rattle.dm_stream.specs.declared.lines.TheConstants.{MOST_LINE_BYTES};
 ghost use Rattle.dm_stream.specs.Messages.{IsTold, ending_message};
 ghost use Rattle.dm_stream.specs.Outcome.{device_of, of_device, line_outcome, request_answer, run_outcome};
+ghost use Rattle.dm_stream.specs.Pieces.{AreFewest, fewest};
 ghost use Rattle.dm_stream.specs.Run.{IsServed, IsLineServed, word_for};
 ghost use Rattle.dm_stream.specs.WriteAll.{IsBeginning};
 
@@ -240,12 +242,19 @@ fn answer_all<'s, R: Input, W: Output>(
     }
 }
 
-/// Answers requests, line by line: for each the pieces that it touches, one a line. It ends with the
-/// first bad line, an end or a fault, and says how.
+/// Answers requests, line by line: for each the pieces that its units make, as few as can be, one a
+/// line under the number of the request. It ends with the first bad line, an end or a fault.
+///
+/// | Ending | When |
+/// |---|---|
+/// | `Done` | the requests came to a clean end, and all were answered |
+/// | `BadRequest` | the line of this number is bad; those before it were answered |
+/// | `ReadFault` | reading requests failed; those before were answered |
+/// | `WriteFault` | writing or flushing the output failed; a beginning of the answers was written |
 ///
 /// The mapper is one of this stack and not stopped. The output is flushed once at the end, save
-/// where a write failed; then a message of one line is written, save at `Done`. At `WriteFault` a
-/// beginning of the answers was written. No status lines are written as yet, so `status` is false.
+/// where a write failed; after that a message of one line is written, save at `Done`. No status
+/// lines are written as yet, so `status` is false.
 ///
 /// Cost: time linear in the bytes read and written, and what the mapper takes a request. No memory
 /// is taken.
@@ -285,6 +294,8 @@ pub fn run<'s, R: Input, W: Output, E: Output>(
         ≡ E.written messages.old ++ since (E.written messages.old) (E.written messages.new) }
     ensures grows { W.faults output.old ≤ W.faults output.new }
     ensures fails_once { W.faults output.new ≤ W.faults output.old + 1 }
+    // No other pieces of a request's units are as few.
+    ensures fewest { (units : List BlockUnit) → AreFewest units (fewest units) }
     // The figures of the limits.
     ensures limits { (MOST_LINE_BYTES ≡ 4096) × (MOST_REQUESTS ≡ 1000000000000) }
 {
