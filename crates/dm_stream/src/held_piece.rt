@@ -11,8 +11,7 @@ ghost use Rattle.dm_stream.specs.Holding.{Fits, IsHeld, held_diskless, held_unit
 ghost use Rattle.dm_stream.specs.Pieces.{fewest, is_after};
 ghost use Rattle.dm_stream.specs.PieceText.{pieces_text};
 
-use crate::piece_text::{PieceText, piece_line};
-use arrayvec::ArrayVec;
+use crate::piece_text::{PieceText, put_line};
 use dm_map::Piece;
 use dm_stack::{DiskId, Stack};
 use std::marker::Model;
@@ -87,14 +86,14 @@ impl<'s> HeldPiece<'s> {
         self.piece = Some(piece);
     }
 
-    /// Lets the held piece go, and answers its line; an empty text where none is held.
-    pub(crate) fn take_line(&mut self) -> PieceText
-        ensures text { result.items ≡ pieces_text self.old.stack self.old.number (fewest (held_units self.old.piece)) }
+    /// Lets the held piece go, and makes the text its line; an empty one where none is held.
+    pub(crate) fn take_line(&mut self, text: &mut PieceText)
+        ensures text { text.new.items ≡ pieces_text self.old.stack self.old.number (fewest (held_units self.old.piece)) }
         ensures nothing { self.new ≡ record { stack = self.old.stack; number = self.old.number; piece = None } }
     {
-        match self.piece.take() {
-            Some(piece) => piece_line(self.stack, self.number, &piece),
-            None => ArrayVec::new(),
+        text.clear();
+        if let Some(piece) = self.piece.take() {
+            put_line(text, self.stack, self.number, &piece);
         }
     }
 }

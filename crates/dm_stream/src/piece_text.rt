@@ -1,6 +1,6 @@
 //! The line of a piece.
 //!
-//! It is put together on the stack of the call, so a request takes no memory for its lines. The line
+//! It is put together in room that the caller keeps, so a request takes no memory for its lines. The line
 //! of a new kind of piece is an arm of `put_piece` here and of `unit_text` in `specs/PieceText`.
 
 ghost use Rattle.std.specs.Prelude.{◌≡◌, ◌++◌, ◌+◌, ◌<◌, ◌≤◌, ◌∷◌, [], length, decimal, codes};
@@ -16,17 +16,16 @@ use dm_stack::{DiskId, Stack};
 /// The line of a piece: two names of at most 255 bytes, and five numbers of at most 20 digits.
 pub(crate) type PieceText = ArrayVec<u8, 1024>;
 
-/// The line of a piece on disks of the stack, under a request's number.
-pub(crate) fn piece_line(stack: &Stack, number: u64, piece: &Piece) -> PieceText
-    requires { IsOnDisks stack.now piece.now }
-    ensures { result.items ≡ piece_text stack.now number (piece_view piece.now) }
+/// Puts the line of a piece on disks of the stack, under a request's number, in an empty text.
+pub(crate) fn put_line(text: &mut PieceText, stack: &Stack, number: u64, piece: &Piece)
+    requires empty { text.old.items ≡ [] }
+    requires lies { IsOnDisks stack.now piece.now }
+    ensures { text.new.items ≡ piece_text stack.now number (piece_view piece.now) }
 {
-    let mut text = ArrayVec::new();
-    put_number(&mut text, number);
-    put(&mut text, b" ");
-    put_piece(&mut text, stack, piece);
-    put(&mut text, b"\n");
-    text
+    put_number(text, number);
+    put(text, b" ");
+    put_piece(text, stack, piece);
+    put(text, b"\n");
 }
 
 /// Puts what a piece is behind a text.

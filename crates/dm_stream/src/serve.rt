@@ -49,6 +49,8 @@ fn join_request<W: Output>(
     requires nothing { join.old.held.piece ≡ None }
     ensures stack { mapper.new.stack ≡ mapper.old.stack }
     ensures going { OnOk result (mapper.new.stopped ≡ false) }
+    ensures of_stack { join.new.held.stack ≡ join.old.held.stack }
+    ensures nothing { join.new.held.piece ≡ None }
     ensures same_reference { join.new.writer.ghost_name ≡ join.old.writer.ghost_name }
     ensures appends { W.written join.new.writer.now
         ≡ W.written join.old.writer.now ++ since (W.written join.old.writer.now) (W.written join.new.writer.now) }
@@ -67,64 +69,37 @@ fn join_request<W: Output>(
     }
 }
 
-/// Writes the answer to a request of a device of the stack: what its units are, in the fewest pieces.
-fn answer_request<'s, W: Output>(
-    stack: &'s Stack,
-    mapper: &mut Mapper<'s>,
-    request: &Request<'_>,
-    device: DeviceId,
-    output: &mut W,
-) -> Result<(), OutFault>
-    requires stack { mapper.old.stack ≡ stack.now }
-    requires going { mapper.old.stopped ≡ false }
-    requires device { device < length stack.now.devices }
-    ensures stack { mapper.new.stack ≡ mapper.old.stack }
-    ensures going { OnOk result (mapper.new.stopped ≡ false) }
-    ensures appends { W.written output.new
-        ≡ W.written output.old ++ since (W.written output.old) (W.written output.new) }
-    ensures ok { OnOk result (since (W.written output.old) (W.written output.new)
-        ≡ request_answer stack.now request.now.number device (values_of request.now)) }
-    ensures err { OnErr result (IsBeginning (request_answer stack.now request.now.number device (values_of request.now))
-        (since (W.written output.old) (W.written output.new))) }
-    ensures faults { W.faults output.new ≡ W.faults output.old + fault_of result }
-    ensures flushes { W.flushes output.new ≡ W.flushes output.old }
-{
-    let mut join = Join::new(stack, output);
-    let answered = join_request(mapper, request, device, &mut join);
-    // The join ends here by its parts, so that what the output took is known behind it.
-    let Join {
-        held: _held,
-        writer: _writer,
-    } = join;
-    answered
-}
-
 /// Writes the answer to a request, if there is a device of its name.
 fn serve_request<'s, W: Output>(
     stack: &'s Stack,
     mapper: &mut Mapper<'s>,
     request: &Request<'_>,
-    output: &mut W,
+    join: &mut Join<'_, W>,
 ) -> Result<(), Ending>
     requires stack { mapper.old.stack ≡ stack.now }
     requires going { mapper.old.stopped ≡ false }
+    requires of_stack { join.old.held.stack ≡ stack.now }
+    requires nothing { join.old.held.piece ≡ None }
     ensures stack { mapper.new.stack ≡ mapper.old.stack }
     ensures going { (IsErrOf result Ending.WriteFault → ⊥) → mapper.new.stopped ≡ false }
-    ensures appends { W.written output.new
-        ≡ W.written output.old ++ since (W.written output.old) (W.written output.new) }
+    ensures of_stack { join.new.held.stack ≡ stack.now }
+    ensures nothing { join.new.held.piece ≡ None }
+    ensures same_reference { join.new.writer.ghost_name ≡ join.old.writer.ghost_name }
+    ensures appends { W.written join.new.writer.now
+        ≡ W.written join.old.writer.now ++ since (W.written join.old.writer.now) (W.written join.new.writer.now) }
     ensures served { IsLineServed (of_device stack.now request.now.number (device_of stack.now request.now.device.now) (values_of request.now))
-        (since (W.written output.old) (W.written output.new)) result }
-    ensures write_fault { W.faults output.old < W.faults output.new ↔ IsErrOf result Ending.WriteFault }
-    ensures no_fault { OnOk result (W.faults output.new ≡ W.faults output.old) }
-    ensures grows { W.faults output.old ≤ W.faults output.new }
-    ensures fails_once { W.faults output.new ≤ W.faults output.old + 1 }
+        (since (W.written join.old.writer.now) (W.written join.new.writer.now)) result }
+    ensures write_fault { W.faults join.old.writer.now < W.faults join.new.writer.now ↔ IsErrOf result Ending.WriteFault }
+    ensures no_fault { OnOk result (W.faults join.new.writer.now ≡ W.faults join.old.writer.now) }
+    ensures grows { W.faults join.old.writer.now ≤ W.faults join.new.writer.now }
+    ensures fails_once { W.faults join.new.writer.now ≤ W.faults join.old.writer.now + 1 }
     ensures no_read_fault { IsErrOf result Ending.ReadFault → ⊥ }
-    ensures flushes { W.flushes output.new ≡ W.flushes output.old }
+    ensures flushes { W.flushes join.new.writer.now ≡ W.flushes join.old.writer.now }
 {
     let Some(device) = stack.device(request.device) else {
         return Err(Ending::BadRequest(request.number, RequestWord::Unknown));
     };
-    match answer_request(stack, mapper, request, device, output) {
+    match join_request(mapper, request, device, join) {
         Ok(()) => Ok(()),
         Err(OutFault) => Err(Ending::WriteFault),
     }
@@ -136,35 +111,87 @@ fn serve_line<'s, W: Output>(
     mapper: &mut Mapper<'s>,
     line: &[u8],
     number: u64,
-    output: &mut W,
+    join: &mut Join<'_, W>,
 ) -> Result<(), Ending>
     requires stack { mapper.old.stack ≡ stack.now }
     requires going { mapper.old.stopped ≡ false }
+    requires of_stack { join.old.held.stack ≡ stack.now }
+    requires nothing { join.old.held.piece ≡ None }
     ensures stack { mapper.new.stack ≡ mapper.old.stack }
     ensures going { (IsErrOf result Ending.WriteFault → ⊥) → mapper.new.stopped ≡ false }
-    ensures appends { W.written output.new
-        ≡ W.written output.old ++ since (W.written output.old) (W.written output.new) }
+    ensures of_stack { join.new.held.stack ≡ stack.now }
+    ensures nothing { join.new.held.piece ≡ None }
+    ensures same_reference { join.new.writer.ghost_name ≡ join.old.writer.ghost_name }
+    ensures appends { W.written join.new.writer.now
+        ≡ W.written join.old.writer.now ++ since (W.written join.old.writer.now) (W.written join.new.writer.now) }
     ensures served { IsLineServed (line_outcome stack.now number line.now)
-        (since (W.written output.old) (W.written output.new)) result }
+        (since (W.written join.old.writer.now) (W.written join.new.writer.now)) result }
     ensures few { OnOk result (number ≤ MOST_REQUESTS) }
-    ensures write_fault { W.faults output.old < W.faults output.new ↔ IsErrOf result Ending.WriteFault }
-    ensures no_fault { OnOk result (W.faults output.new ≡ W.faults output.old) }
-    ensures grows { W.faults output.old ≤ W.faults output.new }
-    ensures fails_once { W.faults output.new ≤ W.faults output.old + 1 }
+    ensures write_fault { W.faults join.old.writer.now < W.faults join.new.writer.now ↔ IsErrOf result Ending.WriteFault }
+    ensures no_fault { OnOk result (W.faults join.new.writer.now ≡ W.faults join.old.writer.now) }
+    ensures grows { W.faults join.old.writer.now ≤ W.faults join.new.writer.now }
+    ensures fails_once { W.faults join.new.writer.now ≤ W.faults join.old.writer.now + 1 }
     ensures no_read_fault { IsErrOf result Ending.ReadFault → ⊥ }
-    ensures flushes { W.flushes output.new ≡ W.flushes output.old }
+    ensures flushes { W.flushes join.new.writer.now ≡ W.flushes join.old.writer.now }
 {
     if number > MOST_REQUESTS {
         return Err(Ending::BadRequest(number, RequestWord::Many));
     }
     match parse_request(line, number) {
-        Ok(request) => serve_request(stack, mapper, &request, output),
+        Ok(request) => serve_request(stack, mapper, &request, join),
         Err(fault) => Err(Ending::BadRequest(number, word_of(fault))),
     }
 }
 
-/// Answers the lines up to the first bad one, an end or a fault. Nothing is flushed.
+/// Answers the lines up to the first bad one, an end or a fault, with nothing held between them.
+/// Nothing is flushed.
 fn serve_lines<'s, R: Input, W: Output>(
+    stack: &'s Stack,
+    mapper: &mut Mapper<'s>,
+    requests: &mut R,
+    join: &mut Join<'_, W>,
+) -> Ending
+    requires stack { mapper.old.stack ≡ stack.now }
+    requires going { mapper.old.stopped ≡ false }
+    requires of_stack { join.old.held.stack ≡ stack.now }
+    requires nothing { join.old.held.piece ≡ None }
+    ensures stack { mapper.new.stack ≡ mapper.old.stack }
+    ensures going { result ≢ Ending.WriteFault → mapper.new.stopped ≡ false }
+    ensures same_reference { join.new.writer.ghost_name ≡ join.old.writer.ghost_name }
+    ensures reads { R.handed requests.new
+        ≡ R.handed requests.old ++ since (R.handed requests.old) (R.handed requests.new) }
+    ensures appends { W.written join.new.writer.now
+        ≡ W.written join.old.writer.now ++ since (W.written join.old.writer.now) (W.written join.new.writer.now) }
+    ensures served { IsServed (run_outcome stack.now (delivery R.handed R.faults R.ends requests.old requests.new))
+        (since (W.written join.old.writer.now) (W.written join.new.writer.now)) result }
+    ensures read_fault { result ≡ Ending.ReadFault → R.faults requests.old < R.faults requests.new }
+    ensures no_more { R.faults requests.new + R.ends requests.new ≤ R.faults requests.old + R.ends requests.old + 1 }
+    ensures write_fault { W.faults join.old.writer.now < W.faults join.new.writer.now ↔ (result ≡ Ending.WriteFault) }
+    ensures grows { W.faults join.old.writer.now ≤ W.faults join.new.writer.now }
+    ensures fails_once { W.faults join.new.writer.now ≤ W.faults join.old.writer.now + 1 }
+    ensures flushes { W.flushes join.new.writer.now ≡ W.flushes join.old.writer.now }
+{
+    let mut lines = Lines::new();
+    let mut number = 0;
+    'lines: loop {
+        number += 1;
+        match lines.next(requests) {
+            Next::Line(line) => {
+                if let Err(ending) = serve_line(stack, mapper, line, number, join) {
+                    return ending;
+                }
+            }
+            Next::End => return Ending::Done,
+            Next::Unended => return Ending::BadRequest(number, RequestWord::Unended),
+            Next::Long => return Ending::BadRequest(number, RequestWord::Long),
+            Next::ReadFault => return Ending::ReadFault,
+        }
+    }
+}
+
+/// Answers the lines up to the first bad one, an end or a fault, through one join for all of them.
+/// Nothing is flushed.
+fn join_lines<'s, R: Input, W: Output>(
     stack: &'s Stack,
     mapper: &mut Mapper<'s>,
     requests: &mut R,
@@ -187,22 +214,14 @@ fn serve_lines<'s, R: Input, W: Output>(
     ensures fails_once { W.faults output.new ≤ W.faults output.old + 1 }
     ensures flushes { W.flushes output.new ≡ W.flushes output.old }
 {
-    let mut lines = Lines::new();
-    let mut number = 0;
-    'lines: loop {
-        number += 1;
-        match lines.next(requests) {
-            Next::Line(line) => {
-                if let Err(ending) = serve_line(stack, mapper, line, number, output) {
-                    return ending;
-                }
-            }
-            Next::End => return Ending::Done,
-            Next::Unended => return Ending::BadRequest(number, RequestWord::Unended),
-            Next::Long => return Ending::BadRequest(number, RequestWord::Long),
-            Next::ReadFault => return Ending::ReadFault,
-        }
-    }
+    let mut join = Join::new(stack, output);
+    let ending = serve_lines(stack, mapper, requests, &mut join);
+    // The join ends here by its parts, so that what the output took is known behind it.
+    let Join {
+        writer: _writer,
+        ..
+    } = join;
+    ending
 }
 
 /// Answers the requests up to the first bad one, an end or a fault, and then flushes the output,
@@ -232,7 +251,7 @@ fn answer_all<'s, R: Input, W: Output>(
         → (W.waiting output.new ≡ []) × (W.flushes output.new ≡ W.flushes output.old + 1) }
     ensures once { W.flushes output.new ≤ W.flushes output.old + 1 }
 {
-    let ending = serve_lines(stack, mapper, requests, output);
+    let ending = join_lines(stack, mapper, requests, output);
     if ending == Ending::WriteFault {
         return ending;
     }

@@ -16,11 +16,14 @@ lines-preserved g c =
     let h0 = handed c.args.requests.now in
     let h1 = handed c.lines.requests in
     let h2 = handed c.next.new.reader in
-    let w0 = written c.args.output.now in
-    let w1 = written c.lines.output in
-    let w2 = written c.serve_line.new.output in
+    let w0 = written c.args.join.now.writer.now in
+    let w1 = written c.lines.join.writer.now in
+    let w2 = written c.serve_line.new.join.writer.now in
     record {
       stack = c.serve_line.ensures.stack ∙ so_far.stack;
+      of_stack = c.serve_line.ensures.of_stack;
+      nothing = c.serve_line.ensures.nothing;
+      same_reference = c.serve_line.ensures.same_reference ∙ so_far.same_reference;
       going = c.in_default.ensures.going (λ e. absurd cc);
       few = c.in_default.ensures.few;
       reads = grows_more h0 h1 h2 so_far.reads c.in-Line.ensures.bytes;
@@ -44,9 +47,9 @@ returns-in-Err-clause-served g c =
     let first = c.args.requests.now in
     let mid = c.lines.requests in
     let last = c.next.new.reader in
-    let w0 = written c.args.output.now in
-    let w1 = written c.lines.output in
-    let w2 = written c.serve_line.new.output in
+    let w0 = written c.args.join.now.writer.now in
+    let w1 = written c.lines.join.writer.now in
+    let w2 = written c.serve_line.new.join.writer.now in
     served_more c.args.stack.now (input.handed first) (input.handed mid) (input.handed last) w0 w1 w2 c.lines.lines (input.faults first) (input.faults mid) (input.faults last) (input.ends first) (input.ends mid) (input.ends last) (c.lines.number + 1) (ALine c.in-Line.line.now) c.in-Err.ending
     so_far.told so_far.reads c.in-Line.ensures.bytes so_far.appends c.in-Err.ensures.appends so_far.read_faults so_far.ends c.in-Line.ensures.answer c.in-Err.ensures.served
 

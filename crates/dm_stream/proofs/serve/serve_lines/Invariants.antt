@@ -1,4 +1,4 @@
-use Rattle.std.proofs.Common.{◌≡◌, ◌+◌, ◌-◌, ◌≤◌, ◌++◌, false}
+use Rattle.std.proofs.Common.{◌≡◌, ◌+◌, ◌-◌, ◌≤◌, ◌++◌, None, false}
 use Rattle.dm_table.specs.DeviceIo.{since}
 use Rattle.dm_stream.specs.declared.serve.TheConstants.{MOST_REQUESTS}
 use Rattle.dm_stream.proofs.Turns.{Told}
@@ -11,15 +11,18 @@ invariant-lines g l =
     let written = g.W.Output.written in
     record {
       stack : l.mapper.stack ≡ l.fn.stack;
+      of_stack : l.join.held.stack ≡ l.fn.stack;
+      nothing : l.join.held.piece ≡ None;
+      same_reference : l.join.writer.ghost_name ≡ l.fn.join.writer.ghost_name;
       going : l.mapper.stopped ≡ false;
       few : l.number ≤ MOST_REQUESTS;
       reads : handed l.requests ≡ handed l.fn.requests ++ since (handed l.fn.requests) (handed l.requests);
-      appends : written l.output ≡ written l.fn.output ++ since (written l.fn.output) (written l.output);
+      appends : written l.join.writer.now ≡ written l.fn.join.writer.now ++ since (written l.fn.join.writer.now) (written l.join.writer.now);
       read_faults : g.R.Input.faults l.requests ≡ g.R.Input.faults l.fn.requests;
       ends : g.R.Input.ends l.requests ≡ g.R.Input.ends l.fn.requests;
-      write_faults : g.W.Output.faults l.output ≡ g.W.Output.faults l.fn.output;
-      flushes : g.W.Output.flushes l.output ≡ g.W.Output.flushes l.fn.output;
-      told : Told l.fn.stack (since (handed l.fn.requests) (handed l.requests)) l.lines (since (written l.fn.output) (written l.output)) (l.number + 1);
+      write_faults : g.W.Output.faults l.join.writer.now ≡ g.W.Output.faults l.fn.join.writer.now;
+      flushes : g.W.Output.flushes l.join.writer.now ≡ g.W.Output.flushes l.fn.join.writer.now;
+      told : Told l.fn.stack (since (handed l.fn.requests) (handed l.requests)) l.lines (since (written l.fn.join.writer.now) (written l.join.writer.now)) (l.number + 1);
     }
 
 abbrev pub decreases-lines : goal.decreases-lines
