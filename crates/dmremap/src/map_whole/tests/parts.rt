@@ -37,6 +37,7 @@ fn read_only_stack(rt: &impl Abort, alloc: Global) -> Stack {
     let source = "a: 0 8 linear sda 0\nb: 0 8 linear /dev/mapper/a 0\n";
     let mut devices = parse_table(alloc, source.as_bytes()).expect(rt, "devices");
     let disks = parse_disks(alloc, "sda 9\n".as_bytes()).expect(rt, "disks");
+    assert_eq!(rt; devices.len(), 2);
     devices[0].ro = true;
     Stack::load(alloc, devices, disks).expect(rt, "a stack")
 }
