@@ -58,7 +58,7 @@ impl DiskId {
     pub(crate) fn new(index: usize) -> DiskId
         ensures { result ≡ index }
     {
-        DiskId { index: index / 2 }
+        DiskId { index }
     }
 
     /// The place of the disk in the order of the load, from 0.
