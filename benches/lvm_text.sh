@@ -1,5 +1,5 @@
 #!/bin/sh
-# Times of reading LVM text: builds lvm_text.rt beside a copy of the crate in a folder of its own, runs it, and prints
+# Times of reading LVM text: builds lvm_text.rt.in beside a copy of the crate in a folder of its own, runs it, and prints
 # each text's figures and their growth from the text before, a tenth as large. It is no test: read them as ratios.
 # Where crates/lvm_text/out holds a check, the build takes it over; from nothing it takes some minutes more.
 set -eu
@@ -11,7 +11,7 @@ trap 'rm -rf "$work"' EXIT
 program="$work/crates/lvm_text_times"
 mkdir -p "$program/src"
 cp -r "$top/crates/lvm_text" "$work/crates/lvm_text"
-cp "$top/benches/lvm_text.rt" "$program/src/main.rt"
+cp "$top/benches/lvm_text.rt.in" "$program/src/main.rt"
 grep '^lvm_text:' "$top/crates.txt" > "$work/crates.txt"
 echo 'lvm_text_times: lvm_text' >> "$work/crates.txt"
 

@@ -1,8 +1,8 @@
 -- What a sound stack says of its devices, of its disks, and of the line of a sector.
-use Rattle.std.proofs.Common.{◌≡◌, ℕ, zero, suc, ◌+◌, ◌-◌, ◌*◌, ◌^◌, ◌<◌, ◌≤◌, Bool, true, false, cond, eqb, nat_lt, nat_le, List, [], ◌∷◌, ◌++◌, length, map, Option, Some, None, refl, sym, ap, subst, ◌∙◌, arith}
-use Rattle.std.specs.Prelude.{◌/◌, ◌%◌, ◌==◌, ◌||◌, ◌&&◌, not, find, position, slice_get, option_map, is_none}
+use Rattle.std.proofs.Common.{◌≡◌, ℕ, zero, suc, ◌+◌, ◌*◌, ◌^◌, ◌<◌, ◌≤◌, Bool, true, false, cond, nat_lt, nat_le, List, [], ◌∷◌, length, map, Option, Some, refl, sym, ap, subst, ◌∙◌, arith}
+use Rattle.std.specs.Prelude.{◌/◌, ◌%◌, ◌==◌, ◌||◌, ◌&&◌, not, find, position, slice_get, option_map}
 use Rattle.std.specs.List.{AllByRecursion, flat_map, list_any, position_or_len}
-use Rattle.std.proofs.lemmas.Bool.{and_parts, or_parts, leb-true, le-leb, ltb-true, ltb-false, lt-ltb, le-ltb, eqb-true, not-false}
+use Rattle.std.proofs.lemmas.Bool.{and_parts, or_parts, leb-true, le-leb, ltb-true, ltb-false, lt-ltb, eqb-true, not-false}
 use Rattle.std.proofs.lemmas.List.{length-map}
 use Rattle.std.proofs.lemmas.List.Elements.{All-from_recursion}
 use Rattle.std.proofs.Math.Nat.{div-add-mod, mul_comm}
@@ -12,13 +12,12 @@ use Rattle.dm_table.specs.declared.table.Target.TheVariants as targets
 use Rattle.dm_table.specs.declared.table.Line.{Line}
 use Rattle.dm_table.specs.declared.table.DeviceSpec.{DeviceSpec}
 use Rattle.dm_table.specs.declared.disk.Disk.{Disk}
-use Rattle.dm_table.specs.declared.load_fault.LoadKind.TheVariants.{Limit, Empty, Gap, Overlap, Stripe, Range}
-use Rattle.dm_stack.specs.declared.found.FoundColumn.{FoundColumn}
+use Rattle.dm_table.specs.declared.load_fault.LoadKind.TheVariants.{Limit, Empty, Stripe, Range}
 use Rattle.dm_stack.specs.declared.found.FoundLine.{FoundLine}
-use Rattle.dm_stack.specs.Description.{Description, lower_of, lower_len, lines_at, lines_or_none, end_of, device_len, disk_len, len_or_none}
+use Rattle.dm_stack.specs.Description.{Description, lines_at, lines_or_none, end_of, device_len}
 use Rattle.dm_stack.specs.Below.{holds, line_of, found_line, found_lines, found_columns, found_target, found_at, has_sector, LiesIn, AreStripes, IsTargetSound, HoldsSoundly}
-use Rattle.dm_stack.specs.Soundness.{fault, faults_by, all_lines, line_faults, is_large, is_far, too_large, without_lines, empty_in, empty, misplaced_from, misplaced, is_bad_stripe, has_bad_stripes, stripe, is_past, passes_end, range, HaveSmallEnds, IsSound}
-use Rattle.dm_stack.proofs.Passes.{append_none, all_parts, faults_by_none, PassesBefore, PassesAfter, passes_before, passes_after}
+use Rattle.dm_stack.specs.Soundness.{all_lines, is_large, is_far, without_lines, empty_in, misplaced_from, is_bad_stripe, has_bad_stripes, is_past, passes_end, HaveSmallEnds, IsSound}
+use Rattle.dm_stack.proofs.Passes.{append_none, all_parts, faults_by_none, passes_before, passes_after}
 
 -- A search in a list, and in what its elements become
 
@@ -127,15 +126,15 @@ stripes_sound stack len chunk columns good inside =
     let same : length (found_columns stack columns) ≡ length columns = length-map columns _ in
     let small : chunk ≤ 4294967295 = ltb-false _ _ d.0 in
     record {
-        some = subst (λ (n : ℕ). 0 < n) (sym same) some;
-        few = subst (λ (n : ℕ). n ≤ 128) (sym same) few;
-        chunk_some = positive chunk c.0;
-        chunk_small = omega (arith, small);
-        column_len = len / length columns;
-        chunks = len / length columns / chunk;
-        shares = share len (length columns) (not-false _ f.0) ∙ ap (λ (n : ℕ). n * (len / length columns)) (sym same);
-        whole = share (len / length columns) chunk (not-false _ f.1) ∙ mul_comm chunk (len / length columns / chunk);
-        inside = columns_inside stack (len / length columns) columns inside
+      some = subst (λ (n : ℕ). 0 < n) (sym same) some;
+      few = subst (λ (n : ℕ). n ≤ 128) (sym same) few;
+      chunk_some = positive chunk c.0;
+      chunk_small = omega (arith, small);
+      column_len = len / length columns;
+      chunks = len / length columns / chunk;
+      shares = share len (length columns) (not-false _ f.0) ∙ ap (λ (n : ℕ). n * (len / length columns)) (sym same);
+      whole = share (len / length columns) chunk (not-false _ f.1) ∙ mul_comm chunk (len / length columns / chunk);
+      inside = columns_inside stack (len / length columns) columns inside;
     }
 
 target_sound : (stack : Description) (len : ℕ) (line : Line) (target : Target) → has_bad_stripes line target ≡ false → passes_end stack line.len target ≡ false → IsTargetSound stack line.len (found_target stack target)
@@ -172,11 +171,11 @@ device_sound stack id device sound at =
     let p = passes_before stack sound.before in
     let q = passes_after stack sound.after in
     record {
-        small = of_device (λ line. is_large line ≡ false) stack.devices id device (faults_by_none Limit (λ line. line.at) is_large (all_lines stack.devices) (append_none _ _ p.small).0) at;
-        striped = of_device (λ line. has_bad_stripes line line.target ≡ false) stack.devices id device (faults_by_none Stripe (λ line. line.at) (λ line. has_bad_stripes line line.target) (all_lines stack.devices) q.divided) at;
-        inside = of_device (λ line. passes_end stack line.len line.target ≡ false) stack.devices id device (faults_by_none Range (λ line. line.at) (λ line. passes_end stack line.len line.target) (all_lines stack.devices) q.inside) at;
-        filled = part_of empty_in stack.devices id device (append_none _ _ p.filled).0 at;
-        placed = part_of (λ d. misplaced_from 0 d.lines) stack.devices id device p.placed at
+      small = of_device (λ line. is_large line ≡ false) stack.devices id device (faults_by_none Limit (λ line. line.at) is_large (all_lines stack.devices) (append_none _ _ p.small).0) at;
+      striped = of_device (λ line. has_bad_stripes line line.target ≡ false) stack.devices id device (faults_by_none Stripe (λ line. line.at) (λ line. has_bad_stripes line line.target) (all_lines stack.devices) q.divided) at;
+      inside = of_device (λ line. passes_end stack line.len line.target ≡ false) stack.devices id device (faults_by_none Range (λ line. line.at) (λ line. passes_end stack line.len line.target) (all_lines stack.devices) q.inside) at;
+      filled = part_of empty_in stack.devices id device (append_none _ _ p.filled).0 at;
+      placed = part_of (λ d. misplaced_from 0 d.lines) stack.devices id device p.placed at;
     }
 
 -- a device is there where its id is below the count
@@ -209,14 +208,14 @@ sector_found stack id sector sound within inside =
     let c = found (λ line. passes_end stack line.len line.target ≡ false) (holds sector) d.it.lines h.line s.inside h.is in
     let parts = and_parts (nat_le h.line.start sector) (nat_lt sector (h.line.start + h.line.len)) a.0 in
     record {
-        line = found_line stack h.line;
-        is = ap (option_map (found_line stack)) (ap (λ (ls : List Line). line_of ls sector) lines ∙ h.is);
-        soundly = record {
-            from = leb-true _ _ parts.0;
-            before = ltb-true _ _ parts.1;
-            small = line_small h.line a.1;
-            target = target_sound stack h.line.len h.line h.line.target b.1 c.1
-        }
+      line = found_line stack h.line;
+      is = ap (option_map (found_line stack)) (ap (λ (ls : List Line). line_of ls sector) lines ∙ h.is);
+      soundly = record {
+        from = leb-true _ _ parts.0;
+        before = ltb-true _ _ parts.1;
+        small = line_small h.line a.1;
+        target = target_sound stack h.line.len h.line h.line.target b.1 c.1;
+      };
     }
 
 pub find-found : (stack : Description) (id sector : ℕ) → find (has_sector sector) (found_lines stack id) ≡ found_at stack id sector
@@ -243,7 +242,7 @@ device_some stack id sound within =
     let s = device_sound stack id d.it sound d.at in
     let parts = append_none (without_lines d.it d.it.lines) _ s.filled in
     subst (λ (ls : List Line). 0 < end_of ls) (sym (lines_there stack id d.it d.at))
-        (filled_lines d.it d.it.lines parts.0 (faults_by_none Empty (λ line. line.at) (λ line. line.len == 0) d.it.lines parts.1))
+    (filled_lines d.it d.it.lines parts.0 (faults_by_none Empty (λ line. line.at) (λ line. line.len == 0) d.it.lines parts.1))
 
 pub device_small : (stack : Description) (id : ℕ) → IsSound stack → id < length stack.devices → device_len stack id ≤ 2 ^ 50
 device_small stack id sound within =

@@ -225,7 +225,5 @@ impl Stack {
 fn line_of(lines: &[FoundLine], sector: u64) -> Option<&FoundLine>
     ensures { option_copied result ≡ find (has_sector sector) lines.now }
 {
-    lines
-        .iter()
-        .find(|line| line.start <= sector && sector - line.start < line.len)
+    lines.iter().find(|line| line.start <= sector && sector - line.start < line.len)
 }

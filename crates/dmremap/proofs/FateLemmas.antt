@@ -12,12 +12,12 @@ use Rattle.dmremap.specs.Load.{RefusedBy, SoundAs, PartsGive}
 use Rattle.dm_stack.specs.Description.{Description}
 use Rattle.dmremap.specs.Parts.{part_read}
 use Rattle.dmremap.specs.Fate.{fate_message, fate_status, IsFated, IsFlushed, IsRun, OnRefused}
-use Rattle.dm_stream.specs.Messages.{ending_message, write_message}
+use Rattle.dm_stream.specs.Messages.{write_message}
 use Rattle.dm_stream.specs.Outcome.{Outcome, run_outcome}
 use Rattle.dm_stream.specs.Run.{IsServed}
 use Rattle.dm_stream.specs.WriteAll.{IsBeginning}
 use Rattle.dmremap.specs.Messages.{load_message, load_status, ending_status, memory_message}
-use Rattle.dmremap.specs.Whole.{Whole, GiveWhole, whole_of, ended_if}
+use Rattle.dmremap.specs.Whole.{Whole, GiveWhole, ended_if}
 
 -- a load is refused for want of memory, or with status 1
 pub refused_kind : (kind : LoadKind) → load_status kind ≢ 6 → (kind ≢ kinds.Memory) × (1 ≡ load_status kind)

@@ -5,7 +5,7 @@ use Rattle.dm_table.specs.DeviceIo.{Delivery}
 use Rattle.dm_stream.specs.declared.ending.Ending.{Ending}
 use Rattle.dmremap.specs.Parts.{part_read}
 use Rattle.dmremap.specs.Load.{Load, RefusedBy, SoundAs, PartsGive}
-use Rattle.dm_stream.specs.Outcome.{Outcome, run_outcome}
+use Rattle.dm_stream.specs.Outcome.{run_outcome}
 use Rattle.dm_stream.specs.Messages.{ending_message}
 use Rattle.dmremap.specs.Messages.{load_message, ending_status}
 

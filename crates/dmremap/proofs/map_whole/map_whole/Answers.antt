@@ -1,8 +1,7 @@
-use Rattle.std.proofs.Common.{◌≡◌, ◌∙◌, sym, subst, List, ℕ}
+use Rattle.std.proofs.Common.{◌∙◌, sym}
 use Rattle.dm_table.specs.DeviceIo.{delivery, since}
 use Rattle.dmremap.specs.Parts.{delivery_if}
-use Rattle.dmremap.specs.Fate.{fate_message, fate_status}
-use Rattle.dmremap.specs.Whole.{GiveWhole}
+use Rattle.dmremap.specs.Fate.{fate_message}
 use Rattle.dmremap.proofs.FateLemmas.{whole_at, beginning_at_five, unasked_one, unasked_six}
 use Rattle.dmremap.proofs.OneWhole.{one_whole}
 use Rattle.dm_stream.proofs.FewestLemmas.{fewest_is}

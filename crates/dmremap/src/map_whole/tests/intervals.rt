@@ -98,7 +98,7 @@ fn put_lines(text: &mut String, number: u64, sectors: &[Sector<'_>]) -> Result<(
 }
 
 /// The output of requests to a stack, as a text.
-fn output_of(rt: &impl Abort, alloc: Global, source: &str, requests: &str) -> ShortOut {
+fn output_of<'a>(rt: &impl Abort, alloc: Global, source: &'a str, requests: &'a str) -> ShortOut {
     let case = Case {
         name: source,
         source,

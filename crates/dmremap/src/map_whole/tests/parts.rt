@@ -3,10 +3,13 @@
 //! Want of memory is in the contract of each call that takes any, so a body that always answers it
 //! meets every clause: these rows refuse it. Read-only devices stand here, since no text says them yet.
 
+ghost use Rattle.std.specs.Prelude.{◌≡◌, ◌<◌, length};
+ghost use Rattle.dm_stack.specs.Description.{disk_len};
+
 use super::*;
-use dm_map::Mapper;
-use dm_stack::Stack;
-use dm_stream::{Ending, run};
+use dm_map::{Mapper, Piece, Sink};
+use dm_stack::{DiskId, FoundTarget, Lower, Stack};
+use dm_stream::{Ending, Join, run};
 use dm_table::{CheckFault, DiskName, Name, parse_disks, parse_table};
 use std::alloc::AllocError;
 use std::test::Fail;
@@ -37,6 +40,7 @@ fn read_only_stack(rt: &impl Abort, alloc: Global) -> Stack {
     let source = "a: 0 8 linear sda 0\nb: 0 8 linear /dev/mapper/a 0\n";
     let mut devices = parse_table(alloc, source.as_bytes()).expect(rt, "devices");
     let disks = parse_disks(alloc, "sda 9\n".as_bytes()).expect(rt, "disks");
+    assert_eq!(rt; devices.len(), 2);
     devices[0].ro = true;
     Stack::load(alloc, devices, disks).expect(rt, "a stack")
 }
@@ -82,4 +86,106 @@ fn a_read_only_device(rt: HostRuntime) {
         "1 error 8\n2 R sda 0 8\n3 error 1\n".as_bytes()
     );
     assert_eq!(&rt; messages.as_slice(), "".as_bytes());
+}
+
+/// The disk, of 64 sectors, that the first line of a device lies on.
+fn disk_below(rt: &impl Abort, stack: &Stack, name: &str) -> DiskId
+    ensures there { result < length stack.now.disks }
+    ensures len { disk_len stack.now result ≡ 64 }
+{
+    let device = stack.device(name).expect(rt, "a device");
+    let mut looker = stack.looker();
+    assert!(rt; 0 < looker.len(device), "a first sector");
+    let line = looker.look(device, 0);
+    let FoundTarget::Linear {
+        to: Lower::Disk(disk),
+        ..
+    } = line.target
+    else {
+        panic!(rt; "a device on a disk")
+    };
+    assert!(rt; disk.index() < stack.disk_count(), "a disk that is there");
+    assert_eq!(rt; stack.disk_len(disk), 64);
+    disk
+}
+
+/// A stack of a device on each of two disks of 64 sectors.
+fn two_disks(rt: &impl Abort, alloc: Global) -> Stack {
+    let source = "a: 0 64 linear sda 0\nb: 0 64 linear sdb 0\n";
+    let devices = parse_table(alloc, source.as_bytes()).expect(rt, "devices");
+    let disks = parse_disks(alloc, "sda 64\nsdb 64\n".as_bytes()).expect(rt, "disks");
+    Stack::load(alloc, devices, disks).expect(rt, "a stack")
+}
+
+/// Eight sectors that are copied from a disk to another.
+fn copy(disk: DiskId, start: u64, to: DiskId, to_start: u64) -> Piece
+    ensures { result ≡ Piece.Copy disk start 8 to to_start }
+{
+    Piece::Copy {
+        disk,
+        start,
+        len: 8,
+        to,
+        to_start,
+    }
+}
+
+#[test]
+fn copies_join_where_both_sides_go_on(rt: HostRuntime) {
+    let stack = two_disks(&rt, rt.alloc());
+    let disk = disk_below(&rt, &stack, "a");
+    let to = disk_below(&rt, &stack, "b");
+    let mut output = ShortOut::new(rt.alloc(), 1, PLENTY).expect(&rt, "an output");
+    let mut join = Join::new(&stack, &mut output);
+    join.begin(7);
+    join.piece(copy(disk, 0, to, 16)).expect(&rt, "a copy");
+    join.piece(copy(disk, 8, to, 24))
+        .expect(&rt, "a copy that goes on");
+    join.piece(copy(disk, 16, to, 40))
+        .expect(&rt, "one that goes on on one side");
+    join.finish().expect(&rt, "the last piece");
+    assert_eq!(&rt;
+        output.as_slice(),
+        "7 copy sda 0 16 sdb 16\n7 copy sda 16 8 sdb 40\n".as_bytes()
+    );
+}
+
+#[test]
+fn fills_join_and_writes_stand_apart(rt: HostRuntime) {
+    let stack = two_disks(&rt, rt.alloc());
+    let disk = disk_below(&rt, &stack, "a");
+    let to = disk_below(&rt, &stack, "b");
+    let mut output = ShortOut::new(rt.alloc(), PLENTY, PLENTY).expect(&rt, "an output");
+    let mut join = Join::new(&stack, &mut output);
+    let fill = Piece::Fill {
+        len: 8,
+        disk: to,
+        start: 0,
+    };
+    join.piece(fill).expect(&rt, "a fill");
+    let fill = Piece::Fill {
+        len: 8,
+        disk: to,
+        start: 8,
+    };
+    join.piece(fill).expect(&rt, "a fill that goes on");
+    // A write does not join the one on the other side of a copy.
+    let write = Piece::Write {
+        disk: to,
+        start: 0,
+        len: 1,
+    };
+    join.piece(write).expect(&rt, "a write");
+    join.piece(copy(disk, 8, to, 8)).expect(&rt, "a copy");
+    let write = Piece::Write {
+        disk: to,
+        start: 1,
+        len: 1,
+    };
+    join.piece(write).expect(&rt, "a write that goes on");
+    join.finish().expect(&rt, "the last piece");
+    assert_eq!(&rt;
+        output.as_slice(),
+        "0 fill 16 sdb 0\n0 W sdb 0 1\n0 copy sda 8 8 sdb 8\n0 W sdb 1 1\n".as_bytes()
+    );
 }

@@ -112,8 +112,8 @@ fn lower_devices(rt: HostRuntime) {
 /// A device `d1` of 8 sectors on a disk, and so many in all, each on the one before.
 fn chain(alloc: Global, count: usize) -> Result<String, AllocError> {
     let mut text = String::from_str(alloc, "d1: 0 8 linear sda 0\n")?;
-    for number in 2..count + 1 {
-        writeln!(text, "d{number}: 0 8 linear /dev/mapper/d{} 0", number - 1)?;
+    for below in 1..count {
+        writeln!(text, "d{}: 0 8 linear /dev/mapper/d{below} 0", below + 1)?;
     }
     Ok(text)
 }
@@ -148,11 +148,11 @@ fn the_greatest_depth(rt: HostRuntime) -> Result<(), Fail> {
 /// one before. Three of them lead each sector back to its place.
 fn halves(alloc: Global, count: usize) -> Result<String, AllocError> {
     let mut text = String::from_str(alloc, "d1: 0 8 linear sda 0\n")?;
-    for number in 2..count + 1 {
-        let below = number - 1;
+    for below in 1..count {
         writeln!(
             text,
-            "d{number}: 0 8 striped 2 1 /dev/mapper/d{below} 0 /dev/mapper/d{below} 4"
+            "d{}: 0 8 striped 2 1 /dev/mapper/d{below} 0 /dev/mapper/d{below} 4",
+            below + 1
         )?;
     }
     Ok(text)
@@ -187,8 +187,8 @@ fn row(alloc: Global, count: usize, last: &str) -> Result<String, AllocError> {
 /// So many devices of a line of zeros.
 fn devices(alloc: Global, count: usize) -> Result<String, AllocError> {
     let mut text = String::new(alloc);
-    for number in 1..count + 1 {
-        writeln!(text, "d{number}: 0 8 zero")?;
+    for index in 0..count {
+        writeln!(text, "d{}: 0 8 zero", index + 1)?;
     }
     Ok(text)
 }

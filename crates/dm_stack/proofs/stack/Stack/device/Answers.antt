@@ -1,4 +1,4 @@
-use Rattle.std.proofs.Common.{◌≡◌, ℕ, List, map, Some, None, sym, ap, ◌∙◌}
+use Rattle.std.proofs.Common.{Some, sym, ap, ◌∙◌}
 use Rattle.std.specs.Prelude.{position}
 use Rattle.dm_stack.specs.Description.{Description, is_same}
 use Rattle.dm_stack.proofs.SoundLines.{position-map}

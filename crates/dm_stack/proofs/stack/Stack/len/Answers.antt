@@ -8,7 +8,7 @@ use Rattle.dm_stack.proofs.stack.Stack.len.Goals as goal
 pub end_of-requires : goal.end_of-requires
 end_of-requires c =
     subst (λ (lines : List Line). HaveSmallEnds lines) (sym c.as_slice.ensures)
-        (small_ends c.spec.result.now.lines (device_sound c.args.self.now c.args.device c.spec.result.now c.spec.ensures.sound c.spec.ensures.spec).small)
+    (small_ends c.spec.result.now.lines (device_sound c.args.self.now c.args.device c.spec.result.now c.spec.ensures.sound c.spec.ensures.spec).small)
 
 -- the end of the lines is the length of the device
 len_is : (c : goal.After-end_of) → c.end_of.result ≡ device_len c.args.self.now c.args.device
