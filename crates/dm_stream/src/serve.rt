@@ -165,6 +165,7 @@ fn serve_lines<'s, R: Input, W: Output>(
     ensures served { IsServed (run_outcome stack.now (delivery R.handed R.faults R.ends requests.old requests.new))
         (since (W.written join.old.writer.now) (W.written join.new.writer.now)) result }
     ensures read_fault { result ≡ Ending.ReadFault → R.faults requests.old < R.faults requests.new }
+    ensures no_fault { result ≡ Ending.Done → R.faults requests.new ≤ R.faults requests.old }
     ensures no_more { R.faults requests.new + R.ends requests.new ≤ R.faults requests.old + R.ends requests.old + 1 }
     ensures write_fault { W.faults join.old.writer.now < W.faults join.new.writer.now ↔ (result ≡ Ending.WriteFault) }
     ensures grows { W.faults join.old.writer.now ≤ W.faults join.new.writer.now }
@@ -208,6 +209,7 @@ fn join_lines<'s, R: Input, W: Output>(
     ensures served { IsServed (run_outcome stack.now (delivery R.handed R.faults R.ends requests.old requests.new))
         (since (W.written output.old) (W.written output.new)) result }
     ensures read_fault { result ≡ Ending.ReadFault → R.faults requests.old < R.faults requests.new }
+    ensures no_fault { result ≡ Ending.Done → R.faults requests.new ≤ R.faults requests.old }
     ensures no_more { R.faults requests.new + R.ends requests.new ≤ R.faults requests.old + R.ends requests.old + 1 }
     ensures write_fault { W.faults output.old < W.faults output.new ↔ (result ≡ Ending.WriteFault) }
     ensures grows { W.faults output.old ≤ W.faults output.new }
@@ -243,6 +245,7 @@ fn answer_all<'s, R: Input, W: Output>(
     ensures served { IsServed (run_outcome stack.now (delivery R.handed R.faults R.ends requests.old requests.new))
         (since (W.written output.old) (W.written output.new)) result }
     ensures read_fault { result ≡ Ending.ReadFault → R.faults requests.old < R.faults requests.new }
+    ensures no_fault { result ≡ Ending.Done → R.faults requests.new ≤ R.faults requests.old }
     ensures no_more { R.faults requests.new + R.ends requests.new ≤ R.faults requests.old + R.ends requests.old + 1 }
     ensures write_fault { W.faults output.old < W.faults output.new ↔ (result ≡ Ending.WriteFault) }
     ensures grows { W.faults output.old ≤ W.faults output.new }
@@ -295,6 +298,7 @@ pub fn run<'s, R: Input, W: Output, E: Output>(
     ensures served { IsServed (run_outcome stack.now (delivery R.handed R.faults R.ends requests.old requests.new))
         (since (W.written output.old) (W.written output.new)) result }
     ensures read_fault { result ≡ Ending.ReadFault → R.faults requests.old < R.faults requests.new }
+    ensures no_fault { result ≡ Ending.Done → R.faults requests.new ≤ R.faults requests.old }
     ensures write_fault { W.faults output.old < W.faults output.new ↔ (result ≡ Ending.WriteFault) }
     // Nothing is read behind an end or a fault.
     ensures no_more { R.faults requests.new + R.ends requests.new ≤ R.faults requests.old + R.ends requests.old + 1 }

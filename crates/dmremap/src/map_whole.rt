@@ -107,8 +107,9 @@ pub fn map_whole<S: Input, D: Input, Q: Input, W: Output, M: Output>(
     ensures unasked { result ≡ 1 → IsUnchanged Q.handed Q.faults Q.ends requests.old requests.new }
     ensures unasked_memory { result ≡ 6 → IsUnchanged Q.handed Q.faults Q.ends requests.old requests.new }
 
-    // Reading requests failed in the call.
+    // Reading requests failed in the call; and where it did, and the output did not, only a bad line goes before that.
     ensures read_fault { result ≡ 4 → Q.faults requests.old < Q.faults requests.new }
+    ensures no_fault { result ≡ 0 → Q.faults requests.new ≤ Q.faults requests.old }
 
     // What was told and written only grows. The output is flushed once, at the end; not at all where the load was refused.
     ensures tells { M.written messages.new ≡ M.written messages.old ++ since (M.written messages.old) (M.written messages.new) }
@@ -152,6 +153,7 @@ fn load_and_run<S: Input, D: Input, Q: Input, W: Output, M: Output>(
     ensures appends { W.written output.new ≡ W.written output.old ++ since (W.written output.old) (W.written output.new) }
     ensures write_fault { W.faults output.old < W.faults output.new ↔ (fate_status result ≡ 5) }
     ensures read_fault { fate_status result ≡ 4 → Q.faults requests.old < Q.faults requests.new }
+    ensures no_fault { fate_status result ≡ 0 → Q.faults requests.new ≤ Q.faults requests.old }
     ensures unasked { OnRefused result (IsUnchanged Q.handed Q.faults Q.ends requests.old requests.new) }
     ensures flushes { IsFlushed result (W.waiting output.new) (W.flushes output.old) (W.flushes output.new) }
 {
@@ -178,6 +180,7 @@ fn serve<Q: Input, W: Output, M: Output>(
     ensures appends { W.written output.new ≡ W.written output.old ++ since (W.written output.old) (W.written output.new) }
     ensures write_fault { W.faults output.old < W.faults output.new ↔ (fate_status result ≡ 5) }
     ensures read_fault { fate_status result ≡ 4 → Q.faults requests.old < Q.faults requests.new }
+    ensures no_fault { fate_status result ≡ 0 → Q.faults requests.new ≤ Q.faults requests.old }
     ensures unasked { OnRefused result (IsUnchanged Q.handed Q.faults Q.ends requests.old requests.new) }
     ensures flushes { IsFlushed result (W.waiting output.new) (W.flushes output.old) (W.flushes output.new) }
 {
