@@ -3,7 +3,7 @@
 //! The room is kept from line to line, and the number is put once for all lines of a request. A line
 //! is put behind the number; what stands there may only change with the number.
 
-ghost use Rattle.std.specs.Prelude.{◌≡◌, ◌+◌, ◌≤◌, ◌++◌, ◌∷◌, [], length, decimal};
+ghost use Rattle.std.specs.Prelude.{◌≡◌, ◌≤◌, [], length};
 ghost use Rattle.dm_map.specs.Units.{IsOnDisks};
 ghost use Rattle.dm_stream.specs.Holding.{piece_view};
 ghost use Rattle.dm_stream.specs.NumberedLine.{line_front};
