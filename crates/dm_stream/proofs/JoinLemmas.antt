@@ -6,7 +6,7 @@ use Rattle.dm_table.specs.DeviceIo.{since}
 use Rattle.dm_stack.specs.Description.{Description}
 use Rattle.dm_map.specs.declared.piece.Piece as code
 use Rattle.dm_map.specs.Units.{BlockUnit, first_unit, next_unit, piece_len, units_in, units_of}
-use Rattle.dm_stream.specs.Holding.{Holding, held_units, piece_view}
+use Rattle.dm_stream.specs.Holding.{Holding, IsHeld, held_units, piece_view}
 use Rattle.dm_stream.specs.Join.{HasUnits, HasLeft}
 use Rattle.dm_stream.specs.JoinLaws.{last_of_units, some_before, beginning-before}
 use Rattle.dm_stream.specs.Pieces.{Piece, all_but_last, fewest, is_after}
@@ -45,6 +45,13 @@ text_run stack number first (suc len) some =
 
 pub held_text : (stack : Description) (number : ℕ) (piece : code.Piece) → 1 ≤ piece_len piece → piece_text stack number (piece_view piece) ≡ pieces_text stack number (fewest (units_of piece))
 held_text stack number piece some = text_run stack number (first_unit piece) (piece_len piece) some
+
+-- the line of the held piece is the text of what is held
+pub held_line : (held : Holding) (piece : code.Piece) (line : List ℕ) → held.piece ≡ Some piece → IsHeld held.stack held.piece → line ≡ piece_text held.stack held.number (piece_view piece)
+    → line ≡ pieces_text held.stack held.number (fewest (held_units held.piece))
+held_line held piece line is fits written =
+    written ∙ held_text held.stack held.number piece (subst (IsHeld held.stack) is fits).0
+    ∙ ap (λ (p : Option code.Piece). pieces_text held.stack held.number (fewest (held_units p))) (sym is)
 
 some_units : (unit : BlockUnit) (len : ℕ) → 1 ≤ len → HasUnits (units_in unit len)
 some_units unit zero some = absurd (omega arith)

@@ -4,6 +4,7 @@ pub mod Join
 pub mod JoinLaws
 pub mod Lines
 pub mod Messages
+pub mod NumberedLine
 pub mod Outcome
 pub mod PieceText
 pub mod Pieces

@@ -3,25 +3,30 @@
 //! Its invariant keeps it on the disks of the stack, so that its line can always be written. Of a
 //! new kind of piece say here when one goes on from another, and what both are as one.
 
-ghost use Rattle.std.specs.Prelude.{◌≡◌, ◌+◌, ◌-◌, ◌<◌, ◌≤◌, ◌==◌, ◌++◌, ◌^◌, List, Some, None, length};
+ghost use Rattle.std.specs.Prelude.{◌≡◌, ◌+◌, ◌-◌, ◌<◌, ◌≤◌, ◌==◌, ◌++◌, ◌^◌, List, Some, None, OnOk, OnErr, length};
 ghost use Rattle.std.specs.Bool.{OnTrue, OnFalse};
 ghost use Rattle.dm_stack.specs.Description.{disk_len};
+ghost use Rattle.dm_table.specs.DeviceIo.{fault_of, since};
 ghost use Rattle.dm_map.specs.Units.{BlockUnit, IsOnDisks, diskless_len, first_unit, piece_len, units_of};
 ghost use Rattle.dm_stream.specs.Holding.{Fits, IsHeld, held_diskless, held_units};
 ghost use Rattle.dm_stream.specs.Pieces.{fewest, is_after};
 ghost use Rattle.dm_stream.specs.PieceText.{pieces_text};
+ghost use Rattle.dm_stream.specs.WriteAll.{IsBeginning};
 
-use crate::piece_text::{PieceText, put_line};
+use crate::numbered_line::NumberedLine;
+use crate::write_all::write_all;
 use dm_map::Piece;
 use dm_stack::{DiskId, Stack};
+use dm_table::{OutFault, Output};
 use std::marker::Model;
 
 /// At most one piece of a request to a stack's devices, under the request's number.
 #[derive(Drop)]
 pub(crate) struct HeldPiece<'s> {
     stack: &'s Stack,
-    number: u64,
     piece: Option<Piece>,
+    /// The line that was written last, under the request's number.
+    line: NumberedLine,
 }
 
 impl<'s> Model for HeldPiece<'s> {
@@ -29,7 +34,7 @@ impl<'s> Model for HeldPiece<'s> {
 
     ghost Value = { Holding };
 
-    ghost view = { λ held. record { stack = held.stack.now; number = held.number; piece = held.piece } };
+    ghost view = { λ held. record { stack = held.stack.now; number = held.line.number; piece = held.piece } };
 
     ghost invariant = { λ held. IsHeld held.stack.now held.piece };
 }
@@ -41,8 +46,8 @@ impl<'s> HeldPiece<'s> {
     {
         HeldPiece {
             stack,
-            number: 0,
             piece: None,
+            line: NumberedLine::new(),
         }
     }
 
@@ -50,7 +55,7 @@ impl<'s> HeldPiece<'s> {
     pub(crate) fn set_number(&mut self, number: u64)
         ensures { self.new ≡ record { stack = self.old.stack; number = number; piece = self.old.piece } }
     {
-        self.number = number;
+        self.line.set_number(number);
     }
 
     /// Lengthens the held piece by one that goes on from it. Answers false, and changes nothing,
@@ -86,15 +91,23 @@ impl<'s> HeldPiece<'s> {
         self.piece = Some(piece);
     }
 
-    /// Lets the held piece go, and makes the text its line; an empty one where none is held.
-    pub(crate) fn take_line(&mut self, text: &mut PieceText)
-        ensures text { text.new.items ≡ pieces_text self.old.stack self.old.number (fewest (held_units self.old.piece)) }
+    /// Lets the held piece go, and writes its line; nothing where none is held.
+    pub(crate) fn write<W: Output>(&mut self, writer: &mut W) -> Result<(), OutFault>
+        ensures ok { OnOk result (since (W.written writer.old) (W.written writer.new)
+            ≡ pieces_text self.old.stack self.old.number (fewest (held_units self.old.piece))) }
+        ensures err { OnErr result (IsBeginning (pieces_text self.old.stack self.old.number (fewest (held_units self.old.piece)))
+            (since (W.written writer.old) (W.written writer.new))) }
+        ensures appends { W.written writer.new
+            ≡ W.written writer.old ++ since (W.written writer.old) (W.written writer.new) }
+        ensures faults { W.faults writer.new ≡ W.faults writer.old + fault_of result }
+        ensures flushes { W.flushes writer.new ≡ W.flushes writer.old }
         ensures nothing { self.new ≡ record { stack = self.old.stack; number = self.old.number; piece = None } }
     {
-        text.clear();
-        if let Some(piece) = self.piece.take() {
-            put_line(text, self.stack, self.number, &piece);
-        }
+        let Some(piece) = self.piece.take() else {
+            return Ok(());
+        };
+        self.line.set_piece(self.stack, &piece);
+        write_all(writer, self.line.as_slice())
     }
 }
 

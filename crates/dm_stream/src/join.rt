@@ -15,9 +15,6 @@ ghost use Rattle.dm_stream.specs.JoinLaws.{took_none, took_more, left_more};
 ghost use Rattle.std.proofs.Common.{ap, refl, ◌∙◌};
 
 use crate::held_piece::HeldPiece;
-use crate::piece_text::PieceText;
-use crate::write_all::write_all;
-use arrayvec::ArrayVec;
 use dm_map::{Piece, Sink};
 use dm_stack::Stack;
 use dm_table::{OutFault, Output};
@@ -32,8 +29,6 @@ use dm_table::{OutFault, Output};
 pub struct Join<'s, W> {
     pub(crate) held: HeldPiece<'s>,
     pub(crate) writer: &'s mut W,
-    /// Where a line is put together, kept so that its room is made once.
-    pub(crate) line: PieceText,
 }
 
 impl<'s, W: Output> Join<'s, W> {
@@ -46,7 +41,6 @@ impl<'s, W: Output> Join<'s, W> {
         Join {
             held: HeldPiece::new(stack),
             writer,
-            line: ArrayVec::new(),
         }
     }
 
@@ -78,8 +72,7 @@ impl<'s, W: Output> Join<'s, W> {
         // They are the only pieces of units of which none goes on from the one before, and none are fewer.
         ensures fewest { (units : List BlockUnit) → AreFewest units (fewest units) }
     {
-        self.held.take_line(&mut self.line);
-        write_all(&mut *self.writer, self.line.as_slice())
+        self.held.write(&mut *self.writer)
     }
 }
 

@@ -12,6 +12,7 @@ mod join;
 mod line_buffer;
 mod lines;
 mod message;
+mod numbered_line;
 mod piece_text;
 mod serve;
 mod write_all;

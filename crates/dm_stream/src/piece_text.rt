@@ -1,12 +1,11 @@
 //! The line of a piece.
 //!
-//! It is put together in room that the caller keeps, so a request takes no memory for its lines. The line
-//! of a new kind of piece is an arm of `put_piece` here and of `unit_text` in `specs/PieceText`.
+//! It is put together in room that the caller keeps, so a request takes no memory for its lines. What
+//! stands for a new kind of piece is an arm of `put_piece` here and of `unit_text` in `specs/PieceText`.
 
 ghost use Rattle.std.specs.Prelude.{◌≡◌, ◌++◌, ◌+◌, ◌<◌, ◌≤◌, ◌∷◌, [], length, decimal, codes};
 ghost use Rattle.dm_map.specs.Units.{IsOnDisks, first_unit, piece_len};
-ghost use Rattle.dm_stream.specs.Holding.{piece_view};
-ghost use Rattle.dm_stream.specs.PieceText.{piece_text, place_text, unit_text};
+ghost use Rattle.dm_stream.specs.PieceText.{place_text, unit_text};
 
 use crate::fixed_text::{put, put_number};
 use arrayvec::ArrayVec;
@@ -16,20 +15,8 @@ use dm_stack::{DiskId, Stack};
 /// The line of a piece: two names of at most 255 bytes, and five numbers of at most 20 digits.
 pub(crate) type PieceText = ArrayVec<u8, 1024>;
 
-/// Puts the line of a piece on disks of the stack, under a request's number, in an empty text.
-pub(crate) fn put_line(text: &mut PieceText, stack: &Stack, number: u64, piece: &Piece)
-    requires empty { text.old.items ≡ [] }
-    requires lies { IsOnDisks stack.now piece.now }
-    ensures { text.new.items ≡ piece_text stack.now number (piece_view piece.now) }
-{
-    put_number(text, number);
-    put(text, b" ");
-    put_piece(text, stack, piece);
-    put(text, b"\n");
-}
-
 /// Puts what a piece is behind a text.
-fn put_piece(text: &mut PieceText, stack: &Stack, piece: &Piece)
+pub(crate) fn put_piece(text: &mut PieceText, stack: &Stack, piece: &Piece)
     requires room { length text.old.items ≤ 64 }
     requires lies { IsOnDisks stack.now piece.now }
     ensures text { text.new.items ≡ text.old.items ++ unit_text stack.now (first_unit piece.now) (piece_len piece.now) }

@@ -220,8 +220,8 @@ fn join_lines<'s, R: Input, W: Output>(
     let ending = serve_lines(stack, mapper, requests, &mut join);
     // The join ends here by its parts, so that what the output took is known behind it.
     let Join {
+        held: _held,
         writer: _writer,
-        ..
     } = join;
     ending
 }
