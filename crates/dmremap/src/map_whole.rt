@@ -6,9 +6,12 @@
 ghost use Rattle.std.specs.Prelude.{◌≡◌, ◌≢◌, ◌+◌, ◌<◌, ◌≤◌, ◌^◌, ◌++◌, ◌↔◌, [], List, ℕ, false, is_some, IsSome};
 ghost use Rattle.dm_table.specs.DeviceIo.{Delivery, delivery, since};
 ghost use Rattle.dm_table.specs.declared.place.Part.TheVariants.{Source, Disks};
+ghost use Rattle.dm_table.specs.declared.request.Op.TheVariants as Op;
 ghost use Rattle.dm_stack.specs.Description.{Description};
 ghost use Rattle.dm_stack.specs.declared.graph.TheConstants.{MOST_DEPTH};
 ghost use Rattle.dm_stack.specs.declared.limits.TheConstants.{MOST_CHUNK, MOST_DEVICES, MOST_DISKS, MOST_LENGTH, MOST_LINES, MOST_STRIPES};
+ghost use Rattle.dm_stack.specs.Soundness.{IsSound};
+ghost use Rattle.dm_map.specs.Mapping.{IsFreeOfLevels};
 ghost use Rattle.dm_map.specs.Units.{BlockUnit};
 ghost use Rattle.dm_stream.specs.declared.lines.TheConstants.{MOST_LINE_BYTES};
 ghost use Rattle.dm_stream.specs.declared.serve.TheConstants.{MOST_REQUESTS};
@@ -79,6 +82,9 @@ pub fn map_whole<S: Input, D: Input, Q: Input, W: Output, M: Output>(
     ensures one { (s d q : Delivery) (a b : Whole) → GiveWhole s d q a → GiveWhole s d q b → a ≡ b }
     // The pieces of an answer are the fewest that its units can be made of.
     ensures fewest { (units : List BlockUnit) → AreFewest units (fewest units) }
+
+    // How many levels of devices a sector is followed through cuts nothing off.
+    ensures levels { (description : Description) → IsSound description → IsFreeOfLevels description Op.Read × IsFreeOfLevels description Op.Write }
 
     // Save where the output failed or memory ran out, all is what the deliveries give.
     ensures whole { result ≢ 5 → result ≢ 6 → (message : List ℕ) × GiveWhole

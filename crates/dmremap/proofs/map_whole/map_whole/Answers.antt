@@ -4,6 +4,7 @@ use Rattle.dmremap.specs.Parts.{delivery_if}
 use Rattle.dmremap.specs.Fate.{fate_message}
 use Rattle.dmremap.proofs.FateLemmas.{whole_at, beginning_at_five, unasked_one, unasked_six}
 use Rattle.dmremap.proofs.OneWhole.{one_whole}
+use Rattle.dm_map.proofs.LevelLemmas.{reads_free, writes_free}
 use Rattle.dm_stream.proofs.FewestLemmas.{fewest_is}
 use Rattle.dmremap.proofs.map_whole.map_whole.Goals as goal
 
@@ -34,3 +35,6 @@ returns-clause-one g c = one_whole
 
 pub returns-clause-fewest : goal.returns-clause-fewest
 returns-clause-fewest g c = fewest_is
+
+pub returns-clause-levels : goal.returns-clause-levels
+returns-clause-levels g c = λ description sound. (reads_free description sound, writes_free description sound)
