@@ -64,7 +64,7 @@ pub(crate) enum Fate {
 /// its first fault. No memory is taken once the load is done.
 ///
 /// Cost: near-linear in the source and the disk list; then in the requests, and for each request
-/// in its sectors times the lines of the devices that they go through.
+/// in its stretches times the lines of the devices that they go through.
 pub fn map_whole<S: Input, D: Input, Q: Input, W: Output, M: Output>(
     alloc: Global,
     format: Format,
