@@ -1,3 +1,4 @@
+pub mod DeviceNames
 pub mod FewestLemmas
 pub mod Growth
 pub mod Held

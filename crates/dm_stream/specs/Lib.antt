@@ -2,6 +2,7 @@ pub mod Found
 pub mod Holding
 pub mod Join
 pub mod JoinLaws
+pub mod LastDevice
 pub mod Lines
 pub mod Messages
 pub mod NumberedLine

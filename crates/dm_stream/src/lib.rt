@@ -9,6 +9,7 @@ mod ending;
 mod fixed_text;
 mod held_piece;
 mod join;
+mod last_device;
 mod line_buffer;
 mod lines;
 mod message;

@@ -16,6 +16,7 @@ ghost use Rattle.dm_stream.specs.WriteAll.{IsBeginning};
 
 use crate::ending::{Ending, RequestWord};
 use crate::join::Join;
+use crate::last_device::LastDevice;
 use crate::lines::{Lines, Next};
 use crate::message::tell_ending;
 use dm_map::{MapFault, Mapper};
@@ -70,24 +71,25 @@ fn join_request<W: Output>(
 }
 
 /// Writes the answer to a request, if there is a device of its name.
-fn serve_request<'s, W: Output>(
-    stack: &'s Stack,
-    mapper: &mut Mapper<'s>,
+fn serve_request<W: Output>(
+    devices: &mut LastDevice<'_>,
+    mapper: &mut Mapper<'_>,
     request: &Request<'_>,
     join: &mut Join<'_, W>,
 ) -> Result<(), Ending>
-    requires stack { mapper.old.stack ≡ stack.now }
+    requires stack { mapper.old.stack ≡ devices.old }
     requires going { mapper.old.stopped ≡ false }
-    requires of_stack { join.old.held.stack ≡ stack.now }
+    requires of_stack { join.old.held.stack ≡ devices.old }
     requires nothing { join.old.held.piece ≡ None }
+    ensures devices { devices.new ≡ devices.old }
     ensures stack { mapper.new.stack ≡ mapper.old.stack }
     ensures going { (IsErrOf result Ending.WriteFault → ⊥) → mapper.new.stopped ≡ false }
-    ensures of_stack { join.new.held.stack ≡ stack.now }
+    ensures of_stack { join.new.held.stack ≡ devices.old }
     ensures nothing { join.new.held.piece ≡ None }
     ensures same_reference { join.new.writer.ghost_name ≡ join.old.writer.ghost_name }
     ensures appends { W.written join.new.writer.now
         ≡ W.written join.old.writer.now ++ since (W.written join.old.writer.now) (W.written join.new.writer.now) }
-    ensures served { IsLineServed (of_device stack.now request.now.number (device_of stack.now request.now.device.now) (values_of request.now))
+    ensures served { IsLineServed (of_device devices.old request.now.number (device_of devices.old request.now.device.now) (values_of request.now))
         (since (W.written join.old.writer.now) (W.written join.new.writer.now)) result }
     ensures write_fault { W.faults join.old.writer.now < W.faults join.new.writer.now ↔ IsErrOf result Ending.WriteFault }
     ensures no_fault { OnOk result (W.faults join.new.writer.now ≡ W.faults join.old.writer.now) }
@@ -96,7 +98,7 @@ fn serve_request<'s, W: Output>(
     ensures no_read_fault { IsErrOf result Ending.ReadFault → ⊥ }
     ensures flushes { W.flushes join.new.writer.now ≡ W.flushes join.old.writer.now }
 {
-    let Some(device) = stack.device(request.device) else {
+    let Some(device) = devices.find(request.device) else {
         return Err(Ending::BadRequest(request.number, RequestWord::Unknown));
     };
     match join_request(mapper, request, device, join) {
@@ -106,25 +108,26 @@ fn serve_request<'s, W: Output>(
 }
 
 /// Writes the answer to a line, or says why the run ends with it.
-fn serve_line<'s, W: Output>(
-    stack: &'s Stack,
-    mapper: &mut Mapper<'s>,
+fn serve_line<W: Output>(
+    devices: &mut LastDevice<'_>,
+    mapper: &mut Mapper<'_>,
     line: &[u8],
     number: u64,
     join: &mut Join<'_, W>,
 ) -> Result<(), Ending>
-    requires stack { mapper.old.stack ≡ stack.now }
+    requires stack { mapper.old.stack ≡ devices.old }
     requires going { mapper.old.stopped ≡ false }
-    requires of_stack { join.old.held.stack ≡ stack.now }
+    requires of_stack { join.old.held.stack ≡ devices.old }
     requires nothing { join.old.held.piece ≡ None }
+    ensures devices { devices.new ≡ devices.old }
     ensures stack { mapper.new.stack ≡ mapper.old.stack }
     ensures going { (IsErrOf result Ending.WriteFault → ⊥) → mapper.new.stopped ≡ false }
-    ensures of_stack { join.new.held.stack ≡ stack.now }
+    ensures of_stack { join.new.held.stack ≡ devices.old }
     ensures nothing { join.new.held.piece ≡ None }
     ensures same_reference { join.new.writer.ghost_name ≡ join.old.writer.ghost_name }
     ensures appends { W.written join.new.writer.now
         ≡ W.written join.old.writer.now ++ since (W.written join.old.writer.now) (W.written join.new.writer.now) }
-    ensures served { IsLineServed (line_outcome stack.now number line.now)
+    ensures served { IsLineServed (line_outcome devices.old number line.now)
         (since (W.written join.old.writer.now) (W.written join.new.writer.now)) result }
     ensures few { OnOk result (number ≤ MOST_REQUESTS) }
     ensures write_fault { W.faults join.old.writer.now < W.faults join.new.writer.now ↔ IsErrOf result Ending.WriteFault }
@@ -138,7 +141,7 @@ fn serve_line<'s, W: Output>(
         return Err(Ending::BadRequest(number, RequestWord::Many));
     }
     match parse_request(line, number) {
-        Ok(request) => serve_request(stack, mapper, &request, join),
+        Ok(request) => serve_request(devices, mapper, &request, join),
         Err(fault) => Err(Ending::BadRequest(number, word_of(fault))),
     }
 }
@@ -172,13 +175,14 @@ fn serve_lines<'s, R: Input, W: Output>(
     ensures fails_once { W.faults join.new.writer.now ≤ W.faults join.old.writer.now + 1 }
     ensures flushes { W.flushes join.new.writer.now ≡ W.flushes join.old.writer.now }
 {
+    let mut devices = LastDevice::new(stack);
     let mut lines = Lines::new();
     let mut number = 0;
     'lines: loop {
         number += 1;
         match lines.next(requests) {
             Next::Line(line) => {
-                if let Err(ending) = serve_line(stack, mapper, line, number, join) {
+                if let Err(ending) = serve_line(&mut devices, mapper, line, number, join) {
                     return ending;
                 }
             }

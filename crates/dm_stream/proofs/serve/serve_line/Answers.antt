@@ -8,7 +8,7 @@ use Rattle.dm_stream.proofs.serve.serve_line.Goals as goal
 
 pub returns-in-Ok-clause-served : goal.returns-in-Ok-clause-served
 returns-in-Ok-clause-served g c =
-    let stack = c.args.stack.now in
+    let stack = c.args.devices.now in
     let line = c.args.line.now in
     let request = c.in-Ok.request in
     let values = values_of request in

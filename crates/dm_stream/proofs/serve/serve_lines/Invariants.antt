@@ -10,6 +10,7 @@ invariant-lines g l =
     let handed = g.R.Input.handed in
     let written = g.W.Output.written in
     record {
+      devices : l.devices ≡ l.fn.stack;
       stack : l.mapper.stack ≡ l.fn.stack;
       of_stack : l.join.held.stack ≡ l.fn.stack;
       nothing : l.join.held.piece ≡ None;
