@@ -150,7 +150,9 @@ impl Stack {
 
     /// The greatest depth of a device, 0 without devices.
     pub fn depth(&self) -> u32
-        ensures { result ≡ stack_depth self.now }
+        ensures depth { result ≡ stack_depth self.now }
+        // A value is sound by its type.
+        ensures sound { IsSound self.now }
     {
         self.depth
     }
