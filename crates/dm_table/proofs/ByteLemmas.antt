@@ -1,15 +1,19 @@
 -- What the tests of bytes say of whole texts.
-use Rattle.std.proofs.Common.{◌≡◌, ℕ, ◌<◌, Bool, true, false, eqb, nat_le, nat_lt, not, ◌&&◌, List, [], ◌∷◌, ◌++◌, length, All, refl, arith}
+use Rattle.std.proofs.Common.{◌≡◌, ◌≢◌, ℕ, suc, ◌+◌, ◌<◌, ◌≤◌, ◌⊎◌, inl, inr, Bool, true, false, cond, eqb, nat_le, nat_lt, not, ◌&&◌, List, [], ◌∷◌, ◌++◌, length, take, take_all, drop, All, refl, sym, ap, ◌∙◌, arith}
 use Rattle.std.specs.Char.{is_ascii_digit}
-use Rattle.std.specs.List.{list_all, AllByRecursion}
+use Rattle.std.specs.List.{list_all, AllByRecursion, prefix_len, join_with_byte}
 use Rattle.std.specs.Str.{IsAscii}
-use Rattle.std.proofs.lemmas.Bool.{and_parts, and_from}
+use Rattle.std.proofs.lemmas.Bool.{and_parts, and_from, le-leb, leb-true, false_from_ne_true, eq-eqb, ne_eqb, cases_eq}
 use Rattle.std.proofs.lemmas.Bool.Decides.{nat_tests}
+use Rattle.std.proofs.Math.Seq.{take-append_seam, drop-append_seam}
+use Rattle.std.proofs.lemmas.List.Folds.{length-prefix_len, list_all_at}
+use Rattle.std.proofs.lemmas.List.Sums.{prefix_len-le-length, prefix_len_stops}
 use Rattle.std.proofs.lemmas.List.Elements.{All-from_recursion}
 use Rattle.std.proofs.lemmas.Str.Ascii.{IsAscii-from_all}
+use Rattle.dm_table.specs.Fields.{parts_at}
 use Rattle.dm_table.specs.LoadFault.{is_text}
 use Rattle.dm_table.specs.Name.{is_device_byte, is_device_name, is_disk_byte, is_disk_name, names_device}
-use Rattle.dm_table.proofs.FieldLemmas.{IsClearOf}
+use Rattle.dm_table.proofs.FieldLemmas.{IsClearOf, join-parts_at}
 
 -- Texts of which each byte passes a test
 
@@ -113,3 +117,74 @@ device_name-clear text h = All-list_all is_device_byte (λ b. eqb b 32 ≡ false
 
 pub IsAscii-device_name : (text : List ℕ) → is_device_name text ≡ true → IsAscii text
 IsAscii-device_name text h = IsAscii-from_all text (All-list_all is_device_byte (λ b. b < 128) device_ascii text (device_name_parts text h).bytes)
+
+-- The bytes before the first that fails a test
+
+prefix_step : (test : ℕ → Bool) (b : ℕ) (text : List ℕ) (t : Bool) (n : ℕ) → test b ≡ t → list_all test (take n text) ≡ true
+    → list_all test (take (cond t (1 + n) 0) (b ∷ text)) ≡ true
+prefix_step test b text true n e h = let more : 1 + n ≡ suc n = omega arith in rw more (and_from _ _ e h)
+prefix_step test b text false n e h = refl
+
+-- they pass it
+pub list_all-prefix : (test : ℕ → Bool) (text : List ℕ) → list_all test (take (prefix_len test text) text) ≡ true
+list_all-prefix test [] = refl
+list_all-prefix test (b ∷ text) = prefix_step test b text (test b) (prefix_len test text) refl (list_all-prefix test text)
+
+-- they are the name of a device where there are 1 to 127
+pub device_name_front : (text : List ℕ) (n : ℕ) → n ≡ prefix_len is_device_byte text → 1 ≤ n → n ≤ 127 → is_device_name (take n text) ≡ true
+device_name_front text n whole low high =
+    let long = length-prefix_len is_device_byte text in
+    let some : 1 ≤ length (take (prefix_len is_device_byte text) text) = omega arith in
+    let short : length (take (prefix_len is_device_byte text) text) ≤ 127 = omega arith in
+    rw whole (and_from _ _ (le-leb _ _ some) (and_from _ _ (le-leb _ _ short) (list_all-prefix is_device_byte text)))
+
+pub device_name_length : (text : List ℕ) → (length text ≡ 0) ⊎ (127 < length text) → is_device_name text ≡ false
+device_name_length text out = false_from_ne_true _ (λ named.
+    let a = and_parts (nat_le 1 (length text)) _ named in
+    let b = and_parts (nat_le (length text) 127) (list_all is_device_byte text) a.1 in
+    absurd (omega (arith, leb-true 1 (length text) a.0, leb-true (length text) 127 b.0, out)))
+
+-- a text of which they are not the whole is no name
+device_name_cut : (text : List ℕ) → prefix_len is_device_byte text ≢ length text → is_device_name text ≡ false
+device_name_cut text cut = false_from_ne_true _ (λ named.
+    let within = prefix_len-le-length is_device_byte text in
+    let below : prefix_len is_device_byte text < length text = omega arith in
+    let other = list_all_at is_device_byte text (prefix_len is_device_byte text) 0 below (prefix_len_stops is_device_byte text 0 below) in
+    let bytes = (device_name_parts text named).bytes in
+    cc)
+
+pub device_name_whole : (text : List ℕ) (len : ℕ) → len ≡ prefix_len is_device_byte text → is_device_name (take len text) ≡ true → eqb len (length text) ≡ is_device_name text
+device_name_whole text len front named =
+    elim (cases_eq len (length text)) [
+      | inl whole ↦ eq-eqb _ _ whole ∙ sym (ap is_device_name (sym (take_all len text (omega arith))) ∙ named)
+      | inr cut ↦ ne_eqb _ _ cut ∙ sym (device_name_cut text (λ whole. cut (front ∙ whole)))
+    ]
+
+-- nor is one of which they are none
+pub device_name_first : (text : List ℕ) → is_device_name (take (prefix_len is_device_byte text) text) ≡ false → is_device_name text ≡ false
+device_name_first text none =
+    elim (cases_eq (prefix_len is_device_byte text) (length text)) [
+      | inl whole ↦ ap is_device_name (sym (take_all (prefix_len is_device_byte text) text (omega arith))) ∙ none
+      | inr cut ↦ device_name_cut text cut
+    ]
+
+-- and where a space is behind them, they are the first field
+pub record StandsFirst (test : ℕ → Bool) (text field : List ℕ) : Type 0 where
+  pub front : take (prefix_len test text) text ≡ field
+  pub rest : List ℕ
+  pub behind : drop (prefix_len test text) text ≡ 32 ∷ rest
+
+prefix_at : (test : ℕ → Bool) (field rest : List ℕ) → list_all test field ≡ true → test 32 ≡ false → prefix_len test (field ++ 32 ∷ rest) ≡ length field
+prefix_at test [] rest all other = rw other refl
+prefix_at test (b ∷ field) rest all other = let a = and_parts (test b) (list_all test field) all in rw (a.0, prefix_at test field rest a.1 other) (omega arith)
+
+pub stands_first : (test : ℕ → Bool) (text field next : List ℕ) (more : List (List ℕ)) → parts_at 32 text ≡ field ∷ next ∷ more
+    → list_all test field ≡ true → test 32 ≡ false → StandsFirst test text field
+stands_first test text field next more cut all other =
+    let rest = join_with_byte 32 (next ∷ more) in
+    let whole : text ≡ field ++ 32 ∷ rest = sym (join-parts_at 32 text) ∙ ap (join_with_byte 32) cut in
+    record {
+      front = rw (whole, prefix_at test field rest all other) (take-append_seam field (32 ∷ rest));
+      rest = rest;
+      behind = rw (whole, prefix_at test field rest all other) (drop-append_seam field (32 ∷ rest));
+    }

@@ -1,31 +1,44 @@
 -- A text spells a number exactly where the number is read off it.
-use Rattle.std.proofs.Common.{◌≡◌, ℕ, ◌+◌, ◌-◌, ◌*◌, ◌^◌, ◌<◌, ◌≤◌, inl, inr, Bool, true, false, cond, eqb, nat_le, not, ◌||◌, List, Option, Some, None, length, get_or, take, refl, sym, ap, subst, ◌∙◌, arith, rules}
+use Rattle.std.proofs.Common.{◌≡◌, ◌≢◌, ℕ, ◌+◌, ◌-◌, ◌*◌, ◌^◌, ◌<◌, ◌≤◌, inl, inr, Bool, true, false, cond, eqb, nat_le, not, ◌||◌, List, Option, Some, None, length, get_or, take, take_all, refl, sym, ap, subst, ◌∙◌, arith, rules}
 use Rattle.std.specs.Prelude.{decimal, is_some, is_none, unwrap_or}
 use Rattle.std.specs.Char.{digit_value, is_ascii_digit}
-use Rattle.std.specs.List.{list_all}
+use Rattle.std.specs.Int.{IsInRange}
+use Rattle.std.specs.List.{list_all, prefix_len}
 use Rattle.std.specs.Str.Parse.{digits_value}
 use Rattle.std.proofs.lemmas.Bool.{and_parts, and_from, or_cases, or_left, or_right, not-true, not_from_false, eqb-true, eqb-false, eq-eqb, ne_eqb, leb-true, le-leb, cases_eq}
 use Rattle.std.proofs.lemmas.Fmt.{decimal-digits_value, digits_decimal, digits_value-decimal, decimal_nonempty, decimal_digit, length-decimal-le, first_decimal}
 use Rattle.std.proofs.lemmas.Int.Digits.{digits_value_more}
+use Rattle.std.proofs.lemmas.Bool.Decides.{nat_tests}
+use Rattle.std.proofs.lemmas.Grind.{common_steps}
+use Rattle.std.proofs.lemmas.List.Folds.{list_all_more, list_all_at}
+use Rattle.std.proofs.lemmas.List.Sums.{prefix_len-le-length, prefix_len_stops}
 use Rattle.std.proofs.lemmas.Str.{digit_value_digit}
-use Rattle.std.proofs.lemmas.Str.Parse.{IsNumeralModel, numerals_by_value, digits_value_short, digits_value-take-le, digit_at}
+use Rattle.std.proofs.lemmas.Str.Parse.{IsNumeralModel, numerals_by_value, digits_value_short}
 use Rattle.dm_table.specs.Number.{Spells, is_number, number_of}
 
 -- std's laws on numerals, for texts of which each byte is a digit
 pub numerals : IsNumeralModel (λ text. list_all is_ascii_digit text ≡ true) (digits_value 10)
 numerals = numerals_by_value _ (search rules)
 
+digit_range : (b : ℕ) → is_ascii_digit b ≡ true → IsInRange 48 57 b
+digit_range b h = grind (arith, nat_tests)
+
 -- the value with one more digit
-pub value_more : (text : List ℕ) (i : ℕ) → list_all is_ascii_digit text ≡ true → i < length text
+pub value_more : (text : List ℕ) (i : ℕ) → is_ascii_digit (get_or text i 0) ≡ true → i < length text
     → digits_value 10 (take i text) * 10 + (get_or text i 0 - 48) ≡ digits_value 10 (take (i + 1) text)
-value_more text i digits below =
-    let e : get_or text i 0 - 48 ≡ digit_value (get_or text i 0) = omega (arith, digit_value_digit (get_or text i 0) (digit_at text i (numerals.to text digits) below)) in
+value_more text i digit below =
+    let e : get_or text i 0 - 48 ≡ digit_value (get_or text i 0) = omega (arith, digit_value_digit (get_or text i 0) (digit_range _ digit)) in
     rw e (sym (digits_value_more 10 text i below))
 
+pub digits_more : (text : List ℕ) (i : ℕ) → list_all is_ascii_digit (take i text) ≡ true → is_ascii_digit (get_or text i 0) ≡ true → i < length text
+    → list_all is_ascii_digit (take (i + 1) text) ≡ true
+digits_more text i digits digit below = list_all_more is_ascii_digit text i 0 below ∙ and_from _ _ digits digit
+
 -- no front of at most 19 digits passes 10^19
-pub front_below : (text : List ℕ) (i : ℕ) → list_all is_ascii_digit text ≡ true → length text ≤ 19 → digits_value 10 (take i text) < 10 ^ 19
+pub front_below : (text : List ℕ) (i : ℕ) → list_all is_ascii_digit (take i text) ≡ true → i ≤ 19 → digits_value 10 (take i text) < 10 ^ 19
 front_below text i digits short =
-    omega (arith, digits_value-take-le 10 text i (omega arith), digits_value_short numerals text 19 digits short)
+    let few : length (take i text) ≤ 19 = grind (arith, common_steps) in
+    digits_value_short numerals (take i text) 19 digits few
 
 -- what the test of a number says
 record IsNumeral (text : List ℕ) : Type 0 where
@@ -100,3 +113,54 @@ Some-not_none (Some n) e = refl
 pub Some-is_some : (o : Option ℕ) → is_some o ≡ true → o ≡ Some (unwrap_or o 0)
 Some-is_some None e = absurd cc
 Some-is_some (Some n) e = refl
+
+-- What a text of other bytes, or of a false form, spells
+
+if_false : (b : Bool) (x : ℕ) → b ≡ false → cond b (Some x) None ≡ None
+if_false b x e = rw e refl
+
+pub number_of-empty : (text : List ℕ) → length text ≡ 0 → number_of text ≡ None
+unfolding number_of
+number_of-empty text none = if_false _ _ (grind (arith, nat_tests))
+
+pub number_of-long : (text : List ℕ) → 19 < length text → number_of text ≡ None
+unfolding number_of
+number_of-long text long = if_false _ _ (grind (arith, nat_tests))
+
+pub number_of-zero : (text : List ℕ) → get_or text 0 0 ≡ 48 → 1 < length text → number_of text ≡ None
+unfolding number_of
+number_of-zero text zero more = if_false _ _ (grind (arith, nat_tests))
+
+pub number_of-other : (text : List ℕ) (i : ℕ) → i < length text → is_ascii_digit (get_or text i 0) ≡ false → number_of text ≡ None
+unfolding number_of
+number_of-other text i below other = let bad = list_all_at is_ascii_digit text i 0 below other in if_false _ _ (grind (arith, nat_tests))
+
+led : (text : List ℕ) → 1 ≤ length text → (1 < length text → get_or text 0 0 ≢ 48) → (not (eqb (get_or text 0 0) 48) || eqb (length text) 1) ≡ true
+led text low lead =
+    elim (cases_eq (length text) 1) [
+      | inl alone ↦ or_right _ _ (eq-eqb _ _ alone)
+      | inr more ↦ or_left _ _ (not_from_false _ (ne_eqb (get_or text 0 0) 48 (lead (omega arith))))
+    ]
+
+-- 1 to 19 digits without a leading zero spell their value
+pub number_of-digits : (text : List ℕ) → 1 ≤ length text → length text ≤ 19 → (1 < length text → get_or text 0 0 ≢ 48) → list_all is_ascii_digit text ≡ true
+    → number_of text ≡ Some (digits_value 10 text)
+unfolding number_of
+number_of-digits text low high lead digits =
+    let test : is_number text ≡ true = and_from _ _ (le-leb _ _ low) (and_from _ _ (le-leb _ _ high) (and_from _ _ (led text low lead) digits)) in
+    rw test refl
+
+-- a text with another byte than digits spells none
+pub number_of-cut : (text : List ℕ) → prefix_len is_ascii_digit text ≢ length text → number_of text ≡ None
+number_of-cut text cut =
+    let within = prefix_len-le-length is_ascii_digit text in
+    let below : prefix_len is_ascii_digit text < length text = omega arith in
+    number_of-other text (prefix_len is_ascii_digit text) below (prefix_len_stops is_ascii_digit text 0 below)
+
+-- nor does one whose first digits spell none
+pub number_of-first : (text : List ℕ) → number_of (take (prefix_len is_ascii_digit text) text) ≡ None → number_of text ≡ None
+number_of-first text none =
+    elim (cases_eq (prefix_len is_ascii_digit text) (length text)) [
+      | inl whole ↦ sym (ap number_of (take_all (prefix_len is_ascii_digit text) text (omega arith))) ∙ none
+      | inr cut ↦ number_of-cut text cut
+    ]

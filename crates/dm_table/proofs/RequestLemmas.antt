@@ -1,48 +1,42 @@
 -- A line that says a request, and its fields: the one gives the other, so a line says one request at most.
-use Rattle.std.proofs.Common.{◌≡◌, ◌≢◌, ℕ, ◌^◌, ◌<◌, ◌≤◌, true, false, eqb, nat_le, List, [], ◌∷◌, ◌++◌, length, Some, None, refl, sym, ap, ◌∙◌, append_assoc, arith}
-use Rattle.std.specs.Prelude.{decimal, ◌==◌}
-use Rattle.std.specs.List.{join_with_byte}
-use Rattle.std.proofs.lemmas.Bool.{and_parts, and_from, le-leb}
+use Rattle.std.proofs.Common.{◌≡◌, ◌≢◌, ℕ, ◌^◌, ◌<◌, ◌≤◌, ◌⊎◌, inl, inr, Bool, true, false, cond, eqb, nat_le, ◌&&◌, ◌||◌, List, [], ◌∷◌, ◌++◌, length, get_or, take, Option, Some, None, refl, sym, ap, ◌∙◌, append_assoc, arith}
+use Rattle.std.specs.Prelude.{decimal, ◌==◌, is_some}
+use Rattle.std.specs.List.{join_with_byte, list_all}
+use Rattle.std.specs.Char.{is_ascii_digit}
+use Rattle.std.proofs.lemmas.Bool.{and_parts, and_from, le-leb, or_cases, and_right, eqb-true, leb-true, false_from_ne_true}
 use Rattle.std.proofs.lemmas.Bool.Decides.{nat_tests}
 use Rattle.std.proofs.lemmas.List.Splits.{length-slice_split}
 use Rattle.dm_table.specs.declared.request.TheConstants.{MOST_SECTORS}
 use Rattle.dm_table.specs.declared.request.Op.{Op}
 use Rattle.dm_table.specs.declared.request.Op.TheVariants.{Read, Write}
 use Rattle.dm_table.specs.declared.request.RequestFault.{RequestFault}
-use Rattle.dm_table.specs.Name.{is_device_name}
+use Rattle.dm_table.specs.declared.request.RequestFault.TheVariants.{Form, Number, Length}
+use Rattle.dm_table.specs.Name.{is_device_name, is_device_byte}
 use Rattle.dm_table.specs.Number.{number_of}
 use Rattle.dm_table.specs.Fields.{fields}
-use Rattle.dm_table.specs.RequestLine.{RequestValues, DescribesRequest, request_text, row_of, op_text, is_op, has_form, has_numbers, has_length, request_fault, op_in, request_values}
-use Rattle.dm_table.proofs.ByteLemmas.{All-list_all, device_name-clear, digits-clear}
+use Rattle.dm_table.specs.RequestLine.{RequestValues, AreNumbers, are_two, is_length, DescribesRequest, request_text, row_of, op_text, is_op, has_form, has_numbers, has_length, request_fault, op_in, request_values}
+use Rattle.dm_table.proofs.ByteLemmas.{StandsFirst, stands_first, device_name_parts, All-list_all, device_name-clear, digits-clear}
 use Rattle.dm_table.proofs.FieldLemmas.{IsClearOf, parts_at-first, parts_at-clear, join-parts_at}
 use Rattle.dm_table.proofs.NumberLemmas.{Spells-number_of, number_of-decimal, decimal_digits, decimal_some}
 
 -- From fields to the line
-
--- a text has a field, so behind four spaces there is a fifth
-pub fifth_field : (line op device start len after : List ℕ) (r1 r2 r3 : List ℕ)
-    → fields line ≡ op ∷ fields r1 → fields r1 ≡ device ∷ fields r2 → fields r2 ≡ start ∷ fields r3 → fields r3 ≡ len ∷ fields after
-    → length (fields line) ≢ 4
-fifth_field line op device start len after r1 r2 r3 e1 e2 e3 e4 four =
-    let more = length-slice_split (λ b. b == 32) after in
-    absurd (omega (arith, more, ap length e1, ap length e2, ap length e3, ap length e4))
 
 -- the fields, joined by spaces, are the text of the request
 row_text : (op : Op) (device start len : List ℕ) (s l : ℕ) → start ≡ decimal s → len ≡ decimal l
     → join_with_byte 32 (row_of op device start len) ≡ request_text (record { op = op; device = device; start = s; len = l })
 row_text op device start len s l is_start is_len = rw (is_start, is_len) (simp append_assoc)
 
--- a line of that form, with these numbers in their limits, says the request
-pub described : (line : List ℕ) (op : Op) (device start len : List ℕ) (s l : ℕ) → fields line ≡ row_of op device start len → has_form (fields line) ≡ true
-    → number_of start ≡ Some s → number_of len ≡ Some l → 1 ≤ l → l ≤ MOST_SECTORS
+-- a line of these fields, with these numbers in their limits, says the request
+pub described : (line : List ℕ) (op : Op) (device : List ℕ) (more : List (List ℕ)) (s l : ℕ) → fields line ≡ (op_text op ∷ []) ∷ device ∷ more → is_device_name device ≡ true
+    → AreNumbers more s l → 1 ≤ l → l ≤ MOST_SECTORS
     → DescribesRequest line (record { op = op; device = device; start = s; len = l })
-described line op device start len s l cut form start_read len_read least most =
-    let first = Spells-number_of start s start_read in
-    let last = Spells-number_of len l len_read in
-    let named = and_parts (is_device_name device) _ (and_parts (is_op (op_text op ∷ [])) _ (sym (ap has_form cut) ∙ form)).1 in
+described line op device more s l cut named read least most =
+    let first = Spells-number_of read.start s read.first in
+    let last = Spells-number_of read.len l read.last in
+    let row : fields line ≡ row_of op device read.start read.len = cut ∙ ap (λ (fs : List (List ℕ)). (op_text op ∷ []) ∷ device ∷ fs) read.two in
     record {
-      written = sym (join-parts_at 32 line) ∙ ap (join_with_byte 32) cut ∙ row_text op device start len s l first.digits last.digits;
-      device = named.0;
+      written = sym (join-parts_at 32 line) ∙ ap (join_with_byte 32) row ∙ row_text op device read.start read.len s l first.digits last.digits;
+      device = named;
       start = first.short;
       least = least;
       most = most;
@@ -143,3 +137,155 @@ values-said line values said =
     let whole : request_values line ≡ values_with values.op values.device values.start values.len =
     rw (fields_are line values said, number_of-decimal values.start said.start, number_of-decimal values.len small, op_is values.op) refl in
     sym whole
+
+-- The fault of a line, from what was read of it
+
+abbrev row_fault : List (List ℕ) → Option RequestFault
+row_fault row = cond (has_form row) (cond (has_numbers row) (cond (has_length row) None (Some Length)) (Some Number)) (Some Form)
+
+both : (a b : Option ℕ) → ((m n : ℕ) → a ≡ Some m → b ≡ Some n → ⊥) → (is_some a && is_some b) ≡ false
+both None b none = refl
+both (Some m) None none = refl
+both (Some m) (Some n) none = absurd (none m n refl refl)
+
+unread : (start len : List ℕ) → ((m n : ℕ) → AreNumbers (start ∷ len ∷ []) m n → ⊥) → (is_some (number_of start) && is_some (number_of len)) ≡ false
+unread start len none = both (number_of start) (number_of len) (λ m n first last. none m n (record { start = start; len = len; two = refl; first = first; last = last }))
+
+form_is : (op : Op) (device : List ℕ) (start len : List ℕ) → is_device_name device ≡ true → has_form (row_of op device start len) ≡ are_two (start ∷ len ∷ [])
+form_is op device start len named = rw (op_passes op, named) refl
+
+fault_of_two : (a b c : Bool) → b ≡ false → cond a (cond b (cond c None (Some Length)) (Some Number)) (Some Form) ≡ Some (cond a Number Form)
+fault_of_two true b c none = rw none refl
+fault_of_two false b c none = refl
+
+row_fault-numbers : (op : Op) (device : List ℕ) (more : List (List ℕ)) → is_device_name device ≡ true → ((m n : ℕ) → AreNumbers more m n → ⊥)
+    → row_fault ((op_text op ∷ []) ∷ device ∷ more) ≡ Some (cond (are_two more) Number Form)
+row_fault-numbers op device [] named none = refl
+row_fault-numbers op device (start ∷ []) named none = refl
+row_fault-numbers op device (start ∷ len ∷ []) named none =
+    rw (form_is op device start len named) (fault_of_two (are_two (start ∷ len ∷ [])) _ _ (unread start len none))
+row_fault-numbers op device (start ∷ len ∷ next ∷ more) named none = refl
+
+-- with them, but without two numbers
+pub fault-numbers : (line : List ℕ) (op : Op) (device : List ℕ) (more : List (List ℕ)) → fields line ≡ (op_text op ∷ []) ∷ device ∷ more → is_device_name device ≡ true
+    → ((m n : ℕ) → AreNumbers more m n → ⊥) → request_fault line ≡ Some (cond (are_two more) Number Form)
+fault-numbers line op device more cut named none = ap row_fault cut ∙ row_fault-numbers op device more named none
+
+some_field : (text : List ℕ) (n : ℕ) → number_of text ≡ Some n → nat_le 1 (length text) ≡ true
+some_field text n read =
+    let spells = Spells-number_of text n read in
+    rw spells.digits (le-leb _ _ (decimal_some n spells.short))
+
+pub no_length : (len : ℕ) → (len ≡ 0) ⊎ (MOST_SECTORS < len) → is_length len ≡ false
+no_length len out = false_from_ne_true _ (λ within.
+    let a = and_parts (nat_le 1 len) (nat_le len MOST_SECTORS) within in
+    absurd (omega (arith, leb-true 1 len a.0, leb-true len MOST_SECTORS a.1, out)))
+
+-- with all of them, but a false length
+pub fault-length : (line : List ℕ) (op : Op) (device : List ℕ) (more : List (List ℕ)) (s l : ℕ) → fields line ≡ (op_text op ∷ []) ∷ device ∷ more → is_device_name device ≡ true
+    → AreNumbers more s l → is_length l ≡ false → request_fault line ≡ Some Length
+fault-length line op device more s l cut named read out =
+    let row : fields line ≡ row_of op device read.start read.len = cut ∙ ap (λ (fs : List (List ℕ)). (op_text op ∷ []) ∷ device ∷ fs) read.two in
+    let form : has_form (fields line) ≡ true = rw row (and_from _ _ (op_passes op) (and_from _ _ named (and_from _ _ (some_field read.start s read.first) (some_field read.len l read.last)))) in
+    let numbers : has_numbers (fields line) ≡ true = rw (row, read.first, read.last) refl in
+    let length : has_length (fields line) ≡ false = rw (row, read.last) out in
+    rw (form, numbers, length) refl
+
+-- A line of that form begins with an operation and its space
+
+letter_of : (b : ℕ) → (eqb b 82 || eqb b 87) ≡ true → (op : Op) × (b ≡ op_text op)
+letter_of b h = elim (or_cases _ _ h) [
+  | inl read ↦ (Read, eqb-true _ _ read)
+  | inr write ↦ (Write, eqb-true _ _ write)
+]
+
+row_op : (row : List (List ℕ)) → has_form row ≡ true → (op : Op) × ((rest : List ℕ) × (join_with_byte 32 row ≡ op_text op ∷ 32 ∷ rest))
+row_op ((b ∷ []) ∷ device ∷ start ∷ len ∷ []) form =
+    let letter = letter_of b (and_parts (is_op (b ∷ [])) _ form).0 in
+    let rest = join_with_byte 32 (device ∷ start ∷ len ∷ []) in
+    (letter.0, (rest, ap (λ (b : ℕ). b ∷ 32 ∷ rest) letter.1))
+row_op [] form = absurd cc
+row_op (op ∷ []) form = absurd cc
+row_op (op ∷ device ∷ []) form = absurd cc
+row_op (op ∷ device ∷ start ∷ []) form = absurd cc
+row_op ([] ∷ device ∷ start ∷ len ∷ []) form = absurd cc
+row_op ((b ∷ c ∷ op) ∷ device ∷ start ∷ len ∷ []) form = absurd cc
+row_op (op ∷ device ∷ start ∷ len ∷ next ∷ more) form = absurd cc
+
+-- so a line that does not has not that form
+pub no_op : (line : List ℕ) → ((op : Op) (rest : List ℕ) → line ≢ op_text op ∷ 32 ∷ rest) → has_form (fields line) ≡ false
+no_op line none = false_from_ne_true _ (λ form.
+    let found = row_op (fields line) form in
+    none found.0 found.1.0 (sym (join-parts_at 32 line) ∙ found.1.1))
+
+unnamed_row : (op : List ℕ) (more : List (List ℕ)) → ((name next : List ℕ) (rest : List (List ℕ)) → more ≡ name ∷ next ∷ rest → is_device_name name ≢ true)
+    → has_form (op ∷ more) ≡ false
+unnamed_row op [] none = refl
+unnamed_row op (name ∷ []) none = refl
+unnamed_row op (name ∷ start ∷ []) none = refl
+unnamed_row op (name ∷ start ∷ len ∷ []) none = false_from_ne_true _ (λ form.
+    none name start (len ∷ []) refl (and_parts (is_device_name name) _ (and_parts (is_op op) _ form).1).0)
+unnamed_row op (name ∷ start ∷ len ∷ next ∷ more) none = refl
+
+op_fields : (op : Op) (rest : List ℕ) → fields (op_text op ∷ 32 ∷ rest) ≡ (op_text op ∷ []) ∷ fields rest
+op_fields Read rest = refl
+op_fields Write rest = refl
+
+-- the letter and its space are the first field
+pub op_first : (line rest : List ℕ) (op : Op) → 1 ≤ length line → get_or line 0 0 ≡ op_text op → line ≡ take 1 line ++ 32 ∷ rest
+    → fields line ≡ (op_text op ∷ []) ∷ fields rest
+op_first [] rest op some letter cut = absurd (omega arith)
+op_first (b ∷ line) rest op some letter cut = ap fields (cut ∙ ap (λ (b : ℕ). b ∷ 32 ∷ rest) letter) ∙ op_fields op rest
+
+-- without a device in its second field a line has not that form
+pub unnamed : (line op : List ℕ) (more : List (List ℕ)) → fields line ≡ op ∷ more
+    → ((name next : List ℕ) (rest : List (List ℕ)) → more ≡ name ∷ next ∷ rest → is_device_name name ≢ true) → has_form (fields line) ≡ false
+unnamed line op more cut none = ap has_form cut ∙ unnamed_row op more none
+
+-- A number, and a name, that a space ends
+
+number_digits : (text : List ℕ) (n : ℕ) → number_of text ≡ Some n → list_all is_ascii_digit text ≡ true
+number_digits text n read =
+    let spells = Spells-number_of text n read in
+    rw spells.digits (decimal_digits n spells.short)
+
+pub number_first : (text field rest : List ℕ) (n : ℕ) → text ≡ field ++ 32 ∷ rest → number_of field ≡ Some n → fields text ≡ field ∷ fields rest
+number_first text field rest n cut read = ap fields cut ∙ parts_at-first 32 field rest (digits-clear field (number_digits field n read))
+
+pub number_whole : (text : List ℕ) (n : ℕ) → number_of text ≡ Some n → fields text ≡ text ∷ []
+number_whole text n read = parts_at-clear 32 text (digits-clear text (number_digits text n read))
+
+pub number_stands : (text field next : List ℕ) (more : List (List ℕ)) (n : ℕ) → fields text ≡ field ∷ next ∷ more → number_of field ≡ Some n
+    → StandsFirst is_ascii_digit text field
+number_stands text field next more n cut read = stands_first is_ascii_digit text field next more cut (number_digits field n read) refl
+
+pub name_stands : (text field next : List ℕ) (more : List (List ℕ)) → fields text ≡ field ∷ next ∷ more → is_device_name field ≡ true → StandsFirst is_device_byte text field
+name_stands text field next more cut named = stands_first is_device_byte text field next more cut (device_name_parts field named).bytes refl
+
+-- Two fields that are not empty
+
+no_first : (start : List ℕ) (more : List (List ℕ)) → length start ≡ 0 → are_two (start ∷ more) ≡ false
+no_first start [] none = refl
+no_first start (len ∷ []) none = rw none refl
+no_first start (len ∷ next ∷ more) none = refl
+
+no_last : (start rest : List ℕ) → length rest ≡ 0 → are_two (start ∷ fields rest) ≡ false
+no_last start [] none = and_right _ _ refl
+no_last start (b ∷ rest) none = absurd (omega arith)
+
+three : (start len : List ℕ) (more : List (List ℕ)) → 1 ≤ length more → are_two (start ∷ len ∷ more) ≡ false
+three start len [] some = absurd (omega arith)
+three start len (next ∷ more) some = refl
+
+pub two_first : (text start rest : List ℕ) → fields text ≡ start ∷ fields rest → length start ≡ 0 → are_two (fields text) ≡ false
+two_first text start rest cut none = ap are_two cut ∙ no_first start (fields rest) none
+
+pub two_last : (text start rest : List ℕ) → fields text ≡ start ∷ fields rest → length rest ≡ 0 → are_two (fields text) ≡ false
+two_last text start rest cut none = ap are_two cut ∙ no_last start rest none
+
+pub two_more : (text start len rest after : List ℕ) → fields text ≡ start ∷ fields rest → fields rest ≡ len ∷ fields after → are_two (fields text) ≡ false
+two_more text start len rest after cut again =
+    rw (cut, again) (three start len (fields after) (omega (arith, length-slice_split (λ b. b == 32) after)))
+
+pub two : (text start rest : List ℕ) → fields text ≡ start ∷ fields rest → fields rest ≡ rest ∷ [] → 1 ≤ length start → 1 ≤ length rest → are_two (fields text) ≡ true
+two text start rest cut last some some' = rw (cut, last) (and_from _ _ (le-leb _ _ some) (le-leb _ _ some'))

@@ -75,6 +75,19 @@ request_fault line =
     if has_form (fields line) then (if has_numbers (fields line) then (if has_length (fields line) then None else Some Length) else Some Number)
     else Some Form
 
+-- two fields, and neither is empty
+abbrev pub are_two : List (List ℕ) → Bool
+are_two (start ∷ len ∷ []) = nat_le 1 (length start) && nat_le 1 (length len)
+are_two _ = false
+
+-- two fields, which are these numbers
+pub record AreNumbers (texts : List (List ℕ)) (m n : ℕ) : Type 0 where
+  pub start : List ℕ
+  pub len : List ℕ
+  pub two : texts ≡ start ∷ len ∷ []
+  pub first : number_of start ≡ Some m
+  pub last : number_of len ≡ Some n
+
 -- What a line without a fault asks for
 
 -- a letter's operation

@@ -3,8 +3,8 @@
 //! A value of this type is a name by its type, so nothing above checks it again. The rules are
 //! this project's profile of what dmsetup(8) takes; change them in `specs/Name.antt` first.
 
-ghost use Rattle.std.specs.Prelude.{◌≡◌, ◌↔◌, Some, Err, true, false, IsTrue, IfOk, OnOk};
-ghost use Rattle.std.specs.List.{list_all};
+ghost use Rattle.std.specs.Prelude.{◌≡◌, ◌↔◌, Some, Err, true, false, IsTrue, IfOk, OnOk, IfSome, IfNone, take};
+ghost use Rattle.std.specs.List.{prefix_len};
 ghost use Rattle.std.specs.Str.{IsAscii};
 ghost use Rattle.std.specs.String.{string_bytes};
 ghost use Rattle.dm_table.specs.Name.{is_device_byte, is_device_name};
@@ -109,29 +109,50 @@ impl fmt::Display for Name {
 pub(crate) fn is_device_name(bytes: &[u8]) -> bool
     ensures { result ≡ is_device_name bytes.now }
 {
-    let allowed = are_device_bytes(bytes);
-    1 <= bytes.len() && bytes.len() <= 127 && allowed
+    match leading_name(bytes) {
+        Some(len) => len == bytes.len(),
+        None => false,
+    }
 }
 
-fn are_device_bytes(bytes: &[u8]) -> bool
-    ensures { result ≡ list_all is_device_byte bytes.now }
+/// How many bytes stand before a text's first byte that no device name has, where these are the
+/// name of a device. One pass over them.
+pub(crate) fn leading_name(text: &[u8]) -> Option<usize>
+    ensures len { IfSome result (λ len. len ≡ prefix_len is_device_byte text.now) }
+    ensures name { IfSome result (λ len. IsTrue (is_device_name (take len text.now))) }
+    ensures other { IfNone result (is_device_name (take (prefix_len is_device_byte text.now) text.now) ≡ false) }
 {
-    bytes.iter().all(|byte| is_device_byte(*byte))
+    let len = leading_bytes(text);
+    if 1 <= len && len <= 127 {
+        Some(len)
+    } else {
+        None
+    }
+}
+
+/// How many bytes stand before a text's first byte that no device name has.
+fn leading_bytes(text: &[u8]) -> usize
+    ensures { result ≡ prefix_len is_device_byte text.now }
+{
+    let mut len = 0;
+    while len < text.len() && is_device_byte(text[len]) {
+        len += 1;
+    }
+    len
 }
 
 fn is_device_byte(byte: u8) -> bool
     ensures { result ≡ is_device_byte byte }
 {
-    matches!(byte, b'a'..=b'z' | b'A'..=b'Z' | b'0'..=b'9' | b'#' | b'+' | b'-' | b'.' | b':' | b'=' | b'@' | b'_')
+    byte.is_ascii_alphanumeric()
+        || matches!(byte, b'#' | b'+' | b'-' | b'.' | b':' | b'=' | b'@' | b'_')
 }
 
-/// These ASCII bytes as a text. One pass.
+/// These ASCII bytes as a text.
 pub(crate) fn ascii_str(bytes: &[u8]) -> &str
     requires { IsAscii bytes.now }
     ensures { result.now ≡ bytes.now }
 {
-    match str::from_utf8(bytes) {
-        Ok(text) => text,
-        Err(_) => unreachable!(),
-    }
+    // ASCII is UTF-8, which the proof shows, so that no pass over the bytes is needed.
+    unsafe { str::from_utf8_unchecked(bytes) }
 }

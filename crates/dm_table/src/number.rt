@@ -3,22 +3,46 @@
 //! Texts and requests share this one form, so that what is read is written back byte by byte.
 //! To take more digits, change `specs/Number.antt` and see that the value still fits a `u64`.
 
-ghost use Rattle.std.specs.Prelude.{◌≡◌, ◌≤◌, length, is_some, IsTrue};
-ghost use Rattle.std.specs.List.{list_all};
+ghost use Rattle.std.specs.Prelude.{◌≡◌, is_some, Some, None, IfSome, IfNone, IsTrue, take};
+ghost use Rattle.std.specs.List.{prefix_len};
 ghost use Rattle.std.specs.Char.{is_ascii_digit};
-ghost use Rattle.std.specs.Str.Parse.{digits_value};
-ghost use Rattle.dm_table.specs.Number.{is_number, number_of, number_in};
+ghost use Rattle.dm_table.specs.Number.{number_of, number_in};
 
 /// The number that a text spells, or `None` where it spells none. One pass.
-#[tactic(auto, unfolding(crate::specs::Number::number_of))]
 pub(crate) fn number(text: &[u8]) -> Option<u64>
     ensures { result ≡ number_of text.now }
 {
-    if is_number(text) {
-        Some(value(text))
+    let (number, len) = leading(text)?;
+    if len == text.len() {
+        Some(number)
     } else {
         None
     }
+}
+
+/// The number that the digits before a text's first other byte spell, and how many these digits
+/// are. `None` where they spell none. It is below 10^19 and so below 2^64.
+pub(crate) fn leading(text: &[u8]) -> Option<(u64, usize)>
+    ensures len { IfSome result (λ read. read.1 ≡ prefix_len is_ascii_digit text.now) }
+    ensures number { IfSome result (λ read. number_of (take read.1 text.now) ≡ Some read.0) }
+    ensures other { IfNone result (number_of (take (prefix_len is_ascii_digit text.now) text.now) ≡ None) }
+{
+    let mut value = 0u64;
+    let mut len = 0;
+    while len < text.len() && text[len].is_ascii_digit() {
+        if len == 19 {
+            return None;
+        }
+        value = value * 10 + u64::from(text[len] - b'0');
+        len += 1;
+    }
+    if len == 0 {
+        return None;
+    }
+    if text[0] == b'0' && len != 1 {
+        return None;
+    }
+    Some((value, len))
 }
 
 /// The number in a field that is one.
@@ -27,30 +51,4 @@ pub(crate) fn number_in(field: &[u8]) -> u64
     ensures { result ≡ number_in field.now }
 {
     number(field).unwrap()
-}
-
-fn is_number(text: &[u8]) -> bool
-    ensures { result ≡ is_number text.now }
-{
-    let digits = are_digits(text);
-    1 <= text.len() && text.len() <= 19 && (text[0] != b'0' || text.len() == 1) && digits
-}
-
-fn are_digits(text: &[u8]) -> bool
-    ensures { result ≡ list_all is_ascii_digit text.now }
-{
-    text.iter().all(|byte| byte.is_ascii_digit())
-}
-
-/// The value of at most 19 digits, which is below 10^19 and so below 2^64.
-fn value(digits: &[u8]) -> u64
-    requires digits { IsTrue (list_all is_ascii_digit digits.now) }
-    requires short { length digits.now ≤ 19 }
-    ensures { result ≡ digits_value 10 digits.now }
-{
-    let mut value = 0u64;
-    for digit in digits {
-        value = value * 10 + u64::from(*digit - b'0');
-    }
-    value
 }

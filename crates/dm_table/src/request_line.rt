@@ -3,89 +3,113 @@
 //! They come by the hundreds of millions, so a line is cut in place, with no memory taken. What a
 //! line says stands in `specs/RequestLine.antt`: change it there first.
 
-ghost use Rattle.std.specs.Prelude.{◌≡◌, ◌≢◌, [], ◌∷◌, length, Some, None, is_some, IfSome, IfNone, IsOkAnd, IfOk, IfErr, OnOk};
+ghost use Rattle.std.specs.Prelude.{◌≡◌, ◌≢◌, ◌≤◌, ℕ, List, [], ◌∷◌, ◌++◌, length, take, drop, Some, None, true, false, if◌then◌else◌, IfSome, IfNone, IsOkAnd, IfOk, IfErr, OnOk};
+ghost use Rattle.dm_table.specs.declared.request.Op.{Op};
+ghost use Rattle.dm_table.specs.declared.request.RequestFault.TheVariants.{Form, Number};
 ghost use Rattle.dm_table.specs.Name.{is_device_name};
+ghost use Rattle.dm_table.specs.Number.{number_of};
 ghost use Rattle.dm_table.specs.Fields.{fields};
-ghost use Rattle.dm_table.specs.RequestLine.{RequestValues, DescribesRequest, values_of, op_text, row_of, is_op, has_form, request_fault, request_values};
+ghost use Rattle.dm_table.specs.RequestLine.{RequestValues, DescribesRequest, AreNumbers, values_of, op_text, has_form, are_two, request_fault, request_values};
 
-use crate::name::{ascii_str, is_device_name};
+use crate::name::{ascii_str, leading_name};
 use crate::number;
 use crate::request::{MOST_SECTORS, Op, Request, RequestFault};
 use memchr::memchr;
 
-/// The first field of a text, and what follows its space, if it has one.
-fn first_field<'a>(text: &'a [u8]) -> Option<(&'a [u8], &'a [u8])>
-    ensures cut { IfSome result (λ cut. fields text.now ≡ cut.0.now ∷ fields cut.1.now) }
-    ensures whole { IfNone result (fields text.now ≡ text.now ∷ []) }
+/// What follows the space that stands behind the first `len` bytes of a text.
+fn behind_space<'a>(text: &'a [u8], len: usize) -> Option<&'a [u8]>
+    requires { len ≤ length text.now }
+    ensures cut { IfSome result (λ rest. text.now ≡ take len text.now ++ 32 ∷ rest.now) }
+    ensures other { IfNone result ((rest : List ℕ) → drop len text.now ≢ 32 ∷ rest) }
 {
-    let space = memchr(b' ', text)?;
-    Some((&text[..space], &text[space + 1..]))
-}
-
-/// The text of a device name, whose bytes are ASCII.
-fn device_text<'a>(name: &'a [u8]) -> Option<&'a str>
-    ensures named { is_some result ≡ is_device_name name.now }
-    ensures text { IfSome result (λ device. device.now ≡ name.now) }
-{
-    if is_device_name(name) {
-        Some(ascii_str(name))
-    } else {
-        None
-    }
-}
-
-/// The operation that a field names.
-fn op_of(field: &[u8]) -> Option<Op>
-    ensures named { is_some result ≡ is_op field.now }
-    ensures text { IfSome result (λ op. field.now ≡ op_text op ∷ []) }
-{
-    match field {
-        [b'R'] => Some(Op::Read),
-        [b'W'] => Some(Op::Write),
+    match &text[len..] {
+        [b' ', rest @ ..] => Some(rest),
         _ => None,
     }
 }
 
-/// The fields of a line that has four.
-fn four_fields<'a>(line: &'a [u8]) -> Option<(&'a [u8], &'a [u8], &'a [u8], &'a [u8])>
-    ensures cut { IfSome result (λ cut. fields line.now ≡ cut.0.now ∷ cut.1.now ∷ cut.2.now ∷ cut.3.now ∷ []) }
-    ensures other { IfNone result (length (fields line.now) ≢ 4) }
+/// The operation that a letter names.
+fn op_of(letter: u8) -> Option<Op>
+    ensures named { IfSome result (λ op. letter ≡ op_text op) }
+    ensures other { IfNone result ((op : Op) → letter ≢ op_text op) }
 {
-    let (op, rest) = first_field(line)?;
-    let (device, rest) = first_field(rest)?;
-    let (start, len) = first_field(rest)?;
-    match first_field(len) {
-        None => Some((op, device, start, len)),
-        Some(_) => None,
+    match letter {
+        b'R' => Some(Op::Read),
+        b'W' => Some(Op::Write),
+        _ => None,
     }
 }
 
-/// The fields of a line in the form of a request. Its last two are not read as numbers yet.
-#[derive(Drop)]
-struct RequestFields<'a> {
-    op: Op,
-    device: &'a str,
-    start: &'a [u8],
-    len: &'a [u8],
-}
-
-/// The fields of a line, if it has the form of a request.
-fn request_fields<'a>(line: &'a [u8]) -> Option<RequestFields<'a>>
-    ensures form { is_some result ≡ has_form (fields line.now) }
-    ensures cut { IfSome result (λ cut. fields line.now ≡ row_of cut.op cut.device.now cut.start.now cut.len.now) }
+/// The operation that a line begins with, and what follows its space.
+fn first_op<'a>(line: &'a [u8]) -> Option<(Op, &'a [u8])>
+    ensures cut { IfSome result (λ cut. fields line.now ≡ (op_text cut.0 ∷ []) ∷ fields cut.1.now) }
+    ensures other { IfNone result (has_form (fields line.now) ≡ false) }
 {
-    let (op, device, start, len) = four_fields(line)?;
-    let op = op_of(op)?;
-    let device = device_text(device)?;
-    if start.is_empty() || len.is_empty() {
+    let [letter, ..] = line else {
         return None;
+    };
+    let op = op_of(*letter)?;
+    let rest = behind_space(line, 1)?;
+    Some((op, rest))
+}
+
+/// The device name in the first field of a text, and what follows its space.
+fn first_name<'a>(text: &'a [u8]) -> Option<(&'a str, &'a [u8])>
+    ensures cut { IfSome result (λ cut. fields text.now ≡ cut.0.now ∷ fields cut.1.now) }
+    ensures named { IfSome result (λ cut. is_device_name cut.0.now ≡ true) }
+    ensures other { IfNone result ((name next : List ℕ) (more : List (List ℕ)) → fields text.now ≡ name ∷ next ∷ more → is_device_name name ≢ true) }
+{
+    let len = leading_name(text)?;
+    let rest = behind_space(text, len)?;
+    Some((ascii_str(&text[..len]), rest))
+}
+
+/// The number in the first field of a text, and what follows its space.
+fn first_number<'a>(text: &'a [u8]) -> Option<(u64, &'a [u8])>
+    ensures cut { IfSome result (λ cut. (field : List ℕ) × (fields text.now ≡ field ∷ fields cut.1.now) × (number_of field ≡ Some cut.0)) }
+    ensures other { IfNone result ((field next : List ℕ) (more : List (List ℕ)) (n : ℕ) → fields text.now ≡ field ∷ next ∷ more → number_of field ≢ Some n) }
+{
+    let (number, len) = number::leading(text)?;
+    let rest = behind_space(text, len)?;
+    Some((number, rest))
+}
+
+/// The operation and the device that a line begins with, and what follows the device's space.
+fn head<'a>(line: &'a [u8]) -> Option<(Op, &'a str, &'a [u8])>
+    ensures cut { IfSome result (λ cut. fields line.now ≡ (op_text cut.0 ∷ []) ∷ cut.1.now ∷ fields cut.2.now) }
+    ensures named { IfSome result (λ cut. is_device_name cut.1.now ≡ true) }
+    ensures other { IfNone result (has_form (fields line.now) ≡ false) }
+{
+    let (op, rest) = first_op(line)?;
+    let (device, rest) = first_name(rest)?;
+    Some((op, device, rest))
+}
+
+/// The two numbers that a text is.
+fn two_numbers(text: &[u8]) -> Option<(u64, u64)>
+    ensures cut { IfSome result (λ read. AreNumbers (fields text.now) read.0 read.1) }
+    ensures other { IfNone result ((m n : ℕ) → AreNumbers (fields text.now) m n → ⊥) }
+{
+    let (start, rest) = first_number(text)?;
+    let len = number::number(rest)?;
+    Some((start, len))
+}
+
+/// The fault of a line in which these bytes follow the device, and are not two numbers.
+fn number_fault(text: &[u8]) -> RequestFault
+    ensures { result ≡ (if are_two (fields text.now) then Number else Form) }
+{
+    let Some(end) = memchr(b' ', text) else {
+        return RequestFault::Form;
+    };
+    let len = &text[end + 1..];
+    if end == 0 || len.is_empty() {
+        return RequestFault::Form;
     }
-    Some(RequestFields {
-        op,
-        device,
-        start,
-        len,
-    })
+    match memchr(b' ', len) {
+        Some(_) => RequestFault::Form,
+        None => RequestFault::Number,
+    }
 }
 
 /// The request that a line of a stream says, which is line `number` of it, without its newline.
@@ -111,19 +135,19 @@ pub fn parse_request<'a>(line: &'a [u8], number: u64) -> Result<Request<'a>, Req
     // The figure of the limit.
     ensures limit { MOST_SECTORS ≡ 1048576 }
 {
-    let Some(cut) = request_fields(line) else {
+    let Some((op, device, rest)) = head(line) else {
         return Err(RequestFault::Form);
     };
-    let (Some(start), Some(len)) = (number::number(cut.start), number::number(cut.len)) else {
-        return Err(RequestFault::Number);
+    let Some((start, len)) = two_numbers(rest) else {
+        return Err(number_fault(rest));
     };
     if len == 0 || len > MOST_SECTORS {
         return Err(RequestFault::Length);
     }
     Ok(Request {
         number,
-        op: cut.op,
-        device: cut.device,
+        op,
+        device,
         start,
         len,
     })

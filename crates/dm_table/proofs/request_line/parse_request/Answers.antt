@@ -1,7 +1,9 @@
 -- A line with a fault says no request, and one without says that of its fields.
-use Rattle.std.proofs.Common.{sym, rules, arith}
-use Rattle.dm_table.specs.declared.request.RequestFault.TheVariants.{Form, Number, Length}
-use Rattle.dm_table.proofs.RequestLemmas.{described, unique, refused, values-said}
+use Rattle.std.proofs.Common.{◌≡◌, false, rules, arith, inl, inr}
+use Rattle.dm_table.specs.declared.request.RequestFault.TheVariants.{Form, Length}
+use Rattle.dm_table.specs.Fields.{fields}
+use Rattle.dm_table.specs.RequestLine.{is_length}
+use Rattle.dm_table.proofs.RequestLemmas.{described, unique, refused, values-said, sound, fault-numbers, fault-length, no_length}
 use Rattle.dm_table.proofs.request_line.parse_request.Goals as goal
 
 pub returns-in_default-clause-only : goal.returns-in_default-clause-only
@@ -10,23 +12,41 @@ returns-in_default-clause-only c = λ values said. refused c.args.line.now value
 pub returns-in_default-clause-unique : goal.returns-in_default-clause-unique
 returns-in_default-clause-unique c = unique c.args.line.now
 
-pub returns-in_default-2-clause-only : goal.returns-in_default-2-clause-only
-returns-in_default-2-clause-only c = λ values said. refused c.args.line.now values Number (search rules) said
+pub returns-in_default-two_numbers-clause-fault : goal.returns-in_default-two_numbers-clause-fault
+returns-in_default-two_numbers-clause-fault c =
+    let line = c.args.line.now in
+    rw c.number_fault.ensures (fault-numbers line c.in-Some.op c.in-Some.device.now (fields c.in-Some.rest.now) c.in-Some.ensures.cut c.in-Some.ensures.named c.in_default-two_numbers.ensures.other)
 
-pub returns-in_default-2-clause-unique : goal.returns-in_default-2-clause-unique
-returns-in_default-2-clause-unique c = unique c.args.line.now
+pub returns-in_default-two_numbers-clause-only : goal.returns-in_default-two_numbers-clause-only
+returns-in_default-two_numbers-clause-only c = λ values said. refused c.args.line.now values _ (returns-in_default-two_numbers-clause-fault c) said
+
+pub returns-in_default-two_numbers-clause-unique : goal.returns-in_default-two_numbers-clause-unique
+returns-in_default-two_numbers-clause-unique c = unique c.args.line.now
+
+pub returns-then-len-eq0-clause-fault : goal.returns-then-len-eq0-clause-fault
+returns-then-len-eq0-clause-fault c =
+    let line = c.args.line.now in
+    let read = c.in-Some-two_numbers in
+    let out : is_length read.len ≡ false = elim c.then-len-eq0.either [
+      | inl none ↦ no_length read.len (inl none)
+      | inr more ↦ no_length read.len (inr more.1)
+    ] in
+    fault-length line c.in-Some.op c.in-Some.device.now (fields c.in-Some.rest.now) read.start read.len c.in-Some.ensures.cut c.in-Some.ensures.named read.ensures.cut out
 
 pub returns-then-len-eq0-clause-only : goal.returns-then-len-eq0-clause-only
-returns-then-len-eq0-clause-only c = λ values said. refused c.args.line.now values Length (search rules) said
+returns-then-len-eq0-clause-only c = λ values said. refused c.args.line.now values Length (returns-then-len-eq0-clause-fault c) said
 
 pub returns-then-len-eq0-clause-unique : goal.returns-then-len-eq0-clause-unique
 returns-then-len-eq0-clause-unique c = unique c.args.line.now
 
 pub returns-clause-accepted : goal.returns-clause-accepted
 returns-clause-accepted c =
-    let cut = c.in-Some.cut in
-    described c.args.line.now cut.op cut.device.now cut.start.now cut.len.now c.in-Some-Some.start c.in-Some-Some.len c.in-Some.ensures.cut (sym c.in-Some.ensures.form)
-    (sym c.in-Some-Some.ensures) (sym c.in-Some-Some.ensures') (omega arith) (omega arith)
+    let read = c.in-Some-two_numbers in
+    described c.args.line.now c.in-Some.op c.in-Some.device.now (fields c.in-Some.rest.now) read.start read.len c.in-Some.ensures.cut c.in-Some.ensures.named
+    read.ensures.cut (omega arith) (omega arith)
+
+pub returns-clause-sound : goal.returns-clause-sound
+returns-clause-sound c = sound c.args.line.now _ (returns-clause-accepted c)
 
 pub returns-clause-values : goal.returns-clause-values
 returns-clause-values c = values-said c.args.line.now _ (returns-clause-accepted c)
