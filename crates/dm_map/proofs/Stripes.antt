@@ -1,24 +1,19 @@
--- Stripes: the column of a sector is one of the line's, and its sector there is one of the column's share.
-use Rattle.std.proofs.Common.{◌≡◌, ℕ, zero, suc, ◌+◌, ◌-◌, ◌*◌, ◌/◌, ◌%◌, ◌<◌, ◌≤◌, List, [], ◌∷◌, Option, Some, length, get_or, refl, ap, subst, ◌∙◌, arith}
+-- Stripes: the column of a sector is one of the line's, its sector there is one of the column's share, and the next chunk is on the next column.
+use Rattle.std.proofs.Common.{◌≡◌, ℕ, zero, suc, ◌+◌, ◌-◌, ◌*◌, ◌/◌, ◌%◌, ◌<◌, ◌≤◌, List, [], ◌∷◌, Option, Some, length, get_or, refl, sym, ap, subst, ◌∙◌, arith}
 use Rattle.std.specs.Prelude.{slice_get}
 use Rattle.std.specs.List.{AllByRecursion}
 use Rattle.std.proofs.lemmas.Nat.{div-add-mod', div-mul-add, mod-mul-add, row_fits}
 use Rattle.std.proofs.lemmas.Option.{slice_get_read}
-use Rattle.std.proofs.Math.Nat.{div-lt_iff_lt-mul}
+use Rattle.std.proofs.Math.Nat.{div-le_self, div-lt_iff_lt-mul, mul-le-mul_right}
 use Rattle.dm_stack.specs.declared.found.FoundColumn.{FoundColumn}
-use Rattle.dm_stack.specs.declared.found.FoundLine.{FoundLine}
 use Rattle.dm_stack.specs.declared.found.FoundTarget.TheVariants.{Striped}
 use Rattle.dm_stack.specs.Description.{Description, lower_len}
-use Rattle.dm_stack.specs.Below.{column_of, in_column, below_line, below_target, below_column, Lies, AreStripes}
-
--- the whole chunks that a number of them has
-chunk_end : (chunk count distance : ℕ) → 0 < chunk → distance < count * chunk → distance / chunk * chunk + chunk ≤ count * chunk
-chunk_end chunk count distance some inside =
-    let few : distance / chunk < count = (div-lt_iff_lt-mul some).1 inside in
-    row_fits (distance / chunk) chunk count chunk few (omega arith)
+use Rattle.dm_stack.specs.Below.{column_of, in_column, below_target, below_column, Lies}
+use Rattle.dm_map.specs.declared.stripe.Place.{Place}
+use Rattle.dm_map.specs.Walk.{AreInStripes, IsPlace}
 
 -- what is left of a chunk lies in its column's share of the line
-pub in_column_room : (chunk count column_len chunks len distance : ℕ) → 0 < chunk → 0 < count → len ≡ count * column_len → column_len ≡ chunks * chunk → distance < len
+in_column_room : (chunk count column_len chunks len distance : ℕ) → 0 < chunk → 0 < count → len ≡ count * column_len → column_len ≡ chunks * chunk → distance < len
     → in_column chunk count distance + (chunk - distance % chunk) ≤ column_len
 in_column_room chunk count column_len chunks len distance chunk_some count_some shares whole inside =
     let product : len ≡ chunks * count * chunk = rw (shares, whole) (omega arith) in
@@ -26,14 +21,6 @@ in_column_room chunk count column_len chunks len distance chunk_some count_some 
     let room = row_fits (distance / chunk / count) chunk chunks chunk few (omega arith) in
     let left : distance % chunk < chunk = omega arith in
     rw whole (omega (arith, room, left))
-
--- and in the line
-pub chunk_inside : (chunk count column_len chunks len distance i : ℕ) → 0 < chunk → len ≡ count * column_len → column_len ≡ chunks * chunk → distance < len → i < chunk - distance % chunk → distance + i < len
-chunk_inside chunk count column_len chunks len distance i chunk_some shares whole inside within =
-    let product : len ≡ chunks * count * chunk = rw (shares, whole) (omega arith) in
-    let end = chunk_end chunk (chunks * count) distance chunk_some (omega (arith, product, inside)) in
-    let place : distance / chunk * chunk + distance % chunk ≡ distance = div-add-mod' distance chunk in
-    omega (arith, product, end, place, within)
 
 -- the sectors of a chunk go on in one column
 record IsInChunk (chunk distance i : ℕ) : Type 0 where
@@ -57,37 +44,84 @@ at_place P (y ∷ ys) zero x each e = let same : y ≡ x = cc in subst (λ z. P 
 at_place P (y ∷ ys) (suc i) x each e = at_place P ys i x each.1 e
 
 -- the column of a sector, as one of the columns
-pub column_got : (chunk distance : ℕ) (columns : List FoundColumn) (column : FoundColumn) → 0 < length columns → column ≡ get_or columns (column_of chunk (length columns) distance) column → slice_get columns (column_of chunk (length columns) distance) ≡ Some column
+column_got : (chunk distance : ℕ) (columns : List FoundColumn) (column : FoundColumn) → 0 < length columns → column ≡ get_or columns (column_of chunk (length columns) distance) column → slice_get columns (column_of chunk (length columns) distance) ≡ Some column
 column_got chunk distance columns column some e =
     let place : column_of chunk (length columns) distance < length columns = omega arith in
     slice_get_read columns (length columns) _ column refl place e
 
--- what is left of a chunk in a column is of what the column names
-pub column_inside : (stack : Description) (len chunk distance n : ℕ) (columns : List FoundColumn) (column : FoundColumn) → AreStripes stack len chunk columns → distance < len → n ≤ chunk - distance % chunk
-    → column ≡ get_or columns (column_of chunk (length columns) distance) column → column.offset + in_column chunk (length columns) distance + n ≤ lower_len stack column.to
-column_inside stack len chunk distance n columns column stripes inside most e =
-    let got = column_got chunk distance columns column stripes.some e in
+-- so many sectors of what is left of a chunk are of what their column names
+pub column_inside : (stack : Description) (chunk distance len done n : ℕ) (columns : List FoundColumn) (column : FoundColumn) (place : Place) → AreInStripes stack chunk columns distance len → done < len
+    → IsPlace chunk (length columns) (distance + done) place → n ≤ chunk - place.past → column ≡ get_or columns place.column column → column.offset + (place.chunk_start + place.past) + n ≤ lower_len stack column.to
+column_inside stack chunk distance len done n columns column place lies some at most is =
+    let stripes = lies.stripes in
+    let got = column_got chunk (distance + done) columns column stripes.some (subst (λ (i : ℕ). column ≡ get_or columns i column) at.column is) in
     let share = at_place (λ c. c.offset + stripes.column_len ≤ lower_len stack c.to) columns _ column stripes.inside got in
-    let low = in_column_room chunk (length columns) stripes.column_len stripes.chunks len distance stripes.chunk_some stripes.some stripes.shares stripes.whole inside in
-    omega (arith, share, low, most)
+    let low = in_column_room chunk (length columns) stripes.column_len stripes.chunks lies.line_len (distance + done) stripes.chunk_some stripes.some stripes.shares stripes.whole (omega (arith, lies.inside, some)) in
+    omega (arith, share, low, most, at.chunk_start, at.past)
 
--- what lies below a sector of a striped line
-below_striped : (found : Option FoundLine) (line : FoundLine) (chunk sector : ℕ) (columns : List FoundColumn) (column : FoundColumn) → found ≡ Some line → line.target ≡ Striped chunk columns → 0 < length columns
-    → column ≡ get_or columns (column_of chunk (length columns) (sector - line.start)) column
-    → below_line found sector ≡ Lies column.to (column.offset + in_column chunk (length columns) (sector - line.start))
-below_striped found line chunk sector columns column is_found is_striped some e =
-    rw is_found (ap (λ target. below_target target (sector - line.start)) is_striped
-    ∙ ap (λ c. below_column c (in_column chunk (length columns) (sector - line.start))) (column_got chunk (sector - line.start) columns column some e))
+-- what lies below a sector of what is left of a chunk
+pub below_chunk : (chunk distance i : ℕ) (columns : List FoundColumn) (column : FoundColumn) (place : Place) → 0 < length columns → 0 < chunk → IsPlace chunk (length columns) distance place
+    → i < chunk - place.past → column ≡ get_or columns place.column column → below_target (Striped chunk columns) (distance + i) ≡ Lies column.to (column.offset + (place.chunk_start + place.past) + i)
+below_chunk chunk distance i columns column place some chunk_some at within is =
+    let left : i < chunk - distance % chunk = omega (arith, within, at.past) in
+    let same = in_chunk chunk distance i chunk_some left in
+    let there : column ≡ get_or columns (column_of chunk (length columns) (distance + i)) column = rw same.number (subst (λ (k : ℕ). column ≡ get_or columns k column) at.column is) in
+    let sum : in_column chunk (length columns) (distance + i) ≡ place.chunk_start + place.past + i = rw (same.number, same.place) (omega (arith, at.chunk_start, at.past)) in
+    ap (λ (c : Option FoundColumn). below_column c (in_column chunk (length columns) (distance + i))) (column_got chunk (distance + i) columns column some there)
+    ∙ ap (Lies column.to) (rw sum (omega arith))
 
--- and below a later sector of its chunk
-pub below_chunk : (found : Option FoundLine) (line : FoundLine) (chunk sector i : ℕ) (columns : List FoundColumn) (column : FoundColumn) → found ≡ Some line → line.target ≡ Striped chunk columns → 0 < length columns → 0 < chunk
-    → line.start ≤ sector → i < chunk - (sector - line.start) % chunk → column ≡ get_or columns (column_of chunk (length columns) (sector - line.start)) column
-    → below_line found (sector + i) ≡ Lies column.to (column.offset + in_column chunk (length columns) (sector - line.start) + i)
-below_chunk found line chunk sector i columns column is_found is_striped some chunk_some from within e =
-    let same = in_chunk chunk (sector - line.start) i chunk_some within in
-    let on : sector + i - line.start ≡ (sector - line.start) + i = omega (arith, from) in
-    let number : (sector + i - line.start) / chunk ≡ (sector - line.start) / chunk = ap (λ n. n / chunk) on ∙ same.number in
-    let place : (sector + i - line.start) % chunk ≡ (sector - line.start) % chunk + i = ap (λ n. n % chunk) on ∙ same.place in
-    let there : column ≡ get_or columns (column_of chunk (length columns) (sector + i - line.start)) column = rw number e in
-    let sum : in_column chunk (length columns) (sector + i - line.start) ≡ in_column chunk (length columns) (sector - line.start) + i = rw (number, place) (omega arith) in
-    below_striped found line chunk (sector + i) columns column is_found is_striped some there ∙ ap (Lies column.to) (rw sum (omega arith))
+-- The place of the next chunk
+
+-- the first sector behind a chunk
+record IsBehind (chunk distance : ℕ) : Type 0 where
+  number : (distance + (chunk - distance % chunk)) / chunk ≡ distance / chunk + 1
+  past : (distance + (chunk - distance % chunk)) % chunk ≡ 0
+
+behind : (chunk distance : ℕ) → 0 < chunk → IsBehind chunk distance
+behind chunk distance some =
+    let whole : distance / chunk * chunk + distance % chunk ≡ distance = div-add-mod' distance chunk in
+    let small : distance % chunk < chunk = omega arith in
+    let at : distance + (chunk - distance % chunk) ≡ (distance / chunk + 1) * chunk + 0 = omega (arith, whole, small) in
+    record {
+      number = ap (λ n. n / chunk) at ∙ div-mul-add (distance / chunk + 1) chunk 0 some;
+      past = ap (λ n. n % chunk) at ∙ mod-mul-add (distance / chunk + 1) chunk 0 some;
+    }
+
+-- on the next column
+pub place_within : (chunk count distance : ℕ) (place : Place) → 0 < chunk → IsPlace chunk count distance place → place.column + 1 < count
+    → IsPlace chunk count (distance + (chunk - place.past)) (record { column = place.column + 1; chunk_start = place.chunk_start; past = 0 })
+place_within chunk count distance place some at within =
+    let next = behind chunk distance some in
+    let whole : distance / chunk / count * count + distance / chunk % count ≡ distance / chunk = div-add-mod' (distance / chunk) count in
+    let on : distance / chunk + 1 ≡ distance / chunk / count * count + (distance / chunk % count + 1) = omega (arith, whole) in
+    let small : distance / chunk % count + 1 < count = omega (arith, within, at.column) in
+    let quotient : (distance / chunk + 1) / count ≡ distance / chunk / count = ap (λ n. n / count) on ∙ div-mul-add (distance / chunk / count) count _ small in
+    let rest : (distance / chunk + 1) % count ≡ distance / chunk % count + 1 = ap (λ n. n % count) on ∙ mod-mul-add (distance / chunk / count) count _ small in
+    rw at.past (record {
+      column = rw (next.number, rest) (ap (λ (n : ℕ). n + 1) at.column);
+      chunk_start = rw (next.number, quotient) at.chunk_start;
+      past = sym next.past;
+    })
+
+-- behind the last column
+pub place_behind : (chunk count distance : ℕ) (place : Place) → 0 < chunk → IsPlace chunk count distance place → place.column + 1 ≡ count
+    → IsPlace chunk count (distance + (chunk - place.past)) (record { column = 0; chunk_start = place.chunk_start + chunk; past = 0 })
+place_behind chunk count distance place some at last =
+    let next = behind chunk distance some in
+    let whole : distance / chunk / count * count + distance / chunk % count ≡ distance / chunk = div-add-mod' (distance / chunk) count in
+    let on : distance / chunk + 1 ≡ (distance / chunk / count + 1) * count + 0 = omega (arith, whole, last, at.column) in
+    let some_columns : 0 < count = omega (arith, last) in
+    let quotient : (distance / chunk + 1) / count ≡ distance / chunk / count + 1 = ap (λ n. n / count) on ∙ div-mul-add (distance / chunk / count + 1) count 0 some_columns in
+    let rest : (distance / chunk + 1) % count ≡ 0 = ap (λ n. n % count) on ∙ mod-mul-add (distance / chunk / count + 1) count 0 some_columns in
+    rw at.past (record {
+      column = rw (next.number, rest) refl;
+      chunk_start = rw (next.number, quotient) (omega (arith, at.chunk_start));
+      past = sym next.past;
+    })
+
+-- a place is no further on its column than the sector is in the line
+pub place_small : (chunk count distance : ℕ) (place : Place) → 0 < count → IsPlace chunk count distance place → place.chunk_start + place.past ≤ distance
+place_small chunk count distance place some at =
+    let whole : distance / chunk * chunk + distance % chunk ≡ distance = div-add-mod' distance chunk in
+    let rows : distance / chunk / count ≤ distance / chunk = div-le_self (distance / chunk) count in
+    omega (arith, whole, mul-le-mul_right chunk rows, at.chunk_start, at.past)

@@ -1,8 +1,7 @@
-pub mod Below
 pub mod KeptLaws
 pub mod Mapper
 pub mod Mapping
 pub mod PieceList
 pub mod Sink
-pub mod Stretch
 pub mod Units
+pub mod Walk

@@ -4,13 +4,13 @@
 //! a `Sink` in pieces.
 #![tactic(auto)]
 
-mod below;
 mod levels;
 mod mapper;
 mod piece;
 mod piece_list;
 mod sink;
-mod stretch;
+mod stripe;
+mod walk;
 
 pub use levels::levels_are_enough;
 pub use mapper::{MapFault, Mapper};

@@ -1,7 +1,7 @@
 //! The mapper: hands the units of requests to a sink.
 //!
 //! It finds lines through its looker alone and keeps no list, so a request takes no memory. What
-//! becomes of a sector is said in `specs/Mapping.antt`; how a range is cut, in `stretch`.
+//! becomes of a sector is said in `specs/Mapping.antt`; how a range is cut, in `walk`.
 
 ghost use Rattle.std.specs.Prelude.{◌≡◌, ℕ, ◌+◌, ◌^◌, ◌<◌, ◌≤◌, ◌∷◌, false, true, length, nat_lt, IfOk, OnOk, OnErr, []};
 ghost use Rattle.dm_stack.specs.Description.{Description, device_len};
@@ -10,14 +10,12 @@ ghost use Rattle.dm_stack.specs.declared.id.Lower.TheVariants.{Device};
 ghost use Rattle.dm_map.specs.Mapping.{request_units, units_from};
 ghost use Rattle.dm_map.specs.Mapper.{OnSinkFault, OnStopped};
 ghost use Rattle.dm_map.specs.Sink.{OfBeginning};
-ghost use Rattle.dm_map.specs.Stretch.{end_unit, range_units, stretch_len, IsEndOnDisk};
-ghost use Rattle.dm_map.specs.Units.{units_in, units_of, piece_len, diskless_len, IsOnDisks};
 
 use crate::piece::Piece;
 use crate::sink::Sink;
-use crate::stretch::{End, Stretch, first_stretch};
+use crate::walk::serve_range;
 use dm_stack::{DeviceId, Looker, Lower, MOST_DEPTH};
-use dm_table::{Op, Request};
+use dm_table::Request;
 use std::alloc::{AllocError, Global};
 use std::fmt;
 use std::marker::Model;
@@ -72,7 +70,8 @@ impl<'s> Mapper<'s> {
     ///
     /// The id is one of the mapper's stack, which is also the sink's, and the sink has room for the
     /// request. Each piece is a stretch of sectors whose path down is in one line, and one chunk, of
-    /// each device. Cost: a look-up of a line a stretch and level. No memory is taken.
+    /// each device. Cost: a look-up of a line a piece and level at most, and one alone for sectors in
+    /// a row that come to a line together. No memory is taken.
     ///
     /// # Errors
     ///
@@ -131,16 +130,14 @@ impl<'s> Mapper<'s> {
         self.serve_sectors(request, device, sink)
     }
 
-    /// Hands over the units of a request that lies inside its device, one piece a stretch.
+    /// Hands over the units of a request that lies inside its device, by one walk.
     fn serve_sectors<S: Sink>(
         &mut self,
         request: &Request<'_>,
         device: DeviceId,
         sink: &mut S,
     ) -> Result<(), S::Fault>
-        requires device { device < length self.old.stack.devices }
         requires inside { request.now.start + request.now.len ≤ device_len self.old.stack device }
-        requires small { device_len self.old.stack device ≤ 2 ^ 50 }
         requires stack { S.stack sink.old ≡ self.old.stack }
         requires room { request.now.len ≤ S.room sink.old }
         ensures same { self.new ≡ self.old }
@@ -149,34 +146,16 @@ impl<'s> Mapper<'s> {
         ensures left { OnErr result (OfBeginning S.left sink.old (units_from self.old.stack request.now.op device request.now.start request.now.len) sink.new) }
         ensures faults { S.faults sink.new ≡ S.faults sink.old + fault_of result }
     {
-        let mut served = 0;
-        while served < request.len {
-            let stretch = self.stretch(
-                request.op,
-                device,
-                request.start + served,
-                request.len - served,
-            );
-            let piece = piece_of(request.op, &stretch);
-            sink.piece(piece)?;
-            served += stretch.len;
-        }
-        Ok(())
-    }
-
-    /// The first stretch of at most so many sectors of a device.
-    fn stretch(&mut self, op: Op, device: DeviceId, sector: u64, most: u64) -> Stretch
-        requires some { 1 ≤ most }
-        requires inside { sector + most ≤ device_len self.old.stack device }
-        ensures units { range_units self.old.stack op MOST_DEPTH (Device device) sector result.len ≡ units_in (end_unit op result.end) result.len }
-        ensures len { result.len ≡ stretch_len self.old.stack op MOST_DEPTH (Device device) sector most }
-        ensures some { 1 ≤ result.len }
-        ensures most { result.len ≤ most }
-        ensures lies { IsEndOnDisk self.old.stack result.len result.end }
-        ensures same { self.new ≡ self.old }
-    {
         let lower = Lower::Device(device);
-        first_stretch(&mut self.looker, op, MOST_DEPTH, lower, sector, most)
+        serve_range(
+            &mut self.looker,
+            request.op,
+            MOST_DEPTH,
+            lower,
+            request.start,
+            request.len,
+            sink,
+        )
     }
 }
 
@@ -185,20 +164,4 @@ fn passes_end(request: &Request<'_>, end: u64) -> bool
     ensures { result ≡ nat_lt end (request.now.start + request.now.len) }
 {
     end < request.start || end - request.start < request.len
-}
-
-/// What is done at a stretch.
-fn piece_of(op: Op, stretch: &Stretch) -> Piece
-    ensures units { units_of result ≡ units_in (end_unit op stretch.now.end) stretch.now.len }
-    ensures len { piece_len result ≡ stretch.now.len }
-    ensures lies { (stack : Description) → IsEndOnDisk stack stretch.now.len stretch.now.end → IsOnDisks stack result }
-{
-    let len = stretch.len;
-    match (op, stretch.end) {
-        (Op::Read, End::OnDisk(disk, start)) => Piece::Read { disk, start, len },
-        (Op::Write, End::OnDisk(disk, start)) => Piece::Write { disk, start, len },
-        (Op::Read, End::InZeros) => Piece::Zero { len },
-        (Op::Write, End::InZeros) => Piece::Drop { len },
-        (_, End::InError) => Piece::Error { len },
-    }
 }

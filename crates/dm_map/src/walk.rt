@@ -1,0 +1,231 @@
+//! The walk down a stack: hands the units of sectors in a row to a sink.
+//!
+//! A range goes down as one step: it is cut where a line or a chunk of stripes ends, and nowhere
+//! else, and each line that it passes is looked up once. A new target is an arm of `serve_line`, with
+//! a loop of its own where it cuts, and an arm of `below_target`.
+
+ghost use Rattle.std.specs.Prelude.{◌≡◌, ◌+◌, ◌-◌, ◌<◌, ◌≤◌, ◌^◌, length, min, OnOk, OnErr};
+ghost use Rattle.dm_table.specs.DeviceIo.{fault_of};
+ghost use Rattle.dm_stack.specs.Below.{IsTargetSound};
+ghost use Rattle.dm_stack.specs.Description.{Description, device_len, lower_len};
+ghost use Rattle.dm_stack.specs.declared.found.FoundTarget.TheVariants.{Striped};
+ghost use Rattle.dm_stack.specs.declared.id.Lower.TheVariants.{Device};
+ghost use Rattle.dm_map.specs.Sink.{OfBeginning};
+ghost use Rattle.dm_map.specs.Units.{diskless_len, piece_len, units_in, units_of, IsOnDisk, IsOnDisks};
+ghost use Rattle.dm_map.specs.Walk.{disk_unit, zero_unit, is_failing, range_units, target_units, AreInStripes};
+
+use crate::piece::Piece;
+use crate::sink::Sink;
+use crate::stripe::{next_chunk, place_at};
+use dm_stack::{DeviceId, DiskId, FoundColumn, FoundLine, FoundTarget, Looker, Lower};
+use dm_table::Op;
+
+/// Hands over the units of sectors of a device or a disk, through at most so many levels of devices.
+///
+/// Each piece is a stretch of sectors whose path down is in one line, and one chunk, of each device.
+/// A sink that fails ends the walk. It is inlined, so that a part that lies on a disk, as most parts
+/// of stripes do, costs no call.
+#[cycle(walk)]
+#[inline(always)]
+pub(crate) fn serve_range<S: Sink>(
+    looker: &mut Looker<'_>,
+    op: Op,
+    levels: u32,
+    lower: Lower,
+    sector: u64,
+    len: u64,
+    sink: &mut S,
+) -> Result<(), S::Fault>
+    requires some { 1 ≤ len }
+    requires inside { sector + len ≤ lower_len looker.old.stack lower }
+    requires stack { S.stack sink.old ≡ looker.old.stack }
+    requires room { len ≤ S.room sink.old }
+    ensures took { OnOk result (S.took sink.old (range_units looker.old.stack op levels lower sector len) sink.new) }
+    ensures kept { OnOk result (S.stack sink.new ≡ S.stack sink.old) }
+    ensures room { OnOk result (S.room sink.old ≤ S.room sink.new + len) }
+    ensures left { OnErr result (OfBeginning S.left sink.old (range_units looker.old.stack op levels lower sector len) sink.new) }
+    ensures faults { S.faults sink.new ≡ S.faults sink.old + fault_of result }
+    ensures stack { looker.new.stack ≡ looker.old.stack }
+{
+    match lower {
+        Lower::Disk(disk) => sink.piece(disk_piece(op, disk, sector, len)),
+        Lower::Device(device) => serve_device(looker, op, levels, device, sector, len, sink),
+    }
+}
+
+/// Hands over the units of sectors of a device, line by line. A read-only device fails a write of
+/// all of them.
+#[cycle(walk)]
+fn serve_device<S: Sink>(
+    looker: &mut Looker<'_>,
+    op: Op,
+    levels: u32,
+    device: DeviceId,
+    sector: u64,
+    len: u64,
+    sink: &mut S,
+) -> Result<(), S::Fault>
+    requires some { 1 ≤ len }
+    requires inside { sector + len ≤ device_len looker.old.stack device }
+    requires stack { S.stack sink.old ≡ looker.old.stack }
+    requires room { len ≤ S.room sink.old }
+    ensures took { OnOk result (S.took sink.old (range_units looker.old.stack op levels (Device device) sector len) sink.new) }
+    ensures kept { OnOk result (S.stack sink.new ≡ S.stack sink.old) }
+    ensures room { OnOk result (S.room sink.old ≤ S.room sink.new + len) }
+    ensures left { OnErr result (OfBeginning S.left sink.old (range_units looker.old.stack op levels (Device device) sector len) sink.new) }
+    ensures faults { S.faults sink.new ≡ S.faults sink.old + fault_of result }
+    ensures stack { looker.new.stack ≡ looker.old.stack }
+{
+    if levels == 0 || is_failing(looker, op, device) {
+        return sink.piece(Piece::Error { len });
+    }
+    let mut at = sector;
+    let mut left = len;
+    while left > 0 {
+        let line = looker.look(device, at);
+        let distance = at - line.start;
+        let part = part_in(line, distance, left);
+        serve_line(looker, op, levels - 1, line, distance, part, sink)?;
+        at += part;
+        left -= part;
+    }
+    Ok(())
+}
+
+/// Hands over the units of sectors of a line at a distance from its start, through at most so many
+/// levels of devices below it.
+#[cycle(walk)]
+fn serve_line<S: Sink>(
+    looker: &mut Looker<'_>,
+    op: Op,
+    levels: u32,
+    line: &FoundLine,
+    distance: u64,
+    len: u64,
+    sink: &mut S,
+) -> Result<(), S::Fault>
+    requires some { 1 ≤ len }
+    requires inside { distance + len ≤ line.now.len }
+    requires small { line.now.len ≤ 2 ^ 50 }
+    requires sound { IsTargetSound looker.old.stack line.now.len line.now.target }
+    requires stack { S.stack sink.old ≡ looker.old.stack }
+    requires room { len ≤ S.room sink.old }
+    ensures took { OnOk result (S.took sink.old (target_units looker.old.stack op levels line.now.target distance len) sink.new) }
+    ensures kept { OnOk result (S.stack sink.new ≡ S.stack sink.old) }
+    ensures room { OnOk result (S.room sink.old ≤ S.room sink.new + len) }
+    ensures left { OnErr result (OfBeginning S.left sink.old (target_units looker.old.stack op levels line.now.target distance len) sink.new) }
+    ensures faults { S.faults sink.new ≡ S.faults sink.old + fault_of result }
+    ensures stack { looker.new.stack ≡ looker.old.stack }
+{
+    match &line.target {
+        FoundTarget::Linear { to, offset } => {
+            let sector = sector_at(looker, *to, *offset, distance);
+            serve_range(looker, op, levels, *to, sector, len, sink)
+        }
+        FoundTarget::Striped { chunk, columns } => {
+            let columns = columns.as_slice();
+            serve_stripes(looker, op, levels, *chunk, columns, distance, len, sink)
+        }
+        FoundTarget::Zero => sink.piece(zero_piece(op, len)),
+        FoundTarget::Error => sink.piece(Piece::Error { len }),
+    }
+}
+
+/// Hands over the units of sectors of a striped line at a distance from its start, chunk by chunk.
+#[cycle(walk)]
+fn serve_stripes<S: Sink>(
+    looker: &mut Looker<'_>,
+    op: Op,
+    levels: u32,
+    chunk: u64,
+    columns: &[FoundColumn],
+    distance: u64,
+    len: u64,
+    sink: &mut S,
+) -> Result<(), S::Fault>
+    requires some { 1 ≤ len }
+    requires inside { AreInStripes looker.old.stack chunk columns.now distance len }
+    requires stack { S.stack sink.old ≡ looker.old.stack }
+    requires room { len ≤ S.room sink.old }
+    ensures took { OnOk result (S.took sink.old (target_units looker.old.stack op levels (Striped chunk columns.now) distance len) sink.new) }
+    ensures kept { OnOk result (S.stack sink.new ≡ S.stack sink.old) }
+    ensures room { OnOk result (S.room sink.old ≤ S.room sink.new + len) }
+    ensures left { OnErr result (OfBeginning S.left sink.old (target_units looker.old.stack op levels (Striped chunk columns.now) distance len) sink.new) }
+    ensures faults { S.faults sink.new ≡ S.faults sink.old + fault_of result }
+    ensures stack { looker.new.stack ≡ looker.old.stack }
+{
+    let mut place = place_at(chunk, columns.len() as u64, distance);
+    let mut left = len;
+    while left > 0 {
+        let part = left.min(chunk - place.past);
+        let column = columns[place.column];
+        let sector = sector_at(
+            looker,
+            column.to,
+            column.offset,
+            place.chunk_start + place.past,
+        );
+        serve_range(looker, op, levels, column.to, sector, part, sink)?;
+        left -= part;
+        place = next_chunk(chunk, columns.len(), place);
+    }
+    Ok(())
+}
+
+/// Whether a device fails a request as a whole: one for a write, where it is read-only.
+fn is_failing(looker: &Looker<'_>, op: Op, device: DeviceId) -> bool
+    requires { device < length looker.now.stack.devices }
+    ensures { result ≡ is_failing looker.now.stack op device }
+{
+    match op {
+        Op::Read => false,
+        Op::Write => looker.is_ro(device),
+    }
+}
+
+/// How many of so many sectors, from a distance from its start on, a line has.
+fn part_in(line: &FoundLine, distance: u64, most: u64) -> u64
+    requires { distance < line.now.len }
+    ensures { result ≡ min most (line.now.len - distance) }
+{
+    most.min(line.len - distance)
+}
+
+/// The sector at a distance from an offset into a device or a disk, where it is there.
+fn sector_at(looker: &Looker<'_>, to: Lower, offset: u64, distance: u64) -> u64
+    requires { offset + distance < lower_len looker.now.stack to }
+    ensures { result ≡ offset + distance }
+{
+    let end = match to {
+        Lower::Device(device) => looker.len(device),
+        Lower::Disk(disk) => looker.disk_len(disk),
+    };
+    prove!(offset <= end && distance < end - offset);
+    offset + distance
+}
+
+/// What is done at sectors of a disk.
+fn disk_piece(op: Op, disk: DiskId, start: u64, len: u64) -> Piece
+    ensures units { units_of result ≡ units_in (disk_unit op disk start) len }
+    ensures len { piece_len result ≡ len }
+    ensures diskless { diskless_len result ≡ 0 }
+    ensures lies { (stack : Description) → IsOnDisk stack disk start len → IsOnDisks stack result }
+{
+    match op {
+        Op::Read => Piece::Read { disk, start, len },
+        Op::Write => Piece::Write { disk, start, len },
+    }
+}
+
+/// What is done at sectors in zeros.
+fn zero_piece(op: Op, len: u64) -> Piece
+    ensures units { units_of result ≡ units_in (zero_unit op) len }
+    ensures len { piece_len result ≡ len }
+    ensures diskless { diskless_len result ≡ len }
+    ensures lies { (stack : Description) → IsOnDisks stack result }
+{
+    match op {
+        Op::Read => Piece::Zero { len },
+        Op::Write => Piece::Drop { len },
+    }
+}
