@@ -1,8 +1,10 @@
+pub mod Behind
 pub mod DeviceNames
 pub mod FewestLemmas
 pub mod Growth
 pub mod Held
 pub mod JoinLemmas
+pub mod LastDigit
 pub mod LineParts
 pub mod LineServed
 pub mod PieceLemmas

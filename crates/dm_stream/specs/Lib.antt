@@ -10,4 +10,5 @@ pub mod Outcome
 pub mod PieceText
 pub mod Pieces
 pub mod Run
+pub mod Tail
 pub mod WriteAll

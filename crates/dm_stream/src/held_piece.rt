@@ -72,13 +72,13 @@ impl<'s> HeldPiece<'s> {
         ensures apart { OnFalse result ((rest : List BlockUnit) → fewest (held_units self.old.piece ++ units_of piece.now ++ rest)
             ≡ fewest (held_units self.old.piece) ++ fewest (units_of piece.now ++ rest)) }
     {
-        let Some(held) = self.piece else {
+        let Some(held) = &self.piece else {
             return false;
         };
-        if !goes_on(&held, piece) {
+        if !goes_on(held, piece) {
             return false;
         }
-        self.piece = Some(longer(self.stack, &held, length_of(piece)));
+        self.piece = Some(longer(self.stack, held, length_of(piece)));
         true
     }
 
@@ -103,10 +103,11 @@ impl<'s> HeldPiece<'s> {
         ensures flushes { W.flushes writer.new ≡ W.flushes writer.old }
         ensures nothing { self.new ≡ record { stack = self.old.stack; number = self.old.number; piece = None } }
     {
-        let Some(piece) = self.piece.take() else {
+        let Some(piece) = &self.piece else {
             return Ok(());
         };
-        self.line.set_piece(self.stack, &piece);
+        self.line.set_piece(self.stack, piece);
+        self.piece = None;
         write_all(writer, self.line.as_slice())
     }
 }

@@ -7,6 +7,7 @@
 
 mod ending;
 mod fixed_text;
+mod front;
 mod held_piece;
 mod join;
 mod last_device;
@@ -15,7 +16,9 @@ mod lines;
 mod message;
 mod numbered_line;
 mod piece_text;
+mod put_before;
 mod serve;
+mod tail;
 mod write_all;
 
 pub use ending::{Ending, RequestWord};

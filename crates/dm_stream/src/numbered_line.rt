@@ -1,60 +1,66 @@
 //! The text of a line at a time, under a request's number.
 //!
-//! The room is kept from line to line, and the number is put once for all lines of a request. A line
-//! is put behind the number; what stands there may only change with the number.
+//! The room is kept from line to line, and the number's digits are put once for all lines of a
+//! request. A line is put together from its end, the front last.
 
-ghost use Rattle.std.specs.Prelude.{◌≡◌, ◌≤◌, [], length};
+ghost use Rattle.std.specs.Prelude.{◌≡◌, []};
 ghost use Rattle.dm_map.specs.Units.{IsOnDisks};
 ghost use Rattle.dm_stream.specs.Holding.{piece_view};
-ghost use Rattle.dm_stream.specs.NumberedLine.{line_front};
 ghost use Rattle.dm_stream.specs.PieceText.{piece_text};
 
-use crate::fixed_text::{put, put_number};
-use crate::piece_text::{PieceText, put_piece};
-use arrayvec::ArrayVec;
+use crate::front::Front;
+use crate::piece_text::put_piece;
+use crate::tail::Tail;
 use dm_map::Piece;
 use dm_stack::Stack;
 use std::marker::Model;
 
-/// A text that begins with a number and a space. They are the front.
+/// How many bytes there is room for: two names of at most 255 bytes, and five numbers.
+const ROOM: usize = 1024;
+
+/// The line of a piece under a number. It ends where the room does.
 #[derive(Drop)]
 pub(crate) struct NumberedLine {
-    number: u64,
-    text: PieceText,
-    front: usize,
+    front: Front,
+    text: [u8; ROOM],
+    tail: Tail,
+    start: usize,
 }
 
 impl Model for NumberedLine {
-    ghost use Rattle.dm_stream.specs.NumberedLine.{Numbered, IsNumbered};
+    ghost use Rattle.std.specs.Prelude.{◌≤◌, drop};
+    ghost use Rattle.dm_stream.specs.NumberedLine.{Numbered};
+    ghost use Rattle.dm_stream.specs.Tail.{IsTail};
 
     ghost Value = { Numbered };
 
-    ghost view = { λ line. record { number = line.number; text = line.text.items } };
+    ghost view = { λ line. record { number = line.front; text = drop line.start line.text } };
 
-    ghost invariant = { λ line. IsNumbered line.number line.text.items line.front };
+    ghost invariant = { λ line. (line.start ≤ 1024) × IsTail line.tail line.text };
 }
 
 impl NumberedLine {
-    /// A line of the number 0, with nothing behind it.
+    /// An empty line under the number 0.
     pub(crate) fn new() -> NumberedLine
-        ensures { result.number ≡ 0 }
+        ensures { result ≡ record { number = 0; text = [] } }
     {
-        let mut text = ArrayVec::new();
-        let front = put_front(&mut text, 0);
         NumberedLine {
-            number: 0,
-            text,
-            front,
+            front: Front::new(),
+            text: [0; ROOM],
+            tail: Tail {
+                start: 0,
+                len: 0,
+                at: ROOM,
+            },
+            start: ROOM,
         }
     }
 
-    /// Sets the number. What stood behind the last one is gone.
+    /// Sets the number. The line stays until the next one.
     pub(crate) fn set_number(&mut self, number: u64)
-        ensures { self.new.number ≡ number }
+        ensures { self.new ≡ record { number = number; text = self.old.text } }
     {
-        self.text.clear();
-        self.front = put_front(&mut self.text, number);
-        self.number = number;
+        self.front.set(number);
     }
 
     /// Makes it the line of a piece on disks of the stack.
@@ -63,27 +69,15 @@ impl NumberedLine {
         ensures number { self.new.number ≡ self.old.number }
         ensures text { self.new.text ≡ piece_text stack.now self.old.number (piece_view piece.now) }
     {
-        self.text.truncate(self.front);
-        put_piece(&mut self.text, stack, piece);
-        put(&mut self.text, b"\n");
+        let end = put_piece(&mut self.text, &mut self.tail, stack, piece);
+        self.start = self.front.put_before(&mut self.text, end);
     }
 
     /// The line.
     pub(crate) fn as_slice(&self) -> &[u8]
         ensures { result.now ≡ self.now.text }
     {
-        self.text.as_slice()
+        let text: &[u8] = &self.text;
+        &text[self.start..]
     }
-}
-
-/// Puts a number and a space in an empty text, and answers how many bytes they are.
-fn put_front(text: &mut PieceText, number: u64) -> usize
-    requires { text.old.items ≡ [] }
-    ensures text { text.new.items ≡ line_front number }
-    ensures len { result ≡ length (line_front number) }
-    ensures few { result ≤ 21 }
-{
-    put_number(text, number);
-    put(text, b" ");
-    text.len()
 }

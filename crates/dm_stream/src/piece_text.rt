@@ -1,50 +1,42 @@
 //! The line of a piece.
 //!
-//! It is put together in room that the caller keeps, so a request takes no memory for its lines. What
-//! stands for a new kind of piece is an arm of `put_piece` here and of `unit_text` in `specs/PieceText`.
+//! It is put together from its end, in room that the caller keeps, so a request takes no memory for
+//! its lines. What stands for a new kind of piece is an arm of `put_piece` here and of `unit_text` in
+//! `specs/PieceText`.
 
-ghost use Rattle.std.specs.Prelude.{◌≡◌, ◌++◌, ◌+◌, ◌<◌, ◌≤◌, ◌∷◌, [], length, decimal, codes};
+ghost use Rattle.std.specs.Prelude.{◌≡◌, ◌++◌, ◌+◌, ◌<◌, ◌≤◌, ◌∷◌, [], length, drop, decimal};
+ghost use Rattle.dm_stack.specs.Description.{disk_name_at};
 ghost use Rattle.dm_map.specs.Units.{IsOnDisks, first_unit, piece_len};
 ghost use Rattle.dm_stream.specs.PieceText.{place_text, unit_text};
+ghost use Rattle.dm_stream.specs.Tail.{IsTail};
 
-use crate::fixed_text::{put, put_number};
-use arrayvec::ArrayVec;
+use crate::put_before::{put_before, put_number_before};
+use crate::tail::{Tail, set_tail, without_tail};
 use dm_map::Piece;
 use dm_stack::{DiskId, Stack};
 
-/// The line of a piece: two names of at most 255 bytes, and five numbers of at most 20 digits.
-pub(crate) type PieceText = ArrayVec<u8, 1024>;
-
-/// Puts what a piece is behind a text.
-pub(crate) fn put_piece(text: &mut PieceText, stack: &Stack, piece: &Piece)
-    requires room { length text.old.items ≤ 64 }
+/// Puts what a piece is and a newline at the end of a text, and answers where that begins.
+pub(crate) fn put_piece(text: &mut [u8], tail: &mut Tail, stack: &Stack, piece: &Piece) -> usize
+    requires room { 1024 ≤ length text.old }
+    requires tail { IsTail tail.old text.old }
     requires lies { IsOnDisks stack.now piece.now }
-    ensures text { text.new.items ≡ text.old.items ++ unit_text stack.now (first_unit piece.now) (piece_len piece.now) }
-    ensures len { length text.new.items ≤ 768 }
+    ensures text { drop result text.new ≡ unit_text stack.now (first_unit piece.now) (piece_len piece.now) ++ 10 ∷ [] }
+    ensures tail { IsTail tail.new text.new }
+    ensures before { result ≤ tail.new.at }
+    ensures room { 64 ≤ result }
 {
     match *piece {
         Piece::Read { disk, start, len } => {
-            put(text, b"R ");
-            put_place(text, stack, disk, start);
-            put_next(text, len);
+            set_tail(text, tail, start, len);
+            put_named(text, tail.at, b"R ", stack, disk)
         }
         Piece::Write { disk, start, len } => {
-            put(text, b"W ");
-            put_place(text, stack, disk, start);
-            put_next(text, len);
+            set_tail(text, tail, start, len);
+            put_named(text, tail.at, b"W ", stack, disk)
         }
-        Piece::Zero { len } => {
-            put(text, b"zero ");
-            put_number(text, len);
-        }
-        Piece::Drop { len } => {
-            put(text, b"drop ");
-            put_number(text, len);
-        }
-        Piece::Error { len } => {
-            put(text, b"error ");
-            put_number(text, len);
-        }
+        Piece::Zero { len } => put_counted(text, tail, b"zero ", len),
+        Piece::Drop { len } => put_counted(text, tail, b"drop ", len),
+        Piece::Error { len } => put_counted(text, tail, b"error ", len),
         Piece::Copy {
             disk,
             start,
@@ -52,38 +44,63 @@ pub(crate) fn put_piece(text: &mut PieceText, stack: &Stack, piece: &Piece)
             to,
             to_start,
         } => {
-            put(text, b"copy ");
-            put_place(text, stack, disk, start);
-            put_next(text, len);
-            put(text, b" ");
-            put_place(text, stack, to, to_start);
+            let end = without_tail(text, tail);
+            let end = put_place(text, end, stack, to, to_start);
+            let end = put_before(text, end, b" ");
+            let end = put_number_before(text, end, len);
+            let end = put_before(text, end, b" ");
+            let end = put_place(text, end, stack, disk, start);
+            put_before(text, end, b"copy ")
         }
         Piece::Fill { len, disk, start } => {
-            put(text, b"fill ");
-            put_number(text, len);
-            put(text, b" ");
-            put_place(text, stack, disk, start);
+            let end = without_tail(text, tail);
+            let end = put_place(text, end, stack, disk, start);
+            let end = put_before(text, end, b" ");
+            let end = put_number_before(text, end, len);
+            put_before(text, end, b"fill ")
         }
     }
 }
 
-/// Puts a place behind a text: the name of a disk of the stack and a sector.
-fn put_place(text: &mut PieceText, stack: &Stack, disk: DiskId, sector: u64)
-    requires room { length text.old.items ≤ 448 }
+/// Puts a word and the name of a disk of the stack before a place of a text.
+fn put_named(text: &mut [u8], end: usize, word: &[u8], stack: &Stack, disk: DiskId) -> usize
+    requires room { 640 ≤ end }
+    requires within { end ≤ length text.old }
+    requires short { length word.now ≤ 9 }
     requires there { disk < length stack.now.disks }
-    ensures text { text.new.items ≡ text.old.items ++ place_text stack.now disk sector }
-    ensures len { length text.new.items ≤ length text.old.items + 276 }
+    ensures text { drop result text.new ≡ word.now ++ disk_name_at stack.now disk ++ drop end text.old }
+    ensures behind { drop end text.new ≡ drop end text.old }
+    ensures before { result ≤ end }
+    ensures room { 64 ≤ result }
 {
-    put(text, stack.disk_name(disk).as_bytes());
-    put_next(text, sector);
+    let end = put_before(text, end, stack.disk_name(disk).as_bytes());
+    put_before(text, end, word)
 }
 
-/// Puts a space and a number behind a text.
-fn put_next(text: &mut PieceText, number: u64)
-    requires { length text.old.items ≤ 768 }
-    ensures text { text.new.items ≡ text.old.items ++ 32 ∷ decimal number }
-    ensures len { length text.new.items ≤ length text.old.items + 21 }
+/// Puts a word, a number and a newline at the end of a text.
+fn put_counted(text: &mut [u8], tail: &mut Tail, word: &[u8], number: u64) -> usize
+    requires room { 1024 ≤ length text.old }
+    requires short { length word.now ≤ 9 }
+    ensures text { drop result text.new ≡ word.now ++ decimal number ++ 10 ∷ [] }
+    ensures tail { tail.new.at ≡ length text.new }
+    ensures before { result ≤ tail.new.at }
+    ensures room { 64 ≤ result }
 {
-    put(text, b" ");
-    put_number(text, number);
+    let end = without_tail(text, tail);
+    let end = put_number_before(text, end, number);
+    put_before(text, end, word)
+}
+
+/// Puts a place before a place of a text: the name of a disk of the stack and a sector.
+fn put_place(text: &mut [u8], end: usize, stack: &Stack, disk: DiskId, sector: u64) -> usize
+    requires room { 384 ≤ end }
+    requires within { end ≤ length text.old }
+    requires there { disk < length stack.now.disks }
+    ensures text { drop result text.new ≡ place_text stack.now disk sector ++ drop end text.old }
+    ensures before { result ≤ end }
+    ensures room { end ≤ result + 276 }
+{
+    let end = put_number_before(text, end, sector);
+    let end = put_before(text, end, b" ");
+    put_before(text, end, stack.disk_name(disk).as_bytes())
 }

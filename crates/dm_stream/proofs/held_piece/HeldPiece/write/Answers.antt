@@ -1,4 +1,4 @@
-use Rattle.std.proofs.Common.{◌≡◌, ◌∙◌, ℕ, List, OnOk, OnErr, sym, ap, subst}
+use Rattle.std.proofs.Common.{◌≡◌, ◌∙◌, ℕ, List, OnOk, OnErr, ap, subst}
 use Rattle.dm_table.specs.DeviceIo.{since}
 use Rattle.dm_stream.specs.Holding.{Holding, held_units}
 use Rattle.dm_stream.specs.Pieces.{fewest}
@@ -13,7 +13,7 @@ line_is : (g : given.Over) (c : goal.After-write_all g) → c.as_slice.result.no
 line_is g c =
     let inside = c.self.inside in
     let holding : Holding = record { stack = inside.stack.now; number = inside.line.number; piece = inside.piece } in
-    held_line holding c.in-Some.piece c.as_slice.result.now (sym c.take.ensures.value ∙ c.in-Some.is) c.self.invariant (c.as_slice.ensures ∙ c.set_piece.ensures.text)
+    held_line holding c.in-Some.piece c.as_slice.result.now c.in-Some.is c.self.invariant (c.as_slice.ensures ∙ c.set_piece.ensures.text)
     ∙ ap (λ (h : Holding). pieces_text h.stack h.number (fewest (held_units h.piece))) c.self.view_is
 
 pub returns-clause-ok : goal.returns-clause-ok
