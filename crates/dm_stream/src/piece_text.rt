@@ -26,13 +26,14 @@ pub(crate) fn put_piece(text: &mut [u8], tail: &mut Tail, stack: &Stack, piece: 
     ensures room { 64 ≤ result }
 {
     match *piece {
-        Piece::Read { disk, start, len } => {
+        Piece::Read { disk, start, len } | Piece::Write { disk, start, len } => {
             set_tail(text, tail, start, len);
-            put_named(text, tail.at, b"R ", stack, disk)
-        }
-        Piece::Write { disk, start, len } => {
-            set_tail(text, tail, start, len);
-            put_named(text, tail.at, b"W ", stack, disk)
+            let word = if matches!(*piece, Piece::Read { .. }) {
+                b"R "
+            } else {
+                b"W "
+            };
+            put_named(text, tail.at, word, stack, disk)
         }
         Piece::Zero { len } => put_counted(text, tail, b"zero ", len),
         Piece::Drop { len } => put_counted(text, tail, b"drop ", len),

@@ -18,9 +18,10 @@ pub(crate) fn write_all<W: Output>(writer: &mut W, bytes: &[u8]) -> Result<(), O
     ensures faults { W.faults writer.new ≡ W.faults writer.old + fault_of result }
     ensures flushes { W.flushes writer.new ≡ W.flushes writer.old }
 {
-    let mut at = 0;
-    while at < bytes.len() {
-        at += writer.write(&bytes[at..])?;
+    let mut rest = bytes;
+    while !rest.is_empty() {
+        let taken = writer.write(rest)?;
+        rest = &rest[taken..];
     }
     Ok(())
 }

@@ -1,17 +1,21 @@
-use Rattle.std.proofs.Common.{◌∙◌, arith, add-zero}
+use Rattle.std.proofs.Common.{◌∙◌, add-zero}
 use Rattle.std.proofs.lemmas.List.{append-nil}
-use Rattle.dm_stream.proofs.Growth.{front_beginning, one_write, on_err}
+use Rattle.dm_stream.proofs.Growth.{before, behind_within, rest_step, write_step, front_beginning, on_err}
 use Rattle.dm_stream.proofs.write_all.write_all.Goals as goal
 
-pub returns-in_err-at-clause-err : goal.returns-in_err-at-clause-err
-returns-in_err-at-clause-err g c =
-    on_err c.from_residual.result _ (front_beginning _ _ c.args.bytes.now c.loop-at.at (c.in_err-at.ensures.bytes ∙ append-nil _ ∙ c.loop-at.invariant.written))
+pub returns-in_err-taken-clause-err : goal.returns-in_err-taken-clause-err
+returns-in_err-taken-clause-err g c =
+    on_err c.from_residual.result _ (front_beginning _ _ c.args.bytes.now (before c.args.bytes.now c.loop-rest.rest.now) (c.in_err-taken.ensures.bytes ∙ append-nil _ ∙ c.loop-rest.invariant.written))
 
-pub loop-at-preserved : goal.loop-at-preserved
-loop-at-preserved g c = record {
-  within = omega (arith, c.in_ok-at.ensures.within);
-  written = one_write _ _ _ c.args.bytes.now c.loop-at.at c.in_ok-at.field-0 c.loop-at.invariant.written c.in_ok-at.ensures.bytes;
-  waiting = one_write _ _ _ c.args.bytes.now c.loop-at.at c.in_ok-at.field-0 c.loop-at.invariant.waiting c.in_ok-at.ensures.waiting;
-  faults = c.in_ok-at.ensures.faults ∙ add-zero _ ∙ c.loop-at.invariant.faults;
-  flushes = c.in_ok-at.ensures.flushes ∙ c.loop-at.invariant.flushes;
-}
+pub loop-rest-preserved : goal.loop-rest-preserved
+loop-rest-preserved g c =
+    let bytes = c.args.bytes.now in let rest = c.loop-rest.rest.now in let n = c.in_ok-taken.taken in
+    let so_far = c.loop-rest.invariant in
+    record {
+      within = behind_within bytes rest n so_far.within;
+      rest = rest_step bytes rest n so_far.within c.in_ok-taken.ensures.within so_far.rest;
+      written = write_step _ _ _ bytes rest n so_far.within c.in_ok-taken.ensures.within so_far.rest so_far.written c.in_ok-taken.ensures.bytes;
+      waiting = write_step _ _ _ bytes rest n so_far.within c.in_ok-taken.ensures.within so_far.rest so_far.waiting c.in_ok-taken.ensures.waiting;
+      faults = c.in_ok-taken.ensures.faults ∙ add-zero _ ∙ so_far.faults;
+      flushes = c.in_ok-taken.ensures.flushes ∙ so_far.flushes;
+    }
