@@ -177,10 +177,7 @@ fn is_failing(looker: &Looker<'_>, op: Op, device: DeviceId) -> bool
     requires { device < length looker.now.stack.devices }
     ensures { result ≡ is_failing looker.now.stack op device }
 {
-    match op {
-        Op::Read => false,
-        Op::Write => looker.is_ro(device),
-    }
+    looker.is_ro(device) && matches!(op, Op::Write)
 }
 
 /// How many of so many sectors, from a distance from its start on, a line has.
