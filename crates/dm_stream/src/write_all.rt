@@ -1,6 +1,6 @@
 //! All of some bytes to an output, over as many writes as it takes.
 //! It loops here since an output may take less than it is given, and a byte must never go out twice.
-//! Keep the place behind the bytes that were taken as the only thing that a turn changes.
+//! Keep what is left of the bytes as the only thing that a turn changes.
 ghost use Rattle.std.specs.Prelude.{◌≡◌, ◌+◌, ◌++◌, OnOk, OnErr};
 ghost use Rattle.dm_table.specs.DeviceIo.{since, fault_of};
 ghost use Rattle.dm_stream.specs.WriteAll.{IsBeginning};
