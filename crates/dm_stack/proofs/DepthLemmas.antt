@@ -1,5 +1,5 @@
 -- Depths: what is named is less deep, a depth below its bound is final, and what reaches itself has none.
-use Rattle.std.proofs.Common.{◌≡◌, ℕ, zero, suc, ◌<◌, ◌≤◌, List, [], ◌∷◌, length, get_or, map, refl, ap, subst, arith}
+use Rattle.std.proofs.Common.{◌≡◌, ℕ, zero, suc, ◌<◌, ◌≤◌, List, [], ◌∷◌, length, get_or, map, refl, ap, subst, sym, ◌∙◌, arith}
 use Rattle.std.specs.List.{Contains}
 use Rattle.dm_stack.specs.Graph.{links_of, Names, Reaches, greatest, depth_to}
 use Rattle.dm_stack.proofs.PathLemmas.{Reaches-turned}
@@ -54,3 +54,13 @@ depth_to-cycle g (suc n) d reaches =
 -- a device that is not too deep does not reach itself
 pub depth_to-no_cycle : (g : List (List ℕ)) (n d : ℕ) → depth_to g n d < n → Reaches g d d → ⊥
 depth_to-no_cycle g n d shallow reaches = absurd (omega (arith, depth_to-cycle g n d reaches))
+
+depth_to-step : (g : List (List ℕ)) (n d : ℕ) → depth_to g (suc n) d ≡ suc (greatest (map (λ e. depth_to g n e) (links_of g d)))
+unfolding depth_to
+depth_to-step g n d = refl
+
+-- a device within the limit is one deeper than the deepest that it names
+pub depth_to-deeper : (g : List (List ℕ)) (n d : ℕ) → depth_to g (suc n) d ≤ n → depth_to g (suc n) d ≡ suc (greatest (map (λ e. depth_to g (suc n) e) (links_of g d)))
+depth_to-deeper g n d shallow =
+    let here = depth_to-step g n d in
+    here ∙ ap suc (sym (greatest-agree (λ e. depth_to g n e) (λ e. depth_to g (suc n) e) (links_of g d) n (omega (arith, here, shallow)) (λ e less. depth_to-settled g n (suc n) e less (omega arith))))

@@ -31,7 +31,7 @@ same_tests kind p q i (device ∷ devices) same =
     let later : faults_at kind p (suc i) devices ≡ faults_at kind q (suc i) devices = same_tests kind p q (suc i) devices (λ id below. same id (omega arith)) in
     rw (here, later) refl
 
--- depths that were told, and those that the check asks
+-- depths that were counted, and those that the check asks for
 pub told_depths : (stack : Description) (depths : List ℕ) → depths ≡ depths_to (links stack) 33 → faults_at Deep (λ id. nat_lt 32 (get_or depths id 0)) 0 stack.devices ≡ deep stack
 told_depths stack depths e =
     same_tests Deep (λ id. nat_lt 32 (get_or depths id 0)) (λ id. nat_lt 32 (depth_of stack id)) 0 stack.devices

@@ -14,7 +14,7 @@ use Rattle.dm_table.specs.LoadFault.{first_or}
 use Rattle.dm_stack.specs.Description.{Description, end_of}
 use Rattle.dm_stack.specs.Soundness.{fault, faults_by, past, all_lines, too_many, is_large, too_large, empty_in, empty, without_lines}
 
--- the fault at an element that was found, or else what is answered later
+-- the fault at an element that was found, or else a later one
 abbrev pub at_found : {X : Type 0} → LoadKind → (X → Place) → Option X → Option LoadFault → Option LoadFault
 at_found kind place (Some x) later = Some (fault kind (place x))
 at_found kind place None later = later
@@ -115,8 +115,8 @@ line_in devices i left device within is inside =
     let at : drop i devices ≡ device ∷ drop (i + 1) devices = drop_more devices i device within ∙ ap (λ (y : DeviceSpec). y ∷ drop (i + 1) devices) (sym is) in
     rw at (get_left device.lines (all_lines (drop (i + 1) devices)) left inside)
 
-pub line_behind : (devices : List DeviceSpec) (i left : ℕ) (device : DeviceSpec) → i < length devices → device ≡ get_or devices i device → length device.lines ≤ left → slice_get (all_lines (drop (i + 1) devices)) (left - length device.lines) ≡ slice_get (all_lines (drop i devices)) left
-line_behind devices i left device within is behind =
+pub line_later : (devices : List DeviceSpec) (i left : ℕ) (device : DeviceSpec) → i < length devices → device ≡ get_or devices i device → length device.lines ≤ left → slice_get (all_lines (drop (i + 1) devices)) (left - length device.lines) ≡ slice_get (all_lines (drop i devices)) left
+line_later devices i left device within is behind =
     let at : drop i devices ≡ device ∷ drop (i + 1) devices = drop_more devices i device within ∙ ap (λ (y : DeviceSpec). y ∷ drop (i + 1) devices) (sym is) in
     let sum : length device.lines + (left - length device.lines) ≡ left = omega arith in
     rw at (sym (get_right device.lines (all_lines (drop (i + 1) devices)) (left - length device.lines)) ∙ ap (λ (n : ℕ). slice_get (device.lines ++ all_lines (drop (i + 1) devices)) n) sum)

@@ -1,6 +1,6 @@
--- What the checks hand on: ends within the limit, and faults that are no want of memory.
-use Rattle.std.proofs.Common.{◌≡◌, ◌≢◌, ℕ, suc, ◌+◌, ◌^◌, ◌≤◌, Bool, true, false, cond, List, [], ◌∷◌, ◌++◌, Option, Some, None, ◌∙◌, ap, drop, inl, inr}
-use Rattle.std.specs.Prelude.{◌==◌, nat_lt, ◌||◌}
+-- What the checks hand on: ends within the limit, and faults that don't mean that memory ran out.
+use Rattle.std.proofs.Common.{◌≡◌, ◌≢◌, ℕ, suc, ◌+◌, ◌^◌, ◌≤◌, Bool, true, false, cond, List, [], ◌∷◌, ◌++◌, Option, Some, None, ◌∙◌, ap, drop, inl, inr, map}
+use Rattle.std.specs.Prelude.{◌==◌, filter, nat_lt, ◌||◌}
 use Rattle.std.specs.List.{All, AllByRecursion, flat_map, list_any}
 use Rattle.std.proofs.lemmas.Bool.{or_parts, ltb-false}
 use Rattle.std.proofs.lemmas.List.Elements.{All-from_recursion}
@@ -11,18 +11,19 @@ use Rattle.dm_table.specs.declared.load_fault.LoadKind.{LoadKind}
 use Rattle.dm_table.specs.declared.load_fault.LoadKind.TheVariants.{Limit, Twice, Empty, Gap, Overlap, Unknown, Deep, Stripe, Range, Memory}
 use Rattle.dm_table.specs.declared.load_fault.LoadFault.{LoadFault}
 use Rattle.dm_table.specs.LoadFault.{first_or, first_fault}
-use Rattle.dm_stack.specs.Description.{Description, is_same}
-use Rattle.dm_stack.specs.Load.{IsRefusedBehind}
-use Rattle.dm_stack.specs.Soundness.{HaveSmallEnds, all_lines, checks_after, checks_before, deep, depth_of, empty, empty_in, fault, faults_at, faults_by, has_bad_stripes, is_far, is_large, is_unknown, misplaced, misplaced_from, passes_end, past, range, stripe, too_large, too_many, twice, twice_after, unknown, without_lines}
+use Rattle.dm_stack.specs.Description.{Description, end_of}
+use Rattle.dm_stack.specs.Load.{IsLateFault}
+use Rattle.dm_stack.specs.Soundness.{HaveSmallEnds, WithBefore, all_lines, checks_after, checks_before, deep, depth_of, empty, empty_in, fault, faults_at, faults_by, has_bad_stripes, is_far, is_large, is_misplaced, is_repeated, is_unknown, misplaced, misplaced_in, misplaced_kind, passes_end, past, range, stripe, too_large, too_many, twice, twice_in, unknown, with_before, without_lines}
+use Rattle.dm_stack.specs.Span.{spans}
 use Rattle.dm_stack.proofs.Passes.{all_parts, append_none, faults_by_none}
 
 -- Ends within the limit
 
 line_within : (line : Line) → is_large line ≡ false → line.start + line.len ≤ 2 ^ 50
 line_within line large =
-    let a = or_parts (nat_lt (2 ^ 50) line.start) (nat_lt (2 ^ 50) line.len || (nat_lt (2 ^ 50) (line.start + line.len) || is_far line.target)) large in
-    let b = or_parts (nat_lt (2 ^ 50) line.len) (nat_lt (2 ^ 50) (line.start + line.len) || is_far line.target) a.1 in
-    let c = or_parts (nat_lt (2 ^ 50) (line.start + line.len)) (is_far line.target) b.1 in
+    let a = or_parts (nat_lt (2 ^ 50) line.start) (nat_lt (2 ^ 50) line.len || (nat_lt (2 ^ 50) (line.start + line.len) || list_any is_far (spans line))) large in
+    let b = or_parts (nat_lt (2 ^ 50) line.len) (nat_lt (2 ^ 50) (line.start + line.len) || list_any is_far (spans line)) a.1 in
+    let c = or_parts (nat_lt (2 ^ 50) (line.start + line.len)) (list_any is_far (spans line)) b.1 in
     ltb-false _ _ c.0
 
 lines_within : (lines : List Line) → AllByRecursion (λ line. is_large line ≡ false) lines → AllByRecursion (λ line. line.start + line.len ≤ 2 ^ 50) lines
@@ -40,7 +41,7 @@ ends_within stack e =
     let none = append_none _ _ e in
     All-from_recursion (λ device. HaveSmallEnds device.lines) stack.devices (devices_within stack.devices (faults_by_none Limit (λ line. line.at) is_large (all_lines stack.devices) none.0))
 
--- Faults that are no want of memory
+-- Faults that don't mean that memory ran out
 
 abbrev pub IsFound : LoadFault → Type 0
 IsFound fault = fault.kind ≢ Memory
@@ -65,24 +66,17 @@ by_found : {X : Type 0} (kind : LoadKind) (place : X → Place) (bad : X → Boo
 by_found kind place bad [] other = tt
 by_found kind place bad (x ∷ xs) other = cond_found (fault kind (place x)) (faults_by kind place bad xs) (bad x) other (by_found kind place bad xs other)
 
-twice_found : {X : Type 0} (own : X → List ℕ) (place : X → Place) (seen : List (List ℕ)) (xs : List X) → AllByRecursion IsFound (twice_after own place seen xs)
-twice_found own place seen [] = tt
-twice_found own place seen (x ∷ xs) =
-    cond_found (fault Twice (place x)) (twice_after own place (own x ∷ seen) xs) (list_any (is_same (own x)) seen) (λ e. cc) (twice_found own place (own x ∷ seen) xs)
-
 without_found : (device : DeviceSpec) (lines : List Line) → AllByRecursion IsFound (without_lines device lines)
 without_found device [] = (λ e. cc, tt)
 without_found device (line ∷ lines) = tt
 
-place_found : (gap overlap : LoadFault) (later : List LoadFault) (p q : Bool) → IsFound gap → IsFound overlap → AllByRecursion IsFound later → AllByRecursion IsFound (cond p (gap ∷ later) (cond q (overlap ∷ later) later))
-place_found gap overlap later true q g o more = (g, more)
-place_found gap overlap later false true g o more = (o, more)
-place_found gap overlap later false false g o more = more
+kind_found : (at : Place) (b : Bool) → IsFound (fault (cond b Gap Overlap) at)
+kind_found at true = λ e. cc
+kind_found at false = λ e. cc
 
-misplaced_found : (end : ℕ) (lines : List Line) → AllByRecursion IsFound (misplaced_from end lines)
-misplaced_found end [] = tt
-misplaced_found end (line ∷ lines) =
-    place_found (fault Gap line.at) (fault Overlap line.at) (misplaced_from (line.start + line.len) lines) (nat_lt end line.start) (nat_lt line.start end) (λ e. cc) (λ e. cc) (misplaced_found (line.start + line.len) lines)
+each_found : (lines : List (WithBefore Line)) → AllByRecursion IsFound (map (λ line. fault (misplaced_kind line) line.it.at) lines)
+each_found [] = tt
+each_found (line ∷ lines) = (kind_found line.it.at (nat_lt (end_of line.before) line.it.start), each_found lines)
 
 many_found : (stack : Description) → AllByRecursion IsFound (too_many stack)
 many_found stack =
@@ -98,8 +92,9 @@ large_found stack =
 
 both_found : (stack : Description) → AllByRecursion IsFound (twice stack)
 both_found stack =
-    all_append IsFound (twice_after (λ device. device.name) (λ device. device.at) [] stack.devices) (twice_after (λ disk. disk.name) (λ disk. disk.at) [] stack.disks)
-    (twice_found (λ device. device.name) (λ device. device.at) [] stack.devices) (twice_found (λ disk. disk.name) (λ disk. disk.at) [] stack.disks)
+    all_append IsFound (twice_in (λ device. device.name) (λ device. device.at) stack.devices) (twice_in (λ disk. disk.name) (λ disk. disk.at) stack.disks)
+    (by_found Twice (λ device. device.it.at) (is_repeated (λ device. device.name)) (with_before stack.devices) (λ e. cc))
+    (by_found Twice (λ disk. disk.it.at) (is_repeated (λ disk. disk.name)) (with_before stack.disks) (λ e. cc))
 
 empty_found : (device : DeviceSpec) → AllByRecursion IsFound (empty_in device)
 empty_found device =
@@ -119,16 +114,16 @@ before_found stack at e =
     (found_first (empty stack) _ at
     (all_append IsFound (flat_map empty_in stack.devices) (faults_by Empty (λ disk. disk.at) (λ disk. disk.len == 0) stack.disks) (all_each IsFound empty_in stack.devices empty_found)
     (by_found Empty (λ disk. disk.at) (λ disk. disk.len == 0) stack.disks (λ e. cc)))
-    (found_first (misplaced stack) _ at (all_each IsFound (λ device. misplaced_from 0 device.lines) stack.devices (λ device. misplaced_found 0 device.lines))
-    (found_first (unknown stack) None at (by_found Unknown (λ line. line.at) (λ line. is_unknown stack line.target) (all_lines stack.devices) (λ e. cc)) (λ none. absurd cc)))))) e
+    (found_first (misplaced stack) _ at (all_each IsFound (λ device. misplaced_in device.lines) stack.devices (λ device. each_found (filter is_misplaced (with_before device.lines))))
+    (found_first (unknown stack) None at (by_found Unknown (λ line. line.at) (is_unknown stack) (all_lines stack.devices) (λ e. cc)) (λ none. absurd cc)))))) e
 
 pub after_found : (stack : Description) (at : LoadFault) → first_fault (checks_after stack) ≡ Some at → IsFound at
 after_found stack at e =
     found_first (deep stack) _ at (at_found Deep (λ id. nat_lt 32 (depth_of stack id)) 0 stack.devices (λ e. cc))
     (found_first (stripe stack) _ at (by_found Stripe (λ line. line.at) (λ line. has_bad_stripes line line.target) (all_lines stack.devices) (λ e. cc))
-    (found_first (range stack) None at (by_found Range (λ line. line.at) (λ line. passes_end stack line.len line.target) (all_lines stack.devices) (λ e. cc)) (λ none. absurd cc))) e
+    (found_first (range stack) None at (by_found Range (λ line. line.at) (passes_end stack) (all_lines stack.devices) (λ e. cc)) (λ none. absurd cc))) e
 
 -- a fault of the check for cycles, or of one after it
-pub behind_found : (stack : Description) (at : LoadFault) → IsRefusedBehind stack at → IsFound at
-behind_found stack at (inl ring) = λ memory. let kind = ap (λ (f : LoadFault). f.kind) ring.is in absurd cc
-behind_found stack at (inr after) = after_found stack at after.1
+pub late_found : (stack : Description) (at : LoadFault) → IsLateFault stack at → IsFound at
+late_found stack at (inl ring) = λ memory. let kind = ap (λ (f : LoadFault). f.kind) ring.is in absurd cc
+late_found stack at (inr after) = after_found stack at after.1

@@ -1,7 +1,9 @@
 pub mod DepthLemmas
+pub mod DepthRule
 pub mod DepthTests
 pub mod FirstFaults
 pub mod HandedOn
+pub mod LayoutLemmas
 pub mod ListLemmas
 pub mod LoadLemmas
 pub mod NameLemmas
@@ -12,3 +14,5 @@ pub mod RoundLemmas
 pub mod SameLine
 pub mod SearchLemmas
 pub mod SoundLines
+pub mod SpanLemmas
+pub mod WithBefore

@@ -3,25 +3,21 @@ use Rattle.std.proofs.Common.{◌≡◌, ℕ, zero, suc, ◌+◌, ◌<◌, Bool,
 use Rattle.std.specs.Prelude.{IfSome, IfNone, find, is_none}
 use Rattle.std.specs.List.{AllByRecursion, flat_map, list_any, position_or_len, range_with_len}
 use Rattle.std.proofs.lemmas.Bool.{or_parts}
-use Rattle.std.proofs.lemmas.List.{append-nil, drop_more, length-map, length-take-le, take-append-drop}
+use Rattle.std.proofs.lemmas.List.{drop_more, length-map, length-take-le, take-append-drop}
 use Rattle.std.proofs.lemmas.List.Elements.{All-from_recursion}
-use Rattle.dm_table.specs.declared.table.Column.{Column}
 use Rattle.dm_table.specs.declared.table.DevRef.{DevRef}
 use Rattle.dm_table.specs.declared.table.DevRef.TheVariants as refs
 use Rattle.dm_table.specs.declared.table.DeviceSpec.{DeviceSpec}
 use Rattle.dm_table.specs.declared.table.Line.{Line}
-use Rattle.dm_table.specs.declared.table.Target.{Target}
-use Rattle.dm_table.specs.declared.table.Target.TheVariants as targets
 use Rattle.dm_table.specs.declared.load_fault.LoadKind.TheVariants.{Cycle, Unknown}
 use Rattle.dm_table.specs.declared.load_fault.LoadFault.{LoadFault}
 use Rattle.dm_table.specs.LoadFault.{first_or, first_fault}
-use Rattle.dm_stack.specs.Below.{found_columns, found_line, found_target}
-use Rattle.dm_stack.specs.Description.{Description, column_refs, device_links, is_same, links, lower_of, ref_link, target_refs}
+use Rattle.dm_stack.specs.Description.{Description, device_links, is_same, line_links, links, ref_link}
 use Rattle.dm_stack.specs.Graph.{IsClosed, Reaches, depths_to, greatest, links_in, links_of}
-use Rattle.dm_stack.specs.Links.{column_links, lower_links, table_links, target_links}
-use Rattle.dm_stack.specs.Load.{IsBehind, IsFirstRing, IsRefusedBehind}
-use Rattle.dm_stack.specs.Loaded.{found_table, stack_depth}
+use Rattle.dm_stack.specs.Load.{IsLateResult, IsFirstRing, IsLateFault}
+use Rattle.dm_stack.specs.Loaded.{stack_depth}
 use Rattle.dm_stack.specs.Soundness.{HasNoCycle, IsFirstCycle, IsRefusedBy, Late, OnCycle, all_lines, checks_after, checks_before, depth_of, empty, fault, is_unknown, is_unknown_ref, misplaced, too_large, too_many, twice, unknown}
+use Rattle.dm_stack.specs.Span.{Span, spans}
 use Rattle.dm_stack.proofs.HandedOn.{all_append}
 use Rattle.dm_stack.proofs.Passes.{all_parts, faults_by_none, first_none}
 
@@ -68,27 +64,25 @@ place_before test (x ∷ xs) e = place_step x (find test xs) (position_or_len te
 abbrev pub AreThere : Description → List ℕ → Type 0
 AreThere stack ids = AllByRecursion (λ id. id < length stack.devices) ids
 
-refs_there : (stack : Description) (named : List DevRef) → list_any (is_unknown_ref stack) named ≡ false → AreThere stack (flat_map (ref_link stack) named)
-refs_there stack [] e = tt
-refs_there stack (refs.Device name ∷ named) e =
-    let parts = or_parts (is_unknown_ref stack (refs.Device name)) (list_any (is_unknown_ref stack) named) e in
-    (place_before (λ device. is_same device.name name) stack.devices parts.0, refs_there stack named parts.1)
-refs_there stack (refs.Disk name ∷ named) e =
-    refs_there stack named (or_parts (is_unknown_ref stack (refs.Disk name)) (list_any (is_unknown_ref stack) named) e).1
+ref_there : (stack : Description) (to : DevRef) → is_unknown_ref stack to ≡ false → AreThere stack (ref_link stack to)
+ref_there stack (refs.Device name) e = (place_before (λ device. is_same device.name name) stack.devices e, tt)
+ref_there stack (refs.Disk name) e = tt
 
--- the devices that lines name
-abbrev pub line_links : Description → List Line → List ℕ
-line_links stack lines = flat_map (λ line. flat_map (ref_link stack) (target_refs line.target)) lines
+spans_there : (stack : Description) (named : List Span) → list_any (λ span. is_unknown_ref stack span.to) named ≡ false → AreThere stack (flat_map (λ span. ref_link stack span.to) named)
+spans_there stack [] e = tt
+spans_there stack (span ∷ named) e =
+    let parts = or_parts (is_unknown_ref stack span.to) (list_any (λ s. is_unknown_ref stack s.to) named) e in
+    all_append (λ id. id < length stack.devices) (ref_link stack span.to) (flat_map (λ s. ref_link stack s.to) named) (ref_there stack span.to parts.0) (spans_there stack named parts.1)
 
-lines_there : (stack : Description) (lines : List Line) → AllByRecursion (λ line. is_unknown stack line.target ≡ false) lines → AreThere stack (line_links stack lines)
+lines_there : (stack : Description) (lines : List Line) → AllByRecursion (λ line. is_unknown stack line ≡ false) lines → AreThere stack (flat_map (line_links stack) lines)
 lines_there stack [] known = tt
 lines_there stack (line ∷ lines) known =
-    all_append (λ id. id < length stack.devices) (flat_map (ref_link stack) (target_refs line.target)) (line_links stack lines) (refs_there stack (target_refs line.target) known.0) (lines_there stack lines known.1)
+    all_append (λ id. id < length stack.devices) (line_links stack line) (flat_map (line_links stack) lines) (spans_there stack (spans line) known.0) (lines_there stack lines known.1)
 
-devices_there : (stack : Description) (devices : List DeviceSpec) → AllByRecursion (λ line. is_unknown stack line.target ≡ false) (all_lines devices) → AllByRecursion (AreThere stack) (map (device_links stack) devices)
+devices_there : (stack : Description) (devices : List DeviceSpec) → AllByRecursion (λ line. is_unknown stack line ≡ false) (all_lines devices) → AllByRecursion (AreThere stack) (map (device_links stack) devices)
 devices_there stack [] known = tt
 devices_there stack (device ∷ devices) known =
-    let parts = all_parts (λ line. is_unknown stack line.target ≡ false) device.lines (all_lines devices) known in
+    let parts = all_parts (λ line. is_unknown stack line ≡ false) device.lines (all_lines devices) known in
     (lines_there stack device.lines parts.0, devices_there stack devices parts.1)
 
 at_or : {X : Type 0} (P : X → Type 0) (xs : List X) (i : ℕ) (other : X) → AllByRecursion P xs → P other → P (get_or xs i other)
@@ -98,43 +92,13 @@ at_or P (x ∷ xs) (suc i) other each last = at_or P xs i other each.1 last
 
 pub closed_links : (stack : Description) → first_or (unknown stack) None ≡ None → IsClosed (links stack)
 closed_links stack e =
-    let known = faults_by_none Unknown (λ line. line.at) (λ line. is_unknown stack line.target) (all_lines stack.devices) (first_none (unknown stack) None e).0 in
+    let known = faults_by_none Unknown (λ line. line.at) (is_unknown stack) (all_lines stack.devices) (first_none (unknown stack) None e).0 in
     let there = devices_there stack stack.devices known in
     λ d named is.
     let inside : AreThere stack (links_of (links stack) d) = at_or (AreThere stack) (links stack) d [] there tt in
     let below : get_or (links_of (links stack) d) is.0 named < length stack.devices = All-from_recursion (λ id. id < length stack.devices) (links_of (links stack) d) inside is.0 named is.1 in
     let same : get_or (links_of (links stack) d) is.0 named ≡ named = is.2 in
     omega (arith, below, same, length-map stack.devices (device_links stack))
-
--- Lines by ids name what the lines do
-
-lower_link : (stack : Description) (to : DevRef) → lower_links (lower_of stack to) ≡ ref_link stack to
-lower_link stack (refs.Device name) = refl
-lower_link stack (refs.Disk name) = refl
-
-columns_link : (stack : Description) (columns : List Column) → column_links (found_columns stack columns) ≡ flat_map (ref_link stack) (column_refs columns)
-columns_link stack [] = refl
-columns_link stack (column ∷ columns) =
-    ap (λ (ids : List ℕ). ids ++ column_links (found_columns stack columns)) (lower_link stack column.to) ∙ ap (λ (ids : List ℕ). ref_link stack column.to ++ ids) (columns_link stack columns)
-
-target_link : (stack : Description) (target : Target) → target_links (found_target stack target) ≡ flat_map (ref_link stack) (target_refs target)
-target_link stack (targets.Linear to offset) = lower_link stack to ∙ sym (append-nil (ref_link stack to))
-target_link stack (targets.Striped chunk columns) = columns_link stack columns
-target_link stack targets.Zero = refl
-target_link stack targets.Error = refl
-
-lines_link : (stack : Description) (lines : List Line) → table_links (map (found_line stack) lines) ≡ line_links stack lines
-lines_link stack [] = refl
-lines_link stack (line ∷ lines) =
-    ap (λ (ids : List ℕ). ids ++ table_links (map (found_line stack) lines)) (target_link stack line.target) ∙ ap (λ (ids : List ℕ). flat_map (ref_link stack) (target_refs line.target) ++ ids) (lines_link stack lines)
-
-devices_link : (stack : Description) (devices : List DeviceSpec) → map table_links (map (found_table stack) devices) ≡ map (device_links stack) devices
-devices_link stack [] = refl
-devices_link stack (device ∷ devices) =
-    ap (λ (ids : List ℕ). ids ∷ map table_links (map (found_table stack) devices)) (lines_link stack device.lines) ∙ ap (λ (all : List (List ℕ)). device_links stack device ∷ all) (devices_link stack devices)
-
-pub links_same : (stack : Description) → map table_links (map (found_table stack) stack.devices) ≡ links stack
-links_same stack = devices_link stack stack.devices
 
 -- The first that reaches itself
 
@@ -159,14 +123,14 @@ ring_fault stack d device other ring is =
 pub no_ring : (stack : Description) → IsFirstRing (links stack) None → HasNoCycle stack
 no_ring stack none = λ device below. none device (omega (arith, length-map stack.devices (device_links stack)))
 
-pub is_behind : (stack : Description) (found : Option LoadFault) → HasNoCycle stack → found ≡ first_fault (checks_after stack) → IsBehind stack found
-is_behind stack (Some at) acyclic e = inr (acyclic, sym e)
-is_behind stack None acyclic e = (acyclic, sym e)
+pub is_late_result : (stack : Description) (found : Option LoadFault) → HasNoCycle stack → found ≡ first_fault (checks_after stack) → IsLateResult stack found
+is_late_result stack (Some at) acyclic e = inr (acyclic, sym e)
+is_late_result stack None acyclic e = (acyclic, sym e)
 
 pub deepest_is : (stack : Description) (depths : List ℕ) → depths ≡ depths_to (links stack) 33 → greatest depths ≡ stack_depth stack
 deepest_is stack depths e =
     ap greatest e ∙ ap (λ (n : ℕ). greatest (map (depth_of stack) (range_with_len 0 n))) (length-map stack.devices (device_links stack))
 
-pub refused_behind : (stack : Description) (at : LoadFault) → first_fault (checks_before stack) ≡ None → IsRefusedBehind stack at → IsRefusedBy stack at
-refused_behind stack at passed (inl ring) = OnCycle passed ring
-refused_behind stack at passed (inr after) = Late passed after.0 after.1
+pub refused_late : (stack : Description) (at : LoadFault) → first_fault (checks_before stack) ≡ None → IsLateFault stack at → IsRefusedBy stack at
+refused_late stack at passed (inl ring) = OnCycle passed ring
+refused_late stack at passed (inr after) = Late passed after.0 after.1

@@ -1,11 +1,10 @@
 -- Names by their places: how a set of names tests them, and which stand twice.
 use Rattle.std.proofs.Common.{◌≡◌, ◌≢◌, ℕ, ◌+◌, ◌<◌, ◌≤◌, Bool, true, false, not, List, [], ◌∷◌, ◌++◌, Option, Some, None, Err, String, arith, refl, sym, ap, ◌∙◌, cond, drop, get_or, length, map, take}
-use Rattle.std.specs.Prelude.{find, is_none, is_some, nat_lt, position, reverse, string_bytes, unwrap_or, ◌||◌}
+use Rattle.std.specs.Prelude.{find, is_none, is_some, nat_lt, position, string_bytes, unwrap_or}
 use Rattle.std.specs.List.{list_any, position_from, position_or_len}
-use Rattle.std.proofs.lemmas.List.{drop_more, length-map, map-append, reverse-append, take_more}
+use Rattle.std.proofs.lemmas.List.{length-map, map-append, take_more}
 use Rattle.std.proofs.lemmas.Bool.{ltb-false}
 use Rattle.std.proofs.lemmas.Iterator.Adapters.{position_from-zero}
-use Rattle.std.proofs.lemmas.List.Folds.{list_any-append}
 use Rattle.std.proofs.lemmas.List.Sums.{prefix_len-le-length}
 use Rattle.std.proofs.lemmas.Slice.Eq.{bytes_eq-Decides}
 use Rattle.dm_table.specs.declared.place.Part.{Part}
@@ -14,7 +13,9 @@ use Rattle.dm_table.specs.declared.load_fault.LoadFault.{LoadFault}
 use Rattle.dm_table.specs.declared.load_fault.LoadKind.TheVariants.{Memory, Twice}
 use Rattle.dm_table.specs.LoadFault.{IsMemoryFault, first_or, unless}
 use Rattle.dm_stack.specs.Description.{is_same}
-use Rattle.dm_stack.specs.Soundness.{fault, twice_after}
+use Rattle.dm_stack.specs.Soundness.{fault, faults_by, is_repeated, with_before}
+use Rattle.dm_stack.proofs.ListLemmas.{any_mapped}
+use Rattle.dm_stack.proofs.WithBefore.{drop-with_before, none-with_before}
 
 same_by : (a b : List ℕ) (p q : Bool) → is_same a b ≡ p → is_same b a ≡ q → p ≡ q
 same_by a b true true s t = refl
@@ -54,60 +55,39 @@ any_names name (key ∷ keys) = rw (is_same-sym name (string_bytes key), any_nam
 
 -- Names that stand twice
 
-any_swapped : (name : List ℕ) (names : List (List ℕ)) → list_any (λ other. is_same other name) names ≡ list_any (is_same name) names
-any_swapped name [] = refl
-any_swapped name (other ∷ names) = rw (is_same-sym other name, any_swapped name names) refl
-
-or_swap : (p q : Bool) → (p || (q || false)) ≡ (q || p)
-or_swap true true = refl
-or_swap true false = refl
-or_swap false true = refl
-or_swap false false = refl
-
-any_reversed : (test : List ℕ → Bool) (names : List (List ℕ)) → list_any test (reverse names) ≡ list_any test names
-any_reversed test [] = refl
-any_reversed test (name ∷ names) =
-    ap (list_any test) (reverse-append (name ∷ []) names) ∙ list_any-append test (reverse names) (name ∷ []) ∙ ap (λ (p : Bool). p || (test name || false)) (any_reversed test names) ∙ or_swap (list_any test names) (test name)
-
--- the names of the first so many, the last of them first
-abbrev pub names_before : {X : Type 0} → (X → List ℕ) → List X → ℕ → List (List ℕ)
-names_before own xs i = reverse (map own (take i xs))
-
 -- whether a name is among those that were added
 abbrev pub seen_in : List ℕ → List (List ℕ) → Bool
 seen_in name names = list_any (λ other. is_same other name) names
-
-seen_before : {X : Type 0} (own : X → List ℕ) (name : List ℕ) (xs : List X) (i : ℕ) → seen_in name (map own (take i xs)) ≡ list_any (is_same name) (names_before own xs i)
-seen_before own name xs i = any_swapped name (map own (take i xs)) ∙ sym (any_reversed (is_same name) (map own (take i xs)))
-
-one_before : {X : Type 0} (own : X → List ℕ) (xs : List X) (i : ℕ) (x : X) → i < length xs → x ≡ get_or xs i x → names_before own xs (i + 1) ≡ own x ∷ names_before own xs i
-one_before {X} own xs i x within is =
-    ap (λ (ys : List X). reverse (map own ys)) (take_more xs i x within) ∙ ap reverse (map-append own (take i xs) (get_or xs i x ∷ [])) ∙ reverse-append (map own (take i xs)) (own (get_or xs i x) ∷ []) ∙ ap (λ (y : X). own y ∷ names_before own xs i) (sym is)
 
 pub names_more : {X : Type 0} (own : X → List ℕ) (xs : List X) (i : ℕ) (x : X) → i < length xs → x ≡ get_or xs i x → map own (take (i + 1) xs) ≡ map own (take i xs) ++ own x ∷ []
 names_more {X} own xs i x within is =
     ap (map own) (take_more xs i x within) ∙ map-append own (take i xs) (get_or xs i x ∷ []) ∙ ap (λ (y : X). map own (take i xs) ++ own y ∷ []) (sym is)
 
-twice_here : {X : Type 0} (own : X → List ℕ) (place : X → Place) (xs : List X) (i : ℕ) (x : X) → i < length xs → x ≡ get_or xs i x → list_any (is_same (own x)) (names_before own xs i) ≡ true → first_or (twice_after own place (names_before own xs i) (drop i xs)) None ≡ Some (fault Twice (place x))
-twice_here {X} own place xs i x within is seen =
-    let at : drop i xs ≡ x ∷ drop (i + 1) xs = drop_more xs i x within ∙ ap (λ (y : X). y ∷ drop (i + 1) xs) (sym is) in
-    rw (at, seen) refl
+-- the elements from here on whose name stands before them
+abbrev pub twice_from : {X : Type 0} → (X → List ℕ) → (X → Place) → List X → ℕ → List LoadFault
+twice_from own place xs i = faults_by Twice (λ x. place x.it) (is_repeated own) (drop i (with_before xs))
 
-twice_later : {X : Type 0} (own : X → List ℕ) (place : X → Place) (xs : List X) (i : ℕ) (x : X) → i < length xs → x ≡ get_or xs i x → list_any (is_same (own x)) (names_before own xs i) ≡ false → first_or (twice_after own place (names_before own xs (i + 1)) (drop (i + 1) xs)) None ≡ first_or (twice_after own place (names_before own xs i) (drop i xs)) None
-twice_later {X} own place xs i x within is new =
-    let at : drop i xs ≡ x ∷ drop (i + 1) xs = drop_more xs i x within ∙ ap (λ (y : X). y ∷ drop (i + 1) xs) (sym is) in
-    rw (one_before own xs i x within is, at, new) refl
+repeated_at : {X : Type 0} (own : X → List ℕ) (xs : List X) (i : ℕ) (x : X) (names : List (List ℕ)) (seen : Bool) → names ≡ map own (take i xs) → seen_in (own x) names ≡ seen → is_repeated own (record { before = take i xs; it = x }) ≡ seen
+repeated_at own xs i x names seen all is = sym (any_mapped own (λ other. is_same other (own x)) (take i xs)) ∙ ap (seen_in (own x)) (sym all) ∙ is
 
 -- where the next name is among those before it, and where it is not
-pub stands_twice : {X : Type 0} (own : X → List ℕ) (place : X → Place) (xs : List X) (i : ℕ) (x : X) (names : List (List ℕ)) → i < length xs → x ≡ get_or xs i x → names ≡ map own (take i xs) → seen_in (own x) names ≡ true → first_or (twice_after own place (names_before own xs i) (drop i xs)) None ≡ Some (fault Twice (place x))
-stands_twice own place xs i x names within is all seen =
-    twice_here own place xs i x within is (sym (seen_before own (own x) xs i) ∙ ap (seen_in (own x)) (sym all) ∙ seen)
+pub stands_twice : {X : Type 0} (own : X → List ℕ) (place : X → Place) (xs : List X) (i : ℕ) (x : X) (names : List (List ℕ)) → i < length xs → x ≡ get_or xs i x → names ≡ map own (take i xs) → seen_in (own x) names ≡ true → first_or (twice_from own place xs i) None ≡ Some (fault Twice (place x))
+stands_twice {X} own place xs i x names within is all seen =
+    let at = drop-with_before xs i x within is in
+    let here = repeated_at own xs i x names true all seen in
+    rw (at, here) refl
 
-pub stands_once : {X : Type 0} (own : X → List ℕ) (place : X → Place) (xs : List X) (i : ℕ) (x : X) (names : List (List ℕ)) → i < length xs → x ≡ get_or xs i x → names ≡ map own (take i xs) → seen_in (own x) names ≡ false → first_or (twice_after own place (names_before own xs (i + 1)) (drop (i + 1) xs)) None ≡ first_or (twice_after own place (names_before own xs i) (drop i xs)) None
-stands_once own place xs i x names within is all seen =
-    twice_later own place xs i x within is (sym (seen_before own (own x) xs i) ∙ ap (seen_in (own x)) (sym all) ∙ seen)
+pub stands_once : {X : Type 0} (own : X → List ℕ) (place : X → Place) (xs : List X) (i : ℕ) (x : X) (names : List (List ℕ)) → i < length xs → x ≡ get_or xs i x → names ≡ map own (take i xs) → seen_in (own x) names ≡ false → twice_from own place xs (i + 1) ≡ twice_from own place xs i
+stands_once {X} own place xs i x names within is all seen =
+    let at = drop-with_before xs i x within is in
+    let here = repeated_at own xs i x names false all seen in
+    rw (at, here) refl
 
--- the answer where a name stands twice
+-- every name was looked at
+pub stands_nowhere : {X : Type 0} (own : X → List ℕ) (place : X → Place) (xs : List X) (i : ℕ) → length xs ≤ i → twice_from own place xs i ≡ []
+stands_nowhere own place xs i past = let none = none-with_before xs i past in rw none refl
+
+-- what is returned where a name stands twice
 pub refused_twice : {Y : Type 0} (part : Part) (place : Place) (found : Option LoadFault) (value : Y) → found ≡ Some (fault Twice place) → (Twice ≡ Memory → IsMemoryFault part (fault Twice place)) × (Twice ≢ Memory → unless found value ≡ Err (fault Twice place))
 refused_twice {Y} part place found value e = (λ memory. absurd cc, λ other. ap (λ (o : Option LoadFault). unless o value) e)
 

@@ -1,5 +1,6 @@
 -- What it says that a check finds nothing.
-use Rattle.std.proofs.Common.{◌≡◌, Bool, true, false, cond, List, [], ◌∷◌, ◌++◌, Option, None, refl}
+use Rattle.std.proofs.Common.{◌≡◌, Bool, true, false, cond, List, [], ◌∷◌, ◌++◌, Option, None, map, refl}
+use Rattle.std.specs.Prelude.{filter}
 use Rattle.std.specs.List.{AllByRecursion}
 use Rattle.dm_table.specs.declared.place.Place.{Place}
 use Rattle.dm_table.specs.declared.load_fault.LoadKind.{LoadKind}
@@ -17,7 +18,7 @@ pub all_parts : {X : Type 0} (P : X → Type 0) (xs ys : List X) → AllByRecurs
 all_parts P [] ys h = (tt, h)
 all_parts P (x ∷ xs) ys h = let parts = all_parts P xs ys h.1 in ((h.0, parts.0), parts.1)
 
-cond_none : (fault : LoadFault) (later : List LoadFault) (b : Bool) → cond b (fault ∷ later) later ≡ [] → (b ≡ false) × (later ≡ [])
+pub cond_none : (fault : LoadFault) (later : List LoadFault) (b : Bool) → cond b (fault ∷ later) later ≡ [] → (b ≡ false) × (later ≡ [])
 cond_none fault later true e = absurd cc
 cond_none fault later false e = (refl, e)
 
@@ -27,6 +28,17 @@ faults_by_none kind place bad [] e = tt
 faults_by_none kind place bad (x ∷ xs) e =
     let parts = cond_none (record { kind = kind; at = place x }) (faults_by kind place bad xs) (bad x) e in
     (parts.0, faults_by_none kind place bad xs parts.1)
+
+cond_left : {X Y : Type 0} (f : X → Y) (x : X) (later : List X) (b : Bool) → map f (cond b (x ∷ later) later) ≡ [] → (b ≡ false) × (map f later ≡ [])
+cond_left f x later true e = absurd cc
+cond_left f x later false e = (refl, e)
+
+-- where nothing is made of the elements that pass a test, none passes it
+pub filter_none : {X Y : Type 0} (f : X → Y) (bad : X → Bool) (xs : List X) → map f (filter bad xs) ≡ [] → AllByRecursion (λ x. bad x ≡ false) xs
+filter_none f bad [] e = tt
+filter_none f bad (x ∷ xs) e =
+    let parts = cond_left f x (filter bad xs) (bad x) e in
+    (parts.0, filter_none f bad xs parts.1)
 
 pub first_none : (check : List LoadFault) (later : Option LoadFault) → first_or check later ≡ None → (check ≡ []) × (later ≡ None)
 first_none [] later e = (refl, e)

@@ -68,7 +68,7 @@ round_after g n before passed after closed is_before is_passed is_after =
     let e : suc n ≡ n + 1 = omega arith in
     is_after ∙ ap (λ (xs : List ℕ). map (depth_over xs) g) (is_passed ∙ is_before) ∙ depths_to-round g n closed ∙ ap (λ (m : ℕ). depths_to g m) e
 
--- and one that changes nothing is that of each number of levels behind it
+-- and one that changes nothing is that of each greater number of levels
 pub round_last : (g : List (List ℕ)) (n most : ℕ) (before after : List ℕ) → IsClosed g → n < most → before ≡ depths_to g n → after ≡ depths_to g (n + 1) → after ≡ before → before ≡ depths_to g most
 round_last g n most before after closed less is_before is_after same =
     let e : n + (most - n) ≡ most = omega arith in

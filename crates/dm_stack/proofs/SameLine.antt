@@ -6,8 +6,9 @@ use Rattle.dm_table.specs.declared.table.Line.{Line}
 use Rattle.dm_stack.specs.declared.found.FoundLine.{FoundLine}
 use Rattle.dm_stack.specs.Description.{Description, lines_at}
 use Rattle.dm_stack.specs.Below.{holds, line_of, found_line, found_at}
-use Rattle.dm_stack.specs.Soundness.{misplaced_from, IsSound}
-use Rattle.dm_stack.proofs.SoundLines.{placed, there, device_sound, lines_there}
+use Rattle.dm_stack.specs.Soundness.{IsSound}
+use Rattle.dm_stack.proofs.LayoutLemmas.{AreInRow}
+use Rattle.dm_stack.proofs.SoundLines.{there, device_sound, lines_there}
 
 -- Lines that start where the one before ends
 
@@ -15,12 +16,11 @@ starts_here : (end sector : ℕ) (first line : Line) (lines : List Line) (b : Bo
 starts_here end sector first line lines true start later is = let same : first ≡ line = cc in let starts = ap (λ (l : Line). l.start) same in omega arith
 starts_here end sector first line lines false start later is = let behind = later is in omega arith
 
--- a line that was found starts behind the end of those before it
-starts_behind : (end : ℕ) (lines : List Line) (sector : ℕ) (line : Line) → misplaced_from end lines ≡ [] → line_of lines sector ≡ Some line → end ≤ line.start
-starts_behind end [] sector line e is = absurd cc
-starts_behind end (first ∷ lines) sector line e is =
-    let at = placed end first lines e in
-    starts_here end sector first line lines (holds sector first) at.start (λ later. starts_behind (first.start + first.len) lines sector line at.rest later) is
+-- a line that was found starts after the end of those before it
+starts_after : (end : ℕ) (lines : List Line) (sector : ℕ) (line : Line) → AreInRow end lines → line_of lines sector ≡ Some line → end ≤ line.start
+starts_after end [] sector line e is = absurd cc
+starts_after end (first ∷ lines) sector line e is =
+    starts_here end sector first line lines (holds sector first) e.0 (λ later. starts_after (first.start + first.len) lines sector line e.1 later) is
 
 holds_between : (line : Line) (sector : ℕ) → line.start ≤ sector → sector < line.start + line.len → holds sector line ≡ true
 holds_between line sector from before = rw (le-leb line.start sector from, lt-ltb sector (line.start + line.len) before) refl
@@ -43,13 +43,12 @@ same_here sector other first line lines false from before behind later is =
     let past = behind is in
     rw (holds_none first other (omega (arith, past, from))) (later is)
 
-same_line : (end : ℕ) (lines : List Line) (sector other : ℕ) (line : Line) → misplaced_from end lines ≡ [] → line_of lines sector ≡ Some line → line.start ≤ other → other < line.start + line.len → line_of lines other ≡ Some line
+same_line : (end : ℕ) (lines : List Line) (sector other : ℕ) (line : Line) → AreInRow end lines → line_of lines sector ≡ Some line → line.start ≤ other → other < line.start + line.len → line_of lines other ≡ Some line
 same_line end [] sector other line e is from before = absurd cc
 same_line end (first ∷ lines) sector other line e is from before =
-    let at = placed end first lines e in
     same_here sector other first line lines (holds sector first) from before
-    (λ later. starts_behind (first.start + first.len) lines sector line at.rest later)
-    (λ later. same_line (first.start + first.len) lines sector other line at.rest later from before) is
+    (λ later. starts_after (first.start + first.len) lines sector line e.1 later)
+    (λ later. same_line (first.start + first.len) lines sector other line e.1 later from before) is
 
 -- The lines of a device
 

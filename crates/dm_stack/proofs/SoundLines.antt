@@ -16,7 +16,9 @@ use Rattle.dm_table.specs.declared.load_fault.LoadKind.TheVariants.{Limit, Empty
 use Rattle.dm_stack.specs.declared.found.FoundLine.{FoundLine}
 use Rattle.dm_stack.specs.Description.{Description, lines_at, lines_or_none, end_of, device_len}
 use Rattle.dm_stack.specs.Below.{holds, line_of, found_line, found_lines, found_columns, found_target, found_at, has_sector, LiesIn, AreStripes, IsTargetSound, HoldsSoundly}
-use Rattle.dm_stack.specs.Soundness.{all_lines, is_large, is_far, without_lines, empty_in, misplaced_from, is_bad_stripe, has_bad_stripes, is_past, passes_end, HaveSmallEnds, IsSound}
+use Rattle.dm_stack.specs.Soundness.{all_lines, is_large, is_far, without_lines, empty_in, misplaced_in, is_bad_stripe, has_bad_stripes, is_past, passes_end, HaveSmallEnds, IsSound}
+use Rattle.dm_stack.specs.Span.{column_span, spans, target_spans}
+use Rattle.dm_stack.proofs.LayoutLemmas.{AreInRow, in_row}
 use Rattle.dm_stack.proofs.Passes.{append_none, all_parts, faults_by_none, passes_before, passes_after}
 
 -- A search in a list, and in what its elements become
@@ -48,22 +50,6 @@ found P test (first ∷ xs) x h e = cond_found P test first x (find test xs) (te
 
 -- Lines that start where the one before ends
 
-cond_empty : {X : Type 0} (b : Bool) (x : X) (xs ys : List X) → cond b (x ∷ xs) ys ≡ [] → (b ≡ false) × (ys ≡ [])
-cond_empty true x xs ys e = absurd cc
-cond_empty false x xs ys e = (refl, e)
-
-pub record IsPlaced (end : ℕ) (line : Line) (lines : List Line) : Type 0 where
-  pub start : line.start ≡ end
-  pub rest : misplaced_from (line.start + line.len) lines ≡ []
-
-pub placed : (end : ℕ) (line : Line) (lines : List Line) → misplaced_from end (line ∷ lines) ≡ [] → IsPlaced end line lines
-placed end line lines e =
-    let gap = cond_empty (nat_lt end line.start) _ _ _ e in
-    let overlap = cond_empty (nat_lt line.start end) _ _ _ gap.1 in
-    let a : line.start ≤ end = ltb-false _ _ gap.0 in
-    let b : end ≤ line.start = ltb-false _ _ overlap.0 in
-    record { start = omega (arith, a, b); rest = overlap.1 }
-
 -- one of them holds each sector before the end of the last
 pub record IsHeld (lines : List Line) (sector : ℕ) : Type 0 where
   pub line : Line
@@ -81,14 +67,12 @@ passed line sector from none =
     let parts : nat_lt sector (line.start + line.len) ≡ false = subst (λ (b : Bool). (b && nat_lt sector (line.start + line.len)) ≡ false) (le-leb line.start sector from) none in
     ltb-false _ _ parts
 
-pub held : (end : ℕ) (lines : List Line) (sector : ℕ) → misplaced_from end lines ≡ [] → end ≤ sector → sector < end_of lines → IsHeld lines sector
-held end [] sector e from before = absurd (omega (arith, before))
-held end (line ∷ []) sector e from before =
-    let at = placed end line [] e in
-    held_here line [] sector (holds sector line) refl (λ none. absurd (let yes : holds sector line ≡ true = holds_from line sector (omega (arith, at.start, from)) before in cc))
-held end (line ∷ next ∷ lines) sector e from before =
-    let at = placed end line (next ∷ lines) e in
-    held_here line (next ∷ lines) sector (holds sector line) refl (λ none. held (line.start + line.len) (next ∷ lines) sector at.rest (passed line sector (omega (arith, at.start, from)) none) before)
+pub held : (end : ℕ) (lines : List Line) (sector : ℕ) → AreInRow end lines → end ≤ sector → sector < end_of lines → IsHeld lines sector
+held end [] sector row from before = absurd (omega (arith, before))
+held end (line ∷ []) sector row from before =
+    held_here line [] sector (holds sector line) refl (λ none. absurd (let yes : holds sector line ≡ true = holds_from line sector (omega (arith, row.0, from)) before in cc))
+held end (line ∷ next ∷ lines) sector row from before =
+    held_here line (next ∷ lines) sector (holds sector line) refl (λ none. held (line.start + line.len) (next ∷ lines) sector row.1 (passed line sector (omega (arith, row.0, from)) none) before)
 
 -- The lines of one device
 
@@ -108,13 +92,13 @@ positive (suc n) e = omega arith
 share : (n m : ℕ) → (n % m == 0) ≡ true → n ≡ m * (n / m)
 share n m e = let none : n % m ≡ 0 = eqb-true _ _ e in let sum : m * (n / m) + n % m ≡ n = div-add-mod n m in omega (arith, none, sum)
 
-columns_inside : (stack : Description) (len : ℕ) (columns : List Column) → list_any (λ column. is_past stack column.to column.offset len) columns ≡ false → AllByRecursion (λ column. LiesIn stack column.to column.offset len) (found_columns stack columns)
+columns_inside : (stack : Description) (len : ℕ) (columns : List Column) → list_any (is_past stack) (map (column_span len) columns) ≡ false → AllByRecursion (λ column. LiesIn stack column.to column.offset len) (found_columns stack columns)
 columns_inside stack len [] e = tt
 columns_inside stack len (column ∷ columns) e =
-    let parts = or_parts (is_past stack column.to column.offset len) _ e in
+    let parts = or_parts (is_past stack (column_span len column)) _ e in
     (ltb-false _ _ parts.0, columns_inside stack len columns parts.1)
 
-stripes_sound : (stack : Description) (len chunk : ℕ) (columns : List Column) → is_bad_stripe len chunk (length columns) ≡ false → list_any (λ column. is_past stack column.to column.offset (len / length columns)) columns ≡ false → AreStripes stack len chunk (found_columns stack columns)
+stripes_sound : (stack : Description) (len chunk : ℕ) (columns : List Column) → is_bad_stripe len chunk (length columns) ≡ false → list_any (is_past stack) (map (column_span (len / length columns)) columns) ≡ false → AreStripes stack len chunk (found_columns stack columns)
 stripes_sound stack len chunk columns good inside =
     let a = or_parts (length columns == 0) _ good in
     let b = or_parts (nat_lt 128 (length columns)) _ a.1 in
@@ -124,12 +108,11 @@ stripes_sound stack len chunk columns good inside =
     let some : 0 < length columns = positive (length columns) a.0 in
     let few : length columns ≤ 128 = ltb-false _ _ b.0 in
     let same : length (found_columns stack columns) ≡ length columns = length-map columns _ in
-    let small : chunk ≤ 4294967295 = ltb-false _ _ d.0 in
     record {
       some = subst (λ (n : ℕ). 0 < n) (sym same) some;
       few = subst (λ (n : ℕ). n ≤ 128) (sym same) few;
       chunk_some = positive chunk c.0;
-      chunk_small = omega (arith, small);
+      chunk_small = ltb-false _ _ d.0;
       column_len = len / length columns;
       chunks = len / length columns / chunk;
       shares = share len (length columns) (not-false _ f.0) ∙ ap (λ (n : ℕ). n * (len / length columns)) (sym same);
@@ -137,28 +120,28 @@ stripes_sound stack len chunk columns good inside =
       inside = columns_inside stack (len / length columns) columns inside;
     }
 
-target_sound : (stack : Description) (len : ℕ) (line : Line) (target : Target) → has_bad_stripes line target ≡ false → passes_end stack line.len target ≡ false → IsTargetSound stack line.len (found_target stack target)
-target_sound stack len line (targets.Linear to offset) good inside = ltb-false _ _ inside
-target_sound stack len line (targets.Striped chunk columns) good inside = stripes_sound stack line.len chunk columns good inside
-target_sound stack len line targets.Zero good inside = tt
-target_sound stack len line targets.Error good inside = tt
+target_sound : (stack : Description) (line : Line) (target : Target) → has_bad_stripes line target ≡ false → list_any (is_past stack) (target_spans line.len target) ≡ false → IsTargetSound stack line.len (found_target stack target)
+target_sound stack line (targets.Linear to offset) good inside = ltb-false _ _ (or_parts (is_past stack (record { to = to; offset = offset; len = line.len; read_only = false })) false inside).0
+target_sound stack line (targets.Striped chunk columns) good inside = stripes_sound stack line.len chunk columns good inside
+target_sound stack line targets.Zero good inside = tt
+target_sound stack line targets.Error good inside = tt
 
 -- The line of a sector of a sound stack
 
 line_small : (line : Line) → is_large line ≡ false → line.start + line.len ≤ 2 ^ 50
 line_small line large =
-    let a = or_parts (nat_lt (2 ^ 50) line.start) (nat_lt (2 ^ 50) line.len || (nat_lt (2 ^ 50) (line.start + line.len) || is_far line.target)) large in
-    let b = or_parts (nat_lt (2 ^ 50) line.len) (nat_lt (2 ^ 50) (line.start + line.len) || is_far line.target) a.1 in
-    let c = or_parts (nat_lt (2 ^ 50) (line.start + line.len)) (is_far line.target) b.1 in
+    let a = or_parts (nat_lt (2 ^ 50) line.start) (nat_lt (2 ^ 50) line.len || (nat_lt (2 ^ 50) (line.start + line.len) || list_any is_far (spans line))) large in
+    let b = or_parts (nat_lt (2 ^ 50) line.len) (nat_lt (2 ^ 50) (line.start + line.len) || list_any is_far (spans line)) a.1 in
+    let c = or_parts (nat_lt (2 ^ 50) (line.start + line.len)) (list_any is_far (spans line)) b.1 in
     ltb-false _ _ c.0
 
 -- what the checks say of the lines of a device
 pub record IsDeviceSound (stack : Description) (device : DeviceSpec) : Type 0 where
   pub small : AllByRecursion (λ line. is_large line ≡ false) device.lines
   pub striped : AllByRecursion (λ line. has_bad_stripes line line.target ≡ false) device.lines
-  pub inside : AllByRecursion (λ line. passes_end stack line.len line.target ≡ false) device.lines
+  pub inside : AllByRecursion (λ line. passes_end stack line ≡ false) device.lines
   pub filled : empty_in device ≡ []
-  pub placed : misplaced_from 0 device.lines ≡ []
+  pub placed : AreInRow 0 device.lines
 
 part_of : {X : Type 0} (check : DeviceSpec → List X) (devices : List DeviceSpec) (id : ℕ) (device : DeviceSpec) → flat_map check devices ≡ [] → slice_get devices id ≡ Some device → check device ≡ []
 part_of check [] id device e at = absurd cc
@@ -173,9 +156,9 @@ device_sound stack id device sound at =
     record {
       small = of_device (λ line. is_large line ≡ false) stack.devices id device (faults_by_none Limit (λ line. line.at) is_large (all_lines stack.devices) (append_none _ _ p.small).0) at;
       striped = of_device (λ line. has_bad_stripes line line.target ≡ false) stack.devices id device (faults_by_none Stripe (λ line. line.at) (λ line. has_bad_stripes line line.target) (all_lines stack.devices) q.divided) at;
-      inside = of_device (λ line. passes_end stack line.len line.target ≡ false) stack.devices id device (faults_by_none Range (λ line. line.at) (λ line. passes_end stack line.len line.target) (all_lines stack.devices) q.inside) at;
+      inside = of_device (λ line. passes_end stack line ≡ false) stack.devices id device (faults_by_none Range (λ line. line.at) (passes_end stack) (all_lines stack.devices) q.inside) at;
       filled = part_of empty_in stack.devices id device (append_none _ _ p.filled).0 at;
-      placed = part_of (λ d. misplaced_from 0 d.lines) stack.devices id device p.placed at;
+      placed = in_row device.lines (part_of (λ d. misplaced_in d.lines) stack.devices id device p.placed at);
     }
 
 -- a device is there where its id is below the count
@@ -205,7 +188,7 @@ sector_found stack id sector sound within inside =
     let h = held 0 d.it.lines sector s.placed (omega arith) (subst (λ (ls : List Line). sector < end_of ls) lines inside) in
     let a = found (λ line. is_large line ≡ false) (holds sector) d.it.lines h.line s.small h.is in
     let b = found (λ line. has_bad_stripes line line.target ≡ false) (holds sector) d.it.lines h.line s.striped h.is in
-    let c = found (λ line. passes_end stack line.len line.target ≡ false) (holds sector) d.it.lines h.line s.inside h.is in
+    let c = found (λ line. passes_end stack line ≡ false) (holds sector) d.it.lines h.line s.inside h.is in
     let parts = and_parts (nat_le h.line.start sector) (nat_lt sector (h.line.start + h.line.len)) a.0 in
     record {
       line = found_line stack h.line;
@@ -214,7 +197,7 @@ sector_found stack id sector sound within inside =
         from = leb-true _ _ parts.0;
         before = ltb-true _ _ parts.1;
         small = line_small h.line a.1;
-        target = target_sound stack h.line.len h.line h.line.target b.1 c.1;
+        target = target_sound stack h.line h.line.target b.1 c.1;
       };
     }
 

@@ -1,5 +1,5 @@
 -- The line of a sector, and what lies below it (the kernel's admin guide, device-mapper/linear and striped).
-use Rattle.std.specs.Prelude.{ℕ, ◌+◌, ◌-◌, ◌*◌, ◌/◌, ◌%◌, ◌&&◌, ◌≡◌, ◌≤◌, ◌<◌, ◌^◌, Bool, List, Option, Some, None, find, length, map, nat_le, nat_lt, option_map, slice_get}
+use Rattle.std.specs.Prelude.{ℕ, ◌+◌, ◌-◌, ◌*◌, ◌/◌, ◌%◌, ◌&&◌, ◌≡◌, ◌≤◌, ◌<◌, Bool, List, Option, Some, None, find, length, map, nat_le, nat_lt, option_map, slice_get}
 use Rattle.std.specs.List.{AllByRecursion}
 use Rattle.dm_table.specs.declared.table.Column.{Column}
 use Rattle.dm_table.specs.declared.table.Target.{Target}
@@ -10,6 +10,7 @@ use Rattle.dm_stack.specs.declared.found.FoundColumn.{FoundColumn}
 use Rattle.dm_stack.specs.declared.found.FoundTarget.{FoundTarget}
 use Rattle.dm_stack.specs.declared.found.FoundTarget.TheVariants as found
 use Rattle.dm_stack.specs.declared.found.FoundLine.{FoundLine}
+use Rattle.dm_stack.specs.declared.limits.TheConstants.{MOST_CHUNK, MOST_LENGTH, MOST_STRIPES}
 use Rattle.dm_stack.specs.Description.{Description, lower_of, lower_len, lines_at}
 
 -- a line has the sectors from its start to before its end
@@ -79,16 +80,16 @@ below stack device sector = below_line (found_at stack device sector) sector
 
 -- A line of a sound stack, that holds a sector
 
--- the first so many sectors of what is named from an offset on are there
+-- len sectors of what is named, from an offset on, are there
 abbrev pub LiesIn : Description → Lower → ℕ → ℕ → Type 0
 LiesIn stack to offset len = offset + len ≤ lower_len stack to
 
 -- the columns of a stripe are as long as their share of the line
 pub record AreStripes (stack : Description) (len chunk : ℕ) (columns : List FoundColumn) : Type 0 where
   pub some : 0 < length columns
-  pub few : length columns ≤ 128
+  pub few : length columns ≤ MOST_STRIPES
   pub chunk_some : 0 < chunk
-  pub chunk_small : chunk < 2 ^ 32
+  pub chunk_small : chunk ≤ MOST_CHUNK
   pub column_len : ℕ
   pub chunks : ℕ
   pub shares : len ≡ length columns * column_len
@@ -104,5 +105,5 @@ IsTargetSound stack len found.Error = Unit {0}
 pub record HoldsSoundly (stack : Description) (line : FoundLine) (sector : ℕ) : Type 0 where
   pub from : line.start ≤ sector
   pub before : sector < line.start + line.len
-  pub small : line.start + line.len ≤ 2 ^ 50
+  pub small : line.start + line.len ≤ MOST_LENGTH
   pub target : IsTargetSound stack line.len line.target

@@ -4,16 +4,14 @@ use Rattle.std.specs.List.{flat_map, position_or_len}
 use Rattle.std.specs.Cmp.Lexicographic.{pointwise}
 use Rattle.dm_table.specs.declared.table.DevRef.{DevRef}
 use Rattle.dm_table.specs.declared.table.DevRef.TheVariants as refs
-use Rattle.dm_table.specs.declared.table.Column.{Column}
-use Rattle.dm_table.specs.declared.table.Target.{Target}
-use Rattle.dm_table.specs.declared.table.Target.TheVariants as targets
 use Rattle.dm_table.specs.declared.table.Line.{Line}
 use Rattle.dm_table.specs.declared.table.DeviceSpec.{DeviceSpec}
 use Rattle.dm_table.specs.declared.disk.Disk.{Disk}
 use Rattle.dm_stack.specs.declared.id.Lower.{Lower}
 use Rattle.dm_stack.specs.declared.id.Lower.TheVariants as lowers
+use Rattle.dm_stack.specs.Span.{spans}
 
--- the devices that one list says, and the disks that the other says
+-- the devices of one list, and the disks of the other
 pub record Description : Type 0 where
   pub devices : List DeviceSpec
   pub disks : List Disk
@@ -29,7 +27,7 @@ device_named devices name = find (λ device. is_same device.name name) devices
 abbrev pub disk_named : List Disk → List ℕ → Option Disk
 disk_named disks name = find (λ disk. is_same disk.name name) disks
 
--- the id of a name: the index of the first of that name, or that behind the last where none has it
+-- the id of a name: the index of the first of that name, or the number of them where none has it
 abbrev pub device_id : Description → List ℕ → ℕ
 device_id stack name = position_or_len (λ device. is_same device.name name) stack.devices
 
@@ -93,24 +91,17 @@ abbrev pub lower_len : Description → Lower → ℕ
 lower_len stack (lowers.Device device) = device_len stack device
 lower_len stack (lowers.Disk disk) = disk_len stack disk
 
--- what the columns of a line name, and what the line does
-abbrev pub column_refs : List Column → List DevRef
-column_refs columns = map (λ column. column.to) columns
-
-abbrev pub target_refs : Target → List DevRef
-target_refs (targets.Linear to offset) = to ∷ []
-target_refs (targets.Striped chunk columns) = column_refs columns
-target_refs targets.Zero = []
-target_refs targets.Error = []
-
 -- the devices among what is named, by their ids
 abbrev pub ref_link : Description → DevRef → List ℕ
 ref_link stack (refs.Device name) = device_id stack name ∷ []
 ref_link stack (refs.Disk name) = []
 
--- the devices that a device names, by their ids
+-- the devices that a line names, and that the lines of a device do, by their ids
+abbrev pub line_links : Description → Line → List ℕ
+line_links stack line = flat_map (λ span. ref_link stack span.to) (spans line)
+
 abbrev pub device_links : Description → DeviceSpec → List ℕ
-device_links stack device = flat_map (λ line. flat_map (ref_link stack) (target_refs line.target)) device.lines
+device_links stack device = flat_map (line_links stack) device.lines
 
 -- which devices name which
 abbrev pub links : Description → List (List ℕ)

@@ -9,7 +9,7 @@ use Rattle.std.specs.Global.{Vec}
 abbrev pub links_in : List (Vec ℕ) → List (List ℕ)
 links_in links = map (λ named. named.items) links
 
--- what a device names: the list at its index, nothing behind the last
+-- what a device names: the list at its index, nothing past the last
 abbrev pub links_of : List (List ℕ) → ℕ → List ℕ
 links_of g d = slice_index_or g d []
 

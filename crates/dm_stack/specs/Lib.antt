@@ -1,8 +1,8 @@
 pub mod Below
 pub mod Description
 pub mod Graph
-pub mod Links
 pub mod Load
 pub mod Loaded
 pub mod NameIndex
 pub mod Soundness
+pub mod Span

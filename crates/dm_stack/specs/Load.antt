@@ -1,4 +1,4 @@
--- What is told of a description once its names and its lines are checked.
+-- What a load finds in a description once its names and its lines are checked.
 use Rattle.std.specs.Prelude.{◌≡◌, ◌⊎◌, ℕ, ◌<◌, length, List, Option, Some, None}
 use Rattle.dm_table.specs.declared.load_fault.LoadFault.{LoadFault}
 use Rattle.dm_table.specs.LoadFault.{first_fault}
@@ -12,14 +12,14 @@ IsFirstRing g (Some d) = (d < length g) × (Reaches g d d) × ((e : ℕ) → e <
 IsFirstRing g None = (d : ℕ) → d < length g → Reaches g d d → ⊥
 
 -- a fault of the check for cycles, or of one after it
-abbrev pub IsRefusedBehind : Description → LoadFault → Type 0
-IsRefusedBehind stack found = IsFirstCycle stack found ⊎ (HasNoCycle stack × (first_fault (checks_after stack) ≡ Some found))
+abbrev pub IsLateFault : Description → LoadFault → Type 0
+IsLateFault stack found = IsFirstCycle stack found ⊎ (HasNoCycle stack × (first_fault (checks_after stack) ≡ Some found))
 
 -- neither the check for cycles nor one after it finds a fault
-abbrev pub PassesBehind : Description → Type 0
-PassesBehind stack = HasNoCycle stack × (first_fault (checks_after stack) ≡ None)
+abbrev pub HasNoLateFault : Description → Type 0
+HasNoLateFault stack = HasNoCycle stack × (first_fault (checks_after stack) ≡ None)
 
--- what the checks of cycles and depths answer
-abbrev pub IsBehind : Description → Option LoadFault → Type 0
-IsBehind stack (Some found) = IsRefusedBehind stack found
-IsBehind stack None = PassesBehind stack
+-- the first of these faults, if any
+abbrev pub IsLateResult : Description → Option LoadFault → Type 0
+IsLateResult stack (Some found) = IsLateFault stack found
+IsLateResult stack None = HasNoLateFault stack

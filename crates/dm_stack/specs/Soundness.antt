@@ -1,5 +1,5 @@
 -- The checks of a load, over the devices and the disks that it is handed.
-use Rattle.std.specs.Prelude.{◌≡◌, ℕ, suc, ◌+◌, ◌/◌, ◌%◌, ◌≤◌, ◌<◌, Bool, true, false, not, ◌||◌, ◌==◌, List, [], ◌∷◌, ◌++◌, Some, None, drop, length, is_none, nat_lt, if◌then◌else◌}
+use Rattle.std.specs.Prelude.{◌≡◌, ℕ, suc, ◌+◌, ◌/◌, ◌%◌, ◌≤◌, ◌<◌, Bool, true, false, not, ◌||◌, ◌==◌, List, [], ◌∷◌, ◌++◌, Some, None, drop, filter, length, map, is_none, nat_lt, if◌then◌else◌}
 use Rattle.std.specs.List.{All, flat_map, list_any}
 use Rattle.dm_table.specs.declared.table.DevRef.{DevRef}
 use Rattle.dm_table.specs.declared.table.DevRef.TheVariants as refs
@@ -12,7 +12,8 @@ use Rattle.dm_table.specs.declared.load_fault.LoadKind.{LoadKind}
 use Rattle.dm_table.specs.declared.load_fault.LoadKind.TheVariants.{Limit, Twice, Empty, Gap, Overlap, Unknown, Cycle, Deep, Stripe, Range}
 use Rattle.dm_table.specs.declared.load_fault.LoadFault.{LoadFault}
 use Rattle.dm_table.specs.LoadFault.{first_fault}
-use Rattle.dm_stack.specs.Description.{Description, is_same, device_named, disk_named, lower_of, lower_len, target_refs, links}
+use Rattle.dm_stack.specs.Description.{Description, is_same, device_named, disk_named, end_of, lower_of, lower_len, links}
+use Rattle.dm_stack.specs.Span.{Span, spans}
 use Rattle.dm_stack.specs.Graph.{Reaches, depth_to}
 use Rattle.dm_stack.specs.declared.graph.TheConstants.{MOST_DEPTH}
 use Rattle.dm_stack.specs.declared.limits.TheConstants.{MOST_DEVICES, MOST_DISKS, MOST_LINES, MOST_LENGTH, MOST_STRIPES, MOST_CHUNK}
@@ -34,7 +35,7 @@ all_lines devices = flat_map (λ device. device.lines) devices
 abbrev pub line_faults : LoadKind → (Line → Bool) → Description → List LoadFault
 line_faults kind bad stack = faults_by kind (λ line. line.at) bad (all_lines stack.devices)
 
--- the elements behind the first so many
+-- the elements after the first most
 abbrev pub past : {X : Type 0} → ℕ → (X → Place) → List X → List LoadFault
 past most place xs = faults_by Limit place (λ x. true) (drop most xs)
 
@@ -45,16 +46,13 @@ too_many stack =
     ++ past MOST_LINES (λ line. line.at) (all_lines stack.devices)
 
 -- an offset above the limit
-abbrev pub is_far : Target → Bool
-is_far (targets.Linear to offset) = nat_lt MOST_LENGTH offset
-is_far (targets.Striped chunk columns) = list_any (λ column. nat_lt MOST_LENGTH column.offset) columns
-is_far targets.Zero = false
-is_far targets.Error = false
+abbrev pub is_far : Span → Bool
+is_far span = nat_lt MOST_LENGTH span.offset
 
 -- a start, a length, an end or an offset above the limit
 abbrev pub is_large : Line → Bool
 is_large line =
-    nat_lt MOST_LENGTH line.start || (nat_lt MOST_LENGTH line.len || (nat_lt MOST_LENGTH (line.start + line.len) || is_far line.target))
+    nat_lt MOST_LENGTH line.start || (nat_lt MOST_LENGTH line.len || (nat_lt MOST_LENGTH (line.start + line.len) || list_any is_far (spans line)))
 
 -- lines whose ends are within the limit, so that they can be added up
 abbrev pub HaveSmallEnds : List Line → Type 0
@@ -64,18 +62,28 @@ HaveSmallEnds lines = All (λ line. line.start + line.len ≤ MOST_LENGTH) lines
 abbrev pub too_large : Description → List LoadFault
 too_large stack = line_faults Limit is_large stack ++ faults_by Limit (λ disk. disk.at) (λ disk. nat_lt MOST_LENGTH disk.len) stack.disks
 
--- the elements whose name is among the names before them, seen first
-abbrev pub twice_after : {X : Type 0} → (X → List ℕ) → (X → Place) → List (List ℕ) → List X → List LoadFault
-twice_after name place seen [] = []
-twice_after name place seen (x ∷ xs) =
-    if list_any (is_same (name x)) seen then fault Twice (place x) ∷ twice_after name place (name x ∷ seen) xs
-    else twice_after name place (name x ∷ seen) xs
+-- an element of a list, and those before it
+pub record WithBefore (X : Type 0) : Type 0 where
+  pub before : List X
+  pub it : X
+
+-- the elements of a list, each with those before it
+abbrev pub with_before : {X : Type 0} → List X → List (WithBefore X)
+with_before [] = []
+with_before (x ∷ xs) = record { before = []; it = x } ∷ map (λ later. record { before = x ∷ later.before; it = later.it }) (with_before xs)
+
+-- an element whose name one before it has
+abbrev pub is_repeated : {X : Type 0} → (X → List ℕ) → WithBefore X → Bool
+is_repeated name x = list_any (λ other. is_same (name other) (name x.it)) x.before
+
+abbrev pub twice_in : {X : Type 0} → (X → List ℕ) → (X → Place) → List X → List LoadFault
+twice_in name place xs = faults_by Twice (λ x. place x.it) (is_repeated name) (with_before xs)
 
 -- a device's name that an earlier one has, then a disk's
 abbrev pub twice : Description → List LoadFault
 twice stack =
-    twice_after (λ device. device.name) (λ device. device.at) [] stack.devices
-    ++ twice_after (λ disk. disk.name) (λ disk. disk.at) [] stack.disks
+    twice_in (λ device. device.name) (λ device. device.at) stack.devices
+    ++ twice_in (λ disk. disk.name) (λ disk. disk.at) stack.disks
 
 -- a device without lines
 abbrev pub without_lines : DeviceSpec → List Line → List LoadFault
@@ -90,27 +98,31 @@ empty_in device = without_lines device device.lines ++ faults_by Empty (λ line.
 abbrev pub empty : Description → List LoadFault
 empty stack = flat_map empty_in stack.devices ++ faults_by Empty (λ disk. disk.at) (λ disk. disk.len == 0) stack.disks
 
--- lines that start after, or before, the end of the one before, which ends here
-abbrev pub misplaced_from : ℕ → List Line → List LoadFault
-misplaced_from end [] = []
-misplaced_from end (line ∷ lines) =
-    if nat_lt end line.start then fault Gap line.at ∷ misplaced_from (line.start + line.len) lines
-    else (if nat_lt line.start end then fault Overlap line.at ∷ misplaced_from (line.start + line.len) lines
-    else misplaced_from (line.start + line.len) lines)
+-- a line that starts elsewhere than at the end of the one before, or, as the first, elsewhere than at 0
+abbrev pub is_misplaced : WithBefore Line → Bool
+is_misplaced line = not (line.it.start == end_of line.before)
+
+-- after that end it leaves a gap, before it it overlaps the line before
+abbrev pub misplaced_kind : WithBefore Line → LoadKind
+misplaced_kind line = if nat_lt (end_of line.before) line.it.start then Gap else Overlap
+
+abbrev pub misplaced_in : List Line → List LoadFault
+misplaced_in lines = map (λ line. fault (misplaced_kind line) line.it.at) (filter is_misplaced (with_before lines))
 
 abbrev pub misplaced : Description → List LoadFault
-misplaced stack = flat_map (λ device. misplaced_from 0 device.lines) stack.devices
+misplaced stack = flat_map (λ device. misplaced_in device.lines) stack.devices
 
--- a line that names a device or a disk that is not there
+-- a name of no device or disk
 abbrev pub is_unknown_ref : Description → DevRef → Bool
 is_unknown_ref stack (refs.Device name) = is_none (device_named stack.devices name)
 is_unknown_ref stack (refs.Disk name) = is_none (disk_named stack.disks name)
 
-abbrev pub is_unknown : Description → Target → Bool
-is_unknown stack target = list_any (is_unknown_ref stack) (target_refs target)
+-- a line that names what is not there
+abbrev pub is_unknown : Description → Line → Bool
+is_unknown stack line = list_any (λ span. is_unknown_ref stack span.to) (spans line)
 
 abbrev pub unknown : Description → List LoadFault
-unknown stack = line_faults Unknown (λ line. is_unknown stack line.target) stack
+unknown stack = line_faults Unknown (is_unknown stack) stack
 
 -- the faults of a kind at the devices whose id is bad, where the first has this id
 abbrev pub faults_at : LoadKind → (ℕ → Bool) → ℕ → List DeviceSpec → List LoadFault
@@ -118,7 +130,7 @@ faults_at kind bad id [] = []
 faults_at kind bad id (device ∷ devices) =
     if bad id then fault kind device.at ∷ faults_at kind bad (suc id) devices else faults_at kind bad (suc id) devices
 
--- the depth of a device: 1 plus the greatest of the devices that it names, as far as it can be told from one above the limit
+-- the depth of a device: 1 plus the greatest of the devices that it names, followed up to one above the limit
 abbrev pub depth_of : Description → ℕ → ℕ
 depth_of stack device = depth_to (links stack) (suc MOST_DEPTH) device
 
@@ -141,17 +153,14 @@ abbrev pub stripe : Description → List LoadFault
 stripe stack = line_faults Stripe (λ line. has_bad_stripes line line.target) stack
 
 -- a line that passes the end of what it names
-abbrev pub is_past : Description → DevRef → (offset len : ℕ) → Bool
-is_past stack to offset len = nat_lt (lower_len stack (lower_of stack to)) (offset + len)
+abbrev pub is_past : Description → Span → Bool
+is_past stack span = nat_lt (lower_len stack (lower_of stack span.to)) (span.offset + span.len)
 
-abbrev pub passes_end : Description → ℕ → Target → Bool
-passes_end stack len (targets.Linear to offset) = is_past stack to offset len
-passes_end stack len (targets.Striped chunk columns) = list_any (λ column. is_past stack column.to column.offset (len / length columns)) columns
-passes_end stack len targets.Zero = false
-passes_end stack len targets.Error = false
+abbrev pub passes_end : Description → Line → Bool
+passes_end stack line = list_any (is_past stack) (spans line)
 
 abbrev pub range : Description → List LoadFault
-range stack = line_faults Range (λ line. passes_end stack line.len line.target) stack
+range stack = line_faults Range (passes_end stack) stack
 
 -- the checks of a load before the one for cycles, and those after it, in their order
 abbrev pub checks_before : Description → List (List LoadFault)

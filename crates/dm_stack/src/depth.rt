@@ -1,7 +1,7 @@
 //! Devices that are too deep, and the depth of a stack.
 //!
-//! Depths are those that the graph of devices answers, one above the limit at most. Both functions
-//! here walk them once; what a depth is stands there.
+//! The depths come from `graph`, which says what a depth is and follows none further than one above
+//! the limit. Both functions here walk them once.
 
 ghost use Rattle.std.specs.Prelude.{◌≡◌, None, length, nat_lt};
 ghost use Rattle.std.specs.List.{slice_index_or};

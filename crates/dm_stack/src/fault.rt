@@ -1,7 +1,7 @@
 //! The faults of the checks.
 //!
-//! Every check behind the reading answers by this one, so that none makes up a place of its own: a
-//! fault stands at the place of the element where it was found.
+//! Every check of a load makes its faults here, so that none makes up a place of its own: a fault
+//! has the place of the element where it was found.
 
 ghost use Rattle.std.specs.Prelude.{◌≡◌};
 ghost use Rattle.dm_stack.specs.Soundness.{fault};

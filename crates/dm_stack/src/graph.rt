@@ -1,7 +1,7 @@
 //! Devices that name one another, by their indexes: which reaches itself, and how deep each is.
 //!
 //! Depths come first, by rounds that are linear in the links, since only a device that is too deep
-//! can reach itself; the search of what a device reaches is then asked of few devices or none.
+//! can reach itself; what a device reaches is then searched for few devices or none.
 //! The clauses write the bound as 33, one level more than `MOST_DEPTH`: change both together.
 
 ghost use Rattle.std.specs.Prelude.{◌≡◌, ◌≤◌, ◌<◌, ℕ, length, map, IfOk, IfSome, IfNone, OnOk, IsTrue, false};
@@ -16,9 +16,9 @@ pub const MOST_DEPTH: u32 = 32;
 /// The depth of each device, followed through at most `MOST_DEPTH + 1` levels.
 ///
 /// A device that names nothing has depth 1, else its depth is 1 plus the greatest of those that it
-/// names. `MOST_DEPTH + 1` stands for every depth that is greater, also of what is in a ring.
+/// names. `MOST_DEPTH + 1` stands for every greater depth, and for that of a device in a ring.
 ///
-/// Fails only for want of memory. Cost: linear in the links for each level that there is, and for
+/// Fails only when out of memory. Cost: linear in the links for each level that there is, and for
 /// `MOST_DEPTH + 1` levels at most, with memory for two numbers a device.
 pub(crate) fn depths(alloc: Global, links: &[Vec<usize>]) -> Result<Vec<u32>, AllocError>
     requires { IsClosed (links_in links.now) }
@@ -62,7 +62,7 @@ fn depth_over(named: &[usize], depths: &[u32]) -> u32
 
 /// Whether a device reaches itself, by what it names and what that names in turn.
 ///
-/// Fails only for want of memory. Cost: linear in the links, with memory for a mark a device and
+/// Fails only when out of memory. Cost: linear in the links, with memory for a mark a device and
 /// for the devices that are still to be looked at.
 pub(crate) fn reaches_itself(
     alloc: Global,
@@ -83,7 +83,7 @@ pub(crate) fn reaches_itself(
     Ok(visited[device])
 }
 
-/// Visits the named devices; those that were not visited before wait to be looked at.
+/// Visits the named devices; those that are new wait to be looked at.
 fn visit(named: &[usize], visited: &mut [bool], waiting: &mut Vec<usize>) -> Result<(), AllocError>
     requires { (e : ℕ) → Contains named.now e → e < length visited.old }
     ensures { OnOk result (Visits named.now visited.old visited.new waiting.old.items waiting.new.items) }
@@ -97,9 +97,9 @@ fn visit(named: &[usize], visited: &mut [bool], waiting: &mut Vec<usize>) -> Res
     Ok(())
 }
 
-/// The first device that reaches itself, where `depths` are those that `depths` answers.
+/// The first device that reaches itself; `depths` are those that the function `depths` returns.
 ///
-/// Fails only for want of memory. Cost: linear in the devices where none is too deep; else a search
+/// Fails only when out of memory. Cost: linear in the devices where none is too deep; else a search
 /// of all links for each device that is, up to the first that reaches itself.
 pub(crate) fn first_cycle(
     alloc: Global,

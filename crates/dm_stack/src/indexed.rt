@@ -1,7 +1,7 @@
 //! Descriptions whose names are indexed.
 //!
-//! The checks behind the one for names, and what makes lines by ids, look names up only here. A
-//! clause sees the description alone: that the indexes are those of its names is the invariant.
+//! The checks after the one for names, and what makes lines by ids, look names up only here. A
+//! clause sees the description alone; the invariant says that the indexes are those of its names.
 
 ghost use Rattle.std.specs.Prelude.{◌≡◌, map};
 ghost use Rattle.std.specs.List.{All};
@@ -70,7 +70,7 @@ impl<'a> Indexed<'a> {
         self.disks
     }
 
-    /// Whether what a line names is not there.
+    /// Whether no device or disk has the name.
     pub(crate) fn is_unknown(&self, to: &DevRef) -> bool
         ensures { result ≡ is_unknown_ref self.now to.now }
     {
@@ -80,7 +80,7 @@ impl<'a> Indexed<'a> {
         }
     }
 
-    /// What a line names by its id; that behind the last where it is not there.
+    /// What a line names, by its id; an id past the last where it is not there.
     pub(crate) fn lower_of(&self, to: &DevRef) -> Lower
         ensures { result ≡ lower_of self.now to.now }
     {

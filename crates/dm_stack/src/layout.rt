@@ -7,7 +7,7 @@ ghost use Rattle.std.specs.Prelude.{◌≡◌, ◌==◌, [], None, find, option_
 ghost use Rattle.std.specs.List.{All, flat_map};
 ghost use Rattle.dm_table.specs.LoadFault.{first_or};
 ghost use Rattle.dm_stack.specs.Description.{end_of};
-ghost use Rattle.dm_stack.specs.Soundness.{HaveSmallEnds, empty, empty_in, misplaced, misplaced_from};
+ghost use Rattle.dm_stack.specs.Soundness.{HaveSmallEnds, empty, empty_in, misplaced, misplaced_in};
 
 use crate::fault::fault;
 use dm_table::{DeviceSpec, Disk, Line, LoadFault, LoadKind};
@@ -80,7 +80,7 @@ pub(crate) fn misplaced(devices: &[DeviceSpec]) -> Option<LoadFault>
 
 fn misplaced_line(lines: &[Line]) -> Option<LoadFault>
     requires { HaveSmallEnds lines.now }
-    ensures { result ≡ first_or (misplaced_from 0 lines.now) None }
+    ensures { result ≡ first_or (misplaced_in lines.now) None }
 {
     let mut end = 0;
     for line in lines {

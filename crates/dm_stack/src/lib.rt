@@ -19,6 +19,7 @@ mod name_index;
 mod names;
 mod ranges;
 mod resolve;
+mod span;
 mod stack;
 mod stripes;
 

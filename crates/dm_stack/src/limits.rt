@@ -1,15 +1,17 @@
 //! Counts and numbers above their limits.
 //!
-//! Sums of two numbers within the limits fit 64 bits, so every check behind these adds freely. A
-//! limit that changes here changes for the definitions alike, since they name these constants.
+//! Sums of two numbers within the limits fit 64 bits, so every later check adds freely. The
+//! definitions name these constants, so a limit that changes here changes for them too.
 
 ghost use Rattle.std.specs.Prelude.{◌≡◌, None, find, nat_lt, option_copied, slice_get};
 ghost use Rattle.std.specs.List.{list_any};
 ghost use Rattle.dm_table.specs.LoadFault.{first_or};
 ghost use Rattle.dm_stack.specs.Soundness.{all_lines, is_far, is_large, too_large, too_many};
+ghost use Rattle.dm_stack.specs.Span.{spans};
 
 use crate::fault::fault;
-use dm_table::{Column, DeviceSpec, Disk, Line, LoadFault, LoadKind, Target};
+use crate::span::Spans;
+use dm_table::{DeviceSpec, Disk, Line, LoadFault, LoadKind};
 
 /// The most devices of a stack.
 pub const MOST_DEVICES: usize = 1024;
@@ -29,7 +31,7 @@ pub const MOST_STRIPES: usize = 128;
 /// The greatest chunk of a striped line, in sectors: 2^32 - 1.
 pub const MOST_CHUNK: u64 = (1 << 32) - 1;
 
-/// The first device, disk or line above the count that is allowed.
+/// The first device, or else disk, or else line, above the count that is allowed.
 ///
 /// Cost: a walk over the devices.
 pub(crate) fn too_many(devices: &[DeviceSpec], disks: &[Disk]) -> Option<LoadFault>
@@ -99,21 +101,11 @@ fn is_large(line: &Line) -> bool
     MOST_LENGTH < line.start
         || MOST_LENGTH < line.len
         || MOST_LENGTH - line.start < line.len
-        || is_far(&line.target)
+        || has_far_span(line)
 }
 
-fn is_far(target: &Target) -> bool
-    ensures { result ≡ is_far target.now }
+fn has_far_span(line: &Line) -> bool
+    ensures { result ≡ list_any is_far (spans line.now) }
 {
-    match target {
-        Target::Linear { offset, .. } => MOST_LENGTH < *offset,
-        Target::Striped { columns, .. } => has_far_column(columns.as_slice()),
-        Target::Zero | Target::Error => false,
-    }
-}
-
-fn has_far_column(columns: &[Column]) -> bool
-    ensures { result ≡ list_any (λ column. nat_lt MOST_LENGTH column.offset) columns.now }
-{
-    columns.iter().any(|column| MOST_LENGTH < column.offset)
+    Spans::of(line).any(|span| MOST_LENGTH < span.offset)
 }

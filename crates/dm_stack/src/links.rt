@@ -1,64 +1,47 @@
 //! Which devices name which, by their ids.
-//!
-//! The lines are those by ids, so that nothing is looked up by its name again. A new target that
-//! names something is an arm of `add_target` here, and one of `target_links` in the specs.
 
-ghost use Rattle.std.specs.Prelude.{◌≡◌, ◌++◌, IfOk, OnOk, map};
+ghost use Rattle.std.specs.Prelude.{◌≡◌, ◌++◌, IfOk, OnOk};
+ghost use Rattle.std.specs.List.{flat_map};
+ghost use Rattle.dm_stack.specs.Description.{line_links, links};
 ghost use Rattle.dm_stack.specs.Graph.{links_in};
-ghost use Rattle.dm_stack.specs.Links.{column_links, lower_links, table_links, target_links};
 
-use crate::found::{FoundColumn, FoundLine, FoundTable, FoundTarget};
 use crate::id::Lower;
+use crate::indexed::Indexed;
+use crate::span::Spans;
+use dm_table::Line;
 use std::alloc::{AllocError, Global};
 
-/// What each device names, by the lines of each.
+/// What each device names.
 ///
-/// Fails only for want of memory. Cost: linear in the lines and their columns, with memory for a
-/// number for each that names a device.
-pub(crate) fn links(alloc: Global, tables: &[FoundTable]) -> Result<Vec<Vec<usize>>, AllocError>
-    ensures { IfOk result (λ links. links_in links.items ≡ map table_links tables.now) }
+/// Fails only when out of memory. Cost: linear in the lines and their columns, with memory for a
+/// number for each time that a device is named.
+pub(crate) fn links(alloc: Global, stack: &Indexed) -> Result<Vec<Vec<usize>>, AllocError>
+    ensures { IfOk result (λ named. links_in named.items ≡ links stack.now) }
 {
     let mut links = Vec::new(alloc);
-    for table in tables {
-        links.push(links_of(alloc, table.as_slice())?)?;
+    for device in stack.devices() {
+        links.push(lines_links(alloc, stack, device.lines.as_slice())?)?;
     }
     Ok(links)
 }
 
-fn links_of(alloc: Global, lines: &[FoundLine]) -> Result<Vec<usize>, AllocError>
-    ensures { IfOk result (λ links. links.items ≡ table_links lines.now) }
+fn lines_links(alloc: Global, stack: &Indexed, lines: &[Line]) -> Result<Vec<usize>, AllocError>
+    ensures { IfOk result (λ links. links.items ≡ flat_map (line_links stack.now) lines.now) }
 {
     let mut links = Vec::new(alloc);
     for line in lines {
-        add_target(&mut links, &line.target)?;
+        add_line(&mut links, stack, line)?;
     }
     Ok(links)
 }
 
-fn add_target(links: &mut Vec<usize>, target: &FoundTarget) -> Result<(), AllocError>
-    ensures { OnOk result (links.new.items ≡ links.old.items ++ target_links target.now) }
+fn add_line(links: &mut Vec<usize>, stack: &Indexed, line: &Line) -> Result<(), AllocError>
+    ensures { OnOk result (links.new.items ≡ links.old.items ++ line_links stack.now line.now) }
 {
-    match target {
-        FoundTarget::Linear { to, .. } => add_lower(links, *to),
-        FoundTarget::Striped { columns, .. } => add_columns(links, columns.as_slice()),
-        FoundTarget::Zero | FoundTarget::Error => Ok(()),
-    }
-}
-
-fn add_columns(links: &mut Vec<usize>, columns: &[FoundColumn]) -> Result<(), AllocError>
-    ensures { OnOk result (links.new.items ≡ links.old.items ++ column_links columns.now) }
-{
-    for column in columns {
-        add_lower(links, column.to)?;
-    }
-    Ok(())
-}
-
-fn add_lower(links: &mut Vec<usize>, to: Lower) -> Result<(), AllocError>
-    ensures { OnOk result (links.new.items ≡ links.old.items ++ lower_links to) }
-{
-    if let Lower::Device(device) = to {
-        links.push(device.index())?;
+    for span in Spans::of(line) {
+        if let Lower::Device(device) = stack.lower_of(span.to) {
+            links.push(device.index())?;
+        }
     }
     Ok(())
 }

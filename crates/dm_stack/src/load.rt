@@ -1,7 +1,7 @@
 //! The checks of a load in their order, and what a stack keeps of them.
 //!
-//! Each check answers its first fault, and none runs behind one that finds any; so later ones may
-//! rest on what earlier ones passed. A new check takes its place here and in `specs/Soundness.antt`.
+//! Each check returns its first fault, and none runs after one that finds any, so later checks may
+//! rely on what earlier ones passed. A new check takes its place here and in `specs/Soundness.antt`.
 
 ghost use Rattle.std.specs.Prelude.{◌≡◌, ◌≢◌, ◌∷◌, [], IfErr, IfOk, None, OnOk, Some, map};
 ghost use Rattle.dm_table.specs.LoadFault.{IsMemoryFault, first_fault, first_or};
@@ -9,9 +9,8 @@ ghost use Rattle.dm_table.specs.declared.load_fault.LoadKind.TheVariants.{Memory
 ghost use Rattle.dm_table.specs.declared.place.Part.TheVariants.{Source};
 ghost use Rattle.dm_stack.specs.Description.{links};
 ghost use Rattle.dm_stack.specs.Graph.{IsClosed, depths_to};
-ghost use Rattle.dm_stack.specs.Links.{table_links};
-ghost use Rattle.dm_stack.specs.Load.{IsBehind, IsFirstRing, IsRefusedBehind, PassesBehind};
-ghost use Rattle.dm_stack.specs.Loaded.{IsLoaded, found_table, stack_depth};
+ghost use Rattle.dm_stack.specs.Load.{IsLateResult, IsFirstRing, IsLateFault, HasNoLateFault};
+ghost use Rattle.dm_stack.specs.Loaded.{IsLoaded, stack_depth};
 ghost use Rattle.dm_stack.specs.Soundness.{IsRefusedBy, checks_after, checks_before, empty, misplaced, too_large, too_many, unknown};
 
 use crate::depth::{deep, deepest};
@@ -59,10 +58,10 @@ pub(crate) fn check(
 {
     let names = check_lines(alloc, devices, disks)?;
     let stack = Indexed::new(devices, disks, &names.devices, &names.disks);
+    let depth = check_links(alloc, &stack)?;
     let Ok(tables) = tables(alloc, &stack) else {
         return Err(LoadFault::memory(Part::Source));
     };
-    let depth = check_links(alloc, &stack, &tables)?;
     Ok(Checked {
         names,
         tables,
@@ -113,15 +112,14 @@ fn check_layout(stack: &Indexed) -> Option<LoadFault>
 }
 
 /// The check for cycles and those after it, and the depth of the stack.
-fn check_links(alloc: Global, stack: &Indexed, tables: &[FoundTable]) -> Result<u32, LoadFault>
-    requires known { first_or (unknown stack.now) None ≡ None }
-    requires tables { tables.now ≡ map (found_table stack.now) stack.now.devices }
+fn check_links(alloc: Global, stack: &Indexed) -> Result<u32, LoadFault>
+    requires { first_or (unknown stack.now) None ≡ None }
     ensures depth { IfOk result (λ depth. depth ≡ stack_depth stack.now) }
-    ensures passed { OnOk result (PassesBehind stack.now) }
-    ensures fault { IfErr result (λ fault. fault.kind ≢ Memory → IsRefusedBehind stack.now fault) }
+    ensures passed { OnOk result (HasNoLateFault stack.now) }
+    ensures fault { IfErr result (λ fault. fault.kind ≢ Memory → IsLateFault stack.now fault) }
     ensures memory { IfErr result (λ fault. fault.kind ≡ Memory → IsMemoryFault Source fault) }
 {
-    let Ok(graph) = follow(alloc, tables) else {
+    let Ok(graph) = follow(alloc, stack) else {
         return Err(LoadFault::memory(Part::Source));
     };
     match check_depths(stack, &graph) {
@@ -130,13 +128,13 @@ fn check_links(alloc: Global, stack: &Indexed, tables: &[FoundTable]) -> Result<
     }
 }
 
-/// Which device reaches itself first, and how deep each is, by lines with ids.
-fn follow(alloc: Global, tables: &[FoundTable]) -> Result<Graph, AllocError>
-    requires { IsClosed (map table_links tables.now) }
-    ensures depths { IfOk result (λ graph. graph.depths.items ≡ depths_to (map table_links tables.now) 33) }
-    ensures cycle { IfOk result (λ graph. IsFirstRing (map table_links tables.now) graph.cycle) }
+/// Which device reaches itself first, and how deep each is.
+fn follow(alloc: Global, stack: &Indexed) -> Result<Graph, AllocError>
+    requires { IsClosed (links stack.now) }
+    ensures depths { IfOk result (λ graph. graph.depths.items ≡ depths_to (links stack.now) 33) }
+    ensures cycle { IfOk result (λ graph. IsFirstRing (links stack.now) graph.cycle) }
 {
-    let links = links(alloc, tables)?;
+    let links = links(alloc, stack)?;
     let depths = depths(alloc, &links)?;
     let cycle = first_cycle(alloc, &links, &depths)?;
     Ok(Graph { depths, cycle })
@@ -146,7 +144,7 @@ fn follow(alloc: Global, tables: &[FoundTable]) -> Result<Graph, AllocError>
 fn check_depths(stack: &Indexed, graph: &Graph) -> Option<LoadFault>
     requires depths { graph.now.depths.items ≡ depths_to (links stack.now) 33 }
     requires cycle { IsFirstRing (links stack.now) graph.now.cycle }
-    ensures { IsBehind stack.now result }
+    ensures { IsLateResult stack.now result }
 {
     if let Some(device) = graph.cycle {
         return Some(fault(LoadKind::Cycle, stack.devices()[device].at));

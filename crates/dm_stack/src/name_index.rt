@@ -36,7 +36,7 @@ impl NameIndex {
         }
     }
 
-    /// Adds a name behind the others, and answers whether it was new.
+    /// Adds a name after the others, unless it is there; returns whether it was new.
     ///
     /// Cost: about the same at any number of names, with memory for a copy of the name.
     pub(crate) fn add(&mut self, alloc: Global, name: &str) -> Result<bool, AllocError>

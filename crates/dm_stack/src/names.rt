@@ -1,18 +1,60 @@
 //! The names of a description: those of its devices, and those of its disks.
 //!
-//! Indexing them is what finds a name that stands twice, so that nothing walks them again for it.
-//! A name's place in its index is an id, so that only what is in no index may be added to one.
+//! Indexing names is what finds one that stands twice, so that nothing walks them again for it.
+//! The place of a name in its index is the id of what has it.
 
-ghost use Rattle.std.specs.Prelude.{◌≡◌, ◌≢◌, [], IfErr, IfOk, None, OnOk, Some, map};
+ghost use Rattle.std.specs.Prelude.{◌≡◌, ◌≢◌, ℕ, IfErr, IfOk, List, None, OnOk, Some, map};
 ghost use Rattle.dm_table.specs.LoadFault.{Answers, IsMemoryFault, first_or, unless};
 ghost use Rattle.dm_table.specs.declared.load_fault.LoadKind.TheVariants.{Memory};
+ghost use Rattle.dm_table.specs.declared.place.Place.{Place};
 ghost use Rattle.dm_table.specs.declared.place.Part.TheVariants.{Source};
-ghost use Rattle.dm_stack.specs.Soundness.{twice, twice_after};
+ghost use Rattle.dm_stack.specs.Soundness.{twice, twice_in};
 
 use crate::fault::fault;
 use crate::name_index::NameIndex;
-use dm_table::{DeviceSpec, Disk, LoadFault, LoadKind, Part};
+use dm_table::{DeviceSpec, Disk, LoadFault, LoadKind, Part, Place};
 use std::alloc::Global;
+
+/// What has a name among others: a device, or a disk.
+trait Named {
+    ghost name_of: { Self → List ℕ };
+
+    ghost place_of: { Self → Place };
+
+    fn name(&self) -> &str
+        ensures { result.now ≡ name_of self.now };
+
+    fn place(&self) -> Place
+        ensures { result ≡ place_of self.now };
+}
+
+impl Named for DeviceSpec {
+    ghost name_of = { λ device. device.name };
+
+    ghost place_of = { λ device. device.at };
+
+    fn name(&self) -> &str {
+        self.name.as_str()
+    }
+
+    fn place(&self) -> Place {
+        self.at
+    }
+}
+
+impl Named for Disk {
+    ghost name_of = { λ disk. disk.name };
+
+    ghost place_of = { λ disk. disk.at };
+
+    fn name(&self) -> &str {
+        self.name.as_str()
+    }
+
+    fn place(&self) -> Place {
+        self.at
+    }
+}
 
 /// The names of a description by their places.
 #[derive(Drop)]
@@ -36,39 +78,20 @@ pub(crate) fn index_names(
     ensures fault { IfErr result (λ fault. fault.kind ≢ Memory → first_or (twice (record { devices = devices.now; disks = disks.now })) None ≡ Some fault) }
     ensures memory { IfErr result (λ fault. fault.kind ≡ Memory → IsMemoryFault Source fault) }
 {
-    let devices = device_names(alloc, devices)?;
-    let disks = disk_names(alloc, disks)?;
+    let devices = index_of(alloc, devices)?;
+    let disks = index_of(alloc, disks)?;
     Ok(Names { devices, disks })
 }
 
-/// The names of the devices by their places, or the first device whose name an earlier one has.
-///
-/// Cost: near-linear, with memory for a copy of each name.
-fn device_names(alloc: Global, devices: &[DeviceSpec]) -> Result<NameIndex, LoadFault>
-    ensures { Answers Source (λ index. index) result (unless (first_or (twice_after (λ device. device.name) (λ device. device.at) [] devices.now) None) (map (λ device. device.name) devices.now)) }
+/// The names of a list by their places, or the first element whose name an earlier one has.
+fn index_of<T: Named>(alloc: Global, list: &[T]) -> Result<NameIndex, LoadFault>
+    ensures { Answers Source (λ index. index) result (unless (first_or (twice_in T.name_of T.place_of list.now) None) (map T.name_of list.now)) }
 {
     let mut names = NameIndex::new(alloc);
-    for device in devices {
-        match names.add(alloc, device.name.as_str()) {
+    for item in list {
+        match names.add(alloc, item.name()) {
             Ok(true) => {}
-            Ok(false) => return Err(fault(LoadKind::Twice, device.at)),
-            Err(_) => return Err(LoadFault::memory(Part::Source)),
-        }
-    }
-    Ok(names)
-}
-
-/// The names of the disks by their places, or the first disk whose name an earlier one has.
-///
-/// Cost: near-linear, with memory for a copy of each name.
-fn disk_names(alloc: Global, disks: &[Disk]) -> Result<NameIndex, LoadFault>
-    ensures { Answers Source (λ index. index) result (unless (first_or (twice_after (λ disk. disk.name) (λ disk. disk.at) [] disks.now) None) (map (λ disk. disk.name) disks.now)) }
-{
-    let mut names = NameIndex::new(alloc);
-    for disk in disks {
-        match names.add(alloc, disk.name.as_str()) {
-            Ok(true) => {}
-            Ok(false) => return Err(fault(LoadKind::Twice, disk.at)),
+            Ok(false) => return Err(fault(LoadKind::Twice, item.place())),
             Err(_) => return Err(LoadFault::memory(Part::Source)),
         }
     }

@@ -1,18 +1,18 @@
 //! Lines by ids: what each names is looked up once, while a stack is loaded.
 //!
 //! What is not there is found by `unknown`, which runs first; making lines by ids then asks for
-//! nothing. A new target is an arm of `is_unknown`, of `target` and of `found_target` in the specs.
+//! nothing. A new target is an arm of `target` here and of `found_target` in the specs.
 
 ghost use Rattle.std.specs.Prelude.{◌≡◌, IfOk, None, find, map, option_copied};
-ghost use Rattle.std.specs.List.{list_any};
 ghost use Rattle.dm_table.specs.LoadFault.{first_or};
 ghost use Rattle.dm_stack.specs.Below.{found_columns, found_line, found_target};
 ghost use Rattle.dm_stack.specs.Loaded.{found_table};
-ghost use Rattle.dm_stack.specs.Soundness.{all_lines, is_unknown, is_unknown_ref, unknown};
+ghost use Rattle.dm_stack.specs.Soundness.{all_lines, is_unknown, unknown};
 
 use crate::fault::fault;
 use crate::found::{FoundColumn, FoundColumns, FoundLine, FoundTable, FoundTarget};
 use crate::indexed::Indexed;
+use crate::span::Spans;
 use dm_table::{Column, Line, LoadFault, LoadKind, Target};
 use std::alloc::{AllocError, Global};
 
@@ -29,34 +29,24 @@ pub(crate) fn unknown(stack: &Indexed) -> Option<LoadFault>
 }
 
 fn unknown_line<'a>(stack: &Indexed<'a>) -> Option<&'a Line>
-    ensures { option_copied result ≡ find (λ line. is_unknown stack.now line.target) (all_lines stack.now.devices) }
+    ensures { option_copied result ≡ find (is_unknown stack.now) (all_lines stack.now.devices) }
 {
     stack
         .devices()
         .iter()
         .flat_map(|device| device.lines.as_slice().iter())
-        .find(|line| is_unknown(stack, &line.target))
+        .find(|line| is_unknown(stack, line))
 }
 
-fn is_unknown(stack: &Indexed, target: &Target) -> bool
-    ensures { result ≡ is_unknown stack.now target.now }
+fn is_unknown(stack: &Indexed, line: &Line) -> bool
+    ensures { result ≡ is_unknown stack.now line.now }
 {
-    match target {
-        Target::Linear { to, .. } => stack.is_unknown(to),
-        Target::Striped { columns, .. } => has_unknown(stack, columns.as_slice()),
-        Target::Zero | Target::Error => false,
-    }
-}
-
-fn has_unknown(stack: &Indexed, columns: &[Column]) -> bool
-    ensures { result ≡ list_any (λ column. is_unknown_ref stack.now column.to) columns.now }
-{
-    columns.iter().any(|column| stack.is_unknown(&column.to))
+    Spans::of(line).any(|span| stack.is_unknown(span.to))
 }
 
 /// The lines of each device by ids, in their order.
 ///
-/// Fails only for want of memory. Cost: linear in the lines and their columns.
+/// Fails only when out of memory. Cost: linear in the lines and their columns.
 pub(crate) fn tables(alloc: Global, stack: &Indexed) -> Result<Vec<FoundTable>, AllocError>
     ensures { IfOk result (λ tables. tables.items ≡ map (found_table stack.now) stack.now.devices) }
 {

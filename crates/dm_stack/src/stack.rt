@@ -1,13 +1,13 @@
 //! Checked stacks.
 //!
 //! The invariant carries the soundness, so nothing above asks for it again: a value is made only
-//! through the checks of a load. Names are looked up once there; behind it everything goes by ids.
+//! through the checks of a load. Names are looked up there; afterwards everything goes by ids.
 
 ghost use Rattle.std.specs.Prelude.{◌≡◌, ◌≢◌, ℕ, ◌+◌, ◌<◌, ◌≤◌, ◌^◌, IfErr, IfOk, IsTrue, OnOk, Some, None, find, length, option_copied, position, slice_get};
 ghost use Rattle.dm_table.specs.Name.{is_disk_name};
 ghost use Rattle.dm_stack.specs.Below.{HoldsSoundly, found_at, found_lines, has_sector};
 ghost use Rattle.dm_stack.specs.Description.{Description, device_len, disk_len, is_ro_at, is_same, name_at, disk_name_at};
-ghost use Rattle.dm_stack.specs.Loaded.{stack_depth};
+ghost use Rattle.dm_stack.specs.Loaded.{IsDeeperByOne, stack_depth};
 ghost use Rattle.dm_stack.specs.Soundness.{IsRefusedBy, IsSound};
 ghost use Rattle.dm_stack.specs.declared.graph.TheConstants.{MOST_DEPTH};
 ghost use Rattle.dm_stack.specs.declared.limits.TheConstants.{MOST_CHUNK, MOST_DEVICES, MOST_DISKS, MOST_LENGTH, MOST_LINES, MOST_STRIPES};
@@ -49,7 +49,7 @@ impl Model for Stack {
 }
 
 impl Stack {
-    /// Loads a stack, or answers why not: the first fault of the first check that finds any.
+    /// Loads a stack, or returns why not: the first fault of the first check that finds any.
     ///
     /// Lengths, starts and offsets are in sectors of 512 bytes. The places of devices and disks in
     /// these lists are their ids. The checks in their order, each with the kind of its fault:
@@ -71,8 +71,8 @@ impl Stack {
     ///    column is none of the chunk.
     /// 10. `Range`: a line that passes the end of what it names.
     ///
-    /// Where a check names no disk, it asks the lines of all devices in their order, or the devices.
-    /// `Memory`, with the number 0, means that memory was refused; it says nothing of the lists.
+    /// A check goes over the devices in their order, and over the lines of each; disks come after
+    /// them. `Memory`, with the number 0, means that memory was refused; it says nothing of the lists.
     ///
     /// Cost: near-linear in the lines and their columns, the devices and the disks, with memory for
     /// a copy of each name and each line; where devices are too deep, a search of what one reaches
@@ -148,11 +148,13 @@ impl Stack {
         self.disks.len()
     }
 
-    /// The greatest depth of a device, 0 without devices.
+    /// The greatest depth of a device, 0 without devices. A device is one deeper than the deepest
+    /// of what it names; a disk's depth is 0.
     pub fn depth(&self) -> u32
         ensures depth { result ≡ stack_depth self.now }
         // A value is sound by its type.
         ensures sound { IsSound self.now }
+        ensures rule { IsDeeperByOne self.now }
     {
         self.depth
     }

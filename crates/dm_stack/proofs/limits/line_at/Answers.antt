@@ -1,7 +1,7 @@
 use Rattle.std.proofs.Common.{◌≡◌, ◌<◌, ◌≤◌, Some, sym, ap, refl, ◌∙◌, length}
 use Rattle.std.specs.Prelude.{slice_get}
 use Rattle.std.proofs.lemmas.Option.{slice_get_read}
-use Rattle.dm_stack.proofs.FirstFaults.{line_in, line_behind}
+use Rattle.dm_stack.proofs.FirstFaults.{line_in, line_later}
 use Rattle.dm_stack.proofs.limits.line_at.Goals as goal
 
 pub returns-then-left-lines : goal.returns-then-left-lines
@@ -16,4 +16,4 @@ pub loop-device-preserved : goal.loop-device-preserved
 loop-device-preserved c =
     let within : c.loop-device.device-index < length c.args.devices.now = c.loop-device-test.true in
     let behind : length c.device-item.result.lines ≤ c.loop-device.left = rw (← c.as_slice-lines.ensures) c.if-left-lines.false in
-    rw c.as_slice-lines.ensures (line_behind _ _ _ _ within c.device-item.is behind ∙ c.loop-device.invariant)
+    rw c.as_slice-lines.ensures (line_later _ _ _ _ within c.device-item.is behind ∙ c.loop-device.invariant)

@@ -2,11 +2,11 @@ use Rattle.std.proofs.Common.{◌≡◌, None, sym, ap, subst, ◌∙◌, map}
 use Rattle.std.proofs.lemmas.Result.{err_from_is_err_and}
 use Rattle.dm_table.specs.LoadFault.{first_or}
 use Rattle.dm_stack.specs.Description.{Description}
-use Rattle.dm_stack.specs.Load.{IsRefusedBehind, PassesBehind}
+use Rattle.dm_stack.specs.Load.{IsLateFault, HasNoLateFault}
 use Rattle.dm_stack.specs.Loaded.{found_table, stack_depth}
 use Rattle.dm_stack.specs.Soundness.{unknown}
 use Rattle.dm_stack.proofs.HandedOn.{ends_within}
-use Rattle.dm_stack.proofs.LoadLemmas.{known_passed, refused_behind}
+use Rattle.dm_stack.proofs.LoadLemmas.{known_passed, refused_late}
 use Rattle.dm_stack.proofs.Passes.{passes_before}
 use Rattle.dm_stack.proofs.load.check.Goals as goal
 
@@ -14,8 +14,8 @@ pub new-stack-requires-clause-small : goal.new-stack-requires-clause-small
 new-stack-requires-clause-small c =
     ends_within (record { devices = c.args.devices.now; disks = c.args.disks.now }) (passes_before (record { devices = c.args.devices.now; disks = c.args.disks.now }) c.in_ok-names.ensures.passed).small
 
-pub check_links-requires-clause-known : goal.check_links-requires-clause-known
-check_links-requires-clause-known c =
+pub check_links-requires : goal.check_links-requires
+check_links-requires c =
     subst (λ (stack : Description). first_or (unknown stack) None ≡ None) (sym c.new-stack.ensures)
     (known_passed (record { devices = c.args.devices.now; disks = c.args.disks.now }) c.in_ok-names.ensures.passed)
 
@@ -23,12 +23,12 @@ pub returns-in_err-depth-clause-fault : goal.returns-in_err-depth-clause-fault
 returns-in_err-depth-clause-fault c =
     let p = err_from_is_err_and c.from_residual-in_err-depth.result c.from_residual-in_err-depth.ensures.1 in
     rw (p.1, p.2)
-    (λ other. refused_behind (record { devices = c.args.devices.now; disks = c.args.disks.now }) c.in_err-depth.field-0.0 c.in_ok-names.ensures.passed
-    (subst (λ (stack : Description). IsRefusedBehind stack c.in_err-depth.field-0.0) c.new-stack.ensures (c.in_err-depth.ensures.fault other)))
+    (λ other. refused_late (record { devices = c.args.devices.now; disks = c.args.disks.now }) c.in_err-depth.field-0.0 c.in_ok-names.ensures.passed
+    (subst (λ (stack : Description). IsLateFault stack c.in_err-depth.field-0.0) c.new-stack.ensures (c.in_err-depth.ensures.fault other)))
 
 pub returns-clause-loaded : goal.returns-clause-loaded
 returns-clause-loaded c =
-    let behind = subst (λ (stack : Description). PassesBehind stack) c.new-stack.ensures c.in_ok-depth.ensures.passed in
+    let behind = subst (λ (stack : Description). HasNoLateFault stack) c.new-stack.ensures c.in_ok-depth.ensures.passed in
     record {
       sound = record { before = c.in_ok-names.ensures.passed; acyclic = behind.0; after = behind.1 };
       device_names = c.in_ok-names.ensures.devices;

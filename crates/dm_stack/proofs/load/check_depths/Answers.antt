@@ -2,7 +2,7 @@ use Rattle.std.proofs.Common.{ℕ, List, Option, ap, inl, subst, get_or}
 use Rattle.dm_table.specs.declared.table.DeviceSpec.{DeviceSpec}
 use Rattle.dm_stack.specs.Description.{links}
 use Rattle.dm_stack.specs.Load.{IsFirstRing}
-use Rattle.dm_stack.proofs.LoadLemmas.{is_behind, no_ring, ring_fault}
+use Rattle.dm_stack.proofs.LoadLemmas.{is_late_result, no_ring, ring_fault}
 use Rattle.dm_stack.proofs.load.check_depths.Goals as goal
 
 pub returns-in-Some : goal.returns-in-Some
@@ -14,5 +14,5 @@ returns-in-Some c =
 
 pub returns : goal.returns
 returns c =
-    is_behind c.args.stack.now c.check_shape.result
+    is_late_result c.args.stack.now c.check_shape.result
     (no_ring c.args.stack.now (subst (λ (found : Option ℕ). IsFirstRing (links c.args.stack.now) found) c.in_default.is c.requires.cycle)) c.check_shape.ensures

@@ -7,8 +7,8 @@ use Rattle.dm_stack.proofs.resolve.unknown.Goals as goal
 pub returns-in-Some : goal.returns-in-Some
 returns-in-Some c =
     ap Some c.fault.ensures
-    ∙ sym (first_by Unknown (λ line. line.at) (λ line. is_unknown c.args.stack.now line.target) (all_lines c.args.stack.now.devices) None ∙ stops Unknown (λ line. line.at) _ _ None (sym c.in-Some.ensures))
+    ∙ sym (first_by Unknown (λ line. line.at) (is_unknown c.args.stack.now) (all_lines c.args.stack.now.devices) None ∙ stops Unknown (λ line. line.at) _ _ None (sym c.in-Some.ensures))
 
 pub returns : goal.returns
 returns c =
-    sym (first_by Unknown (λ line. line.at) (λ line. is_unknown c.args.stack.now line.target) (all_lines c.args.stack.now.devices) None ∙ passes_on Unknown (λ line. line.at) _ None (sym c.in_default.ensures))
+    sym (first_by Unknown (λ line. line.at) (is_unknown c.args.stack.now) (all_lines c.args.stack.now.devices) None ∙ passes_on Unknown (λ line. line.at) _ None (sym c.in_default.ensures))

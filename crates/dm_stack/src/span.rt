@@ -1,0 +1,91 @@
+//! What a line names below, and where: its spans.
+//!
+//! Every check of what lines name reads their spans, and none knows a target: a new target says
+//! what it names here, in `target_span` and in `target_spans` of the specs. No memory is taken.
+
+ghost use Rattle.std.specs.Prelude.{◌≡◌, ◌+◌, ◌/◌, ◌<◌, ◌^◌, IfSome, drop, length, map, slice_get};
+ghost use Rattle.std.specs.Iterator.{YieldsFirst, item_count};
+ghost use Rattle.dm_stack.specs.Span.{column_span, spans};
+
+use dm_table::{Column, DevRef, Line, Target};
+use std::marker::Model;
+
+/// A range of sectors of a lower device or disk, that a line names.
+#[derive(Drop)]
+pub(crate) struct Span<'a> {
+    pub to: &'a DevRef,
+    pub offset: u64,
+    pub len: u64,
+    /// Whether the line only reads these sectors.
+    pub read_only: bool,
+}
+
+impl<'a> Model for Span<'a> {
+    ghost use Rattle.dm_stack.specs.Span.{Span};
+
+    ghost Value = { Span };
+
+    ghost view = { λ span. record { to = span.to.now; offset = span.offset; len = span.len; read_only = span.read_only } };
+}
+
+/// The spans of a line that are left.
+#[derive(Drop)]
+pub(crate) struct Spans<'a> {
+    line: &'a Line,
+    index: usize,
+}
+
+impl<'a> Spans<'a> {
+    /// The spans of a line, in their order.
+    pub(crate) fn of(line: &'a Line) -> Spans<'a>
+        ensures line { result.line.now ≡ line.now }
+        ensures index { result.index ≡ 0 }
+    {
+        Spans { line, index: 0 }
+    }
+}
+
+impl<'a> Iterator for Spans<'a> {
+    type Item = Span<'a>;
+
+    ghost next_gives = { YieldsFirst (λ left. drop left.index (spans left.line.now)) };
+
+    ghost remaining = { item_count (λ left. drop left.index (spans left.line.now)) };
+
+    fn next(&mut self) -> Option<Span<'a>> {
+        let span = span_at(self.line, self.index)?;
+        self.index += 1;
+        Some(span)
+    }
+}
+
+/// The span of an index, where there is one.
+fn span_at(line: &Line, index: usize) -> Option<Span<'_>>
+    ensures span { result ≡ slice_get (spans line.now) index }
+    ensures within { IfSome result (λ _. index + 1 < 2 ^ 64) }
+{
+    match &line.target {
+        Target::Linear { to, offset } if index == 0 => Some(Span {
+            to,
+            offset: *offset,
+            len: line.len,
+            read_only: false,
+        }),
+        Target::Striped { columns, .. } => column_span(line.len, columns.as_slice(), index),
+        Target::Linear { .. } | Target::Zero | Target::Error => None,
+    }
+}
+
+/// The span of a column, which has its share of a line's length.
+fn column_span(len: u64, columns: &[Column], index: usize) -> Option<Span<'_>>
+    ensures within { IfSome result (λ _. index + 1 < 2 ^ 64) }
+    ensures span { result ≡ slice_get (map (column_span (len / length columns.now)) columns.now) index }
+{
+    let column = columns.get(index)?;
+    Some(Span {
+        to: &column.to,
+        offset: column.offset,
+        len: len / columns.len() as u64,
+        read_only: false,
+    })
+}
