@@ -11,6 +11,7 @@ mod piece_list;
 mod sink;
 mod stripe;
 mod walk;
+mod walker;
 
 pub use levels::levels_are_enough;
 pub use mapper::{MapFault, Mapper};
