@@ -24,7 +24,7 @@ pub on_ok : {T E : Type 0} (r : Result T E) (P : Type 0) → P → OnOk r P
 on_ok (Ok x) P p = p
 on_ok (Err e) P p = tt
 
--- a sink's answer at the units of a step that is said in another way, and the state after it
+-- what a sink took or left, and the state after it, where a step is written in another way
 pub took_as : {T E S : Type 0} (r : Result T E) (took : S → List BlockUnit → S → Type 0) (old new : S) (step other : Step) → step ≡ other → OnOk r (took old step.units new) → OnOk r (took old other.units new)
 took_as r took old new step other same held = subst (λ (x : Step). OnOk r (took old x.units new)) same held
 

@@ -25,7 +25,7 @@ by_below IsError zeros fails next = fails
 abbrev pub read_below : Description → State → (device sector : ℕ) → Below
 read_below stack state device sector = below (read_over (taken_at state device)) stack device sector
 
--- the read of a sector, through at most so many levels of devices
+-- the read of a sector, through at most this many levels of devices
 unfoldable pub read_unit : Description → State → ℕ → Lower → ℕ → BlockUnit
 read_unit stack state levels (Disk disk) sector = ReadOf disk sector
 read_unit stack state zero (Device device) sector = Fails
@@ -41,7 +41,7 @@ abbrev pub write_line : State → (device : ℕ) → Option FoundLine → (secto
 write_line state device (Some line) sector next = write_target state device line.target (sector - line.start) next
 write_line state device None sector next = keep (Fails ∷ []) state
 
--- the write of a sector, through at most so many levels of devices: a read-only device fails it, whatever its line says
+-- the write of a sector, through at most this many levels of devices: a read-only device fails it, whatever its line says
 unfoldable pub write_step : Description → ℕ → Lower → State → ℕ → Step
 write_step stack levels (Disk disk) state sector = keep (WriteOf disk sector ∷ []) state
 write_step stack zero (Device device) state sector = keep (Fails ∷ []) state

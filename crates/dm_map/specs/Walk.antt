@@ -32,7 +32,7 @@ zero_unit ops.Write = Drops
 abbrev pub range_step : Description → Op → ℕ → Lower → State → (sector len : ℕ) → Step
 range_step stack op levels lower state sector len = steps (sector_step stack op levels lower) state sector len
 
--- the step of a sector at a distance from the start of a line of this target, of a device, through at most so many levels of devices below it
+-- the step of a sector at a distance from the start of a line of this target, of a device, through at most this many levels of devices below it
 abbrev pub target_step : Description → Op → ℕ → (device : ℕ) → FoundTarget → State → (distance : ℕ) → Step
 target_step stack ops.Read levels device target state distance =
     keep (by_below (below_target (read_over (taken_at state device)) target distance) Zeros Fails (λ to sector. read_unit stack state levels to sector) ∷ []) state

@@ -1,8 +1,8 @@
 //! The mapper: hands the units of requests to a sink.
 //!
-//! It finds lines through its looker alone and keeps no list, so a request takes no memory. What
-//! becomes of a sector is said in `specs/Mapping.antt`; how a range is cut, in `walk`; what a
-//! request leaves for the next one, in `walker`.
+//! It finds lines through its looker alone and keeps no list, so a request takes no memory.
+//! `specs/Mapping.antt` defines what becomes of a sector, `walk` cuts a range into pieces, and
+//! `walker` keeps what one request leaves for the next.
 
 ghost use Rattle.std.specs.Prelude.{◌≡◌, ℕ, ◌+◌, ◌^◌, ◌<◌, ◌≤◌, ◌∷◌, false, true, length, nat_lt, IfOk, OnOk, OnErr, []};
 ghost use Rattle.dm_stack.specs.Description.{Description, device_len};
@@ -33,13 +33,13 @@ pub enum MapFault<F> {
     /// The sink failed at a piece of this request.
     #[error("the sink failed: {0}")]
     Sink(F),
-    /// A sink failed at an earlier request, so the mapper answers nothing more.
+    /// A sink failed at an earlier request, so the mapper maps nothing more.
     #[error("stopped by an earlier fault")]
     Stopped,
 }
 
 /// Maps requests through the stack of its looker, one after the other. A clause sees its stack, the
-/// state that its requests left, and whether a sink of it failed.
+/// state that its requests left, and whether one of its sinks failed.
 #[derive(Drop)]
 pub struct Mapper<'s> {
     walker: Walker<'s>,
@@ -55,11 +55,11 @@ impl<'s> Model for Mapper<'s> {
 }
 
 impl<'s> Mapper<'s> {
-    /// A mapper of the looker's stack, in the state of the start, and not stopped.
+    /// A mapper of the looker's stack, in the state at the start, and not stopped.
     ///
     /// # Errors
     ///
-    /// `AllocError` where memory for its state is missing. There is none to keep as yet.
+    /// `AllocError` where it is out of memory for its state. As yet there is none to keep.
     pub fn new(_alloc: Global, looker: Looker<'s>) -> Result<Mapper<'s>, AllocError>
         ensures stack { IfOk result (λ mapper. mapper.stack ≡ looker.entry.stack) }
         ensures state { IfOk result (λ mapper. mapper.state ≡ start_state looker.entry.stack) }
@@ -71,18 +71,18 @@ impl<'s> Mapper<'s> {
         })
     }
 
-    /// Hands the units of a request of this device to the sink, in rising order of the sectors. A
+    /// Hands the units of a request for this device to the sink, in rising order of the sectors. A
     /// request that passes the device's end fails as a whole.
     ///
-    /// The id is one of the mapper's stack, which is also the sink's, and the sink has room for the
-    /// request. Each piece is a stretch of sectors whose path down is in one line, and one chunk, of
-    /// each device. Cost: a look-up of a line a piece and level at most, and one alone for sectors in
-    /// a row that come to a line together. No memory is taken.
+    /// The id belongs to the mapper's stack, which is also the sink's, and the sink has room for the
+    /// request. Each piece is a stretch of sectors whose path down stays in one line, and one chunk,
+    /// of each device. Cost: at most one line look-up for each piece and level, and a single one for
+    /// consecutive sectors that reach a line together. No memory is taken.
     ///
     /// # Errors
     ///
-    /// `Sink` where the sink failed: it took a beginning of the units, and the mapper is stopped
-    /// from then on. `Stopped` where it was stopped before: nothing changes.
+    /// `Sink` if the sink failed: it took a beginning of the units, and the mapper is stopped from
+    /// then on. `Stopped` if the mapper was stopped before: nothing changes.
     pub fn request<S: Sink>(
         &mut self,
         request: &Request<'_>,
@@ -114,7 +114,7 @@ impl<'s> Mapper<'s> {
         }
     }
 
-    /// Hands over the units of a request, and leaves it to the caller to stop at a fault.
+    /// Hands over the units of a request; stopping at a fault is left to the caller.
     fn map_request<S: Sink>(
         &mut self,
         request: &Request<'_>,
@@ -139,7 +139,7 @@ impl<'s> Mapper<'s> {
         self.map_sectors(request, device, sink)
     }
 
-    /// Hands over the units of a request that lies inside its device, by one walk.
+    /// Hands over the units of a request that lies inside its device, in one walk.
     fn map_sectors<S: Sink>(
         &mut self,
         request: &Request<'_>,

@@ -1,8 +1,8 @@
 //! Walkers: what a walk down a stack goes by.
 //!
-//! A walk asks for lines, lengths and read-only flags of the stack, and reads and moves the state
-//! that the requests so far left. A target with a state keeps it here, by the id of its device; as
-//! yet no target has one, so the state is always that of the start.
+//! A walk looks up lines, lengths and read-only flags of the stack, and reads and changes the state
+//! that earlier requests left. A target with a state keeps it here, by the id of its device. No
+//! target has one as yet, so the state is always the one at the start.
 
 ghost use Rattle.std.specs.Prelude.{◌≡◌, ℕ, ◌+◌, ◌<◌, ◌≤◌, ◌^◌, Some, length};
 ghost use Rattle.dm_stack.specs.Below.{HoldsSoundly, found_at};
@@ -12,7 +12,7 @@ ghost use Rattle.dm_map.specs.State.{start_state};
 use dm_stack::{DeviceId, DiskId, Found, Looker};
 use std::marker::Model;
 
-/// The stack of a looker, and the state of its devices.
+/// A stack, seen through its looker, and the state of its devices.
 #[derive(Drop)]
 pub(crate) struct Walker<'s> {
     looker: Looker<'s>,
@@ -28,7 +28,7 @@ impl<'s> Model for Walker<'s> {
 }
 
 impl<'s> Walker<'s> {
-    /// A walker of the looker's stack, in the state of the start.
+    /// A walker of the looker's stack, in the state at the start.
     pub(crate) fn new(looker: Looker<'s>) -> Walker<'s>
         ensures stack { result.stack ≡ looker.entry.stack }
         ensures state { result.state ≡ start_state looker.entry.stack }
@@ -36,7 +36,7 @@ impl<'s> Walker<'s> {
         Walker { looker }
     }
 
-    /// The line of a sector of a device, also that of each other sector that it holds.
+    /// The line that holds a sector of a device.
     #[inline(always)]
     pub(crate) fn look(&mut self, device: DeviceId, sector: u64) -> Found<'s>
         requires device { device < length self.old.stack.devices }

@@ -272,8 +272,8 @@ map_stripes-loop-left-preserved g t c =
       within = omega (arith, l.invariant.within);
       place = λ more.
           let next = c.next_chunk-place.ensures (a.distance + done) (l.invariant.place c.loop-left-test.true) in
-          let behind : a.distance + done + (a.chunk - l.place.past) ≡ a.distance + (a.len - (l.left - n)) = omega (arith, c.min-part.ensures, l.invariant.within, more) in
-          rw behind at next;
+          let next_at : a.distance + done + (a.chunk - l.place.past) ≡ a.distance + (a.len - (l.left - n)) = omega (arith, c.min-part.ensures, l.invariant.within, more) in
+          rw next_at at next;
       same = c.map_range.ensures.stack ∙ l.invariant.same;
       stack = c.in_ok-map_range.ensures.kept ∙ l.invariant.stack;
       room = omega (arith, c.in_ok-map_range.ensures.room, l.invariant.room, on);
