@@ -6,5 +6,6 @@ pub mod Sink
 pub mod Snapshots
 pub mod State
 pub mod Steps
+pub mod Stretch
 pub mod Units
 pub mod Walk

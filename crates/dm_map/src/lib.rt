@@ -9,6 +9,7 @@ mod mapper;
 mod piece;
 mod piece_list;
 mod sink;
+mod stretch;
 mod stripe;
 mod walk;
 mod walker;

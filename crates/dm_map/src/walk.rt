@@ -187,7 +187,7 @@ fn refuses(walker: &Walker<'_>, op: Op, device: DeviceId) -> bool
 }
 
 /// How many of at most `most` sectors, from a distance from its start on, a line has.
-fn part_in(line: &FoundLine, distance: u64, most: u64) -> u64
+pub(crate) fn part_in(line: &FoundLine, distance: u64, most: u64) -> u64
     requires { distance < line.now.len }
     ensures { result ≡ min most (line.now.len - distance) }
 {
@@ -195,7 +195,7 @@ fn part_in(line: &FoundLine, distance: u64, most: u64) -> u64
 }
 
 /// The sector at a distance from an offset into a device or a disk, where it is there.
-fn sector_at(walker: &Walker<'_>, to: Lower, offset: u64, distance: u64) -> u64
+pub(crate) fn sector_at(walker: &Walker<'_>, to: Lower, offset: u64, distance: u64) -> u64
     requires { offset + distance < lower_len walker.now.stack to }
     ensures { result ≡ offset + distance }
 {
