@@ -9,6 +9,7 @@ pub mod Looks
 pub mod Placings
 pub mod Building
 pub mod Twice
+pub mod Keys
 pub mod Steps
 pub mod Pieces
 pub mod Boundaries

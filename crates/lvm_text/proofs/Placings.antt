@@ -1,5 +1,5 @@
 -- The places of keys: among the first entries and after them, as entries are added, and the node at a place.
-use Rattle.std.proofs.Common.{◌≡◌, ℕ, zero, suc, min, ◌+◌, ◌<◌, ◌≤◌, true, false, cond, List, [], ◌∷◌, ◌++◌, length, get_or, take, drop, Option, Some, None, refl, sym, ap, subst, ◌∙◌, ◌⊎◌, inl, inr, arith, add-one, add-zero, zero-add, length-append, length-drop}
+use Rattle.std.proofs.Common.{◌≡◌, ℕ, zero, suc, min, ◌+◌, ◌<◌, ◌≤◌, true, false, cond, List, [], ◌∷◌, ◌++◌, length, get_or, take, drop, Option, Some, None, refl, sym, ap, subst, ◌∙◌, inl, inr, arith, add-one, add-zero, zero-add, length-append, length-drop}
 use Rattle.std.specs.Prelude.{bytes_eq}
 use Rattle.std.specs.Ordering.{nat_cmp}
 use Rattle.std.specs.Cmp.Lexicographic.{slice_cmp}
@@ -43,8 +43,8 @@ pub place_many : (es : List Entry) (key : List ℕ) (m : ℕ) → m ≡ min (len
 place_many es key m is e =
     let all : place_of key 0 es ≡ place_of key m (drop m es) = split_here m es key ∙ ap (λ o. either_place o (place_of key m (drop m es))) (sym e) in
     elim (cases_lt (length es) FEW) [
-      inl lt ↦ all ∙ ap (place_of key m) (drop_all m es (omega (arith, is, lt))) ∙ sym (ap (place_of key FEW) (drop_all FEW es (omega (arith, lt))))
-    | inr le ↦ let same : m ≡ FEW = omega (arith, is, le) in all ∙ ap (λ n. place_of key n (drop n es)) same
+      | inl lt ↦ all ∙ ap (place_of key m) (drop_all m es (omega (arith, is, lt))) ∙ sym (ap (place_of key FEW) (drop_all FEW es (omega (arith, lt))))
+      | inr le ↦ let same : m ≡ FEW = omega (arith, is, le) in all ∙ ap (λ n. place_of key n (drop n es)) same
     ]
 
 either_none : (a b : Option ℕ) → either_place a b ≡ None → b ≡ None
@@ -79,16 +79,17 @@ finds_put es e old new m is many fresh finds updates = λ key.
     (λ same. sym (after key ∙ ap (λ o. either_place o (cond (bytes_eq e.key.now key) (Some (length es)) None)) (none_at key same) ∙ rw same refl))
     (λ other. sym (after key ∙ rw other (either_same (place_of key FEW (drop FEW es)))))
   where
-  after : (key : List ℕ) → place_of key FEW (drop FEW (es ++ e ∷ [])) ≡ either_place (place_of key FEW (drop FEW es)) (cond (bytes_eq e.key.now key) (Some (length es)) None)
-  after key =
-      ap (place_of key FEW) (drop-append-le FEW es (e ∷ []) many)
-      ∙ place_push (drop FEW es) e key FEW
-      ∙ ap (λ n. either_place (place_of key FEW (drop FEW es)) (cond (bytes_eq e.key.now key) (Some n) None)) (omega (arith, many, length-drop FEW es))
-  none_at : (key : List ℕ) → bytes_eq e.key.now key ≡ true → place_of key FEW (drop FEW es) ≡ None
-  none_at key same =
-      let alike : e.key.now ≡ key = (bytes_eq-Decides e.key.now key).0 same in
-      subst (λ (k : List ℕ). place_of k FEW (drop FEW es) ≡ None) alike
-      (either_none (place_of e.key.now 0 (take FEW es)) (place_of e.key.now FEW (drop FEW es)) (sym (split_here FEW es e.key.now) ∙ fresh))
+    after : (key : List ℕ) → place_of key FEW (drop FEW (es ++ e ∷ [])) ≡ either_place (place_of key FEW (drop FEW es)) (cond (bytes_eq e.key.now key) (Some (length es)) None)
+    after key =
+        ap (place_of key FEW) (drop-append-le FEW es (e ∷ []) many)
+        ∙ place_push (drop FEW es) e key FEW
+        ∙ ap (λ n. either_place (place_of key FEW (drop FEW es)) (cond (bytes_eq e.key.now key) (Some n) None)) (omega (arith, many, length-drop FEW es))
+
+    none_at : (key : List ℕ) → bytes_eq e.key.now key ≡ true → place_of key FEW (drop FEW es) ≡ None
+    none_at key same =
+        let alike : e.key.now ≡ key = (bytes_eq-Decides e.key.now key).0 same in
+        subst (λ (k : List ℕ). place_of k FEW (drop FEW es) ≡ None) alike
+        (either_none (place_of e.key.now 0 (take FEW es)) (place_of e.key.now FEW (drop FEW es)) (sym (split_here FEW es e.key.now) ∙ fresh))
 
 -- a place is that of an entry, and the node of the key stands there
 pub record Stands (es : List Entry) (key : List ℕ) (first at : ℕ) : Type 0 where

@@ -1,5 +1,5 @@
 -- Keys that stand twice: those of the entries read so far, and the first that a new key hits.
-use Rattle.std.proofs.Common.{◌≡◌, ℕ, ◌+◌, Bool, true, false, cond, ◌||◌, List, [], ◌∷◌, ◌++◌, Option, Some, None, refl, sym, ap, subst, ◌∙◌, append_assoc}
+use Rattle.std.proofs.Common.{◌≡◌, ℕ, ◌+◌, Bool, true, false, cond, ◌||◌, List, [], ◌∷◌, ◌++◌, Option, Some, refl, sym, ap, subst, ◌∙◌, append_assoc}
 use Rattle.std.specs.Prelude.{bytes_eq, is_some}
 use Rattle.lvm_text.specs.Token.{Word, Open, Equals, ListOpen, Placed}
 use Rattle.lvm_text.specs.Tree.{Values, Nothing, Section, Single, Several}
@@ -14,7 +14,6 @@ use Rattle.lvm_text.specs.declared.tree.Value.TheVariants as variants
 use Rattle.lvm_text.specs.declared.tree.Entry.{Entry}
 use Rattle.lvm_text.specs.declared.fault.TextFault.{TextFault}
 use Rattle.lvm_text.specs.declared.fault.TextFault.TheVariants as fault
-use Rattle.lvm_text.proofs.Cases.{bool_is}
 use Rattle.lvm_text.proofs.Building.{ValuesSoFar, before_push, before_all, no_values, same_key, opened}
 
 -- the keys of entries, before these

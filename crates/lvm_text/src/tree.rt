@@ -87,9 +87,7 @@ impl<'a> Section<'a> {
     ///
     /// Cost: in a section of `n` keys about `log n` comparisons of keys.
     pub fn get(&self, key: &str) -> Option<&Node<'a>>
-        ensures node { option_map (λ n. node_view n.now) result ≡ node_of key.now self.now.values }
-        // A section's keys differ by its type.
-        ensures differ { AllPairs (λ j k. j ≢ k) (keys_of self.now.values) }
+        ensures { option_map (λ n. node_view n.now) result ≡ node_of key.now self.now.values }
     {
         let at = place_of(self.entries.as_slice(), &self.index, key)?;
         Some(&self.entries[at].node)
@@ -98,7 +96,8 @@ impl<'a> Section<'a> {
     /// The keys that hold sections, with these, in source order. Each step looks at the keys up to the next.
     pub fn sections(&self) -> Sections<'_, 'a>
         ensures sections { sections_left result ≡ sections_of self.now.values }
-        // What stands under a key here is what `get` finds under it.
+        // A section's keys differ by its type, so what stands under a key here is what `get` finds under it.
+        ensures differ { AllPairs (λ j k. j ≢ k) (keys_of self.now.values) }
         ensures found { All (IsFound self.now.values) (sections_of self.now.values) }
     {
         Sections {

@@ -38,13 +38,13 @@ pub section_at-returns-in_err-value-clause-twice : goal.section_at-returns-in_er
 section_at-returns-in_err-value-clause-twice t c =
     let p = err_from_is_err_and c.from_residual.result c.from_residual.ensures.1 in
     rw p.1 (rw p.2 (twice_inside (views (drop c.args.start c.args.tokens.now)) c.loop-key.entries.items (views (drop c.loop-key.at c.args.tokens.now)) (views (drop (c.loop-key.at + 1) c.args.tokens.now)) c.in-Some.key.now c.in-Some.key_line
-        c.in_err-value.field-0.0 c.loop-key.invariant.so_far c.in-Some.ensures.0 c.loop-key.invariant.differ (sym c.if-is_some.false ∙ c.is_some.ensures ∙ ap is_some c.place_of.ensures ∙ ap (λ (es : List Entry). is_some (place_of c.in-Some.key.now 0 es)) c.as_slice.ensures.value) c.in_err-value.ensures.twice))
+    c.in_err-value.field-0.0 c.loop-key.invariant.so_far c.in-Some.ensures.0 c.loop-key.invariant.differ (sym c.if-is_some.false ∙ c.is_some.ensures ∙ ap is_some c.place_of.ensures ∙ ap (λ (es : List Entry). is_some (place_of c.in-Some.key.now 0 es)) c.as_slice.ensures.value) c.in_err-value.ensures.twice))
 
 pub value_at-returns-in_err-section-clause-twice : goal.value_at-returns-in_err-section-clause-twice
 value_at-returns-in_err-section-clause-twice t c =
     let p = err_from_is_err_and c.from_residual.result c.from_residual.ensures.1 in
     rw p.1 (rw p.2 (twice_opened c.args.line (views (drop c.args.start c.args.tokens.now)) (view c.in-Some.first) (views (drop (c.args.start + 1) c.args.tokens.now)) c.in_err-section.field-0.0
-        (ap views c.in-Some.ensures.0) (sym c.if-is_open.ensures) c.in_err-section.ensures.twice))
+    (ap views c.in-Some.ensures.0) (sym c.if-is_open.ensures) c.in_err-section.ensures.twice))
 
 pub section_at-returns-clause-read : goal.section_at-returns-clause-read
 section_at-returns-clause-read t c =
