@@ -1,0 +1,37 @@
+//! Why no name is built of a group, a volume and a layer.
+//! The order of the variants is that of the checks of one part; a new reason is a variant here and a clause of
+//! `build_name`.
+
+ghost use Rattle.std.specs.Prelude.{◌≡◌};
+ghost use Rattle.lvm_volume.specs.declared.fault.NameFault.TheVariants.{Memory};
+
+use std::alloc::AllocError;
+use thiserror::Error;
+
+/// Why a name was not built.
+#[derive(Clone, Copy, Debug, PartialEq, Eq, Error)]
+pub enum NameFault {
+    /// A part has a byte that no part has, or the layer begins with an underscore.
+    #[error("a letter that no part of a name has")]
+    Letter,
+    /// A part begins with a hyphen.
+    #[error("a part begins with a hyphen")]
+    HyphenFirst,
+    /// A part is empty.
+    #[error("an empty part")]
+    Empty,
+    /// The name has more than 127 bytes.
+    #[error("more than 127 bytes")]
+    Long,
+    /// An allocation was refused.
+    #[error("out of memory")]
+    Memory,
+}
+
+impl From<AllocError> for NameFault {
+    ghost from_gives = { λ _ fault. fault ≡ Memory };
+
+    fn from(_error: AllocError) -> NameFault {
+        NameFault::Memory
+    }
+}
