@@ -86,6 +86,8 @@ def check_requests(tally, program):
         ("at once", "", 4, "", UNREAD),
         ("after a line", SHORT, 4, SHORT_ANSWER, UNREAD),
         ("inside a line", SHORT + "R a 0", 4, SHORT_ANSWER, UNREAD),
+        ("after a rest of 4,096 bytes", SHORT + "R" * 4096, 4, SHORT_ANSWER, UNREAD),
+        ("after a rest of 4,097 bytes", SHORT + "R" * 4097, 3, SHORT_ANSWER, "dmremap: request 2: long\n"),
         ("after a bad line", SHORT + BAD, 3, SHORT_ANSWER, "dmremap: request 2: unknown\n"),
     ]
     for name, given, status, output, message in rows:
