@@ -1,0 +1,50 @@
+"""Drives the built program as a shell does, and looks at what only the outside sees.
+
+    python3 tests/outside [PROGRAM]
+
+PROGRAM is the program that `rt ci` and ./dmremap leave, if no other is given. A line tells each
+case that failed; the last line is `N passed, M failed`, and the status is 0 where none failed.
+
+What the answers to requests are is proved, and tested on worked examples beside the code. Here
+stands what a proof can't speak of: real files and streams, exit statuses as a shell gets them, the
+command line, large inputs, and the script ./dmremap. A new case is a row of a table in one of the
+modules beside this file.
+"""
+
+import os
+import shutil
+import sys
+import tempfile
+
+sys.dont_write_bytecode = True
+
+import files
+import launcher
+import limits
+import loads
+import request_lines
+import streams
+import words
+from harness import Program, Tally
+
+TOP = os.path.dirname(os.path.dirname(os.path.dirname(os.path.abspath(__file__))))
+BUILT = os.path.join(TOP, "crates", "dmremap", "out", "dmremap")
+
+
+def main():
+    built = os.path.abspath(sys.argv[1]) if len(sys.argv) > 1 else BUILT
+    tally = Tally()
+    if not os.access(built, os.X_OK):
+        tally.fail("the program", "there is none at " + os.path.relpath(built))
+        return tally.close()
+    with tempfile.TemporaryDirectory(prefix="dmremap-outside-") as room:
+        # As root the cases of unreadable files run as nobody, who has to come to the program.
+        os.chmod(room, 0o755)
+        program = Program(shutil.copy(built, os.path.join(room, "dmremap")), room)
+        for part in (words, files, loads, request_lines, streams, limits):
+            part.check(tally, program)
+        launcher.check(tally, program, TOP)
+    return tally.close()
+
+
+sys.exit(main())

@@ -1,0 +1,96 @@
+"""FILE and DISKS: any file that there is, by any path; else a refusal, and never an empty text."""
+
+import os
+import threading
+
+from harness import become_nobody
+
+TABLE = "a: 0 8 linear sda 4\n"
+DISKS = "sda 12\n"
+REQUESTS = "W a 2 3\n"
+ANSWER = "1 W sda 6 3\n"
+
+# A path that a careless shell script would take apart or read as something else.
+ODD_PATHS = ["two words", "  spaces around  ", "*", "$HOME", "a;b", "quote'and\"quote", "café",
+             "new\nline", "-hyphen", "folder with spaces/a file"]
+
+
+def check(tally, program):
+    check_paths(tally, program)
+    check_refused(tally, program)
+    check_unreadable(tally, program)
+    check_others(tally, program)
+
+
+def check_paths(tally, program):
+    for path in ODD_PATHS:
+        table = os.path.relpath(program.file("tables/" + path, TABLE), program.room + "/tables")
+        disks = program.file("lists/" + path, DISKS)
+        got = program.run(["map", "table", "--", table, disks], given=REQUESTS, folder=program.room + "/tables")
+        tally.same("files named %r" % path, got, 0, ANSWER)
+
+
+def check_refused(tally, program):
+    table, disks = program.file("table", TABLE), program.file("disks", DISKS)
+    zeros = program.file("zeros", "z: 0 8 zero\n")
+    wrong = program.file("wrong", "no table\n")
+    folder = os.path.join(program.room, "folder")
+    os.makedirs(folder, exist_ok=True)
+    rows = [
+        ("a missing FILE", "missing", disks, "source"),
+        ("a missing DISKS", table, "missing", "disks"),
+        ("both missing", "missing", "missing", "source"),
+        ("a missing DISKS that no line needs", zeros, "missing", "disks"),
+        ("a missing DISKS beside a FILE that is no table", wrong, "missing", "disks"),
+        ("a folder as FILE", folder, disks, "source"),
+        ("a folder as DISKS", table, folder, "disks"),
+        ("a file as the folder of FILE", table + "/table", disks, "source"),
+        ("an empty path as FILE", "", disks, "source"),
+        ("an empty path as DISKS", table, "", "disks"),
+        ("a path of 5,000 bytes", "x" * 5000, disks, "source"),
+    ]
+    for name, source, disk_list, part in rows:
+        for given in (REQUESTS, ""):
+            got = program.run(["map", "table", source, disk_list], given=given)
+            tally.same(name, got, 1, "", "dmremap: %s: read\n" % part)
+
+
+def check_unreadable(tally, program):
+    table, disks = program.file("table", TABLE), program.file("disks", DISKS)
+    closed = program.file("closed", DISKS)
+    os.chmod(closed, 0)
+    try:
+        runs = [program.run(["map", "table", *files], given=REQUESTS, before=become_nobody)
+                for files in ([table, disks], [closed, disks], [table, closed])]
+    except OSError as error:
+        tally.skip("unreadable files", error)
+        return
+    tally.same("readable files, as nobody", runs[0], 0, ANSWER)
+    tally.same("an unreadable FILE", runs[1], 1, "", "dmremap: source: read\n")
+    tally.same("an unreadable DISKS", runs[2], 1, "", "dmremap: disks: read\n")
+
+
+def check_others(tally, program):
+    table, disks = program.file("table", TABLE), program.file("disks", DISKS)
+    link = os.path.join(program.room, "link")
+    os.symlink(table, link)
+    tally.same("a link as FILE", program.run(["map", "table", link, disks], given=REQUESTS), 0, ANSWER)
+    tally.same("an empty FILE and DISKS", program.run(["map", "table", os.devnull, os.devnull]))
+    got = program.run(["map", "table", os.devnull, disks], given=REQUESTS)
+    tally.same("a request to an empty FILE", got, 3, "", "dmremap: request 1: unknown\n")
+    pipe = os.path.join(program.room, "pipe")
+    os.mkfifo(pipe)
+    writer = threading.Thread(target=write_slowly, args=(pipe, TABLE), daemon=True)
+    writer.start()
+    got = program.run(["map", "table", pipe, disks], given=REQUESTS)
+    tally.same("a pipe as FILE, as a shell makes it of <(..)", got, 0, ANSWER)
+    for name, words, part in (("FILE", ["/dev/zero", disks], "source"), ("DISKS", [table, "/dev/zero"], "disks")):
+        got = program.run(["map", "table", *words], given=REQUESTS)
+        tally.same("an endless " + name, got, 1, "", "dmremap: %s: long\n" % part)
+
+
+def write_slowly(path, content):
+    """Writes a byte at a time, so that each read gets little."""
+    with open(path, "wb", buffering=0) as it:
+        for byte in content.encode():
+            it.write(bytes([byte]))

@@ -1,0 +1,119 @@
+"""Runs the program once, and compares what it did with what was wanted."""
+
+import os
+import signal
+import subprocess
+import termios
+
+SECONDS = 60
+NOBODY = 65534
+
+
+class Outcome:
+    """How a run ended: its status, or in words why it has none, and the bytes that it wrote."""
+
+    def __init__(self, status, out, err):
+        self.status, self.out, self.err = status, out, err
+
+
+class Tally:
+    """Counts the cases, and tells each that failed."""
+
+    def __init__(self):
+        self.passed = self.failed = 0
+
+    def fail(self, name, why):
+        self.failed += 1
+        print("FAILED %s: %s" % (name, why), flush=True)
+
+    def holds(self, name, is_so, why):
+        """Counts a case that is more than a comparison of outcomes."""
+        if is_so:
+            self.passed += 1
+        else:
+            self.fail(name, why)
+
+    def same(self, name, got, status=0, out="", err=""):
+        """Counts a case: the status, and the bytes of both streams."""
+        found = [("status", status, got.status), ("standard output", as_bytes(out), got.out),
+                 ("standard error", as_bytes(err), got.err)]
+        wrong = ["%s is %s and not %s" % (what, short(was), short(wanted))
+                 for what, wanted, was in found if was != wanted]
+        self.holds(name, not wrong, "; ".join(wrong))
+
+    def skip(self, name, why):
+        """Tells a case that this system can't make; it is counted nowhere."""
+        print("not tried: %s: %s" % (name, why), flush=True)
+
+    def close(self):
+        print("%d passed, %d failed" % (self.passed, self.failed), flush=True)
+        return 1 if self.failed else 0
+
+
+class Program:
+    """The program, and the folder that its files are made in."""
+
+    def __init__(self, path, room):
+        self.path, self.room = path, room
+
+    def file(self, name, content=""):
+        """Makes a file, and the folders above it, and returns its path."""
+        path = os.path.join(self.room, name)
+        os.makedirs(os.path.dirname(path), exist_ok=True)
+        with open(path, "wb") as it:
+            it.write(as_bytes(content))
+        return path
+
+    def run(self, words, **how):
+        return run([self.path] + words, **how)
+
+    def map(self, table, disks, requests="", **how):
+        """Maps requests through these texts."""
+        words = ["map", "table", self.file("table", table), self.file("disks", disks)]
+        return self.run(words, given=requests, **how)
+
+
+def run(words, given=b"", stdin=None, stdout=None, stderr=None, before=None, folder=None, env=None):
+    """Runs a command to its end. `given` is what its standard input holds, if that is none of the
+    caller's; `before` is called in the new process, as a shell sets limits."""
+    ran = subprocess.Popen(
+        words,
+        stdin=subprocess.PIPE if stdin is None else stdin,
+        stdout=subprocess.PIPE if stdout is None else stdout,
+        stderr=subprocess.PIPE if stderr is None else stderr,
+        preexec_fn=before, cwd=folder, env=env, start_new_session=True)
+    try:
+        out, err = ran.communicate(as_bytes(given) if stdin is None else None, timeout=SECONDS)
+    except subprocess.TimeoutExpired:
+        os.killpg(ran.pid, signal.SIGKILL)
+        ran.communicate()
+        return Outcome("none after %d seconds" % SECONDS, b"", b"")
+    return Outcome(ran.returncode, out or b"", err or b"")
+
+
+def become_nobody():
+    """As root reads every file, a case of an unreadable one runs as somebody else."""
+    if os.geteuid() == 0:
+        os.setgroups([])
+        os.setgid(NOBODY)
+        os.setuid(NOBODY)
+
+
+def failing_input(content):
+    """An input that delivers these bytes and then fails: a terminal whose other end has gone."""
+    here, there = os.openpty()
+    mode = termios.tcgetattr(there)
+    mode[0] = mode[1] = mode[3] = 0
+    termios.tcsetattr(there, termios.TCSANOW, mode)
+    os.write(there, as_bytes(content))
+    os.close(there)
+    return here
+
+
+def as_bytes(content):
+    return content.encode() if isinstance(content, str) else content
+
+
+def short(value):
+    shown = repr(value)
+    return shown if len(shown) <= 200 else shown[:200] + ".."

@@ -1,0 +1,152 @@
+"""The script ./dmremap: from any folder, through links, with any words, and where it has to build.
+
+It runs here in a small tree of its own, in which `rt` is a script that tells how it was called."""
+
+import os
+import shutil
+
+from harness import run
+
+TABLE = "a: 0 8 linear sda 4\n"
+DISKS = "sda 12\n"
+REQUESTS = "W a 2 3\n"
+ANSWER = "1 W sda 6 3\n"
+# Each stands on those before it, and the program on nothing else.
+CRATES = ["low", "middle", "dmremap"]
+LINES = "# a comment: low\nlow: memchr\ndmremap: clap low middle\nbeside: low\nmiddle: low itoa\n"
+BUILDING = "dmremap: building the proved program, which takes some minutes\n"
+
+# Notes where it runs and with which words, and what is on its input, which is to be nothing. Where
+# it is told to run the program, it puts one there, if there is none: `rt run` too leaves a program
+# that fits its sources as it is.
+RT = """\
+#!/bin/sh
+echo "$(basename "$PWD") $*" >> "$CALLS"
+cat >> "$CALLS"
+echo "rt: this is $(basename "$PWD")"
+[ "$(basename "$PWD")" != "$BROKEN" ] || exit 1
+[ "$1" != run ] || [ -e out/dmremap ] || { mkdir -p out && cp "$PROGRAM" out/dmremap; }
+"""
+
+# Writes its words, one a line.
+ECHO = """\
+#!/bin/sh
+printf '%s\\n' "$@"
+exit 3
+"""
+
+
+def check(tally, program, top):
+    tree = Tree(program, top)
+    check_words(tally, tree)
+    check_places(tally, tree)
+    check_builds(tally, tree)
+
+
+class Tree:
+    """A tree with ./dmremap and a few crates without sources."""
+
+    def __init__(self, program, top):
+        self.program = program
+        self.top = os.path.join(program.room, "a tree")
+        self.calls = os.path.join(program.room, "calls")
+        for crate in [*CRATES, "beside"]:
+            for part in ("src", "specs", "proofs"):
+                os.makedirs(os.path.join(self.top, "crates", crate, part))
+        program.file("a tree/crates.txt", LINES)
+        self.script = shutil.copy(os.path.join(top, "dmremap"), self.top)
+        self.built = os.path.join(self.top, "crates", "dmremap", "out", "dmremap")
+        os.chmod(program.file("bin/rt", RT), 0o755)
+
+    def put(self, content=None):
+        """Puts a program there, newer than all sources."""
+        if content is None:
+            os.makedirs(os.path.dirname(self.built), exist_ok=True)
+            shutil.copy(self.program.path, self.built)
+        else:
+            os.chmod(self.program.file(os.path.relpath(self.built, self.program.room), content), 0o755)
+
+    def change(self, place):
+        """Makes this one file newer than the program, and all else older."""
+        for at, folders, files in os.walk(self.top):
+            for it in folders + files:
+                os.utime(os.path.join(at, it), (0, 0))
+        os.utime(self.built, (1, 1))
+        if place:
+            with open(os.path.join(self.top, place), "a", encoding="utf-8") as it:
+                os.utime(it.fileno())
+
+    def run(self, words, script=None, broken="", **how):
+        env = dict(os.environ, CALLS=self.calls, PROGRAM=self.program.path, BROKEN=broken)
+        env["PATH"] = os.path.join(self.program.room, "bin") + os.pathsep + env["PATH"]
+        self.program.file("calls")
+        return run([script or self.script, *words], env=env, **how)
+
+    def called(self):
+        with open(self.calls, encoding="utf-8") as it:
+            return it.read().splitlines()
+
+
+def check_words(tally, tree):
+    tree.put(ECHO)
+    for words in (["two words", "", "  ", "*", "$HOME", "a\\b", "--", "-x"], []):
+        tally.same("./dmremap with the words %r" % words, tree.run(words), 3, "\n".join(words) + "\n")
+
+
+def check_places(tally, tree):
+    tree.put()
+    room = tree.program.room
+    words = ["map", "table", tree.program.file("the table", TABLE), tree.program.file("the disks", DISKS)]
+    link, chain, folder = (os.path.join(room, it) for it in ("link", "link to the link", "linked tree"))
+    for to in (link, chain, folder):
+        if os.path.lexists(to):
+            os.remove(to)
+    os.symlink("a tree/dmremap", link)
+    os.symlink(link, chain)
+    os.symlink(tree.top, folder)
+    rows = [
+        ("by its whole path", tree.script, "/"),
+        ("from its folder", "./dmremap", tree.top),
+        ("from another folder", "../a tree/dmremap", os.path.dirname(tree.program.file("bin/rt", RT))),
+        ("through a link", link, "/"),
+        ("through a link to a link", chain, "/"),
+        ("through a link to its folder", folder + "/dmremap", "/"),
+        ("through a link beside", "./link", room),
+    ]
+    os.chmod(os.path.join(room, "bin", "rt"), 0o755)
+    for name, script, at in rows:
+        tally.same("./dmremap " + name, tree.run(words, script, given=REQUESTS, folder=at), 0, ANSWER)
+    tally.holds("./dmremap builds nothing that is there", not tree.called(), "rt was called: %s" % tree.called())
+    relative = ["map", "table", "the table", "the disks"]
+    got = tree.run(relative, given=REQUESTS, folder=room)
+    tally.same("./dmremap with paths from where it is called", got, 0, ANSWER)
+    got = tree.run(words, given=REQUESTS + "R b 0 1\n")
+    tally.same("./dmremap gives the program's status", got, 3, ANSWER, "dmremap: request 2: unknown\n")
+    os.environ["CDPATH"] = room
+    tally.same("./dmremap under CDPATH", tree.run(words, "./dmremap", given=REQUESTS, folder=tree.top), 0, ANSWER)
+    del os.environ["CDPATH"]
+
+
+def check_builds(tally, tree):
+    words = ["map", "table", tree.program.file("the table", TABLE), tree.program.file("the disks", DISKS)]
+    said = BUILDING + "".join(
+        "dmremap: %s is proved and built (%d of 3)\n" % (it, at + 1) for at, it in enumerate(CRATES))
+    calls = ["low lib", "middle lib", "dmremap run -- --help"]
+    os.remove(tree.built)
+    got = tree.run(words, given=REQUESTS)
+    tally.same("./dmremap where nothing is built", got, 0, ANSWER, said)
+    tally.holds("./dmremap builds crate by crate", tree.called() == calls, "rt was called: %s" % tree.called())
+    tally.same("./dmremap once it is built", tree.run(words, given=REQUESTS), 0, ANSWER)
+    tree.change(None)
+    tally.same("./dmremap that is newer than its sources", tree.run(words, given=REQUESTS), 0, ANSWER)
+    for place in ("crates/low/src/lib.rt", "crates/middle/proofs/Lib.antt", "crates/dmremap/specs/Lib.antt", "crates.txt"):
+        tree.change(place)
+        tally.same("./dmremap after a change of " + place, tree.run(words, given=REQUESTS), 0, ANSWER, said)
+        tally.same("./dmremap once that is built", tree.run(words, given=REQUESTS), 0, ANSWER)
+    os.remove(tree.built)
+    got = tree.run(words, broken="middle", given=REQUESTS)
+    tally.same("./dmremap whose build fails", got, 70, "",
+               BUILDING + "dmremap: low is proved and built (1 of 3)\nrt: this is middle\n"
+               "dmremap: the build of middle failed\n")
+    tally.holds("./dmremap builds nothing above what failed", tree.called() == calls[:2],
+                "rt was called: %s" % tree.called())

@@ -1,0 +1,90 @@
+"""Large inputs up to their limits and one past them, many requests, and little memory."""
+
+import resource
+
+from harness import Outcome
+
+BYTES = 1048576
+LINES = 65536
+# 65,536 lines are there within 1 MiB only if most of them are short.
+ZERO_LINE = "a: %d 1 zero\n"
+
+
+def check(tally, program):
+    check_counts(tally, program)
+    check_sizes(tally, program)
+    check_many_requests(tally, program)
+    check_memory(tally, program)
+
+
+def check_counts(tally, program):
+    devices = "".join("d%d: 0 1 linear sda %d\n" % (it, it) for it in range(1024))
+    disks = "".join("s%d 1\n" % it for it in range(1024))
+    lines = "".join(ZERO_LINE % it for it in range(LINES))
+    columns = "".join(" s%d 0" % it for it in range(128))
+    each = "".join("1 R s%d 0 1\n" % it for it in range(128))
+    tally.same("1,024 devices", program.map(devices, "sda 1024\n", "W d1023 0 1\n"), 0, "1 W sda 1023 1\n")
+    got = program.map(devices + "e: 0 1 zero\n", "sda 1024\n")
+    tally.same("1,025 devices", got, 1, "", "dmremap: source: limit at 1025\n")
+    got = program.map("a: 0 1 linear s1023 0\n", disks, "R a 0 1\n")
+    tally.same("1,024 disks", got, 0, "1 R s1023 0 1\n")
+    tally.same("1,025 disks", program.map("", disks + "t 1\n"), 1, "", "dmremap: disks: limit at 1025\n")
+    tally.same("65,536 lines", program.map(lines, "", "R a 0 65536\n"), 0, "1 zero 65536\n")
+    got = program.map(lines + ZERO_LINE % LINES, "")
+    tally.same("65,537 lines", got, 1, "", "dmremap: source: limit at 65537\n")
+    got = program.map("a: 0 128 striped 128 1%s\n" % columns, disks, "R a 0 128\n")
+    tally.same("128 columns", got, 0, each)
+    got = program.map("a: 0 129 striped 129 1%s s128 0\n" % columns, disks)
+    tally.same("129 columns", got, 1, "", "dmremap: source: stripe at 1\n")
+    most = 1 << 50
+    got = program.map("a: 0 %d linear sda 0\n" % most, "sda %d\n" % most, "W a %d 1\n" % (most - 1))
+    tally.same("2^50 sectors", got, 0, "1 W sda %d 1\n" % (most - 1))
+    got = program.map("a: 0 %d linear sda 0\n" % most, "sda %d\n" % most, "R a 0 1048576\nR a 0 1048577\n")
+    tally.same("1,048,576 sectors, and one more", got, 3, "1 R sda 0 1048576\n", "dmremap: request 2: length\n")
+
+
+def check_sizes(tally, program):
+    lines = [ZERO_LINE % it for it in range(LINES)]
+    left = BYTES - sum(map(len, lines))
+    # A line may have one space at its end, and the name of a device up to 127 bytes.
+    padded = [it[:-1] + " \n" for it in lines[:left]] + lines[left:]
+    table = "".join(padded)
+    tally.holds("a table of 1 MiB", len(table) == BYTES, "this module made %d bytes" % len(table))
+    tally.same("1 MiB of lines", program.map(table, "", "R a 65535 1\n"), 0, "1 zero 1\n")
+    for size, message in ((BYTES, "source: text at 1"), (BYTES + 1, "source: long"), (3 * BYTES, "source: long")):
+        got = program.map("\t" * size, "")
+        tally.same("%d bytes as FILE" % size, got, 1, "", "dmremap: %s\n" % message)
+    for size, message in ((BYTES, "disks: text at 1"), (BYTES + 1, "disks: long")):
+        got = program.map("", "\t" * size)
+        tally.same("%d bytes as DISKS" % size, got, 1, "", "dmremap: %s\n" % message)
+
+
+def check_many_requests(tally, program):
+    number = 200000
+    given = "".join("R a %d 1\n" % (it % 1000) for it in range(number))
+    output = "".join("%d R sda %d 1\n" % (it + 1, it % 1000 + 24) for it in range(number))
+    got = program.map("a: 0 1000 linear sda 24\n", "sda 1024\n", given)
+    tally.same("200,000 requests", got, 0, output)
+
+
+def check_memory(tally, program):
+    """Under a rising limit the program doesn't start, then has too little memory, then works."""
+    table = "".join("a: %d 1 linear sda %d\n" % (it, it) for it in range(20000))
+    got, limit, little = Outcome(None, b"", b""), 1 << 20, []
+    while got.status != 0 and limit < 1 << 28:
+        got = program.map(table, "sda 20000\n", "R a 0 20000\n", before=lambda: limit_memory(limit))
+        # Where not even its libraries have room, the system ends it, with 127 or by a signal.
+        has_started = got.status != 127 and (got.status or 0) >= 0
+        if got.status != 0 and (has_started or little):
+            little.append(got)
+        limit += limit >> 3
+    tally.same("memory enough", got, 0, "1 R sda 0 20000\n")
+    if little:
+        wrong = [it for it in little if (it.status, it.out, it.err) != (6, b"", b"dmremap: memory\n")]
+        tally.same("too little memory", (wrong or little)[0], 6, "", "dmremap: memory\n")
+    else:
+        tally.skip("status 6", "no limit here leaves room to start and too little to load")
+
+
+def limit_memory(limit):
+    resource.setrlimit(resource.RLIMIT_AS, (limit, limit))

@@ -1,0 +1,81 @@
+"""Refused tables and disk lists: each word of a refusal, its place and its status."""
+
+
+def chain(levels):
+    """Devices d1, d2, .. of which each lies over the one before."""
+    return "d1: 0 8 linear sda 0\n" + "".join(
+        "d%d: 0 8 linear /dev/mapper/d%d 0\n" % (it, it - 1) for it in range(2, levels + 1))
+
+
+# FILE, DISKS, and the message without its beginning `dmremap: `.
+REFUSED = [
+    ("a: 0 8 error\r\n", "", "source: text at 1"),
+    ("a: 0 8 error\nb:\t0 8 error\n", "", "source: text at 2"),
+    ("a: 0 8 linear sd\u00e4 0\n", "", "source: text at 1"),
+    ("a: 0 8 error\n\0", "", "source: text at 2"),
+    ("a: 0 8 error", "", "source: syntax at 1"),
+    ("a: 0 8 error\n\n", "", "source: syntax at 2"),
+    ("a: 0 8  error\n", "", "source: syntax at 1"),
+    ("a: 0 8 error  \n", "", "source: syntax at 1"),
+    ("a 0 8 error\n", "", "source: syntax at 1"),
+    (": 0 8 error\n", "", "source: syntax at 1"),
+    ("a: 0 8 mirror\n", "", "source: field at 1"),
+    ("a: 08 8 error\n", "", "source: field at 1"),
+    ("a: 0 8 error 0\n", "", "source: field at 1"),
+    ("a: 0 8 linear sda\n", "", "source: field at 1"),
+    ("a: 0 8 striped 2 4 sda 0 sdb\n", "", "source: field at 1"),
+    ("a!: 0 8 error\na: 8 8 zero 0\n", "", "source: field at 2"),
+    ("a: 0 10000000000000000000 error\n", "", "source: field at 1"),
+    ("a!: 0 8 error\n", "", "source: name at 1"),
+    ("%s: 0 8 error\n" % ("a" * 128), "", "source: name at 1"),
+    ("a: 0 8 linear /dev/mapper/ 0\n", "", "source: name at 1"),
+    ("a: 0 8 linear %s 0\n" % ("s" * 256), "", "source: name at 1"),
+    ("a: 0 8 error\n", "sda 8\r\n", "disks: text at 1"),
+    ("a: 0 8 error\n", "sda 8 \n", "disks: syntax at 1"),
+    ("a: 0 8 error\n", "sda 8\nsdb\n", "disks: syntax at 2"),
+    ("a: 0 8 error\n", "sda 8", "disks: syntax at 1"),
+    ("a: 0 8 error\n", "sda x\n", "disks: field at 1"),
+    ("a: 0 8 error\n", "/dev/mapper/a 8\n", "disks: name at 1"),
+    ("a: 0 8 nothing\n", "sda x\n", "source: field at 1"),
+    ("a: 0 1125899906842625 error\n", "", "source: limit at 1"),
+    ("a: 0 8 linear sda 9999999999999999999\n", "sda 8\n", "source: limit at 1"),
+    ("a: 0 8 error\n", "sda 1125899906842625\n", "disks: limit at 1"),
+    ("a: 0 8 zero\nb: 0 8 zero\na: 8 8 zero\n", "", "source: twice at 3"),
+    ("a: 0 8 error\n", "sda 8\nsda 9\n", "disks: twice at 2"),
+    ("a: 0 0 error\n", "", "source: empty at 1"),
+    ("a: 0 8 error\n", "sda 0\n", "disks: empty at 1"),
+    ("a: 1 8 error\n", "", "source: gap at 1"),
+    ("a: 0 8 error\na: 9 8 error\n", "", "source: gap at 2"),
+    ("a: 0 8 error\na: 7 8 error\n", "", "source: overlap at 2"),
+    ("a: 0 8 linear sdz 0\n", "sda 8\n", "source: unknown at 1"),
+    ("a: 0 8 linear /dev/mapper/b 0\n", "sda 8\n", "source: unknown at 1"),
+    ("a: 0 8 error\na: 8 8 linear /dev/mapper/a 0\n", "", "source: cycle at 1"),
+    ("d: 0 8 linear /dev/mapper/a 0\na: 0 8 linear /dev/mapper/b 0\nb: 0 8 linear /dev/mapper/a 0\n", "",
+     "source: cycle at 2"),
+    (chain(33), "sda 8\n", "source: deep at 33"),
+    ("a: 0 60 striped 2 8 sda 0 sdb 0\n", "sda 64\nsdb 64\n", "source: stripe at 1"),
+    ("a: 0 8 striped 0 8\n", "", "source: stripe at 1"),
+    ("a: 0 8 striped 1 4294967296 sda 0\n", "sda 8\n", "source: stripe at 1"),
+    ("a: 0 100 linear sda 50\n", "sda 149\n", "source: range at 1"),
+    ("a: 0 64 striped 2 8 sda 0 sda 33\n", "sda 64\n", "source: range at 1"),
+    ("a: 0 8 linear sda 0\nb: 0 8 linear /dev/mapper/a 1\n", "sda 8\n", "source: range at 2"),
+]
+
+# Texts that are read although they look odd.
+TAKEN = [
+    ("a: 0 8 error \n", "", "R a 0 8\n", "1 error 8\n"),
+    ("a::: 0 8 zero\n", "", "R a:: 0 8\nW a:: 7 1\n", "1 zero 8\n2 drop 1\n"),
+    ("%s: 0 8 zero\n" % ("a" * 127), "", "R %s 0 8\n" % ("a" * 127), "1 zero 8\n"),
+    ("a: 0 8 linear %s 0\n" % ("s" * 255), "%s 8\n" % ("s" * 255), "R a 0 8\n", "1 R %s 0 8\n" % ("s" * 255)),
+    ("sda: 0 8 linear sda 1\n", "sda 9\n", "W sda 0 8\n", "1 W sda 1 8\n"),
+    ("a: 0 1 linear /dev/mapperx 0\n", "/dev/mapperx 1\n", "R a 0 1\n", "1 R /dev/mapperx 0 1\n"),
+    (chain(32), "sda 8\n", "R d32 0 8\n", "1 R sda 0 8\n"),
+]
+
+
+def check(tally, program):
+    for table, disks, message in REFUSED:
+        got = program.map(table, disks, "R a 0 1\n")
+        tally.same("a load of %r, %r" % (table[:40], disks[:40]), got, 1, "", "dmremap: %s\n" % message)
+    for table, disks, requests, output in TAKEN:
+        tally.same("a load of %r" % table[:40], program.map(table, disks, requests), 0, output)

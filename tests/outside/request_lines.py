@@ -1,0 +1,51 @@
+"""Requests: the line that ends a run, with the answers before it whole."""
+
+TABLE = "a: 0 100 linear sda 50\n"
+DISKS = "sda 150\n"
+FIRST = "R a 0 1\n"
+ANSWER = "1 R sda 50 1\n"
+
+# What comes after FIRST, and the word of the message.
+BAD = [
+    ("R a 1 1", "unended"),
+    ("\n", "form"),
+    ("R a 0\n", "form"),
+    ("r a 0 1\n", "form"),
+    ("R a 0 1 \n", "form"),
+    ("R  a 0 1\n", "form"),
+    ("R a! 0 1\n", "form"),
+    ("R\ta\t0\t1\n", "form"),
+    ("R a 01 1\n", "number"),
+    ("R a 0 1\r\n", "number"),
+    ("R a 10000000000000000000 1\n", "number"),
+    ("R a 0 0\n", "length"),
+    ("W a 0 1048577\n", "length"),
+    ("R b 0 1\n", "unknown"),
+    ("R sda 0 1\n", "unknown"),
+    ("R a 0 1" + "0" * 4089 + "\n", "number"),
+    ("R" * 4096 + "\n", "form"),
+    ("R" * 4097 + "\n", "long"),
+    ("R" * 4096, "unended"),
+    ("R" * 4097, "long"),
+    ("\0" * 100000, "long"),
+    (b"\xff\xfe\n", "form"),
+]
+
+GOOD = [
+    ("", ""),
+    ("R a 99 2\nR a 99 1\n", "1 error 2\n2 R sda 149 1\n"),
+    ("R a 9999999999999999999 1048576\n", "1 error 1048576\n"),
+    ("W a 0 100\nR a 0 100\n", "1 W sda 50 100\n2 R sda 50 100\n"),
+]
+
+
+def check(tally, program):
+    for bad, word in BAD:
+        given = FIRST.encode() + (bad if isinstance(bad, bytes) else bad.encode())
+        for more in (b"", b"R a 2 2\n"):
+            if more and not given.endswith(b"\n"):
+                continue
+            got = program.map(TABLE, DISKS, given + more)
+            tally.same("the request %r" % bad[:40], got, 3, ANSWER, "dmremap: request 2: %s\n" % word)
+    for requests, output in GOOD:
+        tally.same("the requests %r" % requests, program.map(TABLE, DISKS, requests), 0, output)

@@ -1,0 +1,127 @@
+"""Streams that are full, closed or cut off, and readers that go away."""
+
+import os
+import resource
+import signal
+import subprocess
+import tempfile
+
+from harness import Outcome, failing_input
+
+TABLE = "a: 0 4096 striped 2 1 sda 0 sdb 0\n"
+DISKS = "sda 2048\nsdb 2048\n"
+SHORT = "R a 0 2\n"
+SHORT_ANSWER = "1 R sda 0 1\n1 R sdb 0 1\n"
+# Its answer goes out in many writes.
+LONG = "R a 0 4096\n" * 20
+BAD = "R b 0 1\n"
+UNWRITTEN = "dmremap: output: write\n"
+UNREAD = "dmremap: requests: read\n"
+
+
+def check(tally, program):
+    check_output(tally, program)
+    check_reader(tally, program)
+    check_beginnings(tally, program)
+    check_requests(tally, program)
+    check_messages(tally, program)
+
+
+def check_output(tally, program):
+    """An output that takes nothing; the requests are answered however the run would have ended."""
+    for name, given in (("a short answer", SHORT), ("a long answer", LONG), ("a bad request", SHORT + BAD)):
+        with open("/dev/full", "wb") as full:
+            tally.same("a full output, " + name, program.map(TABLE, DISKS, given, stdout=full), 5, "", UNWRITTEN)
+        got = program.map(TABLE, DISKS, given, before=lambda: os.close(1))
+        tally.same("a closed output, " + name, got, 5, "", UNWRITTEN)
+    with open("/dev/full", "wb") as full:
+        tally.same("a full output, no request", program.map(TABLE, DISKS, "", stdout=full))
+        got = program.map(TABLE, DISKS, BAD, stdout=full)
+        tally.same("a full output, nothing but a bad request", got, 3, "", "dmremap: request 1: unknown\n")
+        got = program.map("a: 0 0 zero\n", DISKS, SHORT, stdout=full)
+        tally.same("a full output, a refused load", got, 1, "", "dmremap: source: empty at 1\n")
+
+
+def check_reader(tally, program):
+    """A reader that takes a line and goes, as `head` does. The program may not go on for ever."""
+    words = [program.path, "map", "table", program.file("table", TABLE), program.file("disks", DISKS)]
+    for name, given in (("before anything was written", SHORT), ("in the midst of a long answer", LONG)):
+        ran = subprocess.Popen(words, stdin=subprocess.PIPE, stdout=subprocess.PIPE, stderr=subprocess.PIPE)
+        if given == SHORT:
+            ran.stdout.close()
+        ran.stdin.write(given.encode())
+        ran.stdin.close()
+        if given == LONG:
+            ran.stdout.readline()
+            ran.stdout.close()
+        message = ran.stderr.read()
+        ran.stderr.close()
+        tally.same("a reader that goes away " + name, Outcome(ran.wait(), b"", message), 5, "", UNWRITTEN)
+
+
+def check_beginnings(tally, program):
+    """A file that may grow to so many bytes and no more, as on a disk that runs full."""
+    whole = program.map(TABLE, DISKS, LONG).out
+    for most in (1, 10, 4096, 70000):
+        with tempfile.TemporaryFile() as file:
+            got = program.map(TABLE, DISKS, LONG, stdout=file, before=lambda: limit_files(most))
+            file.seek(0)
+            got.out = file.read()
+        tally.same("an output that fails after %d bytes" % most, got, 5, whole[:most], UNWRITTEN)
+
+
+def limit_files(most):
+    signal.signal(signal.SIGXFSZ, signal.SIG_IGN)
+    resource.setrlimit(resource.RLIMIT_FSIZE, (most, most))
+
+
+def check_requests(tally, program):
+    folder = os.open(program.room, os.O_RDONLY)
+    tally.same("a folder as requests", program.map(TABLE, DISKS, stdin=folder), 4, "", UNREAD)
+    os.close(folder)
+    written = os.open(program.file("written"), os.O_WRONLY)
+    tally.same("requests from a file open for writing alone", program.map(TABLE, DISKS, stdin=written), 4, "", UNREAD)
+    os.close(written)
+    rows = [
+        ("at once", "", 4, "", UNREAD),
+        ("after a line", SHORT, 4, SHORT_ANSWER, UNREAD),
+        ("inside a line", SHORT + "R a 0", 4, SHORT_ANSWER, UNREAD),
+        ("after a rest of 4,096 bytes", SHORT + "R" * 4096, 4, SHORT_ANSWER, UNREAD),
+        ("after a rest of 4,097 bytes", SHORT + "R" * 4097, 3, SHORT_ANSWER, "dmremap: request 2: long\n"),
+        ("after a bad line", SHORT + BAD, 3, SHORT_ANSWER, "dmremap: request 2: unknown\n"),
+    ]
+    for name, given, status, output, message in rows:
+        got = program.map(TABLE, DISKS, stdin=failing_input(given))
+        tally.same("requests that fail " + name, got, status, output, message)
+    with open("/dev/full", "wb") as full:
+        got = program.map(TABLE, DISKS, stdin=failing_input(SHORT), stdout=full)
+    tally.same("requests that fail, and a full output", got, 5, "", UNWRITTEN)
+    with open("/dev/zero", "rb") as zeros:
+        got = program.map(TABLE, DISKS, stdin=zeros)
+    tally.same("endless requests without a newline", got, 3, "", "dmremap: request 1: long\n")
+    check_unclosed(tally, program)
+
+
+def check_unclosed(tally, program):
+    """A bad line ends the run though more requests may still come."""
+    for given, word in ((BAD, "unknown"), ("R" * 4097, "long")):
+        here, there = os.pipe()
+        os.write(there, given.encode())
+        got = program.map(TABLE, DISKS, stdin=here)
+        os.close(here)
+        os.close(there)
+        tally.same("a bad request before a pause", got, 3, "", "dmremap: request 1: %s\n" % word)
+
+
+def check_messages(tally, program):
+    """Where the message can't be written, the output and the status are what they were."""
+    rows = [
+        ("no fault", TABLE, SHORT, 0, SHORT_ANSWER),
+        ("a refused load", "a: 0 0 zero\n", SHORT, 1, ""),
+        ("a bad request", TABLE, SHORT + BAD, 3, SHORT_ANSWER),
+    ]
+    for name, table, given, status, output in rows:
+        with open("/dev/full", "wb") as full:
+            tally.same("a full standard error, " + name, program.map(table, DISKS, given, stderr=full), status, output)
+        got = program.map(table, DISKS, given, before=lambda: os.close(2))
+        tally.same("a closed standard error, " + name, got, status, output)

@@ -1,0 +1,41 @@
+"""The command line: help goes to the standard output, refused words to the standard error."""
+
+VOLUME = "vol: 0 100 linear sda 50\n"
+DISKS = "sda 150\n"
+
+HELP = [["--help"], ["-h"], ["help"], ["help", "map"], ["map", "--help"]]
+
+# Words that are refused whatever formats and commands there are.
+REFUSED = [
+    [],
+    ["map"],
+    ["map", "table"],
+    ["nonsense"],
+    ["map", "nonsense", "TABLE", "DISKS"],
+    ["map", "table", "TABLE", "DISKS", "more"],
+    ["map", "table", "TABLE", "DISKS", "--nonsense"],
+    ["map", "table", "-", "DISKS"],
+    ["--version"],
+    ["MAP", "table", "TABLE", "DISKS"],
+    [b"map", b"table", b"\xff", b"DISKS"],
+]
+
+
+def check(tally, program):
+    paths = {"TABLE": program.file("table", VOLUME), "DISKS": program.file("disks", DISKS)}
+    real = lambda words: [paths.get(it, it) for it in words]
+    for words in HELP:
+        got = program.run(words)
+        name = "help by %s" % words
+        is_help = got.status == 0 and got.out.find(b"Usage:") >= 0 and got.err == b""
+        tally.holds(name, is_help, "status %s, on standard error %r" % (got.status, got.err))
+    for words in REFUSED:
+        got = program.run(real(words), given="R vol 0 1\n")
+        is_refused = got.status == 2 and got.out == b"" and got.err.endswith(b"\n")
+        tally.holds("words %s" % words, is_refused, "status %s, on standard output %r, on standard error %r"
+                    % (got.status, got.out, got.err))
+    tally.same("no DISKS", program.run(real(["map", "table", "TABLE"])), 2, "", "dmremap: words: disks\n")
+    tally.same("no DISKS, before FILE is opened", program.run(["map", "table", "missing"]), 2, "",
+               "dmremap: words: disks\n")
+    tally.same("words after --", program.run(real(["map", "table", "--", "TABLE", "DISKS"]), given="R vol 0 1\n"),
+               0, "1 R sda 50 1\n")
