@@ -34,6 +34,9 @@ left_as r left old new step other same held = subst (λ (x : Step). OnErr r (OfB
 pub state_as : {T E : Type 0} (r : Result T E) (new : State) (step other : Step) → step ≡ other → OnOk r (new ≡ step.state) → OnOk r (new ≡ other.state)
 state_as r new step other same held = subst (λ (x : Step). OnOk r (new ≡ x.state)) same held
 
+pub state_of : {step other : Step} → step ≡ other → step.state ≡ other.state
+state_of same = ap (λ (x : Step). x.state) same
+
 -- a sink that failed at all of some units was cut short at them
 pub cut_as : {T E S : Type 0} (r : Result T E) (left : S → List BlockUnit → S → Type 0) (old new : S) (step other : Step) → step ≡ other → OnErr r (left old step.units new) → OnErr r (OfBeginning left old other.units new)
 cut_as r left old new step other same held =

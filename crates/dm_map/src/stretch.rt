@@ -19,6 +19,9 @@ use crate::walk::{part_in, sector_at};
 use crate::walker::Walker;
 use dm_stack::{DiskId, FoundColumn, FoundLine, FoundTarget, Lower};
 
+#[cfg(test)]
+mod tests;
+
 /// What consecutive sectors are read from.
 #[derive(Clone, Copy, Debug, PartialEq, Eq, Drop)]
 pub(crate) enum Ground {

@@ -1,72 +1,74 @@
 use Rattle.std.proofs.Common.{rules, ◌≡◌, ℕ, suc, ◌+◌, ◌-◌, ◌<◌, ◌≤◌, false, List, Some, length, sym, ap, subst, ◌∙◌, arith}
 use Rattle.dm_table.specs.declared.request.Op.{Op}
+use Rattle.dm_stack.specs.declared.found.FoundColumn.{FoundColumn}
 use Rattle.dm_stack.specs.declared.found.FoundLine.{FoundLine}
-use Rattle.dm_stack.specs.declared.id.Lower.TheVariants.{Device}
+use Rattle.dm_stack.specs.declared.found.FoundTarget.{FoundTarget}
+use Rattle.dm_stack.specs.declared.found.FoundTarget.TheVariants.{Linear, Striped, Zero, Error}
+use Rattle.dm_stack.specs.declared.id.Lower.{Lower}
+use Rattle.dm_stack.specs.declared.id.Lower.TheVariants.{Device, Disk}
 use Rattle.dm_stack.specs.Below.{HoldsSoundly, below_stripes, found_at}
 use Rattle.dm_stack.specs.Description.{Description, lower_len}
-use Rattle.dm_map.specs.Units.{BlockUnit, Fails, units_in, units_of}
+use Rattle.dm_map.specs.Units.{BlockUnit, Fails, units_in}
 use Rattle.dm_map.specs.Mapping.{sector_step}
 use Rattle.dm_map.specs.State.{State}
 use Rattle.dm_map.specs.Steps.{Step, keep}
-use Rattle.dm_map.specs.Walk.{Walking, below_step, refuses, range_step, line_step, stripes_step}
+use Rattle.dm_map.specs.Walk.{Walking, below_step, disk_unit, zero_unit, refuses, range_step, line_step, stripes_step}
 use Rattle.dm_map.proofs.There.{device_there}
 use Rattle.dm_map.proofs.Ranges.{range_deepest, range_disk, range_refused, range_line, stripes_chunk, line_errors, line_linear, line_striped, line_zeros}
-use Rattle.dm_map.proofs.Rows.{cut_as, left_as, left_on, on_err, on_ok, state_as, state_on, took_as, took_on}
+use Rattle.dm_map.proofs.Rows.{cut_as, left_as, left_on, on_err, on_ok, state_as, state_of, state_on, took_as, took_on}
 use Rattle.dm_map.proofs.Stripes.{column_inside, place_small}
 use Rattle.dm_map.proofs.walk.+walk.Goals as goal
 use Rattle.dm_map.proofs.walk.+walk.Goals.{map_device-then-levels-eq0-via-then-levels-eq0, map_device-then-levels-eq0-via-else-levels-eq0+then-refuses}
 
 -- A disk
 
+disk_step : (w : Walking) (op : Op) (levels : ℕ) (lower : Lower) (disk sector len : ℕ) (units : List BlockUnit) → lower ≡ Disk disk → units ≡ units_in (disk_unit op disk sector) len → keep units w.state ≡ range_step w.stack op levels lower w.state sector len
+disk_step w op levels lower disk sector len units is units_is =
+    ap (λ (us : List BlockUnit). keep us w.state) units_is ∙ sym (range_disk w.stack op levels disk sector len w.state) ∙ ap (λ l. range_step w.stack op levels l w.state sector len) (sym is)
+
 pub map_range-returns-in-Disk-clause-took : goal.map_range-returns-in-Disk-clause-took
 map_range-returns-in-Disk-clause-took g t c =
-    let a = c.args in let w = c.args.walker.now in
-    let same : keep (units_of c.disk_piece.result) w.state ≡ range_step w.stack a.op a.levels a.lower w.state a.sector a.len =
-    ap (λ (units : List BlockUnit). keep units w.state) c.disk_piece.ensures.units ∙ sym (range_disk w.stack a.op a.levels c.in-Disk.disk a.sector a.len w.state) ∙ ap (λ lower. range_step w.stack a.op a.levels lower w.state a.sector a.len) (sym c.in-Disk.is) in
-    took_as c.piece.result g.S.Sink.took a.sink.now c.piece.new.self _ _ same c.piece.ensures.took
+    let a = c.args in
+    took_as c.piece.result g.S.Sink.took a.sink.now c.piece.new.self _ _ (disk_step a.walker.now a.op a.levels a.lower c.in-Disk.disk a.sector a.len _ c.in-Disk.is c.disk_piece.ensures.units) c.piece.ensures.took
 
 pub map_range-returns-in-Disk-clause-state : goal.map_range-returns-in-Disk-clause-state
 map_range-returns-in-Disk-clause-state g t c =
-    let a = c.args in let w = c.args.walker.now in
-    let same : keep (units_of c.disk_piece.result) w.state ≡ range_step w.stack a.op a.levels a.lower w.state a.sector a.len =
-    ap (λ (units : List BlockUnit). keep units w.state) c.disk_piece.ensures.units ∙ sym (range_disk w.stack a.op a.levels c.in-Disk.disk a.sector a.len w.state) ∙ ap (λ lower. range_step w.stack a.op a.levels lower w.state a.sector a.len) (sym c.in-Disk.is) in
-    on_ok _ _ (ap (λ (x : Step). x.state) same)
+    let a = c.args in
+    on_ok _ _ (state_of (disk_step a.walker.now a.op a.levels a.lower c.in-Disk.disk a.sector a.len _ c.in-Disk.is c.disk_piece.ensures.units))
 
 pub map_range-returns-in-Disk-clause-left : goal.map_range-returns-in-Disk-clause-left
 map_range-returns-in-Disk-clause-left g t c =
-    let a = c.args in let w = c.args.walker.now in
-    let same : keep (units_of c.disk_piece.result) w.state ≡ range_step w.stack a.op a.levels a.lower w.state a.sector a.len =
-    ap (λ (units : List BlockUnit). keep units w.state) c.disk_piece.ensures.units ∙ sym (range_disk w.stack a.op a.levels c.in-Disk.disk a.sector a.len w.state) ∙ ap (λ lower. range_step w.stack a.op a.levels lower w.state a.sector a.len) (sym c.in-Disk.is) in
-    cut_as c.piece.result g.S.Sink.left a.sink.now c.piece.new.self _ _ same c.piece.ensures.left
+    let a = c.args in
+    cut_as c.piece.result g.S.Sink.left a.sink.now c.piece.new.self _ _ (disk_step a.walker.now a.op a.levels a.lower c.in-Disk.disk a.sector a.len _ c.in-Disk.is c.disk_piece.ensures.units) c.piece.ensures.left
 
 -- A device
 
 pub map_device-returns-then-levels-eq0-clause-took : goal.map_device-returns-then-levels-eq0-clause-took
 map_device-returns-then-levels-eq0-clause-took g t c =
-    let a = c.args in let w = c.args.walker.now in
-    let same : keep (units_in Fails a.len) w.state ≡ range_step w.stack a.op a.levels (Device a.device) w.state a.sector a.len = elim c.then-levels-eq0.branch [
-      | map_device-then-levels-eq0-via-then-levels-eq0 b ↦ sym (range_deepest w.stack a.op a.levels a.device a.sector a.len w.state b.if-levels-eq0.true)
-      | map_device-then-levels-eq0-via-else-levels-eq0+then-refuses b ↦ sym (range_refused w.stack a.op a.levels a.device a.sector a.len w.state (sym b.refuses.ensures ∙ b.if-refuses.true))
+    let a = c.args in
+    let fails : keep (units_in Fails a.len) a.walker.now.state ≡ range_step a.walker.now.stack a.op a.levels (Device a.device) a.walker.now.state a.sector a.len = elim c.then-levels-eq0.branch [
+      | map_device-then-levels-eq0-via-then-levels-eq0 b ↦ sym (range_deepest a.walker.now.stack a.op a.levels a.device a.sector a.len a.walker.now.state b.if-levels-eq0.true)
+      | map_device-then-levels-eq0-via-else-levels-eq0+then-refuses b ↦ sym (range_refused a.walker.now.stack a.op a.levels a.device a.sector a.len a.walker.now.state (sym b.refuses.ensures ∙ b.if-refuses.true))
     ] in
-    took_as c.piece.result g.S.Sink.took a.sink.now c.piece.new.self _ _ same c.piece.ensures.took
+    took_as c.piece.result g.S.Sink.took a.sink.now c.piece.new.self _ _ fails c.piece.ensures.took
 
 pub map_device-returns-then-levels-eq0-clause-state : goal.map_device-returns-then-levels-eq0-clause-state
 map_device-returns-then-levels-eq0-clause-state g t c =
-    let a = c.args in let w = c.args.walker.now in
-    let same : keep (units_in Fails a.len) w.state ≡ range_step w.stack a.op a.levels (Device a.device) w.state a.sector a.len = elim c.then-levels-eq0.branch [
-      | map_device-then-levels-eq0-via-then-levels-eq0 b ↦ sym (range_deepest w.stack a.op a.levels a.device a.sector a.len w.state b.if-levels-eq0.true)
-      | map_device-then-levels-eq0-via-else-levels-eq0+then-refuses b ↦ sym (range_refused w.stack a.op a.levels a.device a.sector a.len w.state (sym b.refuses.ensures ∙ b.if-refuses.true))
+    let a = c.args in
+    let fails : keep (units_in Fails a.len) a.walker.now.state ≡ range_step a.walker.now.stack a.op a.levels (Device a.device) a.walker.now.state a.sector a.len = elim c.then-levels-eq0.branch [
+      | map_device-then-levels-eq0-via-then-levels-eq0 b ↦ sym (range_deepest a.walker.now.stack a.op a.levels a.device a.sector a.len a.walker.now.state b.if-levels-eq0.true)
+      | map_device-then-levels-eq0-via-else-levels-eq0+then-refuses b ↦ sym (range_refused a.walker.now.stack a.op a.levels a.device a.sector a.len a.walker.now.state (sym b.refuses.ensures ∙ b.if-refuses.true))
     ] in
-    on_ok _ _ (ap (λ (x : Step). x.state) same)
+    on_ok _ _ (state_of fails)
 
 pub map_device-returns-then-levels-eq0-clause-left : goal.map_device-returns-then-levels-eq0-clause-left
 map_device-returns-then-levels-eq0-clause-left g t c =
-    let a = c.args in let w = c.args.walker.now in
-    let same : keep (units_in Fails a.len) w.state ≡ range_step w.stack a.op a.levels (Device a.device) w.state a.sector a.len = elim c.then-levels-eq0.branch [
-      | map_device-then-levels-eq0-via-then-levels-eq0 b ↦ sym (range_deepest w.stack a.op a.levels a.device a.sector a.len w.state b.if-levels-eq0.true)
-      | map_device-then-levels-eq0-via-else-levels-eq0+then-refuses b ↦ sym (range_refused w.stack a.op a.levels a.device a.sector a.len w.state (sym b.refuses.ensures ∙ b.if-refuses.true))
+    let a = c.args in
+    let fails : keep (units_in Fails a.len) a.walker.now.state ≡ range_step a.walker.now.stack a.op a.levels (Device a.device) a.walker.now.state a.sector a.len = elim c.then-levels-eq0.branch [
+      | map_device-then-levels-eq0-via-then-levels-eq0 b ↦ sym (range_deepest a.walker.now.stack a.op a.levels a.device a.sector a.len a.walker.now.state b.if-levels-eq0.true)
+      | map_device-then-levels-eq0-via-else-levels-eq0+then-refuses b ↦ sym (range_refused a.walker.now.stack a.op a.levels a.device a.sector a.len a.walker.now.state (sym b.refuses.ensures ∙ b.if-refuses.true))
     ] in
-    cut_as c.piece.result g.S.Sink.left a.sink.now c.piece.new.self _ _ same c.piece.ensures.left
+    cut_as c.piece.result g.S.Sink.left a.sink.now c.piece.new.self _ _ fails c.piece.ensures.left
 
 pub map_device-look-line-requires-clause-device : goal.map_device-look-line-requires-clause-device
 map_device-look-line-requires-clause-device g t c =
@@ -119,97 +121,85 @@ map_device-loop-left-preserved g t c =
       faults = omega (arith, c.in_ok-map_line.ensures.faults, l.invariant.faults);
     }
 
--- A line
+-- A line, by its target
+
+linear_step : (w : Walking) (op : Op) (levels device distance len : ℕ) (target : FoundTarget) (to : Lower) (offset sector : ℕ) → target ≡ Linear to offset → sector ≡ offset + distance
+    → range_step w.stack op levels to w.state sector len ≡ line_step w.stack op levels device target w.state distance len
+linear_step w op levels device distance len target to offset sector is at =
+    ap (λ p. range_step w.stack op levels to w.state p len) at ∙ sym (line_linear w.stack op levels device to offset distance len w.state) ∙ ap (λ t. line_step w.stack op levels device t w.state distance len) (sym is)
+
+striped_step : (w : Walking) (op : Op) (levels device distance len : ℕ) (target : FoundTarget) (chunk : ℕ) (columns all : List FoundColumn) → target ≡ Striped chunk all → columns ≡ all
+    → stripes_step w.stack op levels chunk columns w.state distance len ≡ line_step w.stack op levels device target w.state distance len
+striped_step w op levels device distance len target chunk columns all is columns_are =
+    ap (λ cs. stripes_step w.stack op levels chunk cs w.state distance len) columns_are ∙ sym (line_striped w.stack op levels device chunk all distance len w.state) ∙ ap (λ t. line_step w.stack op levels device t w.state distance len) (sym is)
+
+zeros_step : (w : Walking) (op : Op) (levels device distance len : ℕ) (target : FoundTarget) (units : List BlockUnit) → target ≡ Zero → units ≡ units_in (zero_unit op) len
+    → keep units w.state ≡ line_step w.stack op levels device target w.state distance len
+zeros_step w op levels device distance len target units is units_are =
+    ap (λ (us : List BlockUnit). keep us w.state) units_are ∙ sym (line_zeros w.stack op levels device distance len w.state) ∙ ap (λ t. line_step w.stack op levels device t w.state distance len) (sym is)
+
+errors_step : (w : Walking) (op : Op) (levels device distance len : ℕ) (target : FoundTarget) → target ≡ Error → keep (units_in Fails len) w.state ≡ line_step w.stack op levels device target w.state distance len
+errors_step w op levels device distance len target is = sym (line_errors w.stack op levels device distance len w.state) ∙ ap (λ t. line_step w.stack op levels device t w.state distance len) (sym is)
 
 pub map_line-returns-in-Linear-clause-took : goal.map_line-returns-in-Linear-clause-took
 map_line-returns-in-Linear-clause-took g t c device =
-    let a = c.args in let w = c.args.walker.now in
-    let same : range_step w.stack a.op a.levels c.in-Linear.to w.state c.sector_at-sector.result a.len ≡ line_step w.stack a.op a.levels device a.line.now.target w.state a.distance a.len =
-    ap (λ (p : ℕ). range_step w.stack a.op a.levels c.in-Linear.to w.state p a.len) c.sector_at-sector.ensures ∙ sym (line_linear w.stack a.op a.levels device c.in-Linear.to c.in-Linear.offset a.distance a.len w.state)
-    ∙ ap (λ target. line_step w.stack a.op a.levels device target w.state a.distance a.len) (sym c.in-Linear.is) in
-    took_as c.map_range.result g.S.Sink.took a.sink.now c.map_range.new.sink _ _ same c.map_range.ensures.took
+    let a = c.args in
+    took_as c.map_range.result g.S.Sink.took a.sink.now c.map_range.new.sink _ _ (linear_step a.walker.now a.op a.levels device a.distance a.len a.line.now.target c.in-Linear.to c.in-Linear.offset c.sector_at-sector.result c.in-Linear.is c.sector_at-sector.ensures) c.map_range.ensures.took
 
 pub map_line-returns-in-Linear-clause-state : goal.map_line-returns-in-Linear-clause-state
 map_line-returns-in-Linear-clause-state g t c device =
-    let a = c.args in let w = c.args.walker.now in
-    let same : range_step w.stack a.op a.levels c.in-Linear.to w.state c.sector_at-sector.result a.len ≡ line_step w.stack a.op a.levels device a.line.now.target w.state a.distance a.len =
-    ap (λ (p : ℕ). range_step w.stack a.op a.levels c.in-Linear.to w.state p a.len) c.sector_at-sector.ensures ∙ sym (line_linear w.stack a.op a.levels device c.in-Linear.to c.in-Linear.offset a.distance a.len w.state)
-    ∙ ap (λ target. line_step w.stack a.op a.levels device target w.state a.distance a.len) (sym c.in-Linear.is) in
-    state_as c.map_range.result c.map_range.new.walker.state _ _ same c.map_range.ensures.state
+    let a = c.args in
+    state_as c.map_range.result c.map_range.new.walker.state _ _ (linear_step a.walker.now a.op a.levels device a.distance a.len a.line.now.target c.in-Linear.to c.in-Linear.offset c.sector_at-sector.result c.in-Linear.is c.sector_at-sector.ensures) c.map_range.ensures.state
 
 pub map_line-returns-in-Linear-clause-left : goal.map_line-returns-in-Linear-clause-left
 map_line-returns-in-Linear-clause-left g t c device =
-    let a = c.args in let w = c.args.walker.now in
-    let same : range_step w.stack a.op a.levels c.in-Linear.to w.state c.sector_at-sector.result a.len ≡ line_step w.stack a.op a.levels device a.line.now.target w.state a.distance a.len =
-    ap (λ (p : ℕ). range_step w.stack a.op a.levels c.in-Linear.to w.state p a.len) c.sector_at-sector.ensures ∙ sym (line_linear w.stack a.op a.levels device c.in-Linear.to c.in-Linear.offset a.distance a.len w.state)
-    ∙ ap (λ target. line_step w.stack a.op a.levels device target w.state a.distance a.len) (sym c.in-Linear.is) in
-    left_as c.map_range.result g.S.Sink.left a.sink.now c.map_range.new.sink _ _ same c.map_range.ensures.left
+    let a = c.args in
+    left_as c.map_range.result g.S.Sink.left a.sink.now c.map_range.new.sink _ _ (linear_step a.walker.now a.op a.levels device a.distance a.len a.line.now.target c.in-Linear.to c.in-Linear.offset c.sector_at-sector.result c.in-Linear.is c.sector_at-sector.ensures) c.map_range.ensures.left
 
 pub map_line-returns-in-Striped-clause-took : goal.map_line-returns-in-Striped-clause-took
 map_line-returns-in-Striped-clause-took g t c device =
-    let a = c.args in let w = c.args.walker.now in
-    let same : stripes_step w.stack a.op a.levels c.in-Striped.chunk c.as_slice-columns.result.now w.state a.distance a.len ≡ line_step w.stack a.op a.levels device a.line.now.target w.state a.distance a.len =
-    ap (λ columns. stripes_step w.stack a.op a.levels c.in-Striped.chunk columns w.state a.distance a.len) c.as_slice-columns.ensures ∙ sym (line_striped w.stack a.op a.levels device c.in-Striped.chunk c.in-Striped.columns a.distance a.len w.state)
-    ∙ ap (λ target. line_step w.stack a.op a.levels device target w.state a.distance a.len) (sym c.in-Striped.is) in
-    took_as c.map_stripes.result g.S.Sink.took a.sink.now c.map_stripes.new.sink _ _ same c.map_stripes.ensures.took
+    let a = c.args in
+    took_as c.map_stripes.result g.S.Sink.took a.sink.now c.map_stripes.new.sink _ _ (striped_step a.walker.now a.op a.levels device a.distance a.len a.line.now.target c.in-Striped.chunk c.as_slice-columns.result.now c.in-Striped.columns c.in-Striped.is c.as_slice-columns.ensures) c.map_stripes.ensures.took
 
 pub map_line-returns-in-Striped-clause-state : goal.map_line-returns-in-Striped-clause-state
 map_line-returns-in-Striped-clause-state g t c device =
-    let a = c.args in let w = c.args.walker.now in
-    let same : stripes_step w.stack a.op a.levels c.in-Striped.chunk c.as_slice-columns.result.now w.state a.distance a.len ≡ line_step w.stack a.op a.levels device a.line.now.target w.state a.distance a.len =
-    ap (λ columns. stripes_step w.stack a.op a.levels c.in-Striped.chunk columns w.state a.distance a.len) c.as_slice-columns.ensures ∙ sym (line_striped w.stack a.op a.levels device c.in-Striped.chunk c.in-Striped.columns a.distance a.len w.state)
-    ∙ ap (λ target. line_step w.stack a.op a.levels device target w.state a.distance a.len) (sym c.in-Striped.is) in
-    state_as c.map_stripes.result c.map_stripes.new.walker.state _ _ same c.map_stripes.ensures.state
+    let a = c.args in
+    state_as c.map_stripes.result c.map_stripes.new.walker.state _ _ (striped_step a.walker.now a.op a.levels device a.distance a.len a.line.now.target c.in-Striped.chunk c.as_slice-columns.result.now c.in-Striped.columns c.in-Striped.is c.as_slice-columns.ensures) c.map_stripes.ensures.state
 
 pub map_line-returns-in-Striped-clause-left : goal.map_line-returns-in-Striped-clause-left
 map_line-returns-in-Striped-clause-left g t c device =
-    let a = c.args in let w = c.args.walker.now in
-    let same : stripes_step w.stack a.op a.levels c.in-Striped.chunk c.as_slice-columns.result.now w.state a.distance a.len ≡ line_step w.stack a.op a.levels device a.line.now.target w.state a.distance a.len =
-    ap (λ columns. stripes_step w.stack a.op a.levels c.in-Striped.chunk columns w.state a.distance a.len) c.as_slice-columns.ensures ∙ sym (line_striped w.stack a.op a.levels device c.in-Striped.chunk c.in-Striped.columns a.distance a.len w.state)
-    ∙ ap (λ target. line_step w.stack a.op a.levels device target w.state a.distance a.len) (sym c.in-Striped.is) in
-    left_as c.map_stripes.result g.S.Sink.left a.sink.now c.map_stripes.new.sink _ _ same c.map_stripes.ensures.left
+    let a = c.args in
+    left_as c.map_stripes.result g.S.Sink.left a.sink.now c.map_stripes.new.sink _ _ (striped_step a.walker.now a.op a.levels device a.distance a.len a.line.now.target c.in-Striped.chunk c.as_slice-columns.result.now c.in-Striped.columns c.in-Striped.is c.as_slice-columns.ensures) c.map_stripes.ensures.left
 
 pub map_line-returns-in-Zero-clause-took : goal.map_line-returns-in-Zero-clause-took
 map_line-returns-in-Zero-clause-took g t c device =
-    let a = c.args in let w = c.args.walker.now in
-    let same : keep (units_of c.zero_piece.result) w.state ≡ line_step w.stack a.op a.levels device a.line.now.target w.state a.distance a.len =
-    ap (λ (units : List BlockUnit). keep units w.state) c.zero_piece.ensures.units ∙ sym (line_zeros w.stack a.op a.levels device a.distance a.len w.state) ∙ ap (λ target. line_step w.stack a.op a.levels device target w.state a.distance a.len) (sym c.in-Zero.is) in
-    took_as c.piece.result g.S.Sink.took a.sink.now c.piece.new.self _ _ same c.piece.ensures.took
+    let a = c.args in
+    took_as c.piece.result g.S.Sink.took a.sink.now c.piece.new.self _ _ (zeros_step a.walker.now a.op a.levels device a.distance a.len a.line.now.target _ c.in-Zero.is c.zero_piece.ensures.units) c.piece.ensures.took
 
 pub map_line-returns-in-Zero-clause-state : goal.map_line-returns-in-Zero-clause-state
 map_line-returns-in-Zero-clause-state g t c device =
-    let a = c.args in let w = c.args.walker.now in
-    let same : keep (units_of c.zero_piece.result) w.state ≡ line_step w.stack a.op a.levels device a.line.now.target w.state a.distance a.len =
-    ap (λ (units : List BlockUnit). keep units w.state) c.zero_piece.ensures.units ∙ sym (line_zeros w.stack a.op a.levels device a.distance a.len w.state) ∙ ap (λ target. line_step w.stack a.op a.levels device target w.state a.distance a.len) (sym c.in-Zero.is) in
-    on_ok _ _ (ap (λ (x : Step). x.state) same)
+    let a = c.args in
+    on_ok _ _ (state_of (zeros_step a.walker.now a.op a.levels device a.distance a.len a.line.now.target _ c.in-Zero.is c.zero_piece.ensures.units))
 
 pub map_line-returns-in-Zero-clause-left : goal.map_line-returns-in-Zero-clause-left
 map_line-returns-in-Zero-clause-left g t c device =
-    let a = c.args in let w = c.args.walker.now in
-    let same : keep (units_of c.zero_piece.result) w.state ≡ line_step w.stack a.op a.levels device a.line.now.target w.state a.distance a.len =
-    ap (λ (units : List BlockUnit). keep units w.state) c.zero_piece.ensures.units ∙ sym (line_zeros w.stack a.op a.levels device a.distance a.len w.state) ∙ ap (λ target. line_step w.stack a.op a.levels device target w.state a.distance a.len) (sym c.in-Zero.is) in
-    cut_as c.piece.result g.S.Sink.left a.sink.now c.piece.new.self _ _ same c.piece.ensures.left
+    let a = c.args in
+    cut_as c.piece.result g.S.Sink.left a.sink.now c.piece.new.self _ _ (zeros_step a.walker.now a.op a.levels device a.distance a.len a.line.now.target _ c.in-Zero.is c.zero_piece.ensures.units) c.piece.ensures.left
 
 pub map_line-returns-in-Error-clause-took : goal.map_line-returns-in-Error-clause-took
 map_line-returns-in-Error-clause-took g t c device =
-    let a = c.args in let w = c.args.walker.now in
-    let same : keep (units_in Fails a.len) w.state ≡ line_step w.stack a.op a.levels device a.line.now.target w.state a.distance a.len =
-    sym (line_errors w.stack a.op a.levels device a.distance a.len w.state) ∙ ap (λ target. line_step w.stack a.op a.levels device target w.state a.distance a.len) (sym c.in-Error.is) in
-    took_as c.piece-in-Error.result g.S.Sink.took a.sink.now c.piece-in-Error.new.self _ _ same c.piece-in-Error.ensures.took
+    let a = c.args in
+    took_as c.piece-in-Error.result g.S.Sink.took a.sink.now c.piece-in-Error.new.self _ _ (errors_step a.walker.now a.op a.levels device a.distance a.len a.line.now.target c.in-Error.is) c.piece-in-Error.ensures.took
 
 pub map_line-returns-in-Error-clause-state : goal.map_line-returns-in-Error-clause-state
 map_line-returns-in-Error-clause-state g t c device =
-    let a = c.args in let w = c.args.walker.now in
-    let same : keep (units_in Fails a.len) w.state ≡ line_step w.stack a.op a.levels device a.line.now.target w.state a.distance a.len =
-    sym (line_errors w.stack a.op a.levels device a.distance a.len w.state) ∙ ap (λ target. line_step w.stack a.op a.levels device target w.state a.distance a.len) (sym c.in-Error.is) in
-    on_ok _ _ (ap (λ (x : Step). x.state) same)
+    let a = c.args in
+    on_ok _ _ (state_of (errors_step a.walker.now a.op a.levels device a.distance a.len a.line.now.target c.in-Error.is))
 
 pub map_line-returns-in-Error-clause-left : goal.map_line-returns-in-Error-clause-left
 map_line-returns-in-Error-clause-left g t c device =
-    let a = c.args in let w = c.args.walker.now in
-    let same : keep (units_in Fails a.len) w.state ≡ line_step w.stack a.op a.levels device a.line.now.target w.state a.distance a.len =
-    sym (line_errors w.stack a.op a.levels device a.distance a.len w.state) ∙ ap (λ target. line_step w.stack a.op a.levels device target w.state a.distance a.len) (sym c.in-Error.is) in
-    cut_as c.piece-in-Error.result g.S.Sink.left a.sink.now c.piece-in-Error.new.self _ _ same c.piece-in-Error.ensures.left
+    let a = c.args in
+    cut_as c.piece-in-Error.result g.S.Sink.left a.sink.now c.piece-in-Error.new.self _ _ (errors_step a.walker.now a.op a.levels device a.distance a.len a.line.now.target c.in-Error.is) c.piece-in-Error.ensures.left
 
 -- Stripes
 
