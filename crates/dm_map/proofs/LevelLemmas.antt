@@ -1,5 +1,5 @@
 -- Where the levels are at least a device's depth, their number plays no part.
-use Rattle.std.proofs.Common.{◌≡◌, ℕ, zero, suc, ◌+◌, ◌-◌, ◌<◌, ◌≤◌, Bool, true, false, cond, List, [], ◌∷◌, Option, Some, None, length, map, refl, ap, subst, ◌∙◌, arith}
+use Rattle.std.proofs.Common.{◌≡◌, ℕ, zero, suc, ◌+◌, ◌-◌, ◌/◌, ◌<◌, ◌≤◌, Bool, true, false, cond, List, [], ◌∷◌, Option, Some, None, length, map, refl, ap, subst, ◌∙◌, arith}
 use Rattle.std.specs.Prelude.{option_map, slice_get, nat_lt}
 use Rattle.std.specs.List.{AllByRecursion, flat_map}
 use Rattle.std.proofs.lemmas.Bool.{ltb-false}
@@ -19,7 +19,8 @@ use Rattle.dm_stack.specs.declared.id.Lower.TheVariants.{Device, Disk}
 use Rattle.dm_stack.specs.declared.graph.TheConstants.{MOST_DEPTH}
 use Rattle.dm_stack.specs.declared.found.FoundColumn.{FoundColumn}
 use Rattle.dm_stack.specs.declared.found.FoundLine.{FoundLine}
-use Rattle.dm_stack.specs.Description.{Description, is_ro_at, lower_of, target_refs, column_refs, ref_link, device_links, links, lines_or_none}
+use Rattle.dm_stack.specs.Description.{Description, is_ro_at, lower_of, ref_link, line_links, device_links, links, lines_or_none}
+use Rattle.dm_stack.specs.Span.{Span, column_span, target_spans}
 use Rattle.dm_stack.specs.Graph.{links_of, greatest, depth_to}
 use Rattle.dm_stack.specs.Below.{Below, Lies, IsZero, IsError, below, Snapshot, below_line, below_target, below_column, column_of, in_column, found_line, found_target, found_columns, found_at, holds, line_of}
 use Rattle.dm_stack.specs.Soundness.{IsSound, faults_at, depth_of}
@@ -48,36 +49,39 @@ unfolding OnLower
 on_ref stack P (refs.Device name) each = each.0
 on_ref stack P (refs.Disk name) each = tt
 
-on_columns : (stack : Description) (P : ℕ → Type 0) (columns : List Column) → AllByRecursion P (flat_map (ref_link stack) (column_refs columns)) → AllByRecursion (λ column. OnLower P column.to) (found_columns stack columns)
-on_columns stack P [] each = tt
-on_columns stack P (column ∷ columns) each =
-    let parts = all_parts P (ref_link stack column.to) (flat_map (ref_link stack) (column_refs columns)) each in
-    (on_ref stack P column.to parts.0, on_columns stack P columns parts.1)
+abbrev span_links : Description → List Span → List ℕ
+span_links stack spans = flat_map (λ span. ref_link stack span.to) spans
+
+on_columns : (stack : Description) (P : ℕ → Type 0) (share : ℕ) (columns : List Column) → AllByRecursion P (span_links stack (map (column_span share) columns)) → AllByRecursion (λ column. OnLower P column.to) (found_columns stack columns)
+on_columns stack P share [] each = tt
+on_columns stack P share (column ∷ columns) each =
+    let parts = all_parts P (ref_link stack column.to) (span_links stack (map (column_span share) columns)) each in
+    (on_ref stack P column.to parts.0, on_columns stack P share columns parts.1)
 
 on_column : (P : ℕ → Type 0) (columns : List FoundColumn) (i sector : ℕ) (found : Option FoundColumn) → AllByRecursion (λ column. OnLower P column.to) columns → slice_get columns i ≡ found → OnBelow P (below_column found sector)
 unfolding OnBelow
 on_column P columns i sector None each e = tt
 on_column P columns i sector (Some column) each e = at_place (λ c. OnLower P c.to) columns i column each e
 
-on_target : (over : Snapshot → ℕ → Below) (stack : Description) (P : ℕ → Type 0) (target : Target) (distance : ℕ) → AllByRecursion P (flat_map (ref_link stack) (target_refs target)) → OnBelow P (below_target over (found_target stack target) distance)
+on_target : (over : Snapshot → ℕ → Below) (stack : Description) (P : ℕ → Type 0) (len : ℕ) (target : Target) (distance : ℕ) → AllByRecursion P (span_links stack (target_spans len target)) → OnBelow P (below_target over (found_target stack target) distance)
 unfolding OnBelow
-on_target over stack P (targets.Linear to offset) distance each = on_ref stack P to (all_parts P (ref_link stack to) [] each).0
-on_target over stack P (targets.Striped chunk columns) distance each =
-    on_column P (found_columns stack columns) (column_of chunk (length (found_columns stack columns)) distance) (in_column chunk (length (found_columns stack columns)) distance) _ (on_columns stack P columns each) refl
-on_target over stack P targets.Zero distance each = tt
-on_target over stack P targets.Error distance each = tt
+on_target over stack P len (targets.Linear to offset) distance each = on_ref stack P to (all_parts P (ref_link stack to) [] each).0
+on_target over stack P len (targets.Striped chunk columns) distance each =
+    on_column P (found_columns stack columns) (column_of chunk (length (found_columns stack columns)) distance) (in_column chunk (length (found_columns stack columns)) distance) _ (on_columns stack P (len / length columns) columns each) refl
+on_target over stack P len targets.Zero distance each = tt
+on_target over stack P len targets.Error distance each = tt
 
-on_lines : (stack : Description) (P : ℕ → Type 0) (lines : List Line) → AllByRecursion P (flat_map (λ line. flat_map (ref_link stack) (target_refs line.target)) lines) → AllByRecursion (λ line. AllByRecursion P (flat_map (ref_link stack) (target_refs line.target))) lines
+on_lines : (stack : Description) (P : ℕ → Type 0) (lines : List Line) → AllByRecursion P (flat_map (line_links stack) lines) → AllByRecursion (λ line. AllByRecursion P (line_links stack line)) lines
 on_lines stack P [] each = tt
 on_lines stack P (line ∷ lines) each =
-    let parts = all_parts P (flat_map (ref_link stack) (target_refs line.target)) (flat_map (λ l. flat_map (ref_link stack) (target_refs l.target)) lines) each in
+    let parts = all_parts P (line_links stack line) (flat_map (line_links stack) lines) each in
     (parts.0, on_lines stack P lines parts.1)
 
-on_line : (over : Snapshot → ℕ → Below) (stack : Description) (P : ℕ → Type 0) (lines : List Line) (sector : ℕ) (line : Option Line) → AllByRecursion (λ l. AllByRecursion P (flat_map (ref_link stack) (target_refs l.target))) lines → line_of lines sector ≡ line → OnBelow P (below_line over (option_map (found_line stack) line) sector)
+on_line : (over : Snapshot → ℕ → Below) (stack : Description) (P : ℕ → Type 0) (lines : List Line) (sector : ℕ) (line : Option Line) → AllByRecursion (λ l. AllByRecursion P (line_links stack l)) lines → line_of lines sector ≡ line → OnBelow P (below_line over (option_map (found_line stack) line) sector)
 unfolding OnBelow
 on_line over stack P lines sector None each e = tt
 on_line over stack P lines sector (Some line) each e =
-    on_target over stack P line.target (sector - line.start) (found (λ l. AllByRecursion P (flat_map (ref_link stack) (target_refs l.target))) (holds sector) lines line each e).1
+    on_target over stack P line.len line.target (sector - line.start) (found (λ l. AllByRecursion P (line_links stack l)) (holds sector) lines line each e).1
 
 on_device : (over : Snapshot → ℕ → Below) (stack : Description) (P : ℕ → Type 0) (device sector : ℕ) (spec : Option DeviceSpec) → slice_get stack.devices device ≡ spec → AllByRecursion P (links_of (links stack) device) → OnBelow P (below_line over (option_map (found_line stack) (line_of (lines_or_none spec) sector)) sector)
 unfolding OnBelow
