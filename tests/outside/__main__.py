@@ -18,6 +18,7 @@ import tempfile
 
 sys.dont_write_bytecode = True
 
+import documents
 import files
 import launcher
 import limits
@@ -44,6 +45,7 @@ def main():
         for part in (words, files, loads, request_lines, streams, limits):
             part.check(tally, program)
         launcher.check(tally, program, TOP)
+        documents.check(tally, program, TOP)
     return tally.close()
 
 

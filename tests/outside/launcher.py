@@ -122,6 +122,10 @@ def check_places(tally, tree):
     tally.same("./dmremap with paths from where it is called", got, 0, ANSWER)
     got = tree.run(words, given=REQUESTS + "R b 0 1\n")
     tally.same("./dmremap gives the program's status", got, 3, ANSWER, "dmremap: request 2: unknown\n")
+    got = tree.run(words, before=lambda: os.close(0))
+    tally.same("./dmremap with a closed standard input", got, 4, "", "dmremap: requests: read\n")
+    got = tree.run(["--help"], before=lambda: os.close(0))
+    tally.holds("./dmremap --help with a closed standard input", got.status == 0 and got.err == b"", "standard error is %r" % got.err)
     os.environ["CDPATH"] = room
     tally.same("./dmremap under CDPATH", tree.run(words, "./dmremap", given=REQUESTS, folder=tree.top), 0, ANSWER)
     del os.environ["CDPATH"]
