@@ -20,7 +20,8 @@ def check_paths(tally, top):
             named = {re.sub("CRATE|NAME", "*", path) for path in PATH.findall(it.read())}
         built = re.compile(r"/out(/|$)")
         lost = sorted(it for it in named if not built.search(it) and not glob.glob(os.path.join(top, it)))
-        tally.holds("files that %s names" % os.path.relpath(document, top), not lost, "there is no %s" % ", ".join(lost))
+        name = os.path.relpath(document, top)
+        tally.holds("files that %s names" % name, not lost, "there is no %s" % ", ".join(lost))
 
 
 def check_examples(tally, program, top):
