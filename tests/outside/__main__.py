@@ -44,7 +44,7 @@ def main():
         program = Program(shutil.copy(built, os.path.join(room, "dmremap")), room)
         for part in (words, files, loads, request_lines, streams, limits):
             part.check(tally, program)
-        launcher.check(tally, program, TOP)
+        launcher.check(tally, program, TOP, built == BUILT)
         documents.check(tally, program, TOP)
     return tally.close()
 
