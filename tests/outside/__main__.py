@@ -18,6 +18,7 @@ import tempfile
 
 sys.dont_write_bytecode = True
 
+import documents
 import files
 import launcher
 import limits
@@ -43,7 +44,8 @@ def main():
         program = Program(shutil.copy(built, os.path.join(room, "dmremap")), room)
         for part in (words, files, loads, request_lines, streams, limits):
             part.check(tally, program)
-        launcher.check(tally, program, TOP)
+        launcher.check(tally, program, TOP, built == BUILT)
+        documents.check(tally, program, TOP)
     return tally.close()
 
 

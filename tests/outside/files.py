@@ -1,6 +1,7 @@
 """FILE and DISKS: any file that there is, by any path; else a refusal, and never an empty text."""
 
 import os
+import subprocess
 import threading
 
 from harness import become_nobody
@@ -62,7 +63,7 @@ def check_unreadable(tally, program):
     try:
         runs = [program.run(["map", "table", *files], given=REQUESTS, before=become_nobody)
                 for files in ([table, disks], [closed, disks], [table, closed])]
-    except OSError as error:
+    except (OSError, subprocess.SubprocessError) as error:
         tally.skip("unreadable files", error)
         return
     tally.same("readable files, as nobody", runs[0], 0, ANSWER)

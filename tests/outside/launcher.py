@@ -14,6 +14,8 @@ ANSWER = "1 W sda 6 3\n"
 # Each stands on those before it, and the program on nothing else.
 CRATES = ["low", "middle", "dmremap"]
 LINES = "# a comment: low\nlow: memchr\ndmremap: clap low middle\nbeside: low\nmiddle: low itoa\n"
+# A change of any of these means that the program is built anew.
+SOURCES = ["crates/low/src/lib.rt", "crates/middle/proofs/Lib.antt", "crates/dmremap/specs/Lib.antt", "crates.txt"]
 BUILDING = "dmremap: building the proved program, which takes some minutes\n"
 
 # Notes where it runs and with which words, and what is on its input, which is to be nothing. Where
@@ -24,7 +26,7 @@ RT = """\
 echo "$(basename "$PWD") $*" >> "$CALLS"
 cat >> "$CALLS"
 echo "rt: this is $(basename "$PWD")"
-[ "$(basename "$PWD")" != "$BROKEN" ] || exit 1
+[ "$(basename "$PWD")" != "$BROKEN" ] && [ "$BROKEN" != all ] || exit 1
 [ "$1" != run ] || [ -e out/dmremap ] || { mkdir -p out && cp "$PROGRAM" out/dmremap; }
 """
 
@@ -36,8 +38,10 @@ exit 3
 """
 
 
-def check(tally, program, top):
+def check(tally, program, top, is_own):
     tree = Tree(program, top)
+    if is_own:
+        check_own(tally, tree, top)
     check_words(tally, tree)
     check_places(tally, tree)
     check_builds(tally, tree)
@@ -76,8 +80,8 @@ class Tree:
             with open(os.path.join(self.top, place), "a", encoding="utf-8") as it:
                 os.utime(it.fileno())
 
-    def run(self, words, script=None, broken="", **how):
-        env = dict(os.environ, CALLS=self.calls, PROGRAM=self.program.path, BROKEN=broken)
+    def run(self, words, script=None, variables=None, **how):
+        env = dict(os.environ, CALLS=self.calls, PROGRAM=self.program.path, **(variables or {}))
         env["PATH"] = os.path.join(self.program.room, "bin") + os.pathsep + env["PATH"]
         self.program.file("calls")
         return run([script or self.script, *words], env=env, **how)
@@ -85,6 +89,13 @@ class Tree:
     def called(self):
         with open(self.calls, encoding="utf-8") as it:
             return it.read().splitlines()
+
+
+def check_own(tally, tree, top):
+    """The repository's own ./dmremap finds the program that these tests run, and finds it new enough."""
+    words = ["map", "table", tree.program.file("the table", TABLE), tree.program.file("the disks", DISKS)]
+    got = tree.run(words, os.path.join(top, "dmremap"), variables={"BROKEN": "all"}, given=REQUESTS)
+    tally.same("the repository's own ./dmremap", got, 0, ANSWER)
 
 
 def check_words(tally, tree):
@@ -97,23 +108,19 @@ def check_places(tally, tree):
     tree.put()
     room = tree.program.room
     words = ["map", "table", tree.program.file("the table", TABLE), tree.program.file("the disks", DISKS)]
-    link, chain, folder = (os.path.join(room, it) for it in ("link", "link to the link", "linked tree"))
-    for to in (link, chain, folder):
-        if os.path.lexists(to):
-            os.remove(to)
+    link, chain, folder = (os.path.join(room, it) for it in ("a link", "a link to the link", "a linked tree"))
     os.symlink("a tree/dmremap", link)
     os.symlink(link, chain)
     os.symlink(tree.top, folder)
     rows = [
         ("by its whole path", tree.script, "/"),
         ("from its folder", "./dmremap", tree.top),
-        ("from another folder", "../a tree/dmremap", os.path.dirname(tree.program.file("bin/rt", RT))),
+        ("from another folder", "../a tree/dmremap", os.path.join(room, "bin")),
         ("through a link", link, "/"),
         ("through a link to a link", chain, "/"),
         ("through a link to its folder", folder + "/dmremap", "/"),
-        ("through a link beside", "./link", room),
+        ("through a link beside", "./a link", room),
     ]
-    os.chmod(os.path.join(room, "bin", "rt"), 0o755)
     for name, script, at in rows:
         tally.same("./dmremap " + name, tree.run(words, script, given=REQUESTS, folder=at), 0, ANSWER)
     tally.holds("./dmremap builds nothing that is there", not tree.called(), "rt was called: %s" % tree.called())
@@ -122,9 +129,13 @@ def check_places(tally, tree):
     tally.same("./dmremap with paths from where it is called", got, 0, ANSWER)
     got = tree.run(words, given=REQUESTS + "R b 0 1\n")
     tally.same("./dmremap gives the program's status", got, 3, ANSWER, "dmremap: request 2: unknown\n")
-    os.environ["CDPATH"] = room
-    tally.same("./dmremap under CDPATH", tree.run(words, "./dmremap", given=REQUESTS, folder=tree.top), 0, ANSWER)
-    del os.environ["CDPATH"]
+    got = tree.run(words, before=lambda: os.close(0))
+    tally.same("./dmremap with a closed standard input", got, 4, "", "dmremap: requests: read\n")
+    got = tree.run(["--help"], before=lambda: os.close(0))
+    is_help = got.status == 0 and got.err == b""
+    tally.holds("./dmremap --help with a closed standard input", is_help, "standard error is %r" % got.err)
+    got = tree.run(words, "./dmremap", variables={"CDPATH": room}, given=REQUESTS, folder=tree.top)
+    tally.same("./dmremap under CDPATH", got, 0, ANSWER)
 
 
 def check_builds(tally, tree):
@@ -139,12 +150,12 @@ def check_builds(tally, tree):
     tally.same("./dmremap once it is built", tree.run(words, given=REQUESTS), 0, ANSWER)
     tree.change(None)
     tally.same("./dmremap that is newer than its sources", tree.run(words, given=REQUESTS), 0, ANSWER)
-    for place in ("crates/low/src/lib.rt", "crates/middle/proofs/Lib.antt", "crates/dmremap/specs/Lib.antt", "crates.txt"):
+    for place in SOURCES:
         tree.change(place)
         tally.same("./dmremap after a change of " + place, tree.run(words, given=REQUESTS), 0, ANSWER, said)
         tally.same("./dmremap once that is built", tree.run(words, given=REQUESTS), 0, ANSWER)
     os.remove(tree.built)
-    got = tree.run(words, broken="middle", given=REQUESTS)
+    got = tree.run(words, variables={"BROKEN": "middle"}, given=REQUESTS)
     tally.same("./dmremap whose build fails", got, 70, "",
                BUILDING + "dmremap: low is proved and built (1 of 3)\nrt: this is middle\n"
                "dmremap: the build of middle failed\n")

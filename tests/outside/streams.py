@@ -82,6 +82,20 @@ def check_requests(tally, program):
     written = os.open(program.file("written"), os.O_WRONLY)
     tally.same("requests from a file open for writing alone", program.map(TABLE, DISKS, stdin=written), 4, "", UNREAD)
     os.close(written)
+    with open("/dev/zero", "rb") as zeros:
+        got = program.map(TABLE, DISKS, stdin=zeros)
+    tally.same("endless requests without a newline", got, 3, "", "dmremap: request 1: long\n")
+    check_failing(tally, program)
+    check_unclosed(tally, program)
+
+
+def check_failing(tally, program):
+    """Requests of which some come before reading them fails."""
+    try:
+        os.close(failing_input(""))
+    except OSError as error:
+        tally.skip("requests that fail after some bytes", error)
+        return
     rows = [
         ("at once", "", 4, "", UNREAD),
         ("after a line", SHORT, 4, SHORT_ANSWER, UNREAD),
@@ -91,15 +105,19 @@ def check_requests(tally, program):
         ("after a bad line", SHORT + BAD, 3, SHORT_ANSWER, "dmremap: request 2: unknown\n"),
     ]
     for name, given, status, output, message in rows:
-        got = program.map(TABLE, DISKS, stdin=failing_input(given))
+        got = map_failing(program, given)
         tally.same("requests that fail " + name, got, status, output, message)
     with open("/dev/full", "wb") as full:
-        got = program.map(TABLE, DISKS, stdin=failing_input(SHORT), stdout=full)
+        got = map_failing(program, SHORT, stdout=full)
     tally.same("requests that fail, and a full output", got, 5, "", UNWRITTEN)
-    with open("/dev/zero", "rb") as zeros:
-        got = program.map(TABLE, DISKS, stdin=zeros)
-    tally.same("endless requests without a newline", got, 3, "", "dmremap: request 1: long\n")
-    check_unclosed(tally, program)
+
+
+def map_failing(program, given, **how):
+    here = failing_input(given)
+    try:
+        return program.map(TABLE, DISKS, stdin=here, **how)
+    finally:
+        os.close(here)
 
 
 def check_unclosed(tally, program):
@@ -122,6 +140,7 @@ def check_messages(tally, program):
     ]
     for name, table, given, status, output in rows:
         with open("/dev/full", "wb") as full:
-            tally.same("a full standard error, " + name, program.map(table, DISKS, given, stderr=full), status, output)
+            got = program.map(table, DISKS, given, stderr=full)
+        tally.same("a full standard error, " + name, got, status, output)
         got = program.map(table, DISKS, given, before=lambda: os.close(2))
         tally.same("a closed standard error, " + name, got, status, output)
