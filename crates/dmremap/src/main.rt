@@ -9,9 +9,7 @@ ghost use Rattle.dmremap.specs.Words.{has_disk_list};
 
 mod load;
 mod map_whole;
-mod message;
 mod part_file;
-mod source;
 mod words;
 
 use dm_table::Counted;

@@ -1,6 +1,6 @@
 use Rattle.std.proofs.Common.{◌≡◌, ◌-◌, ◌+◌, ◌++◌, vec_len}
-use Rattle.dmremap.specs.declared.source.TheConstants.{MOST_PART_BYTES}
-use Rattle.dmremap.proofs.source.read_part.Given as goal
+use Rattle.dm_table.specs.declared.part_input.TheConstants.{MOST_PART_BYTES}
+use Rattle.dm_table.proofs.part_input.read_part.Given as goal
 
 -- the text is what was handed out, and neither an end nor a fault was met
 abbrev pub invariant-chunks : goal.invariant-chunks

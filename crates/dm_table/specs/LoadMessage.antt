@@ -1,12 +1,10 @@
--- The messages of a refused load, and the exit statuses.
+-- The message of a refused load.
 use Rattle.std.specs.Prelude.{ℕ, List, ◌++◌, codes, decimal}
 use Rattle.dm_table.specs.declared.place.Part.{Part}
 use Rattle.dm_table.specs.declared.place.Part.TheVariants.{Source, Disks}
 use Rattle.dm_table.specs.declared.load_fault.LoadKind.{LoadKind}
 use Rattle.dm_table.specs.declared.load_fault.LoadKind.TheVariants as kinds
 use Rattle.dm_table.specs.declared.load_fault.LoadFault.{LoadFault}
-use Rattle.dm_stream.specs.declared.ending.Ending.{Ending}
-use Rattle.dm_stream.specs.declared.ending.Ending.TheVariants as endings
 
 -- the word of a part
 abbrev pub part_word : Part → List ℕ
@@ -57,15 +55,3 @@ kind_message part kind number = place_message part kind number
 
 abbrev pub load_message : LoadFault → List ℕ
 load_message fault = kind_message fault.at.part fault.kind fault.at.number
-
--- the exit status of an ending
-abbrev pub ending_status : Ending → ℕ
-ending_status endings.Done = 0
-ending_status (endings.BadRequest number word) = 3
-ending_status endings.ReadFault = 4
-ending_status endings.WriteFault = 5
-
--- the exit status of a refused load
-abbrev pub load_status : LoadKind → ℕ
-load_status kinds.Memory = 6
-load_status kind = 1
