@@ -3,16 +3,17 @@
 //! Keep what is left of the bytes as the only thing that a turn changes.
 ghost use Rattle.std.specs.Prelude.{◌≡◌, ◌+◌, ◌++◌, OnOk, OnErr};
 ghost use Rattle.dm_table.specs.DeviceIo.{since, fault_of};
-ghost use Rattle.dm_stream.specs.WriteAll.{IsBeginning};
+ghost use Rattle.dm_stream.specs.WriteAll.{IsCutShort};
 
 use dm_table::{OutFault, Output};
 
-/// Writes all of the bytes, in order. A fault leaves a beginning of them written.
+/// Writes all of the bytes, in order. A fault leaves a beginning of them written, and never all:
+/// nothing is written of no bytes, and nothing after the last one.
 pub(crate) fn write_all<W: Output>(writer: &mut W, bytes: &[u8]) -> Result<(), OutFault>
     ensures appends { W.written writer.new
         ≡ W.written writer.old ++ since (W.written writer.old) (W.written writer.new) }
     ensures ok { OnOk result (since (W.written writer.old) (W.written writer.new) ≡ bytes.now) }
-    ensures err { OnErr result (IsBeginning bytes.now (since (W.written writer.old) (W.written writer.new))) }
+    ensures err { OnErr result (IsCutShort bytes.now (since (W.written writer.old) (W.written writer.new))) }
     ensures waiting { W.waiting writer.new
         ≡ W.waiting writer.old ++ since (W.written writer.old) (W.written writer.new) }
     ensures faults { W.faults writer.new ≡ W.faults writer.old + fault_of result }
