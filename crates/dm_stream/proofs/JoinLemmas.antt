@@ -11,7 +11,7 @@ use Rattle.dm_stream.specs.Join.{HasUnits, HasLeft}
 use Rattle.dm_stream.specs.JoinLaws.{last_of_units, some_before, beginning-before}
 use Rattle.dm_stream.specs.Pieces.{Piece, all_but_last, fewest, is_after}
 use Rattle.dm_stream.specs.PieceText.{piece_text, pieces_text}
-use Rattle.dm_stream.specs.WriteAll.{IsBeginning, IsCutShort}
+use Rattle.dm_table.specs.WriteAll.{IsBeginning, IsCutShort}
 use Rattle.dm_stream.proofs.PieceLemmas.{fewest-apart, fewest-run, units_joined}
 
 -- where a piece does not go on from another, that one is whole

@@ -17,8 +17,8 @@ use Rattle.dm_stream.specs.JoinLaws.{onto_begins, some_before}
 use Rattle.dm_stream.specs.Outcome.{Outcome, after_text, of_device, request_answer}
 use Rattle.dm_stream.specs.Pieces.{Piece, fewest, all_but_last}
 use Rattle.dm_stream.specs.PieceText.{piece_text, pieces_text, unit_text}
-use Rattle.dm_stream.specs.WriteAll.{IsBeginning, IsCutShort}
-use Rattle.dm_stream.proofs.Growth.{since_more}
+use Rattle.dm_table.specs.WriteAll.{IsBeginning, IsCutShort}
+use Rattle.dm_table.proofs.Growth.{since_more}
 
 -- what follows at an answer
 pub on_ok : {T E : Type 0} (r : Result T E) (P Q : Type 0) → (P → Q) → OnOk r P → OnOk r Q

@@ -10,7 +10,7 @@ use Rattle.dm_stream.specs.Outcome.{Outcome, after_text, line_outcome, answer_ou
 use Rattle.dm_stream.specs.Run.{IsWritten}
 use Rattle.dm_stream.specs.declared.lines.TheConstants.{MOST_LINE_BYTES}
 use Rattle.dm_stream.specs.declared.ending.Ending as ending
-use Rattle.dm_stream.proofs.Growth.{since_more}
+use Rattle.dm_table.proofs.Growth.{since_more}
 use Rattle.dm_stream.proofs.LineParts.{some_part, next_line}
 
 -- The first part

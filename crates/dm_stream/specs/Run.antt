@@ -5,7 +5,7 @@ use Rattle.dm_table.specs.declared.request.RequestFault.TheVariants as faults
 use Rattle.dm_stream.specs.declared.ending.Ending as ending
 use Rattle.dm_stream.specs.declared.ending.RequestWord as word
 use Rattle.dm_stream.specs.Outcome.{Outcome, after_text}
-use Rattle.dm_stream.specs.WriteAll.{IsBeginning, IsCutShort}
+use Rattle.dm_table.specs.WriteAll.{IsBeginning, IsCutShort}
 
 -- the word for a fault of a line
 abbrev pub word_for : RequestFault → word.RequestWord

@@ -10,7 +10,7 @@ ghost use Rattle.dm_stream.specs.Holding.{held_diskless, held_units};
 ghost use Rattle.dm_stream.specs.Join.{HasTaken, HasLeft};
 ghost use Rattle.dm_stream.specs.Pieces.{AreFewest, fewest};
 ghost use Rattle.dm_stream.specs.PieceText.{pieces_text};
-ghost use Rattle.dm_stream.specs.WriteAll.{IsCutShort};
+ghost use Rattle.dm_table.specs.WriteAll.{IsCutShort};
 ghost use Rattle.dm_stream.specs.JoinLaws.{took_none, took_more, left_more};
 ghost use Rattle.std.proofs.Common.{ap, refl, ◌∙◌};
 

@@ -12,7 +12,7 @@ ghost use Rattle.dm_stream.specs.Messages.{IsTold, ending_message};
 ghost use Rattle.dm_stream.specs.Outcome.{device_of, of_device, line_outcome, request_answer, run_outcome};
 ghost use Rattle.dm_stream.specs.Pieces.{AreFewest, fewest};
 ghost use Rattle.dm_stream.specs.Run.{IsLineWritten, IsServed, IsWritten, word_for};
-ghost use Rattle.dm_stream.specs.WriteAll.{IsCutShort};
+ghost use Rattle.dm_table.specs.WriteAll.{IsCutShort};
 
 use crate::ending::{Ending, RequestWord};
 use crate::join::Join;

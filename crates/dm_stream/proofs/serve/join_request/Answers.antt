@@ -5,7 +5,7 @@ use Rattle.dm_map.specs.Mapping.{request_units}
 use Rattle.dm_stream.specs.Holding.{held_units}
 use Rattle.dm_stream.specs.Pieces.{fewest}
 use Rattle.dm_stream.specs.PieceText.{pieces_text}
-use Rattle.dm_stream.specs.WriteAll.{IsCutShort}
+use Rattle.dm_table.specs.WriteAll.{IsCutShort}
 use Rattle.dm_stream.proofs.RequestServed.{all_written, last_cut, cut_short, on_ok, on_error, on_sink}
 use Rattle.dm_stream.proofs.serve.join_request.Goals as goal
 

@@ -7,7 +7,7 @@ use Rattle.dm_stream.specs.Lines.{ALine, AnEnd, AnUnended, ALong, AFault, left_o
 use Rattle.dm_stream.specs.declared.lines.Next as next
 use Rattle.dm_stream.specs.declared.ending.Ending as ending
 use Rattle.dm_stream.specs.declared.ending.RequestWord as word
-use Rattle.dm_stream.proofs.Growth.{grows_more}
+use Rattle.dm_table.proofs.Growth.{grows_more}
 use Rattle.dm_stream.proofs.Turns.{told_turn, served_more, at_quiet_end}
 use Rattle.dm_stream.proofs.serve.serve_lines.Goals as goal
 

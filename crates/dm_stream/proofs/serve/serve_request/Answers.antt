@@ -3,7 +3,7 @@ use Rattle.dm_table.specs.DeviceIo.{since}
 use Rattle.dm_table.specs.RequestLine.{values_of}
 use Rattle.dm_stack.specs.Description.{Description}
 use Rattle.dm_stream.specs.Outcome.{device_of, request_answer}
-use Rattle.dm_stream.specs.WriteAll.{IsCutShort}
+use Rattle.dm_table.specs.WriteAll.{IsCutShort}
 use Rattle.dm_stream.proofs.RequestServed.{served_cut}
 use Rattle.dm_stream.proofs.serve.serve_request.Goals as goal
 
