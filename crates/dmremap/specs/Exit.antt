@@ -4,10 +4,12 @@ use Rattle.dm_table.specs.declared.load_fault.LoadKind.TheVariants.{Memory}
 use Rattle.dm_table.specs.DeviceIo.{Delivery, since}
 use Rattle.dm_table.specs.LoadMessage.{load_message}
 use Rattle.dm_table.specs.PartInput.{IsReadOn}
+use Rattle.dm_table.specs.WriteAll.{IsBeginning, IsCutShort}
 use Rattle.dm_stack.specs.Description.{Description}
+use Rattle.dm_stream.specs.declared.ending.Ending.{Ending}
 use Rattle.dm_stream.specs.declared.ending.Ending.TheVariants as endings
 use Rattle.dm_stream.specs.Messages.{IsTold, ending_message}
-use Rattle.dm_stream.specs.Outcome.{run_outcome}
+use Rattle.dm_stream.specs.Outcome.{Outcome, run_outcome}
 use Rattle.dm_stream.specs.Run.{IsServed}
 use Rattle.dmremap.specs.declared.map_whole.Exit.{Exit}
 use Rattle.dmremap.specs.declared.map_whole.Exit.TheVariants.{Refused, Ran}
@@ -24,18 +26,30 @@ abbrev pub exit_status : Exit → ℕ
 exit_status (Refused fault) = load_status fault.kind
 exit_status (Ran ending) = ending_status ending
 
+-- what an output took that failed: a beginning of the text, of which something was left where no flush was asked, and nothing where the flush failed
+pub record FailedOutput (text written : List ℕ) (flushes_old flushes_new : ℕ) : Type 0 where
+  pub beginning : IsBeginning text written
+  pub left : flushes_new ≡ flushes_old → IsCutShort text written
+  pub failed_flush : flushes_old < flushes_new → text ≡ written
+
+-- a run with this outcome wrote this and ended so
+pub record RanTo (outcome : Outcome) (output : List ℕ) (ending : Ending) (flushes_old flushes_new : ℕ) : Type 0 where
+  pub served : IsServed outcome output ending
+  pub left : ending ≡ endings.WriteFault → flushes_new ≡ flushes_old → IsCutShort outcome.output output
+  pub failed_flush : ending ≡ endings.WriteFault → flushes_old < flushes_new → outcome.output ≡ output
+
 -- what a run over a sound stack wrote; its last memory may be refused
-abbrev pub IsRun : Description → Delivery → List ℕ → Exit → Type 0
-IsRun description requests output (Refused fault) = (output ≡ []) × (fault.kind ≡ Memory)
-IsRun description requests output (Ran ending) = IsServed (run_outcome description requests) output ending
+abbrev pub IsRun : Description → Delivery → List ℕ → (flushes_old flushes_new : ℕ) → Exit → Type 0
+IsRun description requests output old new (Refused fault) = (output ≡ []) × (fault.kind ≡ Memory)
+IsRun description requests output old new (Ran ending) = RanTo (run_outcome description requests) output ending old new
 
 -- this output and this exit are what the deliveries give
-abbrev pub IsExitOf : Format → Delivery → Delivery → Delivery → List ℕ → Exit → Type 0
-IsExitOf format source disks requests output (Refused fault) =
+abbrev pub IsExitOf : Format → (source disks requests : Delivery) → List ℕ → (flushes_old flushes_new : ℕ) → Exit → Type 0
+IsExitOf format source disks requests output old new (Refused fault) =
     (output ≡ []) × (fault.kind ≢ Memory → PartsGive format source disks (RefusedBy fault))
-IsExitOf format source disks requests output (Ran ending) =
+IsExitOf format source disks requests output old new (Ran ending) =
     (description : Description) × PartsGive format source disks (SoundAs description)
-    × IsServed (run_outcome description requests) output ending
+    × RanTo (run_outcome description requests) output ending old new
 
 -- one flush, after which nothing waits; none where the load was refused; at most one where the output failed
 abbrev pub IsFlushed : Exit → List ℕ → ℕ → ℕ → Type 0

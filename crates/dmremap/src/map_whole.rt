@@ -21,9 +21,8 @@ ghost use Rattle.dm_stream.specs.declared.serve.TheConstants.{MOST_REQUESTS};
 ghost use Rattle.dm_stream.specs.Messages.{IsTold, write_message};
 ghost use Rattle.dm_stream.specs.Outcome.{run_outcome};
 ghost use Rattle.dm_stream.specs.Pieces.{AreFewest, fewest};
-ghost use Rattle.dm_stream.specs.WriteAll.{IsBeginning};
 ghost use Rattle.dmremap.specs.declared.words.Format.{Format};
-ghost use Rattle.dmremap.specs.Exit.{IsExitOf, IsRun, MessageWritten, OutputWritten, RequestsRead, exit_message, exit_status};
+ghost use Rattle.dmremap.specs.Exit.{FailedOutput, IsExitOf, IsRun, MessageWritten, OutputWritten, RequestsRead, exit_message, exit_status};
 ghost use Rattle.dmremap.specs.Inputs.{IsReadOnIf, IsUnchanged, delivery_if};
 ghost use Rattle.dmremap.specs.Load.{PartsGive, SoundAs};
 ghost use Rattle.dmremap.specs.Whole.{GiveWhole, Whole};
@@ -97,12 +96,13 @@ pub fn map_whole<S: Input, D: Input, Q: Input, W: Output, M: Output>(
 
     // The output failed in the call: that takes precedence over all else.
     ensures write_fault { W.faults output.old < W.faults output.new ↔ (result ≡ 5) }
-    // Then a beginning of the output was written, that of the bytes which the requests delivered.
+    // Then a beginning of the output was written, that of the bytes which the requests delivered: something was left to
+    // write where no flush was asked, and nothing where the flush failed. So an empty output asks nothing of it but a flush.
     ensures beginning { result ≡ 5 → (description : Description) × PartsGive format
         (delivery S.handed S.faults S.ends source.old source.new)
         (delivery_if D.handed D.faults D.ends disks.old disks.new) (SoundAs description)
-        × IsBeginning (run_outcome description (delivery Q.handed Q.faults Q.ends requests.old requests.new)).output
-        (since (W.written output.old) (W.written output.new)) }
+        × FailedOutput (run_outcome description (delivery Q.handed Q.faults Q.ends requests.old requests.new)).output
+        (since (W.written output.old) (W.written output.new)) (W.flushes output.old) (W.flushes output.new) }
     ensures write_message { result ≡ 5 → IsTold write_message
         (since (M.written messages.old) (M.written messages.new)) (M.faults messages.old) (M.faults messages.new) }
 
@@ -164,7 +164,7 @@ fn load_and_run<S: Input, D: Input, Q: Input, W: Output, M: Output>(
         (delivery S.handed S.faults S.ends source.old source.new)
         (delivery_if D.handed D.faults D.ends disks.old disks.new)
         (delivery Q.handed Q.faults Q.ends requests.old requests.new)
-        (since (W.written output.old) (W.written output.new)) result }
+        (since (W.written output.old) (W.written output.new)) (W.flushes output.old) (W.flushes output.new) result }
     ensures source { IsReadOn S.handed S.faults S.ends source.old source.new }
     ensures disks { IsReadOnIf D.handed D.faults D.ends disks.old disks.new }
     ensures requests { RequestsRead Q.handed Q.faults Q.ends result requests.old requests.new }
@@ -188,7 +188,7 @@ fn map_requests<Q: Input, W: Output, M: Output>(
 ) -> Exit
     requires unflagged { status ≡ false }
     ensures exit { IsRun stack.now (delivery Q.handed Q.faults Q.ends requests.old requests.new)
-        (since (W.written output.old) (W.written output.new)) result }
+        (since (W.written output.old) (W.written output.new)) (W.flushes output.old) (W.flushes output.new) result }
     ensures requests { RequestsRead Q.handed Q.faults Q.ends result requests.old requests.new }
     ensures output { OutputWritten W.written W.waiting W.faults W.flushes result output.old output.new }
     ensures messages { MessageWritten M.written M.faults M.flushes (exit_message result) messages.old messages.new }
