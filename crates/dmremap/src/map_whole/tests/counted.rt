@@ -3,6 +3,8 @@
 //! A script says what each call of a fake returns, and the fake counts its calls. A row is a script
 //! and what must come of it.
 
+ghost use Rattle.std.specs.Prelude.{◌≤◌, IfOk};
+
 use dm_table::{Counted, Input, Output, write_all};
 use std::cell::Cell;
 use std::io::{self, Error, ErrorKind, Read, Write};
@@ -22,7 +24,9 @@ pub(super) struct Fake<'a> {
 }
 
 impl<'a> Fake<'a> {
-    fn step(&self, len: usize) -> io::Result<usize> {
+    fn step(&self, len: usize) -> io::Result<usize>
+        ensures { IfOk result (λ n. n ≤ len) }
+    {
         let call = self.calls.get();
         self.calls.set(call.saturating_add(1));
         match self.script.get(call) {
