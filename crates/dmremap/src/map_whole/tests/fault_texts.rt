@@ -55,7 +55,7 @@ fn kinds_of_loads(rt: HostRuntime) -> Result<(), Fail> {
             number: 7,
         };
         let fault = LoadFault { kind, at };
-        assert_eq!(rt; fault.message().as_slice(), message.as_bytes(), "{text}");
+        assert_eq!(rt; fault.message().as_slice(), message.as_bytes(), "{kind}");
     }
     Ok(())
 }
