@@ -1,5 +1,5 @@
 -- What a join took and left at one piece.
-use Rattle.std.proofs.Common.{◌≡◌, ℕ, zero, suc, ◌+◌, ◌≤◌, true, false, List, ◌++◌, Option, Some, None, sym, ap, subst, ◌∙◌, append_assoc, arith}
+use Rattle.std.proofs.Common.{◌≡◌, ℕ, zero, suc, ◌+◌, ◌≤◌, true, false, List, ◌∷◌, ◌++◌, Option, Some, None, sym, ap, subst, ◌∙◌, append_assoc, arith}
 use Rattle.std.proofs.lemmas.List.{append-nil}
 use Rattle.std.proofs.lemmas.Grind.{flat_map-append}
 use Rattle.dm_table.specs.DeviceIo.{since}
@@ -11,7 +11,7 @@ use Rattle.dm_stream.specs.Join.{HasUnits, HasLeft}
 use Rattle.dm_stream.specs.JoinLaws.{last_of_units, some_before, beginning-before}
 use Rattle.dm_stream.specs.Pieces.{Piece, all_but_last, fewest, is_after}
 use Rattle.dm_stream.specs.PieceText.{piece_text, pieces_text}
-use Rattle.dm_stream.specs.WriteAll.{IsBeginning}
+use Rattle.dm_table.specs.WriteAll.{IsBeginning, IsCutShort}
 use Rattle.dm_stream.proofs.PieceLemmas.{fewest-apart, fewest-run, units_joined}
 
 -- where a piece does not go on from another, that one is whole
@@ -60,9 +60,9 @@ some_units unit (suc len) some = tt
 -- a piece that did not go on, where the held one was not written whole
 pub left_apart : (old mid new : Holding) (piece : code.Piece) (w0 w1 : List ℕ) → 1 ≤ piece_len piece → mid ≡ old → new ≡ record { stack = mid.stack; number = mid.number; piece = None }
     → ((rest : List BlockUnit) → fewest (held_units old.piece ++ units_of piece ++ rest) ≡ fewest (held_units old.piece) ++ fewest (units_of piece ++ rest))
-    → IsBeginning (pieces_text mid.stack mid.number (fewest (held_units mid.piece))) (since w0 w1) → w1 ≡ w0 ++ since w0 w1
+    → IsCutShort (pieces_text mid.stack mid.number (fewest (held_units mid.piece))) (since w0 w1) → w1 ≡ w0 ++ since w0 w1
     → HasLeft old new (units_of piece) w0 w1
-left_apart old mid new piece w0 w1 some same emptied apart begins appends = record {
+left_apart old mid new piece w0 w1 some same emptied apart cut appends = record {
   some = some_units (first_unit piece) (piece_len piece) some;
   beginning = λ rest.
       subst (λ (xs : List ℕ). IsBeginning xs (since w0 w1))
@@ -70,7 +70,7 @@ left_apart old mid new piece w0 w1 some same emptied apart begins appends = reco
       ∙ ap (pieces_text old.stack old.number) (last_of_units (fewest (held_units old.piece)) (units_of piece ++ rest) (some_before (units_of piece) rest (some_units (first_unit piece) (piece_len piece) some)))
       ∙ flat_map-append (piece_text old.stack old.number) (fewest (held_units old.piece)) (all_but_last (fewest (units_of piece ++ rest)))))
       (beginning-before (pieces_text old.stack old.number (fewest (held_units old.piece))) _ (since w0 w1)
-      (subst (λ (h : Holding). IsBeginning (pieces_text h.stack h.number (fewest (held_units h.piece))) (since w0 w1)) same begins));
+      (subst (λ (h : Holding). IsBeginning (pieces_text h.stack h.number (fewest (held_units h.piece))) (since w0 w1)) same (cut.0 ∷ cut.1, cut.2)));
   appends = appends;
   nothing = ap (λ (h : Holding). h.piece) emptied;
   stack = ap (λ (h : Holding). h.stack) emptied ∙ ap (λ (h : Holding). h.stack) same;

@@ -1,7 +1,6 @@
 pub mod Behind
 pub mod DeviceNames
 pub mod FewestLemmas
-pub mod Growth
 pub mod Held
 pub mod JoinLemmas
 pub mod LastDigit

@@ -4,7 +4,7 @@ use Rattle.dm_table.specs.declared.request.RequestFault.{RequestFault}
 use Rattle.dm_table.specs.RequestLine.{RequestValues, request_fault, request_values}
 use Rattle.dm_stack.specs.Description.{Description}
 use Rattle.dm_stream.specs.Outcome.{Outcome, device_of, is_bad, line_outcome, of_device, of_line}
-use Rattle.dm_stream.specs.Run.{IsServed, IsLineServed}
+use Rattle.dm_stream.specs.Run.{IsWritten, IsLineWritten}
 use Rattle.dm_stream.specs.declared.ending.Ending as ending
 use Rattle.dm_stream.specs.declared.ending.RequestWord as word
 use Rattle.dm_stream.specs.declared.serve.TheConstants.{MOST_REQUESTS}
@@ -18,6 +18,6 @@ of_request stack number line values rest few sound is =
     ∙ ap (λ (v : RequestValues). of_device stack number (device_of stack v.device) v rest) (sym is)
 
 -- what is served goes by the outcomes alone
-pub same_served : (from other : Outcome → Outcome) (written : List ℕ) (r : Result (Unit {0}) ending.Ending) → ((rest : Outcome) → from rest ≡ other rest) → IsLineServed other written r → IsLineServed from written r
+pub same_served : (from other : Outcome → Outcome) (written : List ℕ) (r : Result (Unit {0}) ending.Ending) → ((rest : Outcome) → from rest ≡ other rest) → IsLineWritten other written r → IsLineWritten from written r
 same_served from other written (Ok x) same served = λ rest. same rest ∙ served rest
-same_served from other written (Err e) same served = λ rest. subst (λ (o : Outcome). IsServed o written e) (sym (same rest)) (served rest)
+same_served from other written (Err e) same served = λ rest. subst (λ (o : Outcome). IsWritten o written e) (sym (same rest)) (served rest)

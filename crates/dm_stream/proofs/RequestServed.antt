@@ -1,5 +1,5 @@
 -- What is written for a request: its units were taken, or a part of them was left.
-use Rattle.std.proofs.Common.{◌≡◌, ◌<◌, ℕ, Bool, ◌++◌, length, List, [], ◌∷◌, Option, None, Some, Result, Ok, Err, OnOk, OnErr, sym, ap, refl, ◌∙◌, append_assoc, subst}
+use Rattle.std.proofs.Common.{◌≡◌, ◌<◌, ℕ, Bool, ◌++◌, length, List, [], ◌∷◌, Option, None, Some, Result, Ok, Err, OnOk, OnErr, sym, ap, refl, ◌∙◌, append_assoc, subst, decimal}
 use Rattle.std.specs.List.{position}
 use Rattle.std.proofs.lemmas.Grind.{flat_map-append}
 use Rattle.std.proofs.lemmas.List.{append-nil}
@@ -12,12 +12,13 @@ use Rattle.dm_map.specs.Units.{BlockUnit}
 use Rattle.dm_map.specs.declared.mapper.MapFault.{MapFault}
 use Rattle.dm_map.specs.declared.mapper.MapFault.TheVariants as faults
 use Rattle.dm_stream.specs.Holding.{Holding, held_units}
-use Rattle.dm_stream.specs.Join.{HasTaken, HasLeft}
+use Rattle.dm_stream.specs.Join.{HasTaken, HasLeft, HasUnits}
+use Rattle.dm_stream.specs.JoinLaws.{onto_begins, some_before}
 use Rattle.dm_stream.specs.Outcome.{Outcome, after_text, of_device, request_answer}
 use Rattle.dm_stream.specs.Pieces.{Piece, fewest, all_but_last}
-use Rattle.dm_stream.specs.PieceText.{piece_text, pieces_text}
-use Rattle.dm_stream.specs.WriteAll.{IsBeginning}
-use Rattle.dm_stream.proofs.Growth.{since_more}
+use Rattle.dm_stream.specs.PieceText.{piece_text, pieces_text, unit_text}
+use Rattle.dm_table.specs.WriteAll.{IsBeginning, IsCutShort}
+use Rattle.dm_table.proofs.Growth.{since_more}
 
 -- what follows at an answer
 pub on_ok : {T E : Type 0} (r : Result T E) (P Q : Type 0) → (P → Q) → OnOk r P → OnOk r Q
@@ -31,24 +32,38 @@ on_error (Err e) P Q f h = f h
 pub on_sink : {F : Type 0} (r : Result (Unit {0}) (MapFault F)) (fault : F) (P : Type 0) → r ≡ Err (faults.Sink fault) → OnSinkFault r P → P
 on_sink r fault P e h = subst (λ (x : Result (Unit {0}) (MapFault _)). OnSinkFault x P) e h
 
--- a beginning of a text is one of a longer text
-pub beginning_of_more : (text front more : List ℕ) → IsBeginning text front → IsBeginning (text ++ more) front
-beginning_of_more text front more h =
-    (h.0 ++ more, ap (λ (xs : List ℕ). xs ++ more) h.1 ∙ append_assoc front h.0 more)
+-- a text with a byte in it begins with one
+some_byte : (xs : List ℕ) (byte : ℕ) (more : List ℕ) → (first : ℕ) × (rest : List ℕ) × (xs ++ byte ∷ more ≡ first ∷ rest)
+some_byte [] byte more = (byte, more, refl)
+some_byte (x ∷ xs) byte more = (x, xs ++ byte ∷ more, refl)
 
--- the text without the last piece is a beginning of the whole
-pub but_last : (stack : Description) (number : ℕ) (pieces : List Piece) → IsBeginning (pieces_text stack number pieces) (pieces_text stack number (all_but_last pieces))
-but_last stack number [] = ([], refl)
-but_last stack number (piece ∷ []) = (pieces_text stack number (piece ∷ []), refl)
-but_last stack number (piece ∷ next ∷ pieces) =
-    let h = but_last stack number (next ∷ pieces) in
+-- a text that is cut short is so in a longer text
+pub cut_of_more : (text front more : List ℕ) → IsCutShort text front → IsCutShort (text ++ more) front
+cut_of_more text front more h =
+    (h.0, h.1 ++ more, ap (λ (xs : List ℕ). xs ++ more) h.2 ∙ append_assoc front (h.0 ∷ h.1) more)
+
+-- the text without the last piece is cut short
+but_last : (stack : Description) (number : ℕ) (piece : Piece) (pieces : List Piece) → IsCutShort (pieces_text stack number (piece ∷ pieces)) (pieces_text stack number (all_but_last (piece ∷ pieces)))
+but_last stack number piece [] =
+    let some = some_byte (decimal number ++ 32 ∷ unit_text stack piece.first piece.len) 10 [] in
+    (some.0, some.1, append-nil (piece_text stack number piece) ∙ some.2)
+but_last stack number piece (next ∷ pieces) =
+    let h = but_last stack number next pieces in
     let text = piece_text stack number piece in
-    (h.0, ap (λ (xs : List ℕ). text ++ xs) h.1 ∙ sym (append_assoc text (pieces_text stack number (all_but_last (next ∷ pieces))) h.0))
+    (h.0, h.1, ap (λ (xs : List ℕ). text ++ xs) h.2 ∙ sym (append_assoc text (pieces_text stack number (all_but_last (next ∷ pieces))) (h.0 ∷ h.1)))
 
--- a beginning of a beginning
-pub beginning_through : (text front first : List ℕ) → IsBeginning text front → IsBeginning front first → IsBeginning text first
-beginning_through text front first h k =
-    (k.0 ++ h.0, h.1 ∙ ap (λ (xs : List ℕ). xs ++ h.0) k.1 ∙ append_assoc first k.0 h.0)
+-- so is the text of units without their last piece
+but_last_of : (stack : Description) (number : ℕ) (units : List BlockUnit) → HasUnits units → IsCutShort (pieces_text stack number (fewest units)) (pieces_text stack number (all_but_last (fewest units)))
+but_last_of stack number [] some = absurd some
+but_last_of stack number (unit ∷ units) some =
+    let b = onto_begins unit (fewest units) in
+    subst (λ (ps : List Piece). IsCutShort (pieces_text stack number ps) (pieces_text stack number (all_but_last ps))) (sym b.is) (but_last stack number (record { first = unit; len = b.len }) b.later)
+
+-- a beginning of a text that is cut short is so too
+cut_through : (text front first : List ℕ) → IsCutShort text front → IsBeginning front first → IsCutShort text first
+cut_through text front first h k =
+    let some = some_byte k.0 h.0 h.1 in
+    (some.0, some.1, h.2 ∙ ap (λ (xs : List ℕ). xs ++ h.0 ∷ h.1) k.1 ∙ append_assoc first k.0 (h.0 ∷ h.1) ∙ ap (λ (xs : List ℕ). first ++ xs) some.2)
 
 -- with nothing held before, the text of what was taken and then that of what is held is that of all
 pub taken_text : (old new : Holding) (units : List BlockUnit) (before after : List ℕ) → old.piece ≡ None → HasTaken old new units before after
@@ -61,15 +76,16 @@ taken_text old new units before after none taken =
     ap text whole ∙ flat_map-append (λ p. piece_text old.stack old.number p) taken.settled (fewest (held_units new.piece))
     ∙ ap (λ (xs : List ℕ). xs ++ text (fewest (held_units new.piece))) (sym taken.wrote)
 
--- with nothing held before, what was written of units that were left is a beginning of the text of all
-pub left_text : (old new : Holding) (front rest units : List BlockUnit) (before after : List ℕ) → old.piece ≡ None → front ++ rest ≡ units → HasLeft old new front before after
-    → IsBeginning (pieces_text old.stack old.number (fewest units)) (since before after)
+-- with nothing held before, what was written of units that were left cuts the text of all short
+left_text : (old new : Holding) (front rest units : List BlockUnit) (before after : List ℕ) → old.piece ≡ None → front ++ rest ≡ units → HasLeft old new front before after
+    → IsCutShort (pieces_text old.stack old.number (fewest units)) (since before after)
 left_text old new front rest units before after none whole left =
-    let all : fewest (held_units old.piece ++ front ++ rest) ≡ fewest units =
-    ap (λ (p : Option _). fewest (held_units p ++ front ++ rest)) none ∙ ap fewest whole in
-    let pieces = fewest (held_units old.piece ++ front ++ rest) in
-    subst (λ (ps : List Piece). IsBeginning (pieces_text old.stack old.number ps) (since before after)) all
-    (beginning_through (pieces_text old.stack old.number pieces) (pieces_text old.stack old.number (all_but_last pieces)) (since before after) (but_last old.stack old.number pieces) (left.beginning rest))
+    let all : held_units old.piece ++ front ++ rest ≡ units =
+    ap (λ (p : Option _). held_units p ++ front ++ rest) none ∙ whole in
+    let text = λ (us : List BlockUnit). pieces_text old.stack old.number (all_but_last (fewest us)) in
+    cut_through (pieces_text old.stack old.number (fewest units)) (text units) (since before after)
+    (but_last_of old.stack old.number units (subst HasUnits whole (some_before front rest left.some)))
+    (subst (λ (us : List BlockUnit). IsBeginning (text us) (since before after)) all (left.beginning rest))
 
 -- a join that holds nothing, under a request's number
 abbrev pub at_start : Description → ℕ → Holding
@@ -91,23 +107,24 @@ all_written stack number old new units w0 w1 w2 start taken appends wrote =
     ∙ sym (taken_text old new units w0 w1 (ap (λ (h : Holding). h.piece) start) taken)
     ∙ same_text stack number old (fewest units) start
 
--- all units were taken, and a beginning of what was held was written
+-- all units were taken, and what was held was cut short
 pub last_cut : (stack : Description) (number : ℕ) (old new : Holding) (units : List BlockUnit) (w0 w1 w2 : List ℕ) → old ≡ at_start stack number → HasTaken old new units w0 w1
-    → w2 ≡ w1 ++ since w1 w2 → IsBeginning (pieces_text new.stack new.number (fewest (held_units new.piece))) (since w1 w2) → IsBeginning (pieces_text stack number (fewest units)) (since w0 w2)
+    → w2 ≡ w1 ++ since w1 w2 → IsCutShort (pieces_text new.stack new.number (fewest (held_units new.piece))) (since w1 w2) → IsCutShort (pieces_text stack number (fewest units)) (since w0 w2)
 last_cut stack number old new units w0 w1 w2 start taken appends wrote = (
   wrote.0,
+  wrote.1,
   sym (same_text stack number old (fewest units) start)
       ∙ taken_text old new units w0 w1 (ap (λ (h : Holding). h.piece) start) taken
-      ∙ ap (λ (xs : List ℕ). since w0 w1 ++ xs) (sym (text_kept old new (fewest (held_units new.piece)) taken.stack taken.number) ∙ wrote.1)
-      ∙ sym (append_assoc (since w0 w1) (since w1 w2) wrote.0)
-      ∙ ap (λ (xs : List ℕ). xs ++ wrote.0) (sym (since_more w0 w1 w2 taken.appends appends)),
+      ∙ ap (λ (xs : List ℕ). since w0 w1 ++ xs) (sym (text_kept old new (fewest (held_units new.piece)) taken.stack taken.number) ∙ wrote.2)
+      ∙ sym (append_assoc (since w0 w1) (since w1 w2) (wrote.0 ∷ wrote.1))
+      ∙ ap (λ (xs : List ℕ). xs ++ wrote.0 ∷ wrote.1) (sym (since_more w0 w1 w2 taken.appends appends)),
 )
 
 -- the join failed at a piece
 pub cut_short : (stack : Description) (number : ℕ) (old new : Holding) (front rest units : List BlockUnit) (before after : List ℕ) → old ≡ at_start stack number → front ++ rest ≡ units → HasLeft old new front before after
-    → IsBeginning (pieces_text stack number (fewest units)) (since before after)
+    → IsCutShort (pieces_text stack number (fewest units)) (since before after)
 cut_short stack number old new front rest units before after start whole left =
-    subst (λ (text : List ℕ). IsBeginning text (since before after)) (same_text stack number old (fewest units) start)
+    subst (λ (text : List ℕ). IsCutShort text (since before after)) (same_text stack number old (fewest units) start)
     (left_text old new front rest units before after (ap (λ (h : Holding). h.piece) start) whole left)
 
 -- the id of a device that was found is in range
@@ -121,7 +138,7 @@ pub served_whole : (stack : Description) (number device : ℕ) (found : Option �
 served_whole stack number device found values written rest is wrote =
     ap (λ (f : Option ℕ). of_device stack number f values rest) is ∙ ap (λ (text : List ℕ). after_text text rest) (sym wrote)
 
-pub served_cut : (stack : Description) (number device : ℕ) (found : Option ℕ) (values : RequestValues) (written : List ℕ) (rest : Outcome) → found ≡ Some device → IsBeginning (request_answer stack number device values) written
-    → IsBeginning (of_device stack number found values rest).output written
-served_cut stack number device found values written rest is begins =
-    subst (λ (f : Option ℕ). IsBeginning (of_device stack number f values rest).output written) (sym is) (beginning_of_more (request_answer stack number device values) written rest.output begins)
+pub served_cut : (stack : Description) (number device : ℕ) (found : Option ℕ) (values : RequestValues) (written : List ℕ) (rest : Outcome) → found ≡ Some device → IsCutShort (request_answer stack number device values) written
+    → IsCutShort (of_device stack number found values rest).output written
+served_cut stack number device found values written rest is cut =
+    subst (λ (f : Option ℕ). IsCutShort (of_device stack number f values rest).output written) (sym is) (cut_of_more (request_answer stack number device values) written rest.output cut)

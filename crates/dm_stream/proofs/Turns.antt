@@ -7,10 +7,10 @@ use Rattle.dm_stack.specs.Description.{Description}
 use Rattle.dm_table.specs.DeviceIo.{Stand, Clean, Failed, Open, since, stand_of}
 use Rattle.dm_stream.specs.Lines.{Answer, ALine, ALong, line_parts, next_answer, rest_answer}
 use Rattle.dm_stream.specs.Outcome.{Outcome, after_text, line_outcome, answer_outcome, outcome_from, run_outcome}
-use Rattle.dm_stream.specs.Run.{IsServed}
+use Rattle.dm_stream.specs.Run.{IsWritten}
 use Rattle.dm_stream.specs.declared.lines.TheConstants.{MOST_LINE_BYTES}
 use Rattle.dm_stream.specs.declared.ending.Ending as ending
-use Rattle.dm_stream.proofs.Growth.{since_more}
+use Rattle.dm_table.proofs.Growth.{since_more}
 use Rattle.dm_stream.proofs.LineParts.{some_part, next_line}
 
 -- The first part
@@ -106,17 +106,17 @@ by_answer stack stand held n =
     (rest, ap (outcome_from stack stand n) s.2 ∙ ap (λ parts. answer_outcome stack n (next_answer stand parts) rest) (sym s.2))
 
 -- what is served behind a text
-served_after : (o : Outcome) (w v : List ℕ) (e : ending.Ending) → IsServed o v e → IsServed (after_text w o) (w ++ v) e
+served_after : (o : Outcome) (w v : List ℕ) (e : ending.Ending) → IsWritten o v e → IsWritten (after_text w o) (w ++ v) e
 served_after o w v ending.TheVariants.Done h = (ap (λ t. w ++ t) h.0, h.1)
 served_after o w v (ending.TheVariants.BadRequest n word) h = (ap (λ t. w ++ t) h.0, h.1)
 served_after o w v ending.TheVariants.ReadFault h = (ap (λ t. w ++ t) h.0, h.1)
-served_after o w v ending.TheVariants.WriteFault h = (h.0, ap (λ t. w ++ t) h.1 ∙ sym (append_assoc w v h.0))
+served_after o w v ending.TheVariants.WriteFault h = (h.0, h.1, ap (λ t. w ++ t) h.2 ∙ sym (append_assoc w v (h.0 ∷ h.1)))
 
 -- a run that ends with what comes next, with v written for it
 at_end : (stack : Description) (h0 h1 h2 held w v : List ℕ) (f0 f1 f2 e0 e1 e2 n : ℕ) (answer : Answer) (e : ending.Ending) → Told stack (since h0 h1) held w n
     → h1 ≡ h0 ++ since h0 h1 → h2 ≡ h1 ++ since h1 h2 → f1 ≡ f0 → e1 ≡ e0
-    → answer ≡ next_answer (stand_of f1 f2 e1 e2) (line_parts (held ++ since h1 h2)) → ((rest : Outcome) → IsServed (answer_outcome stack n answer rest) v e)
-    → IsServed (run_outcome stack (record { bytes = since h0 h2; stand = stand_of f0 f2 e0 e2 })) (w ++ v) e
+    → answer ≡ next_answer (stand_of f1 f2 e1 e2) (line_parts (held ++ since h1 h2)) → ((rest : Outcome) → IsWritten (answer_outcome stack n answer rest) v e)
+    → IsWritten (run_outcome stack (record { bytes = since h0 h2; stand = stand_of f0 f2 e0 e2 })) (w ++ v) e
 at_end stack h0 h1 h2 held w v f0 f1 f2 e0 e1 e2 n answer e told reads more faults ends next served =
     let stand = stand_of f0 f2 e0 e2 in
     let new = since h1 h2 in
@@ -126,22 +126,22 @@ at_end stack h0 h1 h2 held w v f0 f1 f2 e0 e1 e2 n answer e told reads more faul
     ap (λ a. answer_outcome stack n a b.0) (next ∙ ap (λ s. next_answer s (line_parts (held ++ new))) same) ∙ sym b.1 in
     let whole : after_text w (answer_outcome stack n answer b.0) ≡ outcome_from stack stand 1 (line_parts (since h0 h2)) =
     ap (after_text w) settled ∙ sym (told stand new) ∙ ap (λ xs. outcome_from stack stand 1 (line_parts xs)) (sym (since_more h0 h1 h2 reads more)) in
-    subst (λ (o : Outcome). IsServed o (w ++ v) e) whole (served_after (answer_outcome stack n answer b.0) w v e (served b.0))
+    subst (λ (o : Outcome). IsWritten o (w ++ v) e) whole (served_after (answer_outcome stack n answer b.0) w v e (served b.0))
 
 -- the same, by what the output took
 pub served_more : (stack : Description) (h0 h1 h2 w0 w1 w2 held : List ℕ) (f0 f1 f2 e0 e1 e2 n : ℕ) (answer : Answer) (e : ending.Ending) → Told stack (since h0 h1) held (since w0 w1) n
     → h1 ≡ h0 ++ since h0 h1 → h2 ≡ h1 ++ since h1 h2 → w1 ≡ w0 ++ since w0 w1 → w2 ≡ w1 ++ since w1 w2 → f1 ≡ f0 → e1 ≡ e0
-    → answer ≡ next_answer (stand_of f1 f2 e1 e2) (line_parts (held ++ since h1 h2)) → ((rest : Outcome) → IsServed (answer_outcome stack n answer rest) (since w1 w2) e)
-    → IsServed (run_outcome stack (record { bytes = since h0 h2; stand = stand_of f0 f2 e0 e2 })) (since w0 w2) e
+    → answer ≡ next_answer (stand_of f1 f2 e1 e2) (line_parts (held ++ since h1 h2)) → ((rest : Outcome) → IsWritten (answer_outcome stack n answer rest) (since w1 w2) e)
+    → IsWritten (run_outcome stack (record { bytes = since h0 h2; stand = stand_of f0 f2 e0 e2 })) (since w0 w2) e
 served_more stack h0 h1 h2 w0 w1 w2 held f0 f1 f2 e0 e1 e2 n answer e told reads more appends appends_more faults ends next served =
-    subst (λ (xs : List ℕ). IsServed (run_outcome stack (record { bytes = since h0 h2; stand = stand_of f0 f2 e0 e2 })) xs e) (sym (since_more w0 w1 w2 appends appends_more))
+    subst (λ (xs : List ℕ). IsWritten (run_outcome stack (record { bytes = since h0 h2; stand = stand_of f0 f2 e0 e2 })) xs e) (sym (since_more w0 w1 w2 appends appends_more))
     (at_end stack h0 h1 h2 held (since w0 w1) (since w1 w2) f0 f1 f2 e0 e1 e2 n answer e told reads more faults ends next served)
 
 -- the same, with nothing written for what comes next
 pub at_quiet_end : (stack : Description) (h0 h1 h2 held w : List ℕ) (f0 f1 f2 e0 e1 e2 n : ℕ) (answer : Answer) (e : ending.Ending) → Told stack (since h0 h1) held w n
     → h1 ≡ h0 ++ since h0 h1 → h2 ≡ h1 ++ since h1 h2 → f1 ≡ f0 → e1 ≡ e0
-    → answer ≡ next_answer (stand_of f1 f2 e1 e2) (line_parts (held ++ since h1 h2)) → ((rest : Outcome) → IsServed (answer_outcome stack n answer rest) [] e)
-    → IsServed (run_outcome stack (record { bytes = since h0 h2; stand = stand_of f0 f2 e0 e2 })) w e
+    → answer ≡ next_answer (stand_of f1 f2 e1 e2) (line_parts (held ++ since h1 h2)) → ((rest : Outcome) → IsWritten (answer_outcome stack n answer rest) [] e)
+    → IsWritten (run_outcome stack (record { bytes = since h0 h2; stand = stand_of f0 f2 e0 e2 })) w e
 at_quiet_end stack h0 h1 h2 held w f0 f1 f2 e0 e1 e2 n answer e told reads more faults ends next served =
-    subst (λ (xs : List ℕ). IsServed (run_outcome stack (record { bytes = since h0 h2; stand = stand_of f0 f2 e0 e2 })) xs e) (append-nil w)
+    subst (λ (xs : List ℕ). IsWritten (run_outcome stack (record { bytes = since h0 h2; stand = stand_of f0 f2 e0 e2 })) xs e) (append-nil w)
     (at_end stack h0 h1 h2 held w [] f0 f1 f2 e0 e1 e2 n answer e told reads more faults ends next served)

@@ -5,7 +5,7 @@ use Rattle.dm_map.specs.Units.{BlockUnit}
 use Rattle.dm_stream.specs.Holding.{Holding, held_units}
 use Rattle.dm_stream.specs.Pieces.{Piece, fewest, all_but_last}
 use Rattle.dm_stream.specs.PieceText.{pieces_text}
-use Rattle.dm_stream.specs.WriteAll.{IsBeginning}
+use Rattle.dm_table.specs.WriteAll.{IsBeginning}
 
 -- whatever units are to come, some pieces are settled and what is held stands for the others; the settled ones were written
 pub record HasTaken (old new : Holding) (units : List BlockUnit) (before after : List ℕ) : Type 0 where

@@ -1,16 +1,16 @@
 -- The laws of a join as a sink: what it took, and then took or left, is one. They stand here since only this is in reach of the laws' place.
-use Rattle.std.proofs.Common.{◌≡◌, ℕ, suc, Bool, true, false, cond, List, [], ◌∷◌, ◌++◌, length, drop, refl, sym, ap, subst, ◌∙◌, append_assoc}
-use Rattle.std.proofs.Math.Seq.{drop-append_seam}
+use Rattle.std.proofs.Common.{◌≡◌, ℕ, suc, Bool, true, false, cond, List, [], ◌∷◌, ◌++◌, refl, sym, ap, subst, ◌∙◌, append_assoc}
 use Rattle.std.proofs.lemmas.List.{append-nil}
 use Rattle.std.proofs.lemmas.Grind.{flat_map-append}
 use Rattle.dm_table.specs.DeviceIo.{since}
+use Rattle.dm_table.proofs.Growth.{since_more, grows_more}
 use Rattle.dm_stack.specs.Description.{Description}
 use Rattle.dm_map.specs.Units.{BlockUnit}
 use Rattle.dm_stream.specs.Holding.{Holding, held_units}
 use Rattle.dm_stream.specs.Join.{HasUnits, HasTaken, HasLeft}
 use Rattle.dm_stream.specs.Pieces.{Piece, all_but_last, fewest, joins, onto}
 use Rattle.dm_stream.specs.PieceText.{piece_text, pieces_text}
-use Rattle.dm_stream.specs.WriteAll.{IsBeginning}
+use Rattle.dm_table.specs.WriteAll.{IsBeginning}
 
 -- nothing was put behind a list by no step
 pub since-same : (xs : List ℕ) → since xs xs ≡ []
@@ -19,18 +19,6 @@ since-same (x ∷ xs) = since-same xs
 
 pub grows-same : (xs : List ℕ) → xs ≡ xs ++ since xs xs
 grows-same xs = sym (append-nil xs) ∙ ap (λ (ys : List ℕ). xs ++ ys) (sym (since-same xs))
-
--- what was put behind a list in two steps
-since_is : (old new more : List ℕ) → new ≡ old ++ more → since old new ≡ more
-since_is old new more e = ap (drop (length old)) e ∙ drop-append_seam old more
-
-since_more : (old mid new : List ℕ) → mid ≡ old ++ since old mid → new ≡ mid ++ since mid new → since old new ≡ since old mid ++ since mid new
-since_more old mid new e f =
-    since_is old new (since old mid ++ since mid new) (f ∙ ap (λ (xs : List ℕ). xs ++ since mid new) e ∙ append_assoc old (since old mid) (since mid new))
-
-grows_more : (old mid new : List ℕ) → mid ≡ old ++ since old mid → new ≡ mid ++ since mid new → new ≡ old ++ since old new
-grows_more old mid new e f =
-    f ∙ ap (λ (xs : List ℕ). xs ++ since mid new) e ∙ append_assoc old (since old mid) (since mid new) ∙ ap (λ (xs : List ℕ). old ++ xs) (sym (since_more old mid new e f))
 
 -- the first of the fewest pieces begins with the first unit
 pub record BeginsWith (unit : BlockUnit) (pieces : List Piece) : Type 0 where

@@ -11,4 +11,3 @@ pub mod PieceText
 pub mod Pieces
 pub mod Run
 pub mod Tail
-pub mod WriteAll

@@ -1,6 +1,6 @@
 -- The message of each ending.
 use Rattle.std.specs.Prelude.{◌≡◌, ℕ, List, [], ◌++◌, codes, decimal}
-use Rattle.dm_stream.specs.WriteAll.{IsBeginning}
+use Rattle.dm_table.specs.WriteAll.{IsBeginning}
 use Rattle.dm_stream.specs.declared.ending.Ending.{Ending}
 use Rattle.dm_stream.specs.declared.ending.Ending.TheVariants as endings
 use Rattle.dm_stream.specs.declared.ending.RequestWord.{RequestWord}

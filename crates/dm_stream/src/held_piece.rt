@@ -11,13 +11,12 @@ ghost use Rattle.dm_map.specs.Units.{BlockUnit, IsOnDisks, diskless_len, first_u
 ghost use Rattle.dm_stream.specs.Holding.{Fits, IsHeld, held_diskless, held_units};
 ghost use Rattle.dm_stream.specs.Pieces.{fewest, is_after};
 ghost use Rattle.dm_stream.specs.PieceText.{pieces_text};
-ghost use Rattle.dm_stream.specs.WriteAll.{IsBeginning};
+ghost use Rattle.dm_table.specs.WriteAll.{IsCutShort};
 
 use crate::numbered_line::NumberedLine;
-use crate::write_all::write_all;
 use dm_map::Piece;
 use dm_stack::{DiskId, Stack};
-use dm_table::{OutFault, Output};
+use dm_table::{OutFault, Output, write_all};
 use std::marker::Model;
 
 /// At most one piece of a request to a stack's devices, under the request's number.
@@ -95,7 +94,7 @@ impl<'s> HeldPiece<'s> {
     pub(crate) fn write<W: Output>(&mut self, writer: &mut W) -> Result<(), OutFault>
         ensures ok { OnOk result (since (W.written writer.old) (W.written writer.new)
             ≡ pieces_text self.old.stack self.old.number (fewest (held_units self.old.piece))) }
-        ensures err { OnErr result (IsBeginning (pieces_text self.old.stack self.old.number (fewest (held_units self.old.piece)))
+        ensures err { OnErr result (IsCutShort (pieces_text self.old.stack self.old.number (fewest (held_units self.old.piece)))
             (since (W.written writer.old) (W.written writer.new))) }
         ensures appends { W.written writer.new
             ≡ W.written writer.old ++ since (W.written writer.old) (W.written writer.new) }

@@ -10,7 +10,7 @@ ghost use Rattle.dm_stream.specs.Holding.{held_diskless, held_units};
 ghost use Rattle.dm_stream.specs.Join.{HasTaken, HasLeft};
 ghost use Rattle.dm_stream.specs.Pieces.{AreFewest, fewest};
 ghost use Rattle.dm_stream.specs.PieceText.{pieces_text};
-ghost use Rattle.dm_stream.specs.WriteAll.{IsBeginning};
+ghost use Rattle.dm_table.specs.WriteAll.{IsCutShort};
 ghost use Rattle.dm_stream.specs.JoinLaws.{took_none, took_more, left_more};
 ghost use Rattle.std.proofs.Common.{ap, refl, ◌∙◌};
 
@@ -61,7 +61,7 @@ impl<'s, W: Output> Join<'s, W> {
     pub fn finish(&mut self) -> Result<(), OutFault>
         ensures ok { OnOk result (since (W.written self.old.writer.now) (W.written self.new.writer.now)
             ≡ pieces_text self.old.held.stack self.old.held.number (fewest (held_units self.old.held.piece))) }
-        ensures err { OnErr result (IsBeginning (pieces_text self.old.held.stack self.old.held.number (fewest (held_units self.old.held.piece)))
+        ensures err { OnErr result (IsCutShort (pieces_text self.old.held.stack self.old.held.number (fewest (held_units self.old.held.piece)))
             (since (W.written self.old.writer.now) (W.written self.new.writer.now))) }
         ensures appends { W.written self.new.writer.now
             ≡ W.written self.old.writer.now ++ since (W.written self.old.writer.now) (W.written self.new.writer.now) }
@@ -73,6 +73,20 @@ impl<'s, W: Output> Join<'s, W> {
         ensures fewest { (units : List BlockUnit) → AreFewest units (fewest units) }
     {
         self.held.write(&mut *self.writer)
+    }
+
+    /// Ends the join, after its last request was finished, and gives its writer back as it is:
+    /// nothing is written or flushed.
+    pub fn end(self) -> &'s mut W
+        requires { self.held.piece ≡ None }
+        ensures writer { result.now ≡ self.entry.writer.now }
+        ensures same_reference { result.ghost_name ≡ self.entry.writer.ghost_name }
+    {
+        let Join {
+            held: _held,
+            writer,
+        } = self;
+        writer
     }
 }
 

@@ -6,7 +6,6 @@
 #![tactic(auto)]
 
 mod ending;
-mod fixed_text;
 mod front;
 mod held_piece;
 mod join;
@@ -19,11 +18,12 @@ mod piece_text;
 mod put_before;
 mod serve;
 mod tail;
-mod write_all;
 
 pub use ending::{Ending, RequestWord};
-pub use fixed_text::{put, put_number};
 pub use join::Join;
 pub use lines::{Lines, MOST_LINE_BYTES, Next};
 pub use message::tell;
 pub use serve::{MOST_REQUESTS, run};
+
+// For the program's own messages, which are put together as those of a run are.
+pub use dm_table::{put, put_number};

@@ -8,10 +8,8 @@ ghost use Rattle.dm_table.specs.DeviceIo.{since};
 ghost use Rattle.dm_stream.specs.Messages.{IsTold, request_word, request_message, ending_message};
 
 use crate::ending::{Ending, RequestWord};
-use crate::fixed_text::{put, put_number};
-use crate::write_all::write_all;
 use arrayvec::ArrayVec;
-use dm_table::Output;
+use dm_table::{Output, put, put_number, write_all};
 
 /// A message of a run.
 type Message = ArrayVec<u8, 64>;

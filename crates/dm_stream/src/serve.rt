@@ -11,8 +11,8 @@ ghost use Rattle.dm_stream.specs.declared.lines.TheConstants.{MOST_LINE_BYTES};
 ghost use Rattle.dm_stream.specs.Messages.{IsTold, ending_message};
 ghost use Rattle.dm_stream.specs.Outcome.{device_of, of_device, line_outcome, request_answer, run_outcome};
 ghost use Rattle.dm_stream.specs.Pieces.{AreFewest, fewest};
-ghost use Rattle.dm_stream.specs.Run.{IsServed, IsLineServed, word_for};
-ghost use Rattle.dm_stream.specs.WriteAll.{IsBeginning};
+ghost use Rattle.dm_stream.specs.Run.{IsLineWritten, IsServed, IsWritten, word_for};
+ghost use Rattle.dm_table.specs.WriteAll.{IsCutShort};
 
 use crate::ending::{Ending, RequestWord};
 use crate::join::Join;
@@ -57,7 +57,7 @@ fn join_request<W: Output>(
         ≡ W.written join.old.writer.now ++ since (W.written join.old.writer.now) (W.written join.new.writer.now) }
     ensures ok { OnOk result (since (W.written join.old.writer.now) (W.written join.new.writer.now)
         ≡ request_answer join.old.held.stack request.now.number device (values_of request.now)) }
-    ensures err { OnErr result (IsBeginning (request_answer join.old.held.stack request.now.number device (values_of request.now))
+    ensures err { OnErr result (IsCutShort (request_answer join.old.held.stack request.now.number device (values_of request.now))
         (since (W.written join.old.writer.now) (W.written join.new.writer.now))) }
     ensures faults { W.faults join.new.writer.now ≡ W.faults join.old.writer.now + fault_of result }
     ensures flushes { W.flushes join.new.writer.now ≡ W.flushes join.old.writer.now }
@@ -89,7 +89,7 @@ fn serve_request<W: Output>(
     ensures same_reference { join.new.writer.ghost_name ≡ join.old.writer.ghost_name }
     ensures appends { W.written join.new.writer.now
         ≡ W.written join.old.writer.now ++ since (W.written join.old.writer.now) (W.written join.new.writer.now) }
-    ensures served { IsLineServed (of_device devices.old request.now.number (device_of devices.old request.now.device.now) (values_of request.now))
+    ensures served { IsLineWritten (of_device devices.old request.now.number (device_of devices.old request.now.device.now) (values_of request.now))
         (since (W.written join.old.writer.now) (W.written join.new.writer.now)) result }
     ensures write_fault { W.faults join.old.writer.now < W.faults join.new.writer.now ↔ IsErrOf result Ending.WriteFault }
     ensures no_fault { OnOk result (W.faults join.new.writer.now ≡ W.faults join.old.writer.now) }
@@ -127,7 +127,7 @@ fn serve_line<W: Output>(
     ensures same_reference { join.new.writer.ghost_name ≡ join.old.writer.ghost_name }
     ensures appends { W.written join.new.writer.now
         ≡ W.written join.old.writer.now ++ since (W.written join.old.writer.now) (W.written join.new.writer.now) }
-    ensures served { IsLineServed (line_outcome devices.old number line.now)
+    ensures served { IsLineWritten (line_outcome devices.old number line.now)
         (since (W.written join.old.writer.now) (W.written join.new.writer.now)) result }
     ensures few { OnOk result (number ≤ MOST_REQUESTS) }
     ensures write_fault { W.faults join.old.writer.now < W.faults join.new.writer.now ↔ IsErrOf result Ending.WriteFault }
@@ -160,12 +160,13 @@ fn serve_lines<'s, R: Input, W: Output>(
     requires nothing { join.old.held.piece ≡ None }
     ensures stack { mapper.new.stack ≡ mapper.old.stack }
     ensures going { result ≢ Ending.WriteFault → mapper.new.stopped ≡ false }
+    ensures nothing { join.new.held.piece ≡ None }
     ensures same_reference { join.new.writer.ghost_name ≡ join.old.writer.ghost_name }
     ensures reads { R.handed requests.new
         ≡ R.handed requests.old ++ since (R.handed requests.old) (R.handed requests.new) }
     ensures appends { W.written join.new.writer.now
         ≡ W.written join.old.writer.now ++ since (W.written join.old.writer.now) (W.written join.new.writer.now) }
-    ensures served { IsServed (run_outcome stack.now (delivery R.handed R.faults R.ends requests.old requests.new))
+    ensures served { IsWritten (run_outcome stack.now (delivery R.handed R.faults R.ends requests.old requests.new))
         (since (W.written join.old.writer.now) (W.written join.new.writer.now)) result }
     ensures read_fault { result ≡ Ending.ReadFault → R.faults requests.old < R.faults requests.new }
     ensures no_fault { result ≡ Ending.Done → R.faults requests.new ≤ R.faults requests.old }
@@ -210,7 +211,7 @@ fn join_lines<'s, R: Input, W: Output>(
         ≡ R.handed requests.old ++ since (R.handed requests.old) (R.handed requests.new) }
     ensures appends { W.written output.new
         ≡ W.written output.old ++ since (W.written output.old) (W.written output.new) }
-    ensures served { IsServed (run_outcome stack.now (delivery R.handed R.faults R.ends requests.old requests.new))
+    ensures served { IsWritten (run_outcome stack.now (delivery R.handed R.faults R.ends requests.old requests.new))
         (since (W.written output.old) (W.written output.new)) result }
     ensures read_fault { result ≡ Ending.ReadFault → R.faults requests.old < R.faults requests.new }
     ensures no_fault { result ≡ Ending.Done → R.faults requests.new ≤ R.faults requests.old }
@@ -222,11 +223,7 @@ fn join_lines<'s, R: Input, W: Output>(
 {
     let mut join = Join::new(stack, output);
     let ending = serve_lines(stack, mapper, requests, &mut join);
-    // The join ends here by its parts, so that what the output took is known behind it.
-    let Join {
-        held: _held,
-        writer: _writer,
-    } = join;
+    let _writer = join.end();
     ending
 }
 
@@ -256,6 +253,12 @@ fn answer_all<'s, R: Input, W: Output>(
     ensures fails_once { W.faults output.new ≤ W.faults output.old + 1 }
     ensures flushed { result ≢ Ending.WriteFault
         → (W.waiting output.new ≡ []) × (W.flushes output.new ≡ W.flushes output.old + 1) }
+    ensures left { result ≡ Ending.WriteFault → W.flushes output.new ≡ W.flushes output.old
+        → IsCutShort (run_outcome stack.now (delivery R.handed R.faults R.ends requests.old requests.new)).output
+        (since (W.written output.old) (W.written output.new)) }
+    ensures failed_flush { result ≡ Ending.WriteFault → W.flushes output.old < W.flushes output.new
+        → (run_outcome stack.now (delivery R.handed R.faults R.ends requests.old requests.new)).output
+        ≡ since (W.written output.old) (W.written output.new) }
     ensures once { W.flushes output.new ≤ W.flushes output.old + 1 }
 {
     let ending = join_lines(stack, mapper, requests, output);
@@ -304,7 +307,14 @@ pub fn run<'s, R: Input, W: Output, E: Output>(
     ensures read_fault { result ≡ Ending.ReadFault → R.faults requests.old < R.faults requests.new }
     ensures no_fault { result ≡ Ending.Done → R.faults requests.new ≤ R.faults requests.old }
     ensures write_fault { W.faults output.old < W.faults output.new ↔ (result ≡ Ending.WriteFault) }
-    // Nothing is read behind an end or a fault.
+    // Something was left to write where the output failed without a flush, and nothing where it was flushed.
+    ensures left { result ≡ Ending.WriteFault → W.flushes output.new ≡ W.flushes output.old
+        → IsCutShort (run_outcome stack.now (delivery R.handed R.faults R.ends requests.old requests.new)).output
+        (since (W.written output.old) (W.written output.new)) }
+    ensures failed_flush { result ≡ Ending.WriteFault → W.flushes output.old < W.flushes output.new
+        → (run_outcome stack.now (delivery R.handed R.faults R.ends requests.old requests.new)).output
+        ≡ since (W.written output.old) (W.written output.new) }
+    // Nothing is read after an end or a fault.
     ensures no_more { R.faults requests.new + R.ends requests.new ≤ R.faults requests.old + R.ends requests.old + 1 }
     ensures flushed { result ≢ Ending.WriteFault
         → (W.waiting output.new ≡ []) × (W.flushes output.new ≡ W.flushes output.old + 1) }

@@ -1,9 +1,9 @@
 -- Lists that only grow, told by what is new.
-use Rattle.std.proofs.Common.{Result, Ok, Err, OnErr, [], ◌≡◌, ◌≤◌, ℕ, ◌+◌, ◌-◌, List, ◌++◌, length, take, drop, sym, ap, ◌∙◌, append_assoc, take-append-drop, arith}
+use Rattle.std.proofs.Common.{Result, Ok, Err, OnErr, [], ◌∷◌, ◌≡◌, ◌<◌, ◌≤◌, ℕ, ◌+◌, ◌-◌, List, ◌++◌, length, take, drop, sym, ap, ◌∙◌, append_assoc, take-append-drop, arith}
 use Rattle.std.proofs.Math.Seq.{take-add, drop-append_seam}
 use Rattle.std.proofs.lemmas.List.{take_rest, append-nil, drop-drop, length-drop}
 use Rattle.dm_table.specs.DeviceIo.{since}
-use Rattle.dm_table.specs.WriteAll.{IsBeginning}
+use Rattle.dm_table.specs.WriteAll.{IsBeginning, IsCutShort}
 
 -- what was put behind a list
 pub since_is : (old new more : List ℕ) → new ≡ old ++ more → since old new ≡ more
@@ -27,6 +27,15 @@ grows_more old mid new e f =
 pub front_beginning : (old new bytes : List ℕ) (at : ℕ) → new ≡ old ++ take at bytes → IsBeginning bytes (since old new)
 front_beginning old new bytes at e =
     (drop at bytes, sym (take-append-drop at bytes) ∙ ap (λ xs. xs ++ drop at bytes) (sym (since_is old new (take at bytes) e)))
+
+-- where others are left, they cut the text short
+pub front_cut : (old new bytes rest : List ℕ) (at : ℕ) → new ≡ old ++ take at bytes → rest ≡ drop at bytes → 0 < length rest → IsCutShort bytes (since old new)
+front_cut old new bytes [] at e is some = absurd (omega (arith, some))
+front_cut old new bytes (byte ∷ more) at e is some = (
+  byte,
+  more,
+  sym (take-append-drop at bytes) ∙ ap (λ xs. xs ++ drop at bytes) (sym (since_is old new (take at bytes) e)) ∙ ap (λ xs. since old new ++ xs) (sym is),
+)
 
 -- what is left of a rest behind its first n bytes
 abbrev pub behind : List ℕ → ℕ → List ℕ

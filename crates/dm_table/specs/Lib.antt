@@ -1,7 +1,9 @@
 pub mod Number
+pub mod PartInput
 pub mod Name
 pub mod Fields
 pub mod LoadFault
+pub mod LoadMessage
 pub mod DiskList
 pub mod TableText
 pub mod TableReading

@@ -3,7 +3,7 @@
 //! Keep what is left of the bytes as the only thing that a turn changes.
 ghost use Rattle.std.specs.Prelude.{◌≡◌, ◌+◌, ◌++◌, OnOk, OnErr};
 ghost use Rattle.dm_table.specs.DeviceIo.{since, fault_of};
-ghost use Rattle.dm_table.specs.WriteAll.{IsBeginning};
+ghost use Rattle.dm_table.specs.WriteAll.{IsBeginning, IsCutShort};
 
 use crate::device_io::{OutFault, Output};
 
@@ -14,6 +14,8 @@ pub fn write_all<W: Output>(writer: &mut W, bytes: &[u8]) -> Result<(), OutFault
         ≡ W.written writer.old ++ since (W.written writer.old) (W.written writer.new) }
     ensures ok { OnOk result (since (W.written writer.old) (W.written writer.new) ≡ bytes.now) }
     ensures err { OnErr result (IsBeginning bytes.now (since (W.written writer.old) (W.written writer.new))) }
+    // A write fails only where something is left to write.
+    ensures left { OnErr result (IsCutShort bytes.now (since (W.written writer.old) (W.written writer.new))) }
     ensures waiting { W.waiting writer.new
         ≡ W.waiting writer.old ++ since (W.written writer.old) (W.written writer.new) }
     ensures faults { W.faults writer.new ≡ W.faults writer.old + fault_of result }

@@ -1,3 +1,3 @@
 mod CommandLine
-pub mod FateLemmas
+pub mod ExitLemmas
 pub mod OneWhole

@@ -11,11 +11,13 @@ use Rattle.dm_table.specs.DeviceIo.{Delivery}
 use Rattle.dm_table.proofs.FaultLemmas.{first_or-none}
 use Rattle.dm_table.proofs.TableDescribed.{again, one_description}
 use Rattle.dm_table.proofs.DiskLemmas.{read_disks-described, read_disks-ok, DescribesDisks-unique}
-use Rattle.dmremap.specs.Parts.{PartRead, TextOf, Refuses, Unread, part_read}
+use Rattle.dm_table.specs.PartInput.{PartRead, TextOf, Refuses, Unread, part_read}
+use Rattle.dmremap.specs.declared.words.Format.{Format}
+use Rattle.dmremap.specs.declared.words.Format.TheVariants.{Table}
 use Rattle.dm_stack.specs.Description.{Description}
 use Rattle.dm_stack.specs.Soundness.{IsSound, IsRefusedBy}
 use Rattle.dm_stack.proofs.OneFault.{never_both, one_fault as one_refusal}
-use Rattle.dmremap.specs.Load.{Load, RefusedBy, SoundAs, Describes, GivesFault, TextsGive, PartsGive}
+use Rattle.dmremap.specs.Load.{Load, RefusedBy, SoundAs, Describes, GivesFault, TextsGive, TablePartsGive, PartsGive}
 use Rattle.dmremap.specs.Whole.{Whole, whole_of, GiveWhole}
 
 -- What two texts describe
@@ -64,17 +66,20 @@ one_of_texts source list (RefusedBy f) (SoundAs b) is_a is_b = absurd (no_fault 
 one_of_texts source list (SoundAs a) (RefusedBy g) is_a is_b = absurd (no_fault source list g a is_b is_a.0 is_a.1)
 one_of_texts source list (SoundAs a) (SoundAs b) is_a is_b = ap SoundAs (one_description_of source list a b is_a.0 is_b.0)
 
-pub one_load : (source list : PartRead) (a b : Load) → PartsGive source list a → PartsGive source list b → a ≡ b
-one_load (Refuses fault) list a b is_a is_b = is_a ∙ sym is_b
-one_load (TextOf source) (Refuses fault) a b is_a is_b = is_a ∙ sym is_b
-one_load (TextOf source) (TextOf list) a b is_a is_b = one_of_texts source list a b is_a is_b
-one_load (TextOf source) Unread a b is_a is_b = absurd is_a
-one_load Unread list a b is_a is_b = absurd is_a
+one_of_parts : (source list : PartRead) (a b : Load) → TablePartsGive source list a → TablePartsGive source list b → a ≡ b
+one_of_parts (Refuses fault) list a b is_a is_b = is_a ∙ sym is_b
+one_of_parts (TextOf source) (Refuses fault) a b is_a is_b = is_a ∙ sym is_b
+one_of_parts (TextOf source) (TextOf list) a b is_a is_b = one_of_texts source list a b is_a is_b
+one_of_parts (TextOf source) Unread a b is_a is_b = absurd is_a
+one_of_parts Unread list a b is_a is_b = absurd is_a
+
+pub one_load : (format : Format) (source disks : Delivery) (a b : Load) → PartsGive format source disks a → PartsGive format source disks b → a ≡ b
+one_load Table source disks a b is_a is_b = one_of_parts (part_read Source source) (part_read Disks disks) a b is_a is_b
 
 -- What the run gives
 
-pub one_whole : (source disks requests : Delivery) (a b : Whole) → GiveWhole source disks requests a → GiveWhole source disks requests b → a ≡ b
-one_whole source disks requests a b is_a is_b =
-    let same = one_load (part_read Source source) (part_read Disks disks) is_a.load is_b.load is_a.loaded is_b.loaded in
+pub one_whole : (format : Format) (source disks requests : Delivery) (a b : Whole) → GiveWhole format source disks requests a → GiveWhole format source disks requests b → a ≡ b
+one_whole format source disks requests a b is_a is_b =
+    let same = one_load format source disks is_a.load is_b.load is_a.loaded is_b.loaded in
     let some : Some a ≡ Some b = sym is_a.is ∙ ap (λ (load : Load). whole_of load requests) same ∙ is_b.is in
     cc

@@ -1,6 +1,6 @@
-pub mod Fate
+pub mod Exit
+pub mod Inputs
 pub mod Load
-pub mod Messages
-pub mod Parts
+pub mod Status
 pub mod Whole
 pub mod Words

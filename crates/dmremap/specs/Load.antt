@@ -1,17 +1,23 @@
 -- What a load gives: a sound description, or the first fault of the first check that finds any.
 use Rattle.std.specs.Prelude.{◌≡◌, ◌⊎◌, ℕ, List, ◌++◌, Some}
 use Rattle.dm_table.specs.declared.load_fault.LoadFault.{LoadFault}
+use Rattle.dm_table.specs.declared.place.Part.TheVariants.{Source, Disks}
+use Rattle.dm_table.specs.DeviceIo.{Delivery}
 use Rattle.dm_table.specs.LoadFault.{first_fault}
+use Rattle.dm_table.specs.PartInput.{PartRead, TextOf, Refuses, Unread, part_read}
 use Rattle.dm_table.specs.TableText.{DescribesTable, table_checks}
 use Rattle.dm_table.specs.DiskList.{DescribesDisks, disk_checks}
-use Rattle.dmremap.specs.Parts.{PartRead, TextOf, Refuses, Unread}
 use Rattle.dm_stack.specs.Description.{Description}
 use Rattle.dm_stack.specs.Soundness.{IsSound, IsRefusedBy}
+use Rattle.dmremap.specs.declared.words.Format.{Format}
+use Rattle.dmremap.specs.declared.words.Format.TheVariants.{Table}
 
 -- what a load gives
 pub data Load : Type 0 where
   RefusedBy : LoadFault → Load
   SoundAs : Description → Load
+
+-- ---- table text and a disk list
 
 -- the texts describe this, of which nothing is checked yet
 pub record Describes (source list : List ℕ) (description : Description) : Type 0 where
@@ -30,10 +36,16 @@ TextsGive source list (RefusedBy fault) = GivesFault source list fault
 TextsGive source list (SoundAs description) =
     Describes source list description × IsSound description
 
--- what the two parts give: one that was not read is refused before any text is looked into
-abbrev pub PartsGive : PartRead → PartRead → Load → Type 0
-PartsGive (Refuses fault) list load = load ≡ RefusedBy fault
-PartsGive (TextOf source) (Refuses fault) load = load ≡ RefusedBy fault
-PartsGive (TextOf source) (TextOf list) load = TextsGive source list load
-PartsGive (TextOf source) Unread load = ⊥
-PartsGive Unread list load = ⊥
+-- what the two parts give: one that was not read is refused before any text is looked at
+abbrev pub TablePartsGive : PartRead → PartRead → Load → Type 0
+TablePartsGive (Refuses fault) list load = load ≡ RefusedBy fault
+TablePartsGive (TextOf source) (Refuses fault) load = load ≡ RefusedBy fault
+TablePartsGive (TextOf source) (TextOf list) load = TextsGive source list load
+TablePartsGive (TextOf source) Unread load = ⊥
+TablePartsGive Unread list load = ⊥
+
+-- ---- every format
+
+-- what the source and the disk list give that were delivered: an arm for each format, which takes the parts that it has
+abbrev pub PartsGive : Format → Delivery → Delivery → Load → Type 0
+PartsGive Table source disks load = TablePartsGive (part_read Source source) (part_read Disks disks) load

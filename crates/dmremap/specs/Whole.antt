@@ -1,13 +1,13 @@
--- The whole run: what it writes, what it tells and the status that it answers, by what was delivered.
+-- The whole run: what it writes, its message and its exit status, by what was delivered.
 use Rattle.std.specs.Prelude.{◌≡◌, ℕ, List, [], Option, None, Some}
-use Rattle.dm_table.specs.declared.place.Part.TheVariants.{Source, Disks}
 use Rattle.dm_table.specs.DeviceIo.{Delivery}
+use Rattle.dm_table.specs.LoadMessage.{load_message}
 use Rattle.dm_stream.specs.declared.ending.Ending.{Ending}
-use Rattle.dmremap.specs.Parts.{part_read}
-use Rattle.dmremap.specs.Load.{Load, RefusedBy, SoundAs, PartsGive}
 use Rattle.dm_stream.specs.Outcome.{run_outcome}
 use Rattle.dm_stream.specs.Messages.{ending_message}
-use Rattle.dmremap.specs.Messages.{load_message, ending_status}
+use Rattle.dmremap.specs.declared.words.Format.{Format}
+use Rattle.dmremap.specs.Load.{Load, RefusedBy, SoundAs, PartsGive}
+use Rattle.dmremap.specs.Status.{ending_status}
 
 -- what a run gives
 pub record Whole : Type 0 where
@@ -31,7 +31,7 @@ whole_of (SoundAs description) requests =
     let outcome = run_outcome description requests in ended_if outcome.output outcome.ending
 
 -- the deliveries of the source, of the disk list and of the requests give this run
-pub record GiveWhole (source disks requests : Delivery) (whole : Whole) : Type 0 where
+pub record GiveWhole (format : Format) (source disks requests : Delivery) (whole : Whole) : Type 0 where
   pub load : Load
-  pub loaded : PartsGive (part_read Source source) (part_read Disks disks) load
+  pub loaded : PartsGive format source disks load
   pub is : whole_of load requests ≡ Some whole

@@ -1,39 +1,66 @@
-//! The load: both parts are read, then their texts, then what they describe is checked.
+//! The load: the parts are read whole, then their texts, then what they describe is checked.
 //!
 //! Nothing is kept of a refused load. The order here is the order of the refusals: a part that was
-//! not read goes before any text, the source's text before the disk list's, and the texts before
-//! what they describe.
+//! not read takes precedence over any text, the source's text over the disk list's, and the texts
+//! over what they describe. A new format is an arm of `load` here and of `PartsGive` in
+//! `specs/Load.antt`, and takes the parts that it has.
 
-ghost use Rattle.std.specs.Prelude.{◌≡◌, ◌≢◌, ◌++◌, IfOk, IfErr, IsSome, Some};
+ghost use Rattle.std.specs.Prelude.{◌≡◌, ◌≢◌, ◌++◌, IfOk, IfErr, IsSome, Some, is_some};
 ghost use Rattle.dm_table.specs.DeviceIo.{delivery};
-ghost use Rattle.dm_table.specs.declared.place.Part.TheVariants.{Source, Disks};
+ghost use Rattle.dm_table.specs.declared.place.Part.TheVariants.{Disks, Source};
 ghost use Rattle.dm_table.specs.declared.load_fault.LoadKind.TheVariants.{Memory};
-ghost use Rattle.dmremap.specs.Parts.{part_read, delivery_if, TextOf, Refuses};
-ghost use Rattle.dm_table.specs.LoadFault.{first_fault};
-ghost use Rattle.dm_table.specs.TableText.{table_checks};
 ghost use Rattle.dm_table.specs.DiskList.{disk_checks};
-ghost use Rattle.dmremap.specs.Load.{Describes, PartsGive, TextsGive, RefusedBy, SoundAs};
+ghost use Rattle.dm_table.specs.LoadFault.{first_fault};
+ghost use Rattle.dm_table.specs.PartInput.{IsReadOn, Refuses, TextOf, part_read};
+ghost use Rattle.dm_table.specs.TableText.{table_checks};
+ghost use Rattle.dmremap.specs.Inputs.{IsReadOnIf, delivery_if};
+ghost use Rattle.dmremap.specs.Load.{Describes, PartsGive, RefusedBy, SoundAs, TablePartsGive, TextsGive};
+ghost use Rattle.dmremap.specs.Words.{has_disk_list};
 
-use crate::source::read_part;
+use crate::words::Format;
 use dm_stack::Stack;
-use dm_table::{DeviceSpec, Disk, Input, LoadFault, Part, parse_disks, parse_table};
+use dm_table::{DeviceSpec, Disk, Input, LoadFault, Part, parse_disks, parse_table, read_part};
 use std::alloc::Global;
 
-/// What the table text and the disk list give.
+/// What the source and the disk list give.
 ///
-/// `Memory` only for want of it; else the first fault of the first check that finds any.
+/// `Memory` only where memory ran out; else the first fault of the first check that finds any.
 pub(crate) fn load<S: Input, D: Input>(
+    alloc: Global,
+    format: Format,
+    source: &mut S,
+    disks: &mut Option<D>,
+) -> Result<Stack, LoadFault>
+    requires { is_some disks.old ≡ has_disk_list format }
+    ensures sound { IfOk result (λ stack. PartsGive format
+        (delivery S.handed S.faults S.ends source.old source.new)
+        (delivery_if D.handed D.faults D.ends disks.old disks.new) (SoundAs stack)) }
+    ensures refused { IfErr result (λ fault. fault.kind ≢ Memory → PartsGive format
+        (delivery S.handed S.faults S.ends source.old source.new)
+        (delivery_if D.handed D.faults D.ends disks.old disks.new) (RefusedBy fault)) }
+    ensures source { IsReadOn S.handed S.faults S.ends source.old source.new }
+    ensures disks { IsReadOnIf D.handed D.faults D.ends disks.old disks.new }
+{
+    match format {
+        Format::Table => load_table(alloc, source, disks),
+    }
+}
+
+/// What a table text and a disk list give.
+fn load_table<S: Input, D: Input>(
     alloc: Global,
     source: &mut S,
     disks: &mut Option<D>,
 ) -> Result<Stack, LoadFault>
     requires { IsSome disks.old }
-    ensures sound { IfOk result (λ stack. PartsGive
+    ensures sound { IfOk result (λ stack. TablePartsGive
         (part_read Source (delivery S.handed S.faults S.ends source.old source.new))
         (part_read Disks (delivery_if D.handed D.faults D.ends disks.old disks.new)) (SoundAs stack)) }
-    ensures refused { IfErr result (λ fault. fault.kind ≢ Memory → PartsGive
+    ensures refused { IfErr result (λ fault. fault.kind ≢ Memory → TablePartsGive
         (part_read Source (delivery S.handed S.faults S.ends source.old source.new))
         (part_read Disks (delivery_if D.handed D.faults D.ends disks.old disks.new)) (RefusedBy fault)) }
+    ensures source { IsReadOn S.handed S.faults S.ends source.old source.new }
+    ensures disks { IsReadOnIf D.handed D.faults D.ends disks.old disks.new }
 {
     let source = read_part(alloc, Part::Source, source)?;
     let disks = read_disks(alloc, disks)?;
@@ -45,6 +72,7 @@ fn read_disks<D: Input>(alloc: Global, disks: &mut Option<D>) -> Result<Vec<u8>,
     requires { IsSome disks.old }
     ensures text { IfOk result (λ text. part_read Disks (delivery_if D.handed D.faults D.ends disks.old disks.new) ≡ TextOf text.items) }
     ensures refused { IfErr result (λ fault. fault.kind ≢ Memory → part_read Disks (delivery_if D.handed D.faults D.ends disks.old disks.new) ≡ Refuses fault) }
+    ensures read_on { IsReadOnIf D.handed D.faults D.ends disks.old disks.new }
 {
     match disks {
         Some(input) => read_part(alloc, Part::Disks, input),

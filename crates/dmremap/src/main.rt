@@ -9,14 +9,13 @@ ghost use Rattle.dmremap.specs.Words.{has_disk_list};
 
 mod load;
 mod map_whole;
-mod message;
 mod part_file;
-mod source;
 mod words;
 
 use dm_table::Counted;
 use map_whole::map_whole;
 use part_file::PartFile;
+use std::fs::File;
 use std::io;
 use std::io::BufWriter;
 use std::process::ExitCode;
@@ -70,14 +69,14 @@ fn map_files(
         return Err(WordsFault::Memory);
     };
     let mut disks = match disks {
-        Some(path) => Some(Counted::new(PartFile::open(rt, path))),
+        Some(path) => Some(Counted::new(PartFile::new(File::open(rt, path)))),
         None => None,
     };
     Ok(map_whole(
         rt.alloc(),
         format,
         status,
-        &mut Counted::new(PartFile::open(rt, file)),
+        &mut Counted::new(PartFile::new(File::open(rt, file))),
         &mut disks,
         &mut Counted::new(rt.stdin()),
         &mut Counted::new(output),

@@ -1,12 +1,15 @@
 //! The whole way, from a source, a disk list and requests to the output and a message.
 //!
-//! What comes out goes by the bytes that were delivered and by nothing else; its contract is the
-//! promise that the program makes. `main` hands in the real files and streams, tests hand in memory.
+//! What comes out goes by the bytes that were delivered and by nothing else; the contract of
+//! `map_whole` is the promise that the program makes. `main` hands in the real files and streams,
+//! tests hand in memory.
 
-ghost use Rattle.std.specs.Prelude.{◌≡◌, ◌≢◌, ◌+◌, ◌<◌, ◌≤◌, ◌^◌, ◌++◌, ◌↔◌, [], List, ℕ, false, is_some, IsSome};
+ghost use Rattle.std.specs.Prelude.{◌≡◌, ◌≢◌, ◌+◌, ◌<◌, ◌≤◌, ◌^◌, ◌++◌, ◌↔◌, [], List, ℕ, false, is_some};
 ghost use Rattle.dm_table.specs.DeviceIo.{Delivery, delivery, since};
-ghost use Rattle.dm_table.specs.declared.place.Part.TheVariants.{Source, Disks};
+ghost use Rattle.dm_table.specs.declared.part_input.TheConstants.{MOST_PART_BYTES};
 ghost use Rattle.dm_table.specs.declared.request.Op.TheVariants as Op;
+ghost use Rattle.dm_table.specs.LoadMessage.{load_message, memory_message};
+ghost use Rattle.dm_table.specs.PartInput.{IsReadOn};
 ghost use Rattle.dm_stack.specs.Description.{Description};
 ghost use Rattle.dm_stack.specs.declared.graph.TheConstants.{MOST_DEPTH};
 ghost use Rattle.dm_stack.specs.declared.limits.TheConstants.{MOST_CHUNK, MOST_DEVICES, MOST_DISKS, MOST_LENGTH, MOST_LINES, MOST_STRIPES};
@@ -18,20 +21,17 @@ ghost use Rattle.dm_stream.specs.declared.serve.TheConstants.{MOST_REQUESTS};
 ghost use Rattle.dm_stream.specs.Messages.{IsTold, write_message};
 ghost use Rattle.dm_stream.specs.Outcome.{run_outcome};
 ghost use Rattle.dm_stream.specs.Pieces.{AreFewest, fewest};
-ghost use Rattle.dm_stream.specs.WriteAll.{IsBeginning};
+ghost use Rattle.dmremap.specs.declared.words.Format.{Format};
+ghost use Rattle.dmremap.specs.Exit.{FailedOutput, IsExitOf, IsRun, MessageWritten, OutputWritten, RequestsRead, exit_message, exit_status};
+ghost use Rattle.dmremap.specs.Inputs.{IsReadOnIf, IsUnchanged, delivery_if};
 ghost use Rattle.dmremap.specs.Load.{PartsGive, SoundAs};
-ghost use Rattle.dmremap.specs.Parts.{IsUnchanged, delivery_if, part_read};
-ghost use Rattle.dmremap.specs.declared.source.TheConstants.{MOST_PART_BYTES};
-ghost use Rattle.dmremap.specs.Messages.{load_message, memory_message};
-ghost use Rattle.dmremap.specs.Whole.{Whole, GiveWhole};
-ghost use Rattle.dmremap.specs.Fate.{IsFated, IsFlushed, IsRun, OnRefused, fate_status, fate_message};
+ghost use Rattle.dmremap.specs.Whole.{GiveWhole, Whole};
 ghost use Rattle.dmremap.specs.Words.{has_disk_list};
 
 #[cfg(test)]
 mod tests;
 
 use crate::load::load;
-use crate::message::load_message;
 use crate::words::Format;
 use dm_map::Mapper;
 use dm_stack::Stack;
@@ -39,17 +39,17 @@ use dm_stream::{Ending, run, tell};
 use dm_table::{Input, LoadFault, LoadKind, Output, Part};
 use std::alloc::Global;
 
-/// How the whole way went.
+/// Why the program exits.
 #[derive(Clone, Copy)]
-pub(crate) enum Fate {
+pub(crate) enum Exit {
     /// The load was refused, and nothing was written.
     Refused(LoadFault),
     /// The requests were answered, up to this ending.
     Ran(Ending),
 }
 
-/// Maps requests through a table to its disks: reads the source and the disk list whole, checks
-/// them, and writes for each request the pieces that it touches. It answers the exit status.
+/// Maps requests through the devices of a source: reads the source and the disk list whole, checks
+/// them, and writes for each request the pieces that it touches. It returns the exit status.
 ///
 /// | Status | When |
 /// |---|---|
@@ -79,29 +79,30 @@ pub fn map_whole<S: Input, D: Input, Q: Input, W: Output, M: Output>(
     requires disks { is_some disks.old ≡ has_disk_list format }
 
     // What the deliveries give is one run.
-    ensures one { (s d q : Delivery) (a b : Whole) → GiveWhole s d q a → GiveWhole s d q b → a ≡ b }
+    ensures one { (f : Format) (s d q : Delivery) (a b : Whole) → GiveWhole f s d q a → GiveWhole f s d q b → a ≡ b }
     // The pieces of an answer are the fewest that its units can be made of.
     ensures fewest { (units : List BlockUnit) → AreFewest units (fewest units) }
 
-    // How many levels of devices a sector is followed through cuts nothing off.
+    // The number of levels of devices that a sector is followed through never truncates a lookup.
     ensures levels { (description : Description) → IsSound description → IsFreeOfLevels description Op.Read × IsFreeOfLevels description Op.Write }
 
     // Save where the output failed or memory ran out, all is what the deliveries give.
-    ensures whole { result ≢ 5 → result ≢ 6 → (message : List ℕ) × GiveWhole
+    ensures whole { result ≢ 5 → result ≢ 6 → (message : List ℕ) × GiveWhole format
         (delivery S.handed S.faults S.ends source.old source.new)
         (delivery_if D.handed D.faults D.ends disks.old disks.new)
         (delivery Q.handed Q.faults Q.ends requests.old requests.new)
         (record { output = since (W.written output.old) (W.written output.new); message = message; status = result })
         × IsTold message (since (M.written messages.old) (M.written messages.new)) (M.faults messages.old) (M.faults messages.new) }
 
-    // The output failed in the call: that goes before all else.
+    // The output failed in the call: that takes precedence over all else.
     ensures write_fault { W.faults output.old < W.faults output.new ↔ (result ≡ 5) }
-    // Then a beginning of the output was written, that of the bytes which the requests delivered.
-    ensures beginning { result ≡ 5 → (description : Description) × PartsGive
-        (part_read Source (delivery S.handed S.faults S.ends source.old source.new))
-        (part_read Disks (delivery_if D.handed D.faults D.ends disks.old disks.new)) (SoundAs description)
-        × IsBeginning (run_outcome description (delivery Q.handed Q.faults Q.ends requests.old requests.new)).output
-        (since (W.written output.old) (W.written output.new)) }
+    // Then a beginning of the output was written, that of the bytes which the requests delivered: something was left to
+    // write where no flush was asked, and nothing where the flush failed. So an empty output asks nothing of it but a flush.
+    ensures beginning { result ≡ 5 → (description : Description) × PartsGive format
+        (delivery S.handed S.faults S.ends source.old source.new)
+        (delivery_if D.handed D.faults D.ends disks.old disks.new) (SoundAs description)
+        × FailedOutput (run_outcome description (delivery Q.handed Q.faults Q.ends requests.old requests.new)).output
+        (since (W.written output.old) (W.written output.new)) (W.flushes output.old) (W.flushes output.new) }
     ensures write_message { result ≡ 5 → IsTold write_message
         (since (M.written messages.old) (M.written messages.new)) (M.faults messages.old) (M.faults messages.new) }
 
@@ -113,9 +114,14 @@ pub fn map_whole<S: Input, D: Input, Q: Input, W: Output, M: Output>(
     ensures unasked { result ≡ 1 → IsUnchanged Q.handed Q.faults Q.ends requests.old requests.new }
     ensures unasked_memory { result ≡ 6 → IsUnchanged Q.handed Q.faults Q.ends requests.old requests.new }
 
-    // Reading requests failed in the call; and where it did, and the output did not, only a bad line goes before that.
+    // Reading requests failed in the call; and where it did, and the output did not, only a bad line takes precedence over that.
     ensures read_fault { result ≡ 4 → Q.faults requests.old < Q.faults requests.new }
     ensures no_fault { result ≡ 0 → Q.faults requests.new ≤ Q.faults requests.old }
+
+    // Each input is only read on, and nothing is asked of it after an end or a fault.
+    ensures source_read_on { IsReadOn S.handed S.faults S.ends source.old source.new }
+    ensures disks_read_on { IsReadOnIf D.handed D.faults D.ends disks.old disks.new }
+    ensures requests_read_on { IsReadOn Q.handed Q.faults Q.ends requests.old requests.new }
 
     // What was told and written only grows. The output is flushed once, at the end; not at all where the load was refused.
     ensures tells { M.written messages.new ≡ M.written messages.old ++ since (M.written messages.old) (M.written messages.new) }
@@ -125,95 +131,91 @@ pub fn map_whole<S: Input, D: Input, Q: Input, W: Output, M: Output>(
     ensures refused { result ≡ 1 → W.flushes output.new ≡ W.flushes output.old }
     ensures unloaded { result ≡ 6 → W.flushes output.new ≡ W.flushes output.old }
     ensures once { W.flushes output.new ≤ W.flushes output.old + 1 }
+    ensures unflushed { M.flushes messages.new ≡ M.flushes messages.old }
+
+    // Nothing is tried again after a write that failed.
+    ensures grows { W.faults output.old ≤ W.faults output.new }
+    ensures fails_once { W.faults output.new ≤ W.faults output.old + 1 }
 
     // The figures of the limits.
     ensures limits { (MOST_PART_BYTES ≡ 1048576) × (MOST_LINE_BYTES ≡ 4096) × (MOST_REQUESTS ≡ 1000000000000)
         × (MOST_DEVICES ≡ 1024) × (MOST_DISKS ≡ 1024) × (MOST_LINES ≡ 65536) × (MOST_DEPTH ≡ 32) × (MOST_LENGTH ≡ 2 ^ 50)
         × (MOST_STRIPES ≡ 128) × (MOST_CHUNK + 1 ≡ 2 ^ 32) }
 {
-    let fate = match format {
-        Format::Table => load_and_run(alloc, status, source, disks, requests, output, messages),
-    };
-    status_of(fate)
+    exit_status(load_and_run(
+        alloc, format, status, source, disks, requests, output, messages,
+    ))
 }
 
 /// Loads a stack and answers its requests.
 fn load_and_run<S: Input, D: Input, Q: Input, W: Output, M: Output>(
     alloc: Global,
+    format: Format,
     status: bool,
     source: &mut S,
     disks: &mut Option<D>,
     requests: &mut Q,
     output: &mut W,
     messages: &mut M,
-) -> Fate
+) -> Exit
     requires unflagged { status ≡ false }
-    requires disks { IsSome disks.old }
-    ensures fated { IsFated
+    requires disks { is_some disks.old ≡ has_disk_list format }
+    ensures exit { IsExitOf format
         (delivery S.handed S.faults S.ends source.old source.new)
         (delivery_if D.handed D.faults D.ends disks.old disks.new)
         (delivery Q.handed Q.faults Q.ends requests.old requests.new)
-        (since (W.written output.old) (W.written output.new)) result }
-    ensures told { IsTold (fate_message result) (since (M.written messages.old) (M.written messages.new)) (M.faults messages.old) (M.faults messages.new) }
-    ensures tells { M.written messages.new ≡ M.written messages.old ++ since (M.written messages.old) (M.written messages.new) }
-    ensures appends { W.written output.new ≡ W.written output.old ++ since (W.written output.old) (W.written output.new) }
-    ensures write_fault { W.faults output.old < W.faults output.new ↔ (fate_status result ≡ 5) }
-    ensures read_fault { fate_status result ≡ 4 → Q.faults requests.old < Q.faults requests.new }
-    ensures no_fault { fate_status result ≡ 0 → Q.faults requests.new ≤ Q.faults requests.old }
-    ensures unasked { OnRefused result (IsUnchanged Q.handed Q.faults Q.ends requests.old requests.new) }
-    ensures flushes { IsFlushed result (W.waiting output.new) (W.flushes output.old) (W.flushes output.new) }
+        (since (W.written output.old) (W.written output.new)) (W.flushes output.old) (W.flushes output.new) result }
+    ensures source { IsReadOn S.handed S.faults S.ends source.old source.new }
+    ensures disks { IsReadOnIf D.handed D.faults D.ends disks.old disks.new }
+    ensures requests { RequestsRead Q.handed Q.faults Q.ends result requests.old requests.new }
+    ensures output { OutputWritten W.written W.waiting W.faults W.flushes result output.old output.new }
+    ensures messages { MessageWritten M.written M.faults M.flushes (exit_message result) messages.old messages.new }
 {
-    match load(alloc, source, disks) {
-        Ok(stack) => serve(alloc, status, &stack, requests, output, messages),
+    match load(alloc, format, source, disks) {
+        Ok(stack) => map_requests(alloc, status, &stack, requests, output, messages),
         Err(fault) => refuse(fault, messages),
     }
 }
 
-/// Answers the requests through a stack, for which the last memory is taken here.
-fn serve<Q: Input, W: Output, M: Output>(
+/// Maps the requests through a stack, for which the last memory is taken here.
+fn map_requests<Q: Input, W: Output, M: Output>(
     alloc: Global,
     status: bool,
     stack: &Stack,
     requests: &mut Q,
     output: &mut W,
     messages: &mut M,
-) -> Fate
+) -> Exit
     requires unflagged { status ≡ false }
-    ensures served { IsRun stack.now (delivery Q.handed Q.faults Q.ends requests.old requests.new)
-        (since (W.written output.old) (W.written output.new)) result }
-    ensures told { IsTold (fate_message result) (since (M.written messages.old) (M.written messages.new)) (M.faults messages.old) (M.faults messages.new) }
-    ensures tells { M.written messages.new ≡ M.written messages.old ++ since (M.written messages.old) (M.written messages.new) }
-    ensures appends { W.written output.new ≡ W.written output.old ++ since (W.written output.old) (W.written output.new) }
-    ensures write_fault { W.faults output.old < W.faults output.new ↔ (fate_status result ≡ 5) }
-    ensures read_fault { fate_status result ≡ 4 → Q.faults requests.old < Q.faults requests.new }
-    ensures no_fault { fate_status result ≡ 0 → Q.faults requests.new ≤ Q.faults requests.old }
-    ensures unasked { OnRefused result (IsUnchanged Q.handed Q.faults Q.ends requests.old requests.new) }
-    ensures flushes { IsFlushed result (W.waiting output.new) (W.flushes output.old) (W.flushes output.new) }
+    ensures exit { IsRun stack.now (delivery Q.handed Q.faults Q.ends requests.old requests.new)
+        (since (W.written output.old) (W.written output.new)) (W.flushes output.old) (W.flushes output.new) result }
+    ensures requests { RequestsRead Q.handed Q.faults Q.ends result requests.old requests.new }
+    ensures output { OutputWritten W.written W.waiting W.faults W.flushes result output.old output.new }
+    ensures messages { MessageWritten M.written M.faults M.flushes (exit_message result) messages.old messages.new }
 {
     match Mapper::new(alloc, stack.looker()) {
-        Ok(mut mapper) => { Fate::Ran(run(stack, &mut mapper, requests, output, messages, status)) }
+        Ok(mut mapper) => { Exit::Ran(run(stack, &mut mapper, requests, output, messages, status)) }
         Err(_) => refuse(LoadFault::memory(Part::Source), messages),
     }
 }
 
 /// Tells why a load was refused.
-fn refuse<M: Output>(fault: LoadFault, messages: &mut M) -> Fate
-    ensures fate { result ≡ Fate.Refused fault }
-    ensures told { IsTold (load_message fault) (since (M.written messages.old) (M.written messages.new)) (M.faults messages.old) (M.faults messages.new) }
-    ensures tells { M.written messages.new ≡ M.written messages.old ++ since (M.written messages.old) (M.written messages.new) }
+fn refuse<M: Output>(fault: LoadFault, messages: &mut M) -> Exit
+    ensures exit { result ≡ Exit.Refused fault }
+    ensures messages { MessageWritten M.written M.faults M.flushes (load_message fault) messages.old messages.new }
 {
-    tell(messages, load_message(fault).as_slice());
-    Fate::Refused(fault)
+    tell(messages, fault.message().as_slice());
+    Exit::Refused(fault)
 }
 
-fn status_of(fate: Fate) -> u8
-    ensures { result ≡ fate_status fate }
+fn exit_status(exit: Exit) -> u8
+    ensures { result ≡ exit_status exit }
 {
-    match fate {
-        Fate::Refused(fault) => { if fault.kind == LoadKind::Memory { 6 } else { 1 } }
-        Fate::Ran(Ending::Done) => 0,
-        Fate::Ran(Ending::BadRequest(_, _)) => 3,
-        Fate::Ran(Ending::ReadFault) => 4,
-        Fate::Ran(Ending::WriteFault) => 5,
+    match exit {
+        Exit::Refused(fault) => { if fault.kind == LoadKind::Memory { 6 } else { 1 } }
+        Exit::Ran(Ending::Done) => 0,
+        Exit::Ran(Ending::BadRequest(_, _)) => 3,
+        Exit::Ran(Ending::ReadFault) => 4,
+        Exit::Ran(Ending::WriteFault) => 5,
     }
 }

@@ -16,6 +16,7 @@ mod fault_texts;
 mod faults;
 mod intervals;
 mod large_parts;
+mod part_files;
 mod parts;
 mod refused_loads;
 mod rows;

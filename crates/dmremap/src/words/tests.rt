@@ -29,6 +29,24 @@ fn a_hyphen_behind_dashes_is_a_file(rt: HostRuntime) {
 }
 
 #[test]
+fn texts_of_faults(rt: HostRuntime) {
+    let alloc = rt.alloc();
+    for (fault, text, status) in [
+        (WordsFault::Disks, "dmremap: words: disks", 2),
+        (WordsFault::Memory, "dmremap: memory", 6),
+        (
+            not_text(alloc),
+            "error: invalid UTF-8 was detected in one or more arguments",
+            2,
+        ),
+    ] {
+        let written = format!(in alloc; "{fault}").expect(&rt, text);
+        assert!(&rt; written.starts_with(text), "{written}");
+        assert_eq!(&rt; fault.status(), status, "{text}");
+    }
+}
+
+#[test]
 fn disks_are_asked_for(rt: HostRuntime) {
     let words = ["dmremap", "map", "table", "a.table"];
     let (status, text) = refusal(&rt, rt.alloc(), words.as_slice());

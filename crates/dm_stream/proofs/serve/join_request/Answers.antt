@@ -5,7 +5,7 @@ use Rattle.dm_map.specs.Mapping.{request_units}
 use Rattle.dm_stream.specs.Holding.{held_units}
 use Rattle.dm_stream.specs.Pieces.{fewest}
 use Rattle.dm_stream.specs.PieceText.{pieces_text}
-use Rattle.dm_stream.specs.WriteAll.{IsBeginning}
+use Rattle.dm_table.specs.WriteAll.{IsCutShort}
 use Rattle.dm_stream.proofs.RequestServed.{all_written, last_cut, cut_short, on_ok, on_error, on_sink}
 use Rattle.dm_stream.proofs.serve.join_request.Goals as goal
 
@@ -31,9 +31,9 @@ returns-in-Ok-clause-err g c =
     let new = c.request.new.sink in
     let w2 = written c.finish.new.self.writer.now in
     let units = λ (s : Description). request_units s request.op c.args.device request.start request.len in
-    on_error c.finish.result (IsBeginning (pieces_text new.held.stack new.held.number (fewest (held_units new.held.piece))) (since (written new.writer.now) w2)) _
-    (λ wrote. subst (λ (s : Description). IsBeginning (pieces_text stack request.number (fewest (units s))) (since (written c.args.join.now.writer.now) w2)) c.requires.stack
-    (subst (λ w. IsBeginning (pieces_text stack request.number (fewest (units c.args.mapper.now.stack))) (since (written w) w2)) c.begin.ensures.writer
+    on_error c.finish.result (IsCutShort (pieces_text new.held.stack new.held.number (fewest (held_units new.held.piece))) (since (written new.writer.now) w2)) _
+    (λ wrote. subst (λ (s : Description). IsCutShort (pieces_text stack request.number (fewest (units s))) (since (written c.args.join.now.writer.now) w2)) c.requires.stack
+    (subst (λ w. IsCutShort (pieces_text stack request.number (fewest (units c.args.mapper.now.stack))) (since (written w) w2)) c.begin.ensures.writer
     (last_cut stack request.number c.begin.new.self.held new.held (units c.args.mapper.now.stack) (written c.begin.new.self.writer.now) (written new.writer.now) w2 c.begin.ensures.number c.in-Ok.ensures.took.0 c.finish.ensures.appends wrote)))
     c.finish.ensures.err
 
@@ -45,6 +45,6 @@ returns-in-Err-Sink-clause-err g c =
     let new = c.request.new.sink in
     let units = λ (s : Description). request_units s request.op c.args.device request.start request.len in
     let left = on_sink c.request.result c.in-Err-Sink.fault _ (c.in-Err-Sink.is ∙ ap Err c.in-Err-Sink.field-0-is) c.request.ensures.left in
-    subst (λ (s : Description). IsBeginning (pieces_text stack request.number (fewest (units s))) (since (written c.args.join.now.writer.now) (written new.writer.now))) c.requires.stack
-    (subst (λ w. IsBeginning (pieces_text stack request.number (fewest (units c.args.mapper.now.stack))) (since (written w) (written new.writer.now))) c.begin.ensures.writer
+    subst (λ (s : Description). IsCutShort (pieces_text stack request.number (fewest (units s))) (since (written c.args.join.now.writer.now) (written new.writer.now))) c.requires.stack
+    (subst (λ w. IsCutShort (pieces_text stack request.number (fewest (units c.args.mapper.now.stack))) (since (written w) (written new.writer.now))) c.begin.ensures.writer
     (cut_short stack request.number c.begin.new.self.held new.held left.front left.rest (units c.args.mapper.now.stack) (written c.begin.new.self.writer.now) (written new.writer.now) c.begin.ensures.number left.whole left.holds.0))

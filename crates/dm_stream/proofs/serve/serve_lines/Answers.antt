@@ -2,12 +2,12 @@ use Rattle.std.proofs.Common.{◌+◌, ◌++◌, ◌∙◌, ap, refl, subst, Ok,
 use Rattle.dm_table.specs.DeviceIo.{since}
 use Rattle.dm_stack.specs.Description.{Description}
 use Rattle.dm_stream.specs.Outcome.{line_outcome}
-use Rattle.dm_stream.specs.Run.{IsLineServed}
+use Rattle.dm_stream.specs.Run.{IsLineWritten}
 use Rattle.dm_stream.specs.Lines.{ALine, AnEnd, AnUnended, ALong, AFault, left_of, answer_of}
 use Rattle.dm_stream.specs.declared.lines.Next as next
 use Rattle.dm_stream.specs.declared.ending.Ending as ending
 use Rattle.dm_stream.specs.declared.ending.RequestWord as word
-use Rattle.dm_stream.proofs.Growth.{grows_more}
+use Rattle.dm_table.proofs.Growth.{grows_more}
 use Rattle.dm_stream.proofs.Turns.{told_turn, served_more, at_quiet_end}
 use Rattle.dm_stream.proofs.serve.serve_lines.Goals as goal
 
@@ -39,7 +39,7 @@ lines-preserved g c =
       told =
           told_turn c.args.stack.now h0 h1 h2 w0 w1 w2 c.lines.lines c.next.follows.lender-at-none c.in-Line.line.now (c.lines.number + 1) _ so_far.told
           so_far.reads c.in-Line.ensures.bytes so_far.appends c.in_default.ensures.appends
-          c.in-Line.ensures.answer (subst (λ (s : Description). IsLineServed (line_outcome s (c.lines.number + 1) c.in-Line.line.now) (since w1 w2) (Ok tt)) so_far.devices c.in_default.ensures.served)
+          c.in-Line.ensures.answer (subst (λ (s : Description). IsLineWritten (line_outcome s (c.lines.number + 1) c.in-Line.line.now) (since w1 w2) (Ok tt)) so_far.devices c.in_default.ensures.served)
           (c.next.follows.holds-at-none ∙ ap (λ (r : next.Next). left_of (answer_of r) (c.lines.lines ++ since h1 h2)) c.in-Line.is);
     }
 
@@ -55,7 +55,7 @@ returns-in-Err-clause-served g c =
     let w1 = written c.lines.join.writer.now in
     let w2 = written c.serve_line.new.join.writer.now in
     served_more c.args.stack.now (input.handed first) (input.handed mid) (input.handed last) w0 w1 w2 c.lines.lines (input.faults first) (input.faults mid) (input.faults last) (input.ends first) (input.ends mid) (input.ends last) (c.lines.number + 1) (ALine c.in-Line.line.now) c.in-Err.ending
-    so_far.told so_far.reads c.in-Line.ensures.bytes so_far.appends c.in-Err.ensures.appends so_far.read_faults so_far.ends c.in-Line.ensures.answer (subst (λ (s : Description). IsLineServed (line_outcome s (c.lines.number + 1) c.in-Line.line.now) (since w1 w2) (Err c.in-Err.ending)) so_far.devices c.in-Err.ensures.served)
+    so_far.told so_far.reads c.in-Line.ensures.bytes so_far.appends c.in-Err.ensures.appends so_far.read_faults so_far.ends c.in-Line.ensures.answer (subst (λ (s : Description). IsLineWritten (line_outcome s (c.lines.number + 1) c.in-Line.line.now) (since w1 w2) (Err c.in-Err.ending)) so_far.devices c.in-Err.ensures.served)
 
 pub returns-in-End-clause-served : goal.returns-in-End-clause-served
 returns-in-End-clause-served g c =

@@ -11,16 +11,16 @@ use std::io::{self, Error, ErrorKind, Read, Write};
 
 /// What a call of a fake returns: a count of bytes, or a fault.
 #[derive(Clone, Copy)]
-enum Step {
+pub(super) enum Step {
     Moves(usize),
     Fails,
 }
 
 /// A reader or a writer that does what its script says, and then moves nothing.
 #[derive(Drop)]
-struct Fake<'a> {
-    script: &'a [Step],
-    calls: &'a Cell<usize>,
+pub(super) struct Fake<'a> {
+    pub(super) script: &'a [Step],
+    pub(super) calls: &'a Cell<usize>,
 }
 
 impl<'a> Fake<'a> {

@@ -9,30 +9,53 @@ use std::test::Fail;
 #[test]
 fn kinds_of_loads(rt: HostRuntime) -> Result<(), Fail> {
     let alloc = rt.alloc();
-    for (kind, text) in [
-        (LoadKind::Read, "read"),
-        (LoadKind::Long, "long"),
-        (LoadKind::NotText, "text"),
-        (LoadKind::Syntax, "syntax"),
-        (LoadKind::Field, "field"),
-        (LoadKind::Name, "name"),
-        (LoadKind::Twice, "twice"),
-        (LoadKind::Empty, "empty"),
-        (LoadKind::Gap, "gap"),
-        (LoadKind::Overlap, "overlap"),
-        (LoadKind::Unknown, "unknown"),
-        (LoadKind::Cycle, "cycle"),
-        (LoadKind::Deep, "deep"),
-        (LoadKind::Range, "range"),
-        (LoadKind::Stripe, "stripe"),
-        (LoadKind::Snapshot, "snapshot"),
-        (LoadKind::Store, "store"),
-        (LoadKind::Extents, "extents"),
-        (LoadKind::Limit, "limit"),
-        (LoadKind::Memory, "memory"),
+    // A kind, its own text, and the message of a load that it refuses.
+    for (kind, text, message) in [
+        (LoadKind::Read, "read", "dmremap: disks: read\n"),
+        (LoadKind::Long, "long", "dmremap: disks: long\n"),
+        (LoadKind::NotText, "text", "dmremap: disks: text at 7\n"),
+        (LoadKind::Syntax, "syntax", "dmremap: disks: syntax at 7\n"),
+        (LoadKind::Field, "field", "dmremap: disks: field at 7\n"),
+        (LoadKind::Name, "name", "dmremap: disks: name at 7\n"),
+        (LoadKind::Twice, "twice", "dmremap: disks: twice at 7\n"),
+        (LoadKind::Empty, "empty", "dmremap: disks: empty at 7\n"),
+        (LoadKind::Gap, "gap", "dmremap: disks: gap at 7\n"),
+        (
+            LoadKind::Overlap,
+            "overlap",
+            "dmremap: disks: overlap at 7\n",
+        ),
+        (
+            LoadKind::Unknown,
+            "unknown",
+            "dmremap: disks: unknown at 7\n",
+        ),
+        (LoadKind::Cycle, "cycle", "dmremap: disks: cycle at 7\n"),
+        (LoadKind::Deep, "deep", "dmremap: disks: deep at 7\n"),
+        (LoadKind::Range, "range", "dmremap: disks: range at 7\n"),
+        (LoadKind::Stripe, "stripe", "dmremap: disks: stripe at 7\n"),
+        (
+            LoadKind::Snapshot,
+            "snapshot",
+            "dmremap: disks: snapshot at 7\n",
+        ),
+        (LoadKind::Store, "store", "dmremap: disks: store at 7\n"),
+        (
+            LoadKind::Extents,
+            "extents",
+            "dmremap: disks: extents at 7\n",
+        ),
+        (LoadKind::Limit, "limit", "dmremap: disks: limit at 7\n"),
+        (LoadKind::Memory, "memory", "dmremap: memory\n"),
     ] {
         let written = format!(in alloc; "{kind}")?;
         assert_eq!(rt; written.as_str(), text);
+        let at = Place {
+            part: Part::Disks,
+            number: 7,
+        };
+        let fault = LoadFault { kind, at };
+        assert_eq!(rt; fault.message().as_slice(), message.as_bytes(), "{kind}");
     }
     Ok(())
 }

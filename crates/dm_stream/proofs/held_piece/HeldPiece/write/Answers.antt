@@ -3,7 +3,7 @@ use Rattle.dm_table.specs.DeviceIo.{since}
 use Rattle.dm_stream.specs.Holding.{Holding, held_units}
 use Rattle.dm_stream.specs.Pieces.{fewest}
 use Rattle.dm_stream.specs.PieceText.{pieces_text}
-use Rattle.dm_stream.specs.WriteAll.{IsBeginning}
+use Rattle.dm_table.specs.WriteAll.{IsCutShort}
 use Rattle.dm_stream.proofs.JoinLemmas.{held_line}
 use Rattle.dm_stream.proofs.held_piece.HeldPiece.write.Given as given
 use Rattle.dm_stream.proofs.held_piece.HeldPiece.write.Goals as goal
@@ -24,4 +24,4 @@ returns-clause-ok g c =
 pub returns-clause-err : goal.returns-clause-err
 returns-clause-err g c =
     let wrote = since (g.W.Output.written c.args.writer.now) (g.W.Output.written c.write_all.new.writer) in
-    subst (λ (text : List ℕ). OnErr c.write_all.result (IsBeginning text wrote)) (line_is g c) c.write_all.ensures.err
+    subst (λ (text : List ℕ). OnErr c.write_all.result (IsCutShort text wrote)) (line_is g c) c.write_all.ensures.left

@@ -1,5 +1,5 @@
 use Rattle.std.proofs.Common.{◌-◌, ◌∙◌}
-use Rattle.dm_stream.proofs.Growth.{quiet_since, on_err}
+use Rattle.dm_table.proofs.Growth.{quiet_since, on_err}
 use Rattle.dm_stream.proofs.Held.{same_range, none_behind, refilled}
 use Rattle.dm_stream.proofs.lines.Lines.fill.Goals as goal
 

@@ -1,0 +1,43 @@
+//! Files of a load that are missing, end or fail, and how often each is asked.
+
+use super::counted::{Fake, Step};
+use crate::part_file::PartFile;
+use dm_table::{Counted, LoadKind, Part, read_part};
+use std::cell::Cell;
+use std::fs::File;
+
+#[test]
+fn a_file_that_cannot_be_read(rt: HostRuntime) {
+    for path in ["/no/such/file", "/"] {
+        let mut input = Counted::new(PartFile::new(File::open(&rt, path)));
+        let fault = read_part(rt.alloc(), Part::Source, &mut input)
+            .err()
+            .expect(&rt, path);
+        assert_eq!(&rt; fault.kind, LoadKind::Read, "{path}");
+    }
+}
+
+#[test]
+fn nothing_is_asked_after_an_end_or_a_fault(rt: HostRuntime) {
+    // What each read of a file gives, what reading the part gives, and after how many reads.
+    for (script, bytes, reads) in [
+        ([Step::Moves(0), Step::Moves(4), Step::Fails], Some(0), 1),
+        ([Step::Moves(4), Step::Moves(0), Step::Moves(4)], Some(4), 2),
+        ([Step::Moves(4), Step::Moves(1), Step::Moves(0)], Some(5), 3),
+        ([Step::Fails, Step::Moves(4), Step::Moves(0)], None, 1),
+        ([Step::Moves(4), Step::Fails, Step::Moves(0)], None, 2),
+    ] {
+        let calls = Cell::new(0);
+        let file = Fake {
+            script: &script,
+            calls: &calls,
+        };
+        let mut input = Counted::new(PartFile::new(Ok(file)));
+        let text = read_part(rt.alloc(), Part::Source, &mut input).ok();
+        assert!(rt;
+            text.map(|text| text.len()) == bytes,
+            "bytes after {reads} reads"
+        );
+        assert_eq!(rt; calls.get(), reads, "reads");
+    }
+}
