@@ -3,6 +3,9 @@ pub mod Name
 pub mod Fields
 pub mod LoadFault
 pub mod DiskList
+pub mod RowFaults
+pub mod LineBody
+pub mod LineReading
 pub mod TableText
 pub mod TableReading
 pub mod RequestLine
