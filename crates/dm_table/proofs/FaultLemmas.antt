@@ -1,8 +1,10 @@
 -- Checks that find something, and checks that find nothing.
-use Rattle.std.proofs.Common.{◌≡◌, ℕ, suc, Bool, true, false, cond, List, [], ◌∷◌, ◌++◌, map, Option, Some, None, Ok, Err, refl, ap, ◌∙◌}
+use Rattle.std.proofs.Common.{◌≡◌, ◌≢◌, inl, inr, ℕ, suc, Bool, true, false, cond, List, [], ◌∷◌, ◌++◌, map, Option, Some, None, Ok, Err, refl, ap, ◌∙◌}
 use Rattle.std.specs.List.{AllByRecursion}
+use Rattle.std.proofs.lemmas.Bool.{cases_Bool}
 use Rattle.dm_table.specs.declared.place.Part.{Part}
 use Rattle.dm_table.specs.declared.load_fault.LoadKind.{LoadKind}
+use Rattle.dm_table.specs.declared.load_fault.LoadKind.TheVariants.{Memory}
 use Rattle.dm_table.specs.declared.load_fault.LoadFault.{LoadFault}
 use Rattle.dm_table.specs.LoadFault.{Answers, fault_at, first_or, first_fault, faults_from, unless, unended}
 
@@ -95,3 +97,30 @@ pub unless-passed : {Y W : Type 0} (faults : List LoadFault) (later : Option Loa
 unless-passed faults later y taken w h =
     let a = unless-ok (first_or faults None) y taken h in
     (a.1, rw (first_or-passed faults later a.0) refl)
+
+-- Which kinds are found
+
+-- a fault that is not of memory
+abbrev pub IsOfText : LoadFault → Type 0
+IsOfText fault = fault.kind ≢ Memory
+
+pub faults_from-text : {X : Type 0} (part : Part) (kind : LoadKind) (bad : X → Bool) (n : ℕ) (xs : List X) → kind ≢ Memory → AllByRecursion IsOfText (faults_from part kind bad n xs)
+faults_from-text part kind bad n [] h = tt
+faults_from-text part kind bad n (x ∷ xs) h = elim (cases_Bool (bad x)) [
+  | inl e ↦ rw e (h, faults_from-text part kind bad (suc n) xs h)
+  | inr e ↦ rw e (faults_from-text part kind bad (suc n) xs h)
+]
+
+pub text-append : (a b : List LoadFault) → AllByRecursion IsOfText a → AllByRecursion IsOfText b → AllByRecursion IsOfText (a ++ b)
+text-append [] b h k = k
+text-append (fault ∷ a) b h k = (h.0, text-append a b h.1 k)
+
+pub unended-text : (part : Part) (n : ℕ) (rest : List ℕ) → AllByRecursion IsOfText (unended part n rest)
+unended-text part n [] = tt
+unended-text part n (byte ∷ bytes) = (λ e. cc, tt)
+
+-- the first fault of checks that find none of memory is none of memory
+pub first_fault-text : (checks : List (List LoadFault)) (fault : LoadFault) → AllByRecursion (AllByRecursion IsOfText) checks → first_fault checks ≡ Some fault → fault.kind ≢ Memory
+first_fault-text [] fault h e = absurd cc
+first_fault-text ([] ∷ checks) fault h e = first_fault-text checks fault h.1 e
+first_fault-text ((other ∷ faults) ∷ checks) fault h e = let same : other ≡ fault = cc in rw (← same) h.0.0

@@ -5,6 +5,9 @@ pub mod Fields
 pub mod LoadFault
 pub mod LoadMessage
 pub mod DiskList
+pub mod RowFaults
+pub mod LineBody
+pub mod LineReading
 pub mod TableText
 pub mod TableReading
 pub mod RequestLine
