@@ -1,14 +1,17 @@
 -- The steps of sectors in a row, and what a sink took and left of their units.
 use Rattle.std.proofs.Common.{◌≡◌, ℕ, zero, suc, ◌+◌, ◌-◌, ◌<◌, List, [], ◌∷◌, ◌++◌, append_assoc, refl, sym, ap, subst, ◌∙◌, arith}
 use Rattle.std.proofs.lemmas.List.{append-nil}
+use Rattle.std.specs.Result.{IsErr}
 use Rattle.std.specs.Prelude.{nat_lt, true, ◌≤◌, replicate, Result, Ok, Err, OnOk, OnErr}
 use Rattle.dm_table.specs.declared.request.Op.{Op}
+use Rattle.dm_table.specs.DeviceIo.{fault_of}
 use Rattle.dm_stack.specs.Description.{Description, device_len}
 use Rattle.dm_map.specs.Units.{BlockUnit, Fails, next_unit, units_in}
 use Rattle.dm_map.specs.Sink.{OfBeginning}
 use Rattle.dm_map.specs.State.{State}
 use Rattle.dm_map.specs.Steps.{Step, keep, and_then, steps}
 use Rattle.dm_map.specs.Mapping.{request_step}
+use Rattle.dm_map.specs.Walk.{Walking, IsWalked}
 
 -- what holds, holds where there is a fault
 pub on_err : {T E : Type 0} (r : Result T E) (P : Type 0) → P → OnErr r P
@@ -20,27 +23,39 @@ on_err_then (Ok x) P Q f p = tt
 on_err_then (Err e) P Q f p = f p
 
 -- what holds, holds where there is none
-pub on_ok : {T E : Type 0} (r : Result T E) (P : Type 0) → P → OnOk r P
+on_ok : {T E : Type 0} (r : Result T E) (P : Type 0) → P → OnOk r P
 on_ok (Ok x) P p = p
 on_ok (Err e) P p = tt
 
--- what a sink took or left, and the state after it, where a step is written in another way
-pub took_as : {T E S : Type 0} (r : Result T E) (took : S → List BlockUnit → S → Type 0) (old new : S) (step other : Step) → step ≡ other → OnOk r (took old step.units new) → OnOk r (took old other.units new)
-took_as r took old new step other same held = subst (λ (x : Step). OnOk r (took old x.units new)) same held
+on_ok_then : {T E : Type 0} (r : Result T E) (P Q : Type 0) → (P → Q) → OnOk r P → OnOk r Q
+on_ok_then (Ok x) P Q f p = f p
+on_ok_then (Err e) P Q f p = tt
 
-pub left_as : {T E S : Type 0} (r : Result T E) (left : S → List BlockUnit → S → Type 0) (old new : S) (step other : Step) → step ≡ other → OnErr r (OfBeginning left old step.units new) → OnErr r (OfBeginning left old other.units new)
-left_as r left old new step other same held = subst (λ (x : Step). OnErr r (OfBeginning left old x.units new)) same held
+-- a walk whose step is said in another way
+pub walked_as : {S F : Type 0} (took left : S → List BlockUnit → S → Type 0) (stack : S → Description) (room faults : S → ℕ) (result : Result (Unit {0}) F) (old new : S) (before after : Walking) (step other : Step) (len : ℕ) → step ≡ other
+    → IsWalked took left stack room faults result old new before after step len → IsWalked took left stack room faults result old new before after other len
+walked_as took left stack room faults result old new before after step other len same walked = subst (λ (x : Step). IsWalked took left stack room faults result old new before after x len) same walked
 
-pub state_as : {T E : Type 0} (r : Result T E) (new : State) (step other : Step) → step ≡ other → OnOk r (new ≡ step.state) → OnOk r (new ≡ other.state)
-state_as r new step other same held = subst (λ (x : Step). OnOk r (new ≡ x.state)) same held
+-- one piece as a walk
+pub walked_piece : {S F : Type 0} (took left : S → List BlockUnit → S → Type 0) (stack : S → Description) (room faults : S → ℕ) (result : Result (Unit {0}) F) (old new : S) (walk : Walking) (units : List BlockUnit) (step : Step) (diskless len : ℕ)
+    → keep units walk.state ≡ step → diskless ≤ len → OnOk result (took old units new) → OnErr result (left old units new) → faults new ≡ faults old + fault_of result → OnOk result (stack new ≡ stack old) → OnOk result (room old ≤ room new + diskless)
+    → IsWalked took left stack room faults result old new walk walk step len
+walked_piece took left stack room faults result old new walk units step diskless len same few took_is left_is faults_is kept_is room_is =
+    walked_as took left stack room faults result old new walk walk (keep units walk.state) step len same (record {
+      took = took_is;
+      state = on_ok result (walk.state ≡ walk.state) refl;
+      kept = kept_is;
+      room = on_ok_then result (room old ≤ room new + diskless) (room old ≤ room new + len) (λ low. omega (arith, low, few)) room_is;
+      left = on_err_then result (left old units new) (OfBeginning left old units new) (λ failed. record { front = units; rest = []; whole = append-nil units; holds = failed }) left_is;
+      faults = faults_is;
+      stack = refl;
+    })
 
-pub state_of : {step other : Step} → step ≡ other → step.state ≡ other.state
-state_of same = ap (λ (x : Step). x.state) same
-
--- a sink that failed at all of some units was cut short at them
-pub cut_as : {T E S : Type 0} (r : Result T E) (left : S → List BlockUnit → S → Type 0) (old new : S) (step other : Step) → step ≡ other → OnErr r (left old step.units new) → OnErr r (OfBeginning left old other.units new)
-cut_as r left old new step other same held =
-    on_err_then r (left old step.units new) (OfBeginning left old other.units new) (λ failed. record { front = step.units; rest = []; whole = append-nil step.units ∙ ap (λ (x : Step). x.units) same; holds = failed }) held
+-- a walk that the sink cut short
+pub walked_cut : {S F : Type 0} (took left : S → List BlockUnit → S → Type 0) (stack : S → Description) (room faults : S → ℕ) (result : Result (Unit {0}) F) (old new : S) (before after : Walking) (step : Step) (len : ℕ)
+    → IsErr result → OfBeginning left old step.units new → faults new ≡ faults old + 1 → after.stack ≡ before.stack → IsWalked took left stack room faults result old new before after step len
+walked_cut took left stack room faults (Ok done) old new before after step len is_err cut one same = absurd cc
+walked_cut took left stack room faults (Err fault) old new before after step len is_err cut one same = record { took = tt; state = tt; kept = tt; room = tt; left = cut; faults = one; stack = same }
 
 -- a piece of errors
 pub units_in_fails : (len : ℕ) → units_in Fails len ≡ replicate len Fails

@@ -2,6 +2,7 @@
 use Rattle.std.specs.Prelude.{Bool, Result, Ok, Err}
 use Rattle.dm_stack.specs.Description.{Description}
 use Rattle.dm_map.specs.State.{State}
+use Rattle.dm_map.specs.Walk.{Walking}
 use Rattle.dm_map.specs.declared.mapper.MapFault.{MapFault}
 use Rattle.dm_map.specs.declared.mapper.MapFault.TheVariants as faults
 
@@ -10,6 +11,10 @@ pub record Mapping : Type 0 where
   pub stack : Description
   pub state : State
   pub stopped : Bool
+
+-- the walk that a mapper makes
+abbrev pub walking_of : Mapping → Walking
+walking_of mapper = record { stack = mapper.stack; state = mapper.state }
 
 -- where the result is that the sink failed, or that the mapper is stopped
 abbrev pub OnSinkFault : {F : Type 0} → Result (Unit {0}) (MapFault F) → Type 0 → Type 0

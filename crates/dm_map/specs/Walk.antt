@@ -1,13 +1,15 @@
 -- What a walk down a stack hands over: the steps of ranges and of lines, and places in stripes.
-use Rattle.std.specs.Prelude.{ℕ, ◌≡◌, ◌+◌, ◌*◌, ◌/◌, ◌%◌, ◌^◌, ◌≤◌, Bool, false, List, [], ◌∷◌}
+use Rattle.std.specs.Prelude.{ℕ, ◌≡◌, ◌+◌, ◌*◌, ◌/◌, ◌%◌, ◌^◌, ◌≤◌, Bool, false, List, [], ◌∷◌, Result, OnOk, OnErr}
 use Rattle.dm_table.specs.declared.request.Op.{Op}
 use Rattle.dm_table.specs.declared.request.Op.TheVariants as ops
+use Rattle.dm_table.specs.DeviceIo.{fault_of}
 use Rattle.dm_stack.specs.declared.id.Lower.{Lower}
 use Rattle.dm_stack.specs.declared.found.FoundColumn.{FoundColumn}
 use Rattle.dm_stack.specs.declared.found.FoundTarget.{FoundTarget}
 use Rattle.dm_stack.specs.Description.{Description, is_ro_at}
 use Rattle.dm_stack.specs.Below.{Below, below_stripes, below_target, column_of, AreStripes}
 use Rattle.dm_map.specs.declared.stripe.ChunkPlace.{ChunkPlace}
+use Rattle.dm_map.specs.Sink.{OfBeginning}
 use Rattle.dm_map.specs.Snapshots.{read_over}
 use Rattle.dm_map.specs.State.{State, taken_at}
 use Rattle.dm_map.specs.Steps.{Step, keep, steps}
@@ -55,6 +57,21 @@ stripes_step stack op levels chunk columns state distance len =
 abbrev pub refuses : Description → Op → ℕ → Bool
 refuses stack ops.Read device = false
 refuses stack ops.Write device = is_ro_at stack device
+
+-- a sink is ready for len sectors of a stack: it is one of this stack, with room for them
+pub record IsReady {S : Type 0} (stack_of : S → Description) (room_of : S → ℕ) (sink : S) (of : Description) (len : ℕ) : Type 0 where
+  pub stack : stack_of sink ≡ of
+  pub room : len ≤ room_of sink
+
+-- a sink took the units of a step of len sectors, and the walk is in the state after it; or the sink failed at a beginning of them
+pub record IsWalked {S F : Type 0} (takes leaves : S → List BlockUnit → S → Type 0) (stack_of : S → Description) (room_of faults_of : S → ℕ) (result : Result (Unit {0}) F) (old new : S) (before after : Walking) (step : Step) (len : ℕ) : Type 0 where
+  pub took : OnOk result (takes old step.units new)
+  pub state : OnOk result (after.state ≡ step.state)
+  pub kept : OnOk result (stack_of new ≡ stack_of old)
+  pub room : OnOk result (room_of old ≤ room_of new + len)
+  pub left : OnErr result (OfBeginning leaves old step.units new)
+  pub faults : faults_of new ≡ faults_of old + fault_of result
+  pub stack : after.stack ≡ before.stack
 
 -- the place in stripes of a sector at a distance from the line's start
 pub record IsPlace (chunk count distance : ℕ) (place : ChunkPlace) : Type 0 where

@@ -4,16 +4,15 @@
 //! `specs/Mapping.antt` defines what becomes of a sector, `walk` cuts a range into pieces, and
 //! `walker` keeps what one request leaves for the next.
 
-ghost use Rattle.std.specs.Prelude.{◌≡◌, ℕ, ◌+◌, ◌^◌, ◌<◌, ◌≤◌, ◌∷◌, false, true, length, nat_lt, IfOk, OnOk, OnErr, []};
+ghost use Rattle.std.specs.Prelude.{◌≡◌, ℕ, ◌+◌, ◌^◌, ◌<◌, ◌≤◌, ◌∷◌, false, true, length, nat_lt, IfOk, OnOk, []};
 ghost use Rattle.dm_stack.specs.Description.{Description, device_len};
-ghost use Rattle.dm_table.specs.DeviceIo.{fault_of};
 ghost use Rattle.dm_stack.specs.declared.graph.TheConstants.{MOST_DEPTH};
 ghost use Rattle.dm_stack.specs.declared.id.Lower.TheVariants.{Device};
 ghost use Rattle.dm_map.specs.Mapping.{request_step};
-ghost use Rattle.dm_map.specs.Mapper.{OnSinkFault, OnStopped};
+ghost use Rattle.dm_map.specs.Mapper.{OnSinkFault, OnStopped, walking_of};
 ghost use Rattle.dm_map.specs.Sink.{OfBeginning};
 ghost use Rattle.dm_map.specs.State.{start_state};
-ghost use Rattle.dm_map.specs.Walk.{range_step};
+ghost use Rattle.dm_map.specs.Walk.{range_step, IsReady, IsWalked};
 
 use crate::piece::Piece;
 use crate::sink::Sink;
@@ -122,15 +121,9 @@ impl<'s> Mapper<'s> {
         sink: &mut S,
     ) -> Result<(), S::Fault>
         requires device { device < length self.old.stack.devices }
-        requires stack { S.stack sink.old ≡ self.old.stack }
-        requires room { request.now.len ≤ S.room sink.old }
-        ensures stack { self.new.stack ≡ self.old.stack }
+        requires sink { IsReady S.stack S.room sink.old self.old.stack request.now.len }
+        ensures walked { IsWalked S.took S.left S.stack S.room S.faults result sink.old sink.new (walking_of self.old) (walking_of self.new) (request_step self.old.stack request.now.op device request.now.start request.now.len self.old.state) request.now.len }
         ensures stopped { self.new.stopped ≡ self.old.stopped }
-        ensures took { OnOk result (S.took sink.old (request_step self.old.stack request.now.op device request.now.start request.now.len self.old.state).units sink.new) }
-        ensures state { OnOk result (self.new.state ≡ (request_step self.old.stack request.now.op device request.now.start request.now.len self.old.state).state) }
-        ensures kept { OnOk result (S.stack sink.new ≡ S.stack sink.old) }
-        ensures left { OnErr result (OfBeginning S.left sink.old (request_step self.old.stack request.now.op device request.now.start request.now.len self.old.state).units sink.new) }
-        ensures faults { S.faults sink.new ≡ S.faults sink.old + fault_of result }
     {
         let end = self.walker.len(device);
         if passes_end(request, end) {
@@ -147,15 +140,9 @@ impl<'s> Mapper<'s> {
         sink: &mut S,
     ) -> Result<(), S::Fault>
         requires inside { request.now.start + request.now.len ≤ device_len self.old.stack device }
-        requires stack { S.stack sink.old ≡ self.old.stack }
-        requires room { request.now.len ≤ S.room sink.old }
-        ensures stack { self.new.stack ≡ self.old.stack }
+        requires sink { IsReady S.stack S.room sink.old self.old.stack request.now.len }
+        ensures walked { IsWalked S.took S.left S.stack S.room S.faults result sink.old sink.new (walking_of self.old) (walking_of self.new) (range_step self.old.stack request.now.op MOST_DEPTH (Device device) self.old.state request.now.start request.now.len) request.now.len }
         ensures stopped { self.new.stopped ≡ self.old.stopped }
-        ensures took { OnOk result (S.took sink.old (range_step self.old.stack request.now.op MOST_DEPTH (Device device) self.old.state request.now.start request.now.len).units sink.new) }
-        ensures state { OnOk result (self.new.state ≡ (range_step self.old.stack request.now.op MOST_DEPTH (Device device) self.old.state request.now.start request.now.len).state) }
-        ensures kept { OnOk result (S.stack sink.new ≡ S.stack sink.old) }
-        ensures left { OnErr result (OfBeginning S.left sink.old (range_step self.old.stack request.now.op MOST_DEPTH (Device device) self.old.state request.now.start request.now.len).units sink.new) }
-        ensures faults { S.faults sink.new ≡ S.faults sink.old + fault_of result }
     {
         let lower = Lower::Device(device);
         map_range(

@@ -5,14 +5,12 @@
 //! a loop of its own where it cuts, and an arm of `below_target`; one with a state is an arm of
 //! `write_target` as well. Each function says which units it hands over and which state it leaves.
 
-ghost use Rattle.std.specs.Prelude.{◌≡◌, ℕ, ◌+◌, ◌-◌, ◌<◌, ◌≤◌, ◌^◌, length, min, OnOk, OnErr};
-ghost use Rattle.dm_table.specs.DeviceIo.{fault_of};
+ghost use Rattle.std.specs.Prelude.{◌≡◌, ℕ, ◌+◌, ◌-◌, ◌<◌, ◌≤◌, ◌^◌, length, min};
 ghost use Rattle.dm_stack.specs.Below.{IsTargetSound};
 ghost use Rattle.dm_stack.specs.Description.{Description, device_len, lower_len};
 ghost use Rattle.dm_stack.specs.declared.id.Lower.TheVariants.{Device};
-ghost use Rattle.dm_map.specs.Sink.{OfBeginning};
 ghost use Rattle.dm_map.specs.Units.{diskless_len, piece_len, units_in, units_of, IsOnDisk, IsOnDisks};
-ghost use Rattle.dm_map.specs.Walk.{disk_unit, zero_unit, refuses, range_step, line_step, stripes_step, AreInStripes};
+ghost use Rattle.dm_map.specs.Walk.{disk_unit, zero_unit, refuses, range_step, line_step, stripes_step, AreInStripes, IsReady, IsWalked};
 
 use crate::piece::Piece;
 use crate::sink::Sink;
@@ -40,15 +38,8 @@ pub(crate) fn map_range<S: Sink>(
 ) -> Result<(), S::Fault>
     requires some { 1 ≤ len }
     requires inside { sector + len ≤ lower_len walker.old.stack lower }
-    requires stack { S.stack sink.old ≡ walker.old.stack }
-    requires room { len ≤ S.room sink.old }
-    ensures took { OnOk result (S.took sink.old (range_step walker.old.stack op levels lower walker.old.state sector len).units sink.new) }
-    ensures state { OnOk result (walker.new.state ≡ (range_step walker.old.stack op levels lower walker.old.state sector len).state) }
-    ensures kept { OnOk result (S.stack sink.new ≡ S.stack sink.old) }
-    ensures room { OnOk result (S.room sink.old ≤ S.room sink.new + len) }
-    ensures left { OnErr result (OfBeginning S.left sink.old (range_step walker.old.stack op levels lower walker.old.state sector len).units sink.new) }
-    ensures faults { S.faults sink.new ≡ S.faults sink.old + fault_of result }
-    ensures stack { walker.new.stack ≡ walker.old.stack }
+    requires sink { IsReady S.stack S.room sink.old walker.old.stack len }
+    ensures { IsWalked S.took S.left S.stack S.room S.faults result sink.old sink.new walker.old walker.new (range_step walker.old.stack op levels lower walker.old.state sector len) len }
 {
     match lower {
         Lower::Disk(disk) => sink.piece(disk_piece(op, disk, sector, len)),
@@ -70,15 +61,8 @@ fn map_device<S: Sink>(
 ) -> Result<(), S::Fault>
     requires some { 1 ≤ len }
     requires inside { sector + len ≤ device_len walker.old.stack device }
-    requires stack { S.stack sink.old ≡ walker.old.stack }
-    requires room { len ≤ S.room sink.old }
-    ensures took { OnOk result (S.took sink.old (range_step walker.old.stack op levels (Device device) walker.old.state sector len).units sink.new) }
-    ensures state { OnOk result (walker.new.state ≡ (range_step walker.old.stack op levels (Device device) walker.old.state sector len).state) }
-    ensures kept { OnOk result (S.stack sink.new ≡ S.stack sink.old) }
-    ensures room { OnOk result (S.room sink.old ≤ S.room sink.new + len) }
-    ensures left { OnErr result (OfBeginning S.left sink.old (range_step walker.old.stack op levels (Device device) walker.old.state sector len).units sink.new) }
-    ensures faults { S.faults sink.new ≡ S.faults sink.old + fault_of result }
-    ensures stack { walker.new.stack ≡ walker.old.stack }
+    requires sink { IsReady S.stack S.room sink.old walker.old.stack len }
+    ensures { IsWalked S.took S.left S.stack S.room S.faults result sink.old sink.new walker.old walker.new (range_step walker.old.stack op levels (Device device) walker.old.state sector len) len }
 {
     if levels == 0 || refuses(walker, op, device) {
         return sink.piece(Piece::Error { len });
@@ -112,15 +96,8 @@ fn map_line<S: Sink>(
     requires inside { distance + len ≤ line.now.len }
     requires small { line.now.len ≤ 2 ^ 50 }
     requires sound { IsTargetSound walker.old.stack line.now.len line.now.target }
-    requires stack { S.stack sink.old ≡ walker.old.stack }
-    requires room { len ≤ S.room sink.old }
-    ensures took { (device : ℕ) → OnOk result (S.took sink.old (line_step walker.old.stack op levels device line.now.target walker.old.state distance len).units sink.new) }
-    ensures state { (device : ℕ) → OnOk result (walker.new.state ≡ (line_step walker.old.stack op levels device line.now.target walker.old.state distance len).state) }
-    ensures kept { OnOk result (S.stack sink.new ≡ S.stack sink.old) }
-    ensures room { OnOk result (S.room sink.old ≤ S.room sink.new + len) }
-    ensures left { (device : ℕ) → OnErr result (OfBeginning S.left sink.old (line_step walker.old.stack op levels device line.now.target walker.old.state distance len).units sink.new) }
-    ensures faults { S.faults sink.new ≡ S.faults sink.old + fault_of result }
-    ensures stack { walker.new.stack ≡ walker.old.stack }
+    requires sink { IsReady S.stack S.room sink.old walker.old.stack len }
+    ensures { (device : ℕ) → IsWalked S.took S.left S.stack S.room S.faults result sink.old sink.new walker.old walker.new (line_step walker.old.stack op levels device line.now.target walker.old.state distance len) len }
 {
     match &line.target {
         FoundTarget::Linear { to, offset } => {
@@ -150,15 +127,8 @@ fn map_stripes<S: Sink>(
 ) -> Result<(), S::Fault>
     requires some { 1 ≤ len }
     requires inside { AreInStripes walker.old.stack chunk columns.now distance len }
-    requires stack { S.stack sink.old ≡ walker.old.stack }
-    requires room { len ≤ S.room sink.old }
-    ensures took { OnOk result (S.took sink.old (stripes_step walker.old.stack op levels chunk columns.now walker.old.state distance len).units sink.new) }
-    ensures state { OnOk result (walker.new.state ≡ (stripes_step walker.old.stack op levels chunk columns.now walker.old.state distance len).state) }
-    ensures kept { OnOk result (S.stack sink.new ≡ S.stack sink.old) }
-    ensures room { OnOk result (S.room sink.old ≤ S.room sink.new + len) }
-    ensures left { OnErr result (OfBeginning S.left sink.old (stripes_step walker.old.stack op levels chunk columns.now walker.old.state distance len).units sink.new) }
-    ensures faults { S.faults sink.new ≡ S.faults sink.old + fault_of result }
-    ensures stack { walker.new.stack ≡ walker.old.stack }
+    requires sink { IsReady S.stack S.room sink.old walker.old.stack len }
+    ensures { IsWalked S.took S.left S.stack S.room S.faults result sink.old sink.new walker.old walker.new (stripes_step walker.old.stack op levels chunk columns.now walker.old.state distance len) len }
 {
     let mut place = place_at(chunk, columns.len() as u64, distance);
     let mut left = len;
