@@ -5,7 +5,7 @@ pub mod Held
 pub mod JoinLemmas
 pub mod LastDigit
 pub mod LineParts
-pub mod LineServed
 pub mod PieceLemmas
-pub mod RequestServed
+pub mod RequestMapped
+pub mod Runs
 pub mod Turns

@@ -10,15 +10,8 @@ use Rattle.dm_stream.specs.Holding.{Holding, held_units}
 use Rattle.dm_stream.specs.Join.{HasUnits, HasTaken, HasLeft}
 use Rattle.dm_stream.specs.Pieces.{Piece, all_but_last, fewest, joins, onto}
 use Rattle.dm_stream.specs.PieceText.{piece_text, pieces_text}
+use Rattle.dm_stream.specs.ProgressLaws.{grows-same, since-same}
 use Rattle.dm_table.specs.WriteAll.{IsBeginning}
-
--- nothing was put behind a list by no step
-pub since-same : (xs : List ℕ) → since xs xs ≡ []
-since-same [] = refl
-since-same (x ∷ xs) = since-same xs
-
-pub grows-same : (xs : List ℕ) → xs ≡ xs ++ since xs xs
-grows-same xs = sym (append-nil xs) ∙ ap (λ (ys : List ℕ). xs ++ ys) (sym (since-same xs))
 
 -- the first of the fewest pieces begins with the first unit
 pub record BeginsWith (unit : BlockUnit) (pieces : List Piece) : Type 0 where
@@ -71,7 +64,7 @@ took_none held w = record {
   settled = [];
   told = λ rest. ap (λ (us : List BlockUnit). fewest (us ++ rest)) (append-nil (held_units held.piece));
   wrote = since-same w;
-  appends = grows-same w;
+  appends = grows-same w w;
   stack = refl;
   number = refl;
 }

@@ -4,10 +4,16 @@ pub mod Join
 pub mod JoinLaws
 pub mod LastDevice
 pub mod Lines
+pub mod Mapped
+pub mod MappedLaws
 pub mod Messages
 pub mod NumberedLine
 pub mod Outcome
 pub mod PieceText
 pub mod Pieces
+pub mod Progress
+pub mod ProgressLaws
+pub mod Requests
 pub mod Run
+pub mod State
 pub mod Tail

@@ -10,6 +10,7 @@ ghost use Rattle.dm_table.specs.DeviceIo.{fault_of, since};
 ghost use Rattle.dm_map.specs.Units.{BlockUnit, IsOnDisks, diskless_len, first_unit, piece_len, units_of};
 ghost use Rattle.dm_stream.specs.Holding.{Fits, IsHeld, held_diskless, held_units};
 ghost use Rattle.dm_stream.specs.Pieces.{fewest, is_after};
+ghost use Rattle.dm_stream.specs.Progress.{HasWritten};
 ghost use Rattle.dm_stream.specs.PieceText.{pieces_text};
 ghost use Rattle.dm_table.specs.WriteAll.{IsCutShort};
 
@@ -96,10 +97,7 @@ impl<'s> HeldPiece<'s> {
             ≡ pieces_text self.old.stack self.old.number (fewest (held_units self.old.piece))) }
         ensures err { OnErr result (IsCutShort (pieces_text self.old.stack self.old.number (fewest (held_units self.old.piece)))
             (since (W.written writer.old) (W.written writer.new))) }
-        ensures appends { W.written writer.new
-            ≡ W.written writer.old ++ since (W.written writer.old) (W.written writer.new) }
-        ensures faults { W.faults writer.new ≡ W.faults writer.old + fault_of result }
-        ensures flushes { W.flushes writer.new ≡ W.flushes writer.old }
+        ensures moved { HasWritten W.written W.waiting W.faults W.flushes writer.old writer.new (fault_of result) }
         ensures nothing { self.new ≡ record { stack = self.old.stack; number = self.old.number; piece = None } }
     {
         let Some(piece) = &self.piece else {

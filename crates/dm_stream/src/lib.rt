@@ -7,23 +7,28 @@
 
 mod ending;
 mod front;
+mod handler;
 mod held_piece;
 mod join;
 mod last_device;
 mod line_buffer;
 mod lines;
+mod map_run;
 mod message;
 mod numbered_line;
 mod piece_text;
 mod put_before;
-mod serve;
+mod request_mapper;
+mod requests;
 mod tail;
 
 pub use ending::{Ending, RequestWord};
+pub use handler::Handler;
 pub use join::Join;
 pub use lines::{Lines, MOST_LINE_BYTES, Next};
+pub use map_run::run;
 pub use message::tell;
-pub use serve::{MOST_REQUESTS, run};
+pub use requests::{MOST_REQUESTS, handle_requests};
 
 // For the program's own messages, which are put together as those of a run are.
 pub use dm_table::{put, put_number};

@@ -1,11 +1,10 @@
--- What is written for a request: its units were taken, or a part of them was left.
-use Rattle.std.proofs.Common.{◌≡◌, ◌<◌, ℕ, Bool, ◌++◌, length, List, [], ◌∷◌, Option, None, Some, Result, Ok, Err, OnOk, OnErr, sym, ap, refl, ◌∙◌, append_assoc, subst, decimal}
+-- What is written for a request: its units were taken, or a part of them was left; and what it adds to the outcome.
+use Rattle.std.proofs.Common.{◌≡◌, ◌<◌, ℕ, Bool, false, ◌++◌, length, List, [], ◌∷◌, Option, None, Some, Result, Ok, Err, OnOk, OnErr, sym, ap, refl, ◌∙◌, append_assoc, subst, decimal}
 use Rattle.std.specs.List.{position}
 use Rattle.std.proofs.lemmas.Grind.{flat_map-append}
 use Rattle.std.proofs.lemmas.List.{append-nil}
 use Rattle.std.proofs.lemmas.List.Quantifiers.{position-Some}
 use Rattle.dm_table.specs.DeviceIo.{since}
-use Rattle.dm_table.specs.RequestLine.{RequestValues}
 use Rattle.dm_stack.specs.Description.{Description}
 use Rattle.dm_map.specs.Mapper.{OnSinkFault}
 use Rattle.dm_map.specs.Units.{BlockUnit}
@@ -14,7 +13,15 @@ use Rattle.dm_map.specs.declared.mapper.MapFault.TheVariants as faults
 use Rattle.dm_stream.specs.Holding.{Holding, held_units}
 use Rattle.dm_stream.specs.Join.{HasTaken, HasLeft, HasUnits}
 use Rattle.dm_stream.specs.JoinLaws.{onto_begins, some_before}
-use Rattle.dm_stream.specs.Outcome.{Outcome, after_text, of_device, request_answer}
+use Rattle.dm_map.specs.Mapper.{Mapping}
+use Rattle.dm_stream.specs.Mapped.{HasAnswered, HasStopped}
+use Rattle.dm_stream.specs.Outcome.{after_text, device_of, of_device, outcome_from, request_answer, step_of}
+use Rattle.dm_stream.specs.ProgressLaws.{since-same}
+use Rattle.dm_stream.specs.Requests.{NumberedRequest}
+use Rattle.dm_stream.specs.State.{State, state_of}
+use Rattle.dm_stream.specs.declared.ending.Ending as ending
+use Rattle.dm_stream.specs.declared.ending.NotMapped.TheVariants as causes
+use Rattle.dm_stream.specs.declared.ending.RequestWord as word
 use Rattle.dm_stream.specs.Pieces.{Piece, fewest, all_but_last}
 use Rattle.dm_stream.specs.PieceText.{piece_text, pieces_text, unit_text}
 use Rattle.dm_table.specs.WriteAll.{IsBeginning, IsCutShort}
@@ -132,13 +139,30 @@ pub in_range : {X : Type 0} (p : X → Bool) (xs : List X) (i : ℕ) → positio
 in_range p [] i e = absurd cc
 in_range p (x ∷ xs) i e = (position-Some p (x ∷ xs) i x e).0
 
--- what is served of a request to a device that there is
-pub served_whole : (stack : Description) (number device : ℕ) (found : Option ℕ) (values : RequestValues) (written : List ℕ) (rest : Outcome) → found ≡ Some device → written ≡ request_answer stack number device values
-    → of_device stack number found values rest ≡ after_text written rest
-served_whole stack number device found values written rest is wrote =
-    ap (λ (f : Option ℕ). of_device stack number f values rest) is ∙ ap (λ (text : List ℕ). after_text text rest) (sym wrote)
+-- a request of a device that there is, all of whose answer was written
+pub request_answered : (stack : Description) (device : ℕ) (request : NumberedRequest) (found : Option ℕ) (old new : State) (w0 w1 : List ℕ) → device_of stack request.values.device ≡ found → found ≡ Some device
+    → since w0 w1 ≡ request_answer stack device request old → new ≡ (step_of stack device request old).state → HasAnswered stack old new (request ∷ []) w0 w1
+request_answered stack device request found old new w0 w1 by_name is wrote left = record {
+  told = λ rest e.
+      ap (λ (f : Option ℕ). of_device stack f request old (λ after. outcome_from stack after rest e)) (by_name ∙ is)
+      ∙ ap (λ (text : List ℕ). after_text text (outcome_from stack (step_of stack device request old).state rest e)) (sym wrote)
+      ∙ ap (λ (state : State). after_text (since w0 w1) (outcome_from stack state rest e)) (sym left);
+}
 
-pub served_cut : (stack : Description) (number device : ℕ) (found : Option ℕ) (values : RequestValues) (written : List ℕ) (rest : Outcome) → found ≡ Some device → IsCutShort (request_answer stack number device values) written
-    → IsCutShort (of_device stack number found values rest).output written
-served_cut stack number device found values written rest is cut =
-    subst (λ (f : Option ℕ). IsCutShort (of_device stack number f values rest).output written) (sym is) (cut_of_more (request_answer stack number device values) written rest.output cut)
+-- one whose answer was cut short
+pub request_cut : (stack : Description) (device : ℕ) (request : NumberedRequest) (found : Option ℕ) (old : State) (new : Mapping) (w0 w1 : List ℕ) → device_of stack request.values.device ≡ found → found ≡ Some device
+    → IsCutShort (request_answer stack device request old) (since w0 w1) → HasStopped stack causes.Output old new (request ∷ []) w0 w1
+request_cut stack device request found old new w0 w1 by_name is cut = λ rest e.
+    subst (λ (f : Option ℕ). IsCutShort (of_device stack f request old (λ after. outcome_from stack after rest e)).output (since w0 w1)) (sym (by_name ∙ is))
+    (cut_of_more (request_answer stack device request old) (since w0 w1) _ cut)
+
+-- one of a device that there is not
+pub request_unknown : (stack : Description) (request : NumberedRequest) (found : Option ℕ) (old : State) (new : Mapping) (w : List ℕ) → device_of stack request.values.device ≡ found → found ≡ None
+    → new.stopped ≡ false → state_of new ≡ old → HasStopped stack (causes.Unknown request.number) old new (request ∷ []) w w
+request_unknown stack request found old new w by_name is going same = (
+  going,
+  λ rest e.
+      ap (λ (f : Option ℕ). of_device stack f request old (λ after. outcome_from stack after rest e)) (by_name ∙ is)
+      ∙ ap (λ (state : State). record { output = []; state = state; ending = Some (ending.TheVariants.BadRequest request.number word.TheVariants.Unknown) }) (sym same)
+      ∙ ap (λ (text : List ℕ). record { output = text; state = state_of new; ending = Some (ending.TheVariants.BadRequest request.number word.TheVariants.Unknown) }) (sym (since-same w)),
+)
