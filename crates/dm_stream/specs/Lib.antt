@@ -1,14 +1,15 @@
-pub mod Found
-pub mod Holding
 pub mod Join
 pub mod JoinLaws
+pub mod KeptRange
 pub mod LastDevice
 pub mod Lines
 pub mod Mapped
 pub mod MappedLaws
 pub mod Messages
+pub mod NextHeld
 pub mod NumberedLine
 pub mod Outcome
+pub mod Pending
 pub mod PieceText
 pub mod Pieces
 pub mod Progress
@@ -16,4 +17,3 @@ pub mod ProgressLaws
 pub mod Requests
 pub mod Run
 pub mod State
-pub mod Tail

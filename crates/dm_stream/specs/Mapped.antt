@@ -5,7 +5,7 @@ use Rattle.dm_table.specs.WriteAll.{IsCutShort}
 use Rattle.dm_stack.specs.Description.{Description}
 use Rattle.dm_map.specs.Mapper.{Mapping}
 use Rattle.dm_stream.specs.State.{State, state_of}
-use Rattle.dm_stream.specs.Holding.{Holding}
+use Rattle.dm_stream.specs.Pending.{Pending}
 use Rattle.dm_stream.specs.Outcome.{after_text, outcome_from}
 use Rattle.dm_stream.specs.Requests.{NumberedRequest}
 use Rattle.dm_stream.specs.declared.ending.Ending as ending
@@ -14,7 +14,7 @@ use Rattle.dm_stream.specs.declared.ending.NotMapped.TheVariants as causes
 use Rattle.dm_stream.specs.declared.ending.RequestWord as word
 
 -- the mapper and the join are of this stack, and a request can come: the mapper is not stopped, and nothing is held
-pub record IsReady (stack : Description) (mapper : Mapping) (held : Holding) : Type 0 where
+pub record IsReady (stack : Description) (mapper : Mapping) (held : Pending) : Type 0 where
   pub mapped : mapper.stack ≡ stack
   pub going : mapper.stopped ≡ false
   pub joined : held.stack ≡ stack

@@ -1,7 +1,7 @@
 use Rattle.std.proofs.Common.{◌≡◌, ◌∙◌, ap, subst, Err}
 use Rattle.dm_table.specs.DeviceIo.{since}
 use Rattle.dm_stack.specs.Description.{Description}
-use Rattle.dm_stream.specs.Holding.{held_units}
+use Rattle.dm_stream.specs.Pending.{held_units}
 use Rattle.dm_stream.specs.Outcome.{step_of}
 use Rattle.dm_stream.specs.Requests.{numbered}
 use Rattle.dm_stream.specs.State.{state_of}
