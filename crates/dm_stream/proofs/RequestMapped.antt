@@ -18,7 +18,7 @@ use Rattle.dm_stream.specs.Mapped.{HasAnswered, HasStopped}
 use Rattle.dm_stream.specs.Outcome.{after_text, device_of, of_device, outcome_from, request_answer, step_of}
 use Rattle.dm_stream.specs.ProgressLaws.{since-same}
 use Rattle.dm_stream.specs.Requests.{NumberedRequest}
-use Rattle.dm_stream.specs.State.{State, state_of}
+use Rattle.dm_map.specs.State.{State}
 use Rattle.dm_stream.specs.declared.ending.Ending as ending
 use Rattle.dm_stream.specs.declared.ending.NotMapped.TheVariants as causes
 use Rattle.dm_stream.specs.declared.ending.RequestWord as word
@@ -158,11 +158,11 @@ request_cut stack device request found old new w0 w1 by_name is cut = λ rest e.
 
 -- one of a device that there is not
 pub request_unknown : (stack : Description) (request : NumberedRequest) (found : Option ℕ) (old : State) (new : Mapping) (w : List ℕ) → device_of stack request.values.device ≡ found → found ≡ None
-    → new.stopped ≡ false → state_of new ≡ old → HasStopped stack (causes.Unknown request.number) old new (request ∷ []) w w
+    → new.stopped ≡ false → new.state ≡ old → HasStopped stack (causes.Unknown request.number) old new (request ∷ []) w w
 request_unknown stack request found old new w by_name is going same = (
   going,
   λ rest e.
       ap (λ (f : Option ℕ). of_device stack f request old (λ after. outcome_from stack after rest e)) (by_name ∙ is)
       ∙ ap (λ (state : State). record { output = []; state = state; ending = Some (ending.TheVariants.BadRequest request.number word.TheVariants.Unknown) }) (sym same)
-      ∙ ap (λ (text : List ℕ). record { output = text; state = state_of new; ending = Some (ending.TheVariants.BadRequest request.number word.TheVariants.Unknown) }) (sym (since-same w)),
+      ∙ ap (λ (text : List ℕ). record { output = text; state = new.state; ending = Some (ending.TheVariants.BadRequest request.number word.TheVariants.Unknown) }) (sym (since-same w)),
 )

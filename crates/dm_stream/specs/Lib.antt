@@ -16,4 +16,3 @@ pub mod Progress
 pub mod ProgressLaws
 pub mod Requests
 pub mod Run
-pub mod State

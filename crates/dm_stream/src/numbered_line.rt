@@ -8,9 +8,9 @@ ghost use Rattle.dm_map.specs.Units.{IsOnDisks};
 ghost use Rattle.dm_stream.specs.Pending.{piece_view};
 ghost use Rattle.dm_stream.specs.PieceText.{piece_text};
 
+use crate::kept_range::KeptRange;
 use crate::number_prefix::NumberPrefix;
 use crate::piece_text::put_piece;
-use crate::kept_range::KeptRange;
 use dm_map::Piece;
 use dm_stack::Stack;
 use std::marker::Model;

@@ -10,13 +10,18 @@ ghost use Rattle.dm_map.specs.Units.{IsOnDisks, first_unit, piece_len};
 ghost use Rattle.dm_stream.specs.PieceText.{place_text, unit_text};
 ghost use Rattle.dm_stream.specs.KeptRange.{IsKept};
 
-use crate::put_before::{put_before, put_number_before};
 use crate::kept_range::{KeptRange, set_range, without_range};
+use crate::put_before::{put_before, put_number_before};
 use dm_map::Piece;
 use dm_stack::{DiskId, Stack};
 
 /// Puts what a piece is and a newline at the end of a text, and answers where that begins.
-pub(crate) fn put_piece(text: &mut [u8], range: &mut KeptRange, stack: &Stack, piece: &Piece) -> usize
+pub(crate) fn put_piece(
+    text: &mut [u8],
+    range: &mut KeptRange,
+    stack: &Stack,
+    piece: &Piece,
+) -> usize
     requires room { 1024 ≤ length text.old }
     requires range { IsKept range.old text.old }
     requires lies { IsOnDisks stack.now piece.now }
