@@ -1,4 +1,3 @@
-pub mod Behind
 pub mod DeviceNames
 pub mod FewestLemmas
 pub mod Held
@@ -9,3 +8,4 @@ pub mod PieceLemmas
 pub mod RequestMapped
 pub mod Runs
 pub mod Turns
+pub mod Unchanged

@@ -10,7 +10,7 @@ use Rattle.dm_map.specs.Mapper.{OnSinkFault}
 use Rattle.dm_map.specs.Units.{BlockUnit}
 use Rattle.dm_map.specs.declared.mapper.MapFault.{MapFault}
 use Rattle.dm_map.specs.declared.mapper.MapFault.TheVariants as faults
-use Rattle.dm_stream.specs.Holding.{Holding, held_units}
+use Rattle.dm_stream.specs.Pending.{Pending, held_units}
 use Rattle.dm_stream.specs.Join.{HasTaken, HasLeft, HasUnits}
 use Rattle.dm_stream.specs.JoinLaws.{onto_begins, some_before}
 use Rattle.dm_map.specs.Mapper.{Mapping}
@@ -18,7 +18,7 @@ use Rattle.dm_stream.specs.Mapped.{HasAnswered, HasStopped}
 use Rattle.dm_stream.specs.Outcome.{after_text, device_of, of_device, outcome_from, request_answer, step_of}
 use Rattle.dm_stream.specs.ProgressLaws.{since-same}
 use Rattle.dm_stream.specs.Requests.{NumberedRequest}
-use Rattle.dm_stream.specs.State.{State, state_of}
+use Rattle.dm_map.specs.State.{State}
 use Rattle.dm_stream.specs.declared.ending.Ending as ending
 use Rattle.dm_stream.specs.declared.ending.NotMapped.TheVariants as causes
 use Rattle.dm_stream.specs.declared.ending.RequestWord as word
@@ -73,7 +73,7 @@ cut_through text front first h k =
     (some.0, some.1, h.2 ∙ ap (λ (xs : List ℕ). xs ++ h.0 ∷ h.1) k.1 ∙ append_assoc first k.0 (h.0 ∷ h.1) ∙ ap (λ (xs : List ℕ). first ++ xs) some.2)
 
 -- with nothing held before, the text of what was taken and then that of what is held is that of all
-pub taken_text : (old new : Holding) (units : List BlockUnit) (before after : List ℕ) → old.piece ≡ None → HasTaken old new units before after
+pub taken_text : (old new : Pending) (units : List BlockUnit) (before after : List ℕ) → old.piece ≡ None → HasTaken old new units before after
     → pieces_text old.stack old.number (fewest units) ≡ since before after ++ pieces_text old.stack old.number (fewest (held_units new.piece))
 taken_text old new units before after none taken =
     let text = pieces_text old.stack old.number in
@@ -84,7 +84,7 @@ taken_text old new units before after none taken =
     ∙ ap (λ (xs : List ℕ). xs ++ text (fewest (held_units new.piece))) (sym taken.wrote)
 
 -- with nothing held before, what was written of units that were left cuts the text of all short
-left_text : (old new : Holding) (front rest units : List BlockUnit) (before after : List ℕ) → old.piece ≡ None → front ++ rest ≡ units → HasLeft old new front before after
+left_text : (old new : Pending) (front rest units : List BlockUnit) (before after : List ℕ) → old.piece ≡ None → front ++ rest ≡ units → HasLeft old new front before after
     → IsCutShort (pieces_text old.stack old.number (fewest units)) (since before after)
 left_text old new front rest units before after none whole left =
     let all : held_units old.piece ++ front ++ rest ≡ units =
@@ -95,44 +95,44 @@ left_text old new front rest units before after none whole left =
     (subst (λ (us : List BlockUnit). IsBeginning (text us) (since before after)) all (left.beginning rest))
 
 -- a join that holds nothing, under a request's number
-abbrev pub at_start : Description → ℕ → Holding
+abbrev pub at_start : Description → ℕ → Pending
 at_start stack number = record { stack = stack; number = number; piece = None }
 
-same_text : (stack : Description) (number : ℕ) (old : Holding) (pieces : List Piece) → old ≡ at_start stack number → pieces_text old.stack old.number pieces ≡ pieces_text stack number pieces
-same_text stack number old pieces e = ap (λ (h : Holding). pieces_text h.stack h.number pieces) e
+same_text : (stack : Description) (number : ℕ) (old : Pending) (pieces : List Piece) → old ≡ at_start stack number → pieces_text old.stack old.number pieces ≡ pieces_text stack number pieces
+same_text stack number old pieces e = ap (λ (h : Pending). pieces_text h.stack h.number pieces) e
 
-text_kept : (old new : Holding) (pieces : List Piece) → new.stack ≡ old.stack → new.number ≡ old.number → pieces_text new.stack new.number pieces ≡ pieces_text old.stack old.number pieces
+text_kept : (old new : Pending) (pieces : List Piece) → new.stack ≡ old.stack → new.number ≡ old.number → pieces_text new.stack new.number pieces ≡ pieces_text old.stack old.number pieces
 text_kept old new pieces stack number =
     ap (λ (s : Description). pieces_text s new.number pieces) stack ∙ ap (λ (n : ℕ). pieces_text old.stack n pieces) number
 
 -- all units were taken, and what was held was written
-pub all_written : (stack : Description) (number : ℕ) (old new : Holding) (units : List BlockUnit) (w0 w1 w2 : List ℕ) → old ≡ at_start stack number → HasTaken old new units w0 w1
+pub all_written : (stack : Description) (number : ℕ) (old new : Pending) (units : List BlockUnit) (w0 w1 w2 : List ℕ) → old ≡ at_start stack number → HasTaken old new units w0 w1
     → w2 ≡ w1 ++ since w1 w2 → since w1 w2 ≡ pieces_text new.stack new.number (fewest (held_units new.piece)) → since w0 w2 ≡ pieces_text stack number (fewest units)
 all_written stack number old new units w0 w1 w2 start taken appends wrote =
     since_more w0 w1 w2 taken.appends appends
     ∙ ap (λ (xs : List ℕ). since w0 w1 ++ xs) (wrote ∙ text_kept old new (fewest (held_units new.piece)) taken.stack taken.number)
-    ∙ sym (taken_text old new units w0 w1 (ap (λ (h : Holding). h.piece) start) taken)
+    ∙ sym (taken_text old new units w0 w1 (ap (λ (h : Pending). h.piece) start) taken)
     ∙ same_text stack number old (fewest units) start
 
 -- all units were taken, and what was held was cut short
-pub last_cut : (stack : Description) (number : ℕ) (old new : Holding) (units : List BlockUnit) (w0 w1 w2 : List ℕ) → old ≡ at_start stack number → HasTaken old new units w0 w1
+pub last_cut : (stack : Description) (number : ℕ) (old new : Pending) (units : List BlockUnit) (w0 w1 w2 : List ℕ) → old ≡ at_start stack number → HasTaken old new units w0 w1
     → w2 ≡ w1 ++ since w1 w2 → IsCutShort (pieces_text new.stack new.number (fewest (held_units new.piece))) (since w1 w2) → IsCutShort (pieces_text stack number (fewest units)) (since w0 w2)
 last_cut stack number old new units w0 w1 w2 start taken appends wrote = (
   wrote.0,
   wrote.1,
   sym (same_text stack number old (fewest units) start)
-      ∙ taken_text old new units w0 w1 (ap (λ (h : Holding). h.piece) start) taken
+      ∙ taken_text old new units w0 w1 (ap (λ (h : Pending). h.piece) start) taken
       ∙ ap (λ (xs : List ℕ). since w0 w1 ++ xs) (sym (text_kept old new (fewest (held_units new.piece)) taken.stack taken.number) ∙ wrote.2)
       ∙ sym (append_assoc (since w0 w1) (since w1 w2) (wrote.0 ∷ wrote.1))
       ∙ ap (λ (xs : List ℕ). xs ++ wrote.0 ∷ wrote.1) (sym (since_more w0 w1 w2 taken.appends appends)),
 )
 
 -- the join failed at a piece
-pub cut_short : (stack : Description) (number : ℕ) (old new : Holding) (front rest units : List BlockUnit) (before after : List ℕ) → old ≡ at_start stack number → front ++ rest ≡ units → HasLeft old new front before after
+pub cut_short : (stack : Description) (number : ℕ) (old new : Pending) (front rest units : List BlockUnit) (before after : List ℕ) → old ≡ at_start stack number → front ++ rest ≡ units → HasLeft old new front before after
     → IsCutShort (pieces_text stack number (fewest units)) (since before after)
 cut_short stack number old new front rest units before after start whole left =
     subst (λ (text : List ℕ). IsCutShort text (since before after)) (same_text stack number old (fewest units) start)
-    (left_text old new front rest units before after (ap (λ (h : Holding). h.piece) start) whole left)
+    (left_text old new front rest units before after (ap (λ (h : Pending). h.piece) start) whole left)
 
 -- the id of a device that was found is in range
 pub in_range : {X : Type 0} (p : X → Bool) (xs : List X) (i : ℕ) → position p xs ≡ Some i → i < length xs
@@ -158,11 +158,11 @@ request_cut stack device request found old new w0 w1 by_name is cut = λ rest e.
 
 -- one of a device that there is not
 pub request_unknown : (stack : Description) (request : NumberedRequest) (found : Option ℕ) (old : State) (new : Mapping) (w : List ℕ) → device_of stack request.values.device ≡ found → found ≡ None
-    → new.stopped ≡ false → state_of new ≡ old → HasStopped stack (causes.Unknown request.number) old new (request ∷ []) w w
+    → new.stopped ≡ false → new.state ≡ old → HasStopped stack (causes.Unknown request.number) old new (request ∷ []) w w
 request_unknown stack request found old new w by_name is going same = (
   going,
   λ rest e.
       ap (λ (f : Option ℕ). of_device stack f request old (λ after. outcome_from stack after rest e)) (by_name ∙ is)
       ∙ ap (λ (state : State). record { output = []; state = state; ending = Some (ending.TheVariants.BadRequest request.number word.TheVariants.Unknown) }) (sym same)
-      ∙ ap (λ (text : List ℕ). record { output = text; state = state_of new; ending = Some (ending.TheVariants.BadRequest request.number word.TheVariants.Unknown) }) (sym (since-same w)),
+      ∙ ap (λ (text : List ℕ). record { output = text; state = new.state; ending = Some (ending.TheVariants.BadRequest request.number word.TheVariants.Unknown) }) (sym (since-same w)),
 )

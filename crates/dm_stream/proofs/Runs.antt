@@ -8,7 +8,7 @@ use Rattle.dm_stream.specs.Mapped.{HasAnswered, HasStopped}
 use Rattle.dm_stream.specs.Outcome.{Outcome, outcome_from, run_outcome}
 use Rattle.dm_stream.specs.Requests.{IsAmong, NumberedRequest, requests_of}
 use Rattle.dm_stream.specs.Run.{IsMapped, IsWritten, ending_for}
-use Rattle.dm_stream.specs.State.{State, state_of}
+use Rattle.dm_map.specs.State.{State}
 use Rattle.dm_stream.specs.declared.ending.Ending as ending
 use Rattle.dm_stream.specs.declared.ending.NotMapped.{NotMapped}
 use Rattle.dm_stream.specs.declared.ending.NotMapped.TheVariants as causes
@@ -37,7 +37,7 @@ all_mapped stack old new delivered w0 w1 e answered ends no_fault =
 
 -- the mapping stopped at one of them
 stopped_at : (stack : Description) (fault : NotMapped) (old : State) (new : Mapping) (first later : List NumberedRequest) (e : Option ending.Ending) (w0 w1 : List ℕ) → HasStopped stack fault old new first w0 w1
-    → IsMapped (outcome_from stack old (first ++ later) e) (since w0 w1) (state_of new) (ending_for fault)
+    → IsMapped (outcome_from stack old (first ++ later) e) (since w0 w1) new.state (ending_for fault)
 stopped_at stack (causes.Unknown number) old new first later e w0 w1 stopped =
     let whole = stopped.1 later e in
     record {
@@ -51,9 +51,9 @@ stopped_at stack causes.Output old new first later e w0 w1 stopped = record {
 
 pub part_mapped : (stack : Description) (fault : NotMapped) (e : ending.Ending) (old : State) (new : Mapping) (delivered : Delivery) (w0 w1 : List ℕ) (Stopped : List NumberedRequest → Type 0) → e ≡ ending_for fault
     → ((first : List NumberedRequest) → Stopped first → HasStopped stack fault old new first w0 w1) → IsAmong Stopped (requests_of delivered).all
-    → IsMapped (run_outcome stack old delivered) (since w0 w1) (state_of new) e
+    → IsMapped (run_outcome stack old delivered) (since w0 w1) new.state e
 part_mapped stack fault e old new delivered w0 w1 Stopped ends stopped among =
     let requests = requests_of delivered in
-    subst (λ (x : ending.Ending). IsMapped (run_outcome stack old delivered) (since w0 w1) (state_of new) x) (sym ends)
-    (subst (λ (rs : List NumberedRequest). IsMapped (outcome_from stack old rs requests.ending) (since w0 w1) (state_of new) (ending_for fault)) (sym among.is)
+    subst (λ (x : ending.Ending). IsMapped (run_outcome stack old delivered) (since w0 w1) new.state x) (sym ends)
+    (subst (λ (rs : List NumberedRequest). IsMapped (outcome_from stack old rs requests.ending) (since w0 w1) new.state (ending_for fault)) (sym among.is)
     (stopped_at stack fault old new among.first among.later requests.ending w0 w1 (stopped among.first among.holds)))

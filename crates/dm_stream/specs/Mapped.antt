@@ -4,8 +4,8 @@ use Rattle.dm_table.specs.DeviceIo.{since}
 use Rattle.dm_table.specs.WriteAll.{IsCutShort}
 use Rattle.dm_stack.specs.Description.{Description}
 use Rattle.dm_map.specs.Mapper.{Mapping}
-use Rattle.dm_stream.specs.State.{State, state_of}
-use Rattle.dm_stream.specs.Holding.{Holding}
+use Rattle.dm_map.specs.State.{State}
+use Rattle.dm_stream.specs.Pending.{Pending}
 use Rattle.dm_stream.specs.Outcome.{after_text, outcome_from}
 use Rattle.dm_stream.specs.Requests.{NumberedRequest}
 use Rattle.dm_stream.specs.declared.ending.Ending as ending
@@ -14,7 +14,7 @@ use Rattle.dm_stream.specs.declared.ending.NotMapped.TheVariants as causes
 use Rattle.dm_stream.specs.declared.ending.RequestWord as word
 
 -- the mapper and the join are of this stack, and a request can come: the mapper is not stopped, and nothing is held
-pub record IsReady (stack : Description) (mapper : Mapping) (held : Holding) : Type 0 where
+pub record IsReady (stack : Description) (mapper : Mapping) (held : Pending) : Type 0 where
   pub mapped : mapper.stack ≡ stack
   pub going : mapper.stopped ≡ false
   pub joined : held.stack ≡ stack
@@ -32,6 +32,6 @@ failed_writes causes.Output = 1
 -- why it stopped at the last of these requests: no device has the name, and the outcome ends here; or a write failed, and something is left to write
 abbrev pub HasStopped : Description → NotMapped → State → Mapping → List NumberedRequest → (before after : List ℕ) → Type 0
 HasStopped stack (causes.Unknown number) old new requests before after = (new.stopped ≡ false) × ((rest : List NumberedRequest) (e : Option ending.Ending) → outcome_from stack old (requests ++ rest) e
-    ≡ record { output = since before after; state = state_of new; ending = Some (ending.TheVariants.BadRequest number word.TheVariants.Unknown) })
+    ≡ record { output = since before after; state = new.state; ending = Some (ending.TheVariants.BadRequest number word.TheVariants.Unknown) })
 HasStopped stack causes.Output old new requests before after =
     (rest : List NumberedRequest) (e : Option ending.Ending) → IsCutShort (outcome_from stack old (requests ++ rest) e).output (since before after)

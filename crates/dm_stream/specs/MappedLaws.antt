@@ -4,7 +4,7 @@ use Rattle.dm_table.specs.DeviceIo.{since}
 use Rattle.dm_table.proofs.Growth.{since_more}
 use Rattle.dm_stack.specs.Description.{Description}
 use Rattle.dm_map.specs.Mapper.{Mapping}
-use Rattle.dm_stream.specs.State.{State, state_of}
+use Rattle.dm_map.specs.State.{State}
 use Rattle.dm_stream.specs.Mapped.{HasAnswered, HasStopped}
 use Rattle.dm_stream.specs.Outcome.{Outcome, after_text, outcome_from}
 use Rattle.dm_stream.specs.ProgressLaws.{since-same}
@@ -45,7 +45,7 @@ stopped_more stack (causes.Unknown number) a b c us vs w0 w1 w2 more again first
   second.0,
   λ rest e.
       first_answered stack a b us vs rest e w0 w1 first ∙ ap (after_text (since w0 w1)) (second.1 rest e)
-      ∙ ap (λ (text : List ℕ). record { output = text; state = state_of c; ending = Some (ending.TheVariants.BadRequest number word.TheVariants.Unknown) }) (sym (since_more w0 w1 w2 more again)),
+      ∙ ap (λ (text : List ℕ). record { output = text; state = c.state; ending = Some (ending.TheVariants.BadRequest number word.TheVariants.Unknown) }) (sym (since_more w0 w1 w2 more again)),
 )
 stopped_more stack causes.Output a b c us vs w0 w1 w2 more again first second = λ rest e.
     let cut = second rest e in (

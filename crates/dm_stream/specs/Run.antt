@@ -7,7 +7,7 @@ use Rattle.dm_stream.specs.declared.ending.NotMapped.{NotMapped}
 use Rattle.dm_stream.specs.declared.ending.NotMapped.TheVariants as causes
 use Rattle.dm_stream.specs.declared.ending.RequestWord as word
 use Rattle.dm_stream.specs.Outcome.{Outcome}
-use Rattle.dm_stream.specs.State.{State}
+use Rattle.dm_map.specs.State.{State}
 
 -- the outcome is what was written and how it ended; where a write failed, this holds of its output and what was written
 abbrev pub IsOutcome : (List ℕ → List ℕ → Type 0) → Outcome → List ℕ → ending.Ending → Type 0

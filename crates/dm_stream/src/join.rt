@@ -6,7 +6,7 @@
 ghost use Rattle.std.specs.Prelude.{◌≡◌, ◌+◌, ◌-◌, ◌++◌, ◌^◌, List, None, OnErr, OnOk};
 ghost use Rattle.dm_table.specs.DeviceIo.{since, fault_of};
 ghost use Rattle.dm_map.specs.Units.{BlockUnit};
-ghost use Rattle.dm_stream.specs.Holding.{held_diskless, held_units};
+ghost use Rattle.dm_stream.specs.Pending.{held_diskless, held_units};
 ghost use Rattle.dm_stream.specs.Join.{HasTaken, HasLeft};
 ghost use Rattle.dm_stream.specs.Pieces.{AreFewest, fewest};
 ghost use Rattle.dm_stream.specs.PieceText.{pieces_text};

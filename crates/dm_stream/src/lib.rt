@@ -6,21 +6,21 @@
 #![tactic(auto)]
 
 mod ending;
-mod front;
 mod handler;
 mod held_piece;
 mod join;
+mod kept_range;
 mod last_device;
 mod line_buffer;
 mod lines;
 mod map_run;
 mod message;
+mod number_prefix;
 mod numbered_line;
 mod piece_text;
 mod put_before;
 mod request_mapper;
 mod requests;
-mod tail;
 
 pub use ending::{Ending, RequestWord};
 pub use handler::Handler;

@@ -7,7 +7,6 @@ ghost use Rattle.std.specs.Prelude.{◌≡◌, ◌≢◌, ◌+◌, ◌<◌, ◌�
 ghost use Rattle.dm_table.specs.DeviceIo.{delivery, fault_of, since};
 ghost use Rattle.dm_table.specs.WriteAll.{IsCutShort};
 ghost use Rattle.dm_map.specs.Units.{BlockUnit};
-ghost use Rattle.dm_stream.specs.State.{state_of};
 ghost use Rattle.dm_stream.specs.declared.lines.TheConstants.{MOST_LINE_BYTES};
 ghost use Rattle.dm_stream.specs.declared.requests.TheConstants.{MOST_REQUESTS};
 ghost use Rattle.dm_stream.specs.Mapped.{IsReady};
@@ -52,8 +51,8 @@ fn map_lines<'s, R: Input, W: Output>(
     ensures same_writer { handler.new.join.writer.ghost_name ≡ handler.old.join.writer.ghost_name }
     ensures reads { HasRead R.handed R.faults R.ends requests.old requests.new }
     ensures writes { HasWritten W.written W.waiting W.faults W.flushes handler.old.join.writer.now handler.new.join.writer.now (write_faults result) }
-    ensures mapped { IsMapped (run_outcome handler.old.devices (state_of mapper.old) (delivery R.handed R.faults R.ends requests.old requests.new))
-        (since (W.written handler.old.join.writer.now) (W.written handler.new.join.writer.now)) (state_of mapper.new) result }
+    ensures mapped { IsMapped (run_outcome handler.old.devices mapper.old.state (delivery R.handed R.faults R.ends requests.old requests.new))
+        (since (W.written handler.old.join.writer.now) (W.written handler.new.join.writer.now)) mapper.new.state result }
     ensures met { HasMet result (R.faults requests.old) (R.faults requests.new) }
 {
     match handle_requests(requests, handler, mapper) {
@@ -75,8 +74,8 @@ fn map_requests<'s, R: Input, W: Output>(
     ensures going { result ≢ Ending.WriteFault → mapper.new.stopped ≡ false }
     ensures reads { HasRead R.handed R.faults R.ends requests.old requests.new }
     ensures writes { HasWritten W.written W.waiting W.faults W.flushes output.old output.new (write_faults result) }
-    ensures mapped { IsMapped (run_outcome stack.now (state_of mapper.old) (delivery R.handed R.faults R.ends requests.old requests.new))
-        (since (W.written output.old) (W.written output.new)) (state_of mapper.new) result }
+    ensures mapped { IsMapped (run_outcome stack.now mapper.old.state (delivery R.handed R.faults R.ends requests.old requests.new))
+        (since (W.written output.old) (W.written output.new)) mapper.new.state result }
     ensures met { HasMet result (R.faults requests.old) (R.faults requests.new) }
 {
     let mut handler = RequestMapper {
@@ -102,7 +101,7 @@ fn map_and_flush<'s, R: Input, W: Output>(
     ensures going { result ≢ Ending.WriteFault → mapper.new.stopped ≡ false }
     ensures reads { HasRead R.handed R.faults R.ends requests.old requests.new }
     ensures wrote { HasRun W.written W.waiting W.faults W.flushes output.old output.new
-        (run_outcome stack.now (state_of mapper.old) (delivery R.handed R.faults R.ends requests.old requests.new)) (state_of mapper.new) result }
+        (run_outcome stack.now mapper.old.state (delivery R.handed R.faults R.ends requests.old requests.new)) mapper.new.state result }
     ensures met { HasMet result (R.faults requests.old) (R.faults requests.new) }
 {
     let ending = map_requests(stack, mapper, requests, output);
@@ -145,20 +144,20 @@ pub fn run<'s, R: Input, W: Output, E: Output>(
     // The mapper stays one of its stack, and can go on unless the output failed: from the state that the requests left.
     ensures stack { mapper.new.stack ≡ mapper.old.stack }
     ensures going { result ≢ Ending.WriteFault → mapper.new.stopped ≡ false }
-    ensures state { result ≢ Ending.WriteFault → state_of mapper.new
-        ≡ (run_outcome stack.now (state_of mapper.old) (delivery R.handed R.faults R.ends requests.old requests.new)).state }
+    ensures state { result ≢ Ending.WriteFault → mapper.new.state
+        ≡ (run_outcome stack.now mapper.old.state (delivery R.handed R.faults R.ends requests.old requests.new)).state }
     // What was written, and how it ended, is what the requests delivered says.
-    ensures served { IsServed (run_outcome stack.now (state_of mapper.old) (delivery R.handed R.faults R.ends requests.old requests.new))
+    ensures served { IsServed (run_outcome stack.now mapper.old.state (delivery R.handed R.faults R.ends requests.old requests.new))
         (since (W.written output.old) (W.written output.new)) result }
     ensures read_fault { result ≡ Ending.ReadFault → R.faults requests.old < R.faults requests.new }
     ensures no_fault { result ≡ Ending.Done → R.faults requests.new ≤ R.faults requests.old }
     ensures write_fault { W.faults output.old < W.faults output.new ↔ (result ≡ Ending.WriteFault) }
     // Something was left to write where the output failed without a flush, and nothing where it was flushed.
     ensures left { result ≡ Ending.WriteFault → W.flushes output.new ≡ W.flushes output.old
-        → IsCutShort (run_outcome stack.now (state_of mapper.old) (delivery R.handed R.faults R.ends requests.old requests.new)).output
+        → IsCutShort (run_outcome stack.now mapper.old.state (delivery R.handed R.faults R.ends requests.old requests.new)).output
         (since (W.written output.old) (W.written output.new)) }
     ensures failed_flush { result ≡ Ending.WriteFault → W.flushes output.old < W.flushes output.new
-        → (run_outcome stack.now (state_of mapper.old) (delivery R.handed R.faults R.ends requests.old requests.new)).output
+        → (run_outcome stack.now mapper.old.state (delivery R.handed R.faults R.ends requests.old requests.new)).output
         ≡ since (W.written output.old) (W.written output.new) }
     ensures still_waiting { result ≡ Ending.WriteFault → W.flushes output.old < W.flushes output.new
         → W.waiting output.new ≡ W.waiting output.old ++ since (W.written output.old) (W.written output.new) }

@@ -6,7 +6,6 @@
 ghost use Rattle.std.specs.Prelude.{◌≡◌, ◌<◌, None, false, length, OnErr, OnOk};
 ghost use Rattle.dm_table.specs.DeviceIo.{fault_of, since};
 ghost use Rattle.dm_table.specs.WriteAll.{IsCutShort};
-ghost use Rattle.dm_stream.specs.State.{state_of};
 ghost use Rattle.dm_stream.specs.Mapped.{IsReady, HasAnswered, HasStopped, failed_writes};
 ghost use Rattle.dm_stream.specs.MappedLaws.{answered_none, answered_more, stopped_more};
 ghost use Rattle.dm_stream.specs.Outcome.{request_answer, step_of};
@@ -36,14 +35,14 @@ fn map_request<W: Output>(
     requires nothing { join.old.held.piece ≡ None }
     ensures stack { mapper.new.stack ≡ mapper.old.stack }
     ensures going { OnOk result (mapper.new.stopped ≡ false) }
-    ensures state { OnOk result (state_of mapper.new ≡ (step_of join.old.held.stack device (numbered request.now) (state_of mapper.old)).state) }
+    ensures state { OnOk result (mapper.new.state ≡ (step_of join.old.held.stack device (numbered request.now) mapper.old.state).state) }
     ensures of_stack { join.new.held.stack ≡ join.old.held.stack }
     ensures nothing { join.new.held.piece ≡ None }
     ensures same_reference { join.new.writer.ghost_name ≡ join.old.writer.ghost_name }
     ensures moved { HasWritten W.written W.waiting W.faults W.flushes join.old.writer.now join.new.writer.now (fault_of result) }
     ensures ok { OnOk result (since (W.written join.old.writer.now) (W.written join.new.writer.now)
-        ≡ request_answer join.old.held.stack device (numbered request.now) (state_of mapper.old)) }
-    ensures err { OnErr result (IsCutShort (request_answer join.old.held.stack device (numbered request.now) (state_of mapper.old))
+        ≡ request_answer join.old.held.stack device (numbered request.now) mapper.old.state) }
+    ensures err { OnErr result (IsCutShort (request_answer join.old.held.stack device (numbered request.now) mapper.old.state)
         (since (W.written join.old.writer.now) (W.written join.new.writer.now))) }
 {
     join.begin(request.number);
@@ -69,20 +68,20 @@ impl<'s, W: Output> Handler for RequestMapper<'_, 's, W> {
     ghost ready = { λ h mapper. IsReady h.devices mapper h.join.held };
 
     ghost answered = { λ old before requests new after.
-        HasAnswered old.devices (state_of before) (state_of after) requests (W.written old.join.writer.now) (W.written new.join.writer.now)
+        HasAnswered old.devices before.state after.state requests (W.written old.join.writer.now) (W.written new.join.writer.now)
         × HasWritten W.written W.waiting W.faults W.flushes old.join.writer.now new.join.writer.now 0
         × (new.devices ≡ old.devices) × (after.stack ≡ before.stack)
         × (new.join.writer.ghost_name ≡ old.join.writer.ghost_name) };
 
     ghost stopped = { λ old before requests fault new after.
-        HasStopped old.devices fault (state_of before) after requests (W.written old.join.writer.now) (W.written new.join.writer.now)
+        HasStopped old.devices fault before.state after requests (W.written old.join.writer.now) (W.written new.join.writer.now)
         × HasWritten W.written W.waiting W.faults W.flushes old.join.writer.now new.join.writer.now (failed_writes fault)
         × (new.devices ≡ old.devices) × (after.stack ≡ before.stack)
         × (new.join.writer.ghost_name ≡ old.join.writer.ghost_name)
         × (new.join.held.piece ≡ None) };
 
     ghost answered_none = { λ h mapper. (
-      answered_none h.devices (state_of mapper) (W.written h.join.writer.now),
+      answered_none h.devices mapper.state (W.written h.join.writer.now),
       written_none W.written W.waiting W.faults W.flushes h.join.writer.now,
       refl,
       refl,
@@ -90,8 +89,8 @@ impl<'s, W: Output> Handler for RequestMapper<'_, 's, W> {
     ) };
 
     ghost answered_then_answered = { λ a b c s t u us vs first second. (
-      answered_more a.devices (state_of s) (state_of t) (state_of u) us vs _ _ _ first.1.appends second.1.appends first.0
-          (subst (λ stack. HasAnswered stack (state_of t) (state_of u) vs (W.written b.join.writer.now) (W.written c.join.writer.now)) first.2 second.0),
+      answered_more a.devices s.state t.state u.state us vs _ _ _ first.1.appends second.1.appends first.0
+          (subst (λ stack. HasAnswered stack t.state u.state vs (W.written b.join.writer.now) (W.written c.join.writer.now)) first.2 second.0),
       written_more W.written W.waiting W.faults W.flushes a.join.writer.now b.join.writer.now c.join.writer.now 0 first.1 second.1,
       second.2 ∙ first.2,
       second.3 ∙ first.3,
@@ -99,8 +98,8 @@ impl<'s, W: Output> Handler for RequestMapper<'_, 's, W> {
     ) };
 
     ghost answered_then_stopped = { λ a b c s t u us vs fault first second. (
-      stopped_more a.devices fault (state_of s) (state_of t) u us vs _ _ _ first.1.appends second.1.appends first.0
-          (subst (λ stack. HasStopped stack fault (state_of t) u vs (W.written b.join.writer.now) (W.written c.join.writer.now)) first.2 second.0),
+      stopped_more a.devices fault s.state t.state u us vs _ _ _ first.1.appends second.1.appends first.0
+          (subst (λ stack. HasStopped stack fault t.state u vs (W.written b.join.writer.now) (W.written c.join.writer.now)) first.2 second.0),
       written_more W.written W.waiting W.faults W.flushes a.join.writer.now b.join.writer.now c.join.writer.now (failed_writes fault) first.1 second.1,
       second.2 ∙ first.2,
       second.3 ∙ first.3,

@@ -2,8 +2,8 @@
 use Rattle.std.proofs.Common.{◌≡◌, ℕ, ◌+◌, ◌-◌, ◌≤◌, ◌++◌, List, length, drop, sym, ap, ◌∙◌, arith}
 use Rattle.std.proofs.Math.Seq.{drop-append_seam}
 use Rattle.std.proofs.lemmas.List.{drop-drop}
-use Rattle.dm_stream.specs.Tail.{IsTail}
-use Rattle.dm_stream.specs.declared.tail.Tail.{Tail}
+use Rattle.dm_stream.specs.KeptRange.{IsKept}
+use Rattle.dm_stream.specs.declared.kept_range.KeptRange.{KeptRange}
 
 -- behind the place before which it was put
 pub behind : (new old front : List ℕ) (start end : ℕ) → start + length front ≡ end → drop start new ≡ front ++ drop end old → drop end new ≡ drop end old
@@ -16,10 +16,10 @@ further_behind new old end later l e =
     let place : end + (later - end) ≡ later = omega arith in
     ap (λ k. drop k new) (sym place) ∙ sym (drop-drop (later - end) end new) ∙ ap (drop (later - end)) e ∙ drop-drop (later - end) end old ∙ ap (λ k. drop k old) place
 
--- so a tail is still there
-pub still_tail : (tail : Tail) (new old : List ℕ) (end : ℕ) → length new ≡ length old → end ≤ tail.at → drop end new ≡ drop end old → IsTail tail old → IsTail tail new
-still_tail tail new old end len before same is = record {
+-- so a range is still there
+pub still_kept : (range : KeptRange) (new old : List ℕ) (end : ℕ) → length new ≡ length old → end ≤ range.at → drop end new ≡ drop end old → IsKept range old → IsKept range new
+still_kept range new old end len before same is = record {
   within = omega (arith, is.within);
   few = omega (arith, is.few);
-  kept = λ some. further_behind new old end tail.at before same ∙ is.kept (omega arith);
+  kept = λ some. further_behind new old end range.at before same ∙ is.kept (omega arith);
 }

@@ -1,8 +1,8 @@
 use Rattle.std.proofs.Common.{ℕ, ◌≤◌, ◌++◌, [], ◌∷◌, List, length, drop, decimal, arith, ap, sym, ◌∙◌, length-append, length-drop}
 use Rattle.std.proofs.lemmas.List.{drop-drop, drop-append-le}
-use Rattle.dm_stream.specs.NumberedLine.{line_front}
-use Rattle.dm_stream.proofs.Behind.{behind}
-use Rattle.dm_stream.proofs.front.Front.put_before.Goals as goal
+use Rattle.dm_stream.specs.NumberedLine.{number_prefix}
+use Rattle.dm_stream.proofs.Unchanged.{behind}
+use Rattle.dm_stream.proofs.number_prefix.NumberPrefix.put_before.Goals as goal
 
 pub returns-clause-text : goal.returns-clause-text
 returns-clause-text c =
@@ -13,7 +13,7 @@ returns-clause-text c =
     let some : start ≤ length text = omega (arith, length-drop start text, ap length c.self.invariant, length-append (decimal number) (32 ∷ [])) in
     sym (drop-drop start c.put_before.result c.put_before.new.text) ∙ ap (drop start) c.put_before.ensures.written
     ∙ drop-append-le start text rest some ∙ ap (λ (front : List ℕ). front ++ rest) c.self.invariant
-    ∙ ap (λ n. line_front n ++ rest) c.self.view_is
+    ∙ ap (λ n. number_prefix n ++ rest) c.self.view_is
 
 pub returns-clause-behind : goal.returns-clause-behind
 returns-clause-behind c =

@@ -1,8 +1,8 @@
 use Rattle.std.proofs.Common.{◌<◌, ◌^◌, drop, ap, ◌∙◌, arith}
-use Rattle.dm_stream.specs.declared.front.Front.TheInside.{Inside}
+use Rattle.dm_stream.specs.declared.number_prefix.NumberPrefix.TheInside.{Inside}
 use Rattle.dm_stream.proofs.LastDigit.{last_digit_set}
-use Rattle.dm_stream.proofs.front.Front.set.Goals as goal
-use Rattle.dm_stream.proofs.front.Front.set.Goals.{then-number-self, else-number-self}
+use Rattle.dm_stream.proofs.number_prefix.NumberPrefix.set.Goals as goal
+use Rattle.dm_stream.proofs.number_prefix.NumberPrefix.set.Goals.{then-number-self, else-number-self}
 
 pub invariant_of-self : goal.invariant_of-self
 invariant_of-self c =
@@ -13,5 +13,5 @@ invariant_of-self c =
           let new_fits : c.args.number < 2 ^ 64 = omega arith in
           ap (λ (front : Inside). drop front.start front.text) w.self-inside-is
           ∙ last_digit_set old.text old.start old.number c.args.number c.self.told old_fits new_fits w.if-number-self.true c.self.invariant
-      | else-number-self w ↦ ap (λ (front : Inside). drop front.start front.text) w.self-inside-is ∙ w.put_front-self-inside.ensures
+      | else-number-self w ↦ ap (λ (front : Inside). drop front.start front.text) w.self-inside-is ∙ w.put_prefix-self-inside.ensures
     ]

@@ -4,7 +4,7 @@
 //! its place.
 
 ghost use Rattle.std.specs.Prelude.{◌≡◌, ◌++◌, ◌≤◌, length, drop};
-ghost use Rattle.dm_stream.specs.NumberedLine.{line_front};
+ghost use Rattle.dm_stream.specs.NumberedLine.{number_prefix};
 
 use crate::put_before::{put_before, put_number_before};
 use std::marker::Model;
@@ -14,31 +14,31 @@ const ROOM: usize = 21;
 
 /// A number and a space as text. They end where the room does.
 #[derive(Drop)]
-pub(crate) struct Front {
+pub(crate) struct NumberPrefix {
     number: u64,
     text: [u8; ROOM],
     start: usize,
 }
 
-impl Model for Front {
+impl Model for NumberPrefix {
     ghost use Rattle.std.specs.Prelude.{◌≡◌, ℕ, drop};
-    ghost use Rattle.dm_stream.specs.NumberedLine.{line_front};
+    ghost use Rattle.dm_stream.specs.NumberedLine.{number_prefix};
 
     ghost Value = { ℕ };
 
-    ghost view = { λ front. front.number };
+    ghost view = { λ prefix. prefix.number };
 
-    ghost invariant = { λ front. drop front.start front.text ≡ line_front front.number };
+    ghost invariant = { λ prefix. drop prefix.start prefix.text ≡ number_prefix prefix.number };
 }
 
-impl Front {
+impl NumberPrefix {
     /// The front under the number 0.
-    pub(crate) fn new() -> Front
+    pub(crate) fn new() -> NumberPrefix
         ensures { result ≡ 0 }
     {
         let mut text = [0; ROOM];
-        let start = put_front(&mut text, 0);
-        Front {
+        let start = put_prefix(&mut text, 0);
+        NumberPrefix {
             number: 0,
             text,
             start,
@@ -52,7 +52,7 @@ impl Front {
         if number / 10 == self.number / 10 {
             self.text[ROOM - 2] = b'0' + (number % 10) as u8;
         } else {
-            self.start = put_front(&mut self.text, number);
+            self.start = put_prefix(&mut self.text, number);
         }
         self.number = number;
     }
@@ -63,7 +63,7 @@ impl Front {
     pub(crate) fn put_before(&self, text: &mut [u8], end: usize) -> usize
         requires room { 21 ≤ end }
         requires within { end ≤ length text.old }
-        ensures text { drop result text.new ≡ line_front self.now ++ drop end text.old }
+        ensures text { drop result text.new ≡ number_prefix self.now ++ drop end text.old }
         ensures behind { drop end text.new ≡ drop end text.old }
         ensures within { result ≤ end }
     {
@@ -72,9 +72,9 @@ impl Front {
 }
 
 /// Puts a number and a space at the end of a text, and answers where they begin.
-fn put_front(text: &mut [u8], number: u64) -> usize
+fn put_prefix(text: &mut [u8], number: u64) -> usize
     requires { length text.old ≡ ROOM }
-    ensures { drop result text.new ≡ line_front number }
+    ensures { drop result text.new ≡ number_prefix number }
 {
     let end = put_before(text, ROOM, b" ");
     put_number_before(text, end, number)

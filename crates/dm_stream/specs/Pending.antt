@@ -6,7 +6,7 @@ use Rattle.dm_map.specs.Units.{BlockUnit, ReadOf, WriteOf, Zeros, Drops, Fails, 
 use Rattle.dm_stream.specs.Pieces as pieces
 
 -- the stack whose names are written, the request's number, and the piece that is held, if any
-pub record Holding : Type 0 where
+pub record Pending : Type 0 where
   pub stack : Description
   pub number : ℕ
   pub piece : Option Piece
