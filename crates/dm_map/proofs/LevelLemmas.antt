@@ -18,14 +18,18 @@ use Rattle.dm_stack.specs.declared.id.Lower.{Lower}
 use Rattle.dm_stack.specs.declared.id.Lower.TheVariants.{Device, Disk}
 use Rattle.dm_stack.specs.declared.graph.TheConstants.{MOST_DEPTH}
 use Rattle.dm_stack.specs.declared.found.FoundColumn.{FoundColumn}
+use Rattle.dm_stack.specs.declared.found.FoundLine.{FoundLine}
 use Rattle.dm_stack.specs.Description.{Description, is_ro_at, lower_of, target_refs, column_refs, ref_link, device_links, links, lines_or_none}
 use Rattle.dm_stack.specs.Graph.{links_of, greatest, depth_to}
-use Rattle.dm_stack.specs.Below.{Below, Lies, IsZero, IsError, below, below_line, below_target, below_column, column_of, in_column, found_line, found_target, found_columns, holds, line_of}
+use Rattle.dm_stack.specs.Below.{Below, Lies, IsZero, IsError, below, Snapshot, below_line, below_target, below_column, column_of, in_column, found_line, found_target, found_columns, found_at, holds, line_of}
 use Rattle.dm_stack.specs.Soundness.{IsSound, faults_at, depth_of}
 use Rattle.dm_stack.proofs.Passes.{all_parts, passes_after}
 use Rattle.dm_stack.proofs.SoundLines.{found}
 use Rattle.dm_map.specs.Units.{BlockUnit, Zeros, Drops, Fails}
-use Rattle.dm_map.specs.Mapping.{by_below, read_unit, write_units, IsFreeOfLevels}
+use Rattle.dm_map.specs.Snapshots.{read_over}
+use Rattle.dm_map.specs.State.{State, taken_at}
+use Rattle.dm_map.specs.Steps.{Step, keep}
+use Rattle.dm_map.specs.Mapping.{by_below, read_below, read_unit, write_line, write_step, IsFreeOfLevels}
 use Rattle.dm_map.proofs.Stripes.{at_place}
 
 -- What lies below a device is among what it names
@@ -55,13 +59,13 @@ unfolding OnBelow
 on_column P columns i sector None each e = tt
 on_column P columns i sector (Some column) each e = at_place (λ c. OnLower P c.to) columns i column each e
 
-on_target : (stack : Description) (P : ℕ → Type 0) (target : Target) (distance : ℕ) → AllByRecursion P (flat_map (ref_link stack) (target_refs target)) → OnBelow P (below_target (found_target stack target) distance)
+on_target : (over : Snapshot → ℕ → Below) (stack : Description) (P : ℕ → Type 0) (target : Target) (distance : ℕ) → AllByRecursion P (flat_map (ref_link stack) (target_refs target)) → OnBelow P (below_target over (found_target stack target) distance)
 unfolding OnBelow
-on_target stack P (targets.Linear to offset) distance each = on_ref stack P to (all_parts P (ref_link stack to) [] each).0
-on_target stack P (targets.Striped chunk columns) distance each =
+on_target over stack P (targets.Linear to offset) distance each = on_ref stack P to (all_parts P (ref_link stack to) [] each).0
+on_target over stack P (targets.Striped chunk columns) distance each =
     on_column P (found_columns stack columns) (column_of chunk (length (found_columns stack columns)) distance) (in_column chunk (length (found_columns stack columns)) distance) _ (on_columns stack P columns each) refl
-on_target stack P targets.Zero distance each = tt
-on_target stack P targets.Error distance each = tt
+on_target over stack P targets.Zero distance each = tt
+on_target over stack P targets.Error distance each = tt
 
 on_lines : (stack : Description) (P : ℕ → Type 0) (lines : List Line) → AllByRecursion P (flat_map (λ line. flat_map (ref_link stack) (target_refs line.target)) lines) → AllByRecursion (λ line. AllByRecursion P (flat_map (ref_link stack) (target_refs line.target))) lines
 on_lines stack P [] each = tt
@@ -69,22 +73,22 @@ on_lines stack P (line ∷ lines) each =
     let parts = all_parts P (flat_map (ref_link stack) (target_refs line.target)) (flat_map (λ l. flat_map (ref_link stack) (target_refs l.target)) lines) each in
     (parts.0, on_lines stack P lines parts.1)
 
-on_line : (stack : Description) (P : ℕ → Type 0) (lines : List Line) (sector : ℕ) (line : Option Line) → AllByRecursion (λ l. AllByRecursion P (flat_map (ref_link stack) (target_refs l.target))) lines → line_of lines sector ≡ line → OnBelow P (below_line (option_map (found_line stack) line) sector)
+on_line : (over : Snapshot → ℕ → Below) (stack : Description) (P : ℕ → Type 0) (lines : List Line) (sector : ℕ) (line : Option Line) → AllByRecursion (λ l. AllByRecursion P (flat_map (ref_link stack) (target_refs l.target))) lines → line_of lines sector ≡ line → OnBelow P (below_line over (option_map (found_line stack) line) sector)
 unfolding OnBelow
-on_line stack P lines sector None each e = tt
-on_line stack P lines sector (Some line) each e =
-    on_target stack P line.target (sector - line.start) (found (λ l. AllByRecursion P (flat_map (ref_link stack) (target_refs l.target))) (holds sector) lines line each e).1
+on_line over stack P lines sector None each e = tt
+on_line over stack P lines sector (Some line) each e =
+    on_target over stack P line.target (sector - line.start) (found (λ l. AllByRecursion P (flat_map (ref_link stack) (target_refs l.target))) (holds sector) lines line each e).1
 
-on_device : (stack : Description) (P : ℕ → Type 0) (device sector : ℕ) (spec : Option DeviceSpec) → slice_get stack.devices device ≡ spec → AllByRecursion P (links_of (links stack) device) → OnBelow P (below_line (option_map (found_line stack) (line_of (lines_or_none spec) sector)) sector)
+on_device : (over : Snapshot → ℕ → Below) (stack : Description) (P : ℕ → Type 0) (device sector : ℕ) (spec : Option DeviceSpec) → slice_get stack.devices device ≡ spec → AllByRecursion P (links_of (links stack) device) → OnBelow P (below_line over (option_map (found_line stack) (line_of (lines_or_none spec) sector)) sector)
 unfolding OnBelow
-on_device stack P device sector None e each = tt
-on_device stack P device sector (Some spec) e each =
+on_device over stack P device sector None e each = tt
+on_device over stack P device sector (Some spec) e each =
     let is : slice_get (links stack) device ≡ Some (device_links stack spec) = slice_get-map (device_links stack) stack.devices device ∙ ap (option_map (device_links stack)) e in
     let named : links_of (links stack) device ≡ device_links stack spec = get_or_from_slice_get (links stack) device (device_links stack spec) [] is in
-    on_line stack P spec.lines sector (line_of spec.lines sector) (on_lines stack P spec.lines (subst (AllByRecursion P) named each)) refl
+    on_line over stack P spec.lines sector (line_of spec.lines sector) (on_lines stack P spec.lines (subst (AllByRecursion P) named each)) refl
 
-on_below : (stack : Description) (P : ℕ → Type 0) (device sector : ℕ) → AllByRecursion P (links_of (links stack) device) → OnBelow P (below stack device sector)
-on_below stack P device sector each = on_device stack P device sector (slice_get stack.devices device) refl each
+on_below : (over : Snapshot → ℕ → Below) (stack : Description) (P : ℕ → Type 0) (device sector : ℕ) → AllByRecursion P (links_of (links stack) device) → OnBelow P (below over stack device sector)
+on_below over stack P device sector each = on_device over stack P device sector (slice_get stack.devices device) refl each
 
 -- What a device names is less deep
 
@@ -116,26 +120,33 @@ same_below P (Lies to sector) zeros fails f h on same = same to sector on
 same_below P IsZero zeros fails f h on same = refl
 same_below P IsError zeros fails f h on same = refl
 
-same_read : (stack : Description) (n j k : ℕ) (lower : Lower) (sector : ℕ) → OnLower (IsShallow (links stack) n j k) lower → read_unit stack j lower sector ≡ read_unit stack k lower sector
+same_read : (stack : Description) (state : State) (n j k : ℕ) (lower : Lower) (sector : ℕ) → OnLower (IsShallow (links stack) n j k) lower → read_unit stack state j lower sector ≡ read_unit stack state k lower sector
 unfolding OnLower read_unit
-same_read stack n j k (Disk disk) sector h = refl
-same_read stack zero j k (Device device) sector h = absurd (omega (arith, h.seen))
-same_read stack (suc n) zero k (Device device) sector h = absurd (some_level (links stack) n k device h.first)
-same_read stack (suc n) (suc j) zero (Device device) sector h = absurd (some_level (links stack) n j device h.second)
-same_read stack (suc n) (suc j) (suc k) (Device device) sector h =
-    same_below (IsShallow (links stack) n j k) (below stack device sector) Zeros Fails (λ to s. read_unit stack j to s) (λ to s. read_unit stack k to s)
-    (on_below stack (IsShallow (links stack) n j k) device sector (named_shallow (links stack) n j k device h)) (λ to s on. same_read stack n j k to s on)
+same_read stack state n j k (Disk disk) sector h = refl
+same_read stack state zero j k (Device device) sector h = absurd (omega (arith, h.seen))
+same_read stack state (suc n) zero k (Device device) sector h = absurd (some_level (links stack) n k device h.first)
+same_read stack state (suc n) (suc j) zero (Device device) sector h = absurd (some_level (links stack) n j device h.second)
+same_read stack state (suc n) (suc j) (suc k) (Device device) sector h =
+    same_below (IsShallow (links stack) n j k) (read_below stack state device sector) Zeros Fails (λ to s. read_unit stack state j to s) (λ to s. read_unit stack state k to s)
+    (on_below (read_over (taken_at state device)) stack (IsShallow (links stack) n j k) device sector (named_shallow (links stack) n j k device h)) (λ to s on. same_read stack state n j k to s on)
 
-same_write : (stack : Description) (n j k : ℕ) (lower : Lower) (sector : ℕ) → OnLower (IsShallow (links stack) n j k) lower → write_units stack j lower sector ≡ write_units stack k lower sector
-unfolding OnLower write_units
-same_write stack n j k (Disk disk) sector h = refl
-same_write stack zero j k (Device device) sector h = absurd (omega (arith, h.seen))
-same_write stack (suc n) zero k (Device device) sector h = absurd (some_level (links stack) n k device h.first)
-same_write stack (suc n) (suc j) zero (Device device) sector h = absurd (some_level (links stack) n j device h.second)
-same_write stack (suc n) (suc j) (suc k) (Device device) sector h =
-    ap (λ (units : List BlockUnit). cond (is_ro_at stack device) (Fails ∷ []) units)
-    (same_below (IsShallow (links stack) n j k) (below stack device sector) (Drops ∷ []) (Fails ∷ []) (λ to s. write_units stack j to s) (λ to s. write_units stack k to s)
-    (on_below stack (IsShallow (links stack) n j k) device sector (named_shallow (links stack) n j k device h)) (λ to s on. same_write stack n j k to s on))
+same_line : (P : ℕ → Type 0) (state : State) (device : ℕ) (line : Option FoundLine) (sector : ℕ) (f h : Lower → State → ℕ → Step) → OnBelow P (below_line (read_over (taken_at state device)) line sector) → ((to : Lower) (s : ℕ) → OnLower P to → f to state s ≡ h to state s)
+    → write_line state device line sector f ≡ write_line state device line sector h
+unfolding OnBelow
+same_line P state device None sector f h on same = refl
+same_line P state device (Some line) sector f h on same =
+    same_below P (below_target (read_over (taken_at state device)) line.target (sector - line.start)) (keep (Drops ∷ []) state) (keep (Fails ∷ []) state) (λ to s. f to state s) (λ to s. h to state s) on same
+
+same_write : (stack : Description) (n j k : ℕ) (lower : Lower) (state : State) (sector : ℕ) → OnLower (IsShallow (links stack) n j k) lower → write_step stack j lower state sector ≡ write_step stack k lower state sector
+unfolding OnLower write_step
+same_write stack n j k (Disk disk) state sector h = refl
+same_write stack zero j k (Device device) state sector h = absurd (omega (arith, h.seen))
+same_write stack (suc n) zero k (Device device) state sector h = absurd (some_level (links stack) n k device h.first)
+same_write stack (suc n) (suc j) zero (Device device) state sector h = absurd (some_level (links stack) n j device h.second)
+same_write stack (suc n) (suc j) (suc k) (Device device) state sector h =
+    ap (λ (step : Step). cond (is_ro_at stack device) (keep (Fails ∷ []) state) step)
+    (same_line (IsShallow (links stack) n j k) state device (found_at stack device sector) sector (λ to after s. write_step stack j to after s) (λ to after s. write_step stack k to after s)
+    (on_below (read_over (taken_at state device)) stack (IsShallow (links stack) n j k) device sector (named_shallow (links stack) n j k device h)) (λ to s on. same_write stack n j k to state s on))
 
 -- A sound stack is nowhere too deep
 
@@ -163,11 +174,11 @@ shallow_at stack device levels sound there enough =
 pub reads_free : (stack : Description) → IsSound stack → IsFreeOfLevels stack ops.Read
 unfolding OnLower
 reads_free stack sound = record {
-  same = λ device levels sector there enough. ap (λ (unit : BlockUnit). unit ∷ []) (same_read stack (suc MOST_DEPTH) levels MOST_DEPTH (Device device) sector (shallow_at stack device levels sound there enough));
+  same = λ device levels sector state there enough. ap (λ (unit : BlockUnit). keep (unit ∷ []) state) (same_read stack state (suc MOST_DEPTH) levels MOST_DEPTH (Device device) sector (shallow_at stack device levels sound there enough));
 }
 
 pub writes_free : (stack : Description) → IsSound stack → IsFreeOfLevels stack ops.Write
 unfolding OnLower
 writes_free stack sound = record {
-  same = λ device levels sector there enough. same_write stack (suc MOST_DEPTH) levels MOST_DEPTH (Device device) sector (shallow_at stack device levels sound there enough);
+  same = λ device levels sector state there enough. same_write stack (suc MOST_DEPTH) levels MOST_DEPTH (Device device) state sector (shallow_at stack device levels sound there enough);
 }

@@ -3,3 +3,4 @@ pub mod Ranges
 pub mod Rows
 pub mod Stripes
 pub mod There
+pub mod WorkedRows

@@ -1,15 +1,17 @@
--- The units of sectors in a row, and what a sink took and left of them.
+-- The steps of sectors in a row, and what a sink took and left of their units.
 use Rattle.std.proofs.Common.{◌≡◌, ℕ, zero, suc, ◌+◌, ◌-◌, ◌<◌, List, [], ◌∷◌, ◌++◌, append_assoc, refl, sym, ap, subst, ◌∙◌, arith}
 use Rattle.std.proofs.lemmas.List.{append-nil}
+use Rattle.std.specs.Result.{IsErr}
 use Rattle.std.specs.Prelude.{nat_lt, true, ◌≤◌, replicate, Result, Ok, Err, OnOk, OnErr}
 use Rattle.dm_table.specs.declared.request.Op.{Op}
-use Rattle.dm_stack.specs.declared.graph.TheConstants.{MOST_DEPTH}
-use Rattle.dm_stack.specs.declared.id.Lower.TheVariants.{Device}
+use Rattle.dm_table.specs.DeviceIo.{fault_of}
 use Rattle.dm_stack.specs.Description.{Description, device_len}
 use Rattle.dm_map.specs.Units.{BlockUnit, Fails, next_unit, units_in}
 use Rattle.dm_map.specs.Sink.{OfBeginning}
-use Rattle.dm_map.specs.Mapping.{sector_units, units_from, request_units}
-use Rattle.dm_map.specs.Walk.{range_units, row_units}
+use Rattle.dm_map.specs.State.{State}
+use Rattle.dm_map.specs.Steps.{Step, keep, and_then, steps}
+use Rattle.dm_map.specs.Mapping.{request_step}
+use Rattle.dm_map.specs.Walk.{Walking, IsWalked}
 
 -- what holds, holds where there is a fault
 pub on_err : {T E : Type 0} (r : Result T E) (P : Type 0) → P → OnErr r P
@@ -20,17 +22,40 @@ on_err_then : {T E : Type 0} (r : Result T E) (P Q : Type 0) → (P → Q) → O
 on_err_then (Ok x) P Q f p = tt
 on_err_then (Err e) P Q f p = f p
 
--- a sink's answer at units that are said in another way
-pub took_as : {T E S : Type 0} (r : Result T E) (took : S → List BlockUnit → S → Type 0) (old new : S) (units others : List BlockUnit) → units ≡ others → OnOk r (took old units new) → OnOk r (took old others new)
-took_as r took old new units others same held = subst (λ (us : List BlockUnit). OnOk r (took old us new)) same held
+-- what holds, holds where there is none
+on_ok : {T E : Type 0} (r : Result T E) (P : Type 0) → P → OnOk r P
+on_ok (Ok x) P p = p
+on_ok (Err e) P p = tt
 
-pub left_as : {T E S : Type 0} (r : Result T E) (left : S → List BlockUnit → S → Type 0) (old new : S) (units others : List BlockUnit) → units ≡ others → OnErr r (OfBeginning left old units new) → OnErr r (OfBeginning left old others new)
-left_as r left old new units others same held = subst (λ (us : List BlockUnit). OnErr r (OfBeginning left old us new)) same held
+on_ok_then : {T E : Type 0} (r : Result T E) (P Q : Type 0) → (P → Q) → OnOk r P → OnOk r Q
+on_ok_then (Ok x) P Q f p = f p
+on_ok_then (Err e) P Q f p = tt
 
--- a sink that failed at all of some units was cut short at them
-pub cut_as : {T E S : Type 0} (r : Result T E) (left : S → List BlockUnit → S → Type 0) (old new : S) (units others : List BlockUnit) → units ≡ others → OnErr r (left old units new) → OnErr r (OfBeginning left old others new)
-cut_as r left old new units others same held =
-    on_err_then r (left old units new) (OfBeginning left old others new) (λ failed. record { front = units; rest = []; whole = append-nil units ∙ same; holds = failed }) held
+-- a walk whose step is said in another way
+pub walked_as : {S F : Type 0} (took left : S → List BlockUnit → S → Type 0) (stack : S → Description) (room faults : S → ℕ) (result : Result (Unit {0}) F) (old new : S) (before after : Walking) (step other : Step) (len : ℕ) → step ≡ other
+    → IsWalked took left stack room faults result old new before after step len → IsWalked took left stack room faults result old new before after other len
+walked_as took left stack room faults result old new before after step other len same walked = subst (λ (x : Step). IsWalked took left stack room faults result old new before after x len) same walked
+
+-- one piece as a walk
+pub walked_piece : {S F : Type 0} (took left : S → List BlockUnit → S → Type 0) (stack : S → Description) (room faults : S → ℕ) (result : Result (Unit {0}) F) (old new : S) (walk : Walking) (units : List BlockUnit) (step : Step) (diskless len : ℕ)
+    → keep units walk.state ≡ step → diskless ≤ len → OnOk result (took old units new) → OnErr result (left old units new) → faults new ≡ faults old + fault_of result → OnOk result (stack new ≡ stack old) → OnOk result (room old ≤ room new + diskless)
+    → IsWalked took left stack room faults result old new walk walk step len
+walked_piece took left stack room faults result old new walk units step diskless len same few took_is left_is faults_is kept_is room_is =
+    walked_as took left stack room faults result old new walk walk (keep units walk.state) step len same (record {
+      took = took_is;
+      state = on_ok result (walk.state ≡ walk.state) refl;
+      kept = kept_is;
+      room = on_ok_then result (room old ≤ room new + diskless) (room old ≤ room new + len) (λ low. omega (arith, low, few)) room_is;
+      left = on_err_then result (left old units new) (OfBeginning left old units new) (λ failed. record { front = units; rest = []; whole = append-nil units; holds = failed }) left_is;
+      faults = faults_is;
+      stack = refl;
+    })
+
+-- a walk that the sink cut short
+pub walked_cut : {S F : Type 0} (took left : S → List BlockUnit → S → Type 0) (stack : S → Description) (room faults : S → ℕ) (result : Result (Unit {0}) F) (old new : S) (before after : Walking) (step : Step) (len : ℕ)
+    → IsErr result → OfBeginning left old step.units new → faults new ≡ faults old + 1 → after.stack ≡ before.stack → IsWalked took left stack room faults result old new before after step len
+walked_cut took left stack room faults (Ok done) old new before after step len is_err cut one same = absurd cc
+walked_cut took left stack room faults (Err fault) old new before after step len is_err cut one same = record { took = tt; state = tt; kept = tt; room = tt; left = cut; faults = one; stack = same }
 
 -- a piece of errors
 pub units_in_fails : (len : ℕ) → units_in Fails len ≡ replicate len Fails
@@ -38,61 +63,74 @@ units_in_fails zero = refl
 units_in_fails (suc len) = ap (λ (units : List BlockUnit). Fails ∷ units) (units_in_fails len)
 
 -- a request that passes the device's end
-pub units_past_end : (stack : Description) (op : Op) (device start len : ℕ) → nat_lt (device_len stack device) (start + len) ≡ true → units_in Fails len ≡ request_units stack op device start len
-units_past_end stack op device start len past = rw past (units_in_fails len)
+pub step_past_end : (stack : Description) (op : Op) (device start len : ℕ) (state : State) → nat_lt (device_len stack device) (start + len) ≡ true → keep (units_in Fails len) state ≡ request_step stack op device start len state
+step_past_end stack op device start len state past = rw past (ap (λ (units : List BlockUnit). keep units state) (units_in_fails len))
+
+-- steps one after the other
+and_then_at : (step : Step) (f h : State → Step) → f step.state ≡ h step.state → and_then step f ≡ and_then step h
+and_then_at step f h same = ap (λ (next : Step). record { units = step.units ++ next.units; state = next.state }) same
+
+step_assoc : (step : Step) (f h : State → Step) → and_then (and_then step f) h ≡ and_then step (λ state. and_then (f state) h)
+step_assoc step f h = ap (λ (units : List BlockUnit). record { units = units; state = (h (f step.state).state).state }) (append_assoc step.units (f step.state).units (h (f step.state).state).units)
 
 -- a row in two parts
-pub row_units-append : (units : ℕ → List BlockUnit) (place m n : ℕ) → row_units units place (m + n) ≡ row_units units place m ++ row_units units (place + m) n
-row_units-append units place zero n = let e : place + 0 ≡ place = omega arith in let k : 0 + n ≡ n = omega arith in rw (e, k) refl
-row_units-append units place (suc m) n =
-    let e : place + suc m ≡ suc place + m = omega arith in let k : suc m + n ≡ suc (m + n) = omega arith in
-    rw (e, k, row_units-append units (suc place) m n) (sym (append_assoc (units place) _ _))
+pub steps-append : (step : State → ℕ → Step) (state : State) (sector m n : ℕ) → steps step state sector (m + n) ≡ and_then (steps step state sector m) (λ after. steps step after (sector + m) n)
+steps-append step state sector zero n = let e : 0 + n ≡ n = omega arith in let k : sector + 0 ≡ sector = omega arith in rw (e, k) refl
+steps-append step state sector (suc m) n =
+    let e : suc m + n ≡ suc (m + n) = omega arith in let k : sector + suc m ≡ suc sector + m = omega arith in
+    rw (e, k) (and_then_at (step state sector) (λ after. steps step after (suc sector) (m + n)) (λ after. and_then (steps step after (suc sector) m) (λ later. steps step later (suc sector + m) n)) (steps-append step (step state sector).state (suc sector) m n)
+    ∙ sym (step_assoc (step state sector) (λ after. steps step after (suc sector) m) (λ later. steps step later (suc sector + m) n)))
 
--- two rows of the same units
-pub row_same : (units others : ℕ → List BlockUnit) (place other n : ℕ) → ((i : ℕ) → i < n → units (place + i) ≡ others (other + i)) → row_units units place n ≡ row_units others other n
-row_same units others place other zero each = refl
-row_same units others place other (suc n) each =
-    let here : units place ≡ others other =
-    ap units (let e : place ≡ place + 0 = omega arith in e) ∙ each 0 (omega arith) ∙ ap others (let e : other + 0 ≡ other = omega arith in e) in
-    let later : (i : ℕ) → i < n → units (suc place + i) ≡ others (suc other + i) = λ i within.
-    ap units (let e : suc place + i ≡ place + suc i = omega arith in e) ∙ each (suc i) (omega (arith, within)) ∙ ap others (let e : other + suc i ≡ suc other + i = omega arith in e) in
-    ap (λ (front : List BlockUnit). front ++ row_units units (suc place) n) here
-    ∙ ap (λ (rest : List BlockUnit). others other ++ rest) (row_same units others (suc place) (suc other) n later)
+-- two rows whose steps are the same from any state
+pub steps_same : (step other : State → ℕ → Step) (state : State) (s t n : ℕ) → ((after : State) (i : ℕ) → i < n → step after (s + i) ≡ other after (t + i)) → steps step state s n ≡ steps other state t n
+steps_same step other state s t zero each = refl
+steps_same step other state s t (suc n) each =
+    let here : step state s ≡ other state t = ap (step state) (let e : s ≡ s + 0 = omega arith in e) ∙ each state 0 (omega arith) ∙ ap (other state) (let e : t + 0 ≡ t = omega arith in e) in
+    ap (λ (first : Step). and_then first (λ after. steps step after (suc s) n)) here
+    ∙ and_then_at (other state t) (λ after. steps step after (suc s) n) (λ after. steps other after (suc t) n)
+    (steps_same step other (other state t).state (suc s) (suc t) n (λ after i within.
+    ap (step after) (let e : suc s + i ≡ s + suc i = omega arith in e) ∙ each after (suc i) (omega (arith, within)) ∙ ap (other after) (let e : t + suc i ≡ suc t + i = omega arith in e)))
 
--- a row of one unit
-pub row_still : (units : ℕ → List BlockUnit) (place n : ℕ) (unit : BlockUnit) → next_unit unit ≡ unit → ((i : ℕ) → i < n → units (place + i) ≡ unit ∷ []) → row_units units place n ≡ units_in unit n
-row_still units place zero unit still each = refl
-row_still units place (suc n) unit still each =
-    let here : units place ≡ unit ∷ [] = ap units (let e : place ≡ place + 0 = omega arith in e) ∙ each 0 (omega arith) in
-    let later : (i : ℕ) → i < n → units (suc place + i) ≡ unit ∷ [] = λ i within.
-    ap units (let e : suc place + i ≡ place + suc i = omega arith in e) ∙ each (suc i) (omega (arith, within)) in
-    ap (λ (front : List BlockUnit). front ++ row_units units (suc place) n) here
-    ∙ ap (λ (rest : List BlockUnit). unit ∷ rest) (row_still units (suc place) n unit still later)
-    ∙ ap (λ (next : BlockUnit). unit ∷ units_in next n) (sym still)
-
--- a request inside its device is a range of it
-pub units_from_range : (stack : Description) (op : Op) (device sector n : ℕ) → range_units stack op MOST_DEPTH (Device device) sector n ≡ units_from stack op device sector n
-units_from_range stack op device sector zero = refl
-units_from_range stack op device sector (suc n) = ap (λ (units : List BlockUnit). sector_units stack op MOST_DEPTH (Device device) sector ++ units) (units_from_range stack op device (suc sector) n)
+-- a row of one unit, which changes nothing
+pub steps_still : (step : State → ℕ → Step) (state : State) (sector n : ℕ) (unit : BlockUnit) → next_unit unit ≡ unit → ((i : ℕ) → i < n → step state (sector + i) ≡ keep (unit ∷ []) state) → steps step state sector n ≡ keep (units_in unit n) state
+steps_still step state sector zero unit still each = refl
+steps_still step state sector (suc n) unit still each =
+    let here : step state sector ≡ keep (unit ∷ []) state = ap (step state) (let e : sector ≡ sector + 0 = omega arith in e) ∙ each 0 (omega arith) in
+    let later : (i : ℕ) → i < n → step state (suc sector + i) ≡ keep (unit ∷ []) state = λ i within.
+    ap (step state) (let e : suc sector + i ≡ sector + suc i = omega arith in e) ∙ each (suc i) (omega (arith, within)) in
+    ap (λ (first : Step). and_then first (λ after. steps step after (suc sector) n)) here
+    ∙ ap (λ (rest : Step). record { units = unit ∷ rest.units; state = rest.state }) (steps_still step state (suc sector) n unit still later)
+    ∙ ap (λ (next : BlockUnit). keep (unit ∷ units_in next n) state) (sym still)
 
 -- a sink that took the first part of a row, and then the next one
 pub took_on : {S : Type 0} (took : S → List BlockUnit → S → Type 0) (both : (a b c : S) (us vs : List BlockUnit) → took a us b → took b vs c → took a (us ++ vs) c)
-    (a b c : S) (units : ℕ → List BlockUnit) (place m n : ℕ) → took a (row_units units place m) b → took b (row_units units (place + m) n) c → took a (row_units units place (m + n)) c
-took_on took both a b c units place m n first second = rw (row_units-append units place m n) (both a b c _ _ first second)
+    (a b c : S) (step : State → ℕ → Step) (state after : State) (sector m n : ℕ) → after ≡ (steps step state sector m).state → took a (steps step state sector m).units b → took b (steps step after (sector + m) n).units c
+    → took a (steps step state sector (m + n)).units c
+took_on took both a b c step state after sector m n is first second =
+    subst (λ (row : Step). took a row.units c) (sym (steps-append step state sector m n))
+    (both a b c _ _ first (subst (λ (s : State). took b (steps step s (sector + m) n).units c) is second))
 
--- or failed in the next one
+-- the state after both parts
+pub state_on : (step : State → ℕ → Step) (state after last : State) (sector m n : ℕ) → after ≡ (steps step state sector m).state → last ≡ (steps step after (sector + m) n).state → last ≡ (steps step state sector (m + n)).state
+state_on step state after last sector m n is second =
+    second ∙ ap (λ (s : State). (steps step s (sector + m) n).state) is ∙ ap (λ (row : Step). row.state) (sym (steps-append step state sector m n))
+
+-- or it failed in the next one
 pub left_on : {S : Type 0} (took left : S → List BlockUnit → S → Type 0) (both : (a b c : S) (us vs : List BlockUnit) → took a us b → left b vs c → left a (us ++ vs) c)
-    (a b c : S) (units : ℕ → List BlockUnit) (place m n len : ℕ) → m + n ≤ len → took a (row_units units place m) b → OfBeginning left b (row_units units (place + m) n) c → OfBeginning left a (row_units units place len) c
-left_on took left both a b c units place m n len within first cut =
-    let tail = row_units units (place + (m + n)) (len - (m + n)) in
+    (a b c : S) (step : State → ℕ → Step) (state after : State) (sector m n len : ℕ) → m + n ≤ len → after ≡ (steps step state sector m).state → took a (steps step state sector m).units b
+    → OfBeginning left b (steps step after (sector + m) n).units c → OfBeginning left a (steps step state sector len).units c
+left_on took left both a b c step state after sector m n len within is first second =
+    let cut = subst (λ (s : State). OfBeginning left b (steps step s (sector + m) n).units c) is second in
+    let front = (steps step state sector m).units in let middle = (steps step (steps step state sector m).state (sector + m) n).units in
+    let tail = (steps step (steps step state sector (m + n)).state (sector + (m + n)) (len - (m + n))).units in
     record {
-      front = row_units units place m ++ cut.front;
+      front = front ++ cut.front;
       rest = cut.rest ++ tail;
-      whole = append_assoc (row_units units place m) cut.front (cut.rest ++ tail)
-          ∙ ap (λ (us : List BlockUnit). row_units units place m ++ us) (sym (append_assoc cut.front cut.rest tail) ∙ ap (λ (us : List BlockUnit). us ++ tail) cut.whole)
-          ∙ sym (append_assoc (row_units units place m) (row_units units (place + m) n) tail)
-          ∙ ap (λ (us : List BlockUnit). us ++ tail) (sym (row_units-append units place m n))
-          ∙ sym (row_units-append units place (m + n) (len - (m + n)))
-          ∙ ap (row_units units place) (let e : m + n + (len - (m + n)) ≡ len = omega arith in e);
+      whole = append_assoc front cut.front (cut.rest ++ tail)
+          ∙ ap (λ (us : List BlockUnit). front ++ us) (sym (append_assoc cut.front cut.rest tail) ∙ ap (λ (us : List BlockUnit). us ++ tail) cut.whole)
+          ∙ sym (append_assoc front middle tail)
+          ∙ ap (λ (row : Step). row.units ++ tail) (sym (steps-append step state sector m n))
+          ∙ ap (λ (row : Step). row.units) (sym (steps-append step state sector (m + n) (len - (m + n))))
+          ∙ ap (λ (k : ℕ). (steps step state sector k).units) (let e : m + n + (len - (m + n)) ≡ len = omega arith in e);
       holds = both a b c _ _ first cut.holds;
     }

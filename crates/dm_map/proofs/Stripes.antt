@@ -6,10 +6,9 @@ use Rattle.std.proofs.lemmas.Nat.{div-add-mod', div-mul-add, mod-mul-add, row_fi
 use Rattle.std.proofs.lemmas.Option.{slice_get_read}
 use Rattle.std.proofs.Math.Nat.{div-le_self, div-lt_iff_lt-mul, mul-le-mul_right}
 use Rattle.dm_stack.specs.declared.found.FoundColumn.{FoundColumn}
-use Rattle.dm_stack.specs.declared.found.FoundTarget.TheVariants.{Striped}
 use Rattle.dm_stack.specs.Description.{Description, lower_len}
-use Rattle.dm_stack.specs.Below.{column_of, in_column, below_target, below_column, Lies}
-use Rattle.dm_map.specs.declared.stripe.Place.{Place}
+use Rattle.dm_stack.specs.Below.{column_of, in_column, below_stripes, below_column, Lies}
+use Rattle.dm_map.specs.declared.stripe.ChunkPlace.{ChunkPlace}
 use Rattle.dm_map.specs.Walk.{AreInStripes, IsPlace}
 
 -- what is left of a chunk lies in its column's share of the line
@@ -49,8 +48,8 @@ column_got chunk distance columns column some e =
     let place : column_of chunk (length columns) distance < length columns = omega arith in
     slice_get_read columns (length columns) _ column refl place e
 
--- so many sectors of what is left of a chunk are of what their column names
-pub column_inside : (stack : Description) (chunk distance len done n : ℕ) (columns : List FoundColumn) (column : FoundColumn) (place : Place) → AreInStripes stack chunk columns distance len → done < len
+-- n sectors of what is left of a chunk lie in what their column names
+pub column_inside : (stack : Description) (chunk distance len done n : ℕ) (columns : List FoundColumn) (column : FoundColumn) (place : ChunkPlace) → AreInStripes stack chunk columns distance len → done < len
     → IsPlace chunk (length columns) (distance + done) place → n ≤ chunk - place.past → column ≡ get_or columns place.column column → column.offset + (place.chunk_start + place.past) + n ≤ lower_len stack column.to
 column_inside stack chunk distance len done n columns column place lies some at most is =
     let stripes = lies.stripes in
@@ -60,8 +59,8 @@ column_inside stack chunk distance len done n columns column place lies some at 
     omega (arith, share, low, most, at.chunk_start, at.past)
 
 -- what lies below a sector of what is left of a chunk
-pub below_chunk : (chunk distance i : ℕ) (columns : List FoundColumn) (column : FoundColumn) (place : Place) → 0 < length columns → 0 < chunk → IsPlace chunk (length columns) distance place
-    → i < chunk - place.past → column ≡ get_or columns place.column column → below_target (Striped chunk columns) (distance + i) ≡ Lies column.to (column.offset + (place.chunk_start + place.past) + i)
+pub below_chunk : (chunk distance i : ℕ) (columns : List FoundColumn) (column : FoundColumn) (place : ChunkPlace) → 0 < length columns → 0 < chunk → IsPlace chunk (length columns) distance place
+    → i < chunk - place.past → column ≡ get_or columns place.column column → below_stripes chunk columns (distance + i) ≡ Lies column.to (column.offset + (place.chunk_start + place.past) + i)
 below_chunk chunk distance i columns column place some chunk_some at within is =
     let left : i < chunk - distance % chunk = omega (arith, within, at.past) in
     let same = in_chunk chunk distance i chunk_some left in
@@ -72,13 +71,13 @@ below_chunk chunk distance i columns column place some chunk_some at within is =
 
 -- The place of the next chunk
 
--- the first sector behind a chunk
-record IsBehind (chunk distance : ℕ) : Type 0 where
+-- the first sector after a chunk
+record IsAfter (chunk distance : ℕ) : Type 0 where
   number : (distance + (chunk - distance % chunk)) / chunk ≡ distance / chunk + 1
   past : (distance + (chunk - distance % chunk)) % chunk ≡ 0
 
-behind : (chunk distance : ℕ) → 0 < chunk → IsBehind chunk distance
-behind chunk distance some =
+after_chunk : (chunk distance : ℕ) → 0 < chunk → IsAfter chunk distance
+after_chunk chunk distance some =
     let whole : distance / chunk * chunk + distance % chunk ≡ distance = div-add-mod' distance chunk in
     let small : distance % chunk < chunk = omega arith in
     let at : distance + (chunk - distance % chunk) ≡ (distance / chunk + 1) * chunk + 0 = omega (arith, whole, small) in
@@ -88,10 +87,10 @@ behind chunk distance some =
     }
 
 -- on the next column
-pub place_within : (chunk count distance : ℕ) (place : Place) → 0 < chunk → IsPlace chunk count distance place → place.column + 1 < count
+pub place_within : (chunk count distance : ℕ) (place : ChunkPlace) → 0 < chunk → IsPlace chunk count distance place → place.column + 1 < count
     → IsPlace chunk count (distance + (chunk - place.past)) (record { column = place.column + 1; chunk_start = place.chunk_start; past = 0 })
 place_within chunk count distance place some at within =
-    let next = behind chunk distance some in
+    let next = after_chunk chunk distance some in
     let whole : distance / chunk / count * count + distance / chunk % count ≡ distance / chunk = div-add-mod' (distance / chunk) count in
     let on : distance / chunk + 1 ≡ distance / chunk / count * count + (distance / chunk % count + 1) = omega (arith, whole) in
     let small : distance / chunk % count + 1 < count = omega (arith, within, at.column) in
@@ -103,11 +102,11 @@ place_within chunk count distance place some at within =
       past = sym next.past;
     })
 
--- behind the last column
-pub place_behind : (chunk count distance : ℕ) (place : Place) → 0 < chunk → IsPlace chunk count distance place → place.column + 1 ≡ count
+-- after the last column, on the first one
+pub place_after : (chunk count distance : ℕ) (place : ChunkPlace) → 0 < chunk → IsPlace chunk count distance place → place.column + 1 ≡ count
     → IsPlace chunk count (distance + (chunk - place.past)) (record { column = 0; chunk_start = place.chunk_start + chunk; past = 0 })
-place_behind chunk count distance place some at last =
-    let next = behind chunk distance some in
+place_after chunk count distance place some at last =
+    let next = after_chunk chunk distance some in
     let whole : distance / chunk / count * count + distance / chunk % count ≡ distance / chunk = div-add-mod' (distance / chunk) count in
     let on : distance / chunk + 1 ≡ (distance / chunk / count + 1) * count + 0 = omega (arith, whole, last, at.column) in
     let some_columns : 0 < count = omega (arith, last) in
@@ -120,7 +119,7 @@ place_behind chunk count distance place some at last =
     })
 
 -- a place is no further on its column than the sector is in the line
-pub place_small : (chunk count distance : ℕ) (place : Place) → 0 < count → IsPlace chunk count distance place → place.chunk_start + place.past ≤ distance
+pub place_small : (chunk count distance : ℕ) (place : ChunkPlace) → 0 < count → IsPlace chunk count distance place → place.chunk_start + place.past ≤ distance
 place_small chunk count distance place some at =
     let whole : distance / chunk * chunk + distance % chunk ≡ distance = div-add-mod' distance chunk in
     let rows : distance / chunk / count ≤ distance / chunk = div-le_self (distance / chunk) count in

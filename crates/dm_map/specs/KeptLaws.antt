@@ -1,4 +1,4 @@
--- The laws of a sink, for a list of pieces. They stand here since its impl cites them.
+-- The laws of a sink, for a list of pieces. They are here because its impl cites them.
 use Rattle.std.proofs.Common.{List, [], ◌++◌, append_assoc, sym, ap, ◌∙◌}
 use Rattle.std.proofs.lemmas.List.{append-nil}
 use Rattle.dm_map.specs.Units.{BlockUnit}

@@ -3,5 +3,9 @@ pub mod Mapper
 pub mod Mapping
 pub mod PieceList
 pub mod Sink
+pub mod Snapshots
+pub mod State
+pub mod Steps
+pub mod Stretch
 pub mod Units
 pub mod Walk

@@ -1,15 +1,22 @@
--- A mapper, and what its answers say.
+-- A mapper, and what its results say.
 use Rattle.std.specs.Prelude.{Bool, Result, Ok, Err}
 use Rattle.dm_stack.specs.Description.{Description}
+use Rattle.dm_map.specs.State.{State}
+use Rattle.dm_map.specs.Walk.{Walking}
 use Rattle.dm_map.specs.declared.mapper.MapFault.{MapFault}
 use Rattle.dm_map.specs.declared.mapper.MapFault.TheVariants as faults
 
--- a mapper: its stack, and whether a sink of it failed
+-- a mapper: its stack, the state that the requests so far left, and whether one of its sinks failed
 pub record Mapping : Type 0 where
   pub stack : Description
+  pub state : State
   pub stopped : Bool
 
--- the answer is that the sink failed, or that the mapper is stopped
+-- the walk that a mapper makes
+abbrev pub walking_of : Mapping → Walking
+walking_of mapper = record { stack = mapper.stack; state = mapper.state }
+
+-- where the result is that the sink failed, or that the mapper is stopped
 abbrev pub OnSinkFault : {F : Type 0} → Result (Unit {0}) (MapFault F) → Type 0 → Type 0
 OnSinkFault (Ok done) P = Unit {0}
 OnSinkFault (Err (faults.Sink fault)) P = P

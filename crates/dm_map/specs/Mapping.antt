@@ -1,13 +1,18 @@
 -- What becomes of each sector of a request (the kernel's admin guide, device-mapper/linear, striped and zero).
-use Rattle.std.specs.Prelude.{ℕ, zero, suc, ◌+◌, ◌≡◌, ◌≤◌, ◌<◌, List, [], ◌∷◌, ◌++◌, length, nat_lt, replicate, if◌then◌else◌}
+use Rattle.std.specs.Prelude.{ℕ, zero, suc, ◌+◌, ◌-◌, ◌≡◌, ◌≤◌, ◌<◌, [], ◌∷◌, Option, Some, None, length, nat_lt, replicate, if◌then◌else◌}
 use Rattle.dm_table.specs.declared.request.Op.{Op}
 use Rattle.dm_table.specs.declared.request.Op.TheVariants as ops
 use Rattle.dm_stack.specs.declared.id.Lower.{Lower}
 use Rattle.dm_stack.specs.declared.id.Lower.TheVariants.{Device, Disk}
+use Rattle.dm_stack.specs.declared.found.FoundLine.{FoundLine}
+use Rattle.dm_stack.specs.declared.found.FoundTarget.{FoundTarget}
 use Rattle.dm_stack.specs.declared.graph.TheConstants.{MOST_DEPTH}
 use Rattle.dm_stack.specs.Description.{Description, device_len, is_ro_at}
-use Rattle.dm_stack.specs.Below.{Below, Lies, IsZero, IsError, below}
+use Rattle.dm_stack.specs.Below.{Below, Lies, IsZero, IsError, below, below_target, found_at}
 use Rattle.dm_stack.specs.Soundness.{depth_of}
+use Rattle.dm_map.specs.Snapshots.{read_over}
+use Rattle.dm_map.specs.State.{State, taken_at}
+use Rattle.dm_map.specs.Steps.{Step, keep, steps}
 use Rattle.dm_map.specs.Units.{BlockUnit, ReadOf, WriteOf, Zeros, Drops, Fails}
 
 -- what a sector becomes by what lies below it: that of the lower sector, or something of its own
@@ -16,37 +21,46 @@ by_below (Lies to sector) zeros fails next = next to sector
 by_below IsZero zeros fails next = zeros
 by_below IsError zeros fails next = fails
 
--- the read of a sector, through at most so many levels of devices
-unfoldable pub read_unit : Description → ℕ → Lower → ℕ → BlockUnit
-read_unit stack levels (Disk disk) sector = ReadOf disk sector
-read_unit stack zero (Device device) sector = Fails
-read_unit stack (suc levels) (Device device) sector =
-    by_below (below stack device sector) Zeros Fails (λ to lower. read_unit stack levels to lower)
+-- what lies below a sector of a device, where it is read in this state
+abbrev pub read_below : Description → State → (device sector : ℕ) → Below
+read_below stack state device sector = below (read_over (taken_at state device)) stack device sector
 
--- the units of a write of a sector: a read-only device fails it wherever it stands, and zeros throw it away
-unfoldable pub write_units : Description → ℕ → Lower → ℕ → List BlockUnit
-write_units stack levels (Disk disk) sector = WriteOf disk sector ∷ []
-write_units stack zero (Device device) sector = Fails ∷ []
-write_units stack (suc levels) (Device device) sector =
-    if is_ro_at stack device then Fails ∷ []
-    else by_below (below stack device sector) (Drops ∷ []) (Fails ∷ []) (λ to lower. write_units stack levels to lower)
+-- the read of a sector, through at most this many levels of devices
+unfoldable pub read_unit : Description → State → ℕ → Lower → ℕ → BlockUnit
+read_unit stack state levels (Disk disk) sector = ReadOf disk sector
+read_unit stack state zero (Device device) sector = Fails
+read_unit stack state (suc levels) (Device device) sector =
+    by_below (read_below stack state device sector) Zeros Fails (λ to lower. read_unit stack state levels to lower)
 
--- the units of a sector, for either operation
-abbrev pub sector_units : Description → Op → ℕ → Lower → ℕ → List BlockUnit
-sector_units stack ops.Read levels lower sector = read_unit stack levels lower sector ∷ []
-sector_units stack ops.Write levels lower sector = write_units stack levels lower sector
+-- the write of a sector at a distance from the start of a line of this target, by that of a lower one: zeros throw it away
+abbrev pub write_target : State → (device : ℕ) → FoundTarget → (distance : ℕ) → (Lower → State → ℕ → Step) → Step
+write_target state device target distance next =
+    by_below (below_target (read_over (taken_at state device)) target distance) (keep (Drops ∷ []) state) (keep (Fails ∷ []) state) (λ to sector. next to state sector)
 
--- the units of len sectors of a device from a sector on, in rising order; no stack has more levels
-abbrev pub units_from : Description → Op → (device sector len : ℕ) → List BlockUnit
-units_from stack op device sector zero = []
-units_from stack op device sector (suc len) = sector_units stack op MOST_DEPTH (Device device) sector ++ units_from stack op device (suc sector) len
+abbrev pub write_line : State → (device : ℕ) → Option FoundLine → (sector : ℕ) → (Lower → State → ℕ → Step) → Step
+write_line state device (Some line) sector next = write_target state device line.target (sector - line.start) next
+write_line state device None sector next = keep (Fails ∷ []) state
 
--- the units of a request: one that passes the device's end fails as a whole
-abbrev pub request_units : Description → Op → (device start len : ℕ) → List BlockUnit
-request_units stack op device start len =
-    if nat_lt (device_len stack device) (start + len) then replicate len Fails else units_from stack op device start len
+-- the write of a sector, through at most this many levels of devices: a read-only device fails it, whatever its line says
+unfoldable pub write_step : Description → ℕ → Lower → State → ℕ → Step
+write_step stack levels (Disk disk) state sector = keep (WriteOf disk sector ∷ []) state
+write_step stack zero (Device device) state sector = keep (Fails ∷ []) state
+write_step stack (suc levels) (Device device) state sector =
+    if is_ro_at stack device then keep (Fails ∷ []) state
+    else write_line state device (found_at stack device sector) sector (λ to after lower. write_step stack levels to after lower)
 
--- any number of levels that is at least a device's depth gives the units that the greatest does
+-- the step of a sector, for either operation: a read changes nothing
+abbrev pub sector_step : Description → Op → ℕ → Lower → State → ℕ → Step
+sector_step stack ops.Read levels lower state sector = keep (read_unit stack state levels lower sector ∷ []) state
+sector_step stack ops.Write levels lower state sector = write_step stack levels lower state sector
+
+-- the step of a request of a device: its sectors in rising order; one that passes the device's end fails as a whole. No stack has more levels
+abbrev pub request_step : Description → Op → (device start len : ℕ) → State → Step
+request_step stack op device start len state =
+    if nat_lt (device_len stack device) (start + len) then keep (replicate len Fails) state
+    else steps (sector_step stack op MOST_DEPTH (Device device)) state start len
+
+-- any number of levels that is at least a device's depth gives the step that the greatest does, in any state
 pub record IsFreeOfLevels (stack : Description) (op : Op) : Type 0 where
-  pub same : (device levels sector : ℕ) → device < length stack.devices → depth_of stack device ≤ levels
-      → sector_units stack op levels (Device device) sector ≡ sector_units stack op MOST_DEPTH (Device device) sector
+  pub same : (device levels sector : ℕ) (state : State) → device < length stack.devices → depth_of stack device ≤ levels
+      → sector_step stack op levels (Device device) state sector ≡ sector_step stack op MOST_DEPTH (Device device) state sector

@@ -15,6 +15,6 @@ pub record Kept : Type 0 where
 abbrev pub units_kept : List Piece → List BlockUnit
 units_kept pieces = flat_map units_of pieces
 
--- the units were put behind those that are there
+-- the units were added at the end
 pub record Keeps (old : Kept) (units : List BlockUnit) (new : Kept) : Type 0 where
   pub kept : units_kept new.pieces ≡ units_kept old.pieces ++ units

@@ -1,4 +1,4 @@
--- What is said of the states of a sink.
+-- What relates two states of a sink.
 use Rattle.std.specs.Prelude.{◌≡◌, List, ◌++◌}
 use Rattle.dm_map.specs.Units.{BlockUnit}
 

@@ -14,7 +14,7 @@ pub data BlockUnit : Type 0 where
   CopyOf : (disk sector to to_sector : ℕ) → BlockUnit
   FillOf : (disk sector : ℕ) → BlockUnit
 
--- what goes on from a unit: one kind, the same disks, the next sectors
+-- the unit that continues another: of the same kind, on the same disks, at the next sectors
 abbrev pub next_unit : BlockUnit → BlockUnit
 next_unit (ReadOf disk sector) = ReadOf disk (suc sector)
 next_unit (WriteOf disk sector) = WriteOf disk (suc sector)
@@ -24,7 +24,7 @@ next_unit Fails = Fails
 next_unit (CopyOf disk sector to to_sector) = CopyOf disk (suc sector) to (suc to_sector)
 next_unit (FillOf disk sector) = FillOf disk (suc sector)
 
--- so many units, each going on from the one before
+-- len units, each continuing the one before
 abbrev pub units_in : BlockUnit → ℕ → List BlockUnit
 units_in unit zero = []
 units_in unit (suc len) = unit ∷ units_in (next_unit unit) len

@@ -1,15 +1,25 @@
--- What a walk down a stack hands over: the units of ranges and of lines, and places in stripes.
-use Rattle.std.specs.Prelude.{ℕ, zero, suc, ◌≡◌, ◌+◌, ◌*◌, ◌/◌, ◌%◌, ◌^◌, ◌≤◌, Bool, false, List, [], ◌∷◌, ◌++◌}
+-- What a walk down a stack hands over: the steps of ranges and of lines, and places in stripes.
+use Rattle.std.specs.Prelude.{ℕ, ◌≡◌, ◌+◌, ◌*◌, ◌/◌, ◌%◌, ◌^◌, ◌≤◌, Bool, false, List, [], ◌∷◌, Result, OnOk, OnErr}
 use Rattle.dm_table.specs.declared.request.Op.{Op}
 use Rattle.dm_table.specs.declared.request.Op.TheVariants as ops
+use Rattle.dm_table.specs.DeviceIo.{fault_of}
 use Rattle.dm_stack.specs.declared.id.Lower.{Lower}
 use Rattle.dm_stack.specs.declared.found.FoundColumn.{FoundColumn}
 use Rattle.dm_stack.specs.declared.found.FoundTarget.{FoundTarget}
 use Rattle.dm_stack.specs.Description.{Description, is_ro_at}
-use Rattle.dm_stack.specs.Below.{Below, below_target, column_of, AreStripes}
-use Rattle.dm_map.specs.declared.stripe.Place.{Place}
+use Rattle.dm_stack.specs.Below.{Below, below_stripes, below_target, column_of, AreStripes}
+use Rattle.dm_map.specs.declared.stripe.ChunkPlace.{ChunkPlace}
+use Rattle.dm_map.specs.Sink.{OfBeginning}
+use Rattle.dm_map.specs.Snapshots.{read_over}
+use Rattle.dm_map.specs.State.{State, taken_at}
+use Rattle.dm_map.specs.Steps.{Step, keep, steps}
 use Rattle.dm_map.specs.Units.{BlockUnit, ReadOf, WriteOf, Zeros, Drops, Fails}
-use Rattle.dm_map.specs.Mapping.{by_below, sector_units}
+use Rattle.dm_map.specs.Mapping.{by_below, read_unit, write_step, write_target, sector_step}
+
+-- a walk: its stack, and the state that it is in
+pub record Walking : Type 0 where
+  pub stack : Description
+  pub state : State
 
 -- the unit of a sector of a disk, and that of one in zeros
 abbrev pub disk_unit : Op → (disk sector : ℕ) → BlockUnit
@@ -20,30 +30,51 @@ abbrev pub zero_unit : Op → BlockUnit
 zero_unit ops.Read = Zeros
 zero_unit ops.Write = Drops
 
--- the units of so many places in a row
-abbrev pub row_units : (ℕ → List BlockUnit) → (place len : ℕ) → List BlockUnit
-row_units units place zero = []
-row_units units place (suc len) = units place ++ row_units units (suc place) len
+-- the step of len sectors of a device or a disk from a sector on, in rising order
+abbrev pub range_step : Description → Op → ℕ → Lower → State → (sector len : ℕ) → Step
+range_step stack op levels lower state sector len = steps (sector_step stack op levels lower) state sector len
 
--- the units of len sectors of a device or a disk from a sector on, in rising order
-abbrev pub range_units : Description → Op → ℕ → Lower → (sector len : ℕ) → List BlockUnit
-range_units stack op levels lower = row_units (sector_units stack op levels lower)
+-- the step of a sector at a distance from the start of a line of this target, of a device, through at most this many levels of devices below it
+abbrev pub target_step : Description → Op → ℕ → (device : ℕ) → FoundTarget → State → (distance : ℕ) → Step
+target_step stack ops.Read levels device target state distance =
+    keep (by_below (below_target (read_over (taken_at state device)) target distance) Zeros Fails (λ to sector. read_unit stack state levels to sector) ∷ []) state
+target_step stack ops.Write levels device target state distance = write_target state device target distance (λ to after sector. write_step stack levels to after sector)
 
--- the units of a sector, by what lies below it, through at most so many levels of devices there
-abbrev pub below_units : Description → Op → ℕ → Below → List BlockUnit
-below_units stack op levels b = by_below b (zero_unit op ∷ []) (Fails ∷ []) (λ to sector. sector_units stack op levels to sector)
+-- the step of len sectors of such a line
+abbrev pub line_step : Description → Op → ℕ → (device : ℕ) → FoundTarget → State → (distance len : ℕ) → Step
+line_step stack op levels device target state distance len = steps (target_step stack op levels device target) state distance len
 
--- the units of len sectors of a line of this target, from a distance from its start on
-abbrev pub target_units : Description → Op → ℕ → FoundTarget → (distance len : ℕ) → List BlockUnit
-target_units stack op levels target = row_units (λ distance. below_units stack op levels (below_target target distance))
+-- the step of a sector that is one of the device or disk that lies below it
+abbrev pub below_step : Description → Op → ℕ → Below → State → Step
+below_step stack op levels b state = by_below b (keep (zero_unit op ∷ []) state) (keep (Fails ∷ []) state) (λ to sector. sector_step stack op levels to state sector)
+
+-- the step of len sectors of a striped line
+abbrev pub stripes_step : Description → Op → ℕ → (chunk : ℕ) → List FoundColumn → State → (distance len : ℕ) → Step
+stripes_step stack op levels chunk columns state distance len =
+    steps (λ after place. below_step stack op levels (below_stripes chunk columns place) after) state distance len
 
 -- a device fails a request as a whole: one for a write, where it is read-only
-abbrev pub is_failing : Description → Op → ℕ → Bool
-is_failing stack ops.Read device = false
-is_failing stack ops.Write device = is_ro_at stack device
+abbrev pub refuses : Description → Op → ℕ → Bool
+refuses stack ops.Read device = false
+refuses stack ops.Write device = is_ro_at stack device
+
+-- a sink is ready for len sectors of a stack: it is one of this stack, with room for them
+pub record IsReady {S : Type 0} (stack_of : S → Description) (room_of : S → ℕ) (sink : S) (of : Description) (len : ℕ) : Type 0 where
+  pub stack : stack_of sink ≡ of
+  pub room : len ≤ room_of sink
+
+-- a sink took the units of a step of len sectors, and the walk is in the state after it; or the sink failed at a beginning of them
+pub record IsWalked {S F : Type 0} (takes leaves : S → List BlockUnit → S → Type 0) (stack_of : S → Description) (room_of faults_of : S → ℕ) (result : Result (Unit {0}) F) (old new : S) (before after : Walking) (step : Step) (len : ℕ) : Type 0 where
+  pub took : OnOk result (takes old step.units new)
+  pub state : OnOk result (after.state ≡ step.state)
+  pub kept : OnOk result (stack_of new ≡ stack_of old)
+  pub room : OnOk result (room_of old ≤ room_of new + len)
+  pub left : OnErr result (OfBeginning leaves old step.units new)
+  pub faults : faults_of new ≡ faults_of old + fault_of result
+  pub stack : after.stack ≡ before.stack
 
 -- the place in stripes of a sector at a distance from the line's start
-pub record IsPlace (chunk count distance : ℕ) (place : Place) : Type 0 where
+pub record IsPlace (chunk count distance : ℕ) (place : ChunkPlace) : Type 0 where
   pub column : place.column ≡ column_of chunk count distance
   pub chunk_start : place.chunk_start ≡ distance / chunk / count * chunk
   pub past : place.past ≡ distance % chunk

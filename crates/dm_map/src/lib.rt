@@ -1,7 +1,7 @@
 //! Mapping requests through a checked stack.
 //!
-//! What becomes of a request is said sector by sector in `specs/Mapping.antt`; here it is handed to
-//! a `Sink` in pieces.
+//! `specs/Mapping.antt` defines what becomes of a request, sector by sector; the code hands it to a
+//! `Sink` in pieces.
 #![tactic(auto)]
 
 mod levels;
@@ -9,8 +9,10 @@ mod mapper;
 mod piece;
 mod piece_list;
 mod sink;
+mod stretch;
 mod stripe;
 mod walk;
+mod walker;
 
 pub use levels::levels_are_enough;
 pub use mapper::{MapFault, Mapper};

@@ -1,19 +1,23 @@
 //! The mapper: hands the units of requests to a sink.
 //!
-//! It finds lines through its looker alone and keeps no list, so a request takes no memory. What
-//! becomes of a sector is said in `specs/Mapping.antt`; how a range is cut, in `walk`.
+//! It finds lines through its looker alone and keeps no list, so a request takes no memory.
+//! `specs/Mapping.antt` defines what becomes of a sector, `walk` cuts a range into pieces, and
+//! `walker` keeps what one request leaves for the next.
 
-ghost use Rattle.std.specs.Prelude.{◌≡◌, ℕ, ◌+◌, ◌^◌, ◌<◌, ◌≤◌, ◌∷◌, false, true, length, nat_lt, IfOk, OnOk, OnErr, []};
+ghost use Rattle.std.specs.Prelude.{◌≡◌, ℕ, ◌+◌, ◌^◌, ◌<◌, ◌≤◌, ◌∷◌, false, true, length, nat_lt, IfOk, OnOk, []};
 ghost use Rattle.dm_stack.specs.Description.{Description, device_len};
-ghost use Rattle.dm_table.specs.DeviceIo.{fault_of};
+ghost use Rattle.dm_stack.specs.declared.graph.TheConstants.{MOST_DEPTH};
 ghost use Rattle.dm_stack.specs.declared.id.Lower.TheVariants.{Device};
-ghost use Rattle.dm_map.specs.Mapping.{request_units, units_from};
-ghost use Rattle.dm_map.specs.Mapper.{OnSinkFault, OnStopped};
+ghost use Rattle.dm_map.specs.Mapping.{request_step};
+ghost use Rattle.dm_map.specs.Mapper.{OnSinkFault, OnStopped, walking_of};
 ghost use Rattle.dm_map.specs.Sink.{OfBeginning};
+ghost use Rattle.dm_map.specs.State.{start_state};
+ghost use Rattle.dm_map.specs.Walk.{range_step, IsReady, IsWalked};
 
 use crate::piece::Piece;
 use crate::sink::Sink;
-use crate::walk::serve_range;
+use crate::walk::map_range;
+use crate::walker::Walker;
 use dm_stack::{DeviceId, Looker, Lower, MOST_DEPTH};
 use dm_table::Request;
 use std::alloc::{AllocError, Global};
@@ -28,16 +32,16 @@ pub enum MapFault<F> {
     /// The sink failed at a piece of this request.
     #[error("the sink failed: {0}")]
     Sink(F),
-    /// A sink failed at an earlier request, so the mapper answers nothing more.
+    /// A sink failed at an earlier request, so the mapper maps nothing more.
     #[error("stopped by an earlier fault")]
     Stopped,
 }
 
-/// Maps requests through the stack of its looker, one after the other. A clause sees its stack,
-/// and whether a sink of it failed.
+/// Maps requests through the stack of its looker, one after the other. A clause sees its stack, the
+/// state that its requests left, and whether one of its sinks failed.
 #[derive(Drop)]
 pub struct Mapper<'s> {
-    looker: Looker<'s>,
+    walker: Walker<'s>,
     stopped: bool,
 }
 
@@ -46,37 +50,38 @@ impl<'s> Model for Mapper<'s> {
 
     ghost Value = { Mapping };
 
-    ghost view = { λ mapper. record { stack = mapper.looker.stack; stopped = mapper.stopped } };
+    ghost view = { λ mapper. record { stack = mapper.walker.stack; state = mapper.walker.state; stopped = mapper.stopped } };
 }
 
 impl<'s> Mapper<'s> {
-    /// A mapper of the looker's stack, not stopped.
+    /// A mapper of the looker's stack, in the state at the start, and not stopped.
     ///
     /// # Errors
     ///
-    /// `AllocError` where memory for its state is missing. There is none to keep as yet.
+    /// `AllocError` where it is out of memory for its state. As yet there is none to keep.
     pub fn new(_alloc: Global, looker: Looker<'s>) -> Result<Mapper<'s>, AllocError>
         ensures stack { IfOk result (λ mapper. mapper.stack ≡ looker.entry.stack) }
+        ensures state { IfOk result (λ mapper. mapper.state ≡ start_state looker.entry.stack) }
         ensures going { IfOk result (λ mapper. mapper.stopped ≡ false) }
     {
         Ok(Mapper {
-            looker,
+            walker: Walker::new(looker),
             stopped: false,
         })
     }
 
-    /// Hands the units of a request of this device to the sink, in rising order of the sectors. A
+    /// Hands the units of a request for this device to the sink, in rising order of the sectors. A
     /// request that passes the device's end fails as a whole.
     ///
-    /// The id is one of the mapper's stack, which is also the sink's, and the sink has room for the
-    /// request. Each piece is a stretch of sectors whose path down is in one line, and one chunk, of
-    /// each device. Cost: a look-up of a line a piece and level at most, and one alone for sectors in
-    /// a row that come to a line together. No memory is taken.
+    /// The id belongs to the mapper's stack, which is also the sink's, and the sink has room for the
+    /// request. Each piece is a stretch of sectors whose path down stays in one line, and one chunk,
+    /// of each device. Cost: at most one line look-up for each piece and level, and a single one for
+    /// consecutive sectors that reach a line together. No memory is taken.
     ///
     /// # Errors
     ///
-    /// `Sink` where the sink failed: it took a beginning of the units, and the mapper is stopped
-    /// from then on. `Stopped` where it was stopped before: nothing changes.
+    /// `Sink` if the sink failed: it took a beginning of the units, and the mapper is stopped from
+    /// then on. `Stopped` if the mapper was stopped before: nothing changes.
     pub fn request<S: Sink>(
         &mut self,
         request: &Request<'_>,
@@ -87,10 +92,11 @@ impl<'s> Mapper<'s> {
         requires stack { S.stack sink.old ≡ self.old.stack }
         requires room { request.now.len ≤ S.room sink.old }
         ensures stack { self.new.stack ≡ self.old.stack }
-        ensures took { OnOk result (S.took sink.old (request_units self.old.stack request.now.op device request.now.start request.now.len) sink.new) }
+        ensures took { OnOk result (S.took sink.old (request_step self.old.stack request.now.op device request.now.start request.now.len self.old.state).units sink.new) }
+        ensures state { OnOk result (self.new.state ≡ (request_step self.old.stack request.now.op device request.now.start request.now.len self.old.state).state) }
         ensures kept { OnOk result ((S.stack sink.new ≡ S.stack sink.old) × (S.faults sink.new ≡ S.faults sink.old)) }
         ensures going { OnOk result ((self.old.stopped ≡ false) × (self.new.stopped ≡ false)) }
-        ensures left { OnSinkFault result (OfBeginning S.left sink.old (request_units self.old.stack request.now.op device request.now.start request.now.len) sink.new) }
+        ensures left { OnSinkFault result (OfBeginning S.left sink.old (request_step self.old.stack request.now.op device request.now.start request.now.len self.old.state).units sink.new) }
         ensures failed { OnSinkFault result (S.faults sink.new ≡ S.faults sink.old + 1) }
         ensures stops { OnSinkFault result ((self.old.stopped ≡ false) × (self.new.stopped ≡ true)) }
         ensures stopped { OnStopped result ((self.old.stopped ≡ true) × (self.new ≡ self.old) × (sink.new ≡ sink.old)) }
@@ -98,7 +104,7 @@ impl<'s> Mapper<'s> {
         if self.stopped {
             return Err(MapFault::Stopped);
         }
-        match self.serve(request, device, sink) {
+        match self.map_request(request, device, sink) {
             Ok(()) => Ok(()),
             Err(fault) => {
                 self.stopped = true;
@@ -107,48 +113,40 @@ impl<'s> Mapper<'s> {
         }
     }
 
-    /// Hands over the units of a request, and leaves it to the caller to stop at a fault.
-    fn serve<S: Sink>(
+    /// Hands over the units of a request; stopping at a fault is left to the caller.
+    fn map_request<S: Sink>(
         &mut self,
         request: &Request<'_>,
         device: DeviceId,
         sink: &mut S,
     ) -> Result<(), S::Fault>
         requires device { device < length self.old.stack.devices }
-        requires stack { S.stack sink.old ≡ self.old.stack }
-        requires room { request.now.len ≤ S.room sink.old }
-        ensures same { self.new ≡ self.old }
-        ensures took { OnOk result (S.took sink.old (request_units self.old.stack request.now.op device request.now.start request.now.len) sink.new) }
-        ensures kept { OnOk result (S.stack sink.new ≡ S.stack sink.old) }
-        ensures left { OnErr result (OfBeginning S.left sink.old (request_units self.old.stack request.now.op device request.now.start request.now.len) sink.new) }
-        ensures faults { S.faults sink.new ≡ S.faults sink.old + fault_of result }
+        requires sink { IsReady S.stack S.room sink.old self.old.stack request.now.len }
+        ensures walked { IsWalked S.took S.left S.stack S.room S.faults result sink.old sink.new (walking_of self.old) (walking_of self.new) (request_step self.old.stack request.now.op device request.now.start request.now.len self.old.state) request.now.len }
+        ensures stopped { self.new.stopped ≡ self.old.stopped }
     {
-        let end = self.looker.len(device);
+        let end = self.walker.len(device);
         if passes_end(request, end) {
             return sink.piece(Piece::Error { len: request.len });
         }
-        self.serve_sectors(request, device, sink)
+        self.map_sectors(request, device, sink)
     }
 
-    /// Hands over the units of a request that lies inside its device, by one walk.
-    fn serve_sectors<S: Sink>(
+    /// Hands over the units of a request that lies inside its device, in one walk.
+    fn map_sectors<S: Sink>(
         &mut self,
         request: &Request<'_>,
         device: DeviceId,
         sink: &mut S,
     ) -> Result<(), S::Fault>
         requires inside { request.now.start + request.now.len ≤ device_len self.old.stack device }
-        requires stack { S.stack sink.old ≡ self.old.stack }
-        requires room { request.now.len ≤ S.room sink.old }
-        ensures same { self.new ≡ self.old }
-        ensures took { OnOk result (S.took sink.old (units_from self.old.stack request.now.op device request.now.start request.now.len) sink.new) }
-        ensures kept { OnOk result (S.stack sink.new ≡ S.stack sink.old) }
-        ensures left { OnErr result (OfBeginning S.left sink.old (units_from self.old.stack request.now.op device request.now.start request.now.len) sink.new) }
-        ensures faults { S.faults sink.new ≡ S.faults sink.old + fault_of result }
+        requires sink { IsReady S.stack S.room sink.old self.old.stack request.now.len }
+        ensures walked { IsWalked S.took S.left S.stack S.room S.faults result sink.old sink.new (walking_of self.old) (walking_of self.new) (range_step self.old.stack request.now.op MOST_DEPTH (Device device) self.old.state request.now.start request.now.len) request.now.len }
+        ensures stopped { self.new.stopped ≡ self.old.stopped }
     {
         let lower = Lower::Device(device);
-        serve_range(
-            &mut self.looker,
+        map_range(
+            &mut self.walker,
             request.op,
             MOST_DEPTH,
             lower,

@@ -1,11 +1,11 @@
-//! Pieces: what becomes of sectors in a row.
+//! Pieces: what becomes of consecutive sectors.
 //!
-//! A piece is a short way to say units, one a sector; clauses speak of the units alone. A new kind
-//! of piece is a variant here, and an arm of each function of `specs/Units.antt`.
+//! A piece is short for a list of units, one for each sector; clauses speak of the units alone. A new
+//! kind of piece is a variant here, and an arm of each function in `specs/Units.antt`.
 
 use dm_stack::DiskId;
 
-/// What becomes of `len` sectors in a row of a request. Starts and lengths are in sectors of 512
+/// What becomes of `len` consecutive sectors of a request. Starts and lengths are in sectors of 512
 /// bytes.
 #[derive(Clone, Copy, Debug, PartialEq, Eq, Drop)]
 pub enum Piece {

@@ -1,7 +1,7 @@
 //! Lists of pieces: a sink that keeps what it takes.
 //!
-//! For callers that want all pieces at once, as tests do. It joins nothing, so its pieces are those
-//! that were handed over; its relations are the plainest that a sink can have.
+//! For callers that want all pieces at once, as tests do. It joins nothing, so its pieces are
+//! exactly those that it was given; its relations are the plainest that a sink can have.
 
 ghost use Rattle.std.specs.Prelude.{◌≡◌, []};
 
@@ -12,7 +12,7 @@ use dm_table::Tally;
 use std::alloc::{AllocError, Global};
 use std::marker::Model;
 
-/// The pieces that were handed over, in their order.
+/// The pieces that it was given, in order.
 #[derive(Drop)]
 pub struct PieceList<'s> {
     stack: &'s Stack,
@@ -29,7 +29,7 @@ impl<'s> Model for PieceList<'s> {
 }
 
 impl<'s> PieceList<'s> {
-    /// No pieces, for a mapper of this stack. No memory is taken.
+    /// An empty list, for a mapper of this stack. No memory is taken.
     pub fn new(alloc: Global, stack: &'s Stack) -> PieceList<'s>
         ensures stack { result.stack ≡ stack.now }
         ensures pieces { result.pieces ≡ [] }
@@ -68,7 +68,7 @@ impl Sink for PieceList<'_> {
 
     ghost left = { λ old units new. OfBeginning Keeps old units new };
 
-    /// Keeps the piece, or keeps nothing of it where an allocation is refused.
+    /// Keeps the piece, or none of it if an allocation is refused.
     fn piece(&mut self, piece: Piece) -> Result<(), AllocError> {
         match self.pieces.push(piece) {
             Ok(()) => Ok(()),

@@ -1,6 +1,6 @@
 //! Sinks: what takes the pieces of requests.
 //!
-//! A mapper hands its pieces over one by one and keeps none, so requests take no memory. A sink may
+//! A mapper hands over its pieces one by one and keeps none, so requests take no memory. A sink may
 //! join pieces as it likes: its relations speak of units, which are the same however they are cut.
 
 ghost use Rattle.std.specs.Prelude.{◌≡◌, ℕ, ◌+◌, ◌≤◌, List, [], ◌++◌, OnOk, OnErr};
@@ -12,26 +12,27 @@ use crate::piece::Piece;
 
 /// What takes the pieces of requests.
 pub trait Sink {
-    /// Why a piece was not taken.
+    /// Why a piece was refused.
     type Fault: Drop;
 
     /// The stack on whose disks the pieces lie.
     ghost stack: { Self → Description };
 
-    /// The most sectors of a piece without a disk.
+    /// The largest number of sectors that a piece without a disk may have.
     ghost room: { Self → ℕ };
 
-    /// How many pieces it failed at so far.
+    /// How many pieces it has failed at so far.
     ghost faults: { Self → ℕ };
 
-    /// From the first state to the second it took these units.
+    /// Between the two states it took these units.
     ghost took: { Self → List BlockUnit → Self → Type 0 };
 
-    /// From the first state to the second it took a part of these units, and then failed.
+    /// Between the two states it took a part of these units, and then failed.
     ghost left: { Self → List BlockUnit → Self → Type 0 };
 
     /// Takes a piece of at least one sector, which lies on the disks of the sink's stack. A piece
-    /// without a disk fits the room, and lowers it by at most its length; others lower it by nothing.
+    /// without a disk fits into the room, and lowers it by at most its length; other pieces don't
+    /// lower it.
     fn piece(&mut self, piece: Piece) -> Result<(), Self::Fault>
         requires some { 1 ≤ piece_len piece }
         requires lies { IsOnDisks (stack self.old) piece }
@@ -42,12 +43,12 @@ pub trait Sink {
         ensures stack { OnOk result (stack self.new ≡ stack self.old) }
         ensures room { OnOk result (room self.old ≤ room self.new + diskless_len piece) };
 
-    /// No units are taken where nothing changes.
+    /// If nothing changes, it took no units.
     ghost took_nothing: { (s : Self) → took s [] s };
 
-    /// Units that were taken one after the other were taken.
+    /// If it took some units and then others, it took them all in that order.
     ghost took_then_took: { (a b c : Self) (us vs : List BlockUnit) → took a us b → took b vs c → took a (us ++ vs) c };
 
-    /// It failed at units where it took the first of them and failed at the others.
+    /// If it took some units and then failed at others, it failed at them all.
     ghost took_then_left: { (a b c : Self) (us vs : List BlockUnit) → took a us b → left b vs c → left a (us ++ vs) c };
 }

@@ -1,37 +1,38 @@
 //! Places in stripes: the column of a sector, and where its chunk lies there.
 //!
-//! A sector's place is found by divisions, and that of the next chunk from it without any, so a row
-//! of chunks costs the divisions of its first. The rule of the columns stands in this file alone.
+//! A sector's place is found by divisions, and the next chunk's place follows from it without any,
+//! so a row of chunks costs the divisions of the first one. The rule that assigns chunks to columns
+//! is in this file alone.
 
 ghost use Rattle.std.specs.Prelude.{◌+◌, ◌-◌, ◌<◌, ◌^◌, ℕ};
 ghost use Rattle.dm_map.specs.Walk.{IsPlace};
 
-/// A sector of a striped line: the column that has it, where its chunk starts there, and how many
-/// sectors of the chunk stand before it.
+/// A sector of a striped line: its column, where its chunk starts in that column, and how many
+/// sectors of the chunk come before it.
 #[derive(Clone, Copy, Debug, Drop)]
-pub(crate) struct Place {
+pub(crate) struct ChunkPlace {
     pub(crate) column: usize,
     pub(crate) chunk_start: u64,
     pub(crate) past: u64,
 }
 
 /// The place of the sector at a distance from the line's start.
-pub(crate) fn place_at(chunk: u64, count: u64, distance: u64) -> Place
+pub(crate) fn place_at(chunk: u64, count: u64, distance: u64) -> ChunkPlace
     requires chunk { 0 < chunk }
     requires count { 0 < count }
     ensures { IsPlace chunk count distance result }
 {
     let number = distance / chunk;
-    Place {
+    ChunkPlace {
         column: (number % count) as usize,
         chunk_start: number / count * chunk,
         past: distance % chunk,
     }
 }
 
-/// The place of the first sector of the next chunk: on the next column, and behind the last column
+/// The place of the first sector of the next chunk: on the next column, or, after the last column,
 /// on the first one, a chunk further on.
-pub(crate) fn next_chunk(chunk: u64, count: usize, place: Place) -> Place
+pub(crate) fn next_chunk(chunk: u64, count: usize, place: ChunkPlace) -> ChunkPlace
     requires chunk { 0 < chunk }
     requires column { place.column < count }
     requires small { place.chunk_start + chunk < 2 ^ 64 }
@@ -39,13 +40,13 @@ pub(crate) fn next_chunk(chunk: u64, count: usize, place: Place) -> Place
 {
     let next = place.column + 1;
     if next < count {
-        return Place {
+        return ChunkPlace {
             column: next,
             chunk_start: place.chunk_start,
             past: 0,
         };
     }
-    Place {
+    ChunkPlace {
         column: 0,
         chunk_start: place.chunk_start + chunk,
         past: 0,

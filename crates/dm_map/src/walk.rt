@@ -1,34 +1,34 @@
-//! The walk down a stack: hands the units of sectors in a row to a sink.
+//! The walk down a stack: hands the units of consecutive sectors to a sink.
 //!
 //! A range goes down as one step: it is cut where a line or a chunk of stripes ends, and nowhere
-//! else, and each line that it passes is looked up once. A new target is an arm of `serve_line`, with
-//! a loop of its own where it cuts, and an arm of `below_target`.
+//! else, and each line that it passes is looked up once. A new target is an arm of `map_line`, with
+//! a loop of its own where it cuts, and an arm of `below_target`; one with a state is an arm of
+//! `write_target` as well. Each function says which units it hands over and which state it leaves.
 
-ghost use Rattle.std.specs.Prelude.{◌≡◌, ◌+◌, ◌-◌, ◌<◌, ◌≤◌, ◌^◌, length, min, OnOk, OnErr};
-ghost use Rattle.dm_table.specs.DeviceIo.{fault_of};
+ghost use Rattle.std.specs.Prelude.{◌≡◌, ℕ, ◌+◌, ◌-◌, ◌<◌, ◌≤◌, ◌^◌, length, min};
 ghost use Rattle.dm_stack.specs.Below.{IsTargetSound};
 ghost use Rattle.dm_stack.specs.Description.{Description, device_len, lower_len};
-ghost use Rattle.dm_stack.specs.declared.found.FoundTarget.TheVariants.{Striped};
 ghost use Rattle.dm_stack.specs.declared.id.Lower.TheVariants.{Device};
-ghost use Rattle.dm_map.specs.Sink.{OfBeginning};
 ghost use Rattle.dm_map.specs.Units.{diskless_len, piece_len, units_in, units_of, IsOnDisk, IsOnDisks};
-ghost use Rattle.dm_map.specs.Walk.{disk_unit, zero_unit, is_failing, range_units, target_units, AreInStripes};
+ghost use Rattle.dm_map.specs.Walk.{disk_unit, zero_unit, refuses, range_step, line_step, stripes_step, AreInStripes, IsReady, IsWalked};
 
 use crate::piece::Piece;
 use crate::sink::Sink;
 use crate::stripe::{next_chunk, place_at};
-use dm_stack::{DeviceId, DiskId, FoundColumn, FoundLine, FoundTarget, Looker, Lower};
+use crate::walker::Walker;
+use dm_stack::{DeviceId, DiskId, FoundColumn, FoundLine, FoundTarget, Lower};
 use dm_table::Op;
 
-/// Hands over the units of sectors of a device or a disk, through at most so many levels of devices.
+/// Hands over the units of sectors of a device or a disk, through at most this many levels of
+/// devices.
 ///
 /// Each piece is a stretch of sectors whose path down is in one line, and one chunk, of each device.
 /// A sink that fails ends the walk. It is inlined, so that a part that lies on a disk, as most parts
 /// of stripes do, costs no call.
 #[cycle(walk)]
 #[inline(always)]
-pub(crate) fn serve_range<S: Sink>(
-    looker: &mut Looker<'_>,
+pub(crate) fn map_range<S: Sink>(
+    walker: &mut Walker<'_>,
     op: Op,
     levels: u32,
     lower: Lower,
@@ -37,27 +37,21 @@ pub(crate) fn serve_range<S: Sink>(
     sink: &mut S,
 ) -> Result<(), S::Fault>
     requires some { 1 ≤ len }
-    requires inside { sector + len ≤ lower_len looker.old.stack lower }
-    requires stack { S.stack sink.old ≡ looker.old.stack }
-    requires room { len ≤ S.room sink.old }
-    ensures took { OnOk result (S.took sink.old (range_units looker.old.stack op levels lower sector len) sink.new) }
-    ensures kept { OnOk result (S.stack sink.new ≡ S.stack sink.old) }
-    ensures room { OnOk result (S.room sink.old ≤ S.room sink.new + len) }
-    ensures left { OnErr result (OfBeginning S.left sink.old (range_units looker.old.stack op levels lower sector len) sink.new) }
-    ensures faults { S.faults sink.new ≡ S.faults sink.old + fault_of result }
-    ensures stack { looker.new.stack ≡ looker.old.stack }
+    requires inside { sector + len ≤ lower_len walker.old.stack lower }
+    requires sink { IsReady S.stack S.room sink.old walker.old.stack len }
+    ensures { IsWalked S.took S.left S.stack S.room S.faults result sink.old sink.new walker.old walker.new (range_step walker.old.stack op levels lower walker.old.state sector len) len }
 {
     match lower {
         Lower::Disk(disk) => sink.piece(disk_piece(op, disk, sector, len)),
-        Lower::Device(device) => serve_device(looker, op, levels, device, sector, len, sink),
+        Lower::Device(device) => map_device(walker, op, levels, device, sector, len, sink),
     }
 }
 
 /// Hands over the units of sectors of a device, line by line. A read-only device fails a write of
 /// all of them.
 #[cycle(walk)]
-fn serve_device<S: Sink>(
-    looker: &mut Looker<'_>,
+fn map_device<S: Sink>(
+    walker: &mut Walker<'_>,
     op: Op,
     levels: u32,
     device: DeviceId,
@@ -66,37 +60,31 @@ fn serve_device<S: Sink>(
     sink: &mut S,
 ) -> Result<(), S::Fault>
     requires some { 1 ≤ len }
-    requires inside { sector + len ≤ device_len looker.old.stack device }
-    requires stack { S.stack sink.old ≡ looker.old.stack }
-    requires room { len ≤ S.room sink.old }
-    ensures took { OnOk result (S.took sink.old (range_units looker.old.stack op levels (Device device) sector len) sink.new) }
-    ensures kept { OnOk result (S.stack sink.new ≡ S.stack sink.old) }
-    ensures room { OnOk result (S.room sink.old ≤ S.room sink.new + len) }
-    ensures left { OnErr result (OfBeginning S.left sink.old (range_units looker.old.stack op levels (Device device) sector len) sink.new) }
-    ensures faults { S.faults sink.new ≡ S.faults sink.old + fault_of result }
-    ensures stack { looker.new.stack ≡ looker.old.stack }
+    requires inside { sector + len ≤ device_len walker.old.stack device }
+    requires sink { IsReady S.stack S.room sink.old walker.old.stack len }
+    ensures { IsWalked S.took S.left S.stack S.room S.faults result sink.old sink.new walker.old walker.new (range_step walker.old.stack op levels (Device device) walker.old.state sector len) len }
 {
-    if levels == 0 || is_failing(looker, op, device) {
+    if levels == 0 || refuses(walker, op, device) {
         return sink.piece(Piece::Error { len });
     }
     let mut at = sector;
     let mut left = len;
     while left > 0 {
-        let line = looker.look(device, at);
+        let line = walker.look(device, at);
         let distance = at - line.start;
         let part = part_in(line, distance, left);
-        serve_line(looker, op, levels - 1, line, distance, part, sink)?;
+        map_line(walker, op, levels - 1, line, distance, part, sink)?;
         at += part;
         left -= part;
     }
     Ok(())
 }
 
-/// Hands over the units of sectors of a line at a distance from its start, through at most so many
-/// levels of devices below it.
+/// Hands over the units of sectors of a line at a distance from its start, through at most this
+/// many levels of devices below it. Which device has the line plays no part as yet.
 #[cycle(walk)]
-fn serve_line<S: Sink>(
-    looker: &mut Looker<'_>,
+fn map_line<S: Sink>(
+    walker: &mut Walker<'_>,
     op: Op,
     levels: u32,
     line: &FoundLine,
@@ -107,24 +95,18 @@ fn serve_line<S: Sink>(
     requires some { 1 ≤ len }
     requires inside { distance + len ≤ line.now.len }
     requires small { line.now.len ≤ 2 ^ 50 }
-    requires sound { IsTargetSound looker.old.stack line.now.len line.now.target }
-    requires stack { S.stack sink.old ≡ looker.old.stack }
-    requires room { len ≤ S.room sink.old }
-    ensures took { OnOk result (S.took sink.old (target_units looker.old.stack op levels line.now.target distance len) sink.new) }
-    ensures kept { OnOk result (S.stack sink.new ≡ S.stack sink.old) }
-    ensures room { OnOk result (S.room sink.old ≤ S.room sink.new + len) }
-    ensures left { OnErr result (OfBeginning S.left sink.old (target_units looker.old.stack op levels line.now.target distance len) sink.new) }
-    ensures faults { S.faults sink.new ≡ S.faults sink.old + fault_of result }
-    ensures stack { looker.new.stack ≡ looker.old.stack }
+    requires sound { IsTargetSound walker.old.stack line.now.len line.now.target }
+    requires sink { IsReady S.stack S.room sink.old walker.old.stack len }
+    ensures { (device : ℕ) → IsWalked S.took S.left S.stack S.room S.faults result sink.old sink.new walker.old walker.new (line_step walker.old.stack op levels device line.now.target walker.old.state distance len) len }
 {
     match &line.target {
         FoundTarget::Linear { to, offset } => {
-            let sector = sector_at(looker, *to, *offset, distance);
-            serve_range(looker, op, levels, *to, sector, len, sink)
+            let sector = sector_at(walker, *to, *offset, distance);
+            map_range(walker, op, levels, *to, sector, len, sink)
         }
         FoundTarget::Striped { chunk, columns } => {
             let columns = columns.as_slice();
-            serve_stripes(looker, op, levels, *chunk, columns, distance, len, sink)
+            map_stripes(walker, op, levels, *chunk, columns, distance, len, sink)
         }
         FoundTarget::Zero => sink.piece(zero_piece(op, len)),
         FoundTarget::Error => sink.piece(Piece::Error { len }),
@@ -133,8 +115,8 @@ fn serve_line<S: Sink>(
 
 /// Hands over the units of sectors of a striped line at a distance from its start, chunk by chunk.
 #[cycle(walk)]
-fn serve_stripes<S: Sink>(
-    looker: &mut Looker<'_>,
+fn map_stripes<S: Sink>(
+    walker: &mut Walker<'_>,
     op: Op,
     levels: u32,
     chunk: u64,
@@ -144,15 +126,9 @@ fn serve_stripes<S: Sink>(
     sink: &mut S,
 ) -> Result<(), S::Fault>
     requires some { 1 ≤ len }
-    requires inside { AreInStripes looker.old.stack chunk columns.now distance len }
-    requires stack { S.stack sink.old ≡ looker.old.stack }
-    requires room { len ≤ S.room sink.old }
-    ensures took { OnOk result (S.took sink.old (target_units looker.old.stack op levels (Striped chunk columns.now) distance len) sink.new) }
-    ensures kept { OnOk result (S.stack sink.new ≡ S.stack sink.old) }
-    ensures room { OnOk result (S.room sink.old ≤ S.room sink.new + len) }
-    ensures left { OnErr result (OfBeginning S.left sink.old (target_units looker.old.stack op levels (Striped chunk columns.now) distance len) sink.new) }
-    ensures faults { S.faults sink.new ≡ S.faults sink.old + fault_of result }
-    ensures stack { looker.new.stack ≡ looker.old.stack }
+    requires inside { AreInStripes walker.old.stack chunk columns.now distance len }
+    requires sink { IsReady S.stack S.room sink.old walker.old.stack len }
+    ensures { IsWalked S.took S.left S.stack S.room S.faults result sink.old sink.new walker.old walker.new (stripes_step walker.old.stack op levels chunk columns.now walker.old.state distance len) len }
 {
     let mut place = place_at(chunk, columns.len() as u64, distance);
     let mut left = len;
@@ -160,28 +136,28 @@ fn serve_stripes<S: Sink>(
         let part = left.min(chunk - place.past);
         let column = columns[place.column];
         let sector = sector_at(
-            looker,
+            walker,
             column.to,
             column.offset,
             place.chunk_start + place.past,
         );
-        serve_range(looker, op, levels, column.to, sector, part, sink)?;
+        map_range(walker, op, levels, column.to, sector, part, sink)?;
         left -= part;
         place = next_chunk(chunk, columns.len(), place);
     }
     Ok(())
 }
 
-/// Whether a device fails a request as a whole: one for a write, where it is read-only.
-fn is_failing(looker: &Looker<'_>, op: Op, device: DeviceId) -> bool
-    requires { device < length looker.now.stack.devices }
-    ensures { result ≡ is_failing looker.now.stack op device }
+/// Whether a device refuses the operation as a whole: a write, where it is read-only.
+fn refuses(walker: &Walker<'_>, op: Op, device: DeviceId) -> bool
+    requires { device < length walker.now.stack.devices }
+    ensures { result ≡ refuses walker.now.stack op device }
 {
-    looker.is_ro(device) && matches!(op, Op::Write)
+    walker.is_ro(device) && matches!(op, Op::Write)
 }
 
-/// How many of so many sectors, from a distance from its start on, a line has.
-fn part_in(line: &FoundLine, distance: u64, most: u64) -> u64
+/// How many of at most `most` sectors, from a distance from its start on, a line has.
+pub(crate) fn part_in(line: &FoundLine, distance: u64, most: u64) -> u64
     requires { distance < line.now.len }
     ensures { result ≡ min most (line.now.len - distance) }
 {
@@ -189,13 +165,13 @@ fn part_in(line: &FoundLine, distance: u64, most: u64) -> u64
 }
 
 /// The sector at a distance from an offset into a device or a disk, where it is there.
-fn sector_at(looker: &Looker<'_>, to: Lower, offset: u64, distance: u64) -> u64
-    requires { offset + distance < lower_len looker.now.stack to }
+pub(crate) fn sector_at(walker: &Walker<'_>, to: Lower, offset: u64, distance: u64) -> u64
+    requires { offset + distance < lower_len walker.now.stack to }
     ensures { result ≡ offset + distance }
 {
     let end = match to {
-        Lower::Device(device) => looker.len(device),
-        Lower::Disk(disk) => looker.disk_len(disk),
+        Lower::Device(device) => walker.len(device),
+        Lower::Disk(disk) => walker.disk_len(disk),
     };
     prove!(offset <= end && distance < end - offset);
     offset + distance

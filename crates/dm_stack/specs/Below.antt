@@ -50,17 +50,26 @@ abbrev pub below_column : Option FoundColumn → ℕ → Below
 below_column (Some column) sector = Lies column.to (column.offset + sector)
 below_column None sector = IsError
 
--- what lies below a sector at a distance from the start of a line of this target
-abbrev pub below_target : FoundTarget → ℕ → Below
-below_target (found.Linear to offset) distance = Lies to (offset + distance)
-below_target (found.Striped chunk columns) distance =
+abbrev pub below_stripes : (chunk : ℕ) → List FoundColumn → ℕ → Below
+below_stripes chunk columns distance =
     below_column (slice_get columns (column_of chunk (length columns) distance)) (in_column chunk (length columns) distance)
-below_target found.Zero distance = IsZero
-below_target found.Error distance = IsError
 
-abbrev pub below_line : Option FoundLine → ℕ → Below
-below_line (Some line) sector = below_target line.target (sector - line.start)
-below_line None sector = IsError
+-- a snapshot: what it is of, where chunks are kept, and the sectors of a chunk; no line is one as yet
+pub record Snapshot : Type 0 where
+  pub origin : Lower
+  pub store : Lower
+  pub chunk : ℕ
+
+-- what lies below a sector at a distance from the start of a line of this target; over says it for the sectors of a snapshot, since it changes with what was written
+abbrev pub below_target : (over : Snapshot → ℕ → Below) → FoundTarget → ℕ → Below
+below_target over (found.Linear to offset) distance = Lies to (offset + distance)
+below_target over (found.Striped chunk columns) distance = below_stripes chunk columns distance
+below_target over found.Zero distance = IsZero
+below_target over found.Error distance = IsError
+
+abbrev pub below_line : (over : Snapshot → ℕ → Below) → Option FoundLine → ℕ → Below
+below_line over (Some line) sector = below_target over line.target (sector - line.start)
+below_line over None sector = IsError
 
 -- the lines of a device, with ids for names
 abbrev pub found_lines : Description → ℕ → List FoundLine
@@ -74,8 +83,8 @@ abbrev pub found_at : Description → ℕ → ℕ → Option FoundLine
 found_at stack device sector = option_map (found_line stack) (line_of (lines_at stack device) sector)
 
 -- what lies below a sector of a device
-abbrev pub below : Description → ℕ → ℕ → Below
-below stack device sector = below_line (found_at stack device sector) sector
+abbrev pub below : (over : Snapshot → ℕ → Below) → Description → ℕ → ℕ → Below
+below over stack device sector = below_line over (found_at stack device sector) sector
 
 -- A line of a sound stack, that holds a sector
 

@@ -6,7 +6,7 @@ use Rattle.dm_table.specs.DeviceIo.{since}
 use Rattle.dm_stack.specs.Description.{Description}
 use Rattle.dm_map.specs.declared.piece.Piece as code
 use Rattle.dm_map.specs.Units.{BlockUnit, first_unit, next_unit, piece_len, units_in, units_of}
-use Rattle.dm_stream.specs.Holding.{Holding, IsHeld, held_units, piece_view}
+use Rattle.dm_stream.specs.Pending.{Pending, IsHeld, held_units, piece_view}
 use Rattle.dm_stream.specs.Join.{HasUnits, HasLeft}
 use Rattle.dm_stream.specs.JoinLaws.{last_of_units, some_before, beginning-before}
 use Rattle.dm_stream.specs.Pieces.{Piece, all_but_last, fewest, is_after}
@@ -47,7 +47,7 @@ pub held_text : (stack : Description) (number : ℕ) (piece : code.Piece) → 1 
 held_text stack number piece some = text_run stack number (first_unit piece) (piece_len piece) some
 
 -- the line of the held piece is the text of what is held
-pub held_line : (held : Holding) (piece : code.Piece) (line : List ℕ) → held.piece ≡ Some piece → IsHeld held.stack held.piece → line ≡ piece_text held.stack held.number (piece_view piece)
+pub held_line : (held : Pending) (piece : code.Piece) (line : List ℕ) → held.piece ≡ Some piece → IsHeld held.stack held.piece → line ≡ piece_text held.stack held.number (piece_view piece)
     → line ≡ pieces_text held.stack held.number (fewest (held_units held.piece))
 held_line held piece line is fits written =
     written ∙ held_text held.stack held.number piece (subst (IsHeld held.stack) is fits).0
@@ -58,7 +58,7 @@ some_units unit zero some = absurd (omega arith)
 some_units unit (suc len) some = tt
 
 -- a piece that did not go on, where the held one was not written whole
-pub left_apart : (old mid new : Holding) (piece : code.Piece) (w0 w1 : List ℕ) → 1 ≤ piece_len piece → mid ≡ old → new ≡ record { stack = mid.stack; number = mid.number; piece = None }
+pub left_apart : (old mid new : Pending) (piece : code.Piece) (w0 w1 : List ℕ) → 1 ≤ piece_len piece → mid ≡ old → new ≡ record { stack = mid.stack; number = mid.number; piece = None }
     → ((rest : List BlockUnit) → fewest (held_units old.piece ++ units_of piece ++ rest) ≡ fewest (held_units old.piece) ++ fewest (units_of piece ++ rest))
     → IsCutShort (pieces_text mid.stack mid.number (fewest (held_units mid.piece))) (since w0 w1) → w1 ≡ w0 ++ since w0 w1
     → HasLeft old new (units_of piece) w0 w1
@@ -70,9 +70,9 @@ left_apart old mid new piece w0 w1 some same emptied apart cut appends = record 
       ∙ ap (pieces_text old.stack old.number) (last_of_units (fewest (held_units old.piece)) (units_of piece ++ rest) (some_before (units_of piece) rest (some_units (first_unit piece) (piece_len piece) some)))
       ∙ flat_map-append (piece_text old.stack old.number) (fewest (held_units old.piece)) (all_but_last (fewest (units_of piece ++ rest)))))
       (beginning-before (pieces_text old.stack old.number (fewest (held_units old.piece))) _ (since w0 w1)
-      (subst (λ (h : Holding). IsBeginning (pieces_text h.stack h.number (fewest (held_units h.piece))) (since w0 w1)) same (cut.0 ∷ cut.1, cut.2)));
+      (subst (λ (h : Pending). IsBeginning (pieces_text h.stack h.number (fewest (held_units h.piece))) (since w0 w1)) same (cut.0 ∷ cut.1, cut.2)));
   appends = appends;
-  nothing = ap (λ (h : Holding). h.piece) emptied;
-  stack = ap (λ (h : Holding). h.stack) emptied ∙ ap (λ (h : Holding). h.stack) same;
-  number = ap (λ (h : Holding). h.number) emptied ∙ ap (λ (h : Holding). h.number) same;
+  nothing = ap (λ (h : Pending). h.piece) emptied;
+  stack = ap (λ (h : Pending). h.stack) emptied ∙ ap (λ (h : Pending). h.stack) same;
+  number = ap (λ (h : Pending). h.number) emptied ∙ ap (λ (h : Pending). h.number) same;
 }

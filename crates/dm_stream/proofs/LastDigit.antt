@@ -5,7 +5,7 @@ use Rattle.std.proofs.Math.Seq.{set-append_seam}
 use Rattle.std.proofs.lemmas.Bool.{cases_lt}
 use Rattle.std.proofs.lemmas.Fmt.{decimal_digit, decimal_step}
 use Rattle.std.proofs.lemmas.List.{drop-set-add}
-use Rattle.dm_stream.specs.NumberedLine.{line_front}
+use Rattle.dm_stream.specs.NumberedLine.{number_prefix}
 
 -- the digits before the last one, by the tens
 abbrev tens_text : ℕ → List ℕ
@@ -26,7 +26,7 @@ tens_and_last n fits = elim (cases_lt n 10) [
 ]
 
 -- the front at the end of some room, with the last digit set
-pub last_digit_set : (text : List ℕ) (start old new : ℕ) → length text ≡ 21 → old < 2 ^ 64 → new < 2 ^ 64 → new / 10 ≡ old / 10 → drop start text ≡ line_front old → drop start (set text 19 (48 + new % 10)) ≡ line_front new
+pub last_digit_set : (text : List ℕ) (start old new : ℕ) → length text ≡ 21 → old < 2 ^ 64 → new < 2 ^ 64 → new / 10 ≡ old / 10 → drop start text ≡ number_prefix old → drop start (set text 19 (48 + new % 10)) ≡ number_prefix new
 last_digit_set text start old new len old_fits new_fits tens is =
     let first = tens_text (old / 10) in
     let split : drop start text ≡ first ++ (48 + old % 10) ∷ 32 ∷ [] =

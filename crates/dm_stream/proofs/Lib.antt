@@ -1,11 +1,11 @@
-pub mod Behind
 pub mod DeviceNames
 pub mod FewestLemmas
 pub mod Held
 pub mod JoinLemmas
 pub mod LastDigit
 pub mod LineParts
-pub mod LineServed
 pub mod PieceLemmas
-pub mod RequestServed
+pub mod RequestMapped
+pub mod Runs
 pub mod Turns
+pub mod Unchanged

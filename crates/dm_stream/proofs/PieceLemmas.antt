@@ -5,7 +5,7 @@ use Rattle.std.specs.Cmp.Lexicographic.{pointwise}
 use Rattle.std.proofs.lemmas.Bool.{and_parts, and_from, eqb-true, eq-eqb}
 use Rattle.dm_map.specs.Units.{BlockUnit, ReadOf, WriteOf, Zeros, Drops, Fails, CopyOf, FillOf, next_unit, units_in}
 use Rattle.dm_stream.specs.JoinLaws.{onto_begins}
-use Rattle.dm_stream.specs.Pieces.{Piece, numbers_of, is_unit, joins, further, is_after, onto, fewest}
+use Rattle.dm_stream.specs.Pieces.{Piece, unit_key, is_unit, joins, further, is_after, onto, fewest}
 
 -- lists of numbers that are the same are equal, and the other way round
 same_numbers : (xs ys : List ℕ) → pointwise nat_eq xs ys ≡ true → xs ≡ ys
@@ -36,7 +36,7 @@ unit_by (suc (suc (suc (suc (suc (suc more)))))) disk sector to to_sector = Fill
 abbrev unit_from : List ℕ → BlockUnit
 unit_from numbers = unit_by (number_at numbers 0) (number_at numbers 1) (number_at numbers 2) (number_at numbers 3) (number_at numbers 4)
 
-unit_again : (unit : BlockUnit) → unit_from (numbers_of unit) ≡ unit
+unit_again : (unit : BlockUnit) → unit_from (unit_key unit) ≡ unit
 unit_again (ReadOf disk sector) = refl
 unit_again (WriteOf disk sector) = refl
 unit_again Zeros = refl
@@ -46,10 +46,10 @@ unit_again (CopyOf disk sector to to_sector) = refl
 unit_again (FillOf disk sector) = refl
 
 pub one_unit : (unit other : BlockUnit) → is_unit unit other ≡ true → unit ≡ other
-one_unit unit other e = sym (unit_again unit) ∙ ap unit_from (same_numbers (numbers_of unit) (numbers_of other) e) ∙ unit_again other
+one_unit unit other e = sym (unit_again unit) ∙ ap unit_from (same_numbers (unit_key unit) (unit_key other) e) ∙ unit_again other
 
 pub is_unit-refl : (unit : BlockUnit) → is_unit unit unit ≡ true
-is_unit-refl unit = same_numbers-refl (numbers_of unit)
+is_unit-refl unit = same_numbers-refl (unit_key unit)
 
 -- a unit goes on to its next one, and to no other
 pub joins-next : (unit : BlockUnit) → joins unit (next_unit unit) ≡ true

@@ -1,13 +1,12 @@
--- One turn of a run: a line that is answered, or its end.
+-- One turn over the lines: a request that is handed on, or the end.
 use Rattle.std.proofs.Common.{◌≡◌, ◌≤◌, ◌==◌, cond, true, false, Bool, ltb, ℕ, suc, ◌+◌, List, [], ◌∷◌, ◌++◌, length, drop, sym, ap, subst, ◌∙◌, refl, append_assoc, add-one}
 use Rattle.std.specs.List.{onto_first}
 use Rattle.std.proofs.lemmas.Bool.{ltb-false}
 use Rattle.std.proofs.lemmas.List.{append-nil}
-use Rattle.dm_stack.specs.Description.{Description}
-use Rattle.dm_table.specs.DeviceIo.{Stand, Clean, Failed, Open, since, stand_of}
+use Rattle.dm_table.specs.DeviceIo.{Stand, Clean, Failed, Open, delivery, since, stand_of}
 use Rattle.dm_stream.specs.Lines.{Answer, ALine, ALong, line_parts, next_answer, rest_answer}
-use Rattle.dm_stream.specs.Outcome.{Outcome, after_text, line_outcome, answer_outcome, outcome_from, run_outcome}
-use Rattle.dm_stream.specs.Run.{IsWritten}
+use Rattle.dm_stream.specs.ProgressLaws.{since-same}
+use Rattle.dm_stream.specs.Requests.{IsAmong, NumberedRequest, Requests, after_requests, ends as only_ends, line_requests, next_requests, requests_from, requests_of}
 use Rattle.dm_stream.specs.declared.lines.TheConstants.{MOST_LINE_BYTES}
 use Rattle.dm_stream.specs.declared.ending.Ending as ending
 use Rattle.dm_table.proofs.Growth.{since_more}
@@ -60,88 +59,88 @@ next_is stand (found ∷ second ∷ others) line e =
       is = ap (λ (l : List ℕ). l ∷ second ∷ others) h.1;
     }
 
--- What was answered so far
+-- What was handed on so far
 
--- the outcome of all bytes, whatever comes behind them, is what was written and then that of the held bytes from line n on
-abbrev pub Told : Description → (all held written : List ℕ) → ℕ → Type 0
-Told stack all held written n =
-    (stand : Stand) (more : List ℕ) → outcome_from stack stand 1 (line_parts (all ++ more)) ≡ after_text written (outcome_from stack stand n (line_parts (held ++ more)))
+-- the requests of all bytes, whatever comes after them, are those that were handed on and then those of the held bytes from line n on
+abbrev pub Told : (all held : List ℕ) → List NumberedRequest → ℕ → Type 0
+Told all held done n =
+    (stand : Stand) (more : List ℕ) → requests_from stand 1 (line_parts (all ++ more)) ≡ after_requests done (requests_from stand n (line_parts (held ++ more)))
 
--- the outcome from a line on that is held
-line_first : (stack : Description) (stand : Stand) (held line more : List ℕ) (n : ℕ) → IsNextLine (line_parts held) line → outcome_from stack stand n (line_parts (held ++ more)) ≡ line_outcome stack n line (outcome_from stack stand (n + 1) (line_parts (drop (length line + 1) held ++ more)))
-line_first stack stand held line more n h =
+-- nothing was handed on before the first byte
+pub told_none : (handed held : List ℕ) → held ≡ [] → Told (since handed handed) held [] 1
+told_none handed held none = λ stand more. ap (λ (xs : List ℕ). requests_from stand 1 (line_parts (xs ++ more))) (since-same handed ∙ sym none)
+
+-- the requests from a line on that is held
+line_first : (stand : Stand) (held line more : List ℕ) (n : ℕ) → IsNextLine (line_parts held) line → requests_from stand n (line_parts (held ++ more)) ≡ line_requests n line (requests_from stand (n + 1) (line_parts (drop (length line + 1) held ++ more)))
+line_first stand held line more n h =
     let rest = drop (suc (length line)) held ++ more in
-    ap (outcome_from stack stand n) (part_stays held line h.second h.others more h.is)
-    ∙ ap (λ a. answer_outcome stack n a (outcome_from stack stand (n + 1) (line_parts rest))) (next_line stand line rest h.short)
-    ∙ ap (λ k. line_outcome stack n line (outcome_from stack stand (n + 1) (line_parts (drop k held ++ more)))) (sym (add-one (length line)))
+    ap (requests_from stand n) (part_stays held line h.second h.others more h.is)
+    ∙ ap (λ a. next_requests n a (requests_from stand (n + 1) (line_parts rest))) (next_line stand line rest h.short)
+    ∙ ap (λ k. line_requests n line (requests_from stand (n + 1) (line_parts (drop k held ++ more)))) (sym (add-one (length line)))
 
--- a line more is answered
-told_more : (stack : Description) (all held new line w v : List ℕ) (n : ℕ) (stand : Stand) → Told stack all held w n → next_answer stand (line_parts (held ++ new)) ≡ ALine line → ((rest : Outcome) → line_outcome stack n line rest ≡ after_text v rest) → Told stack (all ++ new) (drop (length line + 1) (held ++ new)) (w ++ v) (n + 1)
-told_more stack all held new line w v n stand told next served = λ at_end more.
-    ap (λ xs. outcome_from stack at_end 1 (line_parts xs)) (append_assoc all new more)
-    ∙ told at_end (new ++ more)
-    ∙ ap (λ xs. after_text w (outcome_from stack at_end n (line_parts xs))) (sym (append_assoc held new more))
-    ∙ ap (after_text w) (line_first stack at_end (held ++ new) line more n (next_is stand (line_parts (held ++ new)) line next) ∙ served _)
-    ∙ ap (λ t. record { output = t; ending = (outcome_from stack at_end (n + 1) (line_parts (drop (length line + 1) (held ++ new) ++ more))).ending }) (sym (append_assoc w v _))
+-- a line more is a request
+told_more : (all held new line : List ℕ) (done more : List NumberedRequest) (n : ℕ) (stand : Stand) → Told all held done n → next_answer stand (line_parts (held ++ new)) ≡ ALine line → ((rest : Requests) → line_requests n line rest ≡ after_requests more rest)
+    → Told (all ++ new) (drop (length line + 1) (held ++ new)) (done ++ more) (n + 1)
+told_more all held new line done more n stand told next is = λ at_end later.
+    let rest = requests_from at_end (n + 1) (line_parts (drop (length line + 1) (held ++ new) ++ later)) in
+    ap (λ xs. requests_from at_end 1 (line_parts xs)) (append_assoc all new later)
+    ∙ told at_end (new ++ later)
+    ∙ ap (λ xs. after_requests done (requests_from at_end n (line_parts xs))) (sym (append_assoc held new later))
+    ∙ ap (after_requests done) (line_first at_end (held ++ new) line later n (next_is stand (line_parts (held ++ new)) line next) ∙ is rest)
+    ∙ ap (λ (requests : List NumberedRequest). record { all = requests; ending = rest.ending }) (sym (append_assoc done more rest.all))
 
--- the same, by what the input handed out and what the output took
-pub told_turn : (stack : Description) (h0 h1 h2 w0 w1 w2 held after line : List ℕ) (n : ℕ) (stand : Stand) → Told stack (since h0 h1) held (since w0 w1) n
-    → h1 ≡ h0 ++ since h0 h1 → h2 ≡ h1 ++ since h1 h2 → w1 ≡ w0 ++ since w0 w1 → w2 ≡ w1 ++ since w1 w2
-    → ALine line ≡ next_answer stand (line_parts (held ++ since h1 h2)) → ((rest : Outcome) → line_outcome stack n line rest ≡ after_text (since w1 w2) rest)
-    → after ≡ drop (length line + 1) (held ++ since h1 h2) → Told stack (since h0 h2) after (since w0 w2) (n + 1)
-told_turn stack h0 h1 h2 w0 w1 w2 held after line n stand told e f j k next served left =
-    let behind = drop (length line + 1) (held ++ since h1 h2) in
-    let t = told_more stack (since h0 h1) held (since h1 h2) line (since w0 w1) (since w1 w2) n stand told (sym next) served in
-    subst (λ (xs : List ℕ). Told stack xs after (since w0 w2) (n + 1)) (sym (since_more h0 h1 h2 e f))
-    (subst (λ (xs : List ℕ). Told stack (since h0 h1 ++ since h1 h2) xs (since w0 w2) (n + 1)) (sym left)
-    (subst (λ (xs : List ℕ). Told stack (since h0 h1 ++ since h1 h2) behind xs (n + 1)) (sym (since_more w0 w1 w2 j k)) t))
+-- the same, by what the input handed out
+pub told_turn : (h0 h1 h2 held after line : List ℕ) (done more : List NumberedRequest) (n : ℕ) (stand : Stand) → Told (since h0 h1) held done n
+    → h1 ≡ h0 ++ since h0 h1 → h2 ≡ h1 ++ since h1 h2
+    → ALine line ≡ next_answer stand (line_parts (held ++ since h1 h2)) → ((rest : Requests) → line_requests n line rest ≡ after_requests more rest)
+    → after ≡ drop (length line + 1) (held ++ since h1 h2) → Told (since h0 h2) after (done ++ more) (n + 1)
+told_turn h0 h1 h2 held after line done more n stand told e f next is left =
+    subst (λ (xs : List ℕ). Told xs after (done ++ more) (n + 1)) (sym (since_more h0 h1 h2 e f))
+    (subst (λ (xs : List ℕ). Told (since h0 h1 ++ since h1 h2) xs (done ++ more) (n + 1)) (sym left)
+    (told_more (since h0 h1) held (since h1 h2) line done more n stand told (sym next) is))
 
--- The end
+-- What comes next
 
--- the outcome by what comes next
-by_answer : (stack : Description) (stand : Stand) (held : List ℕ) (n : ℕ) → (rest : Outcome) × (outcome_from stack stand n (line_parts held) ≡ answer_outcome stack n (next_answer stand (line_parts held)) rest)
-by_answer stack stand held n =
+-- the requests by what comes next
+by_answer : (stand : Stand) (held : List ℕ) (n : ℕ) → (rest : Requests) × (requests_from stand n (line_parts held) ≡ next_requests n (next_answer stand (line_parts held)) rest)
+by_answer stand held n =
     let s = some_part held in
-    let rest = outcome_from stack stand (n + 1) s.1 in
-    (rest, ap (outcome_from stack stand n) s.2 ∙ ap (λ parts. answer_outcome stack n (next_answer stand parts) rest) (sym s.2))
+    let rest = requests_from stand (n + 1) s.1 in
+    (rest, ap (requests_from stand n) s.2 ∙ ap (λ parts. next_requests n (next_answer stand parts) rest) (sym s.2))
 
--- what is served behind a text
-served_after : (o : Outcome) (w v : List ℕ) (e : ending.Ending) → IsWritten o v e → IsWritten (after_text w o) (w ++ v) e
-served_after o w v ending.TheVariants.Done h = (ap (λ t. w ++ t) h.0, h.1)
-served_after o w v (ending.TheVariants.BadRequest n word) h = (ap (λ t. w ++ t) h.0, h.1)
-served_after o w v ending.TheVariants.ReadFault h = (ap (λ t. w ++ t) h.0, h.1)
-served_after o w v ending.TheVariants.WriteFault h = (h.0, h.1, ap (λ t. w ++ t) h.2 ∙ sym (append_assoc w v (h.0 ∷ h.1)))
-
--- a run that ends with what comes next, with v written for it
-at_end : (stack : Description) (h0 h1 h2 held w v : List ℕ) (f0 f1 f2 e0 e1 e2 n : ℕ) (answer : Answer) (e : ending.Ending) → Told stack (since h0 h1) held w n
-    → h1 ≡ h0 ++ since h0 h1 → h2 ≡ h1 ++ since h1 h2 → f1 ≡ f0 → e1 ≡ e0
-    → answer ≡ next_answer (stand_of f1 f2 e1 e2) (line_parts (held ++ since h1 h2)) → ((rest : Outcome) → IsWritten (answer_outcome stack n answer rest) v e)
-    → IsWritten (run_outcome stack (record { bytes = since h0 h2; stand = stand_of f0 f2 e0 e2 })) (w ++ v) e
-at_end stack h0 h1 h2 held w v f0 f1 f2 e0 e1 e2 n answer e told reads more faults ends next served =
+-- the requests of all that was delivered: those that were handed on, and then by what comes next
+all_requests : (h0 h1 h2 held : List ℕ) (f0 f1 f2 e0 e1 e2 n : ℕ) (done : List NumberedRequest) (answer : Answer) → Told (since h0 h1) held done n
+    → h1 ≡ h0 ++ since h0 h1 → h2 ≡ h1 ++ since h1 h2 → f1 ≡ f0 → e1 ≡ e0 → answer ≡ next_answer (stand_of f1 f2 e1 e2) (line_parts (held ++ since h1 h2))
+    → (rest : Requests) × (requests_of (record { bytes = since h0 h2; stand = stand_of f0 f2 e0 e2 }) ≡ after_requests done (next_requests n answer rest))
+all_requests h0 h1 h2 held f0 f1 f2 e0 e1 e2 n done answer told reads more faults ends next =
     let stand = stand_of f0 f2 e0 e2 in
     let new = since h1 h2 in
     let same : stand_of f1 f2 e1 e2 ≡ stand = ap (λ k. stand_of k f2 e1 e2) faults ∙ ap (λ k. stand_of f0 f2 k e2) ends in
-    let b = by_answer stack stand (held ++ new) n in
-    let settled : answer_outcome stack n answer b.0 ≡ outcome_from stack stand n (line_parts (held ++ new)) =
-    ap (λ a. answer_outcome stack n a b.0) (next ∙ ap (λ s. next_answer s (line_parts (held ++ new))) same) ∙ sym b.1 in
-    let whole : after_text w (answer_outcome stack n answer b.0) ≡ outcome_from stack stand 1 (line_parts (since h0 h2)) =
-    ap (after_text w) settled ∙ sym (told stand new) ∙ ap (λ xs. outcome_from stack stand 1 (line_parts xs)) (sym (since_more h0 h1 h2 reads more)) in
-    subst (λ (o : Outcome). IsWritten o (w ++ v) e) whole (served_after (answer_outcome stack n answer b.0) w v e (served b.0))
+    let b = by_answer stand (held ++ new) n in (
+      b.0,
+      ap (λ xs. requests_from stand 1 (line_parts xs)) (since_more h0 h1 h2 reads more) ∙ told stand new
+          ∙ ap (after_requests done) (b.1 ∙ ap (λ a. next_requests n a b.0) (sym (next ∙ ap (λ s. next_answer s (line_parts (held ++ new))) same))),
+    )
 
--- the same, by what the output took
-pub served_more : (stack : Description) (h0 h1 h2 w0 w1 w2 held : List ℕ) (f0 f1 f2 e0 e1 e2 n : ℕ) (answer : Answer) (e : ending.Ending) → Told stack (since h0 h1) held (since w0 w1) n
-    → h1 ≡ h0 ++ since h0 h1 → h2 ≡ h1 ++ since h1 h2 → w1 ≡ w0 ++ since w0 w1 → w2 ≡ w1 ++ since w1 w2 → f1 ≡ f0 → e1 ≡ e0
-    → answer ≡ next_answer (stand_of f1 f2 e1 e2) (line_parts (held ++ since h1 h2)) → ((rest : Outcome) → IsWritten (answer_outcome stack n answer rest) (since w1 w2) e)
-    → IsWritten (run_outcome stack (record { bytes = since h0 h2; stand = stand_of f0 f2 e0 e2 })) (since w0 w2) e
-served_more stack h0 h1 h2 w0 w1 w2 held f0 f1 f2 e0 e1 e2 n answer e told reads more appends appends_more faults ends next served =
-    subst (λ (xs : List ℕ). IsWritten (run_outcome stack (record { bytes = since h0 h2; stand = stand_of f0 f2 e0 e2 })) xs e) (sym (since_more w0 w1 w2 appends appends_more))
-    (at_end stack h0 h1 h2 held (since w0 w1) (since w1 w2) f0 f1 f2 e0 e1 e2 n answer e told reads more faults ends next served)
+-- they end with what comes next, so what holds of those that were handed on holds of all
+pub ended : {X : Type 0} (handed : X → List ℕ) (faults ends : X → ℕ) (first mid last : X) (held : List ℕ) (n : ℕ) (done : List NumberedRequest) (AreAnswered : List NumberedRequest → Type 0) (answer : Answer) (e : ending.Ending) → Told (since (handed first) (handed mid)) held done n
+    → handed mid ≡ handed first ++ since (handed first) (handed mid) → handed last ≡ handed mid ++ since (handed mid) (handed last) → faults mid ≡ faults first → ends mid ≡ ends first
+    → answer ≡ next_answer (delivery handed faults ends mid last).stand (line_parts (held ++ since (handed mid) (handed last)))
+    → ((rest : Requests) → next_requests n answer rest ≡ only_ends e) → AreAnswered done → AreAnswered (requests_of (delivery handed faults ends first last)).all
+ended handed faults ends first mid last held n done AreAnswered answer e told reads more faults_same ends_same next is answered =
+    let a = all_requests (handed first) (handed mid) (handed last) held (faults first) (faults mid) (faults last) (ends first) (ends mid) (ends last) n done answer told reads more faults_same ends_same next in
+    subst AreAnswered (sym (ap (λ (q : Requests). q.all) (a.1 ∙ ap (after_requests done) (is a.0)) ∙ append-nil done)) answered
 
--- the same, with nothing written for what comes next
-pub at_quiet_end : (stack : Description) (h0 h1 h2 held w : List ℕ) (f0 f1 f2 e0 e1 e2 n : ℕ) (answer : Answer) (e : ending.Ending) → Told stack (since h0 h1) held w n
-    → h1 ≡ h0 ++ since h0 h1 → h2 ≡ h1 ++ since h1 h2 → f1 ≡ f0 → e1 ≡ e0
-    → answer ≡ next_answer (stand_of f1 f2 e1 e2) (line_parts (held ++ since h1 h2)) → ((rest : Outcome) → IsWritten (answer_outcome stack n answer rest) [] e)
-    → IsWritten (run_outcome stack (record { bytes = since h0 h2; stand = stand_of f0 f2 e0 e2 })) w e
-at_quiet_end stack h0 h1 h2 held w f0 f1 f2 e0 e1 e2 n answer e told reads more faults ends next served =
-    subst (λ (xs : List ℕ). IsWritten (run_outcome stack (record { bytes = since h0 h2; stand = stand_of f0 f2 e0 e2 })) xs e) (append-nil w)
-    (at_end stack h0 h1 h2 held w [] f0 f1 f2 e0 e1 e2 n answer e told reads more faults ends next served)
+-- the next one is a request, which is the last that was handed on
+pub among : (h0 h1 h2 held : List ℕ) (f0 f1 f2 e0 e1 e2 n : ℕ) (done more : List NumberedRequest) (line : List ℕ) (IsFirst : List NumberedRequest → Type 0) → Told (since h0 h1) held done n
+    → h1 ≡ h0 ++ since h0 h1 → h2 ≡ h1 ++ since h1 h2 → f1 ≡ f0 → e1 ≡ e0 → ALine line ≡ next_answer (stand_of f1 f2 e1 e2) (line_parts (held ++ since h1 h2))
+    → ((rest : Requests) → line_requests n line rest ≡ after_requests more rest) → IsFirst (done ++ more)
+    → IsAmong IsFirst (requests_of (record { bytes = since h0 h2; stand = stand_of f0 f2 e0 e2 })).all
+among h0 h1 h2 held f0 f1 f2 e0 e1 e2 n done more line IsFirst told reads again faults none next is holds =
+    let a = all_requests h0 h1 h2 held f0 f1 f2 e0 e1 e2 n done (ALine line) told reads again faults none next in
+    record {
+      first = done ++ more;
+      later = a.0.all;
+      is = ap (λ (q : Requests). q.all) (a.1 ∙ ap (after_requests done) (is a.0)) ∙ sym (append_assoc done more a.0.all);
+      holds = holds;
+    }

@@ -2,13 +2,13 @@
 use Rattle.std.specs.Prelude.{◌≡◌, ℕ, List, [], ◌∷◌, ◌++◌, None}
 use Rattle.dm_table.specs.DeviceIo.{since}
 use Rattle.dm_map.specs.Units.{BlockUnit}
-use Rattle.dm_stream.specs.Holding.{Holding, held_units}
+use Rattle.dm_stream.specs.Pending.{Pending, held_units}
 use Rattle.dm_stream.specs.Pieces.{Piece, fewest, all_but_last}
 use Rattle.dm_stream.specs.PieceText.{pieces_text}
 use Rattle.dm_table.specs.WriteAll.{IsBeginning}
 
 -- whatever units are to come, some pieces are settled and what is held stands for the others; the settled ones were written
-pub record HasTaken (old new : Holding) (units : List BlockUnit) (before after : List ℕ) : Type 0 where
+pub record HasTaken (old new : Pending) (units : List BlockUnit) (before after : List ℕ) : Type 0 where
   pub settled : List Piece
   pub told : (rest : List BlockUnit) → fewest (held_units old.piece ++ units ++ rest) ≡ settled ++ fewest (held_units new.piece ++ rest)
   pub wrote : since before after ≡ pieces_text old.stack old.number settled
@@ -22,7 +22,7 @@ HasUnits [] = ⊥
 HasUnits (unit ∷ units) = Unit {0}
 
 -- whatever units are to come, what was written is a beginning of the pieces' text without the last; nothing is held
-pub record HasLeft (old new : Holding) (units : List BlockUnit) (before after : List ℕ) : Type 0 where
+pub record HasLeft (old new : Pending) (units : List BlockUnit) (before after : List ℕ) : Type 0 where
   pub some : HasUnits units
   pub beginning : (rest : List BlockUnit) → IsBeginning (pieces_text old.stack old.number (all_but_last (fewest (held_units old.piece ++ units ++ rest)))) (since before after)
   pub appends : after ≡ before ++ since before after

@@ -6,19 +6,12 @@ use Rattle.dm_table.specs.DeviceIo.{since}
 use Rattle.dm_table.proofs.Growth.{since_more, grows_more}
 use Rattle.dm_stack.specs.Description.{Description}
 use Rattle.dm_map.specs.Units.{BlockUnit}
-use Rattle.dm_stream.specs.Holding.{Holding, held_units}
+use Rattle.dm_stream.specs.Pending.{Pending, held_units}
 use Rattle.dm_stream.specs.Join.{HasUnits, HasTaken, HasLeft}
 use Rattle.dm_stream.specs.Pieces.{Piece, all_but_last, fewest, joins, onto}
 use Rattle.dm_stream.specs.PieceText.{piece_text, pieces_text}
+use Rattle.dm_stream.specs.ProgressLaws.{grows-same, since-same}
 use Rattle.dm_table.specs.WriteAll.{IsBeginning}
-
--- nothing was put behind a list by no step
-pub since-same : (xs : List ℕ) → since xs xs ≡ []
-since-same [] = refl
-since-same (x ∷ xs) = since-same xs
-
-pub grows-same : (xs : List ℕ) → xs ≡ xs ++ since xs xs
-grows-same xs = sym (append-nil xs) ∙ ap (λ (ys : List ℕ). xs ++ ys) (sym (since-same xs))
 
 -- the first of the fewest pieces begins with the first unit
 pub record BeginsWith (unit : BlockUnit) (pieces : List Piece) : Type 0 where
@@ -66,12 +59,12 @@ beginning-before text more front begins = (begins.0 ++ more, ap (λ (xs : List �
 parts : (hs us vs rest : List BlockUnit) → hs ++ (us ++ vs) ++ rest ≡ hs ++ us ++ (vs ++ rest)
 parts hs us vs rest = ap (λ (xs : List BlockUnit). xs ++ rest) (sym (append_assoc hs us vs)) ∙ append_assoc (hs ++ us) vs rest
 
-pub took_none : (held : Holding) (w : List ℕ) → HasTaken held held [] w w
+pub took_none : (held : Pending) (w : List ℕ) → HasTaken held held [] w w
 took_none held w = record {
   settled = [];
   told = λ rest. ap (λ (us : List BlockUnit). fewest (us ++ rest)) (append-nil (held_units held.piece));
   wrote = since-same w;
-  appends = grows-same w;
+  appends = grows-same w w;
   stack = refl;
   number = refl;
 }
@@ -84,10 +77,10 @@ told_both hs bs cs us vs ps qs rest first second =
     ap fewest (parts hs us vs rest) ∙ first (vs ++ rest) ∙ ap (λ (xs : List BlockUnit). ps ++ fewest xs) (sym (append_assoc bs vs rest))
     ∙ ap (λ (xs : List Piece). ps ++ xs) second ∙ sym (append_assoc ps qs (fewest (cs ++ rest)))
 
-same_text : (a b : Holding) (ps : List Piece) → b.stack ≡ a.stack → b.number ≡ a.number → pieces_text b.stack b.number ps ≡ pieces_text a.stack a.number ps
+same_text : (a b : Pending) (ps : List Piece) → b.stack ≡ a.stack → b.number ≡ a.number → pieces_text b.stack b.number ps ≡ pieces_text a.stack a.number ps
 same_text a b ps e f = ap (λ (stack : Description). pieces_text stack b.number ps) e ∙ ap (λ (number : ℕ). pieces_text a.stack number ps) f
 
-pub took_more : (a b c : Holding) (us vs : List BlockUnit) (w0 w1 w2 : List ℕ) → HasTaken a b us w0 w1 → HasTaken b c vs w1 w2 → HasTaken a c (us ++ vs) w0 w2
+pub took_more : (a b c : Pending) (us vs : List BlockUnit) (w0 w1 w2 : List ℕ) → HasTaken a b us w0 w1 → HasTaken b c vs w1 w2 → HasTaken a c (us ++ vs) w0 w2
 took_more a b c us vs w0 w1 w2 first second = record {
   settled = first.settled ++ second.settled;
   told = λ rest. told_both (held_units a.piece) (held_units b.piece) (held_units c.piece) us vs first.settled second.settled rest first.told (second.told rest);
@@ -109,7 +102,7 @@ left_behind stack number settled units all wrote front some e f begins =
     (sym (ap (λ (ps : List Piece). pieces_text stack number (all_but_last ps)) e ∙ ap (pieces_text stack number) (last_of_units settled units some) ∙ flat_map-append (piece_text stack number) settled (all_but_last (fewest units))))
     (subst (IsBeginning (pieces_text stack number settled ++ pieces_text stack number (all_but_last (fewest units)))) (sym f) (beginning-behind (pieces_text stack number settled) _ front begins))
 
-pub left_more : (a b c : Holding) (us vs : List BlockUnit) (w0 w1 w2 : List ℕ) → HasTaken a b us w0 w1 → HasLeft b c vs w1 w2 → HasLeft a c (us ++ vs) w0 w2
+pub left_more : (a b c : Pending) (us vs : List BlockUnit) (w0 w1 w2 : List ℕ) → HasTaken a b us w0 w1 → HasLeft b c vs w1 w2 → HasLeft a c (us ++ vs) w0 w2
 left_more a b c us vs w0 w1 w2 first second = record {
   some = some_behind us vs second.some;
   beginning = λ rest.

@@ -7,5 +7,5 @@ pub record Numbered : Type 0 where
   pub text : List ℕ
 
 -- what a line under a number begins with
-abbrev pub line_front : ℕ → List ℕ
-line_front number = decimal number ++ 32 ∷ []
+abbrev pub number_prefix : ℕ → List ℕ
+number_prefix number = decimal number ++ 32 ∷ []

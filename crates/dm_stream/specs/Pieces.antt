@@ -14,18 +14,18 @@ abbrev pub piece_units : Piece → List BlockUnit
 piece_units piece = units_in piece.first piece.len
 
 -- a unit as numbers: which kind it is, and its disks and sectors
-abbrev pub numbers_of : BlockUnit → List ℕ
-numbers_of (ReadOf disk sector) = 0 ∷ disk ∷ sector ∷ []
-numbers_of (WriteOf disk sector) = 1 ∷ disk ∷ sector ∷ []
-numbers_of Zeros = 2 ∷ []
-numbers_of Drops = 3 ∷ []
-numbers_of Fails = 4 ∷ []
-numbers_of (CopyOf disk sector to to_sector) = 5 ∷ disk ∷ sector ∷ to ∷ to_sector ∷ []
-numbers_of (FillOf disk sector) = 6 ∷ disk ∷ sector ∷ []
+abbrev pub unit_key : BlockUnit → List ℕ
+unit_key (ReadOf disk sector) = 0 ∷ disk ∷ sector ∷ []
+unit_key (WriteOf disk sector) = 1 ∷ disk ∷ sector ∷ []
+unit_key Zeros = 2 ∷ []
+unit_key Drops = 3 ∷ []
+unit_key Fails = 4 ∷ []
+unit_key (CopyOf disk sector to to_sector) = 5 ∷ disk ∷ sector ∷ to ∷ to_sector ∷ []
+unit_key (FillOf disk sector) = 6 ∷ disk ∷ sector ∷ []
 
 -- they are one unit
 abbrev pub is_unit : BlockUnit → BlockUnit → Bool
-is_unit unit other = pointwise nat_eq (numbers_of unit) (numbers_of other)
+is_unit unit other = pointwise nat_eq (unit_key unit) (unit_key other)
 
 -- the second unit goes on from the first: one kind, the same disks, the next sectors
 abbrev pub joins : BlockUnit → BlockUnit → Bool

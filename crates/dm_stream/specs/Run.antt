@@ -1,26 +1,22 @@
 -- What a run did, against the outcome of what it was given.
-use Rattle.std.specs.Prelude.{◌≡◌, ℕ, List, Some, Result, Ok, Err}
-use Rattle.dm_table.specs.declared.request.RequestFault.{RequestFault}
-use Rattle.dm_table.specs.declared.request.RequestFault.TheVariants as faults
-use Rattle.dm_stream.specs.declared.ending.Ending as ending
-use Rattle.dm_stream.specs.declared.ending.RequestWord as word
-use Rattle.dm_stream.specs.Outcome.{Outcome, after_text}
+use Rattle.std.specs.Prelude.{◌≡◌, ◌≢◌, ◌+◌, ◌<◌, ◌≤◌, ◌++◌, ◌↔◌, ℕ, List, [], Some}
+use Rattle.dm_table.specs.DeviceIo.{since}
 use Rattle.dm_table.specs.WriteAll.{IsBeginning, IsCutShort}
+use Rattle.dm_stream.specs.declared.ending.Ending as ending
+use Rattle.dm_stream.specs.declared.ending.NotMapped.{NotMapped}
+use Rattle.dm_stream.specs.declared.ending.NotMapped.TheVariants as causes
+use Rattle.dm_stream.specs.declared.ending.RequestWord as word
+use Rattle.dm_stream.specs.Outcome.{Outcome}
+use Rattle.dm_map.specs.State.{State}
 
--- the word for a fault of a line
-abbrev pub word_for : RequestFault → word.RequestWord
-word_for faults.Form = word.TheVariants.Form
-word_for faults.Number = word.TheVariants.Number
-word_for faults.Length = word.TheVariants.Length
-
--- the outcome is what was written and how it ended; where a write failed, what was written is so of the outcome's output
+-- the outcome is what was written and how it ended; where a write failed, this holds of its output and what was written
 abbrev pub IsOutcome : (List ℕ → List ℕ → Type 0) → Outcome → List ℕ → ending.Ending → Type 0
 IsOutcome OfFailed outcome written ending.TheVariants.Done = (outcome.output ≡ written) × (outcome.ending ≡ Some ending.TheVariants.Done)
 IsOutcome OfFailed outcome written (ending.TheVariants.BadRequest number w) = (outcome.output ≡ written) × (outcome.ending ≡ Some (ending.TheVariants.BadRequest number w))
 IsOutcome OfFailed outcome written ending.TheVariants.ReadFault = (outcome.output ≡ written) × (outcome.ending ≡ Some ending.TheVariants.ReadFault)
 IsOutcome OfFailed outcome written ending.TheVariants.WriteFault = OfFailed outcome.output written
 
--- at the end of a run, its flush done or failed: where the output failed, a beginning was written
+-- at the end of a run: where the output failed, a beginning was written
 abbrev pub IsServed : Outcome → List ℕ → ending.Ending → Type 0
 IsServed outcome written e = IsOutcome IsBeginning outcome written e
 
@@ -28,7 +24,33 @@ IsServed outcome written e = IsOutcome IsBeginning outcome written e
 abbrev pub IsWritten : Outcome → List ℕ → ending.Ending → Type 0
 IsWritten outcome written e = IsOutcome IsCutShort outcome written e
 
--- the same of one line, where from gives the outcome by that of the lines after it
-abbrev pub IsLineWritten : (Outcome → Outcome) → List ℕ → Result (Unit {0}) ending.Ending → Type 0
-IsLineWritten from written (Ok x) = (rest : Outcome) → from rest ≡ after_text written rest
-IsLineWritten from written (Err e) = (rest : Outcome) → IsWritten (from rest) written e
+-- how a run ends where not all was mapped
+abbrev pub ending_for : NotMapped → ending.Ending
+ending_for (causes.Unknown number) = ending.TheVariants.BadRequest number word.TheVariants.Unknown
+ending_for causes.Output = ending.TheVariants.WriteFault
+
+-- how many writes failed, by the ending
+abbrev pub write_faults : ending.Ending → ℕ
+write_faults ending.TheVariants.Done = 0
+write_faults (ending.TheVariants.BadRequest number w) = 0
+write_faults ending.TheVariants.ReadFault = 0
+write_faults ending.TheVariants.WriteFault = 1
+
+-- what was done before the flush
+pub record IsMapped (outcome : Outcome) (text : List ℕ) (left : State) (e : ending.Ending) : Type 0 where
+  pub written : IsWritten outcome text e
+  pub state : e ≢ ending.TheVariants.WriteFault → left ≡ outcome.state
+
+-- what was done by the end, with the flush: a write failed only where something was left to write, and where the flush failed all was written and waits
+pub record HasRun {X : Type 0} (written waiting : X → List ℕ) (faults flushes : X → ℕ) (old new : X) (outcome : Outcome) (left_state : State) (e : ending.Ending) : Type 0 where
+  pub appends : written new ≡ written old ++ since (written old) (written new)
+  pub served : IsServed outcome (since (written old) (written new)) e
+  pub state : e ≢ ending.TheVariants.WriteFault → left_state ≡ outcome.state
+  pub write_fault : faults old < faults new ↔ (e ≡ ending.TheVariants.WriteFault)
+  pub grows : faults old ≤ faults new
+  pub fails_once : faults new ≤ faults old + 1
+  pub flushed : e ≢ ending.TheVariants.WriteFault → (waiting new ≡ []) × (flushes new ≡ flushes old + 1)
+  pub once : flushes new ≤ flushes old + 1
+  pub left : e ≡ ending.TheVariants.WriteFault → flushes new ≡ flushes old → IsCutShort outcome.output (since (written old) (written new))
+  pub failed_flush : e ≡ ending.TheVariants.WriteFault → flushes old < flushes new → outcome.output ≡ since (written old) (written new)
+  pub still_waiting : e ≡ ending.TheVariants.WriteFault → flushes old < flushes new → waiting new ≡ waiting old ++ since (written old) (written new)

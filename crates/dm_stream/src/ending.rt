@@ -34,3 +34,12 @@ pub enum Ending {
     /// Writing or flushing the output failed.
     WriteFault,
 }
+
+/// Why a request was not mapped to an output.
+#[derive(Clone, Copy, Debug, PartialEq, Eq)]
+pub(crate) enum NotMapped {
+    /// No device has the name that the request of this number has.
+    Unknown(u64),
+    /// Writing the answer failed.
+    Output,
+}

@@ -8,8 +8,9 @@ ghost use Rattle.std.specs.Bool.{OnTrue, OnFalse};
 ghost use Rattle.dm_stack.specs.Description.{disk_len};
 ghost use Rattle.dm_table.specs.DeviceIo.{fault_of, since};
 ghost use Rattle.dm_map.specs.Units.{BlockUnit, IsOnDisks, diskless_len, first_unit, piece_len, units_of};
-ghost use Rattle.dm_stream.specs.Holding.{Fits, IsHeld, held_diskless, held_units};
+ghost use Rattle.dm_stream.specs.Pending.{Fits, IsHeld, held_diskless, held_units};
 ghost use Rattle.dm_stream.specs.Pieces.{fewest, is_after};
+ghost use Rattle.dm_stream.specs.Progress.{HasWritten};
 ghost use Rattle.dm_stream.specs.PieceText.{pieces_text};
 ghost use Rattle.dm_table.specs.WriteAll.{IsCutShort};
 
@@ -29,9 +30,9 @@ pub(crate) struct HeldPiece<'s> {
 }
 
 impl<'s> Model for HeldPiece<'s> {
-    ghost use Rattle.dm_stream.specs.Holding.{Holding, IsHeld};
+    ghost use Rattle.dm_stream.specs.Pending.{Pending, IsHeld};
 
-    ghost Value = { Holding };
+    ghost Value = { Pending };
 
     ghost view = { λ held. record { stack = held.stack.now; number = held.line.number; piece = held.piece } };
 
@@ -96,10 +97,7 @@ impl<'s> HeldPiece<'s> {
             ≡ pieces_text self.old.stack self.old.number (fewest (held_units self.old.piece))) }
         ensures err { OnErr result (IsCutShort (pieces_text self.old.stack self.old.number (fewest (held_units self.old.piece)))
             (since (W.written writer.old) (W.written writer.new))) }
-        ensures appends { W.written writer.new
-            ≡ W.written writer.old ++ since (W.written writer.old) (W.written writer.new) }
-        ensures faults { W.faults writer.new ≡ W.faults writer.old + fault_of result }
-        ensures flushes { W.flushes writer.new ≡ W.flushes writer.old }
+        ensures moved { HasWritten W.written W.waiting W.faults W.flushes writer.old writer.new (fault_of result) }
         ensures nothing { self.new ≡ record { stack = self.old.stack; number = self.old.number; piece = None } }
     {
         let Some(piece) = &self.piece else {
@@ -117,10 +115,10 @@ fn goes_on(held: &Piece, piece: &Piece) -> bool
 {
     match *held {
         Piece::Read { disk, start, len } => {
-            matches!(*piece, Piece::Read { disk: other, start: next, .. } if other == disk && is_behind(start, len, next))
+            matches!(*piece, Piece::Read { disk: other, start: next, .. } if other == disk && follows(start, len, next))
         }
         Piece::Write { disk, start, len } => {
-            matches!(*piece, Piece::Write { disk: other, start: next, .. } if other == disk && is_behind(start, len, next))
+            matches!(*piece, Piece::Write { disk: other, start: next, .. } if other == disk && follows(start, len, next))
         }
         Piece::Zero { .. } => matches!(*piece, Piece::Zero { .. }),
         Piece::Drop { .. } => matches!(*piece, Piece::Drop { .. }),
@@ -132,16 +130,16 @@ fn goes_on(held: &Piece, piece: &Piece) -> bool
             to,
             to_start,
         } => {
-            matches!(*piece, Piece::Copy { disk: other, start: next, to: other_to, to_start: next_to, .. } if other == disk && is_behind(start, len, next) && other_to == to && is_behind(to_start, len, next_to))
+            matches!(*piece, Piece::Copy { disk: other, start: next, to: other_to, to_start: next_to, .. } if other == disk && follows(start, len, next) && other_to == to && follows(to_start, len, next_to))
         }
         Piece::Fill { len, disk, start } => {
-            matches!(*piece, Piece::Fill { disk: other, start: next, .. } if other == disk && is_behind(start, len, next))
+            matches!(*piece, Piece::Fill { disk: other, start: next, .. } if other == disk && follows(start, len, next))
         }
     }
 }
 
 /// Whether a sector is the one behind so many from another on.
-fn is_behind(sector: u64, len: u64, next: u64) -> bool
+fn follows(sector: u64, len: u64, next: u64) -> bool
     ensures { result ≡ (sector + len == next) }
 {
     sector <= next && next - sector == len

@@ -6,13 +6,15 @@
 ghost use Rattle.std.specs.Prelude.{◌≡◌, ◌+◌, ◌-◌, ◌++◌, ◌^◌, List, None, OnErr, OnOk};
 ghost use Rattle.dm_table.specs.DeviceIo.{since, fault_of};
 ghost use Rattle.dm_map.specs.Units.{BlockUnit};
-ghost use Rattle.dm_stream.specs.Holding.{held_diskless, held_units};
+ghost use Rattle.dm_stream.specs.Pending.{held_diskless, held_units};
 ghost use Rattle.dm_stream.specs.Join.{HasTaken, HasLeft};
 ghost use Rattle.dm_stream.specs.Pieces.{AreFewest, fewest};
 ghost use Rattle.dm_stream.specs.PieceText.{pieces_text};
 ghost use Rattle.dm_table.specs.WriteAll.{IsCutShort};
 ghost use Rattle.dm_stream.specs.JoinLaws.{took_none, took_more, left_more};
-ghost use Rattle.std.proofs.Common.{ap, refl, ◌∙◌};
+ghost use Rattle.dm_stream.specs.Progress.{HasWritten};
+ghost use Rattle.dm_stream.specs.ProgressLaws.{written_none, written_more};
+ghost use Rattle.std.proofs.Common.{refl, ◌∙◌};
 
 use crate::held_piece::HeldPiece;
 use dm_map::{Piece, Sink};
@@ -68,6 +70,8 @@ impl<'s, W: Output> Join<'s, W> {
         ensures nothing { self.new.held ≡ record { stack = self.old.held.stack; number = self.old.held.number; piece = None } }
         ensures faults { W.faults self.new.writer.now ≡ W.faults self.old.writer.now + fault_of result }
         ensures flushes { W.flushes self.new.writer.now ≡ W.flushes self.old.writer.now }
+        ensures waiting { W.waiting self.new.writer.now
+            ≡ W.waiting self.old.writer.now ++ since (W.written self.old.writer.now) (W.written self.new.writer.now) }
         ensures same_reference { self.new.writer.ghost_name ≡ self.old.writer.ghost_name }
         // They are the only pieces of units of which none goes on from the one before, and none are fewer.
         ensures fewest { (units : List BlockUnit) → AreFewest units (fewest units) }
@@ -100,20 +104,18 @@ impl<W: Output> Sink for Join<'_, W> {
     ghost faults = { λ join. W.faults join.writer.now };
 
     ghost took = { λ old units new. HasTaken old.held new.held units (W.written old.writer.now) (W.written new.writer.now)
-        × (W.faults new.writer.now ≡ W.faults old.writer.now)
-        × (W.flushes new.writer.now ≡ W.flushes old.writer.now)
+        × HasWritten W.written W.waiting W.faults W.flushes old.writer.now new.writer.now 0
         × (new.writer.ghost_name ≡ old.writer.ghost_name) };
 
     ghost left = { λ old units new. HasLeft old.held new.held units (W.written old.writer.now) (W.written new.writer.now)
-        × (W.faults new.writer.now ≡ W.faults old.writer.now + 1)
-        × (W.flushes new.writer.now ≡ W.flushes old.writer.now)
+        × HasWritten W.written W.waiting W.faults W.flushes old.writer.now new.writer.now 1
         × (new.writer.ghost_name ≡ old.writer.ghost_name) };
 
-    ghost took_nothing = { λ s. (took_none s.held (W.written s.writer.now), refl, refl, refl) };
+    ghost took_nothing = { λ s. (took_none s.held (W.written s.writer.now), written_none W.written W.waiting W.faults W.flushes s.writer.now, refl) };
 
-    ghost took_then_took = { λ a b c us vs first second. (took_more a.held b.held c.held us vs _ _ _ first.0 second.0, second.1 ∙ first.1, second.2 ∙ first.2, second.3 ∙ first.3) };
+    ghost took_then_took = { λ a b c us vs first second. (took_more a.held b.held c.held us vs _ _ _ first.0 second.0, written_more W.written W.waiting W.faults W.flushes a.writer.now b.writer.now c.writer.now 0 first.1 second.1, second.2 ∙ first.2) };
 
-    ghost took_then_left = { λ a b c us vs first second. (left_more a.held b.held c.held us vs _ _ _ first.0 second.0, second.1 ∙ ap (λ n. n + 1) first.1, second.2 ∙ first.2, second.3 ∙ first.3) };
+    ghost took_then_left = { λ a b c us vs first second. (left_more a.held b.held c.held us vs _ _ _ first.0 second.0, written_more W.written W.waiting W.faults W.flushes a.writer.now b.writer.now c.writer.now 1 first.1 second.1, second.2 ∙ first.2) };
 
     fn piece(&mut self, piece: Piece) -> Result<(), OutFault> {
         if self.held.lengthen(&piece) {

@@ -6,24 +6,29 @@
 #![tactic(auto)]
 
 mod ending;
-mod front;
+mod handler;
 mod held_piece;
 mod join;
+mod kept_range;
 mod last_device;
 mod line_buffer;
 mod lines;
+mod map_run;
 mod message;
+mod number_prefix;
 mod numbered_line;
 mod piece_text;
 mod put_before;
-mod serve;
-mod tail;
+mod request_mapper;
+mod requests;
 
 pub use ending::{Ending, RequestWord};
+pub use handler::Handler;
 pub use join::Join;
 pub use lines::{Lines, MOST_LINE_BYTES, Next};
+pub use map_run::run;
 pub use message::tell;
-pub use serve::{MOST_REQUESTS, run};
+pub use requests::{MOST_REQUESTS, handle_requests};
 
 // For the program's own messages, which are put together as those of a run are.
 pub use dm_table::{put, put_number};

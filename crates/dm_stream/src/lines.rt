@@ -32,7 +32,7 @@ pub enum Next<'a> {
 }
 
 /// What comes next, where a line is the front of what is held.
-enum Found {
+enum NextHeld {
     Line(usize),
     End,
     Unended,
@@ -61,7 +61,7 @@ impl Model for Lines {
 
 impl Lines {
     ghost use Rattle.dm_stream.specs.Lines.{line_parts, next_answer, answer_of, left_of, OnLine};
-    ghost use Rattle.dm_stream.specs.Found.{found_answer, FitsIn, IsLook, OnFoundLine};
+    ghost use Rattle.dm_stream.specs.NextHeld.{held_answer, FitsIn, IsLook, OnHeldLine};
     ghost use Rattle.dm_stream.specs.contracts.lines.Lines.{the_row};
 
     /// Lines of which nothing was read yet.
@@ -83,7 +83,7 @@ impl Lines {
     }
 
     /// What the held bytes alone say, where the first `searched` of them have no newline.
-    fn look(&self, searched: usize) -> Option<Found>
+    fn look(&self, searched: usize) -> Option<NextHeld>
         requires within { searched ≤ length self.now }
         requires clear { line_parts (take searched self.now) ≡ take searched self.now ∷ [] }
         ensures { IsLook result self.now }
@@ -91,13 +91,13 @@ impl Lines {
         let held = &self.buffer[self.start..self.end];
         if let Some(n) = line_len(held, searched) {
             return Some(if n > MOST_LINE_BYTES {
-                Found::Long
+                NextHeld::Long
             } else {
-                Found::Line(n)
+                NextHeld::Line(n)
             });
         }
         if held.len() > MOST_LINE_BYTES {
-            Some(Found::Long)
+            Some(NextHeld::Long)
         } else {
             None
         }
@@ -125,16 +125,16 @@ impl Lines {
     }
 
     /// Reads until the held bytes settle what comes next. A line stays held.
-    fn advance<R: Input>(&mut self, reader: &mut R) -> Found
+    fn advance<R: Input>(&mut self, reader: &mut R) -> NextHeld
         ensures held { self.new ≡ self.old ++ since (R.handed reader.old) (R.handed reader.new) }
         ensures bytes { R.handed reader.new
             ≡ R.handed reader.old ++ since (R.handed reader.old) (R.handed reader.new) }
         ensures fits { FitsIn result self.new }
-        ensures quiet { OnFoundLine result
+        ensures quiet { OnHeldLine result
             ((R.faults reader.new ≡ R.faults reader.old) × (R.ends reader.new ≡ R.ends reader.old)) }
         ensures no_more { R.faults reader.new + R.ends reader.new ≤ R.faults reader.old + R.ends reader.old + 1 }
         ensures answer { next_answer (delivery R.handed R.faults R.ends reader.old reader.new).stand (line_parts self.new)
-            ≡ found_answer result self.new }
+            ≡ held_answer result self.new }
     {
         let mut searched = 0;
         'turns: loop {
@@ -143,12 +143,12 @@ impl Lines {
             }
             searched = self.len();
             match self.fill(reader) {
-                Err(InFault) => return Found::ReadFault,
+                Err(InFault) => return NextHeld::ReadFault,
                 Ok(0) => {
                     return if searched == 0 {
-                        Found::End
+                        NextHeld::End
                     } else {
-                        Found::Unended
+                        NextHeld::Unended
                     };
                 }
                 Ok(_) => {}
@@ -173,16 +173,16 @@ impl Lines {
             (line_parts (self.old ++ since (R.handed reader.old) (R.handed reader.new))) }
     {
         match self.advance(reader) {
-            Found::Line(n) => {
+            NextHeld::Line(n) => {
                 let start = self.start;
                 self.start = start + n + 1;
                 let buffer = &self.buffer;
                 Next::Line(&buffer[start..start + n])
             }
-            Found::End => Next::End,
-            Found::Unended => Next::Unended,
-            Found::Long => Next::Long,
-            Found::ReadFault => Next::ReadFault,
+            NextHeld::End => Next::End,
+            NextHeld::Unended => Next::Unended,
+            NextHeld::Long => Next::Long,
+            NextHeld::ReadFault => Next::ReadFault,
         }
     }
 }

@@ -5,12 +5,12 @@
 
 ghost use Rattle.std.specs.Prelude.{◌≡◌, []};
 ghost use Rattle.dm_map.specs.Units.{IsOnDisks};
-ghost use Rattle.dm_stream.specs.Holding.{piece_view};
+ghost use Rattle.dm_stream.specs.Pending.{piece_view};
 ghost use Rattle.dm_stream.specs.PieceText.{piece_text};
 
-use crate::front::Front;
+use crate::kept_range::KeptRange;
+use crate::number_prefix::NumberPrefix;
 use crate::piece_text::put_piece;
-use crate::tail::Tail;
 use dm_map::Piece;
 use dm_stack::Stack;
 use std::marker::Model;
@@ -21,22 +21,22 @@ const ROOM: usize = 1024;
 /// The line of a piece under a number. It ends where the room does.
 #[derive(Drop)]
 pub(crate) struct NumberedLine {
-    front: Front,
+    prefix: NumberPrefix,
     text: [u8; ROOM],
-    tail: Tail,
+    range: KeptRange,
     start: usize,
 }
 
 impl Model for NumberedLine {
     ghost use Rattle.std.specs.Prelude.{◌≤◌, drop};
     ghost use Rattle.dm_stream.specs.NumberedLine.{Numbered};
-    ghost use Rattle.dm_stream.specs.Tail.{IsTail};
+    ghost use Rattle.dm_stream.specs.KeptRange.{IsKept};
 
     ghost Value = { Numbered };
 
-    ghost view = { λ line. record { number = line.front; text = drop line.start line.text } };
+    ghost view = { λ line. record { number = line.prefix; text = drop line.start line.text } };
 
-    ghost invariant = { λ line. (line.start ≤ 1024) × IsTail line.tail line.text };
+    ghost invariant = { λ line. (line.start ≤ 1024) × IsKept line.range line.text };
 }
 
 impl NumberedLine {
@@ -45,9 +45,9 @@ impl NumberedLine {
         ensures { result ≡ record { number = 0; text = [] } }
     {
         NumberedLine {
-            front: Front::new(),
+            prefix: NumberPrefix::new(),
             text: [0; ROOM],
-            tail: Tail {
+            range: KeptRange {
                 start: 0,
                 len: 0,
                 at: ROOM,
@@ -60,7 +60,7 @@ impl NumberedLine {
     pub(crate) fn set_number(&mut self, number: u64)
         ensures { self.new ≡ record { number = number; text = self.old.text } }
     {
-        self.front.set(number);
+        self.prefix.set(number);
     }
 
     /// Makes it the line of a piece on disks of the stack.
@@ -69,8 +69,8 @@ impl NumberedLine {
         ensures number { self.new.number ≡ self.old.number }
         ensures text { self.new.text ≡ piece_text stack.now self.old.number (piece_view piece.now) }
     {
-        let end = put_piece(&mut self.text, &mut self.tail, stack, piece);
-        self.start = self.front.put_before(&mut self.text, end);
+        let end = put_piece(&mut self.text, &mut self.range, stack, piece);
+        self.start = self.prefix.put_before(&mut self.text, end);
     }
 
     /// The line.

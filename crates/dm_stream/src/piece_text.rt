@@ -8,36 +8,41 @@ ghost use Rattle.std.specs.Prelude.{◌≡◌, ◌++◌, ◌+◌, ◌<◌, ◌�
 ghost use Rattle.dm_stack.specs.Description.{disk_name_at};
 ghost use Rattle.dm_map.specs.Units.{IsOnDisks, first_unit, piece_len};
 ghost use Rattle.dm_stream.specs.PieceText.{place_text, unit_text};
-ghost use Rattle.dm_stream.specs.Tail.{IsTail};
+ghost use Rattle.dm_stream.specs.KeptRange.{IsKept};
 
+use crate::kept_range::{KeptRange, set_range, without_range};
 use crate::put_before::{put_before, put_number_before};
-use crate::tail::{Tail, set_tail, without_tail};
 use dm_map::Piece;
 use dm_stack::{DiskId, Stack};
 
 /// Puts what a piece is and a newline at the end of a text, and answers where that begins.
-pub(crate) fn put_piece(text: &mut [u8], tail: &mut Tail, stack: &Stack, piece: &Piece) -> usize
+pub(crate) fn put_piece(
+    text: &mut [u8],
+    range: &mut KeptRange,
+    stack: &Stack,
+    piece: &Piece,
+) -> usize
     requires room { 1024 ≤ length text.old }
-    requires tail { IsTail tail.old text.old }
+    requires range { IsKept range.old text.old }
     requires lies { IsOnDisks stack.now piece.now }
     ensures text { drop result text.new ≡ unit_text stack.now (first_unit piece.now) (piece_len piece.now) ++ 10 ∷ [] }
-    ensures tail { IsTail tail.new text.new }
-    ensures before { result ≤ tail.new.at }
+    ensures range { IsKept range.new text.new }
+    ensures before { result ≤ range.new.at }
     ensures room { 64 ≤ result }
 {
     match *piece {
         Piece::Read { disk, start, len } | Piece::Write { disk, start, len } => {
-            set_tail(text, tail, start, len);
+            set_range(text, range, start, len);
             let word = if matches!(*piece, Piece::Read { .. }) {
                 b"R "
             } else {
                 b"W "
             };
-            put_named(text, tail.at, word, stack, disk)
+            put_named(text, range.at, word, stack, disk)
         }
-        Piece::Zero { len } => put_counted(text, tail, b"zero ", len),
-        Piece::Drop { len } => put_counted(text, tail, b"drop ", len),
-        Piece::Error { len } => put_counted(text, tail, b"error ", len),
+        Piece::Zero { len } => put_counted(text, range, b"zero ", len),
+        Piece::Drop { len } => put_counted(text, range, b"drop ", len),
+        Piece::Error { len } => put_counted(text, range, b"error ", len),
         Piece::Copy {
             disk,
             start,
@@ -45,7 +50,7 @@ pub(crate) fn put_piece(text: &mut [u8], tail: &mut Tail, stack: &Stack, piece: 
             to,
             to_start,
         } => {
-            let end = without_tail(text, tail);
+            let end = without_range(text, range);
             let end = put_place(text, end, stack, to, to_start);
             let end = put_before(text, end, b" ");
             let end = put_number_before(text, end, len);
@@ -54,7 +59,7 @@ pub(crate) fn put_piece(text: &mut [u8], tail: &mut Tail, stack: &Stack, piece: 
             put_before(text, end, b"copy ")
         }
         Piece::Fill { len, disk, start } => {
-            let end = without_tail(text, tail);
+            let end = without_range(text, range);
             let end = put_place(text, end, stack, disk, start);
             let end = put_before(text, end, b" ");
             let end = put_number_before(text, end, len);
@@ -79,15 +84,15 @@ fn put_named(text: &mut [u8], end: usize, word: &[u8], stack: &Stack, disk: Disk
 }
 
 /// Puts a word, a number and a newline at the end of a text.
-fn put_counted(text: &mut [u8], tail: &mut Tail, word: &[u8], number: u64) -> usize
+fn put_counted(text: &mut [u8], range: &mut KeptRange, word: &[u8], number: u64) -> usize
     requires room { 1024 ≤ length text.old }
     requires short { length word.now ≤ 9 }
     ensures text { drop result text.new ≡ word.now ++ decimal number ++ 10 ∷ [] }
-    ensures tail { tail.new.at ≡ length text.new }
-    ensures before { result ≤ tail.new.at }
+    ensures range { range.new.at ≡ length text.new }
+    ensures before { result ≤ range.new.at }
     ensures room { 64 ≤ result }
 {
-    let end = without_tail(text, tail);
+    let end = without_range(text, range);
     let end = put_number_before(text, end, number);
     put_before(text, end, word)
 }

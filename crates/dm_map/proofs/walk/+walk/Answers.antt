@@ -1,201 +1,204 @@
 use Rattle.std.proofs.Common.{rules, ◌≡◌, ℕ, suc, ◌+◌, ◌-◌, ◌<◌, ◌≤◌, false, List, Some, length, sym, ap, subst, ◌∙◌, arith}
 use Rattle.dm_table.specs.declared.request.Op.{Op}
 use Rattle.dm_stack.specs.declared.found.FoundLine.{FoundLine}
-use Rattle.dm_stack.specs.declared.found.FoundTarget.TheVariants.{Striped}
-use Rattle.dm_stack.specs.declared.id.Lower.TheVariants.{Device}
-use Rattle.dm_stack.specs.Below.{HoldsSoundly, below_target, found_at}
+use Rattle.dm_stack.specs.declared.found.FoundTarget.{FoundTarget}
+use Rattle.dm_stack.specs.declared.found.FoundTarget.TheVariants.{Linear, Zero, Error}
+use Rattle.dm_stack.specs.declared.id.Lower.{Lower}
+use Rattle.dm_stack.specs.declared.id.Lower.TheVariants.{Device, Disk}
+use Rattle.dm_stack.specs.Below.{HoldsSoundly, below_stripes, found_at}
 use Rattle.dm_stack.specs.Description.{Description, lower_len}
-use Rattle.dm_map.specs.Units.{BlockUnit, Fails, units_in}
-use Rattle.dm_map.specs.Mapping.{sector_units}
-use Rattle.dm_map.specs.Walk.{below_units, is_failing, range_units, target_units}
+use Rattle.dm_map.specs.Units.{BlockUnit, Fails, diskless_len, units_in}
+use Rattle.dm_map.specs.Mapping.{sector_step}
+use Rattle.dm_map.specs.State.{State}
+use Rattle.dm_map.specs.Steps.{Step, keep}
+use Rattle.dm_map.specs.Walk.{Walking, below_step, disk_unit, zero_unit, refuses, range_step, line_step, stripes_step}
 use Rattle.dm_map.proofs.There.{device_there}
-use Rattle.dm_map.proofs.Ranges.{range_deepest, range_disk, range_failing, range_line, target_chunk, target_errors, target_linear, target_zeros}
-use Rattle.dm_map.proofs.Rows.{cut_as, left_as, left_on, on_err, took_as, took_on}
+use Rattle.dm_map.proofs.Ranges.{range_deepest, range_disk, range_refused, range_line, stripes_chunk, line_errors, line_linear, line_zeros}
+use Rattle.dm_map.proofs.Rows.{left_on, state_on, took_on, walked_as, walked_cut, walked_piece}
 use Rattle.dm_map.proofs.Stripes.{column_inside, place_small}
 use Rattle.dm_map.proofs.walk.+walk.Goals as goal
-use Rattle.dm_map.proofs.walk.+walk.Goals.{serve_device-then-levels-eq0-via-then-levels-eq0, serve_device-then-levels-eq0-via-else-levels-eq0+then-is_failing}
+use Rattle.dm_map.proofs.walk.+walk.Goals.{map_device-then-levels-eq0-via-then-levels-eq0, map_device-then-levels-eq0-via-else-levels-eq0+then-refuses}
 
 -- A disk
 
-pub serve_range-returns-in-Disk-clause-took : goal.serve_range-returns-in-Disk-clause-took
-serve_range-returns-in-Disk-clause-took g t c =
-    let a = c.args in let st = c.args.looker.now.stack in
-    took_as c.piece.result g.S.Sink.took a.sink.now c.piece.new.self _ _
-    (c.disk_piece.ensures.units ∙ sym (range_disk st a.op a.levels c.in-Disk.disk a.sector a.len) ∙ ap (λ lower. range_units st a.op a.levels lower a.sector a.len) (sym c.in-Disk.is)) c.piece.ensures.took
+disk_step : (w : Walking) (op : Op) (levels : ℕ) (lower : Lower) (disk sector len : ℕ) (units : List BlockUnit) → lower ≡ Disk disk → units ≡ units_in (disk_unit op disk sector) len → keep units w.state ≡ range_step w.stack op levels lower w.state sector len
+disk_step w op levels lower disk sector len units is units_is =
+    ap (λ (us : List BlockUnit). keep us w.state) units_is ∙ sym (range_disk w.stack op levels disk sector len w.state) ∙ ap (λ l. range_step w.stack op levels l w.state sector len) (sym is)
 
-pub serve_range-returns-in-Disk-clause-left : goal.serve_range-returns-in-Disk-clause-left
-serve_range-returns-in-Disk-clause-left g t c =
-    let a = c.args in let st = c.args.looker.now.stack in
-    cut_as c.piece.result g.S.Sink.left a.sink.now c.piece.new.self _ _
-    (c.disk_piece.ensures.units ∙ sym (range_disk st a.op a.levels c.in-Disk.disk a.sector a.len) ∙ ap (λ lower. range_units st a.op a.levels lower a.sector a.len) (sym c.in-Disk.is)) c.piece.ensures.left
+pub map_range-returns-in-Disk : goal.map_range-returns-in-Disk
+map_range-returns-in-Disk g t c =
+    let a = c.args in let p = c.piece in
+    walked_piece g.S.Sink.took g.S.Sink.left g.S.Sink.stack g.S.Sink.room g.S.Sink.faults p.result a.sink.now p.new.self a.walker.now _ _ (diskless_len c.disk_piece.result) a.len
+    (disk_step a.walker.now a.op a.levels a.lower c.in-Disk.disk a.sector a.len _ c.in-Disk.is c.disk_piece.ensures.units) (omega (arith, c.disk_piece.ensures.diskless))
+    p.ensures.took p.ensures.left p.ensures.faults p.ensures.stack p.ensures.room
 
 -- A device
 
-pub serve_device-returns-then-levels-eq0-clause-took : goal.serve_device-returns-then-levels-eq0-clause-took
-serve_device-returns-then-levels-eq0-clause-took g t c =
-    let a = c.args in let st = c.args.looker.now.stack in
-    let fails : units_in Fails a.len ≡ range_units st a.op a.levels (Device a.device) a.sector a.len = elim c.then-levels-eq0.branch [
-      | serve_device-then-levels-eq0-via-then-levels-eq0 w ↦ sym (range_deepest st a.op a.levels a.device a.sector a.len w.if-levels-eq0.true)
-      | serve_device-then-levels-eq0-via-else-levels-eq0+then-is_failing w ↦ sym (range_failing st a.op a.levels a.device a.sector a.len (sym w.is_failing.ensures ∙ w.if-is_failing.true))
+pub map_device-returns-then-levels-eq0 : goal.map_device-returns-then-levels-eq0
+map_device-returns-then-levels-eq0 g t c =
+    let a = c.args in let p = c.piece in
+    let fails : keep (units_in Fails a.len) a.walker.now.state ≡ range_step a.walker.now.stack a.op a.levels (Device a.device) a.walker.now.state a.sector a.len = elim c.then-levels-eq0.branch [
+      | map_device-then-levels-eq0-via-then-levels-eq0 b ↦ sym (range_deepest a.walker.now.stack a.op a.levels a.device a.sector a.len a.walker.now.state b.if-levels-eq0.true)
+      | map_device-then-levels-eq0-via-else-levels-eq0+then-refuses b ↦ sym (range_refused a.walker.now.stack a.op a.levels a.device a.sector a.len a.walker.now.state (sym b.refuses.ensures ∙ b.if-refuses.true))
     ] in
-    took_as c.piece.result g.S.Sink.took a.sink.now c.piece.new.self _ _ fails c.piece.ensures.took
+    walked_piece g.S.Sink.took g.S.Sink.left g.S.Sink.stack g.S.Sink.room g.S.Sink.faults p.result a.sink.now p.new.self a.walker.now _ _ a.len a.len fails (omega arith) p.ensures.took p.ensures.left p.ensures.faults p.ensures.stack p.ensures.room
 
-pub serve_device-returns-then-levels-eq0-clause-left : goal.serve_device-returns-then-levels-eq0-clause-left
-serve_device-returns-then-levels-eq0-clause-left g t c =
-    let a = c.args in let st = c.args.looker.now.stack in
-    let fails : units_in Fails a.len ≡ range_units st a.op a.levels (Device a.device) a.sector a.len = elim c.then-levels-eq0.branch [
-      | serve_device-then-levels-eq0-via-then-levels-eq0 w ↦ sym (range_deepest st a.op a.levels a.device a.sector a.len w.if-levels-eq0.true)
-      | serve_device-then-levels-eq0-via-else-levels-eq0+then-is_failing w ↦ sym (range_failing st a.op a.levels a.device a.sector a.len (sym w.is_failing.ensures ∙ w.if-is_failing.true))
-    ] in
-    cut_as c.piece.result g.S.Sink.left a.sink.now c.piece.new.self _ _ fails c.piece.ensures.left
-
-pub serve_device-look-line-requires-clause-device : goal.serve_device-look-line-requires-clause-device
-serve_device-look-line-requires-clause-device g t c =
-    subst (λ (s : Description). c.args.device < length s.devices) (sym c.loop-left.invariant.same) (device_there c.args.looker.now.stack c.args.device c.args.sector (omega arith))
+pub map_device-look-line-requires-clause-device : goal.map_device-look-line-requires-clause-device
+map_device-look-line-requires-clause-device g t c =
+    subst (λ (s : Description). c.args.device < length s.devices) (sym c.loop-left.invariant.same) (device_there c.args.walker.now.stack c.args.device c.args.sector (omega arith))
 
 -- what a line is asked for is the next part of the device's range
-line_part : (stack before after : Description) (op : Op) (levels fewer device sector at done n : ℕ) (line : FoundLine) → before ≡ stack → after ≡ before → levels ≡ suc fewer → is_failing stack op device ≡ false → at ≡ sector + done
+line_part : (stack before : Description) (state : State) (op : Op) (levels fewer device sector at done n : ℕ) (line : FoundLine) → before ≡ stack → levels ≡ suc fewer → refuses stack op device ≡ false → at ≡ sector + done
     → HoldsSoundly before line at → n ≤ line.len - (at - line.start) → ((other : ℕ) → line.start ≤ other → other < line.start + line.len → found_at before device other ≡ Some line)
-    → target_units after op fewer line.target (at - line.start) n ≡ range_units stack op levels (Device device) (sector + done) n
-line_part stack before after op levels fewer device sector at done n line before_is after_is more passes place holds most all =
+    → line_step before op fewer device line.target state (at - line.start) n ≡ range_step stack op levels (Device device) state (sector + done) n
+line_part stack before state op levels fewer device sector at done n line before_is more passes place holds most all =
     let each : (i : ℕ) → i < n → found_at stack device (at + i) ≡ Some line = λ i within.
     subst (λ (s : Description). found_at s device (at + i) ≡ Some line) before_is (all (at + i) (omega (arith, holds.from)) (omega (arith, holds.from, holds.before, most, within))) in
-    ap (λ (s : Description). target_units s op fewer line.target (at - line.start) n) (after_is ∙ before_is)
-    ∙ sym (range_line stack op levels fewer device at n line more passes holds.from each) ∙ ap (λ (p : ℕ). range_units stack op levels (Device device) p n) place
+    ap (λ (s : Description). line_step s op fewer device line.target state (at - line.start) n) before_is
+    ∙ sym (range_line stack op levels fewer device at n state line more passes holds.from each) ∙ ap (λ (p : ℕ). range_step stack op levels (Device device) state p n) place
 
-pub serve_device-returns-in_err-serve_line-clause-left : goal.serve_device-returns-in_err-serve_line-clause-left
-serve_device-returns-in_err-serve_line-clause-left g t c =
-    let a = c.args in let l = c.loop-left in let line = c.look-line.result.now in let n = c.part_in-part.result in let done = a.len - l.left in
-    let part : target_units c.look-line.new.self.stack a.op (a.levels - 1) line.target (l.at - line.start) n ≡ range_units a.looker.now.stack a.op a.levels (Device a.device) (a.sector + done) n =
-    line_part a.looker.now.stack l.looker.stack c.look-line.new.self.stack a.op a.levels (a.levels - 1) a.device a.sector l.at done n line l.invariant.same c.look-line.ensures.stack (omega (arith, c.if-levels-eq0.false))
-    (sym c.is_failing.ensures ∙ c.if-is_failing.false) (omega (arith, l.invariant.place, l.invariant.within)) c.look-line.ensures.holds (omega (arith, c.part_in-part.ensures)) c.look-line.ensures.all in
-    on_err _ _ (left_on g.S.Sink.took g.S.Sink.left g.met.S.Sink.took_then_left a.sink.now l.sink c.serve_line.new.sink (sector_units a.looker.now.stack a.op a.levels (Device a.device)) a.sector done n a.len
-    (omega (arith, c.part_in-part.ensures, l.invariant.within)) l.invariant.taken (rw part at c.in_err-serve_line.ensures.left))
+pub map_device-returns-in_err-map_line : goal.map_device-returns-in_err-map_line
+map_device-returns-in_err-map_line g t c =
+    let a = c.args in let w = a.walker.now in let l = c.loop-left in let line = c.look-line.result.now in let n = c.part_in-part.result in let done = a.len - l.left in
+    let part : line_step l.walker.stack a.op (a.levels - 1) a.device line.target l.walker.state (l.at - line.start) n ≡ range_step w.stack a.op a.levels (Device a.device) l.walker.state (a.sector + done) n =
+    line_part w.stack l.walker.stack l.walker.state a.op a.levels (a.levels - 1) a.device a.sector l.at done n line l.invariant.same (omega (arith, c.if-levels-eq0.false))
+    (sym c.refuses.ensures ∙ c.if-refuses.false) (omega (arith, l.invariant.place, l.invariant.within)) c.look-line.ensures.holds (omega (arith, c.part_in-part.ensures)) c.look-line.ensures.all in
+    let looked : (look : Walking → Step) → look c.look-line.new.self ≡ look l.walker = λ look. ap look c.look-line.ensures.same in
+    let step : line_step c.look-line.new.self.stack a.op (a.levels - 1) a.device line.target c.look-line.new.self.state (l.at - line.start) n ≡ range_step w.stack a.op a.levels (Device a.device) l.walker.state (a.sector + done) n =
+    looked (λ v. line_step v.stack a.op (a.levels - 1) a.device line.target v.state (l.at - line.start) n) ∙ part in
+    let walk = c.in_err-map_line.ensures a.device in
+    walked_cut g.S.Sink.took g.S.Sink.left g.S.Sink.stack g.S.Sink.room g.S.Sink.faults c.from_residual.result a.sink.now c.map_line.new.sink w c.map_line.new.walker (range_step w.stack a.op a.levels (Device a.device) w.state a.sector a.len) a.len c.from_residual.ensures.0
+    (left_on g.S.Sink.took g.S.Sink.left g.met.S.Sink.took_then_left a.sink.now l.sink c.map_line.new.sink (sector_step w.stack a.op a.levels (Device a.device)) w.state l.walker.state a.sector done n a.len
+    (omega (arith, c.part_in-part.ensures, l.invariant.within)) l.invariant.state l.invariant.taken (rw step at walk.left))
+    (omega (arith, walk.faults, l.invariant.faults)) (walk.stack ∙ ap (λ (v : Walking). v.stack) c.look-line.ensures.same ∙ l.invariant.same)
 
-pub serve_device-loop-left-preserved : goal.serve_device-loop-left-preserved
-serve_device-loop-left-preserved g t c =
-    let a = c.args in let l = c.loop-left in let line = c.look-line.result.now in let n = c.part_in-part.result in let done = a.len - l.left in
-    let part : target_units c.look-line.new.self.stack a.op (a.levels - 1) line.target (l.at - line.start) n ≡ range_units a.looker.now.stack a.op a.levels (Device a.device) (a.sector + done) n =
-    line_part a.looker.now.stack l.looker.stack c.look-line.new.self.stack a.op a.levels (a.levels - 1) a.device a.sector l.at done n line l.invariant.same c.look-line.ensures.stack (omega (arith, c.if-levels-eq0.false))
-    (sym c.is_failing.ensures ∙ c.if-is_failing.false) (omega (arith, l.invariant.place, l.invariant.within)) c.look-line.ensures.holds (omega (arith, c.part_in-part.ensures)) c.look-line.ensures.all in
+pub map_device-loop-left-preserved : goal.map_device-loop-left-preserved
+map_device-loop-left-preserved g t c =
+    let a = c.args in let w = a.walker.now in let l = c.loop-left in let line = c.look-line.result.now in let n = c.part_in-part.result in let done = a.len - l.left in
+    let part : line_step l.walker.stack a.op (a.levels - 1) a.device line.target l.walker.state (l.at - line.start) n ≡ range_step w.stack a.op a.levels (Device a.device) l.walker.state (a.sector + done) n =
+    line_part w.stack l.walker.stack l.walker.state a.op a.levels (a.levels - 1) a.device a.sector l.at done n line l.invariant.same (omega (arith, c.if-levels-eq0.false))
+    (sym c.refuses.ensures ∙ c.if-refuses.false) (omega (arith, l.invariant.place, l.invariant.within)) c.look-line.ensures.holds (omega (arith, c.part_in-part.ensures)) c.look-line.ensures.all in
+    let looked : (look : Walking → Step) → look c.look-line.new.self ≡ look l.walker = λ look. ap look c.look-line.ensures.same in
+    let step : line_step c.look-line.new.self.stack a.op (a.levels - 1) a.device line.target c.look-line.new.self.state (l.at - line.start) n ≡ range_step w.stack a.op a.levels (Device a.device) l.walker.state (a.sector + done) n =
+    looked (λ v. line_step v.stack a.op (a.levels - 1) a.device line.target v.state (l.at - line.start) n) ∙ part in
+    let walk = c.in_ok-map_line.ensures a.device in
     let on : done + n ≡ a.len - (l.left - n) = omega (arith, c.part_in-part.ensures, l.invariant.within) in
-    let taken = took_on g.S.Sink.took g.met.S.Sink.took_then_took a.sink.now l.sink c.serve_line.new.sink (sector_units a.looker.now.stack a.op a.levels (Device a.device)) a.sector done n
-    l.invariant.taken (rw part at c.in_ok-serve_line.ensures.took) in
+    let row = sector_step w.stack a.op a.levels (Device a.device) in
+    let taken = took_on g.S.Sink.took g.met.S.Sink.took_then_took a.sink.now l.sink c.map_line.new.sink row w.state l.walker.state a.sector done n l.invariant.state
+    l.invariant.taken (rw step at walk.took) in
+    let state = state_on row w.state l.walker.state c.map_line.new.walker.state a.sector done n l.invariant.state (rw step at walk.state) in
     record {
       taken = rw on at taken;
+      state = rw on at state;
       within = omega (arith, l.invariant.within);
       place = omega (arith, l.invariant.place, c.part_in-part.ensures);
-      same = c.serve_line.ensures.stack ∙ c.look-line.ensures.stack ∙ l.invariant.same;
-      stack = c.in_ok-serve_line.ensures.kept ∙ l.invariant.stack;
-      room = omega (arith, c.in_ok-serve_line.ensures.room, l.invariant.room, on);
-      faults = omega (arith, c.in_ok-serve_line.ensures.faults, l.invariant.faults);
+      same = walk.stack ∙ ap (λ (v : Walking). v.stack) c.look-line.ensures.same ∙ l.invariant.same;
+      stack = walk.kept ∙ l.invariant.stack;
+      room = omega (arith, walk.room, l.invariant.room, on);
+      faults = omega (arith, walk.faults, l.invariant.faults);
     }
 
--- A line
+-- A line, by its target
 
-pub serve_line-returns-in-Linear-clause-took : goal.serve_line-returns-in-Linear-clause-took
-serve_line-returns-in-Linear-clause-took g t c =
-    let a = c.args in let st = c.args.looker.now.stack in
-    let units : range_units st a.op a.levels c.in-Linear.to c.sector_at-sector.result a.len ≡ target_units st a.op a.levels a.line.now.target a.distance a.len =
-    ap (λ (p : ℕ). range_units st a.op a.levels c.in-Linear.to p a.len) c.sector_at-sector.ensures ∙ sym (target_linear st a.op a.levels c.in-Linear.to c.in-Linear.offset a.distance a.len)
-    ∙ ap (λ target. target_units st a.op a.levels target a.distance a.len) (sym c.in-Linear.is) in
-    took_as c.serve_range.result g.S.Sink.took a.sink.now c.serve_range.new.sink _ _ units c.serve_range.ensures.took
+linear_step : (w : Walking) (op : Op) (levels device distance len : ℕ) (target : FoundTarget) (to : Lower) (offset sector : ℕ) → target ≡ Linear to offset → sector ≡ offset + distance
+    → range_step w.stack op levels to w.state sector len ≡ line_step w.stack op levels device target w.state distance len
+linear_step w op levels device distance len target to offset sector is at =
+    ap (λ p. range_step w.stack op levels to w.state p len) at ∙ sym (line_linear w.stack op levels device to offset distance len w.state) ∙ ap (λ t. line_step w.stack op levels device t w.state distance len) (sym is)
 
-pub serve_line-returns-in-Linear-clause-left : goal.serve_line-returns-in-Linear-clause-left
-serve_line-returns-in-Linear-clause-left g t c =
-    let a = c.args in let st = c.args.looker.now.stack in
-    let units : range_units st a.op a.levels c.in-Linear.to c.sector_at-sector.result a.len ≡ target_units st a.op a.levels a.line.now.target a.distance a.len =
-    ap (λ (p : ℕ). range_units st a.op a.levels c.in-Linear.to p a.len) c.sector_at-sector.ensures ∙ sym (target_linear st a.op a.levels c.in-Linear.to c.in-Linear.offset a.distance a.len)
-    ∙ ap (λ target. target_units st a.op a.levels target a.distance a.len) (sym c.in-Linear.is) in
-    left_as c.serve_range.result g.S.Sink.left a.sink.now c.serve_range.new.sink _ _ units c.serve_range.ensures.left
+zeros_step : (w : Walking) (op : Op) (levels device distance len : ℕ) (target : FoundTarget) (units : List BlockUnit) → target ≡ Zero → units ≡ units_in (zero_unit op) len
+    → keep units w.state ≡ line_step w.stack op levels device target w.state distance len
+zeros_step w op levels device distance len target units is units_are =
+    ap (λ (us : List BlockUnit). keep us w.state) units_are ∙ sym (line_zeros w.stack op levels device distance len w.state) ∙ ap (λ t. line_step w.stack op levels device t w.state distance len) (sym is)
 
-pub serve_line-returns-in-Zero-clause-took : goal.serve_line-returns-in-Zero-clause-took
-serve_line-returns-in-Zero-clause-took g t c =
-    let a = c.args in let st = c.args.looker.now.stack in
-    took_as c.piece.result g.S.Sink.took a.sink.now c.piece.new.self _ _
-    (c.zero_piece.ensures.units ∙ sym (target_zeros st a.op a.levels a.distance a.len) ∙ ap (λ target. target_units st a.op a.levels target a.distance a.len) (sym c.in-Zero.is)) c.piece.ensures.took
+errors_step : (w : Walking) (op : Op) (levels device distance len : ℕ) (target : FoundTarget) → target ≡ Error → keep (units_in Fails len) w.state ≡ line_step w.stack op levels device target w.state distance len
+errors_step w op levels device distance len target is = sym (line_errors w.stack op levels device distance len w.state) ∙ ap (λ t. line_step w.stack op levels device t w.state distance len) (sym is)
 
-pub serve_line-returns-in-Zero-clause-left : goal.serve_line-returns-in-Zero-clause-left
-serve_line-returns-in-Zero-clause-left g t c =
-    let a = c.args in let st = c.args.looker.now.stack in
-    cut_as c.piece.result g.S.Sink.left a.sink.now c.piece.new.self _ _
-    (c.zero_piece.ensures.units ∙ sym (target_zeros st a.op a.levels a.distance a.len) ∙ ap (λ target. target_units st a.op a.levels target a.distance a.len) (sym c.in-Zero.is)) c.piece.ensures.left
+pub map_line-returns-in-Linear : goal.map_line-returns-in-Linear
+map_line-returns-in-Linear g t c device =
+    let a = c.args in let walk = c.map_range in
+    walked_as g.S.Sink.took g.S.Sink.left g.S.Sink.stack g.S.Sink.room g.S.Sink.faults walk.result a.sink.now walk.new.sink a.walker.now walk.new.walker _ _ a.len (linear_step a.walker.now a.op a.levels device a.distance a.len a.line.now.target c.in-Linear.to c.in-Linear.offset c.sector_at-sector.result c.in-Linear.is c.sector_at-sector.ensures) walk.ensures
 
-pub serve_line-returns-in-Error-clause-took : goal.serve_line-returns-in-Error-clause-took
-serve_line-returns-in-Error-clause-took g t c =
-    let a = c.args in let st = c.args.looker.now.stack in
-    took_as c.piece-in-Error.result g.S.Sink.took a.sink.now c.piece-in-Error.new.self (units_in Fails a.len) _
-    (sym (target_errors st a.op a.levels a.distance a.len) ∙ ap (λ target. target_units st a.op a.levels target a.distance a.len) (sym c.in-Error.is)) c.piece-in-Error.ensures.took
+pub map_line-returns-in-Zero : goal.map_line-returns-in-Zero
+map_line-returns-in-Zero g t c device =
+    let a = c.args in let p = c.piece in
+    walked_piece g.S.Sink.took g.S.Sink.left g.S.Sink.stack g.S.Sink.room g.S.Sink.faults p.result a.sink.now p.new.self a.walker.now _ _ a.len a.len (zeros_step a.walker.now a.op a.levels device a.distance a.len a.line.now.target _ c.in-Zero.is c.zero_piece.ensures.units) (omega arith)
+    p.ensures.took p.ensures.left p.ensures.faults p.ensures.stack (rw c.zero_piece.ensures.diskless at p.ensures.room)
 
-pub serve_line-returns-in-Error-clause-left : goal.serve_line-returns-in-Error-clause-left
-serve_line-returns-in-Error-clause-left g t c =
-    let a = c.args in let st = c.args.looker.now.stack in
-    cut_as c.piece-in-Error.result g.S.Sink.left a.sink.now c.piece-in-Error.new.self (units_in Fails a.len) _
-    (sym (target_errors st a.op a.levels a.distance a.len) ∙ ap (λ target. target_units st a.op a.levels target a.distance a.len) (sym c.in-Error.is)) c.piece-in-Error.ensures.left
+pub map_line-returns-in-Error : goal.map_line-returns-in-Error
+map_line-returns-in-Error g t c device =
+    let a = c.args in let p = c.piece-in-Error in
+    walked_piece g.S.Sink.took g.S.Sink.left g.S.Sink.stack g.S.Sink.room g.S.Sink.faults p.result a.sink.now p.new.self a.walker.now _ _ a.len a.len (errors_step a.walker.now a.op a.levels device a.distance a.len a.line.now.target c.in-Error.is) (omega arith)
+    p.ensures.took p.ensures.left p.ensures.faults p.ensures.stack p.ensures.room
 
 -- Stripes
 
-pub serve_stripes-overflow_add-place : goal.serve_stripes-overflow_add-place
-serve_stripes-overflow_add-place g t c =
+pub map_stripes-overflow_add-place : goal.map_stripes-overflow_add-place
+map_stripes-overflow_add-place g t c =
     let a = c.args in let l = c.loop-left in let lies = c.requires.inside in
     let at = l.invariant.place c.loop-left-test.true in
     let small = place_small a.chunk (length a.columns.now) (a.distance + (a.len - l.left)) l.place lies.stripes.some at in
     omega (arith, small, lies.inside, lies.small, l.invariant.within)
 
-pub serve_stripes-sector_at-sector-requires : goal.serve_stripes-sector_at-sector-requires
-serve_stripes-sector_at-sector-requires g t c =
+pub map_stripes-sector_at-sector-requires : goal.map_stripes-sector_at-sector-requires
+map_stripes-sector_at-sector-requires g t c =
     let a = c.args in let l = c.loop-left in let column = c.index-columns-place.result in let at = l.invariant.place c.loop-left-test.true in
     let some : 1 ≤ c.min-part.result = omega (arith, c.min-part.ensures, c.loop-left-test.true, at.past, c.requires.inside.stripes.chunk_some) in
-    let inside = column_inside a.looker.now.stack a.chunk a.distance a.len (a.len - l.left) c.min-part.result a.columns.now column l.place c.requires.inside (omega (arith, c.loop-left-test.true, l.invariant.within)) at
+    let inside = column_inside a.walker.now.stack a.chunk a.distance a.len (a.len - l.left) c.min-part.result a.columns.now column l.place c.requires.inside (omega (arith, c.loop-left-test.true, l.invariant.within)) at
     (omega (arith, c.min-part.ensures)) c.index-columns-place.is in
-    subst (λ (s : Description). column.offset + (l.place.chunk_start + l.place.past) < lower_len s column.to) (sym l.invariant.same) (let e : column.offset + (l.place.chunk_start + l.place.past) < lower_len a.looker.now.stack column.to = omega (arith, inside, some) in e)
+    subst (λ (s : Description). column.offset + (l.place.chunk_start + l.place.past) < lower_len s column.to) (sym l.invariant.same) (let e : column.offset + (l.place.chunk_start + l.place.past) < lower_len a.walker.now.stack column.to = omega (arith, inside, some) in e)
 
-pub serve_stripes-serve_range-requires : goal.serve_stripes-serve_range-requires
-serve_stripes-serve_range-requires g t c κs within =
+pub map_stripes-map_range-requires : goal.map_stripes-map_range-requires
+map_stripes-map_range-requires g t c κs within =
     let a = c.args in let l = c.loop-left in let column = c.index-columns-place.result in let at = l.invariant.place c.loop-left-test.true in
     let some : 1 ≤ c.min-part.result = omega (arith, c.min-part.ensures, c.loop-left-test.true, at.past, c.requires.inside.stripes.chunk_some) in
-    let inside = column_inside a.looker.now.stack a.chunk a.distance a.len (a.len - l.left) c.min-part.result a.columns.now column l.place c.requires.inside (omega (arith, c.loop-left-test.true, l.invariant.within)) at
+    let inside = column_inside a.walker.now.stack a.chunk a.distance a.len (a.len - l.left) c.min-part.result a.columns.now column l.place c.requires.inside (omega (arith, c.loop-left-test.true, l.invariant.within)) at
     (omega (arith, c.min-part.ensures)) c.index-columns-place.is in
-    let there : c.sector_at-sector.result + c.min-part.result ≤ lower_len l.looker.stack column.to = subst (λ (s : Description). c.sector_at-sector.result + c.min-part.result ≤ lower_len s column.to) (sym l.invariant.same) (omega (arith, inside, c.sector_at-sector.ensures)) in
+    let there : c.sector_at-sector.result + c.min-part.result ≤ lower_len l.walker.stack column.to = subst (λ (s : Description). c.sector_at-sector.result + c.min-part.result ≤ lower_len s column.to) (sym l.invariant.same) (omega (arith, inside, c.sector_at-sector.ensures)) in
     search rules
 
-pub serve_stripes-returns-in_err-serve_range-clause-left : goal.serve_stripes-returns-in_err-serve_range-clause-left
-serve_stripes-returns-in_err-serve_range-clause-left g t c =
-    let a = c.args in let l = c.loop-left in let column = c.index-columns-place.result in let n = c.min-part.result in let done = a.len - l.left in
+pub map_stripes-returns-in_err-map_range : goal.map_stripes-returns-in_err-map_range
+map_stripes-returns-in_err-map_range g t c =
+    let a = c.args in let w = a.walker.now in let l = c.loop-left in let column = c.index-columns-place.result in let n = c.min-part.result in let done = a.len - l.left in
     let stripes = c.requires.inside.stripes in
-    let part : range_units l.looker.stack a.op a.levels column.to c.sector_at-sector.result n ≡ target_units a.looker.now.stack a.op a.levels (Striped a.chunk a.columns.now) (a.distance + done) n =
-    ap (λ (s : Description). range_units s a.op a.levels column.to c.sector_at-sector.result n) l.invariant.same ∙ ap (λ (p : ℕ). range_units a.looker.now.stack a.op a.levels column.to p n) c.sector_at-sector.ensures
-    ∙ sym (target_chunk a.looker.now.stack a.op a.levels a.chunk (a.distance + done) n a.columns.now column l.place stripes.some stripes.chunk_some (l.invariant.place c.loop-left-test.true) (omega (arith, c.min-part.ensures)) c.index-columns-place.is) in
-    let units : ℕ → List BlockUnit = λ distance. below_units a.looker.now.stack a.op a.levels (below_target (Striped a.chunk a.columns.now) distance) in
-    on_err _ _ (left_on g.S.Sink.took g.S.Sink.left g.met.S.Sink.took_then_left a.sink.now l.sink c.serve_range.new.sink units a.distance done n a.len
-    (omega (arith, c.min-part.ensures, l.invariant.within)) l.invariant.taken (rw part at c.in_err-serve_range.ensures.left))
+    let row : State → ℕ → Step = λ after place. below_step w.stack a.op a.levels (below_stripes a.chunk a.columns.now place) after in
+    let part : range_step l.walker.stack a.op a.levels column.to l.walker.state c.sector_at-sector.result n ≡ stripes_step w.stack a.op a.levels a.chunk a.columns.now l.walker.state (a.distance + done) n =
+    ap (λ (s : Description). range_step s a.op a.levels column.to l.walker.state c.sector_at-sector.result n) l.invariant.same ∙ ap (λ (p : ℕ). range_step w.stack a.op a.levels column.to l.walker.state p n) c.sector_at-sector.ensures
+    ∙ sym (stripes_chunk w.stack a.op a.levels a.chunk (a.distance + done) n a.columns.now l.walker.state column l.place stripes.some stripes.chunk_some (l.invariant.place c.loop-left-test.true) (omega (arith, c.min-part.ensures)) c.index-columns-place.is) in
+    let walk = c.in_err-map_range.ensures in
+    walked_cut g.S.Sink.took g.S.Sink.left g.S.Sink.stack g.S.Sink.room g.S.Sink.faults c.from_residual.result a.sink.now c.map_range.new.sink w c.map_range.new.walker (stripes_step w.stack a.op a.levels a.chunk a.columns.now w.state a.distance a.len) a.len c.from_residual.ensures.0
+    (left_on g.S.Sink.took g.S.Sink.left g.met.S.Sink.took_then_left a.sink.now l.sink c.map_range.new.sink row w.state l.walker.state a.distance done n a.len
+    (omega (arith, c.min-part.ensures, l.invariant.within)) l.invariant.state l.invariant.taken (rw part at walk.left))
+    (omega (arith, walk.faults, l.invariant.faults)) (walk.stack ∙ l.invariant.same)
 
-pub serve_stripes-next_chunk-place-requires-clause-small : goal.serve_stripes-next_chunk-place-requires-clause-small
-serve_stripes-next_chunk-place-requires-clause-small g t c =
+pub map_stripes-next_chunk-place-requires-clause-small : goal.map_stripes-next_chunk-place-requires-clause-small
+map_stripes-next_chunk-place-requires-clause-small g t c =
     let a = c.args in let l = c.loop-left in let lies = c.requires.inside in
     let at = l.invariant.place c.loop-left-test.true in
     let small = place_small a.chunk (length a.columns.now) (a.distance + (a.len - l.left)) l.place lies.stripes.some at in
     omega (arith, small, lies.inside, lies.small, lies.stripes.chunk_small, l.invariant.within)
 
-pub serve_stripes-loop-left-preserved : goal.serve_stripes-loop-left-preserved
-serve_stripes-loop-left-preserved g t c =
-    let a = c.args in let l = c.loop-left in let column = c.index-columns-place.result in let n = c.min-part.result in let done = a.len - l.left in
+pub map_stripes-loop-left-preserved : goal.map_stripes-loop-left-preserved
+map_stripes-loop-left-preserved g t c =
+    let a = c.args in let w = a.walker.now in let l = c.loop-left in let column = c.index-columns-place.result in let n = c.min-part.result in let done = a.len - l.left in
     let stripes = c.requires.inside.stripes in
-    let part : range_units l.looker.stack a.op a.levels column.to c.sector_at-sector.result n ≡ target_units a.looker.now.stack a.op a.levels (Striped a.chunk a.columns.now) (a.distance + done) n =
-    ap (λ (s : Description). range_units s a.op a.levels column.to c.sector_at-sector.result n) l.invariant.same ∙ ap (λ (p : ℕ). range_units a.looker.now.stack a.op a.levels column.to p n) c.sector_at-sector.ensures
-    ∙ sym (target_chunk a.looker.now.stack a.op a.levels a.chunk (a.distance + done) n a.columns.now column l.place stripes.some stripes.chunk_some (l.invariant.place c.loop-left-test.true) (omega (arith, c.min-part.ensures)) c.index-columns-place.is) in
-    let units : ℕ → List BlockUnit = λ distance. below_units a.looker.now.stack a.op a.levels (below_target (Striped a.chunk a.columns.now) distance) in
+    let row : State → ℕ → Step = λ after place. below_step w.stack a.op a.levels (below_stripes a.chunk a.columns.now place) after in
+    let part : range_step l.walker.stack a.op a.levels column.to l.walker.state c.sector_at-sector.result n ≡ stripes_step w.stack a.op a.levels a.chunk a.columns.now l.walker.state (a.distance + done) n =
+    ap (λ (s : Description). range_step s a.op a.levels column.to l.walker.state c.sector_at-sector.result n) l.invariant.same ∙ ap (λ (p : ℕ). range_step w.stack a.op a.levels column.to l.walker.state p n) c.sector_at-sector.ensures
+    ∙ sym (stripes_chunk w.stack a.op a.levels a.chunk (a.distance + done) n a.columns.now l.walker.state column l.place stripes.some stripes.chunk_some (l.invariant.place c.loop-left-test.true) (omega (arith, c.min-part.ensures)) c.index-columns-place.is) in
+    let walk = c.in_ok-map_range.ensures in
     let on : done + n ≡ a.len - (l.left - n) = omega (arith, c.min-part.ensures, l.invariant.within) in
-    let taken = took_on g.S.Sink.took g.met.S.Sink.took_then_took a.sink.now l.sink c.serve_range.new.sink units a.distance done n l.invariant.taken (rw part at c.in_ok-serve_range.ensures.took) in
+    let taken = took_on g.S.Sink.took g.met.S.Sink.took_then_took a.sink.now l.sink c.map_range.new.sink row w.state l.walker.state a.distance done n l.invariant.state l.invariant.taken (rw part at walk.took) in
+    let state = state_on row w.state l.walker.state c.map_range.new.walker.state a.distance done n l.invariant.state (rw part at walk.state) in
     record {
       taken = rw on at taken;
+      state = rw on at state;
       within = omega (arith, l.invariant.within);
       place = λ more.
           let next = c.next_chunk-place.ensures (a.distance + done) (l.invariant.place c.loop-left-test.true) in
-          let behind : a.distance + done + (a.chunk - l.place.past) ≡ a.distance + (a.len - (l.left - n)) = omega (arith, c.min-part.ensures, l.invariant.within, more) in
-          rw behind at next;
-      same = c.serve_range.ensures.stack ∙ l.invariant.same;
-      stack = c.in_ok-serve_range.ensures.kept ∙ l.invariant.stack;
-      room = omega (arith, c.in_ok-serve_range.ensures.room, l.invariant.room, on);
-      faults = omega (arith, c.in_ok-serve_range.ensures.faults, l.invariant.faults);
+          let next_at : a.distance + done + (a.chunk - l.place.past) ≡ a.distance + (a.len - (l.left - n)) = omega (arith, c.min-part.ensures, l.invariant.within, more) in
+          rw next_at at next;
+      same = walk.stack ∙ l.invariant.same;
+      stack = walk.kept ∙ l.invariant.stack;
+      room = omega (arith, walk.room, l.invariant.room, on);
+      faults = omega (arith, walk.faults, l.invariant.faults);
     }

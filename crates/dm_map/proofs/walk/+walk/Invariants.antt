@@ -1,45 +1,46 @@
 use Rattle.std.proofs.Common.{◌≡◌, ◌+◌, ◌-◌, ◌*◌, ◌<◌, ◌≤◌, length}
-use Rattle.dm_stack.specs.declared.found.FoundTarget.TheVariants.{Striped}
 use Rattle.dm_stack.specs.declared.id.Lower.TheVariants.{Device}
-use Rattle.dm_map.specs.Walk.{range_units, target_units, IsPlace}
+use Rattle.dm_map.specs.Walk.{range_step, stripes_step, IsPlace}
 use Rattle.dm_map.proofs.walk.+walk.Given as goal
 
-abbrev pub decreases-serve_range : goal.decreases-serve_range
-decreases-serve_range g l = 4 * l.levels + 1
+abbrev pub decreases-map_range : goal.decreases-map_range
+decreases-map_range g l = 4 * l.levels + 1
 
-abbrev pub decreases-serve_device : goal.decreases-serve_device
-decreases-serve_device g l = 4 * l.levels
+abbrev pub decreases-map_device : goal.decreases-map_device
+decreases-map_device g l = 4 * l.levels
 
-abbrev pub decreases-serve_line : goal.decreases-serve_line
-decreases-serve_line g l = 4 * l.levels + 3
+abbrev pub decreases-map_line : goal.decreases-map_line
+decreases-map_line g l = 4 * l.levels + 3
 
-abbrev pub decreases-serve_stripes : goal.decreases-serve_stripes
-decreases-serve_stripes g l = 4 * l.levels + 2
+abbrev pub decreases-map_stripes : goal.decreases-map_stripes
+decreases-map_stripes g l = 4 * l.levels + 2
 
-abbrev pub invariant-serve_device-loop-left : goal.invariant-serve_device-loop-left
-invariant-serve_device-loop-left g l = record {
-  taken : g.S.Sink.took l.fn.sink (range_units l.fn.looker.stack l.op l.levels (Device l.device) l.sector (l.len - l.left)) l.sink;
+abbrev pub invariant-map_device-loop-left : goal.invariant-map_device-loop-left
+invariant-map_device-loop-left g l = record {
+  taken : g.S.Sink.took l.fn.sink (range_step l.fn.walker.stack l.op l.levels (Device l.device) l.fn.walker.state l.sector (l.len - l.left)).units l.sink;
+  state : l.walker.state ≡ (range_step l.fn.walker.stack l.op l.levels (Device l.device) l.fn.walker.state l.sector (l.len - l.left)).state;
   within : l.left ≤ l.len;
   place : l.at + l.left ≡ l.sector + l.len;
-  same : l.looker.stack ≡ l.fn.looker.stack;
+  same : l.walker.stack ≡ l.fn.walker.stack;
   stack : g.S.Sink.stack l.sink ≡ g.S.Sink.stack l.fn.sink;
   room : g.S.Sink.room l.fn.sink ≤ g.S.Sink.room l.sink + (l.len - l.left);
   faults : g.S.Sink.faults l.sink ≡ g.S.Sink.faults l.fn.sink;
 }
 
-abbrev pub decreases-serve_device-loop-left : goal.decreases-serve_device-loop-left
-decreases-serve_device-loop-left g l = l.left
+abbrev pub decreases-map_device-loop-left : goal.decreases-map_device-loop-left
+decreases-map_device-loop-left g l = l.left
 
-abbrev pub invariant-serve_stripes-loop-left : goal.invariant-serve_stripes-loop-left
-invariant-serve_stripes-loop-left g l = record {
-  taken : g.S.Sink.took l.fn.sink (target_units l.fn.looker.stack l.op l.levels (Striped l.chunk l.columns) l.distance (l.len - l.left)) l.sink;
+abbrev pub invariant-map_stripes-loop-left : goal.invariant-map_stripes-loop-left
+invariant-map_stripes-loop-left g l = record {
+  taken : g.S.Sink.took l.fn.sink (stripes_step l.fn.walker.stack l.op l.levels l.chunk l.columns l.fn.walker.state l.distance (l.len - l.left)).units l.sink;
+  state : l.walker.state ≡ (stripes_step l.fn.walker.stack l.op l.levels l.chunk l.columns l.fn.walker.state l.distance (l.len - l.left)).state;
   within : l.left ≤ l.len;
   place : 0 < l.left → IsPlace l.chunk (length l.columns) (l.distance + (l.len - l.left)) l.place;
-  same : l.looker.stack ≡ l.fn.looker.stack;
+  same : l.walker.stack ≡ l.fn.walker.stack;
   stack : g.S.Sink.stack l.sink ≡ g.S.Sink.stack l.fn.sink;
   room : g.S.Sink.room l.fn.sink ≤ g.S.Sink.room l.sink + (l.len - l.left);
   faults : g.S.Sink.faults l.sink ≡ g.S.Sink.faults l.fn.sink;
 }
 
-abbrev pub decreases-serve_stripes-loop-left : goal.decreases-serve_stripes-loop-left
-decreases-serve_stripes-loop-left g l = l.left
+abbrev pub decreases-map_stripes-loop-left : goal.decreases-map_stripes-loop-left
+decreases-map_stripes-loop-left g l = l.left

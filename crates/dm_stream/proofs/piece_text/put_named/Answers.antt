@@ -1,5 +1,5 @@
 use Rattle.std.proofs.Common.{◌≡◌, ℕ, ◌+◌, ◌++◌, List, length, drop, arith, append_assoc, length-append, sym, ◌∙◌, ap}
-use Rattle.dm_stream.proofs.Behind.{behind}
+use Rattle.dm_stream.proofs.Unchanged.{behind}
 use Rattle.dm_stream.proofs.piece_text.put_named.Goals as goal
 
 pub returns-clause-behind : goal.returns-clause-behind

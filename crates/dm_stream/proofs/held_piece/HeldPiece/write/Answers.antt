@@ -1,6 +1,6 @@
 use Rattle.std.proofs.Common.{◌≡◌, ◌∙◌, ℕ, List, OnOk, OnErr, ap, subst}
 use Rattle.dm_table.specs.DeviceIo.{since}
-use Rattle.dm_stream.specs.Holding.{Holding, held_units}
+use Rattle.dm_stream.specs.Pending.{Pending, held_units}
 use Rattle.dm_stream.specs.Pieces.{fewest}
 use Rattle.dm_stream.specs.PieceText.{pieces_text}
 use Rattle.dm_table.specs.WriteAll.{IsCutShort}
@@ -12,9 +12,9 @@ use Rattle.dm_stream.proofs.held_piece.HeldPiece.write.Goals as goal
 line_is : (g : given.Over) (c : goal.After-write_all g) → c.as_slice.result.now ≡ pieces_text c.args.self.now.stack c.args.self.now.number (fewest (held_units c.args.self.now.piece))
 line_is g c =
     let inside = c.self.inside in
-    let holding : Holding = record { stack = inside.stack.now; number = inside.line.number; piece = inside.piece } in
+    let holding : Pending = record { stack = inside.stack.now; number = inside.line.number; piece = inside.piece } in
     held_line holding c.in-Some.piece c.as_slice.result.now c.in-Some.is c.self.invariant (c.as_slice.ensures ∙ c.set_piece.ensures.text)
-    ∙ ap (λ (h : Holding). pieces_text h.stack h.number (fewest (held_units h.piece))) c.self.view_is
+    ∙ ap (λ (h : Pending). pieces_text h.stack h.number (fewest (held_units h.piece))) c.self.view_is
 
 pub returns-clause-ok : goal.returns-clause-ok
 returns-clause-ok g c =

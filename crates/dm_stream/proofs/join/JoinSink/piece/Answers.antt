@@ -10,7 +10,6 @@ returns-in_err-finish-clause-left g c =
     on_err c.from_residual.result _ (
       left_apart c.args.self.now.held c.lengthen.new.self c.finish.new.self.held c.args.piece (written c.args.self.now.writer.now) (written c.finish.new.self.writer.now)
           c.requires.some apart.same failed.nothing apart.apart failed.err failed.appends,
-      failed.faults,
-      failed.flushes,
+      record { appends = failed.appends; waits = failed.waiting; fails = failed.faults; unflushed = failed.flushes },
       failed.same_reference,
     )

@@ -1,0 +1,154 @@
+//! Stretches: where the first sectors of a range are read, and how many continue like that.
+//!
+//! The walk hands pieces to a sink; this goes down the same way and returns one piece of a read, with
+//! no sink and no loop over sectors, at the cost of one look-up for each level. It will serve copies,
+//! which need the origin's side and the store's side at once. A new target is an arm of
+//! `line_stretch`, as it is one of `map_line`.
+
+ghost use Rattle.std.specs.Prelude.{◌≡◌, ℕ, ◌+◌, ◌-◌, ◌<◌, ◌≤◌, ◌^◌, length};
+ghost use Rattle.dm_table.specs.declared.request.Op.TheVariants.{Read};
+ghost use Rattle.dm_stack.specs.Below.{IsTargetSound};
+ghost use Rattle.dm_stack.specs.Description.{lower_len};
+ghost use Rattle.dm_map.specs.Steps.{keep};
+ghost use Rattle.dm_map.specs.Stretch.{ground_unit, IsThere};
+ghost use Rattle.dm_map.specs.Units.{units_in};
+ghost use Rattle.dm_map.specs.Walk.{line_step, range_step, stripes_step, AreInStripes};
+
+use crate::stripe::place_at;
+use crate::walk::{part_in, sector_at};
+use crate::walker::Walker;
+use dm_stack::{DiskId, FoundColumn, FoundLine, FoundTarget, Lower};
+
+#[cfg(test)]
+mod tests;
+
+/// What consecutive sectors are read from.
+#[derive(Clone, Copy, Debug, PartialEq, Eq, Drop)]
+pub(crate) enum Ground {
+    /// A disk, from `start` on.
+    Disk { disk: DiskId, start: u64 },
+    /// Nothing: they read as zeros.
+    Zeros,
+    /// Nothing: they fail.
+    Fails,
+}
+
+/// `len` sectors that are read from one ground.
+#[derive(Clone, Copy, Debug, Drop)]
+pub(crate) struct Stretch {
+    pub(crate) ground: Ground,
+    pub(crate) len: u64,
+}
+
+/// The first stretch of a range of a device or a disk, through at most this many levels of devices.
+///
+/// It has at least one sector and at most those of the range. It ends where a line or a chunk of
+/// stripes on its way down ends, at the latest.
+#[cycle(stretch)]
+pub(crate) fn first_stretch(
+    walker: &mut Walker<'_>,
+    levels: u32,
+    lower: Lower,
+    sector: u64,
+    len: u64,
+) -> Stretch
+    requires some { 1 ≤ len }
+    requires inside { sector + len ≤ lower_len walker.old.stack lower }
+    ensures some { 1 ≤ result.len }
+    ensures most { result.len ≤ len }
+    ensures read { range_step walker.old.stack Read levels lower walker.old.state sector result.len ≡ keep (units_in (ground_unit result.ground) result.len) walker.old.state }
+    ensures lies { IsThere walker.old.stack result.ground result.len }
+    ensures same { walker.new ≡ walker.old }
+{
+    match lower {
+        Lower::Disk(disk) => Stretch {
+            ground: Ground::Disk {
+                disk,
+                start: sector,
+            },
+            len,
+        },
+        Lower::Device(device) => {
+            if levels == 0 {
+                return Stretch {
+                    ground: Ground::Fails,
+                    len,
+                };
+            }
+            let line = walker.look(device, sector);
+            let distance = sector - line.start;
+            let part = part_in(line, distance, len);
+            line_stretch(walker, levels - 1, line, distance, part)
+        }
+    }
+}
+
+/// The first stretch of sectors of a line at a distance from its start, through at most this many
+/// levels of devices below it. Which device has the line plays no part as yet.
+#[cycle(stretch)]
+fn line_stretch(
+    walker: &mut Walker<'_>,
+    levels: u32,
+    line: &FoundLine,
+    distance: u64,
+    len: u64,
+) -> Stretch
+    requires some { 1 ≤ len }
+    requires inside { distance + len ≤ line.now.len }
+    requires small { line.now.len ≤ 2 ^ 50 }
+    requires sound { IsTargetSound walker.old.stack line.now.len line.now.target }
+    ensures some { 1 ≤ result.len }
+    ensures most { result.len ≤ len }
+    ensures read { (device : ℕ) → line_step walker.old.stack Read levels device line.now.target walker.old.state distance result.len ≡ keep (units_in (ground_unit result.ground) result.len) walker.old.state }
+    ensures lies { IsThere walker.old.stack result.ground result.len }
+    ensures same { walker.new ≡ walker.old }
+{
+    match &line.target {
+        FoundTarget::Linear { to, offset } => {
+            let sector = sector_at(walker, *to, *offset, distance);
+            first_stretch(walker, levels, *to, sector, len)
+        }
+        FoundTarget::Striped { chunk, columns } => {
+            let columns = columns.as_slice();
+            stripes_stretch(walker, levels, *chunk, columns, distance, len)
+        }
+        FoundTarget::Zero => Stretch {
+            ground: Ground::Zeros,
+            len,
+        },
+        FoundTarget::Error => Stretch {
+            ground: Ground::Fails,
+            len,
+        },
+    }
+}
+
+/// The first stretch of sectors of a striped line at a distance from its start.
+#[cycle(stretch)]
+fn stripes_stretch(
+    walker: &mut Walker<'_>,
+    levels: u32,
+    chunk: u64,
+    columns: &[FoundColumn],
+    distance: u64,
+    len: u64,
+) -> Stretch
+    requires some { 1 ≤ len }
+    requires inside { AreInStripes walker.old.stack chunk columns.now distance len }
+    ensures some { 1 ≤ result.len }
+    ensures most { result.len ≤ len }
+    ensures read { stripes_step walker.old.stack Read levels chunk columns.now walker.old.state distance result.len ≡ keep (units_in (ground_unit result.ground) result.len) walker.old.state }
+    ensures lies { IsThere walker.old.stack result.ground result.len }
+    ensures same { walker.new ≡ walker.old }
+{
+    let place = place_at(chunk, columns.len() as u64, distance);
+    let part = len.min(chunk - place.past);
+    let column = columns[place.column];
+    let sector = sector_at(
+        walker,
+        column.to,
+        column.offset,
+        place.chunk_start + place.past,
+    );
+    first_stretch(walker, levels, column.to, sector, part)
+}

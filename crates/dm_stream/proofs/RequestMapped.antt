@@ -1,0 +1,168 @@
+-- What is written for a request: its units were taken, or a part of them was left; and what it adds to the outcome.
+use Rattle.std.proofs.Common.{◌≡◌, ◌<◌, ℕ, Bool, false, ◌++◌, length, List, [], ◌∷◌, Option, None, Some, Result, Ok, Err, OnOk, OnErr, sym, ap, refl, ◌∙◌, append_assoc, subst, decimal}
+use Rattle.std.specs.List.{position}
+use Rattle.std.proofs.lemmas.Grind.{flat_map-append}
+use Rattle.std.proofs.lemmas.List.{append-nil}
+use Rattle.std.proofs.lemmas.List.Quantifiers.{position-Some}
+use Rattle.dm_table.specs.DeviceIo.{since}
+use Rattle.dm_stack.specs.Description.{Description}
+use Rattle.dm_map.specs.Mapper.{OnSinkFault}
+use Rattle.dm_map.specs.Units.{BlockUnit}
+use Rattle.dm_map.specs.declared.mapper.MapFault.{MapFault}
+use Rattle.dm_map.specs.declared.mapper.MapFault.TheVariants as faults
+use Rattle.dm_stream.specs.Pending.{Pending, held_units}
+use Rattle.dm_stream.specs.Join.{HasTaken, HasLeft, HasUnits}
+use Rattle.dm_stream.specs.JoinLaws.{onto_begins, some_before}
+use Rattle.dm_map.specs.Mapper.{Mapping}
+use Rattle.dm_stream.specs.Mapped.{HasAnswered, HasStopped}
+use Rattle.dm_stream.specs.Outcome.{after_text, device_of, of_device, outcome_from, request_answer, step_of}
+use Rattle.dm_stream.specs.ProgressLaws.{since-same}
+use Rattle.dm_stream.specs.Requests.{NumberedRequest}
+use Rattle.dm_map.specs.State.{State}
+use Rattle.dm_stream.specs.declared.ending.Ending as ending
+use Rattle.dm_stream.specs.declared.ending.NotMapped.TheVariants as causes
+use Rattle.dm_stream.specs.declared.ending.RequestWord as word
+use Rattle.dm_stream.specs.Pieces.{Piece, fewest, all_but_last}
+use Rattle.dm_stream.specs.PieceText.{piece_text, pieces_text, unit_text}
+use Rattle.dm_table.specs.WriteAll.{IsBeginning, IsCutShort}
+use Rattle.dm_table.proofs.Growth.{since_more}
+
+-- what follows at an answer
+pub on_ok : {T E : Type 0} (r : Result T E) (P Q : Type 0) → (P → Q) → OnOk r P → OnOk r Q
+on_ok (Ok x) P Q f h = f h
+on_ok (Err e) P Q f h = tt
+
+pub on_error : {T E : Type 0} (r : Result T E) (P Q : Type 0) → (P → Q) → OnErr r P → OnErr r Q
+on_error (Ok x) P Q f h = tt
+on_error (Err e) P Q f h = f h
+
+pub on_sink : {F : Type 0} (r : Result (Unit {0}) (MapFault F)) (fault : F) (P : Type 0) → r ≡ Err (faults.Sink fault) → OnSinkFault r P → P
+on_sink r fault P e h = subst (λ (x : Result (Unit {0}) (MapFault _)). OnSinkFault x P) e h
+
+-- a text with a byte in it begins with one
+some_byte : (xs : List ℕ) (byte : ℕ) (more : List ℕ) → (first : ℕ) × (rest : List ℕ) × (xs ++ byte ∷ more ≡ first ∷ rest)
+some_byte [] byte more = (byte, more, refl)
+some_byte (x ∷ xs) byte more = (x, xs ++ byte ∷ more, refl)
+
+-- a text that is cut short is so in a longer text
+pub cut_of_more : (text front more : List ℕ) → IsCutShort text front → IsCutShort (text ++ more) front
+cut_of_more text front more h =
+    (h.0, h.1 ++ more, ap (λ (xs : List ℕ). xs ++ more) h.2 ∙ append_assoc front (h.0 ∷ h.1) more)
+
+-- the text without the last piece is cut short
+but_last : (stack : Description) (number : ℕ) (piece : Piece) (pieces : List Piece) → IsCutShort (pieces_text stack number (piece ∷ pieces)) (pieces_text stack number (all_but_last (piece ∷ pieces)))
+but_last stack number piece [] =
+    let some = some_byte (decimal number ++ 32 ∷ unit_text stack piece.first piece.len) 10 [] in
+    (some.0, some.1, append-nil (piece_text stack number piece) ∙ some.2)
+but_last stack number piece (next ∷ pieces) =
+    let h = but_last stack number next pieces in
+    let text = piece_text stack number piece in
+    (h.0, h.1, ap (λ (xs : List ℕ). text ++ xs) h.2 ∙ sym (append_assoc text (pieces_text stack number (all_but_last (next ∷ pieces))) (h.0 ∷ h.1)))
+
+-- so is the text of units without their last piece
+but_last_of : (stack : Description) (number : ℕ) (units : List BlockUnit) → HasUnits units → IsCutShort (pieces_text stack number (fewest units)) (pieces_text stack number (all_but_last (fewest units)))
+but_last_of stack number [] some = absurd some
+but_last_of stack number (unit ∷ units) some =
+    let b = onto_begins unit (fewest units) in
+    subst (λ (ps : List Piece). IsCutShort (pieces_text stack number ps) (pieces_text stack number (all_but_last ps))) (sym b.is) (but_last stack number (record { first = unit; len = b.len }) b.later)
+
+-- a beginning of a text that is cut short is so too
+cut_through : (text front first : List ℕ) → IsCutShort text front → IsBeginning front first → IsCutShort text first
+cut_through text front first h k =
+    let some = some_byte k.0 h.0 h.1 in
+    (some.0, some.1, h.2 ∙ ap (λ (xs : List ℕ). xs ++ h.0 ∷ h.1) k.1 ∙ append_assoc first k.0 (h.0 ∷ h.1) ∙ ap (λ (xs : List ℕ). first ++ xs) some.2)
+
+-- with nothing held before, the text of what was taken and then that of what is held is that of all
+pub taken_text : (old new : Pending) (units : List BlockUnit) (before after : List ℕ) → old.piece ≡ None → HasTaken old new units before after
+    → pieces_text old.stack old.number (fewest units) ≡ since before after ++ pieces_text old.stack old.number (fewest (held_units new.piece))
+taken_text old new units before after none taken =
+    let text = pieces_text old.stack old.number in
+    let whole : fewest units ≡ taken.settled ++ fewest (held_units new.piece) =
+    ap fewest (sym (append-nil units)) ∙ ap (λ (p : Option _). fewest (held_units p ++ units ++ [])) (sym none)
+    ∙ taken.told [] ∙ ap (λ (us : List BlockUnit). taken.settled ++ fewest us) (append-nil (held_units new.piece)) in
+    ap text whole ∙ flat_map-append (λ p. piece_text old.stack old.number p) taken.settled (fewest (held_units new.piece))
+    ∙ ap (λ (xs : List ℕ). xs ++ text (fewest (held_units new.piece))) (sym taken.wrote)
+
+-- with nothing held before, what was written of units that were left cuts the text of all short
+left_text : (old new : Pending) (front rest units : List BlockUnit) (before after : List ℕ) → old.piece ≡ None → front ++ rest ≡ units → HasLeft old new front before after
+    → IsCutShort (pieces_text old.stack old.number (fewest units)) (since before after)
+left_text old new front rest units before after none whole left =
+    let all : held_units old.piece ++ front ++ rest ≡ units =
+    ap (λ (p : Option _). held_units p ++ front ++ rest) none ∙ whole in
+    let text = λ (us : List BlockUnit). pieces_text old.stack old.number (all_but_last (fewest us)) in
+    cut_through (pieces_text old.stack old.number (fewest units)) (text units) (since before after)
+    (but_last_of old.stack old.number units (subst HasUnits whole (some_before front rest left.some)))
+    (subst (λ (us : List BlockUnit). IsBeginning (text us) (since before after)) all (left.beginning rest))
+
+-- a join that holds nothing, under a request's number
+abbrev pub at_start : Description → ℕ → Pending
+at_start stack number = record { stack = stack; number = number; piece = None }
+
+same_text : (stack : Description) (number : ℕ) (old : Pending) (pieces : List Piece) → old ≡ at_start stack number → pieces_text old.stack old.number pieces ≡ pieces_text stack number pieces
+same_text stack number old pieces e = ap (λ (h : Pending). pieces_text h.stack h.number pieces) e
+
+text_kept : (old new : Pending) (pieces : List Piece) → new.stack ≡ old.stack → new.number ≡ old.number → pieces_text new.stack new.number pieces ≡ pieces_text old.stack old.number pieces
+text_kept old new pieces stack number =
+    ap (λ (s : Description). pieces_text s new.number pieces) stack ∙ ap (λ (n : ℕ). pieces_text old.stack n pieces) number
+
+-- all units were taken, and what was held was written
+pub all_written : (stack : Description) (number : ℕ) (old new : Pending) (units : List BlockUnit) (w0 w1 w2 : List ℕ) → old ≡ at_start stack number → HasTaken old new units w0 w1
+    → w2 ≡ w1 ++ since w1 w2 → since w1 w2 ≡ pieces_text new.stack new.number (fewest (held_units new.piece)) → since w0 w2 ≡ pieces_text stack number (fewest units)
+all_written stack number old new units w0 w1 w2 start taken appends wrote =
+    since_more w0 w1 w2 taken.appends appends
+    ∙ ap (λ (xs : List ℕ). since w0 w1 ++ xs) (wrote ∙ text_kept old new (fewest (held_units new.piece)) taken.stack taken.number)
+    ∙ sym (taken_text old new units w0 w1 (ap (λ (h : Pending). h.piece) start) taken)
+    ∙ same_text stack number old (fewest units) start
+
+-- all units were taken, and what was held was cut short
+pub last_cut : (stack : Description) (number : ℕ) (old new : Pending) (units : List BlockUnit) (w0 w1 w2 : List ℕ) → old ≡ at_start stack number → HasTaken old new units w0 w1
+    → w2 ≡ w1 ++ since w1 w2 → IsCutShort (pieces_text new.stack new.number (fewest (held_units new.piece))) (since w1 w2) → IsCutShort (pieces_text stack number (fewest units)) (since w0 w2)
+last_cut stack number old new units w0 w1 w2 start taken appends wrote = (
+  wrote.0,
+  wrote.1,
+  sym (same_text stack number old (fewest units) start)
+      ∙ taken_text old new units w0 w1 (ap (λ (h : Pending). h.piece) start) taken
+      ∙ ap (λ (xs : List ℕ). since w0 w1 ++ xs) (sym (text_kept old new (fewest (held_units new.piece)) taken.stack taken.number) ∙ wrote.2)
+      ∙ sym (append_assoc (since w0 w1) (since w1 w2) (wrote.0 ∷ wrote.1))
+      ∙ ap (λ (xs : List ℕ). xs ++ wrote.0 ∷ wrote.1) (sym (since_more w0 w1 w2 taken.appends appends)),
+)
+
+-- the join failed at a piece
+pub cut_short : (stack : Description) (number : ℕ) (old new : Pending) (front rest units : List BlockUnit) (before after : List ℕ) → old ≡ at_start stack number → front ++ rest ≡ units → HasLeft old new front before after
+    → IsCutShort (pieces_text stack number (fewest units)) (since before after)
+cut_short stack number old new front rest units before after start whole left =
+    subst (λ (text : List ℕ). IsCutShort text (since before after)) (same_text stack number old (fewest units) start)
+    (left_text old new front rest units before after (ap (λ (h : Pending). h.piece) start) whole left)
+
+-- the id of a device that was found is in range
+pub in_range : {X : Type 0} (p : X → Bool) (xs : List X) (i : ℕ) → position p xs ≡ Some i → i < length xs
+in_range p [] i e = absurd cc
+in_range p (x ∷ xs) i e = (position-Some p (x ∷ xs) i x e).0
+
+-- a request of a device that there is, all of whose answer was written
+pub request_answered : (stack : Description) (device : ℕ) (request : NumberedRequest) (found : Option ℕ) (old new : State) (w0 w1 : List ℕ) → device_of stack request.values.device ≡ found → found ≡ Some device
+    → since w0 w1 ≡ request_answer stack device request old → new ≡ (step_of stack device request old).state → HasAnswered stack old new (request ∷ []) w0 w1
+request_answered stack device request found old new w0 w1 by_name is wrote left = record {
+  told = λ rest e.
+      ap (λ (f : Option ℕ). of_device stack f request old (λ after. outcome_from stack after rest e)) (by_name ∙ is)
+      ∙ ap (λ (text : List ℕ). after_text text (outcome_from stack (step_of stack device request old).state rest e)) (sym wrote)
+      ∙ ap (λ (state : State). after_text (since w0 w1) (outcome_from stack state rest e)) (sym left);
+}
+
+-- one whose answer was cut short
+pub request_cut : (stack : Description) (device : ℕ) (request : NumberedRequest) (found : Option ℕ) (old : State) (new : Mapping) (w0 w1 : List ℕ) → device_of stack request.values.device ≡ found → found ≡ Some device
+    → IsCutShort (request_answer stack device request old) (since w0 w1) → HasStopped stack causes.Output old new (request ∷ []) w0 w1
+request_cut stack device request found old new w0 w1 by_name is cut = λ rest e.
+    subst (λ (f : Option ℕ). IsCutShort (of_device stack f request old (λ after. outcome_from stack after rest e)).output (since w0 w1)) (sym (by_name ∙ is))
+    (cut_of_more (request_answer stack device request old) (since w0 w1) _ cut)
+
+-- one of a device that there is not
+pub request_unknown : (stack : Description) (request : NumberedRequest) (found : Option ℕ) (old : State) (new : Mapping) (w : List ℕ) → device_of stack request.values.device ≡ found → found ≡ None
+    → new.stopped ≡ false → new.state ≡ old → HasStopped stack (causes.Unknown request.number) old new (request ∷ []) w w
+request_unknown stack request found old new w by_name is going same = (
+  going,
+  λ rest e.
+      ap (λ (f : Option ℕ). of_device stack f request old (λ after. outcome_from stack after rest e)) (by_name ∙ is)
+      ∙ ap (λ (state : State). record { output = []; state = state; ending = Some (ending.TheVariants.BadRequest request.number word.TheVariants.Unknown) }) (sym same)
+      ∙ ap (λ (text : List ℕ). record { output = text; state = new.state; ending = Some (ending.TheVariants.BadRequest request.number word.TheVariants.Unknown) }) (sym (since-same w)),
+)

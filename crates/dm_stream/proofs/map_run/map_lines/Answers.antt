@@ -1,0 +1,19 @@
+use Rattle.dm_table.specs.DeviceIo.{delivery}
+use Rattle.dm_stream.proofs.Runs.{all_mapped, part_mapped}
+use Rattle.dm_stream.proofs.map_run.map_lines.Goals as goal
+
+pub returns-in-Ok-clause-mapped : goal.returns-in-Ok-clause-mapped
+returns-in-Ok-clause-mapped g c =
+    let written = g.W.Output.written in
+    let old = c.args.handler.now in
+    let new = c.handle_requests.new.handler in
+    all_mapped old.devices c.args.mapper.now.state c.handle_requests.new.source.state (delivery g.R.Input.handed g.R.Input.faults g.R.Input.ends c.args.requests.now c.handle_requests.new.requests)
+    (written old.join.writer.now) (written new.join.writer.now) c.in-Ok.ending c.in-Ok.ensures.answered.0 c.in-Ok.ensures.ending c.in-Ok.ensures.no_write_fault
+
+pub returns-in-Err-clause-mapped : goal.returns-in-Err-clause-mapped
+returns-in-Err-clause-mapped g c =
+    let written = g.W.Output.written in
+    let old = c.args.handler.now in
+    let new = c.handle_requests.new.handler in
+    part_mapped old.devices c.in-Err.cause c.ending_of.result c.args.mapper.now.state c.handle_requests.new.source (delivery g.R.Input.handed g.R.Input.faults g.R.Input.ends c.args.requests.now c.handle_requests.new.requests)
+    (written old.join.writer.now) (written new.join.writer.now) _ c.ending_of.ensures (λ first stopped. stopped.0) c.in-Err.ensures.stopped

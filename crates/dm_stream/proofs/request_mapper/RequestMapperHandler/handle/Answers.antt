@@ -1,0 +1,24 @@
+use Rattle.std.proofs.Common.{subst, sym}
+use Rattle.dm_table.specs.DeviceIo.{since}
+use Rattle.dm_table.specs.WriteAll.{IsCutShort}
+use Rattle.dm_stack.specs.Description.{Description}
+use Rattle.dm_stream.specs.Outcome.{request_answer}
+use Rattle.dm_stream.specs.Requests.{numbered}
+use Rattle.dm_stream.proofs.RequestMapped.{request_cut}
+use Rattle.dm_stream.proofs.request_mapper.RequestMapperHandler.handle.Goals as goal
+
+pub returns-in-Err-clause-stopped : goal.returns-in-Err-clause-stopped
+returns-in-Err-clause-stopped g c =
+    let old = c.args.self.now in
+    let request = numbered c.args.request.now in
+    let failed = c.in-Err.ensures in
+    let w0 = g.W.Output.written old.join.writer.now in
+    let w1 = g.W.Output.written c.map_request.new.join.writer.now in (
+      request_cut old.devices c.in-Some.device request c.find.result c.args.mapper.now.state c.map_request.new.mapper w0 w1 (sym c.find.ensures.found) c.in-Some.is
+          (subst (λ (stack : Description). IsCutShort (request_answer stack c.in-Some.device request c.args.mapper.now.state) (since w0 w1)) c.requires.joined failed.err),
+      failed.moved,
+      c.find.ensures.same,
+      failed.stack,
+      failed.same_reference,
+      failed.nothing,
+    )

@@ -1,0 +1,35 @@
+-- What a look at the held bytes found.
+use Rattle.std.specs.Prelude.{◌≡◌, ◌<◌, ◌≤◌, ℕ, List, [], ◌∷◌, length, take, Option, None, Some}
+use Rattle.dm_table.specs.DeviceIo.{Stand}
+use Rattle.dm_stream.specs.declared.lines.TheConstants.{MOST_LINE_BYTES}
+use Rattle.dm_stream.specs.Lines.{Answer, ALine, AnEnd, AnUnended, ALong, AFault, next_answer, line_parts}
+use Rattle.dm_stream.specs.declared.lines.NextHeld as found
+
+-- what was found, at the bytes that are held
+abbrev pub held_answer : found.NextHeld → List ℕ → Answer
+held_answer (found.TheVariants.Line n) held = ALine (take n held)
+held_answer found.TheVariants.End held = AnEnd
+held_answer found.TheVariants.Unended held = AnUnended
+held_answer found.TheVariants.Long held = ALong
+held_answer found.TheVariants.ReadFault held = AFault
+
+-- a fact where a line was found
+abbrev pub OnHeldLine : found.NextHeld → Type 0 → Type 0
+OnHeldLine (found.TheVariants.Line n) P = P
+OnHeldLine found.TheVariants.End P = Unit {0}
+OnHeldLine found.TheVariants.Unended P = Unit {0}
+OnHeldLine found.TheVariants.Long P = Unit {0}
+OnHeldLine found.TheVariants.ReadFault P = Unit {0}
+
+-- a line that was found is among the held bytes with its newline
+abbrev pub FitsIn : found.NextHeld → List ℕ → Type 0
+FitsIn (found.TheVariants.Line n) held = n < length held
+FitsIn found.TheVariants.End held = Unit {0}
+FitsIn found.TheVariants.Unended held = Unit {0}
+FitsIn found.TheVariants.Long held = Unit {0}
+FitsIn found.TheVariants.ReadFault held = Unit {0}
+
+-- what the held bytes settle, however the input stands; or that they settle nothing
+abbrev pub IsLook : Option found.NextHeld → List ℕ → Type 0
+IsLook (Some f) held = FitsIn f held × ((stand : Stand) → next_answer stand (line_parts held) ≡ held_answer f held)
+IsLook None held = (line_parts held ≡ held ∷ []) × (length held ≤ MOST_LINE_BYTES)

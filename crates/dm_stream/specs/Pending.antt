@@ -1,0 +1,41 @@
+-- What is held of a request: the piece that is still to be written.
+use Rattle.std.specs.Prelude.{ℕ, ◌<◌, ◌≤◌, ◌^◌, List, [], Option, Some, None}
+use Rattle.dm_stack.specs.Description.{Description}
+use Rattle.dm_map.specs.declared.piece.Piece.{Piece}
+use Rattle.dm_map.specs.Units.{BlockUnit, ReadOf, WriteOf, Zeros, Drops, Fails, CopyOf, FillOf, units_of, first_unit, piece_len, diskless_len, IsOnDisk, IsOnDisks}
+use Rattle.dm_stream.specs.Pieces as pieces
+
+-- the stack whose names are written, the request's number, and the piece that is held, if any
+pub record Pending : Type 0 where
+  pub stack : Description
+  pub number : ℕ
+  pub piece : Option Piece
+
+-- a piece of the code, as the definitions see it
+abbrev pub piece_view : Piece → pieces.Piece
+piece_view piece = record { first = first_unit piece; len = piece_len piece }
+
+-- the units that are held
+abbrev pub held_units : Option Piece → List BlockUnit
+held_units None = []
+held_units (Some piece) = units_of piece
+
+-- the sectors of a held piece without a disk, and 0 for any other
+abbrev pub held_diskless : Option Piece → ℕ
+held_diskless None = 0
+held_diskless (Some piece) = diskless_len piece
+
+-- a held piece has a unit, lies on the disks of the stack, and without one its length fits 64 bits
+abbrev pub IsHeld : Description → Option Piece → Type 0
+IsHeld stack None = Unit {0}
+IsHeld stack (Some piece) = (1 ≤ piece_len piece) × IsOnDisks stack piece × (diskless_len piece < 2 ^ 64)
+
+-- so many units from one on are there, and 64 bits are enough for how many
+abbrev pub Fits : Description → BlockUnit → ℕ → Type 0
+Fits stack (ReadOf disk sector) len = IsOnDisk stack disk sector len
+Fits stack (WriteOf disk sector) len = IsOnDisk stack disk sector len
+Fits stack Zeros len = len < 2 ^ 64
+Fits stack Drops len = len < 2 ^ 64
+Fits stack Fails len = len < 2 ^ 64
+Fits stack (CopyOf disk sector to to_sector) len = IsOnDisk stack disk sector len × IsOnDisk stack to to_sector len
+Fits stack (FillOf disk sector) len = IsOnDisk stack disk sector len

@@ -1,0 +1,48 @@
+//! Handlers: who answers requests.
+//!
+//! The lines of requests are read, and their bad ones told, in one place for all of them. A handler
+//! says what becomes of a request, and why it stops; its relations speak of requests in a row, so
+//! that the reader of lines knows nothing of answers.
+
+ghost use Rattle.std.specs.Prelude.{List, [], ◌∷◌, ◌++◌, OnOk, IfErr};
+ghost use Rattle.dm_stream.specs.Requests.{NumberedRequest, numbered};
+
+use dm_table::Request;
+
+/// Who answers requests, one after the other.
+pub trait Handler {
+    /// What the answers come from, which changes with them.
+    type Source;
+
+    /// Why a request was not answered to its end.
+    type Fault: Drop;
+
+    /// A request can come.
+    ghost ready: { Self → Self.Source → Type 0 };
+
+    /// From the first states to the second it answered these requests, in this order.
+    ghost answered: { Self → Self.Source → List NumberedRequest → Self → Self.Source → Type 0 };
+
+    /// From the first states to the second it answered these requests, and stopped at the last one.
+    ghost stopped: { Self → Self.Source → List NumberedRequest → Self.Fault → Self → Self.Source → Type 0 };
+
+    /// Answers a request, or stops at it.
+    fn handle(
+        &mut self,
+        source: &mut Self::Source,
+        request: &Request<'_>,
+    ) -> Result<(), Self::Fault>
+        requires { ready self.old source.old }
+        ensures answered { OnOk result (answered self.old source.old (numbered request.now ∷ []) self.new source.new) }
+        ensures ready { OnOk result (ready self.new source.new) }
+        ensures stopped { IfErr result (λ fault. stopped self.old source.old (numbered request.now ∷ []) fault self.new source.new) };
+
+    /// No requests are answered where nothing changes.
+    ghost answered_none: { (h : Self) (s : Self.Source) → answered h s [] h s };
+
+    /// Requests that were answered one after the other were answered.
+    ghost answered_then_answered: { (a b c : Self) (s t u : Self.Source) (us vs : List NumberedRequest) → answered a s us b t → answered b t vs c u → answered a s (us ++ vs) c u };
+
+    /// It stopped at the last of requests where it answered the first of them and stopped at the last of the others.
+    ghost answered_then_stopped: { (a b c : Self) (s t u : Self.Source) (us vs : List NumberedRequest) (fault : Self.Fault) → answered a s us b t → stopped b t vs fault c u → stopped a s (us ++ vs) fault c u };
+}

@@ -1,0 +1,55 @@
+//! The end of a line: the two numbers of a place, kept while they stay the same.
+//!
+//! Over many columns the same two numbers come once for each column, so their digits are put once.
+//! They stand at the very end of the text; who puts something else there says that none is kept.
+
+ghost use Rattle.std.specs.Prelude.{◌≡◌, ◌≤◌, ◌+◌, ◌∷◌, [], length, drop};
+ghost use Rattle.dm_stream.specs.KeptRange.{IsKept, range_text};
+
+use crate::put_before::{put_before, put_number_before};
+
+/// The two numbers that a text ends with, and where that begins: at the text's end where none is kept.
+#[derive(Clone, Copy)]
+pub(crate) struct KeptRange {
+    pub(crate) start: u64,
+    pub(crate) len: u64,
+    pub(crate) at: usize,
+}
+
+/// Makes a text end with two numbers and a newline. They stay as they are where it ends so already.
+pub(crate) fn set_range(text: &mut [u8], range: &mut KeptRange, start: u64, len: u64)
+    requires room { 64 ≤ length text.old }
+    requires range { IsKept range.old text.old }
+    ensures range { IsKept range.new text.new }
+    ensures text { drop range.new.at text.new ≡ range_text start len }
+{
+    let is_same = range.at < text.len() && range.start == start && range.len == len;
+    if !is_same {
+        *range = put_range(text, start, len);
+    }
+}
+
+/// Puts two numbers and a newline at the end of a text.
+fn put_range(text: &mut [u8], start: u64, len: u64) -> KeptRange
+    requires { 64 ≤ length text.old }
+    ensures range { IsKept result text.new }
+    ensures text { drop result.at text.new ≡ range_text start len }
+{
+    let end = put_before(text, text.len(), b"\n");
+    let end = put_number_before(text, end, len);
+    let end = put_before(text, end, b" ");
+    let end = put_number_before(text, end, start);
+    let at = put_before(text, end, b" ");
+    KeptRange { start, len, at }
+}
+
+/// Makes a text end with a newline alone, so that no range is kept; answers where it stands.
+pub(crate) fn without_range(text: &mut [u8], range: &mut KeptRange) -> usize
+    requires { 1 ≤ length text.old }
+    ensures at { range.new.at ≡ length text.new }
+    ensures start { result + 1 ≡ length text.new }
+    ensures text { drop result text.new ≡ 10 ∷ [] }
+{
+    range.at = text.len();
+    put_before(text, range.at, b"\n")
+}

@@ -1,0 +1,189 @@
+//! A run: from requests to their answers, line by line, in one pass and with no memory taken.
+//!
+//! What is written goes by the bytes and ends that the requests delivered, and by nothing else: see
+//! `specs/Outcome.antt`. `requests` reads the lines, `request_mapper` answers them.
+
+ghost use Rattle.std.specs.Prelude.{◌≡◌, ◌≢◌, ◌+◌, ◌<◌, ◌≤◌, ◌++◌, ◌↔◌, [], List, None, false};
+ghost use Rattle.dm_table.specs.DeviceIo.{delivery, fault_of, since};
+ghost use Rattle.dm_table.specs.WriteAll.{IsCutShort};
+ghost use Rattle.dm_map.specs.Units.{BlockUnit};
+ghost use Rattle.dm_stream.specs.declared.lines.TheConstants.{MOST_LINE_BYTES};
+ghost use Rattle.dm_stream.specs.declared.requests.TheConstants.{MOST_REQUESTS};
+ghost use Rattle.dm_stream.specs.Mapped.{IsReady};
+ghost use Rattle.dm_stream.specs.Messages.{IsTold, ending_message};
+ghost use Rattle.dm_stream.specs.Outcome.{run_outcome};
+ghost use Rattle.dm_stream.specs.Pieces.{AreFewest, fewest};
+ghost use Rattle.dm_stream.specs.Progress.{HasRead, HasWritten};
+ghost use Rattle.dm_stream.specs.Requests.{HasMet};
+ghost use Rattle.dm_stream.specs.Run.{HasRun, IsMapped, IsServed, ending_for, write_faults};
+
+use crate::ending::{Ending, NotMapped, RequestWord};
+use crate::join::Join;
+use crate::last_device::LastDevice;
+use crate::message::tell_ending;
+use crate::request_mapper::RequestMapper;
+use crate::requests::handle_requests;
+use dm_map::Mapper;
+use dm_stack::Stack;
+use dm_table::{Input, OutFault, Output};
+
+/// How a run ends whose requests were not all mapped.
+fn ending_of(cause: NotMapped) -> Ending
+    ensures { result ≡ ending_for cause }
+{
+    match cause {
+        NotMapped::Unknown(number) => Ending::BadRequest(number, RequestWord::Unknown),
+        NotMapped::Output => Ending::WriteFault,
+    }
+}
+
+/// Answers the requests up to the first bad one, an end or a fault, through one mapper and one join.
+/// Nothing is flushed.
+fn map_lines<'s, R: Input, W: Output>(
+    requests: &mut R,
+    mapper: &mut Mapper<'s>,
+    handler: &mut RequestMapper<'_, 's, W>,
+) -> Ending
+    requires { IsReady handler.old.devices mapper.old handler.old.join.held }
+    ensures stack { mapper.new.stack ≡ mapper.old.stack }
+    ensures going { result ≢ Ending.WriteFault → mapper.new.stopped ≡ false }
+    ensures nothing { handler.new.join.held.piece ≡ None }
+    ensures same_writer { handler.new.join.writer.ghost_name ≡ handler.old.join.writer.ghost_name }
+    ensures reads { HasRead R.handed R.faults R.ends requests.old requests.new }
+    ensures writes { HasWritten W.written W.waiting W.faults W.flushes handler.old.join.writer.now handler.new.join.writer.now (write_faults result) }
+    ensures mapped { IsMapped (run_outcome handler.old.devices mapper.old.state (delivery R.handed R.faults R.ends requests.old requests.new))
+        (since (W.written handler.old.join.writer.now) (W.written handler.new.join.writer.now)) mapper.new.state result }
+    ensures met { HasMet result (R.faults requests.old) (R.faults requests.new) }
+{
+    match handle_requests(requests, handler, mapper) {
+        Ok(ending) => ending,
+        Err(cause) => ending_of(cause),
+    }
+}
+
+/// The same for an output, which the caller has back after it.
+fn map_requests<'s, R: Input, W: Output>(
+    stack: &'s Stack,
+    mapper: &mut Mapper<'s>,
+    requests: &mut R,
+    output: &mut W,
+) -> Ending
+    requires stack { mapper.old.stack ≡ stack.now }
+    requires going { mapper.old.stopped ≡ false }
+    ensures stack { mapper.new.stack ≡ mapper.old.stack }
+    ensures going { result ≢ Ending.WriteFault → mapper.new.stopped ≡ false }
+    ensures reads { HasRead R.handed R.faults R.ends requests.old requests.new }
+    ensures writes { HasWritten W.written W.waiting W.faults W.flushes output.old output.new (write_faults result) }
+    ensures mapped { IsMapped (run_outcome stack.now mapper.old.state (delivery R.handed R.faults R.ends requests.old requests.new))
+        (since (W.written output.old) (W.written output.new)) mapper.new.state result }
+    ensures met { HasMet result (R.faults requests.old) (R.faults requests.new) }
+{
+    let mut handler = RequestMapper {
+        devices: LastDevice::new(stack),
+        join: Join::new(stack, output),
+    };
+    let ending = map_lines(requests, mapper, &mut handler);
+    let _writer = handler.join.end();
+    ending
+}
+
+/// Answers the requests up to the first bad one, an end or a fault, and then flushes the output,
+/// once and only where no write failed.
+fn map_and_flush<'s, R: Input, W: Output>(
+    stack: &'s Stack,
+    mapper: &mut Mapper<'s>,
+    requests: &mut R,
+    output: &mut W,
+) -> Ending
+    requires stack { mapper.old.stack ≡ stack.now }
+    requires going { mapper.old.stopped ≡ false }
+    ensures stack { mapper.new.stack ≡ mapper.old.stack }
+    ensures going { result ≢ Ending.WriteFault → mapper.new.stopped ≡ false }
+    ensures reads { HasRead R.handed R.faults R.ends requests.old requests.new }
+    ensures wrote { HasRun W.written W.waiting W.faults W.flushes output.old output.new
+        (run_outcome stack.now mapper.old.state (delivery R.handed R.faults R.ends requests.old requests.new)) mapper.new.state result }
+    ensures met { HasMet result (R.faults requests.old) (R.faults requests.new) }
+{
+    let ending = map_requests(stack, mapper, requests, output);
+    if ending == Ending::WriteFault {
+        return ending;
+    }
+    match output.flush() {
+        Ok(()) => ending,
+        Err(OutFault) => Ending::WriteFault,
+    }
+}
+
+/// Answers requests, line by line: for each the pieces that its units make, as few as can be, one a
+/// line under the number of the request. It ends with the first bad line, an end or a fault.
+///
+/// | Ending | When |
+/// |---|---|
+/// | `Done` | the requests came to a clean end, and all were answered |
+/// | `BadRequest` | the line of this number is bad; those before it were answered |
+/// | `ReadFault` | reading requests failed; those before were answered |
+/// | `WriteFault` | writing or flushing the output failed; a beginning of the answers was written |
+///
+/// The mapper is one of this stack and not stopped. The output is flushed once at the end, save
+/// where a write failed; after that a message of one line is written, save at `Done`. No status
+/// lines are written as yet, so `status` is false.
+///
+/// Cost: time linear in the bytes read and written, and what the mapper takes a request. No memory
+/// is taken.
+pub fn run<'s, R: Input, W: Output, E: Output>(
+    stack: &'s Stack,
+    mapper: &mut Mapper<'s>,
+    requests: &mut R,
+    output: &mut W,
+    messages: &mut E,
+    status: bool,
+) -> Ending
+    requires stack { mapper.old.stack ≡ stack.now }
+    requires going { mapper.old.stopped ≡ false }
+    requires unflagged { status ≡ false }
+    // The mapper stays one of its stack, and can go on unless the output failed: from the state that the requests left.
+    ensures stack { mapper.new.stack ≡ mapper.old.stack }
+    ensures going { result ≢ Ending.WriteFault → mapper.new.stopped ≡ false }
+    ensures state { result ≢ Ending.WriteFault → mapper.new.state
+        ≡ (run_outcome stack.now mapper.old.state (delivery R.handed R.faults R.ends requests.old requests.new)).state }
+    // What was written, and how it ended, is what the requests delivered says.
+    ensures served { IsServed (run_outcome stack.now mapper.old.state (delivery R.handed R.faults R.ends requests.old requests.new))
+        (since (W.written output.old) (W.written output.new)) result }
+    ensures read_fault { result ≡ Ending.ReadFault → R.faults requests.old < R.faults requests.new }
+    ensures no_fault { result ≡ Ending.Done → R.faults requests.new ≤ R.faults requests.old }
+    ensures write_fault { W.faults output.old < W.faults output.new ↔ (result ≡ Ending.WriteFault) }
+    // Something was left to write where the output failed without a flush, and nothing where it was flushed.
+    ensures left { result ≡ Ending.WriteFault → W.flushes output.new ≡ W.flushes output.old
+        → IsCutShort (run_outcome stack.now mapper.old.state (delivery R.handed R.faults R.ends requests.old requests.new)).output
+        (since (W.written output.old) (W.written output.new)) }
+    ensures failed_flush { result ≡ Ending.WriteFault → W.flushes output.old < W.flushes output.new
+        → (run_outcome stack.now mapper.old.state (delivery R.handed R.faults R.ends requests.old requests.new)).output
+        ≡ since (W.written output.old) (W.written output.new) }
+    ensures still_waiting { result ≡ Ending.WriteFault → W.flushes output.old < W.flushes output.new
+        → W.waiting output.new ≡ W.waiting output.old ++ since (W.written output.old) (W.written output.new) }
+    // Nothing is read after an end or a fault.
+    ensures no_more { R.faults requests.new + R.ends requests.new ≤ R.faults requests.old + R.ends requests.old + 1 }
+    ensures flushed { result ≢ Ending.WriteFault
+        → (W.waiting output.new ≡ []) × (W.flushes output.new ≡ W.flushes output.old + 1) }
+    ensures once { W.flushes output.new ≤ W.flushes output.old + 1 }
+    // The message of the ending, or a beginning of it where its stream failed.
+    ensures told { IsTold (ending_message result) (since (E.written messages.old) (E.written messages.new)) (E.faults messages.old) (E.faults messages.new) }
+    ensures unflushed { E.flushes messages.new ≡ E.flushes messages.old }
+    // Each device only goes on from where it was.
+    ensures reads { R.handed requests.new
+        ≡ R.handed requests.old ++ since (R.handed requests.old) (R.handed requests.new) }
+    ensures appends { W.written output.new
+        ≡ W.written output.old ++ since (W.written output.old) (W.written output.new) }
+    ensures tells { E.written messages.new
+        ≡ E.written messages.old ++ since (E.written messages.old) (E.written messages.new) }
+    ensures grows { W.faults output.old ≤ W.faults output.new }
+    ensures fails_once { W.faults output.new ≤ W.faults output.old + 1 }
+    // No other pieces of a request's units are as few.
+    ensures fewest { (units : List BlockUnit) → AreFewest units (fewest units) }
+    // The figures of the limits.
+    ensures limits { (MOST_LINE_BYTES ≡ 4096) × (MOST_REQUESTS ≡ 1000000000000) }
+{
+    let ending = map_and_flush(stack, mapper, requests, output);
+    tell_ending(messages, ending);
+    ending
+}

@@ -1,0 +1,119 @@
+//! Mapping requests to an output: the handler of a run.
+//!
+//! It finds a request's device, and its units go through a mapper into a join, which writes them. Of
+//! what is written `specs/Outcome.antt` speaks, and of how a request fares alone `specs/Mapped.antt`.
+
+ghost use Rattle.std.specs.Prelude.{◌≡◌, ◌<◌, None, false, length, OnErr, OnOk};
+ghost use Rattle.dm_table.specs.DeviceIo.{fault_of, since};
+ghost use Rattle.dm_table.specs.WriteAll.{IsCutShort};
+ghost use Rattle.dm_stream.specs.Mapped.{IsReady, HasAnswered, HasStopped, failed_writes};
+ghost use Rattle.dm_stream.specs.MappedLaws.{answered_none, answered_more, stopped_more};
+ghost use Rattle.dm_stream.specs.Outcome.{request_answer, step_of};
+ghost use Rattle.dm_stream.specs.Progress.{HasWritten};
+ghost use Rattle.dm_stream.specs.ProgressLaws.{written_none, written_more};
+ghost use Rattle.dm_stream.specs.Requests.{numbered};
+ghost use Rattle.std.proofs.Common.{refl, subst, ◌∙◌};
+
+use crate::ending::NotMapped;
+use crate::handler::Handler;
+use crate::join::Join;
+use crate::last_device::LastDevice;
+use dm_map::{MapFault, Mapper};
+use dm_stack::DeviceId;
+use dm_table::{OutFault, Output, Request};
+
+/// Joins the units of a request of a device of the stack, and writes them. Nothing is held before.
+fn map_request<W: Output>(
+    mapper: &mut Mapper<'_>,
+    request: &Request<'_>,
+    device: DeviceId,
+    join: &mut Join<'_, W>,
+) -> Result<(), OutFault>
+    requires stack { mapper.old.stack ≡ join.old.held.stack }
+    requires going { mapper.old.stopped ≡ false }
+    requires device { device < length join.old.held.stack.devices }
+    requires nothing { join.old.held.piece ≡ None }
+    ensures stack { mapper.new.stack ≡ mapper.old.stack }
+    ensures going { OnOk result (mapper.new.stopped ≡ false) }
+    ensures state { OnOk result (mapper.new.state ≡ (step_of join.old.held.stack device (numbered request.now) mapper.old.state).state) }
+    ensures of_stack { join.new.held.stack ≡ join.old.held.stack }
+    ensures nothing { join.new.held.piece ≡ None }
+    ensures same_reference { join.new.writer.ghost_name ≡ join.old.writer.ghost_name }
+    ensures moved { HasWritten W.written W.waiting W.faults W.flushes join.old.writer.now join.new.writer.now (fault_of result) }
+    ensures ok { OnOk result (since (W.written join.old.writer.now) (W.written join.new.writer.now)
+        ≡ request_answer join.old.held.stack device (numbered request.now) mapper.old.state) }
+    ensures err { OnErr result (IsCutShort (request_answer join.old.held.stack device (numbered request.now) mapper.old.state)
+        (since (W.written join.old.writer.now) (W.written join.new.writer.now))) }
+{
+    join.begin(request.number);
+    match mapper.request(request, device, join) {
+        Ok(()) => join.finish(),
+        Err(MapFault::Sink(fault)) => Err(fault),
+        Err(MapFault::Stopped) => unreachable!(),
+    }
+}
+
+/// Finds the devices of requests, and writes the pieces that a mapper makes of them.
+#[derive(Drop)]
+pub(crate) struct RequestMapper<'m, 's, W> {
+    pub(crate) devices: LastDevice<'s>,
+    pub(crate) join: Join<'m, W>,
+}
+
+impl<'s, W: Output> Handler for RequestMapper<'_, 's, W> {
+    type Source = Mapper<'s>;
+
+    type Fault = NotMapped;
+
+    ghost ready = { λ h mapper. IsReady h.devices mapper h.join.held };
+
+    ghost answered = { λ old before requests new after.
+        HasAnswered old.devices before.state after.state requests (W.written old.join.writer.now) (W.written new.join.writer.now)
+        × HasWritten W.written W.waiting W.faults W.flushes old.join.writer.now new.join.writer.now 0
+        × (new.devices ≡ old.devices) × (after.stack ≡ before.stack)
+        × (new.join.writer.ghost_name ≡ old.join.writer.ghost_name) };
+
+    ghost stopped = { λ old before requests fault new after.
+        HasStopped old.devices fault before.state after requests (W.written old.join.writer.now) (W.written new.join.writer.now)
+        × HasWritten W.written W.waiting W.faults W.flushes old.join.writer.now new.join.writer.now (failed_writes fault)
+        × (new.devices ≡ old.devices) × (after.stack ≡ before.stack)
+        × (new.join.writer.ghost_name ≡ old.join.writer.ghost_name)
+        × (new.join.held.piece ≡ None) };
+
+    ghost answered_none = { λ h mapper. (
+      answered_none h.devices mapper.state (W.written h.join.writer.now),
+      written_none W.written W.waiting W.faults W.flushes h.join.writer.now,
+      refl,
+      refl,
+      refl,
+    ) };
+
+    ghost answered_then_answered = { λ a b c s t u us vs first second. (
+      answered_more a.devices s.state t.state u.state us vs _ _ _ first.1.appends second.1.appends first.0
+          (subst (λ stack. HasAnswered stack t.state u.state vs (W.written b.join.writer.now) (W.written c.join.writer.now)) first.2 second.0),
+      written_more W.written W.waiting W.faults W.flushes a.join.writer.now b.join.writer.now c.join.writer.now 0 first.1 second.1,
+      second.2 ∙ first.2,
+      second.3 ∙ first.3,
+      second.4 ∙ first.4,
+    ) };
+
+    ghost answered_then_stopped = { λ a b c s t u us vs fault first second. (
+      stopped_more a.devices fault s.state t.state u us vs _ _ _ first.1.appends second.1.appends first.0
+          (subst (λ stack. HasStopped stack fault t.state u vs (W.written b.join.writer.now) (W.written c.join.writer.now)) first.2 second.0),
+      written_more W.written W.waiting W.faults W.flushes a.join.writer.now b.join.writer.now c.join.writer.now (failed_writes fault) first.1 second.1,
+      second.2 ∙ first.2,
+      second.3 ∙ first.3,
+      second.4 ∙ first.4,
+      second.5,
+    ) };
+
+    fn handle(&mut self, mapper: &mut Mapper<'s>, request: &Request<'_>) -> Result<(), NotMapped> {
+        let Some(device) = self.devices.find(request.device) else {
+            return Err(NotMapped::Unknown(request.number));
+        };
+        match map_request(mapper, request, device, &mut self.join) {
+            Ok(()) => Ok(()),
+            Err(OutFault) => Err(NotMapped::Output),
+        }
+    }
+}

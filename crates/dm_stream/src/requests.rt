@@ -1,0 +1,89 @@
+//! From the bytes of an input to its requests, line by line, handed on to who answers them.
+//!
+//! What is handed on goes by the bytes and ends that the input delivered, and by nothing else. A new
+//! question about a line is asked in `request_of`, in the order in which `specs/Requests.antt` asks it.
+
+ghost use Rattle.std.specs.Prelude.{◌≡◌, ◌≢◌, ◌<◌, ◌≤◌, ◌∷◌, [], Ok, Some, IfOk, IfErr, OnOk};
+ghost use Rattle.dm_table.specs.DeviceIo.{delivery};
+ghost use Rattle.dm_stream.specs.Progress.{HasRead};
+ghost use Rattle.dm_stream.specs.Requests.{HasMet, IsAmong, Requests, after_requests, is_bad, line_requests, numbered, requests_of, word_for};
+
+use crate::ending::{Ending, RequestWord};
+use crate::handler::Handler;
+use crate::lines::{Lines, Next};
+use dm_table::{Input, Request, RequestFault, parse_request};
+
+/// The most requests of a run.
+pub const MOST_REQUESTS: u64 = 1_000_000_000_000;
+
+/// The word for a line that is no request.
+fn word_of(fault: RequestFault) -> RequestWord
+    ensures { result ≡ word_for fault }
+{
+    match fault {
+        RequestFault::Form => RequestWord::Form,
+        RequestFault::Number => RequestWord::Number,
+        RequestFault::Length => RequestWord::Length,
+    }
+}
+
+/// The request of the line of this number, or the word by which the line is bad.
+fn request_of(line: &[u8], number: u64) -> Result<Request<'_>, RequestWord>
+    ensures good { IfOk result (λ request. (rest : Requests) → line_requests number line.now rest ≡ after_requests (numbered request ∷ []) rest) }
+    ensures bad { IfErr result (λ word. (rest : Requests) → line_requests number line.now rest ≡ is_bad number word) }
+    ensures few { OnOk result (number ≤ MOST_REQUESTS) }
+{
+    if number > MOST_REQUESTS {
+        return Err(RequestWord::Many);
+    }
+    match parse_request(line, number) {
+        Ok(request) => Ok(request),
+        Err(fault) => Err(word_of(fault)),
+    }
+}
+
+/// Hands requests on, one after the other, up to the first bad line, an end or a fault.
+///
+/// `Ok` says which of these it was, and all requests before were answered. Cost: time linear in the
+/// bytes read, and what the handler takes a request. No memory is taken.
+///
+/// # Errors
+///
+/// What the handler stopped with, at one of the requests; nothing is read after that.
+pub fn handle_requests<R: Input, H: Handler>(
+    requests: &mut R,
+    handler: &mut H,
+    source: &mut H::Source,
+) -> Result<Ending, H::Fault>
+    requires { H.ready handler.old source.old }
+    ensures moved { HasRead R.handed R.faults R.ends requests.old requests.new }
+    ensures met { IfOk result (λ ending. HasMet ending (R.faults requests.old) (R.faults requests.new)) }
+    // All requests were answered, and they end by themselves.
+    ensures answered { IfOk result (λ ending. H.answered handler.old source.old (requests_of (delivery R.handed R.faults R.ends requests.old requests.new)).all handler.new source.new) }
+    ensures ending { IfOk result (λ ending. (requests_of (delivery R.handed R.faults R.ends requests.old requests.new)).ending ≡ Some ending) }
+    ensures no_write_fault { IfOk result (λ ending. ending ≢ Ending.WriteFault) }
+    ensures ready { OnOk result (H.ready handler.new source.new) }
+    // The handler stopped at one of them.
+    ensures stopped { IfErr result (λ fault. IsAmong (λ first. H.stopped handler.old source.old first fault handler.new source.new)
+        (requests_of (delivery R.handed R.faults R.ends requests.old requests.new)).all) }
+{
+    let mut lines = Lines::new();
+    let mut number = 0;
+    'lines: loop {
+        number += 1;
+        match lines.next(requests) {
+            Next::Line(line) => match request_of(line, number) {
+                Ok(request) => {
+                    if let Err(fault) = handler.handle(&mut *source, &request) {
+                        return Err(fault);
+                    }
+                }
+                Err(word) => return Ok(Ending::BadRequest(number, word)),
+            },
+            Next::End => return Ok(Ending::Done),
+            Next::Unended => return Ok(Ending::BadRequest(number, RequestWord::Unended)),
+            Next::Long => return Ok(Ending::BadRequest(number, RequestWord::Long)),
+            Next::ReadFault => return Ok(Ending::ReadFault),
+        }
+    }
+}
