@@ -18,7 +18,7 @@ use Rattle.dm_table.specs.LoadMessage.{load_message, memory_message}
 use Rattle.dmremap.specs.Status.{load_status, ending_status}
 use Rattle.dmremap.specs.Whole.{Whole, GiveWhole, ended_if}
 
--- a load is refused for want of memory, or with status 1
+-- a load is refused since memory ran out, or with status 1
 pub refused_kind : (kind : LoadKind) → load_status kind ≢ 6 → (kind ≢ kinds.Memory) × (1 ≡ load_status kind)
 refused_kind kinds.Memory h = absurd (h refl)
 refused_kind kind h = ((λ e. absurd cc), refl)
@@ -50,7 +50,7 @@ whole_from format source disks requests output old new (Ran ending) exits other 
     let served = served_is outcome output ending other exits.2.served in
     record { load = SoundAs exits.0; loaded = exits.1; is = ap (ended_if outcome.output) served.1 ∙ ap (λ (out : List ℕ). ended_if out (Some ending)) served.0 }
 
--- status 6 is want of memory while loading
+-- status 6 says that memory ran out while loading
 pub out_of_memory : (format : Format) (source disks requests : Delivery) (output : List ℕ) (old new : ℕ) (exit : Exit) → IsExitOf format source disks requests output old new exit → exit_status exit ≡ 6 → (output ≡ []) × (exit_message exit ≡ memory_message)
 out_of_memory format source disks requests output old new (Refused fault) exits six = (exits.0, rw (memory_kind fault.kind six) refl)
 out_of_memory format source disks requests output old new (Ran endings.Done) exits six = absurd (omega arith)

@@ -101,14 +101,14 @@ abbrev pub has_its_disks : TaskWords → Bool
 has_its_disks (map_words format file disks) =
     if has_disk_list format then is_some disks else not (is_some disks)
 
--- ---- what is answered to words
+-- ---- what words give
 
 -- a word of these is a hyphen alone, before the first `--`
 abbrev pub lone_hyphen_in : List Text → Bool
 lone_hyphen_in words = list_any (λ w. bytes_eq w (codes "-"))
     (before_first (λ w. bytes_eq w (codes "--")) words)
 
--- so is a word behind the program's name
+-- so is a word after the program's name
 abbrev pub has_lone_hyphen : List Text → Bool
 has_lone_hyphen words = lone_hyphen_in (drop 1 words)
 
@@ -125,7 +125,7 @@ pub record IsTaken (words : List Text) (asked : TaskWords) : Type 0 where
   pub taken : fault_of (command_line parser) words ≡ []
   pub task : task_in (command_line parser) words ≡ Some asked
 
--- clap refuses the words by this error, which is no want of memory; they have no lone hyphen
+-- clap refuses the words by this error, which is not that memory ran out; they have no lone hyphen
 pub record IsRefused (words : List Text) (error : Error) : Type 0 where
   pub hyphen : has_lone_hyphen words ≡ false
   pub parser : ValueParser
@@ -152,13 +152,13 @@ pub record LacksItsDisks (words : List Text) : Type 0 where
   pub task : IsTaken words asked
   pub disks : has_its_disks asked ≡ false
 
--- the words have this fault: they are text, and want of memory can come at any words
+-- the words have this fault: they are text, and memory can run out at any words
 abbrev pub IsFaultOf : List Text → WordsFault → Type 0
 IsFaultOf words (Words error) = RefusesHyphen words error ⊎ IsRefused words error
 IsFaultOf words Disks = LacksItsDisks words
 IsFaultOf words Memory = ⊤
 
--- what is answered to arguments that are no text: an invalid value
+-- the fault of arguments that are no text: an invalid value
 abbrev pub IsNotText : WordsFault → Type 0
 IsNotText (Words error) = kind_of error ≡ kind.InvalidValue
 IsNotText Disks = ⊥
@@ -172,7 +172,7 @@ is_shown kind.DisplayHelp = true
 is_shown kind.DisplayVersion = true
 is_shown _ = false
 
--- 0 for help, 2 for refused words, 6 for want of memory
+-- 0 for help, 2 for refused words, 6 where memory ran out
 abbrev pub status_of : WordsFault → ℕ
 status_of (Words error) = if is_shown (kind_of error) then 0 else 2
 status_of Disks = 2
@@ -180,7 +180,7 @@ status_of Memory = 6
 
 -- ---- clap's errors as faults
 
--- the error is want of memory
+-- the error is that memory ran out
 abbrev pub is_memory : ErrorKind → Bool
 is_memory kind.OutOfMemory = true
 is_memory _ = false

@@ -29,7 +29,7 @@ fn main(rt: HostRuntime) -> ExitCode {
     ExitCode::from(status)
 }
 
-/// Does what the words ask for, and answers the status of that.
+/// Does what the words ask for, and returns the exit status.
 fn answer(rt: &HostRuntime) -> Result<u8, WordsFault> {
     let arguments = arguments_of(rt)?;
     let words: Vec<&str> = arguments
@@ -84,7 +84,7 @@ fn map_files(
     ))
 }
 
-/// Prints why there is no job, and answers its status, which stands where nothing can be printed.
+/// Prints why there is no job, and returns its exit status, whether or not it could be printed.
 fn refuse(rt: &HostRuntime, fault: &WordsFault) -> u8 {
     let _ = fault.print(rt);
     fault.status()

@@ -23,7 +23,7 @@ use std::alloc::{AllocError, Global};
 use std::io;
 use thiserror::Error;
 
-/// How the text of FILE is written.
+/// The format of the text of FILE.
 #[derive(Clone, Copy, Debug)]
 pub enum Format {
     /// Lines `NAME: START LEN TYPE ARGS`, as the command `table` of dmsetup(8) prints them.
@@ -67,11 +67,11 @@ const ABOUT: &str = "Maps block requests through device-mapper tables to the dis
 
 const MAP_ABOUT: &str = "Maps the requests of the standard input to pieces on the disks";
 
-const FORMAT_HELP: &str = "How FILE is written";
+const FORMAT_HELP: &str = "The format of FILE";
 
-const FILE_HELP: &str = "The file of the tables";
+const FILE_HELP: &str = "The file of the devices and their tables";
 
-const DISKS_HELP: &str = "The file of the disks, which the format table asks for";
+const DISKS_HELP: &str = "The file of the disks and their lengths, for the format table";
 
 const NOTES: &str = "\
 Requests come from the standard input. Pieces go to the standard output, messages to the standard
@@ -93,11 +93,16 @@ Lines
             N zero LEN            sectors that read as zeros
             N drop LEN            sectors whose writes are thrown away
             N error LEN           sectors that fail
-DEV is a disk, or /dev/mapper/NAME for a device of FILE.
+DEV is a disk, or /dev/mapper/NAME for a device of FILE. A request has 1 to 1048576 sectors.
 
 Exit status
-  0 done, 1 FILE or DISKS refused, 2 words refused, 3 bad request, 4 requests not read,
-  5 output not written, 6 out of memory
+  0  all requests were answered
+  1  FILE or DISKS was refused
+  2  the words were refused
+  3  a request was bad
+  4  the requests could not be read
+  5  the output could not be written
+  6  out of memory
 
 Example
   dmremap map table stack.table disks.txt < requests.txt";
@@ -127,7 +132,7 @@ impl Format {
 }
 
 impl<'a> Task<'a> {
-    // The task of the command that clap met. There is one wherever clap takes the words, since each
+    // The task of the command that clap found. There is one wherever clap takes the words, since each
     // command's words are required, but no clause of clap's says so.
     fn of_matches(matches: &ArgMatches<'a>) -> Option<Task<'a>>
         ensures { option_map words_of result
@@ -169,8 +174,8 @@ impl<'a> Task<'a> {
 }
 
 impl WordsFault {
-    /// What the program exits with: 0 for help that was asked for, 2 for refused words, 6 for want
-    /// of memory.
+    /// What the program exits with: 0 for help that was asked for, 2 for refused words, 6 where
+    /// memory ran out.
     pub fn status(&self) -> u8
         ensures { result ≡ status_of self.now }
     {
@@ -260,7 +265,7 @@ fn program<'a>(alloc: Global) -> Result<Command<'a>, AllocError>
     )
 }
 
-/// What is answered where an argument isn't UTF-8, so that there are no words to read.
+/// The fault where an argument isn't UTF-8, so that there are no words to read.
 pub fn not_text(alloc: Global) -> WordsFault
     ensures { IsNotText result }
 {
@@ -276,7 +281,7 @@ fn not_text_error(alloc: Global) -> Result<clap::Error, AllocError>
     program(alloc)?.error(ErrorKind::InvalidValue, NOT_TEXT)
 }
 
-// Whether a word behind the program's name is a hyphen alone, before the first `--`.
+// Whether a word after the program's name is a hyphen alone, before the first `--`.
 fn has_lone_hyphen(words: &[&str]) -> bool
     ensures { result ≡ has_lone_hyphen (texts words.now) }
 {
@@ -296,9 +301,9 @@ fn has_lone_hyphen(words: &[&str]) -> bool
 
 /// The job that the words ask for, of which the first is the program's name. No file is opened.
 /// A hyphen alone, which clap would take as a value, is refused before the first `--`, whatever
-/// else the words are. A wrong presence of DISKS is answered only where clap takes the words. A
-/// request for help is a refusal with clap's help as its text, and so are no words at all. The
-/// command line is built anew at each call, and the words are walked twice.
+/// else the words are. DISKS that is missing, or there without need, is reported only where clap takes the
+/// words. A request for help is a refusal with clap's help as its text, and so are no words at all.
+/// The command line is built anew at each call, and the words are walked twice.
 pub fn read_words<'a>(alloc: Global, words: &'a [&'a str]) -> Result<Job<'a>, WordsFault>
     ensures job { IfOk result (IsJobOf (texts words.now)) }
     ensures fault { IfErr result (IsFaultOf (texts words.now)) }

@@ -7,6 +7,7 @@ ghost use Rattle.std.specs.Prelude.{◌<◌};
 
 use super::*;
 use dm_table::{ShortIn, ShortOut};
+use std::alloc::AllocError;
 use std::process::Abort;
 
 mod bad_requests;
@@ -96,6 +97,21 @@ impl<'a> Case<'a> {
             messages: ShortOut::new(alloc, step, PLENTY).expect(rt, "a message stream"),
         }
     }
+}
+
+/// A text of a number of letters between two others.
+fn around_letters(
+    alloc: Global,
+    before: &str,
+    letters: usize,
+    after: &str,
+) -> Result<String, AllocError> {
+    let mut text = String::from_str(alloc, before)?;
+    for _ in 0..letters {
+        text.push('a')?;
+    }
+    text.push_str(after)?;
+    Ok(text)
 }
 
 /// Runs a case whole, and asserts what it must give.

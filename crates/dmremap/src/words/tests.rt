@@ -1,4 +1,4 @@
-//! The words that are taken, and the text and the exit status of those that aren't.
+//! The words that are accepted, and the text and the exit status of those that aren't.
 use super::*;
 use std::process::Abort;
 
@@ -21,7 +21,7 @@ fn map_table_gives_its_texts(rt: HostRuntime) {
 }
 
 #[test]
-fn a_hyphen_behind_dashes_is_a_file(rt: HostRuntime) {
+fn a_hyphen_after_dashes_is_a_file(rt: HostRuntime) {
     let words = ["dmremap", "map", "table", "--", "-", "d"];
     let job = read_words(rt.alloc(), words.as_slice()).expect(&rt, "a job");
     let Task::Map { file, disks, .. } = job.task;

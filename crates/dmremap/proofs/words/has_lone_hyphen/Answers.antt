@@ -43,15 +43,15 @@ lone-other_at : (words : List (Bor Text)) (i : ℕ) (d : Bor Text) → i < lengt
     → bytes_eq (get_or words i d).now (codes "-") ≡ false → lone_hyphen_in (texts (drop i words)) ≡ lone_hyphen_in (texts (drop (i + 1) words))
 lone-other_at words i d lt no_dashes no_hyphen = ap lone_hyphen_in (texts-drop words i d lt) ∙ lone-other (get_or words i d).now (texts (drop (i + 1) words)) no_dashes no_hyphen
 
--- the words behind the first
-texts-behind_first : (words : List (Bor Text)) → texts (take (length words - 1) (drop 1 words)) ≡ drop 1 (texts words)
-texts-behind_first [] = refl
-texts-behind_first (word ∷ words) =
+-- the words after the first
+texts-after_first : (words : List (Bor Text)) → texts (take (length words - 1) (drop 1 words)) ≡ drop 1 (texts words)
+texts-after_first [] = refl
+texts-after_first (word ∷ words) =
     let less : length (word ∷ words) - 1 ≡ length words = omega arith in ap (λ n. texts (take n words)) less ∙ ap texts (take-length words)
 
 pub returns-then-eq-2 : goal.returns-then-eq-2
 returns-then-eq-2 c =
-    sym (ap lone_hyphen_in (sym (texts-behind_first c.args.words.now)) ∙ c.loop-word.invariant
+    sym (ap lone_hyphen_in (sym (texts-after_first c.args.words.now)) ∙ c.loop-word.invariant
     ∙ lone-hyphen_at _ _ _ c.loop-word-test.true (sym c.eq.ensures ∙ c.if-eq.false) (sym c.eq-in-loop-word.ensures ∙ c.if-eq-2.true))
 
 pub loop-word-preserved : goal.loop-word-preserved

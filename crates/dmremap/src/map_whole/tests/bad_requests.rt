@@ -1,12 +1,11 @@
 //! Requests that are bad: the word for each, and what was answered before.
 //!
 //! The questions about a line are asked in a fixed order, so a row with several mistakes shows which
-//! goes first. Lines of the greatest length are built here, since a form has no room for one.
+//! comes first. Lines of the greatest length are built here, since a form has no room for one.
 
 ghost use Rattle.std.specs.Prelude.{◌<◌};
 
 use super::*;
-use std::alloc::AllocError;
 use std::test::Fail;
 
 /// A line and the rest of a line without its newline.
@@ -69,7 +68,7 @@ fn words(rt: HostRuntime) -> Result<(), Fail> {
 fn the_first_bad_line_ends_the_run(rt: HostRuntime) {
     let cases = [
         Case {
-            name: "behind answers",
+            name: "after answers",
             requests: "R a 0 1\nW a 1 2\nR a 0 0\nR a 2 1\nx\n",
             output: "1 R sda 50 1\n2 W sda 51 2\n",
             message: "dmremap: request 3: length\n",
@@ -116,7 +115,7 @@ fn the_cutting_of_reads_shows_nowhere(rt: HostRuntime) {
     }
 }
 
-/// What comes of the first `count` bytes of the line and the rest, up to a clean end.
+/// What the first `count` bytes of the line and the rest give, up to a clean end.
 fn answer_to_beginning(count: usize) -> Answer<'static> {
     let (output, message, status) = match count {
         0 => ("", "", 0),
@@ -165,7 +164,7 @@ fn a_read_fault_after_each_byte(rt: HostRuntime) {
 }
 
 #[test]
-fn a_bad_line_goes_before_a_read_fault(rt: HostRuntime) {
+fn a_bad_line_takes_precedence_over_a_read_fault(rt: HostRuntime) {
     let alloc = rt.alloc();
     let requests = "R a 0 1\nR a 0 0\nR a".as_bytes();
     let answer = Answer {
@@ -178,18 +177,6 @@ fn a_bad_line_goes_before_a_read_fault(rt: HostRuntime) {
     check_streams(&rt, alloc, "a bad line", streams, &answer);
 }
 
-/// A line of so many bytes, and its newline if asked.
-fn long_line(alloc: Global, bytes: usize, ends: bool) -> Result<String, AllocError> {
-    let mut line = String::new(alloc);
-    for _ in 0..bytes {
-        line.push('x')?;
-    }
-    if ends {
-        line.push('\n')?;
-    }
-    Ok(line)
-}
-
 #[test]
 fn lines_of_the_greatest_length(rt: HostRuntime) -> Result<(), Fail> {
     let alloc = rt.alloc();
@@ -197,7 +184,7 @@ fn lines_of_the_greatest_length(rt: HostRuntime) -> Result<(), Fail> {
     let long = ("dmremap: request 1: long\n", 3);
     let unended = ("dmremap: request 1: unended\n", 3);
     let read = ("dmremap: requests: read\n", 4);
-    // The bytes before the newline, whether there is one, whether reads fail behind them.
+    // The bytes before the newline, whether there is one, and whether reads fail after them.
     let cases = [
         (4096, true, false, form),
         (4097, true, false, long),
@@ -209,7 +196,7 @@ fn lines_of_the_greatest_length(rt: HostRuntime) -> Result<(), Fail> {
         (4097, false, true, long),
     ];
     for (bytes, ends, fails, (message, status)) in cases {
-        let line = long_line(alloc, bytes, ends)?;
+        let line = around_letters(alloc, "", bytes, if ends { "\n" } else { "" })?;
         let line = line.as_bytes();
         for step in [1, 4096, 4097, 65536] {
             let mut streams = VOLUME.streams(&rt, alloc, PLENTY);
@@ -229,16 +216,6 @@ fn lines_of_the_greatest_length(rt: HostRuntime) -> Result<(), Fail> {
     Ok(())
 }
 
-/// A request to a device whose name has so many letters.
-fn request_to_long_name(alloc: Global, letters: usize) -> Result<String, AllocError> {
-    let mut text = String::from_str(alloc, "R ")?;
-    for _ in 0..letters {
-        text.push('a')?;
-    }
-    text.push_str(" 0 1\n")?;
-    Ok(text)
-}
-
 #[test]
 fn device_names_of_the_greatest_length(rt: HostRuntime) -> Result<(), Fail> {
     let alloc = rt.alloc();
@@ -246,7 +223,7 @@ fn device_names_of_the_greatest_length(rt: HostRuntime) -> Result<(), Fail> {
         (127, "dmremap: request 1: unknown\n"),
         (128, "dmremap: request 1: form\n"),
     ] {
-        let requests = request_to_long_name(alloc, letters)?;
+        let requests = around_letters(alloc, "R ", letters, " 0 1\n")?;
         let case = Case {
             name: "a long name",
             requests: requests.as_str(),

@@ -4,10 +4,16 @@
 
 use super::*;
 use dm_table::{CheckFault, InFault, LoadFault, LoadKind, OutFault, Part, Place, RequestFault};
-use std::test::Fail;
+use std::fmt::Display;
+
+/// Asserts how a fault is written.
+fn check_text<T: Display>(rt: &impl Abort, alloc: Global, fault: &T, text: &str) {
+    let written = format!(in alloc; "{fault}").expect(rt, "a text");
+    assert_eq!(rt; written.as_str(), text);
+}
 
 #[test]
-fn kinds_of_loads(rt: HostRuntime) -> Result<(), Fail> {
+fn kinds_of_loads(rt: HostRuntime) {
     let alloc = rt.alloc();
     // A kind, its own text, and the message of a load that it refuses.
     for (kind, text, message) in [
@@ -48,20 +54,18 @@ fn kinds_of_loads(rt: HostRuntime) -> Result<(), Fail> {
         (LoadKind::Limit, "limit", "dmremap: disks: limit at 7\n"),
         (LoadKind::Memory, "memory", "dmremap: memory\n"),
     ] {
-        let written = format!(in alloc; "{kind}")?;
-        assert_eq!(rt; written.as_str(), text);
+        check_text(&rt, alloc, &kind, text);
         let at = Place {
             part: Part::Disks,
             number: 7,
         };
         let fault = LoadFault { kind, at };
-        assert_eq!(rt; fault.message().as_slice(), message.as_bytes(), "{kind}");
+        assert_eq!(&rt; fault.message().as_slice(), message.as_bytes(), "{kind}");
     }
-    Ok(())
 }
 
 #[test]
-fn loads(rt: HostRuntime) -> Result<(), Fail> {
+fn other_faults(rt: HostRuntime) {
     let alloc = rt.alloc();
     for (part, number, text) in [
         (Part::Source, 7, "source: gap at 7"),
@@ -71,37 +75,17 @@ fn loads(rt: HostRuntime) -> Result<(), Fail> {
             kind: LoadKind::Gap,
             at: Place { part, number },
         };
-        let written = format!(in alloc; "{fault}")?;
-        assert_eq!(rt; written.as_str(), text);
+        check_text(&rt, alloc, &fault, text);
     }
-    Ok(())
-}
-
-#[test]
-fn requests_and_names(rt: HostRuntime) -> Result<(), Fail> {
-    let alloc = rt.alloc();
     for (fault, text) in [
         (RequestFault::Form, "form"),
         (RequestFault::Number, "number"),
         (RequestFault::Length, "length"),
     ] {
-        let written = format!(in alloc; "{fault}")?;
-        assert_eq!(rt; written.as_str(), text);
+        check_text(&rt, alloc, &fault, text);
     }
-    for (fault, text) in [
-        (CheckFault::Form, "the text is no name"),
-        (CheckFault::Memory, "out of memory"),
-    ] {
-        let written = format!(in alloc; "{fault}")?;
-        assert_eq!(rt; written.as_str(), text);
-    }
-    Ok(())
-}
-
-#[test]
-fn streams(rt: HostRuntime) -> Result<(), Fail> {
-    let alloc = rt.alloc();
-    let written = format!(in alloc; "{InFault}, {OutFault}")?;
-    assert_eq!(rt; written.as_str(), "the input failed, the output failed");
-    Ok(())
+    check_text(&rt, alloc, &CheckFault::Form, "the text is no name");
+    check_text(&rt, alloc, &CheckFault::Memory, "out of memory");
+    check_text(&rt, alloc, &InFault, "the input failed");
+    check_text(&rt, alloc, &OutFault, "the output failed");
 }

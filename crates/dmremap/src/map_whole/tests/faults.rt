@@ -1,12 +1,11 @@
 //! Streams that fail or go short: sources, disk lists, outputs and message streams.
 //!
-//! A stream fails after each count of its bytes in turn. What was written before stays a beginning
-//! of what would have been written, and which fault is told does not hang on where reads are cut.
+//! A stream fails after each number of its bytes in turn. What was written before is a beginning of
+//! what would have been written, and which fault is reported does not depend on where reads are cut.
 
 ghost use Rattle.std.specs.Prelude.{◌<◌};
 
 use super::*;
-use std::alloc::AllocError;
 use std::test::Fail;
 
 const WRITE_MESSAGE: &str = "dmremap: output: write\n";
@@ -39,16 +38,7 @@ fn the_disk_list_fails_after_each_byte(rt: HostRuntime) {
     }
 }
 
-/// So many bytes of one line.
-fn letters(alloc: Global, bytes: usize) -> Result<String, AllocError> {
-    let mut text = String::new(alloc);
-    for _ in 0..bytes {
-        text.push('x')?;
-    }
-    Ok(text)
-}
-
-/// An input of a text that ends or fails behind it.
+/// An input of a text that ends or fails after it.
 fn input<'a>(text: &'a str, fails: bool) -> ShortIn<'a> {
     let bytes = text.as_bytes();
     if fails {
@@ -62,11 +52,11 @@ fn input<'a>(text: &'a str, fails: bool) -> ShortIn<'a> {
 fn parts_are_read_before_any_text(rt: HostRuntime) -> Result<(), Fail> {
     let alloc = rt.alloc();
     let bad = "x";
-    let full = letters(alloc, 1_048_576)?;
-    let long = letters(alloc, 1_048_577)?;
+    let full = around_letters(alloc, "", 1_048_576, "")?;
+    let long = around_letters(alloc, "", 1_048_577, "")?;
     let full = full.as_str();
     let long = long.as_str();
-    // The source and the disk list, each with whether it fails behind its bytes.
+    // The source and the disk list, each with whether it fails after its bytes.
     let cases = [
         ((bad, false), ("", true), "dmremap: disks: read\n"),
         ((bad, false), (long, false), "dmremap: disks: long\n"),
@@ -116,7 +106,7 @@ fn the_output_fails_after_each_byte(rt: HostRuntime) {
 }
 
 #[test]
-fn a_flush_that_fails_goes_before_all_else(rt: HostRuntime) {
+fn a_flush_that_fails_takes_precedence(rt: HostRuntime) {
     let alloc = rt.alloc();
     let cases = [
         VOLUME,
@@ -146,7 +136,7 @@ fn a_flush_that_fails_goes_before_all_else(rt: HostRuntime) {
 }
 
 #[test]
-fn a_flush_fails_behind_a_read_fault(rt: HostRuntime) {
+fn a_flush_fails_after_a_read_fault(rt: HostRuntime) {
     let alloc = rt.alloc();
     let answer = Answer {
         output: "1 R sda 50 1\n".as_bytes(),

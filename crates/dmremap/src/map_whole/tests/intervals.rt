@@ -1,7 +1,7 @@
 //! Requests over ranges against requests of one sector each: the same units, in the fewest pieces.
 //!
-//! A range goes down the stack as one step, so its answer is held here against the plain way, which
-//! asks for each sector by itself and joins what comes. New targets get a stack of their own below.
+//! A range goes down the stack as one step, so its output is compared here with the plain way, which
+//! asks for each sector by itself and joins the results. New targets get a stack of their own below.
 
 use super::*;
 use std::alloc::AllocError;
@@ -10,7 +10,7 @@ use std::test::Fail;
 /// How many sectors each device `a` has.
 const SECTORS: u64 = 24;
 
-/// More bytes than the answers to all ranges have.
+/// More bytes than the output for all ranges has.
 const ROOM: usize = 1 << 20;
 
 /// Stacks whose device `a` has borders of lines and chunks on several levels.
@@ -29,8 +29,8 @@ struct Sector<'a> {
 }
 
 impl Sector<'_> {
-    /// Whether a sector goes on from this one, `len` sectors behind it.
-    fn goes_on(&self, len: u64, next: &Sector<'_>) -> bool {
+    /// Whether `next` continues from this one, `len` sectors after it.
+    fn is_continued_by(&self, len: u64, next: &Sector<'_>) -> bool {
         let places = match (self.place, next.place) {
             (Some((disk, start)), Some((other, sector))) => {
                 disk == other && start.checked_add(len) == Some(sector)
@@ -42,7 +42,7 @@ impl Sector<'_> {
     }
 }
 
-/// The sectors of answers to requests of one sector each.
+/// The sectors in the output of requests of one sector each.
 fn sectors_of(alloc: Global, output: &str) -> Result<Vec<Sector<'_>>, AllocError> {
     let mut sectors = Vec::new(alloc);
     for line in output.lines() {
@@ -61,7 +61,7 @@ fn sectors_of(alloc: Global, output: &str) -> Result<Vec<Sector<'_>>, AllocError
     Ok(sectors)
 }
 
-/// Puts the line of so many sectors from a first one on behind a text.
+/// Appends the line of `len` sectors from `first` on to a text.
 fn put_line(
     text: &mut String,
     number: u64,
@@ -75,12 +75,12 @@ fn put_line(
     Ok(())
 }
 
-/// Puts the lines of sectors in a row behind a text, joined plainly.
+/// Appends the lines of consecutive sectors to a text, joined in the plain way.
 fn put_lines(text: &mut String, number: u64, sectors: &[Sector<'_>]) -> Result<(), AllocError> {
     let mut held: Option<(Sector<'_>, u64)> = None;
     for sector in sectors {
         held = match held {
-            Some((first, len)) if first.goes_on(len, sector) => Some((
+            Some((first, len)) if first.is_continued_by(len, sector) => Some((
                 first,
                 len.saturating_add(1),
             )),

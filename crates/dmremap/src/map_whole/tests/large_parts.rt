@@ -1,115 +1,69 @@
 //! Parts of the greatest size, and counts at their limits.
 //!
-//! The texts are built here, so that a length is exact. One more byte, line or disk is refused, and
-//! what is within a limit is taken, or is refused by a later check where nothing of its size can be
-//! sound.
+//! The texts are built here, so that each length is exact. One more byte, line or disk is refused;
+//! what is within a limit is accepted, or is refused by a later check where nothing of its size can
+//! be sound.
 
 use super::*;
 use std::alloc::AllocError;
 use std::fmt::Write;
 use std::test::Fail;
 
-/// Puts a letter behind a text so many times.
-fn push_letters(text: &mut String, letters: usize) -> Result<(), AllocError> {
-    for _ in 0..letters {
-        text.push('s')?;
-    }
-    Ok(())
-}
-
-/// A disk list of one disk, with a name of so many letters.
-fn one_disk(alloc: Global, letters: usize) -> Result<String, AllocError> {
-    let mut text = String::new(alloc);
-    push_letters(&mut text, letters)?;
-    text.push_str(" 1\n")?;
-    Ok(text)
-}
-
-/// A table of 62,331 lines of one sector, the last of which is the disk's, with a name of so many
-/// letters. Its other bytes are 1,048,521.
+/// A table of 62,331 lines of one sector, the last of which is on the disk, whose name has this
+/// number of letters. The other bytes are 1,048,521.
 fn large_table(alloc: Global, letters: usize) -> Result<String, AllocError> {
     let mut text = String::new(alloc);
     for start in 0..62_330 {
         writeln!(text, "a: {start} 1 error")?;
     }
-    text.push_str("a: 62330 1 linear ")?;
-    push_letters(&mut text, letters)?;
-    text.push_str(" 0\n")?;
+    let last = around_letters(alloc, "a: 62330 1 linear ", letters, " 0\n")?;
+    text.push_str(last.as_str())?;
     Ok(text)
-}
-
-/// The answers to a request within and to one behind the disk's line.
-fn large_output(alloc: Global, letters: usize) -> Result<String, AllocError> {
-    let mut text = String::from_str(alloc, "1 R ")?;
-    push_letters(&mut text, letters)?;
-    text.push_str(" 0 1\n2 error 1\n")?;
-    Ok(text)
-}
-
-/// Texts that hang on the length of a disk's name.
-#[derive(Drop)]
-struct LargeTexts {
-    source: String,
-    disks: String,
-    output: String,
-}
-
-impl LargeTexts {
-    fn new(alloc: Global, letters: usize) -> Result<LargeTexts, AllocError> {
-        Ok(LargeTexts {
-            source: large_table(alloc, letters)?,
-            disks: one_disk(alloc, letters)?,
-            output: large_output(alloc, letters)?,
-        })
-    }
-
-    fn case(&self) -> Case<'_> {
-        Case {
-            name: "a large table",
-            source: self.source.as_str(),
-            disks: self.disks.as_str(),
-            requests: "R a 62330 1\nR a 62331 1\n",
-            output: self.output.as_str(),
-            ..VOLUME
-        }
-    }
 }
 
 #[test]
 fn the_largest_table(rt: HostRuntime) -> Result<(), Fail> {
     let alloc = rt.alloc();
-    // The greatest source is sound, and its last line is found.
-    let texts = LargeTexts::new(alloc, 55)?;
-    assert_eq!(rt; texts.source.len(), 1_048_576);
-    check(&rt, alloc, &texts.case());
-    let texts = LargeTexts::new(alloc, 56)?;
-    assert_eq!(rt; texts.source.len(), 1_048_577);
-    let case = Case {
-        output: "",
-        message: "dmremap: source: long\n",
-        status: 1,
-        ..texts.case()
-    };
-    check(&rt, alloc, &case);
+    // The greatest source is sound, and its last line is found; a byte more is too long.
+    for (letters, bytes, message) in [
+        (55, 1_048_576, ""),
+        (56, 1_048_577, "dmremap: source: long\n"),
+    ] {
+        let source = large_table(alloc, letters)?;
+        assert_eq!(rt; source.len(), bytes);
+        let disks = around_letters(alloc, "", letters, " 1\n")?;
+        let output = around_letters(alloc, "1 R ", letters, " 0 1\n2 error 1\n")?;
+        let is_taken = message.is_empty();
+        let case = Case {
+            name: "a large table",
+            source: source.as_str(),
+            disks: disks.as_str(),
+            requests: "R a 62330 1\nR a 62331 1\n",
+            output: if is_taken { output.as_str() } else { "" },
+            message,
+            status: if is_taken { 0 } else { 1 },
+        };
+        check(&rt, alloc, &case);
+    }
     Ok(())
 }
 
-/// A list of 4,096 disks: the name of each has 252 letters, and that of the last so many.
+/// A list of 4,096 disks: the name of each has 253 letters, and that of the last this number.
 fn large_list(alloc: Global, letters: usize) -> Result<String, AllocError> {
+    let line = around_letters(alloc, "", 253, " 1\n")?;
     let mut text = String::new(alloc);
     for _ in 0..4095 {
-        push_letters(&mut text, 253)?;
-        text.push_str(" 1\n")?;
+        text.push_str(line.as_str())?;
     }
-    push_letters(&mut text, letters)?;
-    text.push_str(" 1\n")?;
+    let last = around_letters(alloc, "", letters, " 1\n")?;
+    text.push_str(last.as_str())?;
     Ok(text)
 }
 
 #[test]
 fn the_largest_disk_list(rt: HostRuntime) -> Result<(), Fail> {
     let alloc = rt.alloc();
-    // So many bytes hold more disks than are allowed, or longer names, so a later check refuses them.
+    // A list of this size has more disks than are allowed, or longer names, so a later check refuses it.
     let cases = [
         (253, 1_048_576, "dmremap: disks: limit at 1025\n"),
         (254, 1_048_577, "dmremap: disks: long\n"),
@@ -130,7 +84,7 @@ fn the_largest_disk_list(rt: HostRuntime) -> Result<(), Fail> {
     Ok(())
 }
 
-/// A device of so many lines of one sector.
+/// A device of `count` lines of one sector.
 fn long_table(alloc: Global, count: usize) -> Result<String, AllocError> {
     let mut text = String::new(alloc);
     for start in 0..count {
@@ -164,7 +118,7 @@ fn the_most_lines(rt: HostRuntime) -> Result<(), Fail> {
     Ok(())
 }
 
-/// A list of so many disks of different names, each of 8 sectors.
+/// A list of `count` disks of different names, each of 8 sectors.
 fn disk_list(alloc: Global, count: usize) -> Result<String, AllocError> {
     let mut text = String::new(alloc);
     for number in 0..count {

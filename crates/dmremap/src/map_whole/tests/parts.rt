@@ -1,7 +1,8 @@
-//! The calls that the whole way is made of, with ample memory: what each answers.
+//! The calls that the program is made of, with ample memory: what each returns.
 //!
-//! Want of memory is in the contract of each call that takes any, so a body that always answers it
-//! meets every clause: these rows refuse it. Read-only devices stand here, since no text says them yet.
+//! Each call that takes memory may fail for lack of it by its contract, so a body that always fails
+//! would meet every clause: these rows refuse it. Read-only devices stand here, since no text has
+//! them yet.
 
 ghost use Rattle.std.specs.Prelude.{◌≡◌, ◌<◌, length};
 ghost use Rattle.dm_stack.specs.Description.{disk_len};
@@ -11,8 +12,6 @@ use dm_map::{Mapper, Piece, Sink};
 use dm_stack::{DiskId, FoundTarget, Lower, Stack};
 use dm_stream::{Ending, Join, run};
 use dm_table::{CheckFault, DiskName, Name, parse_disks, parse_table};
-use std::alloc::AllocError;
-use std::test::Fail;
 
 #[test]
 fn names(rt: HostRuntime) {
@@ -35,21 +34,23 @@ fn names(rt: HostRuntime) {
     }
 }
 
-/// A stack of two devices, the lower of them read-only, and a disk.
-fn read_only_stack(rt: &impl Abort, alloc: Global) -> Stack {
-    let source = "a: 0 8 linear sda 0\nb: 0 8 linear /dev/mapper/a 0\n";
+/// A stack, whose first device may be read-only, and a disk or two of 64 sectors.
+fn stack_of(rt: &impl Abort, alloc: Global, source: &str, ro: bool) -> Stack {
     let mut devices = parse_table(alloc, source.as_bytes()).expect(rt, "devices");
-    let disks = parse_disks(alloc, "sda 9\n".as_bytes()).expect(rt, "disks");
-    assert_eq!(rt; devices.len(), 2);
-    devices[0].ro = true;
+    let disks = parse_disks(alloc, "sda 64\nsdb 64\n".as_bytes()).expect(rt, "disks");
+    assert!(rt; 0 < devices.len(), "a device");
+    devices[0].ro = ro;
     Stack::load(alloc, devices, disks).expect(rt, "a stack")
 }
 
+/// Two devices, the lower of which comes first.
+const TWO_DEVICES: &str = "a: 0 8 linear sda 0\nb: 0 8 linear /dev/mapper/a 0\n";
+
 #[test]
 fn a_stack(rt: HostRuntime) {
-    let stack = read_only_stack(&rt, rt.alloc());
+    let stack = stack_of(&rt, rt.alloc(), TWO_DEVICES, true);
     assert_eq!(&rt; stack.device_count(), 2);
-    assert_eq!(&rt; stack.disk_count(), 1);
+    assert_eq!(&rt; stack.disk_count(), 2);
     assert_eq!(&rt; stack.depth(), 2);
     assert!(&rt; stack.device("sda").is_none(), "a disk is no device");
     let a = stack.device("a").expect(&rt, "the lower device");
@@ -67,7 +68,7 @@ fn a_stack(rt: HostRuntime) {
 #[test]
 fn a_read_only_device(rt: HostRuntime) {
     let alloc = rt.alloc();
-    let stack = read_only_stack(&rt, alloc);
+    let stack = stack_of(&rt, alloc, TWO_DEVICES, true);
     let mut mapper = Mapper::new(alloc, stack.looker()).expect(&rt, "a mapper");
     let mut requests = ShortIn::new("W b 0 8\nR b 0 8\nW a 1 1\n".as_bytes(), PLENTY);
     let mut output = ShortOut::new(alloc, PLENTY, PLENTY).expect(&rt, "an output");
@@ -109,14 +110,6 @@ fn disk_below(rt: &impl Abort, stack: &Stack, name: &str) -> DiskId
     disk
 }
 
-/// A stack of a device on each of two disks of 64 sectors.
-fn two_disks(rt: &impl Abort, alloc: Global) -> Stack {
-    let source = "a: 0 64 linear sda 0\nb: 0 64 linear sdb 0\n";
-    let devices = parse_table(alloc, source.as_bytes()).expect(rt, "devices");
-    let disks = parse_disks(alloc, "sda 64\nsdb 64\n".as_bytes()).expect(rt, "disks");
-    Stack::load(alloc, devices, disks).expect(rt, "a stack")
-}
-
 /// Eight sectors that are copied from a disk to another.
 fn copy(disk: DiskId, start: u64, to: DiskId, to_start: u64) -> Piece
     ensures { result ≡ Piece.Copy disk start 8 to to_start }
@@ -131,8 +124,9 @@ fn copy(disk: DiskId, start: u64, to: DiskId, to_start: u64) -> Piece
 }
 
 #[test]
-fn copies_join_where_both_sides_go_on(rt: HostRuntime) {
-    let stack = two_disks(&rt, rt.alloc());
+fn copies_join_where_both_sides_continue(rt: HostRuntime) {
+    let source = "a: 0 64 linear sda 0\nb: 0 64 linear sdb 0\n";
+    let stack = stack_of(&rt, rt.alloc(), source, false);
     let disk = disk_below(&rt, &stack, "a");
     let to = disk_below(&rt, &stack, "b");
     let mut output = ShortOut::new(rt.alloc(), 1, PLENTY).expect(&rt, "an output");
@@ -140,52 +134,16 @@ fn copies_join_where_both_sides_go_on(rt: HostRuntime) {
     join.begin(7);
     join.piece(copy(disk, 0, to, 16)).expect(&rt, "a copy");
     join.piece(copy(disk, 8, to, 24))
-        .expect(&rt, "a copy that goes on");
-    join.piece(copy(disk, 16, to, 40))
-        .expect(&rt, "one that goes on on one side");
-    join.finish().expect(&rt, "the last piece");
-    assert_eq!(&rt;
-        output.as_slice(),
-        "7 copy sda 0 16 sdb 16\n7 copy sda 16 8 sdb 40\n".as_bytes()
-    );
-}
-
-#[test]
-fn fills_join_and_writes_stand_apart(rt: HostRuntime) {
-    let stack = two_disks(&rt, rt.alloc());
-    let disk = disk_below(&rt, &stack, "a");
-    let to = disk_below(&rt, &stack, "b");
-    let mut output = ShortOut::new(rt.alloc(), PLENTY, PLENTY).expect(&rt, "an output");
-    let mut join = Join::new(&stack, &mut output);
+        .expect(&rt, "a copy that continues");
     let fill = Piece::Fill {
         len: 8,
         disk: to,
-        start: 0,
+        start: 32,
     };
     join.piece(fill).expect(&rt, "a fill");
-    let fill = Piece::Fill {
-        len: 8,
-        disk: to,
-        start: 8,
-    };
-    join.piece(fill).expect(&rt, "a fill that goes on");
-    // A write does not join the one on the other side of a copy.
-    let write = Piece::Write {
-        disk: to,
-        start: 0,
-        len: 1,
-    };
-    join.piece(write).expect(&rt, "a write");
-    join.piece(copy(disk, 8, to, 8)).expect(&rt, "a copy");
-    let write = Piece::Write {
-        disk: to,
-        start: 1,
-        len: 1,
-    };
-    join.piece(write).expect(&rt, "a write that goes on");
     join.finish().expect(&rt, "the last piece");
     assert_eq!(&rt;
         output.as_slice(),
-        "0 fill 16 sdb 0\n0 W sdb 0 1\n0 copy sda 8 8 sdb 8\n0 W sdb 1 1\n".as_bytes()
+        "7 copy sda 0 16 sdb 16\n7 fill 8 sdb 32\n".as_bytes()
     );
 }

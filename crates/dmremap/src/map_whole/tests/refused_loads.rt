@@ -1,10 +1,9 @@
-//! Loads that are refused: each kind in each part, and which of several faults is told.
+//! Loads that are refused: each kind in each part, and which of several faults is reported.
 //!
 //! A refused load has no output and status 1, so a row says only both texts and the message. The
-//! kinds that need a target which is not read yet have no row.
+//! kinds of targets that are not read yet have no row.
 
 use super::*;
-use std::alloc::AllocError;
 use std::test::Fail;
 
 /// Asserts that two texts are refused with a message, of which only its own words are given.
@@ -164,7 +163,7 @@ fn the_first_check_goes_first(rt: HostRuntime) -> Result<(), Fail> {
         (good, "s,a 8\nsdb x\nsdc\n\u{7f}", "disks: text at 4"),
         (good, "s,a 8\nsdb x\nsdc\n", "disks: syntax at 3"),
         (good, "s,a 8\nsdb x\n", "disks: field at 2"),
-        // The source's text goes before the disk list's, and both before what they describe.
+        // The source's text takes precedence over the disk list's, and both over what they describe.
         ("a,: 0 8 error\n", "\u{7f}", "source: name at 1"),
         (
             "a: 1 0 error\nb: 0 8 error\n",
@@ -276,7 +275,7 @@ fn several_devices(rt: HostRuntime) -> Result<(), Fail> {
             "d: 0 8 linear /dev/mapper/a 0\na: 0 8 linear /dev/mapper/b 0\nb: 0 8 linear /dev/mapper/a 0\n",
             "source: cycle at 2",
         ),
-        // A ring goes before a length, and is told at its first device.
+        // A ring takes precedence over a length, and is reported at its first device.
         (
             "a: 0 9 linear /dev/mapper/b 0\nb: 0 8 linear /dev/mapper/a 0\n",
             "source: cycle at 1",
@@ -299,7 +298,7 @@ fn several_devices(rt: HostRuntime) -> Result<(), Fail> {
         ),
         ("a: 0 8 zero\na: 9 8 zero\n", "source: gap at 2"),
         ("a: 0 8 zero\na: 7 8 zero\n", "source: overlap at 2"),
-        // Stripes go before ranges, over all devices.
+        // Stripes take precedence over ranges, over all devices.
         (
             "a: 0 200 linear sda 0\nb: 0 8 striped 3 1 sda 0 sda 0 sda 0\n",
             "source: stripe at 2",
@@ -313,25 +312,10 @@ fn several_devices(rt: HostRuntime) -> Result<(), Fail> {
     Ok(())
 }
 
-/// A text of so many letters between two others.
-fn around_letters(
-    alloc: Global,
-    before: &str,
-    letters: usize,
-    behind: &str,
-) -> Result<String, AllocError> {
-    let mut text = String::from_str(alloc, before)?;
-    for _ in 0..letters {
-        text.push('a')?;
-    }
-    text.push_str(behind)?;
-    Ok(text)
-}
-
 #[test]
 fn names_of_the_greatest_length(rt: HostRuntime) -> Result<(), Fail> {
     let alloc = rt.alloc();
-    // The greatest lengths pass this check, and show in the one behind it.
+    // The greatest lengths pass this check, and show in a later one.
     for (letters, words) in [(127, "source: gap at 1"), (128, "source: name at 1")] {
         let source = around_letters(alloc, "", letters, ": 1 8 error\n")?;
         check_refused(&rt, alloc, source.as_str(), VOLUME.disks, words)?;

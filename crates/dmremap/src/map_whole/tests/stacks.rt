@@ -26,7 +26,7 @@ fn stripes(rt: HostRuntime) {
             ..VOLUME
         },
         Case {
-            name: "stripes behind another line",
+            name: "stripes after another line",
             source: "a: 0 3 zero\na: 3 12 striped 3 2 sda 0 sda 10 sda 20\n",
             disks: "sda 24\n",
             requests: "W a 2 9\n",
@@ -109,7 +109,7 @@ fn lower_devices(rt: HostRuntime) {
     }
 }
 
-/// A device `d1` of 8 sectors on a disk, and so many in all, each on the one before.
+/// `count` devices of 8 sectors: `d1` on a disk, and each other on the one before it.
 fn chain(alloc: Global, count: usize) -> Result<String, AllocError> {
     let mut text = String::from_str(alloc, "d1: 0 8 linear sda 0\n")?;
     for below in 1..count {
@@ -144,8 +144,8 @@ fn the_greatest_depth(rt: HostRuntime) -> Result<(), Fail> {
     Ok(())
 }
 
-/// A device `d1` of 8 sectors on a disk, and so many in all, each of stripes of both halves of the
-/// one before. Three of them lead each sector back to its place.
+/// `count` devices of 8 sectors: `d1` on a disk, and each other of stripes over both halves of the one
+/// before it. Three levels of stripes lead each sector back to its place.
 fn halves(alloc: Global, count: usize) -> Result<String, AllocError> {
     let mut text = String::from_str(alloc, "d1: 0 8 linear sda 0\n")?;
     for below in 1..count {
@@ -174,7 +174,7 @@ fn stripes_of_stripes(rt: HostRuntime) -> Result<(), Fail> {
     Ok(())
 }
 
-/// So many devices of 8 sectors, each on the one after it, and the last on this.
+/// `count` devices of 8 sectors, each on the one after it, and the last on `last`.
 fn row(alloc: Global, count: usize, last: &str) -> Result<String, AllocError> {
     let mut text = String::new(alloc);
     for number in 1..count {
@@ -184,7 +184,7 @@ fn row(alloc: Global, count: usize, last: &str) -> Result<String, AllocError> {
     Ok(text)
 }
 
-/// So many devices of a line of zeros.
+/// `count` devices of one line of zeros.
 fn devices(alloc: Global, count: usize) -> Result<String, AllocError> {
     let mut text = String::new(alloc);
     for index in 0..count {
