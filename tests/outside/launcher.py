@@ -207,7 +207,7 @@ def runs(process):
         return False
 
 
-def becomes(is_so, seconds=10):
+def becomes(is_so, seconds=30):
     """Whether it is so within a while."""
     end = time.monotonic() + seconds
     while not is_so() and time.monotonic() < end:
