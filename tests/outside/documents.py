@@ -1,4 +1,5 @@
-"""The documents: the files that they name exist, and the outputs in the README are the program's."""
+"""The documents: the files and definitions that they name exist, and the outputs in the README are
+the program's."""
 
 import glob
 import os
@@ -6,27 +7,56 @@ import re
 
 # Where a path of this repository begins, as documents write it.
 PATH = re.compile(r"(?:crates|docs|examples|benches|tests)/[\w./*-]*[\w*]")
+# A file of definitions of a crate, and words that a document says are in files of a name.
+SPECS = re.compile(r"\b(\w+)/specs/([A-Z]\w*)")
+WORDS = re.compile(r"`([A-Z]\w*)` (?:\(((?:`\w+`(?:, )?)+)\)|(`\w+`))")
 RUNS = [("volume.table", "disks.txt", "requests.txt"), ("stack.table", "stack-disks.txt", "stack-requests.txt")]
 
 
 def check(tally, program, top):
-    check_paths(tally, top)
+    for document in [os.path.join(top, "README.md")] + sorted(glob.glob(os.path.join(top, "docs", "*.md"))):
+        name = os.path.relpath(document, top)
+        text = text_of(document)
+        lost = lost_paths(text, top)
+        tally.holds("files that %s names" % name, not lost, "there is no %s" % ", ".join(lost))
+        lost = lost_words(text, top)
+        tally.holds("definitions that %s names" % name, not lost, "there is no %s" % ", ".join(lost))
     check_examples(tally, program, top)
 
 
-def check_paths(tally, top):
-    for document in [os.path.join(top, "README.md")] + sorted(glob.glob(os.path.join(top, "docs", "*.md"))):
-        with open(document, encoding="utf-8") as it:
-            named = {re.sub("CRATE|NAME", "*", path) for path in PATH.findall(it.read())}
-        built = re.compile(r"/out(/|$)")
-        lost = sorted(it for it in named if not built.search(it) and not glob.glob(os.path.join(top, it)))
-        name = os.path.relpath(document, top)
-        tally.holds("files that %s names" % name, not lost, "there is no %s" % ", ".join(lost))
+def lost_paths(text, top):
+    """The paths that a text names and that aren't there. What is built isn't looked for."""
+    named = {re.sub("CRATE|NAME", "*", it) for it in PATH.findall(text) if not re.search(r"/out(/|$)", it)}
+    named |= {"crates/%s/specs/%s.antt" % it for it in SPECS.findall(text) + listed(text) if it[0] != "CRATE"}
+    return sorted(it for it in named if not glob.glob(os.path.join(top, it)))
+
+
+def listed(text):
+    """The files of definitions in a table that lists them for each crate."""
+    rows = re.search(r"\| Crate \| Files named here \|\n.*\n((?:\|.*\n)*)", text)
+    rows = re.findall(r"\| `(\w+)` \| (.*) \|", rows[1]) if rows else []
+    return [(crate, name) for crate, names in rows for name in re.findall(r"`(\w+)`", names)]
+
+
+def lost_words(text, top):
+    """The words that a text names after a file of definitions, and that no such file has."""
+    lost = []
+    for name, several, one in WORDS.findall(text):
+        files = glob.glob(os.path.join(top, "crates", "*", "specs", name + ".antt"))
+        there = "".join(text_of(it) for it in files)
+        for word in re.findall(r"\w+", several or one):
+            if files and not re.search(r"\b%s\b" % word, there):
+                lost.append("%s in %s" % (word, name))
+    return lost
+
+
+def text_of(path):
+    with open(path, encoding="utf-8") as it:
+        return it.read()
 
 
 def check_examples(tally, program, top):
-    with open(os.path.join(top, "README.md"), encoding="utf-8") as it:
-        readme = it.read()
+    readme = text_of(os.path.join(top, "README.md"))
     for names in RUNS:
         table, disks, requests = (os.path.join(top, "examples", it) for it in names)
         with open(requests, "rb") as given:

@@ -4,8 +4,12 @@ It runs here in a small tree of its own, in which `rt` is a script that tells ho
 
 import os
 import shutil
+import signal
+import subprocess
+import tempfile
+import time
 
-from harness import run
+from harness import Outcome, run
 
 TABLE = "a: 0 8 linear sda 4\n"
 DISKS = "sda 12\n"
@@ -30,6 +34,13 @@ echo "rt: this is $(basename "$PWD")"
 [ "$1" != run ] || [ -e out/dmremap ] || { mkdir -p out && cp "$PROGRAM" out/dmremap; }
 """
 
+# Tells who it is, and takes its time.
+SLOW_RT = """\
+#!/bin/sh
+echo $$ > "$CALLS"
+exec sleep 60
+"""
+
 # Writes its words, one a line.
 ECHO = """\
 #!/bin/sh
@@ -45,6 +56,7 @@ def check(tally, program, top, is_own):
     check_words(tally, tree)
     check_places(tally, tree)
     check_builds(tally, tree)
+    check_stopped(tally, tree)
 
 
 class Tree:
@@ -80,11 +92,14 @@ class Tree:
             with open(os.path.join(self.top, place), "a", encoding="utf-8") as it:
                 os.utime(it.fileno())
 
-    def run(self, words, script=None, variables=None, **how):
-        env = dict(os.environ, CALLS=self.calls, PROGRAM=self.program.path, **(variables or {}))
-        env["PATH"] = os.path.join(self.program.room, "bin") + os.pathsep + env["PATH"]
+    def environment(self, **variables):
+        """The variables of a run, in which `rt` is that of this tree."""
         self.program.file("calls")
-        return run([script or self.script, *words], env=env, **how)
+        path = os.path.join(self.program.room, "bin") + os.pathsep + os.environ["PATH"]
+        return dict(os.environ, PATH=path, CALLS=self.calls, PROGRAM=self.program.path, **variables)
+
+    def run(self, words, script=None, variables=None, **how):
+        return run([script or self.script, *words], env=self.environment(**(variables or {})), **how)
 
     def called(self):
         with open(self.calls, encoding="utf-8") as it:
@@ -161,3 +176,40 @@ def check_builds(tally, tree):
                "dmremap: the build of middle failed\n")
     tally.holds("./dmremap builds nothing above what failed", tree.called() == calls[:2],
                 "rt was called: %s" % tree.called())
+
+
+def check_stopped(tally, tree):
+    """A build that is interrupted, or told to end, leaves nothing running."""
+    os.chmod(tree.program.file("bin/rt", SLOW_RT), 0o755)
+    for number, status in ((signal.SIGINT, 130), (signal.SIGTERM, 143)):
+        name = "./dmremap whose build gets " + number.name
+        # Whatever still ran would keep pipes open.
+        with tempfile.TemporaryFile() as out, tempfile.TemporaryFile() as err:
+            # Who calls these tests may have told all below to pass the signal over.
+            ran = subprocess.Popen([tree.script, "--help"], env=tree.environment(), stdin=subprocess.DEVNULL,
+                                   stdout=out, stderr=err, preexec_fn=lambda: signal.signal(number, signal.SIG_DFL))
+            has_begun = becomes(lambda: tree.called() != [])
+            ran.send_signal(number)
+            ran.wait()
+            out.seek(0)
+            err.seek(0)
+            tally.same(name, Outcome(ran.returncode, out.read(), err.read()), status, "", BUILDING)
+        is_gone = has_begun and becomes(lambda: not runs(tree.called()[0]))
+        tally.holds(name + " leaves nothing running", is_gone, "rt still runs, or never did")
+
+
+def runs(process):
+    """Whether a process runs; one that has ended may still be listed."""
+    try:
+        with open("/proc/%s/stat" % process, encoding="utf-8") as it:
+            return it.read().rpartition(")")[2].split()[0] != "Z"
+    except OSError:
+        return False
+
+
+def becomes(is_so, seconds=30):
+    """Whether it is so within a while."""
+    end = time.monotonic() + seconds
+    while not is_so() and time.monotonic() < end:
+        time.sleep(0.02)
+    return is_so()
