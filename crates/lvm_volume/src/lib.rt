@@ -5,5 +5,9 @@
 #![tactic(auto)]
 
 mod fault;
+mod names;
+#[cfg(test)]
+mod tests;
 
 pub use fault::NameFault;
+pub use names::{Parts, build_name, split_name, undouble};
