@@ -11,3 +11,4 @@ pub mod TableDescribed
 pub mod TableFields
 pub mod TargetRows
 pub mod TableRuns
+pub mod Growth

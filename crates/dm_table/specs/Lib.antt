@@ -8,3 +8,4 @@ pub mod TableReading
 pub mod RequestLine
 pub mod DeviceIo
 pub mod ShortIo
+pub mod WriteAll

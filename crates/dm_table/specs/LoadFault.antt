@@ -1,21 +1,26 @@
--- Checks in a fixed order, and the one fault that is answered.
+-- Checks in a fixed order, and the one fault that is returned: the words that every check of a load is told in.
 use Rattle.std.specs.Prelude.{◌≡◌, ◌≢◌, ℕ, suc, Bool, not, ◌&&◌, nat_le, List, [], ◌∷◌, Option, Some, None, Result, Ok, Err, if◌then◌else◌}
 use Rattle.std.specs.List.{list_all}
 use Rattle.dm_table.specs.Fields.{parts_at}
 use Rattle.dm_table.specs.declared.place.Part.{Part}
+use Rattle.dm_table.specs.declared.place.Place.{Place}
 use Rattle.dm_table.specs.declared.load_fault.LoadKind.{LoadKind}
 use Rattle.dm_table.specs.declared.load_fault.LoadKind.TheVariants.{Memory, NotText, Syntax}
 use Rattle.dm_table.specs.declared.load_fault.LoadFault.{LoadFault}
 
+-- a fault of a kind at a place
+abbrev pub fault : LoadKind → Place → LoadFault
+fault kind at = record { kind = kind; at = at }
+
 -- a fault of a kind at a number of a part
 abbrev pub fault_at : Part → LoadKind → ℕ → LoadFault
-fault_at part kind number = record { kind = kind; at = record { part = part; number = number } }
+fault_at part kind number = fault kind (record { part = part; number = number })
 
--- want of memory while a part was read
+-- out of memory while a part was read
 abbrev pub IsMemoryFault : Part → LoadFault → Type 0
 IsMemoryFault part fault = fault ≡ fault_at part Memory 0
 
--- the first of what a check found, and where it found nothing, what is answered later
+-- the first of what a check found, and where it found nothing, what comes later
 abbrev pub first_or : List LoadFault → Option LoadFault → Option LoadFault
 first_or [] later = later
 first_or (fault ∷ faults) later = Some fault
@@ -25,7 +30,12 @@ abbrev pub first_fault : List (List LoadFault) → Option LoadFault
 first_fault [] = None
 first_fault (check ∷ checks) = first_or check (first_fault checks)
 
--- the faults of one kind at the elements that are bad, numbered from n
+-- the faults of a kind at the elements that are bad, in their order
+abbrev pub faults_by : {X : Type 0} → LoadKind → (X → Place) → (X → Bool) → List X → List LoadFault
+faults_by kind place bad [] = []
+faults_by kind place bad (x ∷ xs) = if bad x then fault kind (place x) ∷ faults_by kind place bad xs else faults_by kind place bad xs
+
+-- the same at elements that are told by their number in a part, from n on
 abbrev pub faults_from : {X : Type 0} → Part → LoadKind → (X → Bool) → ℕ → List X → List LoadFault
 faults_from part kind bad n [] = []
 faults_from part kind bad n (x ∷ xs) =
@@ -36,7 +46,7 @@ abbrev pub unless : {X : Type 0} → Option LoadFault → X → Result X LoadFau
 unless (Some fault) x = Err fault
 unless None x = Ok x
 
--- what a call answered, seen by view, is this reading, save that want of memory may stand in its place
+-- what a call returned, seen by view, is this reading, save that out of memory may stand in its place
 abbrev pub Answers : {X Y : Type 0} → Part → (X → Y) → Result X LoadFault → Result Y LoadFault → Type 0
 Answers part view (Ok x) reading = reading ≡ Ok (view x)
 Answers part view (Err fault) reading = (fault.kind ≡ Memory → IsMemoryFault part fault) × (fault.kind ≢ Memory → reading ≡ Err fault)

@@ -10,6 +10,9 @@ use dm_table::{ShortIn, ShortOut};
 use std::process::Abort;
 
 mod bad_requests;
+mod columns;
+mod counted;
+mod fault_texts;
 mod faults;
 mod intervals;
 mod large_parts;

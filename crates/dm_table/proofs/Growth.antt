@@ -1,0 +1,64 @@
+-- Lists that only grow, told by what is new.
+use Rattle.std.proofs.Common.{Result, Ok, Err, OnErr, [], ◌≡◌, ◌≤◌, ℕ, ◌+◌, ◌-◌, List, ◌++◌, length, take, drop, sym, ap, ◌∙◌, append_assoc, take-append-drop, arith}
+use Rattle.std.proofs.Math.Seq.{take-add, drop-append_seam}
+use Rattle.std.proofs.lemmas.List.{take_rest, append-nil, drop-drop, length-drop}
+use Rattle.dm_table.specs.DeviceIo.{since}
+use Rattle.dm_table.specs.WriteAll.{IsBeginning}
+
+-- what was put behind a list
+pub since_is : (old new more : List ℕ) → new ≡ old ++ more → since old new ≡ more
+since_is old new more e = ap (drop (length old)) e ∙ drop-append_seam old more
+
+-- a list behind which nothing was put
+pub quiet_since : (old new held : List ℕ) → new ≡ old ++ [] → held ≡ held ++ since old new
+quiet_since old new held e = sym (append-nil held) ∙ ap (λ xs. held ++ xs) (sym (since_is old new [] e))
+
+-- what was put behind it in two steps
+pub since_more : (old mid new : List ℕ) → mid ≡ old ++ since old mid → new ≡ mid ++ since mid new → since old new ≡ since old mid ++ since mid new
+since_more old mid new e f =
+    since_is old new (since old mid ++ since mid new) (f ∙ ap (λ xs. xs ++ since mid new) e ∙ append_assoc old (since old mid) (since mid new))
+
+-- a list that grew in two steps grew
+pub grows_more : (old mid new : List ℕ) → mid ≡ old ++ since old mid → new ≡ mid ++ since mid new → new ≡ old ++ since old new
+grows_more old mid new e f =
+    f ∙ ap (λ xs. xs ++ since mid new) e ∙ append_assoc old (since old mid) (since mid new) ∙ ap (λ xs. old ++ xs) (sym (since_more old mid new e f))
+
+-- the first of some bytes are a beginning of them
+pub front_beginning : (old new bytes : List ℕ) (at : ℕ) → new ≡ old ++ take at bytes → IsBeginning bytes (since old new)
+front_beginning old new bytes at e =
+    (drop at bytes, sym (take-append-drop at bytes) ∙ ap (λ xs. xs ++ drop at bytes) (sym (since_is old new (take at bytes) e)))
+
+-- what is left of a rest behind its first n bytes
+abbrev pub behind : List ℕ → ℕ → List ℕ
+behind rest n = take (length rest - n) (drop n rest)
+
+-- how many bytes stand before a rest of them
+abbrev pub before : List ℕ → List ℕ → ℕ
+before bytes rest = length bytes - length rest
+
+behind_len : (rest : List ℕ) (n : ℕ) → length (behind rest n) ≡ length rest - n
+behind_len rest n = ap length (take_rest rest n) ∙ length-drop n rest
+
+pub behind_within : (bytes rest : List ℕ) (n : ℕ) → length rest ≤ length bytes → length (behind rest n) ≤ length bytes
+behind_within bytes rest n within = let len = behind_len rest n in omega (arith, len, within)
+
+before_behind : (bytes rest : List ℕ) (n : ℕ) → length rest ≤ length bytes → n ≤ length rest → before bytes (behind rest n) ≡ before bytes rest + n
+before_behind bytes rest n within few = let len = behind_len rest n in omega (arith, len, within, few)
+
+-- a rest of some bytes, a write further on
+pub rest_step : (bytes rest : List ℕ) (n : ℕ) → length rest ≤ length bytes → n ≤ length rest → rest ≡ drop (before bytes rest) bytes → behind rest n ≡ drop (before bytes (behind rest n)) bytes
+rest_step bytes rest n within few is =
+    take_rest rest n ∙ ap (drop n) is ∙ drop-drop n (before bytes rest) bytes ∙ ap (λ at. drop at bytes) (sym (before_behind bytes rest n within few))
+
+-- the bytes before it are written then
+pub write_step : (old mid new bytes rest : List ℕ) (n : ℕ) → length rest ≤ length bytes → n ≤ length rest → rest ≡ drop (before bytes rest) bytes → mid ≡ old ++ take (before bytes rest) bytes → new ≡ mid ++ take n rest → new ≡ old ++ take (before bytes (behind rest n)) bytes
+write_step old mid new bytes rest n within few is e f =
+    let at = before bytes rest in
+    f ∙ ap (λ xs. mid ++ take n xs) is ∙ ap (λ xs. xs ++ take n (drop at bytes)) e
+    ∙ append_assoc old (take at bytes) (take n (drop at bytes)) ∙ ap (λ xs. old ++ xs) (sym (take-add at n bytes))
+    ∙ ap (λ at. old ++ take at bytes) (sym (before_behind bytes rest n within few))
+
+-- a fact is one at an error
+pub on_err : {T E : Type 0} (r : Result T E) (P : Type 0) → P → OnErr r P
+on_err (Ok x) P fact = tt
+on_err (Err e) P fact = fact

@@ -1,0 +1,32 @@
+//! Texts of a fixed capacity, put together with no memory taken.
+//!
+//! Lines and messages have a greatest length by their limits, so a buffer on the stack holds any of
+//! them. A caller shows that there is room: nothing is ever cut off.
+
+ghost use Rattle.std.specs.Prelude.{◌≡◌, ◌++◌, ◌+◌, ◌≤◌, length, decimal};
+
+use arrayvec::ArrayVec;
+
+/// The most digits of a number of 64 bits.
+pub const MOST_DIGITS: usize = 20;
+
+/// Appends bytes to a text that has room for them.
+pub fn put<const ROOM: usize>(text: &mut ArrayVec<u8, ROOM>, bytes: &[u8])
+    requires { length text.old.items + length bytes.now ≤ ROOM }
+    ensures text { text.new.items ≡ text.old.items ++ bytes.now }
+    ensures len { length text.new.items ≡ length text.old.items + length bytes.now }
+{
+    let Ok(()) = text.try_extend_from_slice(bytes) else {
+        unreachable!()
+    };
+}
+
+/// Appends a number, in decimal digits, to a text that has room for any.
+pub fn put_number<const ROOM: usize>(text: &mut ArrayVec<u8, ROOM>, number: u64)
+    requires { length text.old.items + MOST_DIGITS ≤ ROOM }
+    ensures text { text.new.items ≡ text.old.items ++ decimal number }
+    ensures len { length text.new.items ≤ length text.old.items + MOST_DIGITS }
+{
+    let mut buffer = itoa::Buffer::new();
+    put(text, buffer.format(number).as_bytes());
+}
