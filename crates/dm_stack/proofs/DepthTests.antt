@@ -1,7 +1,7 @@
 -- Checks that test each device by its id.
-use Rattle.std.proofs.Common.{◌≡◌, ℕ, suc, ◌+◌, ◌<◌, Bool, true, false, List, [], ◌∷◌, Some, None, arith, refl, sym, ap, ◌∙◌, drop, get_or, length}
+use Rattle.std.proofs.Common.{◌≡◌, ℕ, suc, ◌+◌, ◌<◌, Bool, List, [], ◌∷◌, None, arith, refl, ap, ◌∙◌, get_or, length}
 use Rattle.std.specs.Prelude.{nat_lt}
-use Rattle.std.proofs.lemmas.List.{drop_more, length-map}
+use Rattle.std.proofs.lemmas.List.{length-map}
 use Rattle.dm_table.specs.declared.load_fault.LoadFault.{LoadFault}
 use Rattle.dm_table.specs.declared.load_fault.LoadKind.{LoadKind}
 use Rattle.dm_table.specs.declared.load_fault.LoadKind.TheVariants.{Deep}
@@ -9,19 +9,8 @@ use Rattle.dm_table.specs.declared.table.DeviceSpec.{DeviceSpec}
 use Rattle.dm_table.specs.LoadFault.{first_or}
 use Rattle.dm_stack.specs.Description.{Description, device_links, links}
 use Rattle.dm_stack.specs.Graph.{depths_to}
-use Rattle.dm_stack.specs.Soundness.{deep, depth_of, fault, faults_at}
+use Rattle.dm_stack.specs.Soundness.{deep, depth_of, faults_at}
 use Rattle.dm_stack.proofs.RoundLemmas.{depths_to-at, depths_to-length}
-
-pub at_stops : (kind : LoadKind) (bad : ℕ → Bool) (devices : List DeviceSpec) (i : ℕ) (device : DeviceSpec) → i < length devices → device ≡ get_or devices i device → bad i ≡ true → first_or (faults_at kind bad i (drop i devices)) None ≡ Some (fault kind device.at)
-at_stops kind bad devices i device within is here =
-    let at : drop i devices ≡ device ∷ drop (i + 1) devices = drop_more devices i device within ∙ ap (λ (y : DeviceSpec). y ∷ drop (i + 1) devices) (sym is) in
-    rw (at, here) refl
-
-pub at_passes : (kind : LoadKind) (bad : ℕ → Bool) (devices : List DeviceSpec) (i : ℕ) (device : DeviceSpec) → i < length devices → device ≡ get_or devices i device → bad i ≡ false → first_or (faults_at kind bad (i + 1) (drop (i + 1) devices)) None ≡ first_or (faults_at kind bad i (drop i devices)) None
-at_passes kind bad devices i device within is here =
-    let at : drop i devices ≡ device ∷ drop (i + 1) devices = drop_more devices i device within ∙ ap (λ (y : DeviceSpec). y ∷ drop (i + 1) devices) (sym is) in
-    let next : i + 1 ≡ suc i = omega arith in
-    rw (at, here, next) refl
 
 -- tests that agree on the ids of these devices
 same_tests : (kind : LoadKind) (p q : ℕ → Bool) (i : ℕ) (devices : List DeviceSpec) → ((id : ℕ) → id < i + length devices → p id ≡ q id) → faults_at kind p i devices ≡ faults_at kind q i devices

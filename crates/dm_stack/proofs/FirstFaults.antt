@@ -1,31 +1,21 @@
 -- The first fault of a check, by the element at which it is found.
 use Rattle.std.proofs.Common.{◌≡◌, ℕ, zero, suc, ◌+◌, ◌-◌, ◌<◌, ◌≤◌, Bool, true, false, cond, List, [], ◌∷◌, ◌++◌, Option, Some, None, refl, sym, ap, subst, ◌∙◌, arith, length, get_or, drop}
-use Rattle.std.specs.Prelude.{find, slice_get, nat_lt, ◌^◌, ◌==◌}
-use Rattle.std.specs.List.{flat_map}
-use Rattle.std.proofs.lemmas.Bool.{eqb-true}
+use Rattle.std.specs.Prelude.{find, slice_get}
 use Rattle.std.proofs.lemmas.List.{drop_more}
 use Rattle.dm_table.specs.declared.place.Place.{Place}
 use Rattle.dm_table.specs.declared.table.Line.{Line}
 use Rattle.dm_table.specs.declared.table.DeviceSpec.{DeviceSpec}
 use Rattle.dm_table.specs.declared.load_fault.LoadKind.{LoadKind}
-use Rattle.dm_table.specs.declared.load_fault.LoadKind.TheVariants.{Limit, Empty}
+use Rattle.dm_table.specs.declared.load_fault.LoadKind.TheVariants.{Limit}
 use Rattle.dm_table.specs.declared.load_fault.LoadFault.{LoadFault}
-use Rattle.dm_table.specs.LoadFault.{first_or}
+use Rattle.dm_table.specs.LoadFault.{fault, faults_by, first_or}
 use Rattle.dm_stack.specs.Description.{Description, end_of}
-use Rattle.dm_stack.specs.Soundness.{fault, faults_by, past, all_lines, too_many, is_large, too_large, empty_in, empty, without_lines}
+use Rattle.dm_stack.specs.Soundness.{past, all_lines, too_many}
 
 -- the fault at an element that was found, or else a later one
 abbrev pub at_found : {X : Type 0} → LoadKind → (X → Place) → Option X → Option LoadFault → Option LoadFault
 at_found kind place (Some x) later = Some (fault kind (place x))
 at_found kind place None later = later
-
-pub stops : {X : Type 0} (kind : LoadKind) (place : X → Place) (found : Option X) (x : X) (later : Option LoadFault) → found ≡ Some x → at_found kind place found later ≡ Some (fault kind (place x))
-stops kind place None x later e = absurd cc
-stops {X} kind place (Some y) x later e = let same : y ≡ x = cc in ap (λ (z : X). Some (fault kind (place z))) same
-
-pub passes_on : {X : Type 0} (kind : LoadKind) (place : X → Place) (found : Option X) (later : Option LoadFault) → found ≡ None → at_found kind place found later ≡ later
-passes_on kind place None later e = refl
-passes_on kind place (Some x) later e = absurd cc
 
 pub first_append : (check more : List LoadFault) (later : Option LoadFault) → first_or (check ++ more) later ≡ first_or check (first_or more later)
 first_append [] more later = refl
@@ -39,6 +29,15 @@ first_passed (fault ∷ faults) later e = absurd cc
 pub first_stopped : (check : List LoadFault) (later : Option LoadFault) (at : LoadFault) → first_or check None ≡ Some at → first_or check later ≡ Some at
 first_stopped [] later at e = absurd cc
 first_stopped (fault ∷ faults) later at e = e
+
+by_append_step : (at : LoadFault) (xs ys more : List LoadFault) (b : Bool) → xs ≡ ys ++ more → cond b (at ∷ xs) xs ≡ cond b (at ∷ ys) ys ++ more
+by_append_step at xs ys more true e = ap (λ (later : List LoadFault). at ∷ later) e
+by_append_step at xs ys more false e = e
+
+pub by_append : {X : Type 0} (kind : LoadKind) (place : X → Place) (bad : X → Bool) (xs ys : List X) → faults_by kind place bad (xs ++ ys) ≡ faults_by kind place bad xs ++ faults_by kind place bad ys
+by_append kind place bad [] ys = refl
+by_append kind place bad (x ∷ xs) ys =
+    by_append_step (fault kind (place x)) (faults_by kind place bad (xs ++ ys)) (faults_by kind place bad xs) (faults_by kind place bad ys) (bad x) (by_append kind place bad xs ys)
 
 by_step : {X : Type 0} (kind : LoadKind) (place : X → Place) (x : X) (rest : List LoadFault) (found : Option X) (later : Option LoadFault) (b : Bool) → first_or rest later ≡ at_found kind place found later → first_or (cond b (fault kind (place x) ∷ rest) rest) later ≡ at_found kind place (cond b (Some x) found) later
 by_step kind place x rest found later true e = refl
@@ -55,49 +54,25 @@ first_past zero place (x ∷ xs) later = refl
 first_past (suc most) place [] later = refl
 first_past (suc most) place (x ∷ xs) later = first_past most place xs later
 
--- The checks of counts, of numbers and of empty parts
+-- The check of counts
 
-pub first_too_many : (stack : Description) → first_or (too_many stack) None ≡ at_found Limit (λ device. device.at) (slice_get stack.devices 1024) (at_found Limit (λ disk. disk.at) (slice_get stack.disks 1024) (at_found Limit (λ line. line.at) (slice_get (all_lines stack.devices) 65536) None))
-first_too_many stack =
+many_parts : (stack : Description) → first_or (too_many stack) None ≡ first_or (past 1024 (λ device. device.at) stack.devices) (first_or (past 1024 (λ disk. disk.at) stack.disks) (first_or (past 65536 (λ line. line.at) (all_lines stack.devices)) None))
+many_parts stack =
     first_append (past 1024 (λ device. device.at) stack.devices ++ past 1024 (λ disk. disk.at) stack.disks) (past 65536 (λ line. line.at) (all_lines stack.devices)) None
     ∙ first_append (past 1024 (λ device. device.at) stack.devices) (past 1024 (λ disk. disk.at) stack.disks) _
-    ∙ first_past 1024 (λ device. device.at) stack.devices _
-    ∙ ap (at_found Limit (λ device. device.at) (slice_get stack.devices 1024)) (first_past 1024 (λ disk. disk.at) stack.disks _
-    ∙ ap (at_found Limit (λ disk. disk.at) (slice_get stack.disks 1024)) (first_past 65536 (λ line. line.at) (all_lines stack.devices) None))
 
-pub first_too_large : (stack : Description) → first_or (too_large stack) None ≡ at_found Limit (λ line. line.at) (find is_large (all_lines stack.devices)) (at_found Limit (λ disk. disk.at) (find (λ disk. nat_lt (2 ^ 50) disk.len) stack.disks) None)
-first_too_large stack =
-    first_append (faults_by Limit (λ line. line.at) is_large (all_lines stack.devices)) (faults_by Limit (λ disk. disk.at) (λ disk. nat_lt (2 ^ 50) disk.len) stack.disks) None
-    ∙ first_by Limit (λ line. line.at) is_large (all_lines stack.devices) _
-    ∙ ap (at_found Limit (λ line. line.at) (find is_large (all_lines stack.devices))) (first_by Limit (λ disk. disk.at) (λ disk. nat_lt (2 ^ 50) disk.len) stack.disks None)
+pub many_devices : (stack : Description) (found : LoadFault) → first_or (past 1024 (λ device. device.at) stack.devices) None ≡ Some found → first_or (too_many stack) None ≡ Some found
+many_devices stack found e = many_parts stack ∙ first_stopped (past 1024 (λ device. device.at) stack.devices) _ found e
 
-pub has_no_lines : (device : DeviceSpec) (lines : List Line) (later : Option LoadFault) → (length lines == 0) ≡ true → first_or (without_lines device lines) later ≡ Some (fault Empty device.at)
-has_no_lines device [] later e = refl
-has_no_lines device (line ∷ lines) later e = absurd (omega (arith, eqb-true (suc (length lines)) 0 e))
+pub many_disks : (stack : Description) (found : LoadFault) → first_or (past 1024 (λ device. device.at) stack.devices) None ≡ None → first_or (past 1024 (λ disk. disk.at) stack.disks) None ≡ Some found → first_or (too_many stack) None ≡ Some found
+many_disks stack found few e = many_parts stack ∙ first_passed (past 1024 (λ device. device.at) stack.devices) _ few ∙ first_stopped (past 1024 (λ disk. disk.at) stack.disks) _ found e
 
-pub has_lines : (device : DeviceSpec) (lines : List Line) (later : Option LoadFault) → (length lines == 0) ≡ false → first_or (without_lines device lines) later ≡ later
-has_lines device [] later e = absurd cc
-has_lines device (line ∷ lines) later e = refl
-
-pub first_empty_in : (device : DeviceSpec) → first_or (empty_in device) None ≡ first_or (without_lines device device.lines) (at_found Empty (λ line. line.at) (find (λ line. line.len == 0) device.lines) None)
-first_empty_in device =
-    first_append (without_lines device device.lines) _ None ∙ ap (first_or (without_lines device device.lines)) (first_by Empty (λ line. line.at) (λ line. line.len == 0) device.lines None)
-
-pub first_empty : (stack : Description) → first_or (empty stack) None ≡ first_or (flat_map empty_in stack.devices) (at_found Empty (λ disk. disk.at) (find (λ disk. disk.len == 0) stack.disks) None)
-first_empty stack =
-    first_append (flat_map empty_in stack.devices) _ None ∙ ap (first_or (flat_map empty_in stack.devices)) (first_by Empty (λ disk. disk.at) (λ disk. disk.len == 0) stack.disks None)
+pub many_lines : (stack : Description) (found : Option Line) → first_or (past 1024 (λ device. device.at) stack.devices) None ≡ None → first_or (past 1024 (λ disk. disk.at) stack.disks) None ≡ None → found ≡ slice_get (all_lines stack.devices) 65536 → first_or (too_many stack) None ≡ at_found Limit (λ line. line.at) found None
+many_lines stack found few_devices few_disks is =
+    many_parts stack ∙ first_passed (past 1024 (λ device. device.at) stack.devices) _ few_devices ∙ first_passed (past 1024 (λ disk. disk.at) stack.disks) _ few_disks
+    ∙ first_past 65536 (λ line. line.at) (all_lines stack.devices) None ∙ ap (λ (line : Option Line). at_found Limit (λ l. l.at) line None) (sym is)
 
 -- A check that runs over elements one after the other
-
-pub each_passed : {X : Type 0} (check : X → List LoadFault) (xs : List X) (i : ℕ) (x : X) → i < length xs → x ≡ get_or xs i x → first_or (check x) None ≡ None → first_or (flat_map check (drop (i + 1) xs)) None ≡ first_or (flat_map check (drop i xs)) None
-each_passed {X} check xs i x within is e =
-    let at : drop i xs ≡ x ∷ drop (i + 1) xs = drop_more xs i x within ∙ ap (λ (y : X). y ∷ drop (i + 1) xs) (sym is) in
-    rw at (sym (first_append (check x) (flat_map check (drop (i + 1) xs)) None ∙ first_passed (check x) (first_or (flat_map check (drop (i + 1) xs)) None) e))
-
-pub each_stopped : {X : Type 0} (check : X → List LoadFault) (xs : List X) (i : ℕ) (x : X) (at : LoadFault) → i < length xs → x ≡ get_or xs i x → first_or (check x) None ≡ Some at → first_or (flat_map check (drop i xs)) None ≡ Some at
-each_stopped {X} check xs i x fault within is e =
-    let at : drop i xs ≡ x ∷ drop (i + 1) xs = drop_more xs i x within ∙ ap (λ (y : X). y ∷ drop (i + 1) xs) (sym is) in
-    rw at (first_append (check x) (flat_map check (drop (i + 1) xs)) None ∙ first_stopped (check x) (first_or (flat_map check (drop (i + 1) xs)) None) fault e)
 
 -- An element of lists in a row
 

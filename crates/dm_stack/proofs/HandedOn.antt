@@ -10,10 +10,10 @@ use Rattle.dm_table.specs.declared.table.DeviceSpec.{DeviceSpec}
 use Rattle.dm_table.specs.declared.load_fault.LoadKind.{LoadKind}
 use Rattle.dm_table.specs.declared.load_fault.LoadKind.TheVariants.{Limit, Twice, Empty, Gap, Overlap, Unknown, Deep, Stripe, Range, Memory}
 use Rattle.dm_table.specs.declared.load_fault.LoadFault.{LoadFault}
-use Rattle.dm_table.specs.LoadFault.{first_or, first_fault}
+use Rattle.dm_table.specs.LoadFault.{fault, faults_by, first_or, first_fault}
 use Rattle.dm_stack.specs.Description.{Description, end_of}
 use Rattle.dm_stack.specs.Load.{IsLateFault}
-use Rattle.dm_stack.specs.Soundness.{HaveSmallEnds, WithBefore, all_lines, checks_after, checks_before, deep, depth_of, empty, empty_in, fault, faults_at, faults_by, has_bad_stripes, is_far, is_large, is_misplaced, is_repeated, is_unknown, misplaced, misplaced_in, misplaced_kind, passes_end, past, range, stripe, too_large, too_many, twice, twice_in, unknown, with_before, without_lines}
+use Rattle.dm_stack.specs.Soundness.{HaveSmallEnds, WithBefore, all_lines, checks_after, checks_before, deep, depth_of, empty, empty_in, faults_at, has_bad_stripes, is_far, is_large, is_misplaced, is_repeated, is_unknown, misplaced, misplaced_in, misplaced_kind, passes_end, past, range, stripe, too_large, too_many, twice, twice_in, unknown, with_before, without_lines}
 use Rattle.dm_stack.specs.Span.{spans}
 use Rattle.dm_stack.proofs.Passes.{all_parts, append_none, faults_by_none}
 
@@ -43,12 +43,12 @@ ends_within stack e =
 
 -- Faults that don't mean that memory ran out
 
-abbrev pub IsFound : LoadFault → Type 0
-IsFound fault = fault.kind ≢ Memory
+abbrev pub IsNotMemory : LoadFault → Type 0
+IsNotMemory fault = fault.kind ≢ Memory
 
-pub found_first : (check : List LoadFault) (later : Option LoadFault) (at : LoadFault) → AllByRecursion IsFound check → (later ≡ Some at → IsFound at) → first_or check later ≡ Some at → IsFound at
-found_first [] later at found more e = more e
-found_first (fault ∷ faults) later at found more e = let same : fault.kind ≡ at.kind = cc in λ memory. found.0 (same ∙ memory)
+pub first_not_memory : (check : List LoadFault) (later : Option LoadFault) (at : LoadFault) → AllByRecursion IsNotMemory check → (later ≡ Some at → IsNotMemory at) → first_or check later ≡ Some at → IsNotMemory at
+first_not_memory [] later at found more e = more e
+first_not_memory (fault ∷ faults) later at found more e = let same : fault.kind ≡ at.kind = cc in λ memory. found.0 (same ∙ memory)
 
 pub all_append : {X : Type 0} (P : X → Type 0) (xs ys : List X) → AllByRecursion P xs → AllByRecursion P ys → AllByRecursion P (xs ++ ys)
 all_append P [] ys h k = k
@@ -58,72 +58,72 @@ all_each : {X Y : Type 0} (P : Y → Type 0) (f : X → List Y) (xs : List X) �
 all_each P f [] each = tt
 all_each P f (x ∷ xs) each = all_append P (f x) (flat_map f xs) (each x) (all_each P f xs each)
 
-cond_found : (at : LoadFault) (later : List LoadFault) (b : Bool) → IsFound at → AllByRecursion IsFound later → AllByRecursion IsFound (cond b (at ∷ later) later)
-cond_found at later true here more = (here, more)
-cond_found at later false here more = more
+cond_not_memory : (at : LoadFault) (later : List LoadFault) (b : Bool) → IsNotMemory at → AllByRecursion IsNotMemory later → AllByRecursion IsNotMemory (cond b (at ∷ later) later)
+cond_not_memory at later true here more = (here, more)
+cond_not_memory at later false here more = more
 
-by_found : {X : Type 0} (kind : LoadKind) (place : X → Place) (bad : X → Bool) (xs : List X) → kind ≢ Memory → AllByRecursion IsFound (faults_by kind place bad xs)
-by_found kind place bad [] other = tt
-by_found kind place bad (x ∷ xs) other = cond_found (fault kind (place x)) (faults_by kind place bad xs) (bad x) other (by_found kind place bad xs other)
+by_not_memory : {X : Type 0} (kind : LoadKind) (place : X → Place) (bad : X → Bool) (xs : List X) → kind ≢ Memory → AllByRecursion IsNotMemory (faults_by kind place bad xs)
+by_not_memory kind place bad [] other = tt
+by_not_memory kind place bad (x ∷ xs) other = cond_not_memory (fault kind (place x)) (faults_by kind place bad xs) (bad x) other (by_not_memory kind place bad xs other)
 
-without_found : (device : DeviceSpec) (lines : List Line) → AllByRecursion IsFound (without_lines device lines)
-without_found device [] = (λ e. cc, tt)
-without_found device (line ∷ lines) = tt
+without_not_memory : (device : DeviceSpec) (lines : List Line) → AllByRecursion IsNotMemory (without_lines device lines)
+without_not_memory device [] = (λ e. cc, tt)
+without_not_memory device (line ∷ lines) = tt
 
-kind_found : (at : Place) (b : Bool) → IsFound (fault (cond b Gap Overlap) at)
-kind_found at true = λ e. cc
-kind_found at false = λ e. cc
+kind_not_memory : (at : Place) (b : Bool) → IsNotMemory (fault (cond b Gap Overlap) at)
+kind_not_memory at true = λ e. cc
+kind_not_memory at false = λ e. cc
 
-each_found : (lines : List (WithBefore Line)) → AllByRecursion IsFound (map (λ line. fault (misplaced_kind line) line.it.at) lines)
-each_found [] = tt
-each_found (line ∷ lines) = (kind_found line.it.at (nat_lt (end_of line.before) line.it.start), each_found lines)
+each_not_memory : (lines : List (WithBefore Line)) → AllByRecursion IsNotMemory (map (λ line. fault (misplaced_kind line) line.it.at) lines)
+each_not_memory [] = tt
+each_not_memory (line ∷ lines) = (kind_not_memory line.it.at (nat_lt (end_of line.before) line.it.start), each_not_memory lines)
 
-many_found : (stack : Description) → AllByRecursion IsFound (too_many stack)
-many_found stack =
-    all_append IsFound (past 1024 (λ device. device.at) stack.devices ++ past 1024 (λ disk. disk.at) stack.disks) (past 65536 (λ line. line.at) (all_lines stack.devices))
-    (all_append IsFound (past 1024 (λ device. device.at) stack.devices) (past 1024 (λ disk. disk.at) stack.disks)
-    (by_found Limit (λ device. device.at) (λ device. true) (drop 1024 stack.devices) (λ e. cc)) (by_found Limit (λ disk. disk.at) (λ disk. true) (drop 1024 stack.disks) (λ e. cc)))
-    (by_found Limit (λ line. line.at) (λ line. true) (drop 65536 (all_lines stack.devices)) (λ e. cc))
+many_not_memory : (stack : Description) → AllByRecursion IsNotMemory (too_many stack)
+many_not_memory stack =
+    all_append IsNotMemory (past 1024 (λ device. device.at) stack.devices ++ past 1024 (λ disk. disk.at) stack.disks) (past 65536 (λ line. line.at) (all_lines stack.devices))
+    (all_append IsNotMemory (past 1024 (λ device. device.at) stack.devices) (past 1024 (λ disk. disk.at) stack.disks)
+    (by_not_memory Limit (λ device. device.at) (λ device. true) (drop 1024 stack.devices) (λ e. cc)) (by_not_memory Limit (λ disk. disk.at) (λ disk. true) (drop 1024 stack.disks) (λ e. cc)))
+    (by_not_memory Limit (λ line. line.at) (λ line. true) (drop 65536 (all_lines stack.devices)) (λ e. cc))
 
-large_found : (stack : Description) → AllByRecursion IsFound (too_large stack)
-large_found stack =
-    all_append IsFound (faults_by Limit (λ line. line.at) is_large (all_lines stack.devices)) (faults_by Limit (λ disk. disk.at) (λ disk. nat_lt (2 ^ 50) disk.len) stack.disks)
-    (by_found Limit (λ line. line.at) is_large (all_lines stack.devices) (λ e. cc)) (by_found Limit (λ disk. disk.at) (λ disk. nat_lt (2 ^ 50) disk.len) stack.disks (λ e. cc))
+large_not_memory : (stack : Description) → AllByRecursion IsNotMemory (too_large stack)
+large_not_memory stack =
+    all_append IsNotMemory (faults_by Limit (λ line. line.at) is_large (all_lines stack.devices)) (faults_by Limit (λ disk. disk.at) (λ disk. nat_lt (2 ^ 50) disk.len) stack.disks)
+    (by_not_memory Limit (λ line. line.at) is_large (all_lines stack.devices) (λ e. cc)) (by_not_memory Limit (λ disk. disk.at) (λ disk. nat_lt (2 ^ 50) disk.len) stack.disks (λ e. cc))
 
-both_found : (stack : Description) → AllByRecursion IsFound (twice stack)
-both_found stack =
-    all_append IsFound (twice_in (λ device. device.name) (λ device. device.at) stack.devices) (twice_in (λ disk. disk.name) (λ disk. disk.at) stack.disks)
-    (by_found Twice (λ device. device.it.at) (is_repeated (λ device. device.name)) (with_before stack.devices) (λ e. cc))
-    (by_found Twice (λ disk. disk.it.at) (is_repeated (λ disk. disk.name)) (with_before stack.disks) (λ e. cc))
+both_not_memory : (stack : Description) → AllByRecursion IsNotMemory (twice stack)
+both_not_memory stack =
+    all_append IsNotMemory (twice_in (λ device. device.name) (λ device. device.at) stack.devices) (twice_in (λ disk. disk.name) (λ disk. disk.at) stack.disks)
+    (by_not_memory Twice (λ device. device.it.at) (is_repeated (λ device. device.name)) (with_before stack.devices) (λ e. cc))
+    (by_not_memory Twice (λ disk. disk.it.at) (is_repeated (λ disk. disk.name)) (with_before stack.disks) (λ e. cc))
 
-empty_found : (device : DeviceSpec) → AllByRecursion IsFound (empty_in device)
-empty_found device =
-    all_append IsFound (without_lines device device.lines) (faults_by Empty (λ line. line.at) (λ line. line.len == 0) device.lines) (without_found device device.lines)
-    (by_found Empty (λ line. line.at) (λ line. line.len == 0) device.lines (λ e. cc))
+empty_not_memory : (device : DeviceSpec) → AllByRecursion IsNotMemory (empty_in device)
+empty_not_memory device =
+    all_append IsNotMemory (without_lines device device.lines) (faults_by Empty (λ line. line.at) (λ line. line.len == 0) device.lines) (without_not_memory device device.lines)
+    (by_not_memory Empty (λ line. line.at) (λ line. line.len == 0) device.lines (λ e. cc))
 
-at_found : (kind : LoadKind) (bad : ℕ → Bool) (id : ℕ) (devices : List DeviceSpec) → kind ≢ Memory → AllByRecursion IsFound (faults_at kind bad id devices)
-at_found kind bad id [] other = tt
-at_found kind bad id (device ∷ devices) other = cond_found (fault kind device.at) (faults_at kind bad (suc id) devices) (bad id) other (at_found kind bad (suc id) devices other)
+at_not_memory : (kind : LoadKind) (bad : ℕ → Bool) (id : ℕ) (devices : List DeviceSpec) → kind ≢ Memory → AllByRecursion IsNotMemory (faults_at kind bad id devices)
+at_not_memory kind bad id [] other = tt
+at_not_memory kind bad id (device ∷ devices) other = cond_not_memory (fault kind device.at) (faults_at kind bad (suc id) devices) (bad id) other (at_not_memory kind bad (suc id) devices other)
 
 -- a fault of the checks before the one for cycles, and of those after it
-pub before_found : (stack : Description) (at : LoadFault) → first_fault (checks_before stack) ≡ Some at → IsFound at
-before_found stack at e =
-    found_first (too_many stack) _ at (many_found stack)
-    (found_first (too_large stack) _ at (large_found stack)
-    (found_first (twice stack) _ at (both_found stack)
-    (found_first (empty stack) _ at
-    (all_append IsFound (flat_map empty_in stack.devices) (faults_by Empty (λ disk. disk.at) (λ disk. disk.len == 0) stack.disks) (all_each IsFound empty_in stack.devices empty_found)
-    (by_found Empty (λ disk. disk.at) (λ disk. disk.len == 0) stack.disks (λ e. cc)))
-    (found_first (misplaced stack) _ at (all_each IsFound (λ device. misplaced_in device.lines) stack.devices (λ device. each_found (filter is_misplaced (with_before device.lines))))
-    (found_first (unknown stack) None at (by_found Unknown (λ line. line.at) (is_unknown stack) (all_lines stack.devices) (λ e. cc)) (λ none. absurd cc)))))) e
+pub before_not_memory : (stack : Description) (at : LoadFault) → first_fault (checks_before stack) ≡ Some at → IsNotMemory at
+before_not_memory stack at e =
+    first_not_memory (too_many stack) _ at (many_not_memory stack)
+    (first_not_memory (too_large stack) _ at (large_not_memory stack)
+    (first_not_memory (twice stack) _ at (both_not_memory stack)
+    (first_not_memory (empty stack) _ at
+    (all_append IsNotMemory (flat_map empty_in stack.devices) (faults_by Empty (λ disk. disk.at) (λ disk. disk.len == 0) stack.disks) (all_each IsNotMemory empty_in stack.devices empty_not_memory)
+    (by_not_memory Empty (λ disk. disk.at) (λ disk. disk.len == 0) stack.disks (λ e. cc)))
+    (first_not_memory (misplaced stack) _ at (all_each IsNotMemory (λ device. misplaced_in device.lines) stack.devices (λ device. each_not_memory (filter is_misplaced (with_before device.lines))))
+    (first_not_memory (unknown stack) None at (by_not_memory Unknown (λ line. line.at) (is_unknown stack) (all_lines stack.devices) (λ e. cc)) (λ none. absurd cc)))))) e
 
-pub after_found : (stack : Description) (at : LoadFault) → first_fault (checks_after stack) ≡ Some at → IsFound at
-after_found stack at e =
-    found_first (deep stack) _ at (at_found Deep (λ id. nat_lt 32 (depth_of stack id)) 0 stack.devices (λ e. cc))
-    (found_first (stripe stack) _ at (by_found Stripe (λ line. line.at) (λ line. has_bad_stripes line line.target) (all_lines stack.devices) (λ e. cc))
-    (found_first (range stack) None at (by_found Range (λ line. line.at) (passes_end stack) (all_lines stack.devices) (λ e. cc)) (λ none. absurd cc))) e
+pub after_not_memory : (stack : Description) (at : LoadFault) → first_fault (checks_after stack) ≡ Some at → IsNotMemory at
+after_not_memory stack at e =
+    first_not_memory (deep stack) _ at (at_not_memory Deep (λ id. nat_lt 32 (depth_of stack id)) 0 stack.devices (λ e. cc))
+    (first_not_memory (stripe stack) _ at (by_not_memory Stripe (λ line. line.at) (λ line. has_bad_stripes line line.target) (all_lines stack.devices) (λ e. cc))
+    (first_not_memory (range stack) None at (by_not_memory Range (λ line. line.at) (passes_end stack) (all_lines stack.devices) (λ e. cc)) (λ none. absurd cc))) e
 
 -- a fault of the check for cycles, or of one after it
-pub late_found : (stack : Description) (at : LoadFault) → IsLateFault stack at → IsFound at
-late_found stack at (inl ring) = λ memory. let kind = ap (λ (f : LoadFault). f.kind) ring.is in absurd cc
-late_found stack at (inr after) = after_found stack at after.1
+pub late_not_memory : (stack : Description) (at : LoadFault) → IsLateFault stack at → IsNotMemory at
+late_not_memory stack at (inl ring) = λ memory. let kind = ap (λ (f : LoadFault). f.kind) ring.is in absurd cc
+late_not_memory stack at (inr after) = after_not_memory stack at after.1

@@ -4,12 +4,12 @@ pub mod DepthTests
 pub mod FirstFaults
 pub mod HandedOn
 pub mod LayoutLemmas
-pub mod ListLemmas
 pub mod LoadLemmas
 pub mod NameLemmas
 pub mod OneFault
 pub mod Passes
 pub mod PathLemmas
+pub mod PlacedLemmas
 pub mod RoundLemmas
 pub mod SameLine
 pub mod SearchLemmas

@@ -11,12 +11,12 @@ use Rattle.dm_table.specs.declared.table.DeviceSpec.{DeviceSpec}
 use Rattle.dm_table.specs.declared.table.Line.{Line}
 use Rattle.dm_table.specs.declared.load_fault.LoadKind.TheVariants.{Cycle, Unknown}
 use Rattle.dm_table.specs.declared.load_fault.LoadFault.{LoadFault}
-use Rattle.dm_table.specs.LoadFault.{first_or, first_fault}
+use Rattle.dm_table.specs.LoadFault.{fault, first_or, first_fault}
 use Rattle.dm_stack.specs.Description.{Description, device_links, is_same, line_links, links, ref_link}
 use Rattle.dm_stack.specs.Graph.{IsClosed, Reaches, depths_to, greatest, links_in, links_of}
 use Rattle.dm_stack.specs.Load.{IsLateResult, IsFirstRing, IsLateFault}
 use Rattle.dm_stack.specs.Loaded.{stack_depth}
-use Rattle.dm_stack.specs.Soundness.{HasNoCycle, IsFirstCycle, IsRefusedBy, Late, OnCycle, all_lines, checks_after, checks_before, depth_of, empty, fault, is_unknown, is_unknown_ref, misplaced, too_large, too_many, twice, unknown}
+use Rattle.dm_stack.specs.Soundness.{HasNoCycle, IsFirstCycle, IsRefusedBy, Late, OnCycle, all_lines, checks_after, checks_before, depth_of, empty, is_unknown, is_unknown_ref, misplaced, too_large, too_many, twice, unknown}
 use Rattle.dm_stack.specs.Span.{Span, spans}
 use Rattle.dm_stack.proofs.HandedOn.{all_append}
 use Rattle.dm_stack.proofs.Passes.{all_parts, faults_by_none, first_none}

@@ -1,6 +1,6 @@
 -- Names by their places: how a set of names tests them, and which stand twice.
 use Rattle.std.proofs.Common.{◌≡◌, ◌≢◌, ℕ, ◌+◌, ◌<◌, ◌≤◌, Bool, true, false, not, List, [], ◌∷◌, ◌++◌, Option, Some, None, Err, String, arith, refl, sym, ap, ◌∙◌, cond, drop, get_or, length, map, take}
-use Rattle.std.specs.Prelude.{find, is_none, is_some, nat_lt, position, string_bytes, unwrap_or}
+use Rattle.std.specs.Prelude.{◌||◌, find, is_none, is_some, nat_lt, position, string_bytes, unwrap_or}
 use Rattle.std.specs.List.{list_any, position_from, position_or_len}
 use Rattle.std.proofs.lemmas.List.{length-map, map-append, take_more}
 use Rattle.std.proofs.lemmas.Bool.{ltb-false}
@@ -11,10 +11,9 @@ use Rattle.dm_table.specs.declared.place.Part.{Part}
 use Rattle.dm_table.specs.declared.place.Place.{Place}
 use Rattle.dm_table.specs.declared.load_fault.LoadFault.{LoadFault}
 use Rattle.dm_table.specs.declared.load_fault.LoadKind.TheVariants.{Memory, Twice}
-use Rattle.dm_table.specs.LoadFault.{IsMemoryFault, first_or, unless}
+use Rattle.dm_table.specs.LoadFault.{fault, faults_by, IsMemoryFault, first_or, unless}
 use Rattle.dm_stack.specs.Description.{is_same}
-use Rattle.dm_stack.specs.Soundness.{fault, faults_by, is_repeated, with_before}
-use Rattle.dm_stack.proofs.ListLemmas.{any_mapped}
+use Rattle.dm_stack.specs.Soundness.{is_repeated, with_before}
 use Rattle.dm_stack.proofs.WithBefore.{drop-with_before, none-with_before}
 
 same_by : (a b : List ℕ) (p q : Bool) → is_same a b ≡ p → is_same b a ≡ q → p ≡ q
@@ -54,6 +53,10 @@ any_names name [] = refl
 any_names name (key ∷ keys) = rw (is_same-sym name (string_bytes key), any_names name keys) refl
 
 -- Names that stand twice
+
+any_mapped : {X Y : Type 0} (f : X → Y) (p : Y → Bool) (xs : List X) → list_any p (map f xs) ≡ list_any (λ x. p (f x)) xs
+any_mapped f p [] = refl
+any_mapped f p (x ∷ xs) = ap (λ (rest : Bool). p (f x) || rest) (any_mapped f p xs)
 
 -- whether a name is among those that were added
 abbrev pub seen_in : List ℕ → List (List ℕ) → Bool

@@ -7,8 +7,9 @@ use Rattle.std.proofs.lemmas.List.{length-append}
 use Rattle.dm_table.specs.declared.load_fault.LoadKind.TheVariants.{Cycle}
 use Rattle.dm_table.specs.declared.load_fault.LoadFault.{LoadFault}
 use Rattle.dm_table.specs.declared.table.DeviceSpec.{DeviceSpec}
+use Rattle.dm_table.specs.LoadFault.{fault}
 use Rattle.dm_stack.specs.Description.{Description}
-use Rattle.dm_stack.specs.Soundness.{Early, HasNoCycle, IsFirstCycle, IsRefusedBy, IsSound, Late, OnCycle, fault}
+use Rattle.dm_stack.specs.Soundness.{Early, HasNoCycle, IsFirstCycle, IsRefusedBy, IsSound, Late, OnCycle}
 
 ring_within : (stack : Description) (found : LoadFault) (ring : IsFirstCycle stack found) → length ring.before < length stack.devices
 ring_within stack found ring = omega (arith, ap (λ (devices : List DeviceSpec). length devices) ring.split, length-append ring.before (ring.device ∷ ring.after))

@@ -5,9 +5,9 @@ use Rattle.std.specs.List.{AllByRecursion}
 use Rattle.dm_table.specs.declared.place.Place.{Place}
 use Rattle.dm_table.specs.declared.load_fault.LoadKind.{LoadKind}
 use Rattle.dm_table.specs.declared.load_fault.LoadFault.{LoadFault}
-use Rattle.dm_table.specs.LoadFault.{first_or, first_fault}
+use Rattle.dm_table.specs.LoadFault.{faults_by, first_or, first_fault}
 use Rattle.dm_stack.specs.Description.{Description}
-use Rattle.dm_stack.specs.Soundness.{faults_by, too_many, too_large, twice, empty, misplaced, unknown, deep, stripe, range, checks_before, checks_after}
+use Rattle.dm_stack.specs.Soundness.{too_many, too_large, twice, empty, misplaced, unknown, deep, stripe, range, checks_before, checks_after}
 
 pub append_none : {X : Type 0} (xs ys : List X) → xs ++ ys ≡ [] → (xs ≡ []) × (ys ≡ [])
 append_none [] ys e = (refl, e)

@@ -11,21 +11,12 @@ use Rattle.dm_table.specs.declared.place.Place.{Place}
 use Rattle.dm_table.specs.declared.load_fault.LoadKind.{LoadKind}
 use Rattle.dm_table.specs.declared.load_fault.LoadKind.TheVariants.{Limit, Twice, Empty, Gap, Overlap, Unknown, Cycle, Deep, Stripe, Range}
 use Rattle.dm_table.specs.declared.load_fault.LoadFault.{LoadFault}
-use Rattle.dm_table.specs.LoadFault.{first_fault}
+use Rattle.dm_table.specs.LoadFault.{fault, faults_by, first_fault}
 use Rattle.dm_stack.specs.Description.{Description, is_same, device_named, disk_named, end_of, lower_of, lower_len, links}
 use Rattle.dm_stack.specs.Span.{Span, spans}
 use Rattle.dm_stack.specs.Graph.{Reaches, depth_to}
 use Rattle.dm_stack.specs.declared.graph.TheConstants.{MOST_DEPTH}
 use Rattle.dm_stack.specs.declared.limits.TheConstants.{MOST_DEVICES, MOST_DISKS, MOST_LINES, MOST_LENGTH, MOST_STRIPES, MOST_CHUNK}
-
--- a fault of a kind at a place
-abbrev pub fault : LoadKind → Place → LoadFault
-fault kind at = record { kind = kind; at = at }
-
--- the faults of a kind at the elements that are bad, in their order
-abbrev pub faults_by : {X : Type 0} → LoadKind → (X → Place) → (X → Bool) → List X → List LoadFault
-faults_by kind place bad [] = []
-faults_by kind place bad (x ∷ xs) = if bad x then fault kind (place x) ∷ faults_by kind place bad xs else faults_by kind place bad xs
 
 -- the lines of all devices
 abbrev pub all_lines : List DeviceSpec → List Line
@@ -144,10 +135,8 @@ is_bad_stripe len chunk count =
     count == 0 || (nat_lt MOST_STRIPES count || (chunk == 0 || (nat_lt MOST_CHUNK chunk || (not (len % count == 0) || not ((len / count) % chunk == 0)))))
 
 abbrev pub has_bad_stripes : Line → Target → Bool
-has_bad_stripes line (targets.Linear to offset) = false
 has_bad_stripes line (targets.Striped chunk columns) = is_bad_stripe line.len chunk (length columns)
-has_bad_stripes line targets.Zero = false
-has_bad_stripes line targets.Error = false
+has_bad_stripes line _ = false
 
 abbrev pub stripe : Description → List LoadFault
 stripe stack = line_faults Stripe (λ line. has_bad_stripes line line.target) stack

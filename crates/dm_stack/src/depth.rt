@@ -10,7 +10,6 @@ ghost use Rattle.dm_table.specs.declared.load_fault.LoadKind.TheVariants.{Deep};
 ghost use Rattle.dm_stack.specs.Graph.{greatest};
 ghost use Rattle.dm_stack.specs.Soundness.{faults_at};
 
-use crate::fault::fault;
 use crate::graph::MOST_DEPTH;
 use dm_table::{DeviceSpec, LoadFault, LoadKind};
 
@@ -23,7 +22,10 @@ pub(crate) fn deep(devices: &[DeviceSpec], depths: &[u32]) -> Option<LoadFault>
 {
     for (id, device) in devices.iter().enumerate() {
         if MOST_DEPTH < depths[id] {
-            return Some(fault(LoadKind::Deep, device.at));
+            return Some(LoadFault {
+                kind: LoadKind::Deep,
+                at: device.at,
+            });
         }
     }
     None

@@ -1,7 +1,7 @@
 //! Lines as a look-up finds them: with ids for names.
 //!
-//! Names are looked up once, while a stack is loaded, so that mapping never compares texts. A new
-//! target is a variant here, an arm in `specs/Below.antt`, and one where a load makes these lines.
+//! A load looks each name up, so that mapping never compares texts. A new target is a variant here,
+//! arms in `specs/Below.antt`, and one in `resolve`, which makes these lines.
 
 ghost use Rattle.std.specs.Prelude.{◌≡◌};
 

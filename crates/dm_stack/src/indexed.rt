@@ -86,12 +86,12 @@ impl<'a> Indexed<'a> {
     {
         match to {
             DevRef::Device(name) => {
-                let found = self.device_names.find(name.as_str());
-                Lower::Device(DeviceId::new(found.unwrap_or(self.devices.len())))
+                let place = self.device_names.find(name.as_str());
+                Lower::Device(DeviceId::new(place.unwrap_or(self.devices.len())))
             }
             DevRef::Disk(name) => {
-                let found = self.disk_names.find(name.as_str());
-                Lower::Disk(DiskId::new(found.unwrap_or(self.disks.len())))
+                let place = self.disk_names.find(name.as_str());
+                Lower::Disk(DiskId::new(place.unwrap_or(self.disks.len())))
             }
         }
     }

@@ -3,13 +3,13 @@
 //! A table starts at sector 0, and each line starts where the one before ends (dmsetup(8)). So a
 //! device ends where its last line does; change that here and in `end_of`.
 
-ghost use Rattle.std.specs.Prelude.{◌≡◌, ◌==◌, [], None, find, option_copied};
+ghost use Rattle.std.specs.Prelude.{◌≡◌, [], None};
 ghost use Rattle.std.specs.List.{All, flat_map};
 ghost use Rattle.dm_table.specs.LoadFault.{first_or};
 ghost use Rattle.dm_stack.specs.Description.{end_of};
 ghost use Rattle.dm_stack.specs.Soundness.{HaveSmallEnds, empty, empty_in, misplaced, misplaced_in};
 
-use crate::fault::fault;
+use crate::placed::first_bad;
 use dm_table::{DeviceSpec, Disk, Line, LoadFault, LoadKind};
 
 /// The first device without lines or line of length 0, or else the first disk of length 0.
@@ -21,10 +21,7 @@ pub(crate) fn empty(devices: &[DeviceSpec], disks: &[Disk]) -> Option<LoadFault>
     if let Some(fault) = empty_part(devices) {
         return Some(fault);
     }
-    if let Some(disk) = empty_disk(disks) {
-        return Some(fault(LoadKind::Empty, disk.at));
-    }
-    None
+    first_bad(LoadKind::Empty, disks, |disk| disk.len == 0)
 }
 
 fn empty_part(devices: &[DeviceSpec]) -> Option<LoadFault>
@@ -43,24 +40,12 @@ fn empty_in(device: &DeviceSpec) -> Option<LoadFault>
 {
     let lines = device.lines.as_slice();
     if lines.is_empty() {
-        return Some(fault(LoadKind::Empty, device.at));
+        return Some(LoadFault {
+            kind: LoadKind::Empty,
+            at: device.at,
+        });
     }
-    if let Some(line) = empty_line(lines) {
-        return Some(fault(LoadKind::Empty, line.at));
-    }
-    None
-}
-
-fn empty_line(lines: &[Line]) -> Option<&Line>
-    ensures { option_copied result ≡ find (λ line. line.len == 0) lines.now }
-{
-    lines.iter().find(|line| line.len == 0)
-}
-
-fn empty_disk(disks: &[Disk]) -> Option<&Disk>
-    ensures { option_copied result ≡ find (λ disk. disk.len == 0) disks.now }
-{
-    disks.iter().find(|disk| disk.len == 0)
+    first_bad(LoadKind::Empty, lines, |line| line.len == 0)
 }
 
 /// The first line that starts after, or before, the end of the one before.
@@ -85,10 +70,16 @@ fn misplaced_line(lines: &[Line]) -> Option<LoadFault>
     let mut end = 0;
     for line in lines {
         if end < line.start {
-            return Some(fault(LoadKind::Gap, line.at));
+            return Some(LoadFault {
+                kind: LoadKind::Gap,
+                at: line.at,
+            });
         }
         if line.start < end {
-            return Some(fault(LoadKind::Overlap, line.at));
+            return Some(LoadFault {
+                kind: LoadKind::Overlap,
+                at: line.at,
+            });
         }
         end = line.start + line.len;
     }

@@ -5,7 +5,6 @@
 #![tactic(auto)]
 
 mod depth;
-mod fault;
 mod found;
 mod graph;
 mod id;
@@ -17,6 +16,7 @@ mod load;
 mod looker;
 mod name_index;
 mod names;
+mod placed;
 mod ranges;
 mod resolve;
 mod span;

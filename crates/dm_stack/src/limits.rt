@@ -3,13 +3,13 @@
 //! Sums of two numbers within the limits fit 64 bits, so every later check adds freely. The
 //! definitions name these constants, so a limit that changes here changes for them too.
 
-ghost use Rattle.std.specs.Prelude.{◌≡◌, None, find, nat_lt, option_copied, slice_get};
+ghost use Rattle.std.specs.Prelude.{◌≡◌, None, option_copied, slice_get};
 ghost use Rattle.std.specs.List.{list_any};
 ghost use Rattle.dm_table.specs.LoadFault.{first_or};
-ghost use Rattle.dm_stack.specs.Soundness.{all_lines, is_far, is_large, too_large, too_many};
+ghost use Rattle.dm_stack.specs.Soundness.{all_lines, is_far, is_large, past, too_large, too_many};
 ghost use Rattle.dm_stack.specs.Span.{spans};
 
-use crate::fault::fault;
+use crate::placed::{Placed, first_bad, first_line};
 use crate::span::Spans;
 use dm_table::{DeviceSpec, Disk, Line, LoadFault, LoadKind};
 
@@ -37,16 +37,28 @@ pub const MOST_CHUNK: u64 = (1 << 32) - 1;
 pub(crate) fn too_many(devices: &[DeviceSpec], disks: &[Disk]) -> Option<LoadFault>
     ensures { result ≡ first_or (too_many (record { devices = devices.now; disks = disks.now })) None }
 {
-    if let Some(device) = devices.get(MOST_DEVICES) {
-        return Some(fault(LoadKind::Limit, device.at));
+    if let Some(fault) = past(MOST_DEVICES, devices) {
+        return Some(fault);
     }
-    if let Some(disk) = disks.get(MOST_DISKS) {
-        return Some(fault(LoadKind::Limit, disk.at));
+    if let Some(fault) = past(MOST_DISKS, disks) {
+        return Some(fault);
     }
-    if let Some(line) = line_at(devices, MOST_LINES) {
-        return Some(fault(LoadKind::Limit, line.at));
-    }
-    None
+    let line = line_at(devices, MOST_LINES)?;
+    Some(LoadFault {
+        kind: LoadKind::Limit,
+        at: line.at,
+    })
+}
+
+/// The first element of a list that is one too many.
+fn past<T: Placed>(most: usize, list: &[T]) -> Option<LoadFault>
+    ensures { result ≡ first_or (past most T.place_of list.now) None }
+{
+    let item = list.get(most)?;
+    Some(LoadFault {
+        kind: LoadKind::Limit,
+        at: item.place(),
+    })
 }
 
 /// The line of an index among the lines of all devices.
@@ -70,28 +82,10 @@ fn line_at(devices: &[DeviceSpec], index: usize) -> Option<&Line>
 pub(crate) fn too_large(devices: &[DeviceSpec], disks: &[Disk]) -> Option<LoadFault>
     ensures { result ≡ first_or (too_large (record { devices = devices.now; disks = disks.now })) None }
 {
-    if let Some(line) = large_line(devices) {
-        return Some(fault(LoadKind::Limit, line.at));
+    if let Some(fault) = first_line(LoadKind::Limit, devices, is_large) {
+        return Some(fault);
     }
-    if let Some(disk) = large_disk(disks) {
-        return Some(fault(LoadKind::Limit, disk.at));
-    }
-    None
-}
-
-fn large_disk(disks: &[Disk]) -> Option<&Disk>
-    ensures { option_copied result ≡ find (λ disk. nat_lt MOST_LENGTH disk.len) disks.now }
-{
-    disks.iter().find(|disk| MOST_LENGTH < disk.len)
-}
-
-fn large_line(devices: &[DeviceSpec]) -> Option<&Line>
-    ensures { option_copied result ≡ find is_large (all_lines devices.now) }
-{
-    devices
-        .iter()
-        .flat_map(|device| device.lines.as_slice().iter())
-        .find(|line| is_large(line))
+    first_bad(LoadKind::Limit, disks, |disk| MOST_LENGTH < disk.len)
 }
 
 /// Whether a start, a length, an end or an offset is above the limit.

@@ -14,7 +14,6 @@ ghost use Rattle.dm_stack.specs.Loaded.{IsLoaded, stack_depth};
 ghost use Rattle.dm_stack.specs.Soundness.{IsRefusedBy, checks_after, checks_before, empty, misplaced, too_large, too_many, unknown};
 
 use crate::depth::{deep, deepest};
-use crate::fault::fault;
 use crate::found::FoundTable;
 use crate::graph::{depths, first_cycle};
 use crate::indexed::Indexed;
@@ -147,7 +146,10 @@ fn check_depths(stack: &Indexed, graph: &Graph) -> Option<LoadFault>
     ensures { IsLateResult stack.now result }
 {
     if let Some(device) = graph.cycle {
-        return Some(fault(LoadKind::Cycle, stack.devices()[device].at));
+        return Some(LoadFault {
+            kind: LoadKind::Cycle,
+            at: stack.devices()[device].at,
+        });
     }
     check_shape(stack, &graph.depths)
 }

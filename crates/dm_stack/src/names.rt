@@ -6,53 +6,35 @@
 ghost use Rattle.std.specs.Prelude.{◌≡◌, ◌≢◌, ℕ, IfErr, IfOk, List, None, OnOk, Some, map};
 ghost use Rattle.dm_table.specs.LoadFault.{Answers, IsMemoryFault, first_or, unless};
 ghost use Rattle.dm_table.specs.declared.load_fault.LoadKind.TheVariants.{Memory};
-ghost use Rattle.dm_table.specs.declared.place.Place.{Place};
 ghost use Rattle.dm_table.specs.declared.place.Part.TheVariants.{Source};
 ghost use Rattle.dm_stack.specs.Soundness.{twice, twice_in};
 
-use crate::fault::fault;
 use crate::name_index::NameIndex;
-use dm_table::{DeviceSpec, Disk, LoadFault, LoadKind, Part, Place};
+use crate::placed::Placed;
+use dm_table::{DeviceSpec, Disk, LoadFault, LoadKind, Part};
 use std::alloc::Global;
 
-/// What has a name among others: a device, or a disk.
+/// What has a name: a device, or a disk.
 trait Named {
     ghost name_of: { Self → List ℕ };
 
-    ghost place_of: { Self → Place };
-
     fn name(&self) -> &str
         ensures { result.now ≡ name_of self.now };
-
-    fn place(&self) -> Place
-        ensures { result ≡ place_of self.now };
 }
 
 impl Named for DeviceSpec {
     ghost name_of = { λ device. device.name };
 
-    ghost place_of = { λ device. device.at };
-
     fn name(&self) -> &str {
         self.name.as_str()
-    }
-
-    fn place(&self) -> Place {
-        self.at
     }
 }
 
 impl Named for Disk {
     ghost name_of = { λ disk. disk.name };
 
-    ghost place_of = { λ disk. disk.at };
-
     fn name(&self) -> &str {
         self.name.as_str()
-    }
-
-    fn place(&self) -> Place {
-        self.at
     }
 }
 
@@ -84,14 +66,20 @@ pub(crate) fn index_names(
 }
 
 /// The names of a list by their places, or the first element whose name an earlier one has.
-fn index_of<T: Named>(alloc: Global, list: &[T]) -> Result<NameIndex, LoadFault>
+fn index_of<T: Named + Placed>(alloc: Global, list: &[T]) -> Result<NameIndex, LoadFault>
     ensures { Answers Source (λ index. index) result (unless (first_or (twice_in T.name_of T.place_of list.now) None) (map T.name_of list.now)) }
 {
     let mut names = NameIndex::new(alloc);
     for item in list {
         match names.add(alloc, item.name()) {
             Ok(true) => {}
-            Ok(false) => return Err(fault(LoadKind::Twice, item.place())),
+            Ok(false) => {
+                let at = item.place();
+                return Err(LoadFault {
+                    kind: LoadKind::Twice,
+                    at,
+                });
+            }
             Err(_) => return Err(LoadFault::memory(Part::Source)),
         }
     }

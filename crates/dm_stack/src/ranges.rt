@@ -3,12 +3,12 @@
 //! A device ends where its last line does, so that the length of what is named takes one look-up
 //! and no walk. The spans of a line say what it names, and how much of it.
 
-ghost use Rattle.std.specs.Prelude.{◌≡◌, None, find, option_copied};
+ghost use Rattle.std.specs.Prelude.{◌≡◌, None};
 ghost use Rattle.dm_table.specs.LoadFault.{first_or};
-ghost use Rattle.dm_stack.specs.Soundness.{all_lines, passes_end, range};
+ghost use Rattle.dm_stack.specs.Soundness.{passes_end, range};
 
-use crate::fault::fault;
 use crate::indexed::Indexed;
+use crate::placed::first_line;
 use crate::span::Spans;
 use dm_table::{Line, LoadFault, LoadKind};
 
@@ -18,20 +18,9 @@ use dm_table::{Line, LoadFault, LoadKind};
 pub(crate) fn range(stack: &Indexed) -> Option<LoadFault>
     ensures { result ≡ first_or (range stack.now) None }
 {
-    if let Some(line) = long_line(stack) {
-        return Some(fault(LoadKind::Range, line.at));
-    }
-    None
-}
-
-fn long_line<'a>(stack: &Indexed<'a>) -> Option<&'a Line>
-    ensures { option_copied result ≡ find (passes_end stack.now) (all_lines stack.now.devices) }
-{
-    stack
-        .devices()
-        .iter()
-        .flat_map(|device| device.lines.as_slice().iter())
-        .find(|line| passes_end(stack, line))
+    first_line(LoadKind::Range, stack.devices(), |line| {
+        passes_end(stack, line)
+    })
 }
 
 fn passes_end(stack: &Indexed, line: &Line) -> bool

@@ -3,15 +3,15 @@
 //! What is not there is found by `unknown`, which runs first; making lines by ids then asks for
 //! nothing. A new target is an arm of `target` here and of `found_target` in the specs.
 
-ghost use Rattle.std.specs.Prelude.{◌≡◌, IfOk, None, find, map, option_copied};
+ghost use Rattle.std.specs.Prelude.{◌≡◌, IfOk, None, map};
 ghost use Rattle.dm_table.specs.LoadFault.{first_or};
 ghost use Rattle.dm_stack.specs.Below.{found_columns, found_line, found_target};
 ghost use Rattle.dm_stack.specs.Loaded.{found_table};
-ghost use Rattle.dm_stack.specs.Soundness.{all_lines, is_unknown, unknown};
+ghost use Rattle.dm_stack.specs.Soundness.{is_unknown, unknown};
 
-use crate::fault::fault;
 use crate::found::{FoundColumn, FoundColumns, FoundLine, FoundTable, FoundTarget};
 use crate::indexed::Indexed;
+use crate::placed::first_line;
 use crate::span::Spans;
 use dm_table::{Column, Line, LoadFault, LoadKind, Target};
 use std::alloc::{AllocError, Global};
@@ -22,20 +22,9 @@ use std::alloc::{AllocError, Global};
 pub(crate) fn unknown(stack: &Indexed) -> Option<LoadFault>
     ensures { result ≡ first_or (unknown stack.now) None }
 {
-    if let Some(line) = unknown_line(stack) {
-        return Some(fault(LoadKind::Unknown, line.at));
-    }
-    None
-}
-
-fn unknown_line<'a>(stack: &Indexed<'a>) -> Option<&'a Line>
-    ensures { option_copied result ≡ find (is_unknown stack.now) (all_lines stack.now.devices) }
-{
-    stack
-        .devices()
-        .iter()
-        .flat_map(|device| device.lines.as_slice().iter())
-        .find(|line| is_unknown(stack, line))
+    first_line(LoadKind::Unknown, stack.devices(), |line| {
+        is_unknown(stack, line)
+    })
 }
 
 fn is_unknown(stack: &Indexed, line: &Line) -> bool
@@ -60,20 +49,20 @@ pub(crate) fn tables(alloc: Global, stack: &Indexed) -> Result<Vec<FoundTable>, 
 fn table(alloc: Global, stack: &Indexed, lines: &[Line]) -> Result<FoundTable, AllocError>
     ensures { IfOk result (λ table. table ≡ map (found_line stack.now) lines.now) }
 {
-    let mut found = Vec::new(alloc);
+    let mut by_ids = Vec::new(alloc);
     for line in lines {
         let target = target(alloc, stack, &line.target)?;
-        found.push(FoundLine {
+        by_ids.push(FoundLine {
             start: line.start,
             len: line.len,
             target,
         })?;
     }
-    Ok(FoundTable::from_vec(found))
+    Ok(FoundTable::from_vec(by_ids))
 }
 
 fn target(alloc: Global, stack: &Indexed, target: &Target) -> Result<FoundTarget, AllocError>
-    ensures { IfOk result (λ found. found ≡ found_target stack.now target.now) }
+    ensures { IfOk result (λ by_ids. by_ids ≡ found_target stack.now target.now) }
 {
     match target {
         Target::Linear { to, offset } => Ok(FoundTarget::Linear {
@@ -94,14 +83,14 @@ fn columns_by_ids(
     stack: &Indexed,
     columns: &[Column],
 ) -> Result<FoundColumns, AllocError>
-    ensures { IfOk result (λ found. found ≡ found_columns stack.now columns.now) }
+    ensures { IfOk result (λ by_ids. by_ids ≡ found_columns stack.now columns.now) }
 {
-    let mut found = Vec::new(alloc);
+    let mut by_ids = Vec::new(alloc);
     for column in columns {
-        found.push(FoundColumn {
+        by_ids.push(FoundColumn {
             to: stack.lower_of(&column.to),
             offset: column.offset,
         })?;
     }
-    Ok(FoundColumns::from_vec(found))
+    Ok(FoundColumns::from_vec(by_ids))
 }

@@ -72,7 +72,7 @@ fn span_at(line: &Line, index: usize) -> Option<Span<'_>>
             read_only: false,
         }),
         Target::Striped { columns, .. } => column_span(line.len, columns.as_slice(), index),
-        Target::Linear { .. } | Target::Zero | Target::Error => None,
+        _ => None,
     }
 }
 

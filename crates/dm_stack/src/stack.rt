@@ -104,6 +104,14 @@ impl Stack {
         })
     }
 
+    /// The devices and the disks that were loaded, in their order. No memory is taken.
+    pub fn into_parts(self) -> (Vec<DeviceSpec>, Vec<Disk>)
+        ensures devices { result.0.items ≡ self.devices }
+        ensures disks { result.1.items ≡ self.disks }
+    {
+        (self.devices, self.disks)
+    }
+
     /// The device of a name.
     pub fn device(&self, name: &str) -> Option<DeviceId>
         ensures { result ≡ position (λ device. is_same device.name name.now) self.now.devices }

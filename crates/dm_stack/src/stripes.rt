@@ -4,12 +4,12 @@
 //! columns share the length alike, each in whole chunks. Mapping divides by the number of columns
 //! and by the chunk, so neither may be 0; change a rule here and in `is_bad_stripe` of the specs.
 
-ghost use Rattle.std.specs.Prelude.{◌≡◌, [], None, find, option_copied};
+ghost use Rattle.std.specs.Prelude.{◌≡◌, [], None};
 ghost use Rattle.dm_table.specs.LoadFault.{first_or};
-ghost use Rattle.dm_stack.specs.Soundness.{all_lines, has_bad_stripes, is_bad_stripe, stripe};
+ghost use Rattle.dm_stack.specs.Soundness.{has_bad_stripes, is_bad_stripe, stripe};
 
-use crate::fault::fault;
 use crate::limits::{MOST_CHUNK, MOST_STRIPES};
+use crate::placed::first_line;
 use dm_table::{DeviceSpec, Line, LoadFault, LoadKind, Target};
 
 /// The first striped line with no column or more than 128, a chunk of 0 or above 2^32 - 1 sectors,
@@ -19,17 +19,7 @@ use dm_table::{DeviceSpec, Line, LoadFault, LoadKind, Target};
 pub(crate) fn bad_stripes(devices: &[DeviceSpec]) -> Option<LoadFault>
     ensures { result ≡ first_or (stripe (record { devices = devices.now; disks = [] })) None }
 {
-    let line = bad_line(devices)?;
-    Some(fault(LoadKind::Stripe, line.at))
-}
-
-fn bad_line(devices: &[DeviceSpec]) -> Option<&Line>
-    ensures { option_copied result ≡ find (λ line. has_bad_stripes line line.target) (all_lines devices.now) }
-{
-    devices
-        .iter()
-        .flat_map(|device| device.lines.as_slice().iter())
-        .find(|line| has_bad_stripes(line))
+    first_line(LoadKind::Stripe, devices, has_bad_stripes)
 }
 
 fn has_bad_stripes(line: &Line) -> bool
@@ -39,7 +29,7 @@ fn has_bad_stripes(line: &Line) -> bool
         Target::Striped { chunk, columns } => {
             is_bad_stripe(line.len, *chunk, columns.as_slice().len())
         }
-        Target::Linear { .. } | Target::Zero | Target::Error => false,
+        _ => false,
     }
 }
 

@@ -5,11 +5,11 @@ use Rattle.dm_stack.proofs.layout.misplaced_line.Goals as goal
 
 pub returns-then-end-line : goal.returns-then-end-line
 returns-then-end-line c =
-    rw c.fault.ensures (sym (gap_here c.args.lines.now c.loop-line.line-index c.loop-line.end c.line-item.result c.loop-line-test.true c.line-item.is c.loop-line.invariant.end c.if-end-line.true) ∙ c.loop-line.invariant.left)
+    sym (gap_here c.args.lines.now c.loop-line.line-index c.loop-line.end c.line-item.result c.loop-line-test.true c.line-item.is c.loop-line.invariant.end c.if-end-line.true) ∙ c.loop-line.invariant.left
 
 pub returns-then-line-end : goal.returns-then-line-end
 returns-then-line-end c =
-    rw c.fault-then-line-end.ensures (sym (overlap_here c.args.lines.now c.loop-line.line-index c.loop-line.end c.line-item.result c.loop-line-test.true c.line-item.is c.loop-line.invariant.end c.if-line-end.true) ∙ c.loop-line.invariant.left)
+    sym (overlap_here c.args.lines.now c.loop-line.line-index c.loop-line.end c.line-item.result c.loop-line-test.true c.line-item.is c.loop-line.invariant.end c.if-line-end.true) ∙ c.loop-line.invariant.left
 
 pub loop-line-preserved : goal.loop-line-preserved
 loop-line-preserved c =

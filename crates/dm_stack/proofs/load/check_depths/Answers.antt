@@ -8,9 +8,9 @@ use Rattle.dm_stack.proofs.load.check_depths.Goals as goal
 pub returns-in-Some : goal.returns-in-Some
 returns-in-Some c =
     let ring = subst (λ (found : Option ℕ). IsFirstRing (links c.args.stack.now) found) c.in-Some.is c.requires.cycle in
-    rw c.fault.ensures
-    (inl (ring_fault c.args.stack.now c.in-Some.device (get_or c.devices.result.now c.in-Some.device c.index-devices-device.result) c.index-devices-device.result ring
-    (ap (λ (devices : List DeviceSpec). get_or devices c.in-Some.device c.index-devices-device.result) c.devices.ensures.devices)))
+    inl
+    (ring_fault c.args.stack.now c.in-Some.device (get_or c.devices.result.now c.in-Some.device c.index-devices-device.result) c.index-devices-device.result ring
+    (ap (λ (devices : List DeviceSpec). get_or devices c.in-Some.device c.index-devices-device.result) c.devices.ensures.devices))
 
 pub returns : goal.returns
 returns c =

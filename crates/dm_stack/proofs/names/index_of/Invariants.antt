@@ -7,6 +7,6 @@ use Rattle.dm_stack.proofs.names.index_of.Given as goal
 
 abbrev pub invariant-loop-item : goal.invariant-loop-item
 invariant-loop-item g l = record {
-  left : first_or (twice_from g.T.Named.name_of g.T.Named.place_of l.list l.item-index) None ≡ first_or (twice_in g.T.Named.name_of g.T.Named.place_of l.list) None;
+  left : first_or (twice_from g.T.Named.name_of g.T.Placed.place_of l.list l.item-index) None ≡ first_or (twice_in g.T.Named.name_of g.T.Placed.place_of l.list) None;
   indexed : l.names ≡ map g.T.Named.name_of (take l.item-index l.list);
 }
