@@ -1,6 +1,6 @@
 //! The messages of a run: one line each, and at most one a run.
 //!
-//! The words are fixed by `specs/Messages.antt`, since users match on them. A new ending is an arm
+//! The words are fixed in `specs/Messages.antt`, since users match on them. A new ending is an arm
 //! here and there.
 
 ghost use Rattle.std.specs.Prelude.{◌≡◌, ◌+◌, ◌≤◌, ◌++◌, length};
@@ -36,7 +36,7 @@ pub(crate) fn tell_ending<E: Output>(messages: &mut E, ending: Ending)
     tell(messages, message_of(ending).as_slice());
 }
 
-/// The message of an ending: empty where all requests were answered.
+/// The message of an ending: empty if all requests were answered.
 fn message_of(ending: Ending) -> Message
     ensures { result.items ≡ ending_message ending }
 {
