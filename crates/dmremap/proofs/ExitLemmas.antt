@@ -12,11 +12,11 @@ use Rattle.dm_stack.specs.Description.{Description}
 use Rattle.dmremap.specs.declared.words.Format.{Format}
 use Rattle.dmremap.specs.Exit.{exit_message, exit_status, FailedOutput, IsExitOf, IsFlushed, IsRun, OnRefused, RanTo}
 use Rattle.dm_stream.specs.Messages.{write_message}
-use Rattle.dm_stream.specs.Outcome.{Outcome, run_outcome}
+use Rattle.dm_stream.specs.Outcome.{Outcome}
 use Rattle.dm_stream.specs.Run.{IsServed}
 use Rattle.dm_table.specs.LoadMessage.{load_message, memory_message}
 use Rattle.dmremap.specs.Status.{load_status, ending_status}
-use Rattle.dmremap.specs.Whole.{Whole, GiveWhole, ended_if}
+use Rattle.dmremap.specs.Whole.{Whole, GiveWhole, ended_if, outcome_of}
 
 -- a load is refused since memory ran out, or with status 1
 pub refused_kind : (kind : LoadKind) → load_status kind ≢ 6 → (kind ≢ kinds.Memory) × (1 ≡ load_status kind)
@@ -46,7 +46,7 @@ whole_from format source disks requests output old new (Refused fault) exits oth
     let status : ℕ → Option Whole = λ n. Some (record { output = output; message = load_message fault; status = n }) in
     record { load = RefusedBy fault; loaded = exits.1 kind.0; is = ap text (sym exits.0) ∙ ap status kind.1 }
 whole_from format source disks requests output old new (Ran ending) exits other none =
-    let outcome = run_outcome exits.0 requests in
+    let outcome = outcome_of exits.0 requests in
     let served = served_is outcome output ending other exits.2.served in
     record { load = SoundAs exits.0; loaded = exits.1; is = ap (ended_if outcome.output) served.1 ∙ ap (λ (out : List ℕ). ended_if out (Some ending)) served.0 }
 
@@ -102,7 +102,7 @@ whole_at format source disks requests output old new exit status is exits five s
     (whole_from format source disks requests output old new exit exits (λ e. five (is ∙ e)) (λ e. six (is ∙ e)))
 
 -- a failed output comes of a sound load, and took a beginning of what there was to write
-pub failed_at_five : (format : Format) (source disks requests : Delivery) (output : List ℕ) (old new : ℕ) (exit : Exit) → IsExitOf format source disks requests output old new exit → exit_status exit ≡ 5 → (description : Description) × PartsGive format source disks (SoundAs description) × FailedOutput (run_outcome description requests).output output old new
+pub failed_at_five : (format : Format) (source disks requests : Delivery) (output : List ℕ) (old new : ℕ) (exit : Exit) → IsExitOf format source disks requests output old new exit → exit_status exit ≡ 5 → (description : Description) × PartsGive format source disks (SoundAs description) × FailedOutput (outcome_of description requests).output output old new
 failed_at_five format source disks requests output old new (Refused fault) exits five = absurd (no_write_fault fault.kind five)
 failed_at_five format source disks requests output old new (Ran endings.Done) exits five = absurd (omega arith)
 failed_at_five format source disks requests output old new (Ran (endings.BadRequest number word)) exits five = absurd (omega arith)

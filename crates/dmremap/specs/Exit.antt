@@ -9,7 +9,7 @@ use Rattle.dm_stack.specs.Description.{Description}
 use Rattle.dm_stream.specs.declared.ending.Ending.{Ending}
 use Rattle.dm_stream.specs.declared.ending.Ending.TheVariants as endings
 use Rattle.dm_stream.specs.Messages.{IsTold, ending_message}
-use Rattle.dm_stream.specs.Outcome.{Outcome, run_outcome}
+use Rattle.dm_stream.specs.Outcome.{Outcome}
 use Rattle.dm_stream.specs.Run.{IsServed}
 use Rattle.dmremap.specs.declared.map_whole.Exit.{Exit}
 use Rattle.dmremap.specs.declared.map_whole.Exit.TheVariants.{Refused, Ran}
@@ -17,6 +17,7 @@ use Rattle.dmremap.specs.declared.words.Format.{Format}
 use Rattle.dmremap.specs.Inputs.{IsUnchanged}
 use Rattle.dmremap.specs.Load.{RefusedBy, SoundAs, PartsGive}
 use Rattle.dmremap.specs.Status.{load_status, ending_status}
+use Rattle.dmremap.specs.Whole.{outcome_of}
 
 abbrev pub exit_message : Exit → List ℕ
 exit_message (Refused fault) = load_message fault
@@ -41,7 +42,7 @@ pub record RanTo (outcome : Outcome) (output : List ℕ) (ending : Ending) (flus
 -- what a run over a sound stack wrote; its last memory may be refused
 abbrev pub IsRun : Description → Delivery → List ℕ → (flushes_old flushes_new : ℕ) → Exit → Type 0
 IsRun description requests output old new (Refused fault) = (output ≡ []) × (fault.kind ≡ Memory)
-IsRun description requests output old new (Ran ending) = RanTo (run_outcome description requests) output ending old new
+IsRun description requests output old new (Ran ending) = RanTo (outcome_of description requests) output ending old new
 
 -- this output and this exit are what the deliveries give
 abbrev pub IsExitOf : Format → (source disks requests : Delivery) → List ℕ → (flushes_old flushes_new : ℕ) → Exit → Type 0
@@ -49,7 +50,7 @@ IsExitOf format source disks requests output old new (Refused fault) =
     (output ≡ []) × (fault.kind ≢ Memory → PartsGive format source disks (RefusedBy fault))
 IsExitOf format source disks requests output old new (Ran ending) =
     (description : Description) × PartsGive format source disks (SoundAs description)
-    × RanTo (run_outcome description requests) output ending old new
+    × RanTo (outcome_of description requests) output ending old new
 
 -- one flush, after which nothing waits; none where the load was refused; at most one where the output failed
 abbrev pub IsFlushed : Exit → List ℕ → ℕ → ℕ → Type 0

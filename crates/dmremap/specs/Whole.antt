@@ -3,11 +3,17 @@ use Rattle.std.specs.Prelude.{◌≡◌, ℕ, List, [], Option, None, Some}
 use Rattle.dm_table.specs.DeviceIo.{Delivery}
 use Rattle.dm_table.specs.LoadMessage.{load_message}
 use Rattle.dm_stream.specs.declared.ending.Ending.{Ending}
-use Rattle.dm_stream.specs.Outcome.{run_outcome}
+use Rattle.dm_map.specs.State.{start_state}
+use Rattle.dm_stack.specs.Description.{Description}
+use Rattle.dm_stream.specs.Outcome.{Outcome, run_outcome}
 use Rattle.dm_stream.specs.Messages.{ending_message}
 use Rattle.dmremap.specs.declared.words.Format.{Format}
 use Rattle.dmremap.specs.Load.{Load, RefusedBy, SoundAs, PartsGive}
 use Rattle.dmremap.specs.Status.{ending_status}
+
+-- the outcome of what the requests delivered, over a stack in its state at the start
+abbrev pub outcome_of : Description → Delivery → Outcome
+outcome_of description requests = run_outcome description (start_state description) requests
 
 -- what a run gives
 pub record Whole : Type 0 where
@@ -28,7 +34,7 @@ ended_if output None = None
 abbrev pub whole_of : Load → Delivery → Option Whole
 whole_of (RefusedBy fault) requests = Some (record { output = []; message = load_message fault; status = 1 })
 whole_of (SoundAs description) requests =
-    let outcome = run_outcome description requests in ended_if outcome.output outcome.ending
+    let outcome = outcome_of description requests in ended_if outcome.output outcome.ending
 
 -- the deliveries of the source, of the disk list and of the requests give this run
 pub record GiveWhole (format : Format) (source disks requests : Delivery) (whole : Whole) : Type 0 where

@@ -17,15 +17,14 @@ ghost use Rattle.dm_stack.specs.Soundness.{IsSound};
 ghost use Rattle.dm_map.specs.Mapping.{IsFreeOfLevels};
 ghost use Rattle.dm_map.specs.Units.{BlockUnit};
 ghost use Rattle.dm_stream.specs.declared.lines.TheConstants.{MOST_LINE_BYTES};
-ghost use Rattle.dm_stream.specs.declared.serve.TheConstants.{MOST_REQUESTS};
+ghost use Rattle.dm_stream.specs.declared.requests.TheConstants.{MOST_REQUESTS};
 ghost use Rattle.dm_stream.specs.Messages.{IsTold, write_message};
-ghost use Rattle.dm_stream.specs.Outcome.{run_outcome};
 ghost use Rattle.dm_stream.specs.Pieces.{AreFewest, fewest};
 ghost use Rattle.dmremap.specs.declared.words.Format.{Format};
 ghost use Rattle.dmremap.specs.Exit.{FailedOutput, IsExitOf, IsRun, MessageWritten, OutputWritten, RequestsRead, exit_message, exit_status};
 ghost use Rattle.dmremap.specs.Inputs.{IsReadOnIf, IsUnchanged, delivery_if};
 ghost use Rattle.dmremap.specs.Load.{PartsGive, SoundAs};
-ghost use Rattle.dmremap.specs.Whole.{GiveWhole, Whole};
+ghost use Rattle.dmremap.specs.Whole.{GiveWhole, Whole, outcome_of};
 ghost use Rattle.dmremap.specs.Words.{has_disk_list};
 
 #[cfg(test)]
@@ -101,7 +100,7 @@ pub fn map_whole<S: Input, D: Input, Q: Input, W: Output, M: Output>(
     ensures beginning { result ≡ 5 → (description : Description) × PartsGive format
         (delivery S.handed S.faults S.ends source.old source.new)
         (delivery_if D.handed D.faults D.ends disks.old disks.new) (SoundAs description)
-        × FailedOutput (run_outcome description (delivery Q.handed Q.faults Q.ends requests.old requests.new)).output
+        × FailedOutput (outcome_of description (delivery Q.handed Q.faults Q.ends requests.old requests.new)).output
         (since (W.written output.old) (W.written output.new)) (W.flushes output.old) (W.flushes output.new) }
     ensures write_message { result ≡ 5 → IsTold write_message
         (since (M.written messages.old) (M.written messages.new)) (M.faults messages.old) (M.faults messages.new) }
