@@ -15,7 +15,7 @@ pub first_or-found : (faults : List LoadFault) (later : Option LoadFault) (fault
 first_or-found [] later fault h = absurd cc
 first_or-found (other ∷ faults) later fault h = h
 
--- a check that finds nothing leaves the answer to those behind it
+-- a check that finds nothing leaves the result to those after it
 pub first_or-passed : (faults : List LoadFault) (later : Option LoadFault) → first_or faults None ≡ None → first_or faults later ≡ later
 first_or-passed [] later h = refl
 first_or-passed (fault ∷ faults) later h = absurd cc
@@ -73,7 +73,7 @@ pub unended-nil : (part : Part) (n : ℕ) (rest : List ℕ) → unended part n r
 unended-nil part n [] e = refl
 unended-nil part n (byte ∷ bytes) e = absurd cc
 
--- What is answered
+-- What is returned
 
 pub unless-ok : {X : Type 0} (found : Option LoadFault) (x y : X) → unless found x ≡ Ok y → (found ≡ None) × (x ≡ y)
 unless-ok None x y h = (refl, cc)
@@ -91,7 +91,7 @@ Answers-refused part view whole fault faults later y w h = (
   λ other. let found = first_or-found faults later fault (unless-err (first_or faults None) y fault (h.1 other)) in rw found refl,
 )
 
--- what a first step takes, the whole call answers by the steps behind it
+-- what a first step takes, the whole call returns what the steps after it do
 pub unless-passed : {Y W : Type 0} (faults : List LoadFault) (later : Option LoadFault) (y taken : Y) (w : W)
     → unless (first_or faults None) y ≡ Ok taken → (y ≡ taken) × (unless (first_or faults later) w ≡ unless later w)
 unless-passed faults later y taken w h =
