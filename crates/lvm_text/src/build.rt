@@ -4,10 +4,9 @@
 
 ghost use Rattle.std.specs.Prelude.{◌≡◌, ◌≤◌, ◌<◌, ◌+◌, ◌∷◌, [], drop, length, option_map, IfOk, IfErr, IfSome, MatchOption, ℕ, true, false};
 ghost use Rattle.lvm_text.specs.Token as spec;
-ghost use Rattle.lvm_text.specs.Grammar.{scalar_of};
 ghost use Rattle.lvm_text.specs.TokenView.{token_view, views};
 ghost use Rattle.lvm_text.specs.View.{scalar_view, scalar_views, has_line};
-ghost use Rattle.lvm_text.specs.Build.{is_comma, is_open, is_list_open, begins_key, scalar_first, item_of, ReadsScalars, ShowsScalar, ReadsLeaf, ReadsValue, ReadsValues, IsTwice, IsTwiceInside};
+ghost use Rattle.lvm_text.specs.Build.{bounded_of, is_comma, is_open, is_list_open, begins_key, scalar_first, item_of, ReadsScalars, ShowsScalar, ReadsLeaf, ReadsValue, ReadsValues, IsTwice, IsTwiceInside};
 ghost use Rattle.lvm_text.specs.Checks.{twice_lines};
 ghost use Rattle.lvm_text.specs.Repeat.{inner_lines};
 
@@ -51,9 +50,9 @@ fn key_at<'a>(tokens: &[Placed<'a>], at: usize) -> Option<(&'a str, u64)>
     }
 }
 
-/// The scalar that a token is.
+/// The scalar that a token is. Integers out of range were refused before, so none stands here.
 fn scalar_of(token: Token<'_>) -> Option<Scalar<'_>>
-    ensures { option_map scalar_view result ≡ scalar_of (token_view token.entry) }
+    ensures { option_map scalar_view result ≡ bounded_of (token_view token.entry) }
 {
     match token {
         Token::Word(word) if are_digits(word.as_bytes()) => {
