@@ -7,7 +7,7 @@ use Rattle.std.proofs.lemmas.Slice.Eq.{bytes_eq-Decides}
 use Rattle.lvm_text.specs.Tree.{Values, Nothing, Section, Single, Several, Tree, Shown, Inner, Whole, Items, keys_of, sections_of, node_of, IsFound}
 use Rattle.lvm_text.specs.Checks.{hit, has_key, twice_lines}
 
-no_hit : (b : Bool) (n : ℕ) (later : List ℕ) → hit b n later ≡ [] → (b ≡ false) × (later ≡ [])
+pub no_hit : (b : Bool) (n : ℕ) (later : List ℕ) → hit b n later ≡ [] → (b ≡ false) × (later ≡ [])
 no_hit true n later e = absurd cc
 no_hit false n later e = (refl, e)
 

@@ -10,6 +10,7 @@ pub mod Placings
 pub mod Building
 pub mod Twice
 pub mod Keys
+pub mod Bounds
 pub mod Steps
 pub mod Pieces
 pub mod Boundaries

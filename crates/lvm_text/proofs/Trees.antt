@@ -6,12 +6,15 @@ use Rattle.lvm_text.specs.Tree.{Values, Tree}
 use Rattle.lvm_text.specs.Spelling.{Spells}
 use Rattle.lvm_text.specs.Grammar.{IsText}
 use Rattle.lvm_text.specs.Machine.{run}
-use Rattle.lvm_text.specs.Checks.{first_line, deep_lines, number_lines, twice_lines, fault_of}
+use Rattle.lvm_text.specs.Checks.{head_line, first_line, deep_lines, number_lines, twice_lines, fault_of}
+use Rattle.lvm_text.specs.Build.{ReadsValues, IsTwice}
 use Rattle.lvm_text.specs.Reading.{Describes, HasFault, TreeOf}
 use Rattle.lvm_text.specs.declared.syntax.Place.TheVariants as at
 use Rattle.lvm_text.specs.declared.fault.TextFault.{TextFault}
 use Rattle.lvm_text.specs.declared.fault.TextFault.TheVariants as fault
+use Rattle.lvm_text.proofs.Bounds.{bounded_text}
 use Rattle.lvm_text.proofs.Fronts.{text_from}
+use Rattle.std.proofs.lemmas.Option.{same_Some}
 
 -- no check of tokens answers a fault of tokens or of syntax
 abbrev IsLater : TextFault → Type 0
@@ -49,6 +52,38 @@ fault_by text ts v (Err (fault.Deep n)) s h o = λ ne. record { tokens = ts; val
 fault_by text ts v (Err (fault.Number n)) s h o = λ ne. record { tokens = ts; values = v; spelled = s; grammar = h; hit = o }
 fault_by text ts v (Err (fault.KeyTwice n)) s h o = λ ne. record { tokens = ts; values = v; spelled = s; grammar = h; hit = o }
 fault_by text ts v (Err fault.Memory) s h o = λ ne. absurd (ne refl)
+
+-- What the builder read, or refused
+
+no_head : (ns : List ℕ) → None ≡ head_line ns → ns ≡ []
+no_head [] e = refl
+no_head (n ∷ ns) e = absurd cc
+
+first_head : (ns : List ℕ) (n : ℕ) (fault : ℕ → TextFault) → head_line ns ≡ Some n → first_line fault ns None ≡ Some (fault n)
+first_head [] n fault e = absurd cc
+first_head (m ∷ ns) n fault e = ap (λ (l : ℕ). Some (fault l)) (same_Some _ _ e)
+
+-- the fault of keys, where no other check hits
+fault_twice : (ts : List Placed) (v : Values) → None ≡ head_line (deep_lines 0 ts) → None ≡ head_line (number_lines Close ts) → fault_of ts v ≡ first_line (λ n. fault.KeyTwice n) (twice_lines [] v) None
+fault_twice ts v deep number =
+    ap (λ (ns : List ℕ). first_line (λ l. fault.Deep l) ns (first_line (λ l. fault.Number l) (number_lines Close ts) (first_line (λ l. fault.KeyTwice l) (twice_lines [] v) None))) (no_head (deep_lines 0 ts) deep)
+    ∙ ap (λ (ns : List ℕ). first_line (λ l. fault.Number l) ns (first_line (λ l. fault.KeyTwice l) (twice_lines [] v) None)) (no_head (number_lines Close ts) number)
+
+pub tree_twice : (ts : List Placed) (f : TextFault) → None ≡ head_line (deep_lines 0 ts) → None ≡ head_line (number_lines Close ts) → IsTwice ts f → (v : Values) → IsText ts v → TreeOf ts v (Err f)
+tree_twice ts (fault.KeyTwice n) deep number twice v h =
+    fault_twice ts v deep number ∙ first_head (twice_lines [] v) n (λ l. fault.KeyTwice l) (twice v [] (bounded_text ts v (no_head (number_lines Close ts) number) h) refl)
+tree_twice ts fault.Memory deep number twice v h = tt
+tree_twice ts (fault.Token n) deep number twice v h = absurd twice
+tree_twice ts (fault.Syntax n) deep number twice v h = absurd twice
+tree_twice ts (fault.Deep n) deep number twice v h = absurd twice
+tree_twice ts (fault.Number n) deep number twice v h = absurd twice
+
+pub tree_read : (ts rest : List Placed) (t : Tree) → None ≡ head_line (deep_lines 0 ts) → None ≡ head_line (number_lines Close ts) → t.line ≡ 1 → twice_lines [] t.values ≡ [] → ReadsValues ts t.values rest → (v : Values) → IsText ts v → TreeOf ts v (Ok t)
+tree_read ts rest t deep number line differ read v h =
+    let same : v ≡ t.values = (read v [] (bounded_text ts v (no_head (number_lines Close ts) number) h) refl).0 in (
+      ap (λ (n : ℕ). let u : Tree = record { line = n; values = t.values } in u) line ∙ ap (λ (w : Values). let u : Tree = record { line = 1; values = w } in u) (sym same),
+      fault_twice ts v deep number ∙ ap (λ (ns : List ℕ). first_line (λ l. fault.KeyTwice l) ns None) (ap (twice_lines []) same ∙ differ),
+    )
 
 pub tree_accepted : (text : List ℕ) (ts : List Placed) (r : Result Tree TextFault) → Spells text ts → run 0 at.Key ts ≡ Some (0, at.Key) → ((v : Values) → IsText ts v → TreeOf ts v r) → IfOk r (Describes text)
 tree_accepted text ts r s e h = let t = text_from ts e in accepted_by text ts t.0 r s t.1 (h t.0 t.1)

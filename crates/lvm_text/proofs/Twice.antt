@@ -3,10 +3,10 @@ use Rattle.std.proofs.Common.{◌≡◌, ℕ, ◌+◌, Bool, true, false, cond, 
 use Rattle.std.specs.Prelude.{bytes_eq, is_some}
 use Rattle.lvm_text.specs.Token.{Word, Open, Equals, ListOpen, Placed}
 use Rattle.lvm_text.specs.Tree.{Values, Nothing, Section, Single, Several}
-use Rattle.lvm_text.specs.Grammar.{Reads}
+use Rattle.lvm_text.specs.Grammar.{ReadsBy}
 use Rattle.lvm_text.specs.Checks.{head_line, hit, has_key, twice_lines}
 use Rattle.lvm_text.specs.Repeat.{inner_lines}
-use Rattle.lvm_text.specs.Build.{begins_key, is_open, before, IsTwice, IsTwiceInside}
+use Rattle.lvm_text.specs.Build.{bounded_of, begins_key, is_open, before, IsTwice, IsTwiceInside}
 use Rattle.lvm_text.specs.View.{put, values_of}
 use Rattle.lvm_text.specs.Places.{place_of}
 use Rattle.lvm_text.specs.declared.tree.Value.{Value}
@@ -84,7 +84,7 @@ differ_push es e h new inside =
 head_hit : (k key : List ℕ) (n line : ℕ) (ks : List (List ℕ)) (later : List ℕ) → k ≡ key → line ≡ n → has_key key ks ≡ true → head_line (hit (has_key k ks) n later) ≡ Some line
 head_hit k key n line ks later same at has = rw (same, sym at) (rw has refl)
 
-key_here : (key : List ℕ) (line : ℕ) (tokens : List Placed) (ks : List (List ℕ)) (left : Values) (more : List Placed) → has_key key ks ≡ true → Reads ((Word key, line) ∷ tokens) left more → begins_key more ≡ false → head_line (twice_lines ks left) ≡ Some line
+key_here : (key : List ℕ) (line : ℕ) (tokens : List Placed) (ks : List (List ℕ)) (left : Values) (more : List Placed) → has_key key ks ≡ true → ReadsBy bounded_of ((Word key, line) ∷ tokens) left more → begins_key more ≡ false → head_line (twice_lines ks left) ≡ Some line
 key_here key line tokens ks Nothing more has r stop = absurd (no_values key line tokens more r stop)
 key_here key line tokens ks (Section q n inner later) more has r stop =
     let s = same_key key q line n tokens ((Open, r.1) ∷ r.3) r.5 in
@@ -102,7 +102,7 @@ key_twice start es rest tokens key line so_far same differ has = λ v more r sto
     let x = so_far v more r stop in
     ap (λ (w : Values). head_line (twice_lines [] w)) x.1
     ∙ ap head_line (twice_left es x.0 differ)
-    ∙ key_here key line tokens (keys_after es []) x.0 more (has_placed es key true has) (subst (λ (ts : List Placed). Reads ts x.0 more) same x.2) stop
+    ∙ key_here key line tokens (keys_after es []) x.0 more (has_placed es key true has) (subst (λ (ts : List Placed). ReadsBy bounded_of ts x.0 more) same x.2) stop
 
 head_first : (xs ys : List ℕ) (n : ℕ) → head_line xs ≡ Some n → head_line (xs ++ ys) ≡ Some n
 head_first [] ys n e = absurd cc
@@ -116,7 +116,7 @@ pub twice_inside : (start : List Placed) (es : List Entry) (rest tokens : List P
     → IsTwiceInside line tokens f → IsTwice start f
 twice_inside start es rest tokens key line (fault.KeyTwice n) so_far same differ new inside = λ v more r stop.
     let x = so_far v more r stop in
-    let y = inside key x.0 more (subst (λ (ts : List Placed). Reads ts x.0 more) same x.2) stop in
+    let y = inside key x.0 more (subst (λ (ts : List Placed). ReadsBy bounded_of ts x.0 more) same x.2) stop in
     ap (λ (w : Values). head_line (twice_lines [] w)) x.1
     ∙ ap head_line (twice_left es x.0 differ)
     ∙ ap (λ (w : Values). head_line (twice_lines (keys_after es []) w)) y.2

@@ -1,4 +1,4 @@
--- The checks of a text that the grammar spells: for each the lines where it hits, in source order.
+-- The checks of a text of the grammar: for each the lines where it finds something, in source order.
 use Rattle.std.specs.Prelude.{ℕ, suc, ◌-◌, Bool, true, false, ◌&&◌, nat_lt, List, [], ◌∷◌, ◌++◌, Option, Some, None, is_none, bytes_eq, if◌then◌else◌}
 use Rattle.std.specs.List.{list_any}
 use Rattle.lvm_text.specs.Token.{Token, Word, Open, Close, ListOpen, Equals, Comma, Placed}
@@ -7,7 +7,7 @@ use Rattle.lvm_text.specs.Grammar.{number_of}
 use Rattle.lvm_text.specs.declared.fault.TextFault.{TextFault}
 use Rattle.lvm_text.specs.declared.fault.TextFault.TheVariants.{Deep, Number, KeyTwice}
 
--- a line where a test hits, before later lines
+-- a line, if a test finds something there, before later lines
 abbrev pub hit : Bool → ℕ → List ℕ → List ℕ
 hit b n later = if b then n ∷ later else later
 
@@ -16,7 +16,7 @@ abbrev pub head_line : List ℕ → Option ℕ
 head_line [] = None
 head_line (n ∷ ns) = Some n
 
--- the level behind a token, from that before it
+-- the level after a token, from that before it
 abbrev pub level_after : Token → ℕ → ℕ
 level_after Open level = suc level
 level_after Close level = level - 1
@@ -32,7 +32,7 @@ abbrev pub deep_lines : ℕ → List Placed → List ℕ
 deep_lines level [] = []
 deep_lines level (t ∷ ts) = hit (opens_deep t.0 level) t.1 (deep_lines (level_after t.0 level) ts)
 
--- a scalar stands behind one of these
+-- a word after one of these is a scalar
 abbrev pub leads_scalar : Token → Bool
 leads_scalar Equals = true
 leads_scalar ListOpen = true
@@ -44,7 +44,7 @@ abbrev pub is_refused : Token → Bool
 is_refused (Word w) = is_none (number_of w)
 is_refused _ = false
 
--- the integers out of range, where this token stands before
+-- the integers out of range, after this token
 abbrev pub number_lines : Token → List Placed → List ℕ
 number_lines before [] = []
 number_lines before (t ∷ ts) = hit (leads_scalar before && is_refused t.0) t.1 (number_lines t.0 ts)
@@ -65,6 +65,6 @@ abbrev pub first_line : (ℕ → TextFault) → List ℕ → Option TextFault �
 first_line fault [] later = later
 first_line fault (n ∷ ns) later = Some (fault n)
 
--- the first check that hits, at its first line
+-- the first check that finds something, at its first line
 abbrev pub fault_of : List Placed → Values → Option TextFault
 fault_of ts v = first_line (λ n. Deep n) (deep_lines 0 ts) (first_line (λ n. Number n) (number_lines Close ts) (first_line (λ n. KeyTwice n) (twice_lines [] v) None))

@@ -1,5 +1,5 @@
 -- The grammar of a text by its tokens, and the beginnings of its texts.
-use Rattle.std.specs.Prelude.{◌≡◌, ℕ, ◌^◌, ◌⊎◌, Bool, true, false, ◌&&◌, not, ◌==◌, nat_le, nat_lt, List, [], ◌∷◌, ◌++◌, length, Option, Some, None, unwrap_or, if◌then◌else◌}
+use Rattle.std.specs.Prelude.{◌≡◌, ℕ, ◌^◌, ◌⊎◌, Bool, true, false, ◌&&◌, not, ◌==◌, nat_le, nat_lt, List, [], ◌∷◌, ◌++◌, length, Option, Some, None, if◌then◌else◌}
 use Rattle.std.specs.List.{list_all}
 use Rattle.std.specs.Char.{is_ascii_digit}
 use Rattle.std.specs.Str.Parse.{digits_value}
@@ -20,32 +20,43 @@ abbrev pub is_key : List ℕ → Bool
 is_key [] = false
 is_key (b ∷ bs) = not (b == 45)
 
--- what a token is as a scalar: a word of digits alone, or a string. Of an integer out of range, which a
--- check refuses, no number is said
+-- what a token is as a scalar: a word of digits alone, whose value has no limit, or a string
 abbrev pub scalar_of : Token → Option tree.Scalar
-scalar_of (Word w) = if are_digits w then Some (tree.Int (unwrap_or (number_of w) 0)) else None
+scalar_of (Word w) = if are_digits w then Some (tree.Int (digits_value 10 w)) else None
 scalar_of (Text t) = Some (tree.Text t)
 scalar_of _ = None
 
+-- Texts, where `scalar` says what a token is as a scalar
+
 -- after a scalar of a list: a comma and a scalar for each of these, the closing bracket, and more
-abbrev pub ReadsMore : List Placed → List tree.Scalar → List Placed → Type 0
-ReadsMore ts [] more = (c : ℕ) × (ts ≡ (ListClose, c) ∷ more)
-ReadsMore ts (s ∷ ss) more = (c n : ℕ) × (t : Token) × (a : List Placed) × (ts ≡ (Comma, c) ∷ (t, n) ∷ a) × (scalar_of t ≡ Some s) × ReadsMore a ss more
+abbrev pub ReadsMoreBy : (Token → Option tree.Scalar) → List Placed → List tree.Scalar → List Placed → Type 0
+ReadsMoreBy scalar ts [] more = (c : ℕ) × (ts ≡ (ListClose, c) ∷ more)
+ReadsMoreBy scalar ts (s ∷ ss) more = (c n : ℕ) × (t : Token) × (a : List Placed) × (ts ≡ (Comma, c) ∷ (t, n) ∷ a) × (scalar t ≡ Some s) × ReadsMoreBy scalar a ss more
 
 -- after an opening bracket: these scalars, the closing bracket, and more
-abbrev pub ReadsList : List Placed → List tree.Scalar → List Placed → Type 0
-ReadsList ts [] more = (c : ℕ) × (ts ≡ (ListClose, c) ∷ more)
-ReadsList ts (s ∷ ss) more = (n : ℕ) × (t : Token) × (a : List Placed) × (ts ≡ (t, n) ∷ a) × (scalar_of t ≡ Some s) × ReadsMore a ss more
+abbrev pub ReadsListBy : (Token → Option tree.Scalar) → List Placed → List tree.Scalar → List Placed → Type 0
+ReadsListBy scalar ts [] more = (c : ℕ) × (ts ≡ (ListClose, c) ∷ more)
+ReadsListBy scalar ts (s ∷ ss) more = (n : ℕ) × (t : Token) × (a : List Placed) × (ts ≡ (t, n) ∷ a) × (scalar t ≡ Some s) × ReadsMoreBy scalar a ss more
 
 -- the tokens are these values, and then more
+abbrev pub ReadsBy : (Token → Option tree.Scalar) → List Placed → Values → List Placed → Type 0
+ReadsBy scalar ts Nothing more = ts ≡ more
+ReadsBy scalar ts (Section k n inner rest) more =
+    (is_key k ≡ true) × (o c : ℕ) × (a b : List Placed) × (ts ≡ (Word k, n) ∷ (Open, o) ∷ a) × ReadsBy scalar a inner ((Close, c) ∷ b) × ReadsBy scalar b rest more
+ReadsBy scalar ts (Single k n s rest) more =
+    (is_key k ≡ true) × (e m : ℕ) × (t : Token) × (b : List Placed) × (ts ≡ (Word k, n) ∷ (Equals, e) ∷ (t, m) ∷ b) × (scalar t ≡ Some s) × ReadsBy scalar b rest more
+ReadsBy scalar ts (Several k n ss rest) more =
+    (is_key k ≡ true) × (e o : ℕ) × (a b : List Placed) × (ts ≡ (Word k, n) ∷ (Equals, e) ∷ (ListOpen, o) ∷ a) × ReadsListBy scalar a ss b × ReadsBy scalar b rest more
+
+-- the same, as the grammar has scalars
+abbrev pub ReadsMore : List Placed → List tree.Scalar → List Placed → Type 0
+ReadsMore = ReadsMoreBy scalar_of
+
+abbrev pub ReadsList : List Placed → List tree.Scalar → List Placed → Type 0
+ReadsList = ReadsListBy scalar_of
+
 abbrev pub Reads : List Placed → Values → List Placed → Type 0
-Reads ts Nothing more = ts ≡ more
-Reads ts (Section k n inner rest) more =
-    (is_key k ≡ true) × (o c : ℕ) × (a b : List Placed) × (ts ≡ (Word k, n) ∷ (Open, o) ∷ a) × Reads a inner ((Close, c) ∷ b) × Reads b rest more
-Reads ts (Single k n s rest) more =
-    (is_key k ≡ true) × (e m : ℕ) × (t : Token) × (b : List Placed) × (ts ≡ (Word k, n) ∷ (Equals, e) ∷ (t, m) ∷ b) × (scalar_of t ≡ Some s) × Reads b rest more
-Reads ts (Several k n ss rest) more =
-    (is_key k ≡ true) × (e o : ℕ) × (a b : List Placed) × (ts ≡ (Word k, n) ∷ (Equals, e) ∷ (ListOpen, o) ∷ a) × ReadsList a ss b × Reads b rest more
+Reads = ReadsBy scalar_of
 
 -- the tokens are a text: these values and no more
 abbrev pub IsText : List Placed → Values → Type 0

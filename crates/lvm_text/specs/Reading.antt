@@ -8,7 +8,7 @@ use Rattle.lvm_text.specs.Checks.{fault_of}
 use Rattle.lvm_text.specs.declared.fault.TextFault.{TextFault}
 use Rattle.lvm_text.specs.declared.fault.TextFault.TheVariants.{Token, Syntax, Deep, Number, KeyTwice, Memory}
 
--- the text says this tree: it spells tokens that are a text of these values, and no check hits
+-- the text says this tree: it spells tokens that are a text of these values, and no check finds anything
 pub record Describes (text : List ℕ) (t : Tree) : Type 0 where
   pub tokens : List Placed
   pub spelled : Spells text tokens
@@ -30,7 +30,7 @@ pub record IsUnsound (text : List ℕ) (fault : TextFault) : Type 0 where
   pub grammar : IsText tokens values
   pub hit : fault_of tokens values ≡ Some fault
 
--- the text has this fault; want of memory is no fault of a text
+-- the text has this fault; running out of memory is no fault of a text
 abbrev pub HasFault : List ℕ → TextFault → Type 0
 HasFault text (Token n) = IsBadToken text n
 HasFault text (Syntax n) = IsBadSyntax text n
@@ -39,18 +39,18 @@ HasFault text (Number n) = IsUnsound text (Number n)
 HasFault text (KeyTwice n) = IsUnsound text (KeyTwice n)
 HasFault text Memory = ⊥
 
--- a fault of tokens alone, or want of memory
+-- a fault of tokens alone, or out of memory
 abbrev pub IsTokenFault : List ℕ → TextFault → Type 0
 IsTokenFault text (Token n) = IsBadToken text n
 IsTokenFault text Memory = Unit {0}
 IsTokenFault text _ = ⊥
 
--- this is what parse answers, unless memory runs out
+-- this is what parse returns, unless memory runs out
 abbrev pub Answers : Result Tree TextFault → Result Tree TextFault → Type 0
 Answers (Err Memory) said = Unit {0}
 Answers result said = result ≡ said
 
--- of tokens that are a text of these values: the tree, or the fault of the first check that hits
+-- of tokens that are a text of these values: the tree, or the fault of the first check that finds one
 abbrev pub TreeOf : List Placed → Values → Result Tree TextFault → Type 0
 TreeOf ts v (Ok t) = (t ≡ record { line = 1; values = v }) × (fault_of ts v ≡ None)
 TreeOf ts v (Err Memory) = Unit {0}

@@ -23,7 +23,7 @@ raw_length (b ∷ c ∷ bs) =
     else if b == 10 then None
     else option_map suc (raw_length (c ∷ bs))
 
--- a backslash before a byte that may stand behind one
+-- a backslash before a byte that may follow one
 abbrev pub is_escape : List ℕ → Bool
 is_escape [] = false
 is_escape (b ∷ []) = false

@@ -22,7 +22,7 @@ abbrev pub newlines : List ℕ → ℕ
 newlines [] = 0
 newlines (b ∷ bs) = if is_newline b then suc (newlines bs) else newlines bs
 
--- a quote or a backslash, which stand in a string behind a backslash alone
+-- a quote or a backslash, which a string has only after a backslash
 abbrev pub is_escapable : ℕ → Bool
 is_escapable b = b == 34 || b == 92
 

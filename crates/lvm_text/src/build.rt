@@ -1,13 +1,13 @@
 //! The tree of tokens that are a text.
-//! Syntax, depth and integers were checked before, so nothing is refused here, and what is made of other
-//! tokens says nothing. Sections inside sections are calls inside calls: at most 16, since depth was checked.
+//! Syntax, depth and integers were checked before, so a key that stands twice is all that is refused here: it is
+//! looked for before what it holds is read, which is the order of the source. Sections inside sections are calls
+//! inside calls, at most 16 deep, since depth was checked.
 
 ghost use Rattle.std.specs.Prelude.{◌≡◌, ◌≤◌, ◌<◌, ◌+◌, ◌∷◌, [], drop, length, option_map, IfOk, IfErr, IfSome, MatchOption, ℕ, true, false};
 ghost use Rattle.lvm_text.specs.Token as spec;
-ghost use Rattle.lvm_text.specs.Grammar.{scalar_of};
 ghost use Rattle.lvm_text.specs.TokenView.{token_view, views};
 ghost use Rattle.lvm_text.specs.View.{scalar_view, scalar_views, has_line};
-ghost use Rattle.lvm_text.specs.Build.{is_comma, is_open, is_list_open, begins_key, scalar_first, item_of, ReadsScalars, ShowsScalar, ReadsLeaf, ReadsValue, ReadsValues, IsTwice, IsTwiceInside};
+ghost use Rattle.lvm_text.specs.Build.{bounded_of, is_comma, is_open, is_list_open, begins_key, scalar_first, item_of, ReadsScalars, ShowsScalar, ReadsLeaf, ReadsValue, ReadsValues, IsTwice, IsTwiceInside};
 ghost use Rattle.lvm_text.specs.Checks.{twice_lines};
 ghost use Rattle.lvm_text.specs.Repeat.{inner_lines};
 
@@ -30,7 +30,7 @@ fn token_at<'a>(tokens: &[Placed<'a>], at: usize) -> Option<Placed<'a>>
     }
 }
 
-/// The place behind a token, or the end.
+/// The place after a token, or the end.
 fn behind(tokens: &[Placed<'_>], at: usize) -> usize
     requires { at ≤ length tokens.now }
     ensures rest { drop result tokens.now ≡ drop 1 (drop at tokens.now) }
@@ -51,9 +51,9 @@ fn key_at<'a>(tokens: &[Placed<'a>], at: usize) -> Option<(&'a str, u64)>
     }
 }
 
-/// The scalar that a token is.
+/// The scalar that a token is. There is no integer out of range here, since those were refused before.
 fn scalar_of(token: Token<'_>) -> Option<Scalar<'_>>
-    ensures { option_map scalar_view result ≡ scalar_of (token_view token.entry) }
+    ensures { option_map scalar_view result ≡ bounded_of (token_view token.entry) }
 {
     match token {
         Token::Word(word) if are_digits(word.as_bytes()) => {
@@ -91,7 +91,7 @@ fn is_list_open(token: Token<'_>) -> bool
     }
 }
 
-/// The place behind a comma, if one stands here.
+/// The place after a comma, if there is one here.
 fn behind_comma(tokens: &[Placed<'_>], at: usize) -> usize
     ensures same { item_of (views (drop at tokens.now)) ≡ scalar_first (views (drop result tokens.now)) }
     ensures later { at ≤ result }
@@ -102,7 +102,7 @@ fn behind_comma(tokens: &[Placed<'_>], at: usize) -> usize
     if is_comma(first.token) { at + 1 } else { at }
 }
 
-/// A scalar of a list, behind a comma if one stands there, and the place behind it.
+/// A scalar of a list, after a comma if there is one, and the place after it.
 fn item_at<'a>(tokens: &[Placed<'a>], at: usize) -> Option<(Scalar<'a>, usize)>
     ensures item { option_map (λ r. (scalar_view r.0, views (drop r.1 tokens.now))) result ≡ item_of (views (drop at tokens.now)) }
     ensures later { IfSome result (λ r. (at < r.1) × (r.1 ≤ length tokens.now)) }
@@ -115,7 +115,7 @@ fn item_at<'a>(tokens: &[Placed<'a>], at: usize) -> Option<(Scalar<'a>, usize)>
     }
 }
 
-/// The scalars of a list, from behind its opening bracket, and the place behind the closing one.
+/// The scalars of a list, from after its opening bracket, and the place after the closing one.
 fn scalars_at<'a>(
     alloc: Global,
     tokens: &[Placed<'a>],
@@ -134,7 +134,7 @@ fn scalars_at<'a>(
     Ok((scalars, behind(tokens, at)))
 }
 
-/// The value of a scalar; for what is none, which syntax rules out, no value is said.
+/// The value of a scalar; of no scalar, which the syntax rules out, any value will do.
 fn value_of_scalar(scalar: Option<Scalar<'_>>) -> Value<'_>
     ensures shows { ShowsScalar scalar.entry result }
     ensures no_section { (n : ℕ) → has_line n result ≡ true }
@@ -146,7 +146,7 @@ fn value_of_scalar(scalar: Option<Scalar<'_>>) -> Value<'_>
     }
 }
 
-/// A scalar or a list, from behind the equals sign, and the place behind it.
+/// A scalar or a list, from after the equals sign, and the place after it.
 fn leaf_at<'a>(
     alloc: Global,
     tokens: &[Placed<'a>],
@@ -167,7 +167,7 @@ fn leaf_at<'a>(
     Ok((value_of_scalar(scalar_of(first.token)), start + 1))
 }
 
-/// What a key of this line holds, from behind the key, and the place behind it.
+/// What a key on this line holds, from after the key, and the place after it.
 #[cycle(build)]
 fn value_at<'a>(
     alloc: Global,
@@ -192,8 +192,8 @@ fn value_at<'a>(
     Ok(leaf_at(alloc, tokens, start + 1)?)
 }
 
-/// The section of this line whose values begin at a place, and the place behind them; or the first key of it
-/// that an earlier key of its section equals.
+/// The section whose key is on this line and whose values begin at a place, and the place after them; or the
+/// first key in it that equals an earlier key of the same section.
 #[cycle(build)]
 pub(crate) fn section_at<'a>(
     alloc: Global,

@@ -1,5 +1,5 @@
 //! The checks of tokens that are a text by the grammar.
-//! Each answers its first line in source order; `parse` asks them in their order.
+//! Each returns the first line where it finds something, in source order; `parse` makes them in their order.
 
 ghost use Rattle.std.specs.Prelude.{◌≡◌, ◌<◌, ◌^◌};
 ghost use Rattle.lvm_text.specs.Token as spec;
@@ -19,7 +19,7 @@ fn opens_deep(token: Token<'_>, level: u64) -> bool
     }
 }
 
-/// The level behind a token.
+/// The level after a token.
 fn level_after(token: Token<'_>, level: u64) -> u64
     requires { level < 2 ^ 63 }
     ensures { result ≡ level_after (token_view token.entry) level }
@@ -45,7 +45,7 @@ pub(crate) fn deep_line(tokens: &[Placed<'_>]) -> Option<u64>
     None
 }
 
-/// Whether a scalar stands behind a token.
+/// Whether a word after this token is a scalar.
 fn leads_scalar(token: Token<'_>) -> bool
     ensures { result ≡ leads_scalar (token_view token.entry) }
 {

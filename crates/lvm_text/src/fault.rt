@@ -9,7 +9,7 @@ use thiserror::Error;
 /// Why a text is refused, and at which line of it, from 1.
 #[derive(Clone, Copy, Debug, PartialEq, Eq, Error)]
 pub enum TextFault {
-    /// Something begins here that is no token, no comment and no white space.
+    /// What begins here is no token, no comment and no white space.
     #[error("line {0}: no token")]
     Token(u64),
     /// With the token here, the tokens so far can't become a text. Where only the end is missing, the line
@@ -26,7 +26,7 @@ pub enum TextFault {
     #[error("line {0}: an integer out of range")]
     Number(u64),
     /// A growth was refused.
-    #[error("want of memory")]
+    #[error("out of memory")]
     Memory,
 }
 

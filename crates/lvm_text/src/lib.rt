@@ -1,6 +1,6 @@
 //! LVM2 configuration text, as vgcfgbackup(8) writes it (lvm.conf(5)).
-//! The one way in is `parse`, whose clauses say all that the crate promises of a text; the modules are the
-//! steps from bytes to tree. What a text may say is changed in `specs/` first.
+//! The way in is `parse`, whose clauses are what the crate promises of a text; the modules are the steps from
+//! bytes to a tree. To change what a text may say, change `specs/` first.
 #![tactic(auto)]
 
 ghost use Rattle.std.specs.Prelude.{◌≡◌, ◌≢◌, ℕ, List, Ok, Err, IfOk, IfErr};
@@ -29,18 +29,18 @@ pub use tree::{Node, Scalar, Section, Sections, Value};
 
 /// The tree that a text says, or its fault.
 ///
-/// The checks `Token`, `Syntax`, `Deep`, `Number` and `KeyTwice` are asked in this order, each over the
-/// whole text, and the first that hits anywhere is answered at its first line. `Memory` is answered only
-/// where a growth was refused. Keys and strings are slices of the text; a string keeps its backslashes.
+/// The checks `Token`, `Syntax`, `Deep`, `Number` and `KeyTwice` are made in this order, each over the whole
+/// text, and the first that finds something returns the first line where it does. `Memory` is returned only
+/// where an allocation was refused. Keys and strings are slices of the text; a string keeps its backslashes.
 ///
-/// Cost: each byte is looked at a bounded number of times; a key of a section of `n` keys costs about
-/// `log n` comparisons of keys. Source of the language: lvm.conf(5), vgcfgbackup(8).
+/// Cost: each byte is looked at a bounded number of times; a key costs at most 8 comparisons with the first keys of
+/// its section and about `log n` with the `n` others. Source of the language: lvm.conf(5), vgcfgbackup(8).
 pub fn parse(alloc: Global, text: &str) -> Result<Section<'_>, TextFault>
-    // What is accepted says this tree, and what says a tree is accepted, unless memory runs out.
+    // An accepted text says this tree, and a text that says a tree is accepted, unless memory runs out.
     ensures accepted { IfOk result (Describes text.now) }
     ensures only { (t : Tree) → Describes text.now t → Answers result (Ok t) }
 
-    // A fault is the text's, and the fault that a text has is answered, unless memory runs out.
+    // A fault is one that the text has, and a text that has one is refused with it, unless memory runs out.
     ensures fault { IfErr result (λ f. f ≢ Memory → HasFault text.now f) }
     ensures only_fault { (f : TextFault) → HasFault text.now f → Answers result (Err f) }
 {

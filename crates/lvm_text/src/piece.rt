@@ -19,7 +19,7 @@ pub(crate) enum Piece<'a> {
     Lexeme(Token<'a>),
 }
 
-/// What stands before an ASCII byte, and what comes after it.
+/// What comes before an ASCII byte, and what comes after it.
 fn around(text: &str, at: usize) -> (&str, &str)
     requires within { at < length text.now }
     requires ascii { slice_index text.now at < 128 }
@@ -31,7 +31,7 @@ fn around(text: &str, at: usize) -> (&str, &str)
     (before, after)
 }
 
-/// A comment, from behind its sign.
+/// A comment, from after its `#`.
 fn comment(rest: &str) -> Option<(Piece<'_>, &str)>
     ensures { found_view result ≡ option_map (λ n. (Comment (take n rest.now), drop (suc n) rest.now)) (line_length rest.now) }
 {
@@ -40,7 +40,7 @@ fn comment(rest: &str) -> Option<(Piece<'_>, &str)>
     Some((Piece::Comment(text), after))
 }
 
-/// A string, from behind its opening quote.
+/// A string, from after its opening quote.
 fn string(rest: &str) -> Option<(Piece<'_>, &str)>
     ensures { found_view result ≡ option_map (λ n. (Lexeme (spec.Text (take n rest.now)), drop (suc n) rest.now)) (raw_length rest.now) }
 {

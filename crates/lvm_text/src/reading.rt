@@ -1,6 +1,6 @@
 //! The reading of a whole text: tokens, then their checks, then the tree.
-//! Each check goes over the whole text before the next begins, since the order of checks, and not that of
-//! lines, says which fault is answered. A new check goes between two of these.
+//! Each check goes over the whole text before the next begins, since the order of the checks, and not that of the
+//! lines, decides which fault is returned. A new check goes between two of these.
 
 ghost use Rattle.std.specs.Prelude.{◌≡◌, ◌≢◌, ◌+◌, Ok, Err, IfOk, IfErr};
 ghost use Rattle.lvm_text.specs.Tree.{Values};
@@ -31,7 +31,7 @@ fn end_line(text: &str) -> u64
     line
 }
 
-/// The tree of tokens that are a text, or the first of the checks that hits.
+/// The tree of tokens that are a text, or the fault of the first check that finds one.
 fn tree_of<'a>(alloc: Global, tokens: &[Placed<'a>]) -> Result<Section<'a>, TextFault>
     ensures { (v : Values) → IsText (views tokens.now) v → TreeOf (views tokens.now) v result }
 {

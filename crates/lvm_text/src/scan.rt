@@ -8,7 +8,7 @@ ghost use Rattle.lvm_text.specs.Scan.{line_length, word_length, raw_length, is_e
 
 use memchr::{memchr, memchr3};
 
-/// Whether a byte stands between tokens with no meaning.
+/// Whether a byte is white space.
 pub(crate) fn is_white(byte: u8) -> bool
     ensures { result ≡ is_white byte }
 {
@@ -47,7 +47,7 @@ pub(crate) fn word_length(bytes: &[u8]) -> usize
     bytes.len()
 }
 
-/// Whether a backslash stands here, before a quote or a backslash.
+/// Whether the text begins with a backslash before a quote or a backslash.
 fn is_escape(bytes: &[u8]) -> bool
     ensures { result ≡ is_escape bytes.now }
 {

@@ -1,6 +1,6 @@
 //! The grammar of a text, as the places where a parser may stand.
-//! Sections nest without bound here, so a number of open ones stands for a stack. A new form of value is a
-//! place and its steps; the proof then asks how the place is completed.
+//! Sections may nest without bound here, so the number of open ones takes the place of a stack. A new form of value
+//! is a place and its steps; the proof then asks how a text can go on from there.
 
 ghost use Rattle.std.specs.Prelude.{◌≡◌, ◌<◌, ◌^◌, Some, is_some, MatchOption};
 ghost use Rattle.lvm_text.specs.Grammar.{scalar_of, is_key, IsSyntaxLine};

@@ -1,5 +1,5 @@
-//! Rows of answers that come from outside the proofs: the worked rows, two fixtures, a text in the style of a
-//! real backup, and texts made to hurt. Each public call answers here with memory at hand.
+//! Results that come from outside the proofs: worked rows, two fixtures, a text in the style of a real backup, and
+//! hostile texts. Each public call is made here with enough memory.
 
 use crate::{Scalar, Section, TextFault, Value, parse};
 use std::alloc::{AllocError, Global};
@@ -9,7 +9,7 @@ use std::test::Fail;
 const GROUP: &str =
     "contents = \"Text Format Volume Group\"\nversion = 1\nvg0 {\n  extent_size = 8192\n  physical_volumes {\n    pv0 {\n      device = \"/dev/sda1\"\n      dev_size = 1050624\n      pe_start = 2048\n      pe_count = 128\n    }\n  }\n  logical_volumes {\n    lv0 {\n      status = [\"READ\", \"WRITE\", \"VISIBLE\"]\n      segment_count = 1\n      segment1 {\n        start_extent = 0\n        extent_count = 25\n        type = \"striped\"\n        stripe_count = 1\n        stripes = [\"pv0\", 0]\n      }\n    }\n  }\n}\n";
 
-/// The end of the first volume, and a second one behind it.
+/// The end of the first volume, and a second one after it.
 const SECOND: &str =
     "    }\n    lv-1 {\n      status = [\"READ\"]\n      segment_count = 1\n      segment1 {\n        start_extent = 0\n        extent_count = 4\n        type = \"striped\"\n        stripe_count = 2\n        stripe_size = 128\n        stripes = [\"pv0\", 25, \"pv0\", 27]\n      }\n    }\n";
 
@@ -41,7 +41,7 @@ fn integer(section: &Section<'_>, key: &str) -> Option<u64> {
     }
 }
 
-/// Whether this text stands under a key.
+/// Whether a key holds this text.
 fn has_text(section: &Section<'_>, key: &str, text: &str) -> bool {
     match section.get(key) {
         Some(node) => match node.value {
@@ -68,7 +68,7 @@ fn is_stripe(pair: &[Scalar<'_>], disk: &str, extent: u64) -> bool {
     }
 }
 
-/// A text that stands so many times.
+/// A text repeated `count` times.
 fn repeated(alloc: Global, part: &str, count: u32) -> Result<String, AllocError> {
     let mut text = String::new(alloc);
     for _ in 0..count {
@@ -77,7 +77,7 @@ fn repeated(alloc: Global, part: &str, count: u32) -> Result<String, AllocError>
     Ok(text)
 }
 
-/// A text with another text in the place of one of its lines, counted from 1, and of the newline behind it.
+/// A text with one of its lines, counted from 1, and its newline replaced by another text.
 fn with_line(alloc: Global, text: &str, number: usize, other: &str) -> Result<String, AllocError> {
     let mut changed = String::new(alloc);
     for (before, line) in text.lines().enumerate() {

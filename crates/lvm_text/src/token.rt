@@ -32,7 +32,7 @@ pub(crate) struct Placed<'a> {
     pub(crate) line: u64,
 }
 
-/// How many newlines a piece spells.
+/// How many newlines a piece has.
 fn newlines(piece: Piece<'_>) -> u64
     requires { SomePiece (piece_view piece) }
     ensures { result ≡ newlines (spelling (piece_view piece.entry)) }

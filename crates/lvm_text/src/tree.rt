@@ -1,4 +1,6 @@
-//! The tree of a text.
+//! The tree of a text: sections of keys, and what each key holds, as slices of the text.
+//! A section is a list of entries in source order and an index of their keys; contracts see its line and its values
+//! alone. What is true of every section is `IsSection` in `specs/Sound`: change that first.
 
 ghost use Rattle.std.specs.Prelude.{◌≡◌, option_map};
 
@@ -85,7 +87,7 @@ impl<'a> Section<'a> {
 
     /// The node of a key, and `None` exactly where the section has none.
     ///
-    /// Cost: in a section of `n` keys about `log n` comparisons of keys.
+    /// Cost: at most 8 comparisons with the first keys, and about `log n` with the `n` others.
     pub fn get(&self, key: &str) -> Option<&Node<'a>>
         ensures { option_map (λ n. node_view n.now) result ≡ node_of key.now self.now.values }
     {
@@ -93,10 +95,10 @@ impl<'a> Section<'a> {
         Some(&self.entries[at].node)
     }
 
-    /// The keys that hold sections, with these, in source order. Each step looks at the keys up to the next.
+    /// The keys that hold sections, each with its section, in source order. Each step looks at the keys up to the next.
     pub fn sections(&self) -> Sections<'_, 'a>
         ensures sections { sections_left result ≡ sections_of self.now.values }
-        // A section's keys differ by its type, so what stands under a key here is what `get` finds under it.
+        // By its type, a section's keys differ, so the section that comes with a key is the one that `get` finds.
         ensures differ { AllPairs (λ j k. j ≢ k) (keys_of self.now.values) }
         ensures found { All (IsFound self.now.values) (sections_of self.now.values) }
     {
@@ -118,7 +120,7 @@ impl Node<'_> {
     }
 }
 
-/// An iterator over the keys of a section that hold sections, with these, in source order.
+/// An iterator over the keys of a section that hold sections, each with its section, in source order.
 #[derive(Drop)]
 pub struct Sections<'s, 'a> {
     entries: &'s [Entry<'a>],

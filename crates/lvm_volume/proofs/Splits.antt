@@ -8,7 +8,7 @@ use Rattle.std.proofs.lemmas.Bool.Decides.{nat_tests}
 use Rattle.std.proofs.lemmas.List.{append-nil, take_more, take-append-drop}
 use denote.Ref.{Bor}
 use Rattle.std.proofs.lemmas.Option.{same_Some}
-use Rattle.lvm_volume.specs.Names.{NameParts, built, Returns, is_letter, begins_with, part_fault, layer_fault, or_later, doubled, undoubled, behind_hyphen, joined, fault_of, Builds, IsSplit, doubled_parts, name_or}
+use Rattle.lvm_volume.specs.Names.{NameParts, built, Returns, is_letter, begins_with, part_fault, layer_fault, or_later, doubled, undoubled, with_hyphen, joined, fault_of, Builds, IsSplit, doubled_parts, name_or}
 use Rattle.dm_table.specs.Name.{is_device_byte, is_device_name}
 use Rattle.lvm_volume.specs.Cuts.{head_length, head_of, after_hyphen, tail_of, with_layer, slices_of}
 use Rattle.lvm_volume.specs.declared.fault.NameFault.{NameFault}
@@ -188,7 +188,7 @@ layer_none : (l : List ℕ) (b : Bool) → cond b (Some Letter) (part_fault l) �
 layer_none l true e = absurd cc
 layer_none l false e = e
 
-device_layer : (l : Option (List ℕ)) → layer_fault l ≡ None → list_all is_device_byte (behind_hyphen (option_map doubled l)) ≡ true
+device_layer : (l : Option (List ℕ)) → layer_fault l ≡ None → list_all is_device_byte (with_hyphen (option_map doubled l)) ≡ true
 device_layer None e = refl
 device_layer (Some l) e = device_doubled l (part_letters l (layer_none l (begins_with 95 l) e))
 
@@ -200,8 +200,8 @@ joined_device : (p : NameParts) → parts_faults p ≡ None → list_all is_devi
 joined_device p e =
     let v = or_none (part_fault p.vg) (or_later (part_fault p.lv) (layer_fault p.layer)) e in
     let l = or_none (part_fault p.lv) (layer_fault p.layer) v.1 in
-    device_append (doubled p.vg) (45 ∷ (doubled p.lv ++ behind_hyphen (option_map doubled p.layer))) (device_doubled p.vg (part_letters p.vg v.0))
-    (device_append (doubled p.lv) (behind_hyphen (option_map doubled p.layer)) (device_doubled p.lv (part_letters p.lv l.0)) (device_layer p.layer l.1))
+    device_append (doubled p.vg) (45 ∷ (doubled p.lv ++ with_hyphen (option_map doubled p.layer))) (device_doubled p.vg (part_letters p.vg v.0))
+    (device_append (doubled p.lv) (with_hyphen (option_map doubled p.layer)) (device_doubled p.lv (part_letters p.lv l.0)) (device_layer p.layer l.1))
 
 pub layer_letters : (l : Option (Bor (List ℕ))) (vg lv : List ℕ) → None ≡ or_later (part_fault vg) (or_later (part_fault lv) (layer_fault (option_map (λ t. t.now) l))) → IfSome l (λ t. IsTrue (list_all is_letter t.now))
 layer_letters None vg lv e = tt
@@ -217,7 +217,7 @@ long_joined n some false e h = refl
 pub form_is_long : (p : NameParts) (text : List ℕ) → None ≡ parts_faults p → text ≡ joined p → is_device_name text ≡ false → Err Long ≡ built p
 form_is_long p text e same refused =
     let n = length (joined p) in
-    let some : 1 ≤ n = omega (arith, length-append (doubled p.vg) (45 ∷ (doubled p.lv ++ behind_hyphen (option_map doubled p.layer)))) in
+    let some : 1 ≤ n = omega (arith, length-append (doubled p.vg) (45 ∷ (doubled p.lv ++ with_hyphen (option_map doubled p.layer)))) in
     let told : (nat_le 1 n && (nat_le n 127 && true)) ≡ false = ap (λ (x : Bool). nat_le 1 n && (nat_le n 127 && x)) (sym (joined_device p (sym e))) ∙ ap is_device_name (sym same) ∙ refused in
     let long : nat_le n 127 ≡ false = long_joined n some (nat_le n 127) refl told in
     sym (ap (λ (f : Option NameFault). name_or f (joined p)) (fault_parts p ∙ ap (λ (f : Option NameFault). or_later f (long_fault p)) (sym e) ∙ ap (λ (x : Bool). cond x None (Some Long)) long))
@@ -252,7 +252,7 @@ drop_front : (xs ys : List ℕ) → drop (length xs) (xs ++ ys) ≡ ys
 drop_front [] ys = refl
 drop_front (x ∷ xs) ys = drop_front xs ys
 
--- of a doubled part with an end behind it
+-- of a doubled part with an end after it
 cut_head : (w rest : List ℕ) → IsEnd rest → head_of (doubled w ++ rest) ≡ doubled w
 cut_head w rest h = ap (λ n. take n (doubled w ++ rest)) (head_doubled w rest h) ∙ take_front (doubled w) rest
 
@@ -315,16 +315,16 @@ after_is (b ∷ bs) None m =
     (λ e. refl)
 after_is bs (Some x) m = sym (ap after_hyphen m)
 
--- behind a part stands nothing, or a hyphen and the tail
-end_is : (bs : List ℕ) → IsEnd bs → bs ≡ behind_hyphen (after_hyphen bs)
+-- after a part comes nothing, or a hyphen and the tail
+end_is : (bs : List ℕ) → IsEnd bs → bs ≡ with_hyphen (after_hyphen bs)
 end_is [] h = refl
 end_is (b ∷ bs) h = rw h.0 refl
 
--- a text is a doubled part, and the tail behind a hyphen
+-- a text is a doubled part, and the tail after a hyphen
 record Head (bs : List ℕ) : Type 0 where
   pub part : List ℕ
   pub head : head_of bs ≡ doubled part
-  pub whole : bs ≡ doubled part ++ behind_hyphen (tail_of bs)
+  pub whole : bs ≡ doubled part ++ with_hyphen (tail_of bs)
 
 head : (bs : List ℕ) → Head bs
 head bs =
@@ -350,14 +350,14 @@ sliced_two name rest s h t g u e = record {
       ∙ ap (λ (x : List ℕ). let q : NameParts = record { vg = x; lv = head_of rest; layer = None } in q) h.head
       ∙ ap (λ (x : List ℕ). let q : NameParts = record { vg = doubled h.part; lv = x; layer = None } in q) g.head;
   spell = h.whole
-      ∙ ap (λ (x : Option (List ℕ)). doubled h.part ++ behind_hyphen x) t
-      ∙ ap (λ (x : List ℕ). doubled h.part ++ 45 ∷ x) (g.whole ∙ ap (λ (x : Option (List ℕ)). doubled g.part ++ behind_hyphen x) u);
+      ∙ ap (λ (x : Option (List ℕ)). doubled h.part ++ with_hyphen x) t
+      ∙ ap (λ (x : List ℕ). doubled h.part ++ 45 ∷ x) (g.whole ∙ ap (λ (x : Option (List ℕ)). doubled g.part ++ with_hyphen x) u);
 }
 
 sliced_three : (name rest last : List ℕ) (s : NameParts) → Head name → tail_of name ≡ Some rest → Head rest → tail_of rest ≡ Some last → Head last → tail_of last ≡ None
     → Some (record { vg = head_of name; lv = head_of rest; layer = Some (head_of last) }) ≡ Some s → Sliced name s
 sliced_three name rest last s h t g u k v e =
-    let end : last ≡ doubled k.part = k.whole ∙ ap (λ (x : Option (List ℕ)). doubled k.part ++ behind_hyphen x) v ∙ append-nil (doubled k.part) in
+    let end : last ≡ doubled k.part = k.whole ∙ ap (λ (x : Option (List ℕ)). doubled k.part ++ with_hyphen x) v ∙ append-nil (doubled k.part) in
     record {
       parts = record { vg = h.part; lv = g.part; layer = Some k.part };
       are = sym (same_Some _ _ e)
@@ -365,8 +365,8 @@ sliced_three name rest last s h t g u k v e =
           ∙ ap (λ (x : List ℕ). let q : NameParts = record { vg = doubled h.part; lv = x; layer = Some (head_of last) } in q) g.head
           ∙ ap (λ (x : List ℕ). let q : NameParts = record { vg = doubled h.part; lv = doubled g.part; layer = Some x } in q) k.head;
       spell = h.whole
-          ∙ ap (λ (x : Option (List ℕ)). doubled h.part ++ behind_hyphen x) t
-          ∙ ap (λ (x : List ℕ). doubled h.part ++ 45 ∷ x) (g.whole ∙ ap (λ (x : Option (List ℕ)). doubled g.part ++ behind_hyphen x) u ∙ ap (λ (x : List ℕ). doubled g.part ++ 45 ∷ x) end);
+          ∙ ap (λ (x : Option (List ℕ)). doubled h.part ++ with_hyphen x) t
+          ∙ ap (λ (x : List ℕ). doubled h.part ++ 45 ∷ x) (g.whole ∙ ap (λ (x : Option (List ℕ)). doubled g.part ++ with_hyphen x) u ∙ ap (λ (x : List ℕ). doubled g.part ++ 45 ∷ x) end);
     }
 
 sliced_last : (name rest last : List ℕ) (s : NameParts) (more : Option (List ℕ)) → tail_of name ≡ Some rest → tail_of rest ≡ Some last → tail_of last ≡ more
@@ -391,7 +391,7 @@ no_hyphen : (w more : List ℕ) → part_fault w ≡ None → begins_with 45 (do
 no_hyphen [] more e = absurd cc
 no_hyphen (b ∷ w) more e = begins-doubled 45 b w more ∙ (by_none (eqb (length (b ∷ w)) 0) (list_all is_letter (b ∷ w)) (eqb b 45) e).1
 
-layer_end : (l : Option (List ℕ)) → layer_fault l ≡ None → IsEnd (behind_hyphen (option_map doubled l))
+layer_end : (l : Option (List ℕ)) → layer_fault l ≡ None → IsEnd (with_hyphen (option_map doubled l))
 layer_end None e = tt
 layer_end (Some l) e = (refl, ap (begins_with 45) (sym (append-nil (doubled l))) ∙ no_hyphen l [] (layer_none l (begins_with 95 l) e))
 
@@ -401,16 +401,16 @@ head_whole w = ap head_of (sym (append-nil (doubled w))) ∙ cut_head w [] tt
 tail_whole : (w : List ℕ) → tail_of (doubled w) ≡ None
 tail_whole w = ap tail_of (sym (append-nil (doubled w))) ∙ cut_tail w [] tt
 
-layer_slices : (vg lv : List ℕ) (l : Option (List ℕ)) → with_layer vg lv (after_hyphen (behind_hyphen (option_map doubled l))) ≡ Some (record { vg = vg; lv = lv; layer = option_map doubled l })
+layer_slices : (vg lv : List ℕ) (l : Option (List ℕ)) → with_layer vg lv (after_hyphen (with_hyphen (option_map doubled l))) ≡ Some (record { vg = vg; lv = lv; layer = option_map doubled l })
 layer_slices vg lv None = refl
 layer_slices vg lv (Some l) =
     ap (λ (x : Option (List ℕ)). cond (is_none x) (Some (let q : NameParts = record { vg = vg; lv = lv; layer = Some (head_of (doubled l)) } in q)) None) (tail_whole l)
     ∙ ap (λ (x : List ℕ). Some (let q : NameParts = record { vg = vg; lv = lv; layer = Some x } in q)) (head_whole l)
 
 joined_slices : (vg lv : List ℕ) (l : Option (List ℕ)) → part_fault vg ≡ None → part_fault lv ≡ None → layer_fault l ≡ None
-    → slices_of (doubled vg ++ 45 ∷ (doubled lv ++ behind_hyphen (option_map doubled l))) ≡ Some (record { vg = doubled vg; lv = doubled lv; layer = option_map doubled l })
+    → slices_of (doubled vg ++ 45 ∷ (doubled lv ++ with_hyphen (option_map doubled l))) ≡ Some (record { vg = doubled vg; lv = doubled lv; layer = option_map doubled l })
 joined_slices vg lv l a b c =
-    let end = behind_hyphen (option_map doubled l) in
+    let end = with_hyphen (option_map doubled l) in
     let rest = doubled lv ++ end in
     let name = doubled vg ++ 45 ∷ rest in
     let first : IsEnd (45 ∷ rest) = (refl, no_hyphen lv end b) in

@@ -8,19 +8,19 @@ head_length [] = 0
 head_length (b ∷ []) = if b == 45 then 0 else 1
 head_length (b ∷ c ∷ bs) = if b == 45 then (if c == 45 then suc (suc (head_length bs)) else 0) else suc (head_length (c ∷ bs))
 
--- behind a hyphen at the front
+-- what comes after a hyphen at the front
 abbrev pub after_hyphen : List ℕ → Option (List ℕ)
 after_hyphen [] = None
 after_hyphen (b ∷ bs) = if b == 45 then Some bs else None
 
--- the part at the front, and what stands behind the hyphen that ends it, if one does
+-- the part at the front, and what comes after the hyphen that ends it, if there is one
 abbrev pub head_of : List ℕ → List ℕ
 head_of bs = take (head_length bs) bs
 
 abbrev pub tail_of : List ℕ → Option (List ℕ)
 tail_of bs = after_hyphen (drop (head_length bs) bs)
 
--- a group and a volume, and a layer where more stands behind them
+-- a group and a volume, and a layer if more comes after them
 abbrev pub with_layer : List ℕ → List ℕ → Option (List ℕ) → Option NameParts
 with_layer vg lv None = Some (record { vg = vg; lv = lv; layer = None })
 with_layer vg lv (Some rest) = if is_none (tail_of rest) then Some (record { vg = vg; lv = lv; layer = Some (head_of rest) }) else None

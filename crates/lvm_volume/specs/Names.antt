@@ -50,14 +50,14 @@ undoubled [] = []
 undoubled (b ∷ []) = b ∷ []
 undoubled (b ∷ c ∷ bs) = if b == 45 && c == 45 then 45 ∷ undoubled bs else b ∷ undoubled (c ∷ bs)
 
--- a part behind a hyphen, if there is one
-abbrev pub behind_hyphen : Option (List ℕ) → List ℕ
-behind_hyphen None = []
-behind_hyphen (Some part) = 45 ∷ part
+-- a hyphen and a part, if there is one
+abbrev pub with_hyphen : Option (List ℕ) → List ℕ
+with_hyphen None = []
+with_hyphen (Some part) = 45 ∷ part
 
 -- the parts with each hyphen twice, joined by one hyphen
 abbrev pub joined : NameParts → List ℕ
-joined p = doubled p.vg ++ 45 ∷ (doubled p.lv ++ behind_hyphen (option_map doubled p.layer))
+joined p = doubled p.vg ++ 45 ∷ (doubled p.lv ++ with_hyphen (option_map doubled p.layer))
 
 -- the first fault of the parts in their order, and then that of the whole
 abbrev pub fault_of : NameParts → Option NameFault

@@ -1,6 +1,6 @@
 //! Names of volumes: a group, a volume and perhaps a layer, with each hyphen of a part doubled, joined by hyphens.
-//! So the one hyphen that ends a part is told from those inside it, and a name splits in one way: that is a clause
-//! of `split_name`. What a part may be is changed in `specs/Names` first.
+//! That tells the hyphen that ends a part from those inside it, so a name splits in one way: a clause of
+//! `split_name` says so. To change what a part may be, change `specs/Names` first.
 
 ghost use Rattle.std.specs.Prelude.{◌≡◌, ℕ, ◌++◌, List, IfOk, IfSome, IfNone, OnOk, option_map, IsTrue};
 ghost use Rattle.std.specs.List.{list_all};
@@ -133,7 +133,7 @@ pub fn build_name(alloc: Global, vg: &str, lv: &str, layer: Option<&str>) -> Res
     }
 }
 
-/// How many bytes of a name stand before the first hyphen that no other pairs with.
+/// How many bytes of a name come before the first hyphen that pairs with no other.
 fn head_length(bytes: &[u8]) -> usize
     ensures { result ≡ head_length bytes.now }
 {
@@ -150,7 +150,7 @@ fn head_length(bytes: &[u8]) -> usize
     at
 }
 
-/// The part at the front of a name, and what stands behind the hyphen that ends it, if one does.
+/// The part at the front of a name, and what comes after the hyphen that ends it, if there is one.
 fn cut(name: &str) -> (&str, Option<&str>)
     ensures head { result.0.now ≡ head_of name.now }
     ensures tail { option_map (λ t. t.now) result.1 ≡ tail_of name.now }

@@ -1,4 +1,4 @@
-//! Rows of names: each public call answers here with memory at hand.
+//! Rows of names. Each public call is made here with enough memory.
 
 use crate::{NameFault, build_name, split_name, undouble};
 use std::alloc::Global;
@@ -29,7 +29,7 @@ fn built(rt: HostRuntime) -> Result<(), Fail> {
         match (build_name(rt.alloc(), vg, lv, layer), name) {
             (Ok(built), Ok(name)) => assert_eq!(rt; built.as_str(), name),
             (Err(fault), Err(wanted)) => assert_eq!(rt; fault, wanted),
-            (_, _) => return Err("another answer".into()),
+            (_, _) => return Err("another result".into()),
         }
     }
     let longest = build_name(rt.alloc(), PART_OF_63, PART_OF_63, None)?;
