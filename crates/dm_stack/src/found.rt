@@ -39,63 +39,38 @@ pub struct FoundColumn {
     pub offset: u64,
 }
 
-/// The columns of a striped line in their order. A clause sees them as a list.
+/// The columns of a striped line.
+pub type FoundColumns = Listed<FoundColumn>;
+
+/// The lines of a device.
+pub(crate) type FoundTable = Listed<FoundLine>;
+
+/// Values in their order. A clause sees them as a list.
 #[derive(Debug, Drop)]
-pub struct FoundColumns {
-    columns: Vec<FoundColumn>,
+pub struct Listed<T> {
+    items: Vec<T>,
 }
 
-impl Model for FoundColumns {
+impl<T> Model for Listed<T> {
     ghost use Rattle.std.specs.Prelude.{List};
-    ghost use Rattle.dm_stack.specs.declared.found.FoundColumn.{FoundColumn};
 
-    ghost Value = { List FoundColumn };
+    ghost Value = { List T };
 
-    ghost view = { λ columns. columns.columns.items };
+    ghost view = { λ listed. listed.items.items };
 }
 
-impl FoundColumns {
-    pub(crate) fn from_vec(columns: Vec<FoundColumn>) -> FoundColumns
-        ensures { result ≡ columns.items }
+impl<T> Listed<T> {
+    /// These values, with no memory taken.
+    pub(crate) fn from_vec(items: Vec<T>) -> Listed<T>
+        ensures { result ≡ items.items }
     {
-        FoundColumns { columns }
+        Listed { items }
     }
 
-    /// The columns in their order.
-    pub fn as_slice(&self) -> &[FoundColumn]
+    /// The values in their order.
+    pub fn as_slice(&self) -> &[T]
         ensures { result.now ≡ self.now }
     {
-        self.columns.as_slice()
-    }
-}
-
-/// The lines of a device in their order. A clause sees them as a list.
-#[derive(Debug, Drop)]
-pub(crate) struct FoundTable {
-    lines: Vec<FoundLine>,
-}
-
-impl Model for FoundTable {
-    ghost use Rattle.std.specs.Prelude.{List};
-    ghost use Rattle.dm_stack.specs.declared.found.FoundLine.{FoundLine};
-
-    ghost Value = { List FoundLine };
-
-    ghost view = { λ table. table.lines.items };
-}
-
-impl FoundTable {
-    /// The lines as a table, with no memory taken.
-    pub(crate) fn from_vec(lines: Vec<FoundLine>) -> FoundTable
-        ensures { result ≡ lines.items }
-    {
-        FoundTable { lines }
-    }
-
-    /// The lines in their order.
-    pub(crate) fn as_slice(&self) -> &[FoundLine]
-        ensures { result.now ≡ self.now }
-    {
-        self.lines.as_slice()
+        self.items.as_slice()
     }
 }
