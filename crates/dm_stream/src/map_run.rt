@@ -20,7 +20,7 @@ ghost use Rattle.dm_stream.specs.Run.{HasRun, IsMapped, IsServed, ending_for, wr
 use crate::ending::{Ending, NotMapped, RequestWord};
 use crate::join::Join;
 use crate::last_device::LastDevice;
-use crate::message::tell_ending;
+use crate::message::{message_of, tell};
 use crate::request_mapper::RequestMapper;
 use crate::requests::handle_requests;
 use dm_map::Mapper;
@@ -185,6 +185,6 @@ pub fn run<'s, R: Input, W: Output, E: Output>(
     ensures limits { (MOST_LINE_BYTES ≡ 4096) × (MOST_REQUESTS ≡ 1000000000000) }
 {
     let ending = map_and_flush(stack, mapper, requests, output);
-    tell_ending(messages, ending);
+    tell(messages, message_of(ending).as_slice());
     ending
 }
