@@ -1,4 +1,4 @@
--- What a join took, and what it left, told by what is held and by what was written.
+-- What a join took, and what it left, by what is held and what was written.
 use Rattle.std.specs.Prelude.{◌≡◌, ℕ, List, [], ◌∷◌, ◌++◌, None}
 use Rattle.dm_table.specs.DeviceIo.{since}
 use Rattle.dm_map.specs.Units.{BlockUnit}
@@ -7,7 +7,7 @@ use Rattle.dm_stream.specs.Pieces.{Piece, fewest, all_but_last}
 use Rattle.dm_stream.specs.PieceText.{pieces_text}
 use Rattle.dm_table.specs.WriteAll.{IsBeginning}
 
--- whatever units are to come, some pieces are settled and what is held stands for the others; the settled ones were written
+-- whatever units follow, some pieces are settled, and what is held stands for the others; the settled ones were written
 pub record HasTaken (old new : Pending) (units : List BlockUnit) (before after : List ℕ) : Type 0 where
   pub settled : List Piece
   pub told : (rest : List BlockUnit) → fewest (held_units old.piece ++ units ++ rest) ≡ settled ++ fewest (held_units new.piece ++ rest)
@@ -21,7 +21,7 @@ abbrev pub HasUnits : List BlockUnit → Type 0
 HasUnits [] = ⊥
 HasUnits (unit ∷ units) = Unit {0}
 
--- whatever units are to come, what was written is a beginning of the pieces' text without the last; nothing is held
+-- whatever units follow, what was written is a beginning of the pieces' text without the last; nothing is held
 pub record HasLeft (old new : Pending) (units : List BlockUnit) (before after : List ℕ) : Type 0 where
   pub some : HasUnits units
   pub beginning : (rest : List BlockUnit) → IsBeginning (pieces_text old.stack old.number (all_but_last (fewest (held_units old.piece ++ units ++ rest)))) (since before after)

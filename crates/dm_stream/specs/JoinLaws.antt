@@ -1,4 +1,4 @@
--- The laws of a join as a sink: what it took, and then took or left, is one. They stand here since only this is in reach of the laws' place.
+-- The laws of a join as a sink: what it took, and then took or left, is one. They are here since an `impl` cites them.
 use Rattle.std.proofs.Common.{◌≡◌, ℕ, suc, Bool, true, false, cond, List, [], ◌∷◌, ◌++◌, refl, sym, ap, subst, ◌∙◌, append_assoc}
 use Rattle.std.proofs.lemmas.List.{append-nil}
 use Rattle.std.proofs.lemmas.Grind.{flat_map-append}
@@ -28,7 +28,7 @@ onto_begins unit (piece ∷ pieces) =
       | false ↦ record { len = 1; later = piece ∷ pieces; is = refl }
     ]
 
--- the last of pieces is that of those behind others
+-- the last of pieces is that of the later ones
 last-behind : (ps : List Piece) (q : Piece) (qs : List Piece) → all_but_last (ps ++ q ∷ qs) ≡ ps ++ all_but_last (q ∷ qs)
 last-behind [] q qs = refl
 last-behind (p ∷ []) q qs = refl
@@ -48,7 +48,7 @@ pub some_before : (us vs : List BlockUnit) → HasUnits us → HasUnits (us ++ v
 some_before [] vs some = absurd some
 some_before (u ∷ us) vs some = tt
 
--- a beginning of what stands behind a text, and of the text before what stands behind
+-- a beginning of what comes after a text, and of the text before it
 beginning-behind : (text more front : List ℕ) → IsBeginning more front → IsBeginning (text ++ more) (text ++ front)
 beginning-behind text more front begins = (begins.0, ap (λ (xs : List ℕ). text ++ xs) begins.1 ∙ sym (append_assoc text front begins.0))
 
@@ -94,7 +94,7 @@ took_more a b c us vs w0 w1 w2 first second = record {
   number = second.number ∙ first.number;
 }
 
--- what was left behind settled pieces
+-- what was left after settled pieces
 left_behind : (stack : Description) (number : ℕ) (settled : List Piece) (units : List BlockUnit) (all : List Piece) (wrote front : List ℕ) → HasUnits units → all ≡ settled ++ fewest units → wrote ≡ pieces_text stack number settled ++ front
     → IsBeginning (pieces_text stack number (all_but_last (fewest units))) front → IsBeginning (pieces_text stack number (all_but_last all)) wrote
 left_behind stack number settled units all wrote front some e f begins =

@@ -1,12 +1,12 @@
--- The end of a line that says a place's two numbers.
+-- The range that a line ends with.
 use Rattle.std.specs.Prelude.{◌≡◌, ℕ, ◌+◌, ◌<◌, ◌≤◌, List, [], ◌∷◌, ◌++◌, length, drop, decimal}
 use Rattle.dm_stream.specs.declared.kept_range.KeptRange.{KeptRange}
 
--- a sector, a number of sectors and a newline
+-- its start, its length and a newline
 abbrev pub range_text : ℕ → ℕ → List ℕ
 range_text start len = 32 ∷ decimal start ++ 32 ∷ decimal len ++ 10 ∷ []
 
--- the text ends with the two numbers, unless none is kept
+-- the text ends with the range, unless none is kept
 pub record IsKept (range : KeptRange) (text : List ℕ) : Type 0 where
   pub within : range.at ≤ length text
   pub few : length text ≤ range.at + 43

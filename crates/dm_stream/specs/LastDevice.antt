@@ -3,7 +3,7 @@ use Rattle.std.specs.Prelude.{◌≡◌, ℕ, ◌<◌, Option, Some, None, lengt
 use Rattle.dm_stack.specs.Description.{Description, name_at}
 use Rattle.dm_stream.specs.Outcome.{device_of}
 
--- a device, if any, that is there and that its own name finds
+-- a device of the stack, if any, that its own name finds
 abbrev pub IsFoundByName : Description → Option ℕ → Type 0
 IsFoundByName stack None = Unit {0}
 IsFoundByName stack (Some device) = (device < length stack.devices) × (device_of stack (name_at stack device) ≡ Some device)

@@ -25,13 +25,13 @@ rest_answer Clean (byte ∷ bytes) = AnUnended
 rest_answer Failed rest = AFault
 rest_answer Open rest = Waits
 
--- what comes next, by the parts and how the input stands: too long goes before all else
+-- what comes next, by the parts and how the input stands: too long takes precedence over all else
 abbrev pub next_answer : Stand → List (List ℕ) → Answer
 next_answer stand [] = Waits
 next_answer stand (rest ∷ []) = if nat_lt MOST_LINE_BYTES (length rest) then ALong else rest_answer stand rest
 next_answer stand (line ∷ part ∷ parts) = if nat_lt MOST_LINE_BYTES (length line) then ALong else ALine line
 
--- what was answered
+-- what was returned
 abbrev pub answer_of : next.Next → Answer
 answer_of (next.TheVariants.Line line) = ALine line.now
 answer_of next.TheVariants.End = AnEnd
@@ -39,7 +39,7 @@ answer_of next.TheVariants.Unended = AnUnended
 answer_of next.TheVariants.Long = ALong
 answer_of next.TheVariants.ReadFault = AFault
 
--- what is held after an answer, of what was held and read: a line goes with its newline
+-- what is still held, of what was held and read: a line leaves with its newline
 abbrev pub left_of : Answer → List ℕ → List ℕ
 left_of (ALine line) held = drop (length line + 1) held
 left_of AnEnd held = held
@@ -48,7 +48,7 @@ left_of ALong held = held
 left_of AFault held = held
 left_of Waits held = held
 
--- a fact where a line was answered
+-- a fact if a line was returned
 abbrev pub OnLine : next.Next → Type 0 → Type 0
 OnLine (next.TheVariants.Line line) P = P
 OnLine next.TheVariants.End P = Unit {0}

@@ -26,14 +26,14 @@ read_message = codes "dmremap: requests: read\n"
 abbrev pub write_message : List ℕ
 write_message = codes "dmremap: output: write\n"
 
--- the message of an ending: none where all requests were answered
+-- the message of an ending: none if all requests were answered
 abbrev pub ending_message : Ending → List ℕ
 ending_message endings.Done = []
 ending_message (endings.BadRequest number word) = request_message number word
 ending_message endings.ReadFault = read_message
 ending_message endings.WriteFault = write_message
 
--- the message was written whole, or a beginning of it where its stream failed
+-- the message was written whole, or a beginning of it if its stream failed
 pub record IsTold (message written : List ℕ) (faults_old faults_new : ℕ) : Type 0 where
   pub beginning : IsBeginning message written
   pub whole : faults_new ≡ faults_old → written ≡ message

@@ -1,4 +1,4 @@
--- What a look at the held bytes found.
+-- What the held bytes alone say of what comes next.
 use Rattle.std.specs.Prelude.{◌≡◌, ◌<◌, ◌≤◌, ℕ, List, [], ◌∷◌, length, take, Option, None, Some}
 use Rattle.dm_table.specs.DeviceIo.{Stand}
 use Rattle.dm_stream.specs.declared.lines.TheConstants.{MOST_LINE_BYTES}
@@ -13,7 +13,7 @@ held_answer found.TheVariants.Unended held = AnUnended
 held_answer found.TheVariants.Long held = ALong
 held_answer found.TheVariants.ReadFault held = AFault
 
--- a fact where a line was found
+-- a fact if a line was found
 abbrev pub OnHeldLine : found.NextHeld → Type 0 → Type 0
 OnHeldLine (found.TheVariants.Line n) P = P
 OnHeldLine found.TheVariants.End P = Unit {0}

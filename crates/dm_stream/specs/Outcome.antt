@@ -1,4 +1,4 @@
--- What a run answers to what its requests delivered, the state that they leave, and how it ends.
+-- What a run writes for what its requests delivered, the state that they leave, and how it ends.
 use Rattle.std.specs.Prelude.{ℕ, List, [], ◌∷◌, ◌++◌, Option, None, Some, position}
 use Rattle.dm_table.specs.DeviceIo.{Delivery}
 use Rattle.dm_stack.specs.Description.{Description, is_same}
@@ -30,19 +30,19 @@ abbrev pub step_of : Description → (device : ℕ) → NumberedRequest → Stat
 step_of stack device request state =
     request_step stack request.values.op device request.values.start request.values.len state
 
--- what is answered to a request of a device: its units in the fewest pieces
+-- the answer to a request of a device: its units in the fewest pieces
 abbrev pub request_answer : Description → (device : ℕ) → NumberedRequest → State → List ℕ
 request_answer stack device request state =
     pieces_text stack request.number (fewest (step_of stack device request state).units)
 
--- the outcome from a request on, by its device, where later gives that of the requests after it from the state that they find
+-- the outcome from a request on, by its device; later gives that of the requests after it, by the state that they find
 abbrev pub of_device : Description → Option ℕ → NumberedRequest → State → (State → Outcome) → Outcome
 of_device stack (Some device) request state later =
     after_text (request_answer stack device request state) (later (step_of stack device request state).state)
 of_device stack None request state later =
     record { output = []; state = state; ending = Some (ending.TheVariants.BadRequest request.number word.TheVariants.Unknown) }
 
--- the outcome of requests, one after the other, from a state on: each is answered in the state that the one before left
+-- the outcome of requests in a row, from a state on: each is answered in the state that the one before left
 abbrev pub outcome_from : Description → State → List NumberedRequest → Option ending.Ending → Outcome
 outcome_from stack state [] e = record { output = []; state = state; ending = e }
 outcome_from stack state (request ∷ requests) e =

@@ -11,7 +11,7 @@ pub record Pending : Type 0 where
   pub number : ℕ
   pub piece : Option Piece
 
--- a piece of the code, as the definitions see it
+-- a piece of the program, as the definitions see it
 abbrev pub piece_view : Piece → pieces.Piece
 piece_view piece = record { first = first_unit piece; len = piece_len piece }
 
@@ -25,12 +25,12 @@ abbrev pub held_diskless : Option Piece → ℕ
 held_diskless None = 0
 held_diskless (Some piece) = diskless_len piece
 
--- a held piece has a unit, lies on the disks of the stack, and without one its length fits 64 bits
+-- a held piece has a unit, lies on the disks of the stack, and if it has no disk its length fits 64 bits
 abbrev pub IsHeld : Description → Option Piece → Type 0
 IsHeld stack None = Unit {0}
 IsHeld stack (Some piece) = (1 ≤ piece_len piece) × IsOnDisks stack piece × (diskless_len piece < 2 ^ 64)
 
--- so many units from one on are there, and 64 bits are enough for how many
+-- len units from this one on are there, and 64 bits can count them
 abbrev pub Fits : Description → BlockUnit → ℕ → Type 0
 Fits stack (ReadOf disk sector) len = IsOnDisk stack disk sector len
 Fits stack (WriteOf disk sector) len = IsOnDisk stack disk sector len

@@ -9,7 +9,7 @@ use Rattle.dm_stream.specs.Pieces.{Piece}
 abbrev pub place_text : Description → ℕ → ℕ → List ℕ
 place_text stack disk sector = disk_name_at stack disk ++ 32 ∷ decimal sector
 
--- the line of a piece, behind the number
+-- the line of a piece, after the number
 abbrev pub unit_text : Description → BlockUnit → ℕ → List ℕ
 unit_text stack (ReadOf disk sector) len = codes "R " ++ place_text stack disk sector ++ 32 ∷ decimal len
 unit_text stack (WriteOf disk sector) len = codes "W " ++ place_text stack disk sector ++ 32 ∷ decimal len

@@ -1,4 +1,4 @@
--- Laws of how an output moved on: what it took in two steps. They stand here for the laws of a join and of a handler.
+-- Laws of how an output moved on: what it took in two steps. They are here since the laws of joins and handlers cite them.
 use Rattle.std.proofs.Common.{◌≡◌, ℕ, ◌+◌, List, [], ◌∷◌, ◌++◌, sym, ap, ◌∙◌, refl, add-zero, append_assoc}
 use Rattle.std.proofs.lemmas.List.{append-nil}
 use Rattle.dm_table.specs.DeviceIo.{since}
@@ -26,7 +26,7 @@ waits_more : (w0 w1 w2 v0 v1 v2 : List ℕ) → w1 ≡ w0 ++ since w0 w1 → w2 
 waits_more w0 w1 w2 v0 v1 v2 e f g h =
     h ∙ ap (λ (xs : List ℕ). xs ++ since w1 w2) g ∙ append_assoc v0 (since w0 w1) (since w1 w2) ∙ ap (λ (xs : List ℕ). v0 ++ xs) (sym (since_more w0 w1 w2 e f))
 
--- without a fault, and then with as many as there were
+-- first without a fault, and then with any number of them
 pub written_more : {X : Type 0} (written waiting : X → List ℕ) (faults flushes : X → ℕ) (a b c : X) (failed : ℕ) → HasWritten written waiting faults flushes a b 0 → HasWritten written waiting faults flushes b c failed
     → HasWritten written waiting faults flushes a c failed
 written_more written waiting faults flushes a b c failed first second = record {

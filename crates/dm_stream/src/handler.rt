@@ -1,8 +1,8 @@
 //! Handlers: who answers requests.
 //!
-//! The lines of requests are read, and their bad ones told, in one place for all of them. A handler
+//! The lines of requests are read, and bad ones refused, in one place for all handlers. A handler
 //! says what becomes of a request, and why it stops; its relations speak of requests in a row, so
-//! that the reader of lines knows nothing of answers.
+//! the reader of lines knows nothing of answers.
 
 ghost use Rattle.std.specs.Prelude.{List, [], ◌∷◌, ◌++◌, OnOk, IfErr};
 ghost use Rattle.dm_stream.specs.Requests.{NumberedRequest, numbered};

@@ -1,7 +1,7 @@
-//! The piece that a join holds back, since the next one may go on from it.
+//! The piece that a join holds back, since the next one may continue it.
 //!
-//! Its invariant keeps it on the disks of the stack, so that its line can always be written. Of a
-//! new kind of piece say here when one goes on from another, and what both are as one.
+//! Its invariant keeps it on the disks of the stack, so that its line can always be written. For a
+//! new kind of piece, say here when one continues another, and what the two are as one.
 
 ghost use Rattle.std.specs.Prelude.{◌≡◌, ◌+◌, ◌-◌, ◌<◌, ◌≤◌, ◌==◌, ◌++◌, ◌^◌, List, Some, None, OnOk, OnErr, length};
 ghost use Rattle.std.specs.Bool.{OnTrue, OnFalse};
@@ -58,8 +58,8 @@ impl<'s> HeldPiece<'s> {
         self.line.set_number(number);
     }
 
-    /// Lengthens the held piece by one that goes on from it. Answers false, and changes nothing,
-    /// where none is held or the piece does not go on.
+    /// Lengthens the held piece by one that continues it. Returns false, and changes nothing, if
+    /// none is held or the piece does not continue it.
     pub(crate) fn lengthen(&mut self, piece: &Piece) -> bool
         requires some { 1 ≤ piece_len piece.now }
         requires lies { IsOnDisks self.old.stack piece.now }
@@ -68,7 +68,7 @@ impl<'s> HeldPiece<'s> {
         ensures diskless { OnTrue result (held_diskless self.new.piece ≡ held_diskless self.old.piece + diskless_len piece.now) }
         ensures others { OnTrue result ((self.new.stack ≡ self.old.stack) × (self.new.number ≡ self.old.number)) }
         ensures same { OnFalse result (self.new ≡ self.old) }
-        // Whatever units are to come, the held piece is whole.
+        // Whatever units follow, the held piece is complete.
         ensures apart { OnFalse result ((rest : List BlockUnit) → fewest (held_units self.old.piece ++ units_of piece.now ++ rest)
             ≡ fewest (held_units self.old.piece) ++ fewest (units_of piece.now ++ rest)) }
     {
@@ -91,7 +91,7 @@ impl<'s> HeldPiece<'s> {
         self.piece = Some(piece);
     }
 
-    /// Lets the held piece go, and writes its line; nothing where none is held.
+    /// Writes the line of the held piece, which is then held no longer. Writes nothing if none is held.
     pub(crate) fn write<W: Output>(&mut self, writer: &mut W) -> Result<(), OutFault>
         ensures ok { OnOk result (since (W.written writer.old) (W.written writer.new)
             ≡ pieces_text self.old.stack self.old.number (fewest (held_units self.old.piece))) }
@@ -109,7 +109,7 @@ impl<'s> HeldPiece<'s> {
     }
 }
 
-/// Whether the second piece goes on from the first.
+/// Whether the second piece continues the first.
 fn goes_on(held: &Piece, piece: &Piece) -> bool
     ensures { result ≡ is_after (first_unit held.now) (piece_len held.now) (first_unit piece.now) }
 {
@@ -138,14 +138,14 @@ fn goes_on(held: &Piece, piece: &Piece) -> bool
     }
 }
 
-/// Whether a sector is the one behind so many from another on.
+/// Whether `next` is the sector after `len` sectors from `sector` on.
 fn follows(sector: u64, len: u64, next: u64) -> bool
     ensures { result ≡ (sector + len == next) }
 {
     sector <= next && next - sector == len
 }
 
-/// A piece with so many more sectors behind it.
+/// A piece that is longer by `more` sectors.
 fn longer(stack: &Stack, held: &Piece, more: u64) -> Piece
     requires { Fits stack.now (first_unit held.now) (piece_len held.now + more) }
     ensures first { first_unit result ≡ first_unit held.now }

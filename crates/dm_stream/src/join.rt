@@ -1,7 +1,7 @@
 //! Joins: sinks that write lines.
 //!
-//! One piece is held while others go on from it, so a request takes no memory however long it is.
-//! What a join took is told by whole pieces, whatever units are to come; a change here keeps that.
+//! One piece is held while others continue it, so a request takes no memory however long it is. What
+//! a join took is stated in whole pieces, whatever units follow; keep that when you change it.
 
 ghost use Rattle.std.specs.Prelude.{◌≡◌, ◌+◌, ◌-◌, ◌++◌, ◌^◌, List, None, OnErr, OnOk};
 ghost use Rattle.dm_table.specs.DeviceIo.{since, fault_of};
@@ -23,10 +23,10 @@ use dm_table::{OutFault, Output};
 
 /// A sink that joins the pieces of a request to the fewest, and writes each as a line.
 ///
-/// It keeps its caller's writer for as long as it lives. A piece that does not go on from the held
-/// one has that written; where a write fails, neither is held, and a beginning of the line was
-/// written. The room is what 64 bits leave beside the length of a held piece without a disk, in
-/// sectors of 512 bytes.
+/// It borrows its caller's writer until it ends. A piece that does not continue the held one has the
+/// held one written first; if that fails, neither is held, and a beginning of the line was written.
+/// The room is what is left of 64 bits beside the length of a held piece without a disk, in sectors
+/// of 512 bytes.
 #[derive(Drop)]
 pub struct Join<'s, W> {
     pub(crate) held: HeldPiece<'s>,
@@ -56,10 +56,10 @@ impl<'s, W: Output> Join<'s, W> {
         self.held.set_number(number);
     }
 
-    /// Writes the held piece, at a request's end. Nothing is held behind it.
+    /// Writes the held piece, at a request's end. Nothing is held afterwards.
     ///
-    /// `OutFault` where a write failed: a beginning of the line was written. Cost: as many writes as
-    /// the one line takes, and none where nothing is held. No memory is taken.
+    /// `OutFault` if a write failed: a beginning of the line was written, and not all of it. Cost: as
+    /// many writes as the one line takes, and none if nothing is held. No memory is taken.
     pub fn finish(&mut self) -> Result<(), OutFault>
         ensures ok { OnOk result (since (W.written self.old.writer.now) (W.written self.new.writer.now)
             ≡ pieces_text self.old.held.stack self.old.held.number (fewest (held_units self.old.held.piece))) }
@@ -73,7 +73,7 @@ impl<'s, W: Output> Join<'s, W> {
         ensures waiting { W.waiting self.new.writer.now
             ≡ W.waiting self.old.writer.now ++ since (W.written self.old.writer.now) (W.written self.new.writer.now) }
         ensures same_reference { self.new.writer.ghost_name ≡ self.old.writer.ghost_name }
-        // They are the only pieces of units of which none goes on from the one before, and none are fewer.
+        // They are the only pieces of the units of which none continues the one before, and no others are fewer.
         ensures fewest { (units : List BlockUnit) → AreFewest units (fewest units) }
     {
         self.held.write(&mut *self.writer)

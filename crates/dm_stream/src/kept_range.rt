@@ -1,14 +1,14 @@
-//! The end of a line: the two numbers of a place, kept while they stay the same.
+//! The range that a line ends with, a start and a length, kept while both stay the same.
 //!
-//! Over many columns the same two numbers come once for each column, so their digits are put once.
-//! They stand at the very end of the text; who puts something else there says that none is kept.
+//! Over many columns the same range comes once for each column, so its digits are put once. They
+//! stand at the very end of the text; whoever puts something else there says that none is kept.
 
 ghost use Rattle.std.specs.Prelude.{◌≡◌, ◌≤◌, ◌+◌, ◌∷◌, [], length, drop};
 ghost use Rattle.dm_stream.specs.KeptRange.{IsKept, range_text};
 
 use crate::put_before::{put_before, put_number_before};
 
-/// The two numbers that a text ends with, and where that begins: at the text's end where none is kept.
+/// The range that a text ends with, and where that begins: at the text's end if none is kept.
 #[derive(Clone, Copy)]
 pub(crate) struct KeptRange {
     pub(crate) start: u64,
@@ -16,7 +16,7 @@ pub(crate) struct KeptRange {
     pub(crate) at: usize,
 }
 
-/// Makes a text end with two numbers and a newline. They stay as they are where it ends so already.
+/// Makes a text end with a start, a length and a newline, which stay as they are if it does already.
 pub(crate) fn set_range(text: &mut [u8], range: &mut KeptRange, start: u64, len: u64)
     requires room { 64 ≤ length text.old }
     requires range { IsKept range.old text.old }
@@ -29,7 +29,7 @@ pub(crate) fn set_range(text: &mut [u8], range: &mut KeptRange, start: u64, len:
     }
 }
 
-/// Puts two numbers and a newline at the end of a text.
+/// Puts a start, a length and a newline at the end of a text.
 fn put_range(text: &mut [u8], start: u64, len: u64) -> KeptRange
     requires { 64 ≤ length text.old }
     ensures range { IsKept result text.new }
@@ -43,7 +43,7 @@ fn put_range(text: &mut [u8], start: u64, len: u64) -> KeptRange
     KeptRange { start, len, at }
 }
 
-/// Makes a text end with a newline alone, so that no range is kept; answers where it stands.
+/// Makes a text end with only a newline, so that no range is kept, and returns where it is.
 pub(crate) fn without_range(text: &mut [u8], range: &mut KeptRange) -> usize
     requires { 1 ≤ length text.old }
     ensures at { range.new.at ≡ length text.new }

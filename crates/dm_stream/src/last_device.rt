@@ -1,7 +1,7 @@
-//! Devices by their names, of which the last one is kept.
+//! Devices by their names; the last one is remembered.
 //!
-//! Requests in a row mostly name the same device, and a name is compared in a fraction of the time
-//! that its look-up takes. A clause sees the stack alone, so no answer goes by what was asked before.
+//! Successive requests mostly name the same device, and comparing a name takes a fraction of the
+//! time of looking it up. Clauses see only the stack, so no result depends on what was asked before.
 
 ghost use Rattle.std.specs.Prelude.{◌≡◌};
 ghost use Rattle.dm_stream.specs.LastDevice.{IsFoundByName};
@@ -29,7 +29,7 @@ impl<'s> Model for LastDevice<'s> {
 }
 
 impl<'s> LastDevice<'s> {
-    /// One that was asked for no name yet.
+    /// One that remembers no device yet.
     pub(crate) fn new(stack: &'s Stack) -> LastDevice<'s>
         ensures { result ≡ stack.now }
     {
@@ -52,7 +52,7 @@ impl<'s> LastDevice<'s> {
     }
 }
 
-/// The device of a name, which its own name finds again.
+/// The device of a name; its own name finds it again.
 fn device_named(stack: &Stack, name: &str) -> Option<DeviceId>
     ensures found { result ≡ device_of stack.now name.now }
     ensures again { IsFoundByName stack.now result }

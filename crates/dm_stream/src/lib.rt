@@ -1,8 +1,8 @@
 //! Requests in, lines out: from bytes of requests to bytes of answers.
 //!
-//! Lines come out of whatever an input hands over, however it is cut; each is answered by the
-//! pieces that a mapper gives, joined and written. What a request's units are is said by the crate
-//! of the mapper; here they become text.
+//! Lines are found in whatever an input hands over, however its reads cut them; each request is
+//! answered with the pieces of a mapper, joined and written. What a request's units are is said in
+//! the mapper's crate; here they become text.
 #![tactic(auto)]
 
 mod ending;

@@ -1,6 +1,6 @@
 //! The slice in which lines are held: where a line ends, room for a read, and the read.
-//! These work on a plain slice and two places in it, so that `lines` deals with its value alone.
-//! Held bytes move only where the room behind them is short: a full buffer of small lines stays.
+//! These work on a plain slice and two places in it, so that `lines` deals only with its value.
+//! Held bytes move only when there is too little room after them: a buffer full of short lines stays put.
 ghost use Rattle.std.specs.Prelude.{◌≡◌, ◌+◌, ◌-◌, ◌<◌, ◌≤◌, ◌++◌, ◌∷◌, [], length, take, drop, slice_range, IfOk, MatchOption};
 ghost use Rattle.dm_table.specs.DeviceIo.{given, fault_of, end_of};
 ghost use Rattle.dm_table.specs.Fields.{parts_at};
@@ -9,7 +9,7 @@ use dm_table::{InFault, Input};
 use memchr::memchr;
 
 /// The length of the first line, where its newline is held. The first `searched` bytes have none,
-/// and are not looked at.
+/// and are not searched again.
 pub(crate) fn line_len(held: &[u8], searched: usize) -> Option<usize>
     requires within { searched ≤ length held.now }
     requires clear { parts_at 10 (take searched held.now) ≡ take searched held.now ∷ [] }
@@ -21,8 +21,8 @@ pub(crate) fn line_len(held: &[u8], searched: usize) -> Option<usize>
     Some(searched + n)
 }
 
-/// Makes room for more than `room` bytes behind those from `start` to `end`, and answers where they
-/// start then. They stay where they are if the room is there.
+/// Makes room for more than `room` bytes after those from `start` to `end`, and returns where they
+/// start now. They stay where they are if there is room already.
 pub(crate) fn make_room(buffer: &mut [u8], start: usize, end: usize, room: usize) -> usize
     requires ordered { start ≤ end }
     requires within { end ≤ length buffer.old }
@@ -37,7 +37,7 @@ pub(crate) fn make_room(buffer: &mut [u8], start: usize, end: usize, room: usize
     0
 }
 
-/// Reads once, into the buffer behind its first `end` bytes.
+/// Reads once, into the buffer after its first `end` bytes.
 pub(crate) fn read_behind<R: Input>(
     buffer: &mut [u8],
     end: usize,

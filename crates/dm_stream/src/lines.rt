@@ -1,6 +1,6 @@
-//! The lines of an input, out of a buffer that holds what was read and not yet answered.
-//! A clause sees those bytes alone, so what is answered goes by the bytes and never by their cutting.
-//! No memory is taken, and the search for a newline goes on where the last one stopped: a byte is searched once.
+//! The lines of an input, from a buffer that holds what was read and not yet returned.
+//! Clauses see only those bytes, so lines depend on the bytes and never on how reads cut them.
+//! No memory is taken, and the search for a newline continues where the last one stopped: each byte is searched once.
 ghost use Rattle.std.specs.Prelude.{◌≡◌, ◌+◌, ◌≤◌, ◌++◌, [], ◌∷◌, length, take, IfOk, OnErr};
 ghost use Rattle.std.specs.Borrow.{sem};
 ghost use Rattle.std.specs.Io.BufRead.{Rests};
@@ -21,17 +21,17 @@ const ROOM: usize = 65536;
 pub enum Next<'a> {
     /// A line, without its newline.
     Line(&'a [u8]),
-    /// A clean end behind the last newline.
+    /// A clean end after the last newline.
     End,
-    /// A clean end behind bytes without a newline.
+    /// A clean end after bytes without a newline.
     Unended,
-    /// A line of more than 4,096 bytes, or so many without a newline yet.
+    /// A line of more than 4,096 bytes, or more than that with no newline so far.
     Long,
     /// The input failed before the next line was whole.
     ReadFault,
 }
 
-/// What comes next, where a line is the front of what is held.
+/// What comes next, where a line is said by its length: the held bytes begin with it.
 enum NextHeld {
     Line(usize),
     End,
@@ -40,7 +40,7 @@ enum NextHeld {
     ReadFault,
 }
 
-/// Lines of an input. A clause sees the bytes that were read and not yet answered.
+/// Lines of an input. Clauses see the bytes that were read and not yet returned.
 #[derive(Drop)]
 pub struct Lines {
     buffer: [u8; ROOM],
@@ -64,7 +64,7 @@ impl Lines {
     ghost use Rattle.dm_stream.specs.NextHeld.{held_answer, FitsIn, IsLook, OnHeldLine};
     ghost use Rattle.dm_stream.specs.contracts.lines.Lines.{the_row};
 
-    /// Lines of which nothing was read yet.
+    /// Lines of an input that was not read yet.
     pub fn new() -> Lines
         ensures { result ≡ [] }
     {
@@ -103,7 +103,7 @@ impl Lines {
         }
     }
 
-    /// Reads once, behind what is held.
+    /// Reads once, after the held bytes.
     fn fill<R: Input>(&mut self, reader: &mut R) -> Result<usize, InFault>
         requires { length self.old ≤ MOST_LINE_BYTES }
         ensures held { self.new ≡ self.old ++ since (R.handed reader.old) (R.handed reader.new) }
@@ -156,18 +156,18 @@ impl Lines {
         }
     }
 
-    /// The next line, or why there is none. Only a line is gone from what is held.
+    /// The next line, or why there is none. Only a line leaves the held bytes.
     ///
-    /// Cost: time linear in the bytes read and answered, however they come, and no memory.
+    /// Cost: time linear in the bytes read, however they arrive. Takes no memory.
     pub fn next<R: Input>(&mut self, reader: &mut R) -> Next<'_>
         ensures* after { sem 𝓛 (Rests the_row self.entry (λ new.
             new ≡ left_of (answer_of result) (self.old ++ since (R.handed reader.old) (R.handed reader.new)))) }
         ensures bytes { R.handed reader.new
             ≡ R.handed reader.old ++ since (R.handed reader.old) (R.handed reader.new) }
-        // A line is answered before an end or a fault is met.
+        // A line is returned before an end or a fault is met.
         ensures quiet { OnLine result
             ((R.faults reader.new ≡ R.faults reader.old) × (R.ends reader.new ≡ R.ends reader.old)) }
-        // Nothing is read behind an end or a fault.
+        // Nothing is read after an end or a fault.
         ensures no_more { R.faults reader.new + R.ends reader.new ≤ R.faults reader.old + R.ends reader.old + 1 }
         ensures answer { answer_of result ≡ next_answer (delivery R.handed R.faults R.ends reader.old reader.new).stand
             (line_parts (self.old ++ since (R.handed reader.old) (R.handed reader.new))) }

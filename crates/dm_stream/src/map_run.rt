@@ -1,7 +1,7 @@
-//! A run: from requests to their answers, line by line, in one pass and with no memory taken.
+//! A run: from requests to their answers, line by line, in one pass and without taking memory.
 //!
-//! What is written goes by the bytes and ends that the requests delivered, and by nothing else: see
-//! `specs/Outcome.antt`. `requests` reads the lines, `request_mapper` answers them.
+//! What is written depends on the bytes and ends that the requests delivered, and on the mapper's
+//! state: see `specs/Outcome.antt`. `requests` reads the lines, `request_mapper` answers them.
 
 ghost use Rattle.std.specs.Prelude.{◌≡◌, ◌≢◌, ◌+◌, ◌<◌, ◌≤◌, ◌++◌, ◌↔◌, [], List, None, false};
 ghost use Rattle.dm_table.specs.DeviceIo.{delivery, fault_of, since};
@@ -20,14 +20,14 @@ ghost use Rattle.dm_stream.specs.Run.{HasRun, IsMapped, IsServed, ending_for, wr
 use crate::ending::{Ending, NotMapped, RequestWord};
 use crate::join::Join;
 use crate::last_device::LastDevice;
-use crate::message::tell_ending;
+use crate::message::{message_of, tell};
 use crate::request_mapper::RequestMapper;
 use crate::requests::handle_requests;
 use dm_map::Mapper;
 use dm_stack::Stack;
 use dm_table::{Input, OutFault, Output};
 
-/// How a run ends whose requests were not all mapped.
+/// How a run ends when a request was not mapped.
 fn ending_of(cause: NotMapped) -> Ending
     ensures { result ≡ ending_for cause }
 {
@@ -61,7 +61,7 @@ fn map_lines<'s, R: Input, W: Output>(
     }
 }
 
-/// The same for an output, which the caller has back after it.
+/// The same for an output, which the caller has back afterwards.
 fn map_requests<'s, R: Input, W: Output>(
     stack: &'s Stack,
     mapper: &mut Mapper<'s>,
@@ -114,22 +114,23 @@ fn map_and_flush<'s, R: Input, W: Output>(
     }
 }
 
-/// Answers requests, line by line: for each the pieces that its units make, as few as can be, one a
-/// line under the number of the request. It ends with the first bad line, an end or a fault.
+/// Answers requests, line by line: for each, the pieces that its units make, as few as possible, one
+/// a line under the number of the request. It ends with the first bad line, an end or a fault.
 ///
 /// | Ending | When |
 /// |---|---|
 /// | `Done` | the requests came to a clean end, and all were answered |
 /// | `BadRequest` | the line of this number is bad; those before it were answered |
-/// | `ReadFault` | reading requests failed; those before were answered |
+/// | `ReadFault` | reading requests failed; those before it were answered |
 /// | `WriteFault` | writing or flushing the output failed; a beginning of the answers was written |
 ///
-/// The mapper is one of this stack and not stopped. The output is flushed once at the end, save
-/// where a write failed; after that a message of one line is written, save at `Done`. No status
-/// lines are written as yet, so `status` is false.
+/// The mapper is one of this stack and not stopped; its state moves on with the requests. The output
+/// is flushed once at the end, unless a write failed; then a message of one line is written, except
+/// at `Done`. An output is not written to if there is nothing to write. Status lines are not
+/// supported yet, so `status` is false.
 ///
-/// Cost: time linear in the bytes read and written, and what the mapper takes a request. No memory
-/// is taken.
+/// Cost: time linear in the bytes read and written, plus what the mapper takes for each request. No
+/// memory is taken.
 pub fn run<'s, R: Input, W: Output, E: Output>(
     stack: &'s Stack,
     mapper: &mut Mapper<'s>,
@@ -141,18 +142,18 @@ pub fn run<'s, R: Input, W: Output, E: Output>(
     requires stack { mapper.old.stack ≡ stack.now }
     requires going { mapper.old.stopped ≡ false }
     requires unflagged { status ≡ false }
-    // The mapper stays one of its stack, and can go on unless the output failed: from the state that the requests left.
+    // The mapper stays one of its stack, and can go on unless the output failed: in the state that the requests left.
     ensures stack { mapper.new.stack ≡ mapper.old.stack }
     ensures going { result ≢ Ending.WriteFault → mapper.new.stopped ≡ false }
     ensures state { result ≢ Ending.WriteFault → mapper.new.state
         ≡ (run_outcome stack.now mapper.old.state (delivery R.handed R.faults R.ends requests.old requests.new)).state }
-    // What was written, and how it ended, is what the requests delivered says.
+    // What was written, and how it ended, is given by what the requests delivered.
     ensures served { IsServed (run_outcome stack.now mapper.old.state (delivery R.handed R.faults R.ends requests.old requests.new))
         (since (W.written output.old) (W.written output.new)) result }
     ensures read_fault { result ≡ Ending.ReadFault → R.faults requests.old < R.faults requests.new }
     ensures no_fault { result ≡ Ending.Done → R.faults requests.new ≤ R.faults requests.old }
     ensures write_fault { W.faults output.old < W.faults output.new ↔ (result ≡ Ending.WriteFault) }
-    // Something was left to write where the output failed without a flush, and nothing where it was flushed.
+    // If the output failed without a flush, something was left to write; if it was flushed, nothing was, and all of it still waits.
     ensures left { result ≡ Ending.WriteFault → W.flushes output.new ≡ W.flushes output.old
         → IsCutShort (run_outcome stack.now mapper.old.state (delivery R.handed R.faults R.ends requests.old requests.new)).output
         (since (W.written output.old) (W.written output.new)) }
@@ -166,10 +167,10 @@ pub fn run<'s, R: Input, W: Output, E: Output>(
     ensures flushed { result ≢ Ending.WriteFault
         → (W.waiting output.new ≡ []) × (W.flushes output.new ≡ W.flushes output.old + 1) }
     ensures once { W.flushes output.new ≤ W.flushes output.old + 1 }
-    // The message of the ending, or a beginning of it where its stream failed.
+    // The message of the ending, or a beginning of it if its stream failed.
     ensures told { IsTold (ending_message result) (since (E.written messages.old) (E.written messages.new)) (E.faults messages.old) (E.faults messages.new) }
     ensures unflushed { E.flushes messages.new ≡ E.flushes messages.old }
-    // Each device only goes on from where it was.
+    // Each input and output only moves on from where it was.
     ensures reads { R.handed requests.new
         ≡ R.handed requests.old ++ since (R.handed requests.old) (R.handed requests.new) }
     ensures appends { W.written output.new
@@ -184,6 +185,6 @@ pub fn run<'s, R: Input, W: Output, E: Output>(
     ensures limits { (MOST_LINE_BYTES ≡ 4096) × (MOST_REQUESTS ≡ 1000000000000) }
 {
     let ending = map_and_flush(stack, mapper, requests, output);
-    tell_ending(messages, ending);
+    tell(messages, message_of(ending).as_slice());
     ending
 }

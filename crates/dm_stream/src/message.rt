@@ -1,6 +1,6 @@
 //! The messages of a run: one line each, and at most one a run.
 //!
-//! The words are fixed by `specs/Messages.antt`, since users match on them. A new ending is an arm
+//! The words are fixed in `specs/Messages.antt`, since users match on them. A new ending is an arm
 //! here and there.
 
 ghost use Rattle.std.specs.Prelude.{◌≡◌, ◌+◌, ◌≤◌, ◌++◌, length};
@@ -12,7 +12,7 @@ use arrayvec::ArrayVec;
 use dm_table::{Output, put, put_number, write_all};
 
 /// A message of a run.
-type Message = ArrayVec<u8, 64>;
+pub(crate) type Message = ArrayVec<u8, 64>;
 
 /// Writes a message, as far as its stream takes it. Nothing is flushed.
 pub fn tell<E: Output>(messages: &mut E, message: &[u8])
@@ -25,19 +25,8 @@ pub fn tell<E: Output>(messages: &mut E, message: &[u8])
     let _ = write_all(messages, message);
 }
 
-/// Writes the message of an ending, as far as its stream takes it.
-pub(crate) fn tell_ending<E: Output>(messages: &mut E, ending: Ending)
-    ensures appends { E.written messages.new ≡ E.written messages.old ++ since (E.written messages.old) (E.written messages.new) }
-    ensures told { IsTold (ending_message ending) (since (E.written messages.old) (E.written messages.new)) (E.faults messages.old) (E.faults messages.new) }
-    ensures once { E.faults messages.new ≤ E.faults messages.old + 1 }
-    ensures grows { E.faults messages.old ≤ E.faults messages.new }
-    ensures flushes { E.flushes messages.new ≡ E.flushes messages.old }
-{
-    tell(messages, message_of(ending).as_slice());
-}
-
-/// The message of an ending: empty where all requests were answered.
-fn message_of(ending: Ending) -> Message
+/// The message of an ending: empty if all requests were answered.
+pub(crate) fn message_of(ending: Ending) -> Message
     ensures { result.items ≡ ending_message ending }
 {
     let mut text = ArrayVec::new();

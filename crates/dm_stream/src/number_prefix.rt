@@ -1,7 +1,7 @@
-//! The front of a request's lines: its number and a space.
+//! What each line of a request begins with: its number and a space.
 //!
-//! The numbers of requests mostly rise by one, so where only the last digit differs it is changed in
-//! its place.
+//! The numbers of requests mostly rise by one, so if only the last digit differs it is changed in
+//! place.
 
 ghost use Rattle.std.specs.Prelude.{◌≡◌, ◌++◌, ◌≤◌, length, drop};
 ghost use Rattle.dm_stream.specs.NumberedLine.{number_prefix};
@@ -9,10 +9,10 @@ ghost use Rattle.dm_stream.specs.NumberedLine.{number_prefix};
 use crate::put_before::{put_before, put_number_before};
 use std::marker::Model;
 
-/// How many bytes there is room for: the digits of a number and a space.
+/// The room in bytes: the digits of a number and a space.
 const ROOM: usize = 21;
 
-/// A number and a space as text. They end where the room does.
+/// A number and a space as text, at the end of the room.
 #[derive(Drop)]
 pub(crate) struct NumberPrefix {
     number: u64,
@@ -32,7 +32,7 @@ impl Model for NumberPrefix {
 }
 
 impl NumberPrefix {
-    /// The front under the number 0.
+    /// The prefix of the number 0.
     pub(crate) fn new() -> NumberPrefix
         ensures { result ≡ 0 }
     {
@@ -57,9 +57,9 @@ impl NumberPrefix {
         self.number = number;
     }
 
-    /// Puts the number and a space before a place of a text, and answers where they begin.
+    /// Puts the number and a space before a place of a text, and returns where they begin.
     ///
-    /// All of the room is copied, since a copy of a fixed length is the cheapest.
+    /// The whole room is copied, since a copy of a fixed length is the cheapest.
     pub(crate) fn put_before(&self, text: &mut [u8], end: usize) -> usize
         requires room { 21 ≤ end }
         requires within { end ≤ length text.old }
@@ -71,7 +71,7 @@ impl NumberPrefix {
     }
 }
 
-/// Puts a number and a space at the end of a text, and answers where they begin.
+/// Puts a number and a space at the end of a text, and returns where they begin.
 fn put_prefix(text: &mut [u8], number: u64) -> usize
     requires { length text.old ≡ ROOM }
     ensures { drop result text.new ≡ number_prefix number }

@@ -1,7 +1,7 @@
-//! The text of a line at a time, under a request's number.
+//! The text of one line at a time, under a request's number.
 //!
 //! The room is kept from line to line, and the number's digits are put once for all lines of a
-//! request. A line is put together from its end, the front last.
+//! request. A line is put together from its end, its number last.
 
 ghost use Rattle.std.specs.Prelude.{◌≡◌, []};
 ghost use Rattle.dm_map.specs.Units.{IsOnDisks};
@@ -15,10 +15,10 @@ use dm_map::Piece;
 use dm_stack::Stack;
 use std::marker::Model;
 
-/// How many bytes there is room for: two names of at most 255 bytes, and five numbers.
+/// The room in bytes: two names of at most 255 bytes, and five numbers.
 const ROOM: usize = 1024;
 
-/// The line of a piece under a number. It ends where the room does.
+/// The line of a piece under a number, at the end of the room.
 #[derive(Drop)]
 pub(crate) struct NumberedLine {
     prefix: NumberPrefix,
@@ -56,7 +56,7 @@ impl NumberedLine {
         }
     }
 
-    /// Sets the number. The line stays until the next one.
+    /// Sets the number. The line stays as it is until the next piece.
     pub(crate) fn set_number(&mut self, number: u64)
         ensures { self.new ≡ record { number = number; text = self.old.text } }
     {

@@ -1,7 +1,7 @@
 //! The line of a piece.
 //!
 //! It is put together from its end, in room that the caller keeps, so a request takes no memory for
-//! its lines. What stands for a new kind of piece is an arm of `put_piece` here and of `unit_text` in
+//! its lines. A new kind of piece is an arm of `put_piece` here and of `unit_text` in
 //! `specs/PieceText`.
 
 ghost use Rattle.std.specs.Prelude.{◌≡◌, ◌++◌, ◌+◌, ◌<◌, ◌≤◌, ◌∷◌, [], length, drop, decimal};
@@ -15,7 +15,7 @@ use crate::put_before::{put_before, put_number_before};
 use dm_map::Piece;
 use dm_stack::{DiskId, Stack};
 
-/// Puts what a piece is and a newline at the end of a text, and answers where that begins.
+/// Puts what a piece is and a newline at the end of a text, and returns where that begins.
 pub(crate) fn put_piece(
     text: &mut [u8],
     range: &mut KeptRange,

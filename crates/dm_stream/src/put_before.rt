@@ -1,11 +1,11 @@
 //! Texts put together from their end.
 //!
-//! A line's end changes less often than its front, so it is put first and stays in its place. What
-//! stands behind a place is never changed here.
+//! A line's end changes less often than its beginning, so it is put first and stays in place. What
+//! comes after a place is never changed here.
 
 ghost use Rattle.std.specs.Prelude.{◌≡◌, ◌++◌, ◌+◌, ◌≤◌, length, drop, decimal};
 
-/// Puts bytes before a place of a text, and answers where they begin.
+/// Puts bytes before a place of a text, and returns where they begin.
 pub(crate) fn put_before(text: &mut [u8], end: usize, bytes: &[u8]) -> usize
     requires room { length bytes.now ≤ end }
     requires within { end ≤ length text.old }
@@ -17,7 +17,7 @@ pub(crate) fn put_before(text: &mut [u8], end: usize, bytes: &[u8]) -> usize
     start
 }
 
-/// Puts a number before a place of a text, in decimal digits, and answers where they begin.
+/// Puts a number before a place of a text, in decimal digits, and returns where they begin.
 pub(crate) fn put_number_before(text: &mut [u8], end: usize, number: u64) -> usize
     requires room { 20 ≤ end }
     requires within { end ≤ length text.old }

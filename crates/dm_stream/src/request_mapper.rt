@@ -1,7 +1,7 @@
 //! Mapping requests to an output: the handler of a run.
 //!
-//! It finds a request's device, and its units go through a mapper into a join, which writes them. Of
-//! what is written `specs/Outcome.antt` speaks, and of how a request fares alone `specs/Mapped.antt`.
+//! It finds a request's device, and hands its units through a mapper to a join, which writes them.
+//! `specs/Outcome.antt` says what is written, and `specs/Mapped.antt` what one request adds to it.
 
 ghost use Rattle.std.specs.Prelude.{◌≡◌, ◌<◌, None, false, length, OnErr, OnOk};
 ghost use Rattle.dm_table.specs.DeviceIo.{fault_of, since};

@@ -1,7 +1,7 @@
-//! From the bytes of an input to its requests, line by line, handed on to who answers them.
+//! From the bytes of an input to its requests, line by line, handed on to whoever answers them.
 //!
-//! What is handed on goes by the bytes and ends that the input delivered, and by nothing else. A new
-//! question about a line is asked in `request_of`, in the order in which `specs/Requests.antt` asks it.
+//! What is handed on depends on the bytes and ends that the input delivered, and on nothing else. A
+//! new check of a line goes into `request_of`, in the order in which `specs/Requests.antt` has it.
 
 ghost use Rattle.std.specs.Prelude.{◌≡◌, ◌≢◌, ◌<◌, ◌≤◌, ◌∷◌, [], Ok, Some, IfOk, IfErr, OnOk};
 ghost use Rattle.dm_table.specs.DeviceIo.{delivery};
@@ -44,12 +44,12 @@ fn request_of(line: &[u8], number: u64) -> Result<Request<'_>, RequestWord>
 
 /// Hands requests on, one after the other, up to the first bad line, an end or a fault.
 ///
-/// `Ok` says which of these it was, and all requests before were answered. Cost: time linear in the
-/// bytes read, and what the handler takes a request. No memory is taken.
+/// `Ok` says which of these it was; all requests before it were answered. Cost: time linear in the
+/// bytes read, plus what the handler takes for each request. No memory is taken.
 ///
 /// # Errors
 ///
-/// What the handler stopped with, at one of the requests; nothing is read after that.
+/// The fault with which the handler stopped at one of the requests. Nothing is read after that.
 pub fn handle_requests<R: Input, H: Handler>(
     requests: &mut R,
     handler: &mut H,
