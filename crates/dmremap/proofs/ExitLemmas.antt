@@ -23,10 +23,6 @@ pub refused_kind : (kind : LoadKind) → load_status kind ≢ 6 → (kind ≢ ki
 refused_kind kinds.Memory h = absurd (h refl)
 refused_kind kind h = ((λ e. absurd cc), refl)
 
-memory_kind : (kind : LoadKind) → load_status kind ≡ 6 → kind ≡ kinds.Memory
-memory_kind kinds.Memory h = refl
-memory_kind kind h = absurd (omega arith)
-
 no_write_fault : (kind : LoadKind) → load_status kind ≡ 5 → ⊥
 no_write_fault kinds.Memory h = omega arith
 no_write_fault kind h = omega arith
@@ -50,51 +46,6 @@ whole_from format source disks requests output old new (Ran ending) exits other 
     let served = served_is outcome output ending other exits.2.served in
     record { load = SoundAs exits.0; loaded = exits.1; is = ap (ended_if outcome.output) served.1 ∙ ap (λ (out : List ℕ). ended_if out (Some ending)) served.0 }
 
--- status 6 says that memory ran out while loading
-pub out_of_memory : (format : Format) (source disks requests : Delivery) (output : List ℕ) (old new : ℕ) (exit : Exit) → IsExitOf format source disks requests output old new exit → exit_status exit ≡ 6 → (output ≡ []) × (exit_message exit ≡ memory_message)
-out_of_memory format source disks requests output old new (Refused fault) exits six = (exits.0, rw (memory_kind fault.kind six) refl)
-out_of_memory format source disks requests output old new (Ran endings.Done) exits six = absurd (omega arith)
-out_of_memory format source disks requests output old new (Ran (endings.BadRequest number word)) exits six = absurd (omega arith)
-out_of_memory format source disks requests output old new (Ran endings.ReadFault) exits six = absurd (omega arith)
-out_of_memory format source disks requests output old new (Ran endings.WriteFault) exits six = absurd (omega arith)
-
--- status 5 is a failed output
-pub failed_output : (exit : Exit) → exit_status exit ≡ 5 → exit_message exit ≡ write_message
-failed_output (Refused fault) five = absurd (no_write_fault fault.kind five)
-failed_output (Ran endings.Done) five = absurd (omega arith)
-failed_output (Ran (endings.BadRequest number word)) five = absurd (omega arith)
-failed_output (Ran endings.ReadFault) five = absurd (omega arith)
-failed_output (Ran endings.WriteFault) five = refl
-
--- the flushes, by the status
-pub flushed_once : (exit : Exit) (waiting : List ℕ) (old new : ℕ) → IsFlushed exit waiting old new → exit_status exit ≢ 1 → exit_status exit ≢ 5 → exit_status exit ≢ 6 → (waiting ≡ []) × (new ≡ old + 1)
-flushed_once (Refused fault) waiting old new h one five six = absurd (one (sym (refused_kind fault.kind six).1))
-flushed_once (Ran endings.Done) waiting old new h one five six = h
-flushed_once (Ran (endings.BadRequest number word)) waiting old new h one five six = h
-flushed_once (Ran endings.ReadFault) waiting old new h one five six = h
-flushed_once (Ran endings.WriteFault) waiting old new h one five six = absurd (five refl)
-
-pub not_flushed_one : (exit : Exit) (waiting : List ℕ) (old new : ℕ) → IsFlushed exit waiting old new → exit_status exit ≡ 1 → new ≡ old
-not_flushed_one (Refused fault) waiting old new h one = h
-not_flushed_one (Ran endings.Done) waiting old new h one = absurd (omega arith)
-not_flushed_one (Ran (endings.BadRequest number word)) waiting old new h one = absurd (omega arith)
-not_flushed_one (Ran endings.ReadFault) waiting old new h one = absurd (omega arith)
-not_flushed_one (Ran endings.WriteFault) waiting old new h one = absurd (omega arith)
-
-pub not_flushed_six : (exit : Exit) (waiting : List ℕ) (old new : ℕ) → IsFlushed exit waiting old new → exit_status exit ≡ 6 → new ≡ old
-not_flushed_six (Refused fault) waiting old new h six = h
-not_flushed_six (Ran endings.Done) waiting old new h six = absurd (omega arith)
-not_flushed_six (Ran (endings.BadRequest number word)) waiting old new h six = absurd (omega arith)
-not_flushed_six (Ran endings.ReadFault) waiting old new h six = absurd (omega arith)
-not_flushed_six (Ran endings.WriteFault) waiting old new h six = absurd (omega arith)
-
-pub at_most_once : (exit : Exit) (waiting : List ℕ) (old new : ℕ) → IsFlushed exit waiting old new → new ≤ old + 1
-at_most_once (Refused fault) waiting old new h = omega arith
-at_most_once (Ran endings.Done) waiting old new h = omega (arith, h.1)
-at_most_once (Ran (endings.BadRequest number word)) waiting old new h = omega (arith, h.1)
-at_most_once (Ran endings.ReadFault) waiting old new h = omega (arith, h.1)
-at_most_once (Ran endings.WriteFault) waiting old new h = h
-
 -- the same of the status that was answered
 pub whole_at : (format : Format) (source disks requests : Delivery) (output : List ℕ) (old new : ℕ) (exit : Exit) (status : ℕ) → status ≡ exit_status exit → IsExitOf format source disks requests output old new exit → status ≢ 5 → status ≢ 6 → GiveWhole format source disks requests (record { output = output; message = exit_message exit; status = status })
 whole_at format source disks requests output old new exit status is exits five six =
@@ -109,11 +60,6 @@ failed_at_five format source disks requests output old new (Ran (endings.BadRequ
 failed_at_five format source disks requests output old new (Ran endings.ReadFault) exits five = absurd (omega arith)
 failed_at_five format source disks requests output old new (Ran endings.WriteFault) exits five =
     let ran = exits.2 in (exits.0, exits.1, record { beginning = ran.served; left = ran.left refl; failed_flush = ran.failed_flush refl })
-
--- a run over what the parts give
-pub exit_from : (format : Format) (source disks requests : Delivery) (description : Description) (output : List ℕ) (old new : ℕ) (exit : Exit) → PartsGive format source disks (SoundAs description) → IsRun description requests output old new exit → IsExitOf format source disks requests output old new exit
-exit_from format source disks requests description output old new (Refused fault) parts run = (run.0, λ other. absurd (other run.1))
-exit_from format source disks requests description output old new (Ran ending) parts run = (description, parts, run)
 
 -- requests are not asked for where the load is refused
 pub unasked_one : (exit : Exit) (P : Type 0) → OnRefused exit P → exit_status exit ≡ 1 → P

@@ -120,7 +120,7 @@ fn check(rt: &impl Abort, alloc: Global, case: &Case<'_>) {
     check_streams(rt, alloc, case.name, streams, &case.answer());
 }
 
-/// Runs some streams, and asserts what must come of them.
+/// Runs some streams, and asserts what they must give.
 fn check_streams(
     rt: &impl Abort,
     alloc: Global,
@@ -128,6 +128,18 @@ fn check_streams(
     streams: Streams<'_>,
     answer: &Answer<'_>,
 ) {
+    let (status, output, messages) = run_streams(alloc, streams);
+    assert_eq!(rt; output.as_slice(), answer.output, "the output of {name}");
+    assert_eq!(rt;
+        messages.as_slice(),
+        answer.message,
+        "the message of {name}"
+    );
+    assert_eq!(rt; status, answer.status, "the status of {name}");
+}
+
+/// Runs some streams, and gives the status, the output and the messages.
+fn run_streams(alloc: Global, streams: Streams<'_>) -> (u8, ShortOut, ShortOut) {
     let Streams {
         mut source,
         disks,
@@ -146,11 +158,5 @@ fn check_streams(
         &mut output,
         &mut messages,
     );
-    assert_eq!(rt; output.as_slice(), answer.output, "the output of {name}");
-    assert_eq!(rt;
-        messages.as_slice(),
-        answer.message,
-        "the message of {name}"
-    );
-    assert_eq!(rt; status, answer.status, "the status of {name}");
+    (status, output, messages)
 }

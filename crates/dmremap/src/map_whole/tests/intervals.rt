@@ -97,7 +97,7 @@ fn put_lines(text: &mut String, number: u64, sectors: &[Sector<'_>]) -> Result<(
     Ok(())
 }
 
-/// The output of requests to a stack, as a text.
+/// The output of requests to a stack.
 fn output_of<'a>(rt: &impl Abort, alloc: Global, source: &'a str, requests: &'a str) -> ShortOut {
     let case = Case {
         name: source,
@@ -106,25 +106,9 @@ fn output_of<'a>(rt: &impl Abort, alloc: Global, source: &'a str, requests: &'a 
         requests,
         ..VOLUME
     };
-    let Streams {
-        mut source,
-        disks,
-        mut requests,
-        output: _,
-        mut messages,
-    } = case.streams(rt, alloc, ROOM);
-    let mut output = ShortOut::new(alloc, ROOM, ROOM).expect(rt, "an output");
-    let mut disks = Some(disks);
-    let status = map_whole(
-        alloc,
-        Format::Table,
-        false,
-        &mut source,
-        &mut disks,
-        &mut requests,
-        &mut output,
-        &mut messages,
-    );
+    let mut streams = case.streams(rt, alloc, ROOM);
+    streams.output = ShortOut::new(alloc, ROOM, ROOM).expect(rt, "an output");
+    let (status, output, _) = run_streams(alloc, streams);
     assert_eq!(rt; status, 0);
     output
 }
