@@ -15,3 +15,4 @@ pub mod Steps
 pub mod Pieces
 pub mod Boundaries
 pub mod Searches
+pub mod Whole

@@ -16,10 +16,11 @@ use Rattle.lvm_text.proofs.Bounds.{bounded_text}
 use Rattle.lvm_text.proofs.Fronts.{text_from}
 use Rattle.std.proofs.lemmas.Option.{same_Some}
 
--- no check of tokens answers a fault of tokens or of syntax
+-- no check of tokens finds a fault of tokens or of syntax, or runs out of memory
 abbrev IsLater : TextFault → Type 0
 IsLater (fault.Token n) = ⊥
 IsLater (fault.Syntax n) = ⊥
+IsLater fault.Memory = ⊥
 IsLater _ = Unit {0}
 
 abbrev Later : Option TextFault → Type 0
@@ -44,13 +45,21 @@ accepted_by text ts v (Ok t) s h o = record {
 }
 accepted_by text ts v (Err f) s h o = tt
 
+pub fault_here : (text : List ℕ) (ts : List Placed) (v : Values) (f : TextFault) → Spells text ts → IsText ts v → fault_of ts v ≡ Some f → HasFault text f
+fault_here text ts v (fault.Token n) s h o = absurd (subst Later o (fault_later ts v))
+fault_here text ts v (fault.Syntax n) s h o = absurd (subst Later o (fault_later ts v))
+fault_here text ts v (fault.Deep n) s h o = record { tokens = ts; values = v; spelled = s; grammar = h; hit = o }
+fault_here text ts v (fault.Number n) s h o = record { tokens = ts; values = v; spelled = s; grammar = h; hit = o }
+fault_here text ts v (fault.KeyTwice n) s h o = record { tokens = ts; values = v; spelled = s; grammar = h; hit = o }
+fault_here text ts v fault.Memory s h o = absurd (subst Later o (fault_later ts v))
+
 fault_by : (text : List ℕ) (ts : List Placed) (v : Values) (r : Result Tree TextFault) → Spells text ts → IsText ts v → TreeOf ts v r → IfErr r (λ f. f ≢ fault.Memory → HasFault text f)
 fault_by text ts v (Ok t) s h o = tt
-fault_by text ts v (Err (fault.Token n)) s h o = λ ne. absurd (subst Later o (fault_later ts v))
-fault_by text ts v (Err (fault.Syntax n)) s h o = λ ne. absurd (subst Later o (fault_later ts v))
-fault_by text ts v (Err (fault.Deep n)) s h o = λ ne. record { tokens = ts; values = v; spelled = s; grammar = h; hit = o }
-fault_by text ts v (Err (fault.Number n)) s h o = λ ne. record { tokens = ts; values = v; spelled = s; grammar = h; hit = o }
-fault_by text ts v (Err (fault.KeyTwice n)) s h o = λ ne. record { tokens = ts; values = v; spelled = s; grammar = h; hit = o }
+fault_by text ts v (Err (fault.Token n)) s h o = λ ne. fault_here text ts v (fault.Token n) s h o
+fault_by text ts v (Err (fault.Syntax n)) s h o = λ ne. fault_here text ts v (fault.Syntax n) s h o
+fault_by text ts v (Err (fault.Deep n)) s h o = λ ne. fault_here text ts v (fault.Deep n) s h o
+fault_by text ts v (Err (fault.Number n)) s h o = λ ne. fault_here text ts v (fault.Number n) s h o
+fault_by text ts v (Err (fault.KeyTwice n)) s h o = λ ne. fault_here text ts v (fault.KeyTwice n) s h o
 fault_by text ts v (Err fault.Memory) s h o = λ ne. absurd (ne refl)
 
 -- What the builder read, or refused

@@ -3,7 +3,7 @@
 //! bytes to a tree. To change what a text may say, change `specs/` first.
 #![tactic(auto)]
 
-ghost use Rattle.std.specs.Prelude.{◌≡◌, ◌≢◌, ℕ, List, Ok, Err, IfOk, IfErr};
+ghost use Rattle.std.specs.Prelude.{◌≡◌, ◌≢◌, ◌⊎◌, ℕ, List, Ok, Err, IfOk, IfErr};
 ghost use Rattle.lvm_text.specs.Tree.{Tree};
 ghost use Rattle.lvm_text.specs.Reading.{Describes, HasFault, Answers};
 ghost use Rattle.lvm_text.specs.declared.fault.TextFault.{TextFault};
@@ -47,8 +47,9 @@ pub fn parse(alloc: Global, text: &str) -> Result<Section<'_>, TextFault>
     reading::read(alloc, text)
 }
 
-/// A text says at most one tree, and has at most one fault, and not both.
+/// Every text says one tree or has one fault, and not both.
 pub fn one_answer()
+    ensures every { (text : List ℕ) → ((t : Tree) × Describes text t) ⊎ ((f : TextFault) × HasFault text f) }
     ensures tree { (text : List ℕ) (t u : Tree) → Describes text t → Describes text u → t ≡ u }
     ensures fault { (text : List ℕ) (f g : TextFault) → HasFault text f → HasFault text g → f ≡ g }
     ensures not_both { (text : List ℕ) (t : Tree) (f : TextFault) → Describes text t → ¬ (HasFault text f) }

@@ -1,4 +1,5 @@
 use Rattle.lvm_text.proofs.Unique.{one_tree, one_fault, no_fault}
+use Rattle.lvm_text.proofs.Whole.{every_text}
 use Rattle.lvm_text.proofs.one_answer.Goals as goal
 
 pub returns-clause-tree : goal.returns-clause-tree
@@ -9,3 +10,6 @@ returns-clause-fault c = one_fault
 
 pub returns-clause-not_both : goal.returns-clause-not_both
 returns-clause-not_both c = no_fault
+
+pub returns-clause-every : goal.returns-clause-every
+returns-clause-every c = every_text

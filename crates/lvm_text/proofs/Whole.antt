@@ -1,0 +1,86 @@
+-- Every text says a tree, or has a fault.
+use Rattle.std.proofs.Common.{◌≡◌, ℕ, zero, suc, ◌+◌, ◌<◌, false, List, [], ◌∷◌, ◌++◌, length, Option, Some, None, refl, sym, ap, subst, ◌∙◌, ◌⊎◌, inl, inr, append_assoc, arith}
+use Rattle.std.proofs.lemmas.List.{append-nil}
+use Rattle.lvm_text.specs.Token.{Placed}
+use Rattle.lvm_text.specs.Tree.{Values, Tree}
+use Rattle.lvm_text.specs.Spelling.{Piece, Spells, IsBadToken, is_end, newlines, spelling, put_token}
+use Rattle.lvm_text.specs.Scan.{piece_at}
+use Rattle.lvm_text.specs.Grammar.{IsText, IsSyntaxLine}
+use Rattle.lvm_text.specs.Machine.{State, step, run, is_over}
+use Rattle.lvm_text.specs.Checks.{fault_of}
+use Rattle.lvm_text.specs.Reading.{Describes, HasFault}
+use Rattle.lvm_text.specs.declared.syntax.Place.TheVariants as at
+use Rattle.lvm_text.specs.declared.fault.TextFault.{TextFault}
+use Rattle.lvm_text.specs.declared.fault.TextFault.TheVariants as fault
+use Rattle.lvm_text.proofs.Cases.{bool_is}
+use Rattle.lvm_text.proofs.Cuts.{Before, before_all, before_more, spells_whole, bad_here}
+use Rattle.lvm_text.proofs.Pieces.{begins, shorter}
+use Rattle.lvm_text.proofs.Fronts.{done, text_from, last_run, broken, unfinished, over, not_over}
+use Rattle.lvm_text.proofs.Trees.{fault_here}
+
+-- Tokens
+
+-- the text spells tokens, or something in it is none
+abbrev Tokens : List ℕ → Type 0
+Tokens text = ((ts : List Placed) × Spells text ts) ⊎ ((n : ℕ) × IsBadToken text n)
+
+next_piece : (text : List ℕ) (line : ℕ) (tokens : List Placed) (rest : List ℕ) (piece : Option (Piece × List ℕ)) → Before text line tokens rest → is_end rest ≡ false → piece ≡ piece_at rest
+    → ((l : ℕ) (ts : List Placed) (after : List ℕ) → length after < length rest → Before text l ts after → Tokens text) → Tokens text
+next_piece text line tokens rest None h e p go = inr (line, bad_here text line tokens rest h e (sym p))
+next_piece text line tokens rest (Some q) h e p go =
+    let b = begins rest q.0 q.1 p in
+    go (line + newlines (spelling q.0)) (tokens ++ put_token q.0 line []) q.1 (shorter rest q.0 q.1 b).0 (before_more text line tokens rest q.0 q.1 h b)
+
+tokens_within : (n : ℕ) (text : List ℕ) (line : ℕ) (tokens : List Placed) (rest : List ℕ) → length rest < n → Before text line tokens rest → Tokens text
+tokens_within zero text line tokens rest lt h = absurd (omega arith)
+tokens_within (suc n) text line tokens rest lt h =
+    elim (bool_is (is_end rest)) [
+      | inl e ↦ inl (tokens, spells_whole text line tokens rest h e)
+      | inr e ↦ next_piece text line tokens rest (piece_at rest) h e refl (λ l ts after less before. tokens_within n text l ts after (omega (arith, less, lt)) before)
+    ]
+
+-- Syntax
+
+-- the tokens are a text, or break at a line
+abbrev Syntax : List Placed → ℕ → Type 0
+Syntax ts end = (run 0 at.Key ts ≡ Some done) ⊎ ((n : ℕ) × IsSyntaxLine ts end n)
+
+ended : (ts : List Placed) (end : ℕ) (s : State) → run 0 at.Key ts ≡ Some s → Syntax ts end
+ended ts end s h =
+    elim (bool_is (is_over s.0 s.1)) [
+      | inl e ↦ inl (h ∙ ap (λ (x : State). Some x) (over s.0 s.1 e))
+      | inr e ↦ inr (end, inr (unfinished ts s h (not_over s.0 s.1 e), refl))
+    ]
+
+next_token : (before : List Placed) (t : Placed) (ts : List Placed) (end : ℕ) (s : State) (next : Option State) → run 0 at.Key before ≡ Some s → step s.0 s.1 t.0 ≡ next
+    → ((x : State) → run 0 at.Key (before ++ t ∷ []) ≡ Some x → Syntax ((before ++ t ∷ []) ++ ts) end) → Syntax (before ++ t ∷ ts) end
+next_token before t ts end s None h e go = inr (t.1, inl (broken before ts t.0 t.1 s h e))
+next_token before t ts end s (Some x) h e go =
+    subst (λ (us : List Placed). Syntax us end) (append_assoc before (t ∷ []) ts) (go x (last_run before t s h ∙ rw e refl))
+
+syntax_from : (ts before : List Placed) (end : ℕ) (s : State) → run 0 at.Key before ≡ Some s → Syntax (before ++ ts) end
+syntax_from [] before end s h = subst (λ (us : List Placed). Syntax us end) (sym (append-nil before)) (ended before end s h)
+syntax_from (t ∷ ts) before end s h = next_token before t ts end s (step s.0 s.1 t.0) h refl (λ x e. syntax_from ts (before ++ t ∷ []) end x e)
+
+-- The text
+
+abbrev Answer : List ℕ → Type 0
+Answer text = ((t : Tree) × Describes text t) ⊎ ((f : TextFault) × HasFault text f)
+
+checked : (text : List ℕ) (ts : List Placed) (v : Values) (found : Option TextFault) → Spells text ts → IsText ts v → fault_of ts v ≡ found → Answer text
+checked text ts v None s h e = inl (record { line = 1; values = v }, record { tokens = ts; spelled = s; grammar = h; sound = e; top = refl })
+checked text ts v (Some f) s h e = inr (f, fault_here text ts v f s h e)
+
+spelled : (text : List ℕ) (ts : List Placed) → Spells text ts → Answer text
+spelled text ts s =
+    elim (syntax_from ts [] (1 + newlines text) (0, at.Key) refl) [
+      | inl e ↦ let t = text_from ts e in checked text ts t.0 (fault_of ts t.0) s t.1 refl
+      | inr b ↦ inr (fault.Syntax b.0, record { tokens = ts; spelled = s; place = b.1 })
+    ]
+
+pub every_text : (text : List ℕ) → ((t : Tree) × Describes text t) ⊎ ((f : TextFault) × HasFault text f)
+every_text text =
+    elim (tokens_within (suc (length text)) text 1 [] text (omega arith) (before_all text)) [
+      | inl x ↦ spelled text x.0 x.1
+      | inr b ↦ inr (fault.Token b.0, b.1)
+    ]
