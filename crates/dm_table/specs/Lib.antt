@@ -12,3 +12,4 @@ pub mod RequestLine
 pub mod DeviceIo
 pub mod ShortIo
 pub mod WriteAll
+pub mod CanonicalText
