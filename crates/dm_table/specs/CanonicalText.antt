@@ -1,5 +1,5 @@
 -- The one text that a description is written as, in table text and in concise text (dmsetup(8)).
-use Rattle.std.specs.Prelude.{◌≡◌, ℕ, List, [], ◌∷◌, ◌++◌, map, codes, Result, OnOk, OnErr, if◌then◌else◌, ◌+◌}
+use Rattle.std.specs.Prelude.{◌≡◌, ℕ, Bool, List, [], ◌∷◌, ◌++◌, map, codes, Result, OnOk, OnErr, if◌then◌else◌, ◌+◌}
 use Rattle.std.specs.List.{flat_map, join_with_byte}
 use Rattle.dm_table.specs.declared.table.Line.{Line}
 use Rattle.dm_table.specs.declared.table.DeviceSpec.{DeviceSpec}
@@ -16,10 +16,13 @@ lines_text name lines = flat_map (λ line. line_text (record { name = name; line
 abbrev pub table_text : List DeviceSpec → List ℕ
 table_text devices = flat_map (λ device. lines_text device.name device.lines) devices
 
--- a device with its lines: no uuid, no minor number, its flag
+-- what stands between a device's name and its lines: no uuid, no minor number, its flag
+abbrev pub flag_text : Bool → List ℕ
+flag_text ro = if ro then codes ",,,ro," else codes ",,,rw,"
+
+-- a device with its lines
 abbrev pub concise_device : DeviceSpec → List ℕ
-concise_device device =
-    device.name ++ (if device.ro then codes ",,,ro," else codes ",,,rw,") ++ join_with_byte 44 (map body_text device.lines)
+concise_device device = device.name ++ flag_text device.ro ++ join_with_byte 44 (map body_text device.lines)
 
 -- the devices with semicolons between them, and a newline
 abbrev pub concise_text : List DeviceSpec → List ℕ

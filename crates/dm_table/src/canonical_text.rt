@@ -5,13 +5,13 @@
 //! writes wants a buffer before it. A new target is an arm in `write_target` and in `target_text`
 //! of `specs/LineBody.antt`.
 
-ghost use Rattle.std.specs.Prelude.{◌≡◌, ◌+◌, ◌∷◌, ◌++◌, OnOk, OnErr, codes, decimal};
-ghost use Rattle.std.specs.List.{flat_map};
+ghost use Rattle.std.specs.Prelude.{◌≡◌, ◌+◌, ◌∷◌, ◌++◌, OnOk, OnErr, decimal, map};
+ghost use Rattle.std.specs.List.{flat_map, join_with_byte};
 ghost use Rattle.dm_table.specs.DeviceIo.{since, fault_of};
 ghost use Rattle.dm_table.specs.WriteAll.{IsBeginning};
 ghost use Rattle.dm_table.specs.LineBody.{dev_text, column_text, target_text, body_text};
 ghost use Rattle.dm_table.specs.TableText.{line_text};
-ghost use Rattle.dm_table.specs.CanonicalText.{Wrote, lines_text, table_text};
+ghost use Rattle.dm_table.specs.CanonicalText.{Wrote, lines_text, table_text, flag_text, concise_device, concise_text};
 
 use crate::device_io::{OutFault, Output};
 use crate::number_text::{MOST_DIGITS, put_number};
@@ -146,4 +146,94 @@ pub fn write_table<W: Output>(devices: &[DeviceSpec], writer: &mut W) -> Result<
         )?;
     }
     Ok(())
+}
+
+/// Writes bodies, each after a comma.
+fn write_more_bodies<W: Output>(writer: &mut W, lines: &[Line]) -> Result<(), OutFault>
+    ensures { Wrote W.written W.waiting W.faults W.flushes writer.old writer.new result (flat_map (λ line. 44 ∷ body_text line) lines.now) }
+{
+    for line in lines {
+        write_body(&mut *writer, b",", line)?;
+    }
+    Ok(())
+}
+
+/// Writes bodies with commas between them.
+fn write_bodies<W: Output>(writer: &mut W, lines: &[Line]) -> Result<(), OutFault>
+    ensures { Wrote W.written W.waiting W.faults W.flushes writer.old writer.new result (join_with_byte 44 (map body_text lines.now)) }
+{
+    match lines {
+        [first, rest @ ..] => {
+            write_body(&mut *writer, b"", first)?;
+            write_more_bodies(writer, rest)
+        }
+        [] => write(writer, b""),
+    }
+}
+
+/// Writes a device in the concise form, after what comes before it.
+fn write_device<W: Output>(
+    writer: &mut W,
+    before: &[u8],
+    device: &DeviceSpec,
+) -> Result<(), OutFault>
+    ensures { Wrote W.written W.waiting W.faults W.flushes writer.old writer.new result (before.now ++ concise_device device.now) }
+{
+    write(&mut *writer, before)?;
+    write(&mut *writer, device.name.as_str().as_bytes())?;
+    write(&mut *writer, flag_text(device.ro))?;
+    write_bodies(writer, device.lines.as_slice())
+}
+
+/// What stands between a device's name and its lines: no uuid, no minor number, and the flag.
+fn flag_text(ro: bool) -> &'static [u8]
+    ensures { result.now ≡ flag_text ro }
+{
+    if ro {
+        b",,,ro,".as_slice()
+    } else {
+        b",,,rw,".as_slice()
+    }
+}
+
+/// Writes devices, each after a semicolon.
+fn write_more_devices<W: Output>(writer: &mut W, devices: &[DeviceSpec]) -> Result<(), OutFault>
+    ensures { Wrote W.written W.waiting W.faults W.flushes writer.old writer.new result (flat_map (λ device. 59 ∷ concise_device device) devices.now) }
+{
+    for device in devices {
+        write_device(&mut *writer, b";", device)?;
+    }
+    Ok(())
+}
+
+/// Writes devices with semicolons between them.
+fn write_devices<W: Output>(writer: &mut W, devices: &[DeviceSpec]) -> Result<(), OutFault>
+    ensures { Wrote W.written W.waiting W.faults W.flushes writer.old writer.new result (join_with_byte 59 (map concise_device devices.now)) }
+{
+    match devices {
+        [first, rest @ ..] => {
+            write_device(&mut *writer, b"", first)?;
+            write_more_devices(writer, rest)
+        }
+        [] => write(writer, b""),
+    }
+}
+
+/// Writes devices in the concise form of dmsetup(8), with no uuid and no minor number: the devices with
+/// semicolons between them, each `NAME,,,FLAG,` and its lines with commas between them, and a newline.
+///
+/// After a fault a beginning of the text is written, and nothing is tried again. Takes no memory, and
+/// makes a few writes for each line.
+pub fn write_concise<W: Output>(devices: &[DeviceSpec], writer: &mut W) -> Result<(), OutFault>
+    ensures appends { W.written writer.new
+        ≡ W.written writer.old ++ since (W.written writer.old) (W.written writer.new) }
+    ensures ok { OnOk result (since (W.written writer.old) (W.written writer.new) ≡ concise_text devices.now) }
+    ensures err { OnErr result (IsBeginning (concise_text devices.now) (since (W.written writer.old) (W.written writer.new))) }
+    ensures waiting { W.waiting writer.new
+        ≡ W.waiting writer.old ++ since (W.written writer.old) (W.written writer.new) }
+    ensures faults { W.faults writer.new ≡ W.faults writer.old + fault_of result }
+    ensures flushes { W.flushes writer.new ≡ W.flushes writer.old }
+{
+    write_devices(&mut *writer, devices)?;
+    write(writer, b"\n")
 }

@@ -30,7 +30,7 @@ mod table_text;
 mod text_checks;
 mod writing;
 
-pub use canonical_text::write_table;
+pub use canonical_text::{write_concise, write_table};
 pub use counted::Counted;
 pub use device_io::{InFault, Input, OutFault, Output};
 pub use disk::Disk;
