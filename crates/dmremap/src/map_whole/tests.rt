@@ -17,6 +17,7 @@ mod faults;
 mod intervals;
 mod large_parts;
 mod parts;
+mod printed;
 mod refused_loads;
 mod rows;
 mod stacks;
