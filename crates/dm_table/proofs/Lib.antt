@@ -14,3 +14,4 @@ pub mod TableFields
 pub mod TargetRows
 pub mod Growth
 pub mod RowFaultLemmas
+pub mod WriteLemmas

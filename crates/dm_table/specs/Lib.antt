@@ -14,3 +14,4 @@ pub mod RequestLine
 pub mod DeviceIo
 pub mod ShortIo
 pub mod WriteAll
+pub mod CanonicalText

@@ -1,11 +1,12 @@
 //! Device-mapper tables, disk lists and requests: their texts, what the texts say, and the devices
 //! of bytes that they are read from and written to.
 //!
-//! A text is accepted exactly where its grammar spells a description, and that description is what
-//! a call answers; else the call answers the first check that finds anything, at its first place.
+//! A text is accepted exactly where its grammar spells a description, and a call returns that
+//! description; else it returns the fault of the first check that finds anything, at its first place.
 //! The words are those of dmsetup(8) and of the kernel's admin-guide/device-mapper documents.
 #![tactic(auto)]
 
+mod canonical_text;
 mod counted;
 mod device_io;
 mod disk;
@@ -31,6 +32,7 @@ mod table_text;
 mod text_checks;
 mod writing;
 
+pub use canonical_text::{write_concise, write_table};
 pub use counted::Counted;
 pub use device_io::{InFault, Input, OutFault, Output};
 pub use disk::Disk;

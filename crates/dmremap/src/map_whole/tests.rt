@@ -19,6 +19,7 @@ mod intervals;
 mod large_parts;
 mod part_files;
 mod parts;
+mod printed;
 mod refused_loads;
 mod rows;
 mod stacks;
