@@ -4,6 +4,12 @@
 //! a group's volumes. The rules are those of lvm(8), dmsetup(8) and of metadata as vgcfgbackup(8) writes it.
 #![tactic(auto)]
 
+mod check;
 mod fault;
+mod field;
+mod fits;
+
+mod value;
+mod walk;
 
 pub use fault::NameFault;
