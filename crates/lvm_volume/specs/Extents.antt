@@ -1,5 +1,5 @@
 -- The checks of a group beyond its fields: names of disks, stripes that name nothing, and how extents lie.
-use Rattle.std.specs.Prelude.{◌≡◌, ℕ, ◌+◌, ◌*◌, ◌/◌, ◌%◌, ◌<◌, ◌≤◌, Bool, true, false, not, ◌&&◌, ◌||◌, ◌==◌, List, [], ◌∷◌, ◌++◌, Option, Some, None, nat_lt, length, map, min, if◌then◌else◌}
+use Rattle.std.specs.Prelude.{◌≡◌, ℕ, ◌+◌, ◌*◌, ◌/◌, ◌%◌, ◌<◌, ◌≤◌, Bool, true, false, not, ◌&&◌, ◌||◌, ◌==◌, List, [], ◌∷◌, ◌++◌, Option, Some, None, nat_lt, length, map, min, slice_index, if◌then◌else◌}
 use Rattle.std.specs.List.{flat_map, list_any}
 use Rattle.dm_table.specs.declared.load_fault.LoadKind.{LoadKind}
 use Rattle.dm_table.specs.declared.load_fault.LoadKind.TheVariants.{Name, Unknown, Extents}
@@ -76,8 +76,7 @@ meets a b = a.physical == b.physical && (nat_lt a.first b.end && nat_lt b.first 
 
 -- how many extents a physical volume has
 abbrev pub extents_at : List Physical → ℕ → ℕ
-extents_at [] i = 0
-extents_at (physical ∷ physicals) i = if i == 0 then physical.count else extents_at physicals (i - 1)
+extents_at physicals i = slice_index (map (λ physical. physical.count) physicals) i
 
 -- the number of parts that a segment is divided into
 abbrev pub parts_of : SegmentType → ℕ

@@ -32,18 +32,20 @@ begins_with_slash [] = false
 begins_with_slash (b ∷ bs) = b == 47
 
 -- the device of two physical volumes or more
-abbrev pub is_shared : List Keyed → List ℕ → Bool
-is_shared physicals device = nat_lt 1 (count_by (λ physical. bytes_eq (device_of physical) device) physicals)
+abbrev pub is_shared : List (List ℕ) → List ℕ → Bool
+is_shared devices device = nat_lt 1 (count_by (λ other. bytes_eq device other) devices)
 
 -- the device, where it can be a disk's name and is a path that no other has, and else the key
-unfoldable pub disk_name : List Keyed → Keyed → List ℕ
-disk_name physicals physical =
-    if begins_with_slash (device_of physical) && (not (is_shared physicals (device_of physical)) && is_disk_name (device_of physical)) then device_of physical
-    else physical.0
+unfoldable pub chosen : Bool → (key device : List ℕ) → List ℕ
+chosen shared key device = if begins_with_slash device && (not shared && is_disk_name device) then device else key
 
-abbrev pub physical_of : List Keyed → Keyed → Physical
-physical_of physicals physical = record {
-  disk = disk_name physicals physical;
+-- the name of the disk of a physical volume, among the devices of all
+abbrev pub disk_name : List (List ℕ) → Keyed → List ℕ
+disk_name devices physical = chosen (is_shared devices (device_of physical)) physical.0 (device_of physical)
+
+unfoldable pub physical_of : List (List ℕ) → Keyed → Physical
+physical_of devices physical = record {
+  disk = disk_name devices physical;
   size = number_at (codes "dev_size") physical.1;
   start = number_at (codes "pe_start") physical.1;
   count = number_at (codes "pe_count") physical.1;
@@ -52,29 +54,29 @@ physical_of physicals physical = record {
 
 -- Volumes
 
--- the place of a key among the keys of the physical volumes, from this one on
-abbrev pub place_from : List ℕ → ℕ → List Keyed → Option ℕ
+-- the place of a key among these, from this place on
+abbrev pub place_from : List ℕ → ℕ → List (List ℕ) → Option ℕ
 place_from key first [] = None
-place_from key first (physical ∷ physicals) = if bytes_eq physical.0 key then Some first else place_from key (first + 1) physicals
+place_from key first (k ∷ ks) = if bytes_eq k key then Some first else place_from key (first + 1) ks
 
--- the place of the first of them with a key, or their number
-abbrev pub place_of : List ℕ → List Keyed → ℕ
-place_of key physicals = unwrap_or (place_from key 0 physicals) (length physicals)
+-- the place of a physical volume by its key, or their number where none has it
+abbrev pub place_of : List (List ℕ) → List ℕ → ℕ
+place_of keys key = unwrap_or (place_from key 0 keys) (length keys)
 
-abbrev pub stripes_in : List Keyed → List Scalar → List Stripe
-stripes_in physicals (Text key ∷ Int extent ∷ items) = record { physical = place_of key physicals; extent = extent } ∷ stripes_in physicals items
-stripes_in physicals _ = []
+abbrev pub stripes_in : List (List ℕ) → List Scalar → List Stripe
+stripes_in keys (Text key ∷ Int extent ∷ items) = record { physical = place_of keys key; extent = extent } ∷ stripes_in keys items
+stripes_in keys _ = []
 
-abbrev pub target_of : List Keyed → Tree → SegmentType
-target_of physicals segment =
-    if is_striped segment then Striped (number_at (codes "stripe_size") segment) (stripes_in physicals (items_at (codes "stripes") segment))
+abbrev pub target_of : List (List ℕ) → Tree → SegmentType
+target_of keys segment =
+    if is_striped segment then Striped (number_at (codes "stripe_size") segment) (stripes_in keys (items_at (codes "stripes") segment))
     else (if bytes_eq (text_at (codes "type") segment) (codes "zero") then Zero else Error)
 
-unfoldable pub segment_of : List Keyed → Tree → Segment
-segment_of physicals segment = record {
+unfoldable pub segment_of : List (List ℕ) → Tree → Segment
+segment_of keys segment = record {
   start = number_at (codes "start_extent") segment;
   count = number_at (codes "extent_count") segment;
-  target = target_of physicals segment;
+  target = target_of keys segment;
   line = segment.line;
 }
 
@@ -82,11 +84,11 @@ abbrev pub is_write : Scalar → Bool
 is_write (Text text) = bytes_eq text (codes "WRITE") || bytes_eq text (codes "WRITE_LOCKED")
 is_write (Int n) = false
 
-unfoldable pub volume_of : List Keyed → Keyed → Volume
-volume_of physicals volume = record {
+unfoldable pub volume_of : List (List ℕ) → Keyed → Volume
+volume_of keys volume = record {
   name = volume.0;
   ro = not (list_any is_write (items_at (codes "status") volume.1));
-  segments = map (segment_of physicals) (segments_of volume.1);
+  segments = map (segment_of keys) (segments_of volume.1);
   line = volume.1.line;
 }
 
@@ -98,8 +100,8 @@ group_in group =
     record {
       name = group.0;
       extent_size = number_at (codes "extent_size") group.1;
-      physicals = map (physical_of physicals) physicals;
-      volumes = map (volume_of physicals) (sections_at (codes "logical_volumes") group.1);
+      physicals = map (physical_of (map device_of physicals)) physicals;
+      volumes = map (volume_of (map (λ physical. physical.0) physicals)) (sections_at (codes "logical_volumes") group.1);
     }
 
 -- the first section, or an empty one

@@ -1,2 +1,6 @@
 pub mod Names
 pub mod Fields
+pub mod Group
+pub mod GroupCode
+pub mod Extents
+pub mod Used

@@ -9,7 +9,14 @@ mod fault;
 mod field;
 mod fits;
 
+mod key;
+mod physical;
+mod places;
+mod segment;
+mod unknown;
+mod used;
 mod value;
+mod volume;
 mod walk;
 
 pub use fault::NameFault;
