@@ -1,3 +1,5 @@
 pub mod Faults
 pub mod PlaceLemmas
 pub mod PhysicalLemmas
+pub mod StripeLemmas
+pub mod UsedLemmas

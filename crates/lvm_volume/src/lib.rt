@@ -5,6 +5,7 @@
 #![tactic(auto)]
 
 mod check;
+mod extents;
 mod fault;
 mod field;
 mod fits;

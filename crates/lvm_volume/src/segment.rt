@@ -3,8 +3,9 @@
 //! What they say is not checked here. A new type of segment is a variant of `SegmentType`, a word of the field
 //! `type`, and an arm where segments are checked and where they become lines.
 
-ghost use Rattle.std.specs.Prelude.{◌≡◌, ◌++◌, IfOk, codes, map};
-ghost use Rattle.lvm_text.specs.View.{scalar_views};
+ghost use Rattle.std.specs.Prelude.{◌≡◌, ◌∷◌, [], ℕ, List, MatchOption, IfOk, codes, map};
+ghost use Rattle.lvm_text.specs.Tree as tree;
+ghost use Rattle.lvm_text.specs.View.{scalar_view, scalar_views};
 ghost use Rattle.lvm_text.specs.Iterate.{item_view};
 ghost use Rattle.lvm_volume.specs.Fields as fields;
 ghost use Rattle.lvm_volume.specs.Fields.{section_view};
@@ -107,14 +108,28 @@ fn stripes_of(alloc: Global, places: &Places<'_>, items: &[Scalar<'_>]) -> Resul
 {
     let mut stripes = Vec::new(alloc);
     let mut rest = items;
-    while let [Scalar::Text(key), Scalar::Int(extent), more @ ..] = rest {
+    while let [first, second, more @ ..] = rest {
+        let Some((key, extent)) = pair(first, second) else {
+            return Ok(stripes);
+        };
         stripes.push(Stripe {
-            physical: places.place_of(*key),
-            extent: *extent,
+            physical: places.place_of(key),
+            extent,
         })?;
         rest = more;
     }
     Ok(stripes)
+}
+
+/// A string and an integer.
+fn pair<'a>(first: &Scalar<'a>, second: &Scalar<'a>) -> Option<(&'a str, u64)>
+    ensures { MatchOption result ((keys : List (List ℕ)) (items : List tree.Scalar) → stripes_in keys (scalar_view first.now ∷ scalar_view second.now ∷ items) ≡ [])
+        (λ pair. (scalar_view first.now ≡ tree.Text pair.0.now) × (scalar_view second.now ≡ tree.Int pair.1)) }
+{
+    match (first, second) {
+        (Scalar::Text(key), Scalar::Int(extent)) => Some((*key, *extent)),
+        _ => None,
+    }
 }
 
 /// What becomes of a segment's extents.
