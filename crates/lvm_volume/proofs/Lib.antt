@@ -3,3 +3,4 @@ pub mod PlaceLemmas
 pub mod PhysicalLemmas
 pub mod StripeLemmas
 pub mod UsedLemmas
+pub mod HoldLemmas

@@ -52,8 +52,17 @@ pub(crate) fn volumes_fault(alloc: Global, physicals: &[Physical], volumes: &[Vo
     ensures { IfOk result (λ fault. fault ≡ first_or (volume_faults physicals.now [] volumes.now) None) }
 {
     let mut maps = maps_of(alloc, physicals.len())?;
+    each_fault(physicals, &mut maps, volumes)
+}
+
+/// The first segment that is misplaced, beside nothing that was used before.
+fn each_fault(physicals: &[Physical], maps: &mut [BTreeMap<u64, u64>], volumes: &[Volume]) -> Result<Option<LoadFault>, AllocError>
+    requires len { length maps.old ≡ length physicals.now }
+    requires held { Holds maps.old [] }
+    ensures { IfOk result (λ fault. fault ≡ first_or (volume_faults physicals.now [] volumes.now) None) }
+{
     for volume in volumes {
-        if let Some(fault) = segments_fault(physicals, &mut maps, volume.segments.as_slice())? {
+        if let Some(fault) = segments_fault(physicals, maps, volume.segments.as_slice())? {
             return Ok(Some(fault));
         }
     }
@@ -66,7 +75,7 @@ fn maps_of(alloc: Global, physicals: usize) -> Result<Vec<BTreeMap<u64, u64>>, A
     ensures len { IfOk result (λ maps. length maps.items ≡ physicals) }
 {
     let mut maps = Vec::new(alloc);
-    for _ in 0..physicals {
+    for made in 0..physicals {
         maps.push(BTreeMap::new(alloc))?;
     }
     Ok(maps)
