@@ -1,7 +1,6 @@
 -- What the builder has read so far.
 use Rattle.std.proofs.Common.{◌≡◌, ℕ, true, false, List, [], ◌∷◌, ◌++◌, drop, Option, Some, None, refl, sym, ap, subst, ◌∙◌, append_assoc, inl, inr, ◌⊎◌}
-use Rattle.std.specs.Prelude.{option_map, Result, Ok, Err, IfOk}
-use Rattle.std.specs.declared.alloc.AllocError.{AllocError}
+use Rattle.std.specs.Prelude.{option_map}
 use Rattle.std.proofs.lemmas.List.{append-nil}
 use Rattle.std.proofs.lemmas.Option.{same_Some}
 use Rattle.lvm_text.specs.Token.{Token, Word, Text, Open, Close, ListOpen, ListClose, Equals, Comma, Placed}
@@ -89,11 +88,11 @@ ValuesSoFar start es rest = (v : Values) (more : List Placed) → Reads start v 
 pub values_begin : (start : List Placed) → ValuesSoFar start [] start
 values_begin start = λ v more r e. (v, refl, r)
 
-before_push : (es : List Entry) (e : Entry) (later : Values) → before (es ++ e ∷ []) later ≡ before es (put e.key.now e.node.line e.node.value later)
+pub before_push : (es : List Entry) (e : Entry) (later : Values) → before (es ++ e ∷ []) later ≡ before es (put e.key.now e.node.line e.node.value later)
 before_push [] e later = refl
 before_push (x ∷ es) e later = ap (put x.key.now x.node.line x.node.value) (before_push es e later)
 
-before_all : (es : List Entry) → before es Nothing ≡ values_of es
+pub before_all : (es : List Entry) → before es Nothing ≡ values_of es
 before_all [] = refl
 before_all (e ∷ es) = ap (put e.key.now e.node.line e.node.value) (before_all es)
 
@@ -118,7 +117,7 @@ values_end start es rest h e = λ v more r stop.
     (x.1 ∙ ap (before es) n.0 ∙ before_all es, sym n.1)
 
 -- what follows a key
-no_values : (k : List ℕ) (n : ℕ) (ts more : List Placed) → (Word k, n) ∷ ts ≡ more → begins_key more ≡ false → ⊥
+pub no_values : (k : List ℕ) (n : ℕ) (ts more : List Placed) → (Word k, n) ∷ ts ≡ more → begins_key more ≡ false → ⊥
 no_values k n ts more e stop = let wrong : true ≡ false = ap begins_key e ∙ stop in cc
 
 pub value_nothing : (line : ℕ) (ts : List Placed) (value : Value) (rest : List Placed) → ts ≡ [] → ReadsValue line ts value rest
@@ -169,6 +168,37 @@ value_section line tokens first inner inside after rest e o read d k (Several q 
     let wrong : true ≡ false = sym o ∙ not_open first inner tokens Equals r.1 ((ListOpen, r.2) ∷ r.3) e s.after in
     absurd cc
 
+-- behind a key and an opening brace, a section whose values are these
+pub record Opened (k : List ℕ) (line : ℕ) (inner : List Placed) (v : Values) : Type 0 where
+  pub inside : Values
+  pub later : Values
+  pub more : List Placed
+  pub is : v ≡ Section k line inside later
+  pub read : Reads inner inside more
+  pub stop : begins_key more ≡ false
+
+pub opened : (line : ℕ) (tokens : List Placed) (first : Placed) (inner : List Placed) → tokens ≡ first ∷ inner → is_open first.0 ≡ true → (k : List ℕ) (v : Values) (more : List Placed) → Reads ((Word k, line) ∷ tokens) v more → begins_key more ≡ false → Opened k line inner v
+opened line tokens first inner e o k Nothing more r stop = absurd (no_values k line tokens more r stop)
+opened line tokens first inner e o k (Section q n in_ later) more r stop =
+    let s = same_key k q line n tokens ((Open, r.1) ∷ r.3) r.5 in
+    let a : inner ≡ r.3 = (list_same first (Open, r.1) inner r.3 (sym e ∙ s.after)).1 in
+    record {
+      inside = in_;
+      later = later;
+      more = (Close, r.2) ∷ r.4;
+      is = ap (λ (w : List ℕ). Section w n in_ later) (sym s.key) ∙ ap (λ (m : ℕ). Section k m in_ later) (sym s.at);
+      read = subst (λ (ts : List Placed). Reads ts in_ ((Close, r.2) ∷ r.4)) (sym a) r.6;
+      stop = refl;
+    }
+opened line tokens first inner e o k (Single q n x later) more r stop =
+    let s = same_key k q line n tokens ((Equals, r.1) ∷ (r.3, r.2) ∷ r.4) r.5 in
+    let wrong : true ≡ false = sym o ∙ not_open first inner tokens Equals r.1 ((r.3, r.2) ∷ r.4) e s.after in
+    absurd cc
+opened line tokens first inner e o k (Several q n xs later) more r stop =
+    let s = same_key k q line n tokens ((Equals, r.1) ∷ (ListOpen, r.2) ∷ r.3) r.5 in
+    let wrong : true ≡ false = sym o ∙ not_open first inner tokens Equals r.1 ((ListOpen, r.2) ∷ r.3) e s.after in
+    absurd cc
+
 value_leaf_at : (line : ℕ) (tokens : List Placed) (first : Placed) (after : List Placed) (value : Value) (rest : List Placed) → tokens ≡ first ∷ after → is_open first.0 ≡ false → ReadsLeaf after value rest
     → (k : List ℕ) (v : Values) (more : List Placed) → Reads ((Word k, line) ∷ tokens) v more → begins_key more ≡ false → (later : Values) × (v ≡ put k line value later) × Reads rest later more
 value_leaf_at line tokens first after value rest e o leaf k Nothing more r stop = absurd (no_values k line tokens more r stop)
@@ -194,11 +224,6 @@ value_leaf line tokens first after value rest e o leaf = λ k v more r stop. val
 pub behind_views : (ts us : List code.Placed) → us ≡ drop 1 ts → views us ≡ drop 1 (views ts)
 behind_views [] us e = ap views e
 behind_views (t ∷ ts) us e = ap views e
-
-pub leaf_result : (line : ℕ) (tokens : List Placed) (first : Placed) (after : List Placed) (ts : List code.Placed) (r : Result (Value × ℕ) AllocError) → tokens ≡ first ∷ after → is_open first.0 ≡ false
-    → IfOk r (λ x. ReadsLeaf after x.0 (views (drop x.1 ts))) → IfOk r (λ x. ReadsValue line tokens x.0 (views (drop x.1 ts)))
-leaf_result line tokens first after ts (Ok x) e o leaf = value_leaf line tokens first after x.0 (views (drop x.1 ts)) e o leaf
-leaf_result line tokens first after ts (Err x) e o leaf = tt
 
 pub lines_agree-push : (es : List Entry) (e : Entry) → lines_agree es ≡ true → has_line e.node.line e.node.value ≡ true → lines_agree (es ++ e ∷ []) ≡ true
 lines_agree-push [] e h l = and_from _ _ l refl

@@ -7,8 +7,9 @@ pub mod Trees
 pub mod Unique
 pub mod Looks
 pub mod Placings
-pub mod Repeats
 pub mod Building
+pub mod Twice
+pub mod Keys
 pub mod Steps
 pub mod Pieces
 pub mod Boundaries

@@ -1,14 +1,17 @@
--- The places of keys: an index that grows from the last entry to the first, and the node at a place.
-use Rattle.std.proofs.Common.{◌≡◌, ℕ, ◌+◌, ◌<◌, true, false, cond, List, [], ◌∷◌, length, get_or, drop, Some, None, refl, sym, ap, ◌∙◌, arith, add-one}
+-- The places of keys: among the first entries and after them, as entries are added, and the node at a place.
+use Rattle.std.proofs.Common.{◌≡◌, ℕ, zero, suc, min, ◌+◌, ◌<◌, ◌≤◌, true, false, cond, List, [], ◌∷◌, ◌++◌, length, get_or, take, drop, Option, Some, None, refl, sym, ap, subst, ◌∙◌, inl, inr, arith, add-one, add-zero, zero-add, length-append, length-drop}
 use Rattle.std.specs.Prelude.{bytes_eq}
 use Rattle.std.specs.Ordering.{nat_cmp}
 use Rattle.std.specs.Cmp.Lexicographic.{slice_cmp}
-use Rattle.std.specs.BTreeMap.{BTreeMap, Updates}
-use Rattle.std.proofs.lemmas.Bool.{and_parts}
+use Rattle.std.specs.BTreeMap.{BTreeMap, Updates, get_by}
+use Rattle.std.proofs.lemmas.Bool.{and_parts, cases_lt}
+use Rattle.std.proofs.lemmas.List.{drop_all, drop-append-le}
+use Rattle.std.proofs.lemmas.Slice.Eq.{bytes_eq-Decides}
 use Rattle.std.proofs.lemmas.Map.Text.{btree_map_updates_str}
 use Rattle.lvm_text.specs.Tree.{node_of}
 use Rattle.lvm_text.specs.View.{values_of, has_line, lines_agree, node_view}
 use Rattle.lvm_text.specs.Places.{place_of, Finds}
+use Rattle.lvm_text.specs.declared.index.TheConstants.{FEW}
 use Rattle.lvm_text.specs.declared.tree.Entry.{Entry}
 use Rattle.lvm_text.proofs.Cases.{cond_elim}
 use Rattle.lvm_text.proofs.Looks.{entries_at, node_put}
@@ -19,12 +22,74 @@ pub place_at : (es : List Entry) (key : List ℕ) (i : ℕ) (d : Entry) → i < 
     → place_of key i (drop i es) ≡ cond (bytes_eq (get_or es i d).key.now key) (Some i) (place_of key (i + 1) (drop (i + 1) es))
 place_at es key i d lt = ap (place_of key i) (entries_at es i d lt)
 
-pub finds_more : (es : List Entry) (i : ℕ) (d : Entry) (old new : BTreeMap (Bor (List ℕ)) ℕ) → i < length es → Finds old (i + 1) (drop (i + 1) es)
-    → Updates (λ x y. slice_cmp nat_cmp x.now y.now) old new (get_or es i d).key (Some i) → Finds new i (drop i es)
-finds_more es i d old new lt finds updates = λ key.
-    btree_map_updates_str (get_or es i d).key.now old new (Some i) updates key
-    ∙ ap (cond (bytes_eq (get_or es i d).key.now key) (Some i)) (finds key)
-    ∙ sym (place_at es key i d lt)
+-- a place among the first entries, else one after them
+abbrev either_place : Option ℕ → Option ℕ → Option ℕ
+either_place None later = later
+either_place (Some at) later = Some at
+
+place_split : (n : ℕ) (es : List Entry) (key : List ℕ) (first : ℕ) → place_of key first es ≡ either_place (place_of key first (take n es)) (place_of key (first + n) (drop n es))
+place_split zero es key first = ap (λ m. place_of key m es) (sym (add-zero first))
+place_split (suc n) [] key first = refl
+place_split (suc n) (e ∷ es) key first =
+    cond_elim (bytes_eq e.key.now key) (λ o. o ≡ either_place (cond (bytes_eq e.key.now key) (Some first) (place_of key (first + 1) (take n es))) (place_of key (first + suc n) (drop n es))) (Some first) (place_of key (first + 1) es)
+    (λ same. rw same refl)
+    (λ other. rw other (place_split n es key (first + 1) ∙ ap (λ m. either_place (place_of key (first + 1) (take n es)) (place_of key m (drop n es))) (omega arith)))
+
+split_here : (m : ℕ) (es : List Entry) (key : List ℕ) → place_of key 0 es ≡ either_place (place_of key 0 (take m es)) (place_of key m (drop m es))
+split_here m es key = place_split m es key 0 ∙ ap (λ n. either_place (place_of key 0 (take m es)) (place_of key n (drop m es))) (zero-add m)
+
+-- a key that none of the first entries has
+pub place_many : (es : List Entry) (key : List ℕ) (m : ℕ) → m ≡ min (length es) FEW → None ≡ place_of key 0 (take m es) → place_of key 0 es ≡ place_of key FEW (drop FEW es)
+place_many es key m is e =
+    let all : place_of key 0 es ≡ place_of key m (drop m es) = split_here m es key ∙ ap (λ o. either_place o (place_of key m (drop m es))) (sym e) in
+    elim (cases_lt (length es) FEW) [
+      | inl lt ↦ all ∙ ap (place_of key m) (drop_all m es (omega (arith, is, lt))) ∙ sym (ap (place_of key FEW) (drop_all FEW es (omega (arith, lt))))
+      | inr le ↦ let same : m ≡ FEW = omega (arith, is, le) in all ∙ ap (λ n. place_of key n (drop n es)) same
+    ]
+
+either_none : (a b : Option ℕ) → either_place a b ≡ None → b ≡ None
+either_none None b e = e
+either_none (Some n) b e = absurd cc
+
+either_same : (a : Option ℕ) → either_place a None ≡ a
+either_same None = refl
+either_same (Some n) = refl
+
+-- a place among entries, with one more at their end
+place_push : (es : List Entry) (e : Entry) (key : List ℕ) (first : ℕ) → place_of key first (es ++ e ∷ []) ≡ either_place (place_of key first es) (cond (bytes_eq e.key.now key) (Some (first + length es)) None)
+place_push [] e key first = ap (λ m. cond (bytes_eq e.key.now key) (Some m) None) (sym (add-zero first))
+place_push (x ∷ es) e key first =
+    cond_elim (bytes_eq x.key.now key)
+    (λ o. cond (bytes_eq x.key.now key) (Some first) (place_of key (first + 1) (es ++ e ∷ [])) ≡ either_place o (cond (bytes_eq e.key.now key) (Some (first + length (x ∷ es))) None)) (Some first) (place_of key (first + 1) es)
+    (λ same. rw same refl)
+    (λ other. rw other (place_push es e key (first + 1) ∙ ap (λ m. either_place (place_of key (first + 1) es) (cond (bytes_eq e.key.now key) (Some m) None)) (omega arith)))
+
+-- the index of entries of which one more is added: the first few are not in it
+pub finds_few : (es : List Entry) (e : Entry) (index : BTreeMap (Bor (List ℕ)) ℕ) → length es < FEW → Finds index es → Finds index (es ++ e ∷ [])
+finds_few es e index few finds = λ key.
+    finds key ∙ ap (place_of key FEW) (drop_all FEW es (omega (arith, few)) ∙ sym (drop_all FEW (es ++ e ∷ []) (omega (arith, length-append es (e ∷ [])))))
+
+pub finds_put : (es : List Entry) (e : Entry) (old new : BTreeMap (Bor (List ℕ)) ℕ) (m : ℕ) → m ≡ length es → FEW ≤ length es → place_of e.key.now 0 es ≡ None → Finds old es
+    → Updates (λ x y. slice_cmp nat_cmp x.now y.now) old new e.key (Some m) → Finds new (es ++ e ∷ [])
+finds_put es e old new m is many fresh finds updates = λ key.
+    btree_map_updates_str e.key.now old new (Some m) updates key
+    ∙ ap (λ n. cond (bytes_eq e.key.now key) (Some n) (get_by (λ k. slice_cmp nat_cmp key k.now) old)) is
+    ∙ ap (cond (bytes_eq e.key.now key) (Some (length es))) (finds key)
+    ∙ cond_elim (bytes_eq e.key.now key) (λ o. o ≡ place_of key FEW (drop FEW (es ++ e ∷ []))) (Some (length es)) (place_of key FEW (drop FEW es))
+    (λ same. sym (after key ∙ ap (λ o. either_place o (cond (bytes_eq e.key.now key) (Some (length es)) None)) (none_at key same) ∙ rw same refl))
+    (λ other. sym (after key ∙ rw other (either_same (place_of key FEW (drop FEW es)))))
+  where
+    after : (key : List ℕ) → place_of key FEW (drop FEW (es ++ e ∷ [])) ≡ either_place (place_of key FEW (drop FEW es)) (cond (bytes_eq e.key.now key) (Some (length es)) None)
+    after key =
+        ap (place_of key FEW) (drop-append-le FEW es (e ∷ []) many)
+        ∙ place_push (drop FEW es) e key FEW
+        ∙ ap (λ n. either_place (place_of key FEW (drop FEW es)) (cond (bytes_eq e.key.now key) (Some n) None)) (omega (arith, many, length-drop FEW es))
+
+    none_at : (key : List ℕ) → bytes_eq e.key.now key ≡ true → place_of key FEW (drop FEW es) ≡ None
+    none_at key same =
+        let alike : e.key.now ≡ key = (bytes_eq-Decides e.key.now key).0 same in
+        subst (λ (k : List ℕ). place_of k FEW (drop FEW es) ≡ None) alike
+        (either_none (place_of e.key.now 0 (take FEW es)) (place_of e.key.now FEW (drop FEW es)) (sym (split_here FEW es e.key.now) ∙ fresh))
 
 -- a place is that of an entry, and the node of the key stands there
 pub record Stands (es : List Entry) (key : List ℕ) (first at : ℕ) : Type 0 where

@@ -2,9 +2,12 @@
 use Rattle.std.specs.Prelude.{◌≡◌, ℕ, Bool, true, false, List, [], ◌∷◌, Option, Some, None, option_map, if◌then◌else◌}
 use Rattle.lvm_text.specs.Token.{Token, Word, Open, Comma, ListOpen, Placed}
 use Rattle.lvm_text.specs.Tree as tree
-use Rattle.lvm_text.specs.Tree.{Values, Nothing, Single, Several}
+use Rattle.lvm_text.specs.Tree.{Values, Nothing, Section, Single, Several}
 use Rattle.lvm_text.specs.Grammar.{scalar_of, ReadsList, Reads}
+use Rattle.lvm_text.specs.Checks.{head_line, twice_lines}
 use Rattle.lvm_text.specs.View.{scalar_view, put}
+use Rattle.lvm_text.specs.declared.fault.TextFault.{TextFault}
+use Rattle.lvm_text.specs.declared.fault.TextFault.TheVariants.{KeyTwice, Memory}
 use Rattle.lvm_text.specs.declared.tree.Scalar.{Scalar}
 use Rattle.lvm_text.specs.declared.tree.Value.{Value}
 use Rattle.lvm_text.specs.declared.tree.Entry.{Entry}
@@ -68,6 +71,20 @@ ReadsValue line tokens value rest =
 -- the tokens are these values, and then the rest, which begins with no key
 abbrev pub ReadsValues : List Placed → Values → List Placed → Type 0
 ReadsValues tokens values rest = (v : Values) (more : List Placed) → Reads tokens v more → begins_key more ≡ false → (v ≡ values) × (more ≡ rest)
+
+-- the tokens are values of which this is the first fault: a key that an earlier one of its section equals
+abbrev pub IsTwice : List Placed → TextFault → Type 0
+IsTwice tokens (KeyTwice n) = (v : Values) (more : List Placed) → Reads tokens v more → begins_key more ≡ false → head_line (twice_lines [] v) ≡ Some n
+IsTwice tokens Memory = Unit {0}
+IsTwice tokens _ = ⊥
+
+-- behind a key of this line, the tokens are a section, inside which this is the first such fault
+abbrev pub IsTwiceInside : ℕ → List Placed → TextFault → Type 0
+IsTwiceInside line tokens (KeyTwice n) =
+    (k : List ℕ) (v : Values) (more : List Placed) → Reads ((Word k, line) ∷ tokens) v more → begins_key more ≡ false
+    → (inner later : Values) × (v ≡ Section k line inner later) × (head_line (twice_lines [] inner) ≡ Some n)
+IsTwiceInside line tokens Memory = Unit {0}
+IsTwiceInside line tokens _ = ⊥
 
 -- the entries, and then later values
 abbrev pub before : List Entry → Values → Values

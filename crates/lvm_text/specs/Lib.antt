@@ -14,3 +14,4 @@ pub mod TokenView
 pub mod Build
 pub mod Iterate
 pub mod Repeat
+pub mod Sound

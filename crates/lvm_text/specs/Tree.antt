@@ -1,5 +1,5 @@
 -- The tree of a text.
-use Rattle.std.specs.Prelude.{ℕ, ◌+◌, List, [], ◌∷◌, Option, Some, None, bytes_eq, if◌then◌else◌}
+use Rattle.std.specs.Prelude.{◌≡◌, ℕ, ◌+◌, List, [], ◌∷◌, Option, Some, None, bytes_eq, if◌then◌else◌}
 
 -- an integer, or the raw text between quotes
 pub data Scalar : Type 0 where
@@ -49,3 +49,14 @@ sections_of Nothing = []
 sections_of (Section k n inner rest) = (k, record { line = n; values = inner }) ∷ sections_of rest
 sections_of (Single k n s rest) = sections_of rest
 sections_of (Several k n ss rest) = sections_of rest
+
+-- the keys of a section, in source order
+abbrev pub keys_of : Values → List (List ℕ)
+keys_of Nothing = []
+keys_of (Section k n inner rest) = k ∷ keys_of rest
+keys_of (Single k n s rest) = k ∷ keys_of rest
+keys_of (Several k n ss rest) = k ∷ keys_of rest
+
+-- a key and a section, which is what the key holds among the values
+abbrev pub IsFound : Values → List ℕ × Tree → Type 0
+IsFound v s = node_of s.0 v ≡ Some (record { line = s.1.line; content = Inner s.1 })

@@ -2,18 +2,22 @@
 //! Syntax, depth and integers were checked before, so nothing is refused here, and what is made of other
 //! tokens says nothing. Sections inside sections are calls inside calls: at most 16, since depth was checked.
 
-ghost use Rattle.std.specs.Prelude.{◌≡◌, ◌≤◌, ◌<◌, ◌+◌, ◌∷◌, [], drop, length, option_map, IfOk, IfSome, MatchOption, ℕ, true, false};
+ghost use Rattle.std.specs.Prelude.{◌≡◌, ◌≤◌, ◌<◌, ◌+◌, ◌∷◌, [], drop, length, option_map, IfOk, IfErr, IfSome, MatchOption, ℕ, true, false};
 ghost use Rattle.lvm_text.specs.Token as spec;
 ghost use Rattle.lvm_text.specs.Grammar.{scalar_of};
 ghost use Rattle.lvm_text.specs.TokenView.{token_view, views};
 ghost use Rattle.lvm_text.specs.View.{scalar_view, scalar_views, has_line};
-ghost use Rattle.lvm_text.specs.Build.{is_comma, is_open, is_list_open, begins_key, scalar_first, item_of, ReadsScalars, ShowsScalar, ReadsLeaf, ReadsValue, ReadsValues};
+ghost use Rattle.lvm_text.specs.Build.{is_comma, is_open, is_list_open, begins_key, scalar_first, item_of, ReadsScalars, ShowsScalar, ReadsLeaf, ReadsValue, ReadsValues, IsTwice, IsTwiceInside};
+ghost use Rattle.lvm_text.specs.Checks.{twice_lines};
+ghost use Rattle.lvm_text.specs.Repeat.{inner_lines};
 
-use crate::index::index_of;
+use crate::fault::TextFault;
+use crate::index::{place_of, put_entry};
 use crate::number::{are_digits, number_of};
 use crate::token::{Placed, Token};
 use crate::tree::{Entry, Node, Scalar, Section, Value};
 use std::alloc::{AllocError, Global};
+use std::collections::BTreeMap;
 
 /// The token at a place.
 fn token_at<'a>(tokens: &[Placed<'a>], at: usize) -> Option<Placed<'a>>
@@ -170,11 +174,13 @@ fn value_at<'a>(
     tokens: &[Placed<'a>],
     line: u64,
     start: usize,
-) -> Result<(Value<'a>, usize), AllocError>
+) -> Result<(Value<'a>, usize), TextFault>
     requires { start ≤ length tokens.now }
     ensures agrees { IfOk result (λ r. has_line line r.0 ≡ true) }
+    ensures differ { IfOk result (λ r. inner_lines r.0 ≡ []) }
     ensures read { IfOk result (λ r. ReadsValue line (views (drop start tokens.now)) r.0 (views (drop r.1 tokens.now))) }
     ensures later { IfOk result (λ r. (start ≤ r.1) × (r.1 ≤ length tokens.now)) }
+    ensures twice { IfErr result (IsTwiceInside line (views (drop start tokens.now))) }
 {
     let Some(first) = token_at(tokens, start) else {
         return Ok((Value::Int(0), start));
@@ -183,34 +189,40 @@ fn value_at<'a>(
         let (section, after) = section_at(alloc, tokens, line, start + 1)?;
         return Ok((Value::Section(section), behind(tokens, after)));
     }
-    leaf_at(alloc, tokens, start + 1)
+    Ok(leaf_at(alloc, tokens, start + 1)?)
 }
 
-/// The section of this line whose values begin at a place, and the place behind them.
+/// The section of this line whose values begin at a place, and the place behind them; or the first key of it
+/// that an earlier key of its section equals.
 #[cycle(build)]
 pub(crate) fn section_at<'a>(
     alloc: Global,
     tokens: &[Placed<'a>],
     line: u64,
     start: usize,
-) -> Result<(Section<'a>, usize), AllocError>
+) -> Result<(Section<'a>, usize), TextFault>
     requires { start ≤ length tokens.now }
     ensures line { IfOk result (λ r. r.0.line ≡ line) }
+    ensures differ { IfOk result (λ r. twice_lines [] r.0.values ≡ []) }
     ensures read { IfOk result (λ r. ReadsValues (views (drop start tokens.now)) r.0.values (views (drop r.1 tokens.now))) }
     ensures later { IfOk result (λ r. (start ≤ r.1) × (r.1 ≤ length tokens.now)) }
+    ensures twice { IfErr result (IsTwice (views (drop start tokens.now))) }
 {
     let mut entries = Vec::new(alloc);
+    let mut index = BTreeMap::new(alloc);
     let mut at = start;
     while let Some((key, key_line)) = key_at(tokens, at) {
+        if place_of(entries.as_slice(), &index, key).is_some() {
+            return Err(TextFault::KeyTwice(key_line));
+        }
         let (value, after) = value_at(alloc, tokens, key_line, at + 1)?;
         let node = Node {
             value,
             line: key_line,
         };
-        entries.push(Entry { key, node })?;
+        put_entry(&mut entries, &mut index, Entry { key, node })?;
         at = after;
     }
-    let index = index_of(alloc, entries.as_slice())?;
     let section = Section {
         line,
         entries,

@@ -1,39 +1,59 @@
-//! The places of a section's keys: an index beside the entries, which answers a key in about `log n` steps.
-//! It is built once, from the last entry to the first, so that of equal keys the first has the place.
-//! `get` and the check for keys that stand twice rest on that: change `Finds` in `specs/Places` first.
+//! The places of a section's keys.
+//! The first few entries are looked at one by one, and an index has the places of the later ones in about `log n`
+//! steps: metadata is mostly small sections, and an index for each of them would take most of its memory.
+//! What an index has is `Finds` in `specs/Places`; change that first.
 
-ghost use Rattle.std.specs.Prelude.{◌≡◌, IfOk};
-ghost use Rattle.std.specs.Ordering.{nat_cmp};
-ghost use Rattle.std.specs.Cmp.Lexicographic.{slice_cmp};
-ghost use Rattle.std.specs.BTreeMap.{get_by};
-ghost use Rattle.lvm_text.specs.Places.{Finds, is_before};
+ghost use Rattle.std.specs.Prelude.{◌≡◌, None, ◌∷◌, ◌++◌, [], OnOk};
+ghost use Rattle.lvm_text.specs.Places.{Finds, place_of};
 
 use crate::tree::Entry;
-use std::alloc::{AllocError, Global};
+use std::alloc::AllocError;
 use std::collections::BTreeMap;
 
-/// The place of each key's first entry.
-pub(crate) fn index_of<'a>(
-    alloc: Global,
-    entries: &[Entry<'a>],
-) -> Result<BTreeMap<&'a str, usize>, AllocError>
-    ensures { IfOk result (λ index. Finds index 0 entries.now) }
+/// How many entries of a section are not in its index.
+pub(crate) const FEW: usize = 8;
+
+/// The place of the first of these entries with a key.
+fn place_among(entries: &[Entry<'_>], key: &str) -> Option<usize>
+    ensures { result ≡ place_of key.now 0 entries.now }
 {
-    let mut index = BTreeMap::new(alloc);
-    let mut at = entries.len();
-    while at > 0 {
-        at -= 1;
-        index.insert(entries[at].key, at)?;
+    for (at, entry) in entries.iter().enumerate() {
+        if entry.key == key {
+            return Some(at);
+        }
     }
-    Ok(index)
+    None
 }
 
-/// Whether an entry before this place has the key.
-pub(crate) fn stands_before(index: &BTreeMap<&str, usize>, key: &str, at: usize) -> bool
-    ensures { result ≡ is_before at (get_by (λ k. slice_cmp nat_cmp key.now k.now) index.now) }
+/// The place of a key in a section.
+pub(crate) fn place_of(
+    entries: &[Entry<'_>],
+    index: &BTreeMap<&str, usize>,
+    key: &str,
+) -> Option<usize>
+    requires { Finds index.now entries.now }
+    ensures { result ≡ place_of key.now 0 entries.now }
 {
-    match index.get(key) {
-        Some(first) => *first < at,
-        None => false,
+    match place_among(&entries[..entries.len().min(FEW)], key) {
+        Some(at) => Some(at),
+        None => index.get(key).copied(),
     }
+}
+
+/// Adds an entry, whose key none has yet, after the others.
+pub(crate) fn put_entry<'a>(
+    entries: &mut Vec<Entry<'a>>,
+    index: &mut BTreeMap<&'a str, usize>,
+    entry: Entry<'a>,
+) -> Result<(), AllocError>
+    requires finds { Finds index.old entries.old.items }
+    requires fresh { place_of entry.key.now 0 entries.old.items ≡ None }
+    ensures added { OnOk result (entries.new.items ≡ entries.old.items ++ entry.entry ∷ []) }
+    ensures finds { OnOk result (Finds index.new entries.new.items) }
+{
+    if entries.len() >= FEW {
+        index.insert(entry.key, entries.len())?;
+    }
+    entries.push(entry)?;
+    Ok(())
 }

@@ -16,7 +16,6 @@ mod index;
 mod number;
 mod piece;
 mod reading;
-mod repeat;
 mod scan;
 mod syntax;
 #[cfg(test)]

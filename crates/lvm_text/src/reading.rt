@@ -13,7 +13,6 @@ ghost use Rattle.lvm_text.specs.declared.fault.TextFault.TheVariants.{Memory};
 use crate::build::section_at;
 use crate::check::{deep_line, number_line};
 use crate::fault::TextFault;
-use crate::repeat::repeated_line;
 use crate::syntax::syntax_line;
 use crate::token::{Placed, tokens_of};
 use crate::tree::Section;
@@ -43,9 +42,6 @@ fn tree_of<'a>(alloc: Global, tokens: &[Placed<'a>]) -> Result<Section<'a>, Text
         return Err(TextFault::Number(line));
     }
     let (section, _) = section_at(alloc, tokens, 1, 0)?;
-    if let Some(line) = repeated_line(&section) {
-        return Err(TextFault::KeyTwice(line));
-    }
     Ok(section)
 }
 

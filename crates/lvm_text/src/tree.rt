@@ -2,6 +2,7 @@
 
 ghost use Rattle.std.specs.Prelude.{◌≡◌, option_map};
 
+use crate::index::place_of;
 use std::collections::BTreeMap;
 use std::marker::Model;
 
@@ -47,7 +48,6 @@ pub struct Section<'a> {
 }
 
 impl<'a> Model for Section<'a> {
-    ghost use Rattle.std.specs.Prelude.{◌≡◌, true};
     ghost use Rattle.lvm_text.specs.Tree.{Tree, size_of};
     ghost use Rattle.lvm_text.specs.TreeCode.{tree_code};
 
@@ -55,13 +55,13 @@ impl<'a> Model for Section<'a> {
 
     ghost coded = { tree_code };
 
-    ghost use Rattle.lvm_text.specs.View.{values_of, lines_agree};
+    ghost use Rattle.lvm_text.specs.View.{values_of};
 
     ghost view = { λ s. record { line = s.line; values = values_of s.entries.items } };
 
-    ghost use Rattle.lvm_text.specs.Places.{Finds};
+    ghost use Rattle.lvm_text.specs.Sound.{IsSection};
 
-    ghost invariant = { λ s. (lines_agree s.entries.items ≡ true) × Finds s.index 0 s.entries.items };
+    ghost invariant = { λ s. IsSection s.entries.items s.index };
 
     ghost size = { λ t. size_of t.values };
 
@@ -71,7 +71,8 @@ impl<'a> Model for Section<'a> {
 }
 
 impl<'a> Section<'a> {
-    ghost use Rattle.lvm_text.specs.Tree.{node_of, sections_of};
+    ghost use Rattle.std.specs.Prelude.{All, AllPairs, ◌≢◌};
+    ghost use Rattle.lvm_text.specs.Tree.{keys_of, node_of, sections_of, IsFound};
     ghost use Rattle.lvm_text.specs.View.{node_view};
     ghost use Rattle.lvm_text.specs.Iterate.{sections_left};
 
@@ -88,13 +89,16 @@ impl<'a> Section<'a> {
     pub fn get(&self, key: &str) -> Option<&Node<'a>>
         ensures { option_map (λ n. node_view n.now) result ≡ node_of key.now self.now.values }
     {
-        let at = *self.index.get(key)?;
+        let at = place_of(self.entries.as_slice(), &self.index, key)?;
         Some(&self.entries[at].node)
     }
 
     /// The keys that hold sections, with these, in source order. Each step looks at the keys up to the next.
     pub fn sections(&self) -> Sections<'_, 'a>
-        ensures { sections_left result ≡ sections_of self.now.values }
+        ensures sections { sections_left result ≡ sections_of self.now.values }
+        // A section's keys differ by its type, so what stands under a key here is what `get` finds under it.
+        ensures differ { AllPairs (λ j k. j ≢ k) (keys_of self.now.values) }
+        ensures found { All (IsFound self.now.values) (sections_of self.now.values) }
     {
         Sections {
             entries: &self.entries,

@@ -4,3 +4,4 @@ pub mod PhysicalLemmas
 pub mod StripeLemmas
 pub mod UsedLemmas
 pub mod HoldLemmas
+pub mod Splits

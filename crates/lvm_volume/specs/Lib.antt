@@ -4,3 +4,4 @@ pub mod Group
 pub mod GroupCode
 pub mod Extents
 pub mod Used
+pub mod Cuts

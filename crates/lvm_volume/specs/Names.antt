@@ -1,7 +1,96 @@
--- How the name of a volume's device is spelled.
-use Rattle.std.specs.Prelude.{ℕ, List, [], ◌∷◌, ◌==◌, if◌then◌else◌}
+-- How the device mapper's name of a volume is spelled from its parts (lvm(8), "Valid names"; dmsetup splitname).
+use Rattle.std.specs.Prelude.{◌≡◌, ℕ, Bool, false, ◌&&◌, ◌||◌, ◌==◌, nat_le, List, [], ◌∷◌, ◌++◌, length, Option, Some, None, option_map, Result, Ok, Err, if◌then◌else◌}
+use Rattle.std.specs.List.{list_all}
+use Rattle.std.specs.Char.{is_ascii_digit}
+use Rattle.lvm_volume.specs.declared.fault.NameFault.{NameFault}
+use Rattle.lvm_volume.specs.declared.fault.NameFault.TheVariants.{Letter, HyphenFirst, Empty, Long, Memory}
+use Rattle.lvm_volume.specs.declared.names.Parts.{Parts}
+
+-- The parts
+
+-- what a name is built of: a group, a volume and perhaps a layer of it
+pub record NameParts : Type 0 where
+  pub vg : List ℕ
+  pub lv : List ℕ
+  pub layer : Option (List ℕ)
+
+-- a byte of a part: an ASCII letter, a digit or one of + _ . -
+abbrev pub is_letter : ℕ → Bool
+is_letter b = (nat_le 97 b && nat_le b 122) || ((nat_le 65 b && nat_le b 90) || (is_ascii_digit b || (b == 43 || (b == 95 || (b == 46 || b == 45)))))
+
+-- the first byte is this one
+abbrev pub begins_with : ℕ → List ℕ → Bool
+begins_with c [] = false
+begins_with c (b ∷ bs) = b == c
+
+-- what is wrong with a group or a volume
+abbrev pub part_fault : List ℕ → Option NameFault
+part_fault part = if length part == 0 then Some Empty else (if list_all is_letter part then (if begins_with 45 part then Some HyphenFirst else None) else Some Letter)
+
+-- what is wrong with a layer, which may not begin with an underscore either
+abbrev pub layer_fault : Option (List ℕ) → Option NameFault
+layer_fault None = None
+layer_fault (Some layer) = if begins_with 95 layer then Some Letter else part_fault layer
+
+-- the first fault, or else a later one
+abbrev pub or_later : Option NameFault → Option NameFault → Option NameFault
+or_later None later = later
+or_later (Some f) later = Some f
+
+-- The name
 
 -- each hyphen twice
 abbrev pub doubled : List ℕ → List ℕ
 doubled [] = []
-doubled (b ∷ bs) = if b == 45 then b ∷ b ∷ doubled bs else b ∷ doubled bs
+doubled (b ∷ bs) = if b == 45 then 45 ∷ 45 ∷ doubled bs else b ∷ doubled bs
+
+-- from the left, each two neighbouring hyphens as one
+abbrev pub undoubled : List ℕ → List ℕ
+undoubled [] = []
+undoubled (b ∷ []) = b ∷ []
+undoubled (b ∷ c ∷ bs) = if b == 45 && c == 45 then 45 ∷ undoubled bs else b ∷ undoubled (c ∷ bs)
+
+-- a part behind a hyphen, if there is one
+abbrev pub behind_hyphen : Option (List ℕ) → List ℕ
+behind_hyphen None = []
+behind_hyphen (Some part) = 45 ∷ part
+
+-- the parts with each hyphen twice, joined by one hyphen
+abbrev pub joined : NameParts → List ℕ
+joined p = doubled p.vg ++ 45 ∷ (doubled p.lv ++ behind_hyphen (option_map doubled p.layer))
+
+-- the first fault of the parts in their order, and then that of the whole
+abbrev pub fault_of : NameParts → Option NameFault
+fault_of p = or_later (part_fault p.vg) (or_later (part_fault p.lv) (or_later (layer_fault p.layer) (if nat_le (length (joined p)) 127 then None else Some Long)))
+
+-- the name, or else the fault
+abbrev pub name_or : Option NameFault → List ℕ → Result (List ℕ) NameFault
+name_or None name = Ok name
+name_or (Some f) name = Err f
+
+-- what the parts build
+abbrev pub built : NameParts → Result (List ℕ) NameFault
+built p = name_or (fault_of p) (joined p)
+
+-- this is what is returned, unless memory runs out
+abbrev pub Returns : Result (List ℕ) NameFault → Result (List ℕ) NameFault → Type 0
+Returns (Err Memory) said = Unit {0}
+Returns result said = result ≡ said
+
+-- The parts of a name
+
+-- the parts, each with its hyphens doubled
+abbrev pub doubled_parts : NameParts → NameParts
+doubled_parts p = record { vg = doubled p.vg; lv = doubled p.lv; layer = option_map doubled p.layer }
+
+-- the slices of a name
+abbrev pub parts_view : Parts → NameParts
+parts_view p = record { vg = p.vg.now; lv = p.lv.now; layer = option_map (λ l. l.now) p.layer }
+
+-- the parts build this name
+abbrev pub Builds : NameParts → List ℕ → Type 0
+Builds p name = (fault_of p ≡ None) × (joined p ≡ name)
+
+-- the doubled parts of a name
+abbrev pub IsSplit : List ℕ → NameParts → Type 0
+IsSplit name slices = (p : NameParts) × Builds p name × (slices ≡ doubled_parts p)

@@ -19,5 +19,9 @@ mod used;
 mod value;
 mod volume;
 mod walk;
+mod names;
+#[cfg(test)]
+mod tests;
 
 pub use fault::NameFault;
+pub use names::{Parts, build_name, split_name, undouble};

@@ -1,9 +1,14 @@
-use Rattle.std.proofs.Common.{sym, ◌∙◌, ap, subst, ◌+◌, List, drop, arith}
+use Rattle.std.proofs.Common.{◌≡◌, sym, ◌∙◌, ap, subst, ◌+◌, List, [], ◌∷◌, ◌++◌, drop, arith}
+use Rattle.std.specs.Prelude.{is_some}
+use Rattle.std.proofs.lemmas.Result.{err_from_is_err_and}
+use Rattle.lvm_text.specs.Places.{place_of}
 use Rattle.lvm_text.specs.TokenView.{view, views}
-use Rattle.lvm_text.specs.View.{lines_agree}
+use Rattle.lvm_text.specs.View.{values_of, lines_agree}
+use Rattle.lvm_text.specs.Checks.{twice_lines}
 use Rattle.lvm_text.specs.declared.tree.Entry.{Entry}
 use Rattle.lvm_text.specs.declared.tree.Value.TheVariants as values
-use Rattle.lvm_text.proofs.Building.{ValuesSoFar, values_more, values_end, value_nothing, value_section, leaf_result, behind_views, lines_agree-push}
+use Rattle.lvm_text.proofs.Building.{ValuesSoFar, values_more, values_end, value_nothing, value_section, value_leaf, behind_views, lines_agree-push}
+use Rattle.lvm_text.proofs.Twice.{differ_push, key_twice, twice_inside, twice_opened}
 use Rattle.lvm_text.proofs.build.+build.Goals as goal
 
 pub section_at-loop-key-preserved : goal.section_at-loop-key-preserved
@@ -13,12 +18,33 @@ section_at-loop-key-preserved t c =
     let entry : Entry = record { key = c.in-Some.key; node = record { value = c.in_ok-value.value; line = c.in-Some.key_line } } in
     let more = values_more start c.loop-key.entries.items (views (drop c.loop-key.at c.args.tokens.now)) (views (drop (c.loop-key.at + 1) c.args.tokens.now)) after entry
     c.loop-key.invariant.so_far c.in-Some.ensures.0 c.in_ok-value.ensures.read in
+    let added : c.put_entry.new.entries.items ≡ c.loop-key.entries.items ++ entry ∷ [] = c.in_ok-put_entry.ensures.added in
     record {
-      so_far = subst (λ (es : List Entry). ValuesSoFar start es after) (sym c.in_ok-push.ensures.items) more;
-      agree = ap lines_agree c.in_ok-push.ensures.items ∙ lines_agree-push c.loop-key.entries.items entry c.loop-key.invariant.agree c.in_ok-value.ensures.agrees;
+      so_far = subst (λ (es : List Entry). ValuesSoFar start es after) (sym added) more;
+      agree = ap lines_agree added ∙ lines_agree-push c.loop-key.entries.items entry c.loop-key.invariant.agree c.in_ok-value.ensures.agrees;
+      finds = c.in_ok-put_entry.ensures.finds;
+      differ = ap (λ (es : List Entry). twice_lines [] (values_of es)) added
+          ∙ differ_push c.loop-key.entries.items entry c.loop-key.invariant.differ (sym c.if-is_some.false ∙ c.is_some.ensures ∙ ap is_some c.place_of.ensures ∙ ap (λ (es : List Entry). is_some (place_of c.in-Some.key.now 0 es)) c.as_slice.ensures.value) c.in_ok-value.ensures.differ;
       begun = omega (arith, c.in_ok-value.ensures.later, c.loop-key.invariant.begun);
       within = c.in_ok-value.ensures.later.1;
     }
+
+pub section_at-returns-then-is_some-clause-twice : goal.section_at-returns-then-is_some-clause-twice
+section_at-returns-then-is_some-clause-twice t c =
+    key_twice (views (drop c.args.start c.args.tokens.now)) c.loop-key.entries.items (views (drop c.loop-key.at c.args.tokens.now)) (views (drop (c.loop-key.at + 1) c.args.tokens.now)) c.in-Some.key.now c.in-Some.key_line
+    c.loop-key.invariant.so_far c.in-Some.ensures.0 c.loop-key.invariant.differ (sym c.if-is_some.true ∙ c.is_some.ensures ∙ ap is_some c.place_of.ensures ∙ ap (λ (es : List Entry). is_some (place_of c.in-Some.key.now 0 es)) c.as_slice.ensures.value)
+
+pub section_at-returns-in_err-value-clause-twice : goal.section_at-returns-in_err-value-clause-twice
+section_at-returns-in_err-value-clause-twice t c =
+    let p = err_from_is_err_and c.from_residual.result c.from_residual.ensures.1 in
+    rw p.1 (rw p.2 (twice_inside (views (drop c.args.start c.args.tokens.now)) c.loop-key.entries.items (views (drop c.loop-key.at c.args.tokens.now)) (views (drop (c.loop-key.at + 1) c.args.tokens.now)) c.in-Some.key.now c.in-Some.key_line
+    c.in_err-value.field-0.0 c.loop-key.invariant.so_far c.in-Some.ensures.0 c.loop-key.invariant.differ (sym c.if-is_some.false ∙ c.is_some.ensures ∙ ap is_some c.place_of.ensures ∙ ap (λ (es : List Entry). is_some (place_of c.in-Some.key.now 0 es)) c.as_slice.ensures.value) c.in_err-value.ensures.twice))
+
+pub value_at-returns-in_err-section-clause-twice : goal.value_at-returns-in_err-section-clause-twice
+value_at-returns-in_err-section-clause-twice t c =
+    let p = err_from_is_err_and c.from_residual.result c.from_residual.ensures.1 in
+    rw p.1 (rw p.2 (twice_opened c.args.line (views (drop c.args.start c.args.tokens.now)) (view c.in-Some.first) (views (drop (c.args.start + 1) c.args.tokens.now)) c.in_err-section.field-0.0
+    (ap views c.in-Some.ensures.0) (sym c.if-is_open.ensures) c.in_err-section.ensures.twice))
 
 pub section_at-returns-clause-read : goal.section_at-returns-clause-read
 section_at-returns-clause-read t c =
@@ -36,5 +62,5 @@ value_at-returns-then-is_open-clause-read t c =
 
 pub value_at-returns-clause-read : goal.value_at-returns-clause-read
 value_at-returns-clause-read t c =
-    leaf_result c.args.line (views (drop c.args.start c.args.tokens.now)) (view c.in-Some.first) (views (drop (c.args.start + 1) c.args.tokens.now)) c.args.tokens.now c.leaf_at.result
-    (ap views c.in-Some.ensures.0) (sym c.if-is_open.ensures) c.leaf_at.ensures.read
+    value_leaf c.args.line (views (drop c.args.start c.args.tokens.now)) (view c.in-Some.first) (views (drop (c.args.start + 1) c.args.tokens.now)) c.in_ok-leaf_at.field-0.0 (views (drop c.in_ok-leaf_at.field-0.1 c.args.tokens.now))
+    (ap views c.in-Some.ensures.0) (sym c.if-is_open.ensures) c.in_ok-leaf_at.ensures.read

@@ -1,6 +1,8 @@
-use Rattle.std.proofs.Common.{◌≡◌, ◌≤◌, ◌-◌, true, length, drop}
+use Rattle.std.proofs.Common.{◌≡◌, ◌≤◌, ◌-◌, true, [], length, drop}
 use Rattle.lvm_text.specs.TokenView.{views}
-use Rattle.lvm_text.specs.View.{lines_agree}
+use Rattle.lvm_text.specs.View.{values_of, lines_agree}
+use Rattle.lvm_text.specs.Checks.{twice_lines}
+use Rattle.lvm_text.specs.Places.{Finds}
 use Rattle.lvm_text.proofs.Building.{ValuesSoFar}
 use Rattle.lvm_text.proofs.build.+build.Given as goal
 
@@ -14,6 +16,8 @@ abbrev pub invariant-section_at-loop-key : goal.invariant-section_at-loop-key
 invariant-section_at-loop-key l = record {
   so_far : ValuesSoFar (views (drop l.start l.tokens)) l.entries.items (views (drop l.at l.tokens));
   agree : lines_agree l.entries.items ≡ true;
+  finds : Finds l.index l.entries.items;
+  differ : twice_lines [] (values_of l.entries.items) ≡ [];
   begun : l.start ≤ l.at;
   within : l.at ≤ length l.tokens;
 }

@@ -1,0 +1,139 @@
+-- Keys that stand twice: those of the entries read so far, and the first that a new key hits.
+use Rattle.std.proofs.Common.{◌≡◌, ℕ, ◌+◌, Bool, true, false, cond, ◌||◌, List, [], ◌∷◌, ◌++◌, Option, Some, refl, sym, ap, subst, ◌∙◌, append_assoc}
+use Rattle.std.specs.Prelude.{bytes_eq, is_some}
+use Rattle.lvm_text.specs.Token.{Word, Open, Equals, ListOpen, Placed}
+use Rattle.lvm_text.specs.Tree.{Values, Nothing, Section, Single, Several}
+use Rattle.lvm_text.specs.Grammar.{Reads}
+use Rattle.lvm_text.specs.Checks.{head_line, hit, has_key, twice_lines}
+use Rattle.lvm_text.specs.Repeat.{inner_lines}
+use Rattle.lvm_text.specs.Build.{begins_key, is_open, before, IsTwice, IsTwiceInside}
+use Rattle.lvm_text.specs.View.{put, values_of}
+use Rattle.lvm_text.specs.Places.{place_of}
+use Rattle.lvm_text.specs.declared.tree.Value.{Value}
+use Rattle.lvm_text.specs.declared.tree.Value.TheVariants as variants
+use Rattle.lvm_text.specs.declared.tree.Entry.{Entry}
+use Rattle.lvm_text.specs.declared.fault.TextFault.{TextFault}
+use Rattle.lvm_text.specs.declared.fault.TextFault.TheVariants as fault
+use Rattle.lvm_text.proofs.Building.{ValuesSoFar, before_push, before_all, no_values, same_key, opened}
+
+-- the keys of entries, before these
+abbrev pub keys_after : List Entry → List (List ℕ) → List (List ℕ)
+keys_after [] ks = ks
+keys_after (e ∷ es) ks = keys_after es (e.key.now ∷ ks)
+
+hit_append : (b : Bool) (n : ℕ) (xs ys : List ℕ) → hit b n (xs ++ ys) ≡ hit b n xs ++ ys
+hit_append true n xs ys = refl
+hit_append false n xs ys = refl
+
+twice_put : (ks : List (List ℕ)) (k : List ℕ) (n : ℕ) (value : Value) (rest : Values) → twice_lines ks (put k n value rest) ≡ hit (has_key k ks) n (inner_lines value ++ twice_lines (k ∷ ks) rest)
+twice_put ks k n (variants.Section s) rest = refl
+twice_put ks k n (variants.Int i) rest = refl
+twice_put ks k n (variants.Text t) rest = refl
+twice_put ks k n (variants.List v) rest = refl
+
+-- the lines of entries, and of the values after them
+twice_before : (es : List Entry) (ks : List (List ℕ)) (left : Values) → twice_lines ks (before es left) ≡ twice_lines ks (values_of es) ++ twice_lines (keys_after es ks) left
+twice_before [] ks left = refl
+twice_before (e ∷ es) ks left =
+    let k = e.key.now in
+    let n = e.node.line in
+    let inside = inner_lines e.node.value in
+    let own = twice_lines (k ∷ ks) (values_of es) in
+    let after = twice_lines (keys_after es (k ∷ ks)) left in
+    twice_put ks k n e.node.value (before es left)
+    ∙ ap (λ (xs : List ℕ). hit (has_key k ks) n (inside ++ xs)) (twice_before es (k ∷ ks) left)
+    ∙ ap (hit (has_key k ks) n) (sym (append_assoc inside own after))
+    ∙ hit_append (has_key k ks) n (inside ++ own) after
+    ∙ ap (λ (xs : List ℕ). xs ++ after) (sym (twice_put ks k n e.node.value (values_of es)))
+
+or_true : (b : Bool) → (b || true) ≡ true
+or_true true = refl
+or_true false = refl
+
+-- a key is among those of entries where it has a place
+has_step : (b : Bool) (first : ℕ) (place : Option ℕ) (old : Bool) → (is_some place || (b || old)) ≡ (is_some (cond b (Some first) place) || old)
+has_step true first place old = or_true (is_some place)
+has_step false first place old = refl
+
+has_after : (es : List Entry) (ks : List (List ℕ)) (key : List ℕ) (first : ℕ) → has_key key (keys_after es ks) ≡ (is_some (place_of key first es) || has_key key ks)
+has_after [] ks key first = refl
+has_after (e ∷ es) ks key first = has_after es (e.key.now ∷ ks) key (first + 1) ∙ has_step (bytes_eq e.key.now key) first (place_of key (first + 1) es) (has_key key ks)
+
+or_nothing : (b : Bool) → (b || false) ≡ b
+or_nothing true = refl
+or_nothing false = refl
+
+has_placed : (es : List Entry) (key : List ℕ) (b : Bool) → b ≡ is_some (place_of key 0 es) → has_key key (keys_after es []) ≡ b
+has_placed es key b e = has_after es [] key 0 ∙ or_nothing (is_some (place_of key 0 es)) ∙ sym e
+
+-- the values read so far
+twice_left : (es : List Entry) (left : Values) → twice_lines [] (values_of es) ≡ [] → twice_lines [] (before es left) ≡ twice_lines (keys_after es []) left
+twice_left es left h = twice_before es [] left ∙ ap (λ (xs : List ℕ). xs ++ twice_lines (keys_after es []) left) h
+
+hit_nothing : (b : Bool) (n : ℕ) (inside : List ℕ) → b ≡ false → inside ≡ [] → hit b n (inside ++ []) ≡ []
+hit_nothing b n inside e i = rw (e, i) refl
+
+pub differ_push : (es : List Entry) (e : Entry) → twice_lines [] (values_of es) ≡ [] → false ≡ is_some (place_of e.key.now 0 es) → inner_lines e.node.value ≡ [] → twice_lines [] (values_of (es ++ e ∷ [])) ≡ []
+differ_push es e h new inside =
+    ap (twice_lines []) (sym (before_all (es ++ e ∷ [])) ∙ before_push es e Nothing)
+    ∙ twice_left es (put e.key.now e.node.line e.node.value Nothing) h
+    ∙ twice_put (keys_after es []) e.key.now e.node.line e.node.value Nothing
+    ∙ hit_nothing (has_key e.key.now (keys_after es [])) e.node.line (inner_lines e.node.value) (has_placed es e.key.now false new) inside
+
+-- a key of entries that stands here again
+head_hit : (k key : List ℕ) (n line : ℕ) (ks : List (List ℕ)) (later : List ℕ) → k ≡ key → line ≡ n → has_key key ks ≡ true → head_line (hit (has_key k ks) n later) ≡ Some line
+head_hit k key n line ks later same at has = rw (same, sym at) (rw has refl)
+
+key_here : (key : List ℕ) (line : ℕ) (tokens : List Placed) (ks : List (List ℕ)) (left : Values) (more : List Placed) → has_key key ks ≡ true → Reads ((Word key, line) ∷ tokens) left more → begins_key more ≡ false → head_line (twice_lines ks left) ≡ Some line
+key_here key line tokens ks Nothing more has r stop = absurd (no_values key line tokens more r stop)
+key_here key line tokens ks (Section q n inner later) more has r stop =
+    let s = same_key key q line n tokens ((Open, r.1) ∷ r.3) r.5 in
+    head_hit q key n line ks (twice_lines [] inner ++ twice_lines (q ∷ ks) later) (sym s.key) s.at has
+key_here key line tokens ks (Single q n x later) more has r stop =
+    let s = same_key key q line n tokens ((Equals, r.1) ∷ (r.3, r.2) ∷ r.4) r.5 in
+    head_hit q key n line ks (twice_lines (q ∷ ks) later) (sym s.key) s.at has
+key_here key line tokens ks (Several q n xs later) more has r stop =
+    let s = same_key key q line n tokens ((Equals, r.1) ∷ (ListOpen, r.2) ∷ r.3) r.5 in
+    head_hit q key n line ks (twice_lines (q ∷ ks) later) (sym s.key) s.at has
+
+pub key_twice : (start : List Placed) (es : List Entry) (rest tokens : List Placed) (key : List ℕ) (line : ℕ) → ValuesSoFar start es rest → rest ≡ (Word key, line) ∷ tokens → twice_lines [] (values_of es) ≡ [] → true ≡ is_some (place_of key 0 es)
+    → IsTwice start (fault.KeyTwice line)
+key_twice start es rest tokens key line so_far same differ has = λ v more r stop.
+    let x = so_far v more r stop in
+    ap (λ (w : Values). head_line (twice_lines [] w)) x.1
+    ∙ ap head_line (twice_left es x.0 differ)
+    ∙ key_here key line tokens (keys_after es []) x.0 more (has_placed es key true has) (subst (λ (ts : List Placed). Reads ts x.0 more) same x.2) stop
+
+head_first : (xs ys : List ℕ) (n : ℕ) → head_line xs ≡ Some n → head_line (xs ++ ys) ≡ Some n
+head_first [] ys n e = absurd cc
+head_first (x ∷ xs) ys n e = e
+
+hit_later : (b : Bool) (n line : ℕ) (inside later : List ℕ) → b ≡ false → head_line inside ≡ Some n → head_line (hit b line (inside ++ later)) ≡ Some n
+hit_later b n line inside later new e = rw new (head_first inside later n e)
+
+-- a key that stands twice inside the section read last
+pub twice_inside : (start : List Placed) (es : List Entry) (rest tokens : List Placed) (key : List ℕ) (line : ℕ) (f : TextFault) → ValuesSoFar start es rest → rest ≡ (Word key, line) ∷ tokens → twice_lines [] (values_of es) ≡ [] → false ≡ is_some (place_of key 0 es)
+    → IsTwiceInside line tokens f → IsTwice start f
+twice_inside start es rest tokens key line (fault.KeyTwice n) so_far same differ new inside = λ v more r stop.
+    let x = so_far v more r stop in
+    let y = inside key x.0 more (subst (λ (ts : List Placed). Reads ts x.0 more) same x.2) stop in
+    ap (λ (w : Values). head_line (twice_lines [] w)) x.1
+    ∙ ap head_line (twice_left es x.0 differ)
+    ∙ ap (λ (w : Values). head_line (twice_lines (keys_after es []) w)) y.2
+    ∙ hit_later (has_key key (keys_after es [])) n line (twice_lines [] y.0) (twice_lines (key ∷ keys_after es []) y.1) (has_placed es key false new) y.3
+twice_inside start es rest tokens key line fault.Memory so_far same differ new inside = tt
+twice_inside start es rest tokens key line (fault.Token n) so_far same differ new inside = absurd inside
+twice_inside start es rest tokens key line (fault.Syntax n) so_far same differ new inside = absurd inside
+twice_inside start es rest tokens key line (fault.Deep n) so_far same differ new inside = absurd inside
+twice_inside start es rest tokens key line (fault.Number n) so_far same differ new inside = absurd inside
+
+-- a key that stands twice inside the section that opens here
+pub twice_opened : (line : ℕ) (tokens : List Placed) (first : Placed) (inner : List Placed) (f : TextFault) → tokens ≡ first ∷ inner → is_open first.0 ≡ true → IsTwice inner f → IsTwiceInside line tokens f
+twice_opened line tokens first inner (fault.KeyTwice n) e o twice = λ k v more r stop.
+    let x = opened line tokens first inner e o k v more r stop in
+    (x.inside, x.later, x.is, twice x.inside x.more x.read x.stop)
+twice_opened line tokens first inner fault.Memory e o twice = tt
+twice_opened line tokens first inner (fault.Token n) e o twice = absurd twice
+twice_opened line tokens first inner (fault.Syntax n) e o twice = absurd twice
+twice_opened line tokens first inner (fault.Deep n) e o twice = absurd twice
+twice_opened line tokens first inner (fault.Number n) e o twice = absurd twice

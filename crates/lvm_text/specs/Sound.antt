@@ -1,0 +1,14 @@
+-- What is true of every section.
+use Rattle.std.specs.Prelude.{◌≡◌, ℕ, true, List, []}
+use Rattle.std.specs.BTreeMap.{BTreeMap}
+use Rattle.lvm_text.specs.Checks.{twice_lines}
+use Rattle.lvm_text.specs.View.{values_of, lines_agree}
+use Rattle.lvm_text.specs.Places.{Finds}
+use Rattle.lvm_text.specs.declared.tree.Entry.{Entry}
+use denote.Ref.{Bor}
+
+-- a section of these entries and this index: no key stands twice in it, nor in a section inside
+pub record IsSection (es : List Entry) (index : BTreeMap (Bor (List ℕ)) ℕ) : Type 0 where
+  pub lines : lines_agree es ≡ true
+  pub finds : Finds index es
+  pub differ : twice_lines [] (values_of es) ≡ []

@@ -1,0 +1,510 @@
+-- A name is cut in one way, and its slices are its parts doubled.
+use Rattle.std.proofs.Common.{◌≡◌, ◌≢◌, ℕ, suc, ◌+◌, ◌<◌, ◌≤◌, Bool, true, false, cond, eqb, ◌&&◌, List, [], ◌∷◌, ◌++◌, length, take, drop, Option, Some, None, refl, sym, ap, subst, ◌∙◌, zero, get_or, arith, append_assoc, add-one, drop-cons, length-append}
+use Rattle.std.specs.Prelude.{Result, Err, IfSome, IsTrue, option_map, MatchOption, option_and_then, is_none, nat_le}
+use Rattle.std.specs.List.{list_all}
+use Rattle.std.specs.Str.Pattern.{LacksTextAt, HasTextAt}
+use Rattle.std.proofs.lemmas.Bool.{eqb-true, and_parts, and_from, leb-true, le-leb}
+use Rattle.std.proofs.lemmas.Bool.Decides.{nat_tests}
+use Rattle.std.proofs.lemmas.List.{append-nil, take_more, take-append-drop}
+use denote.Ref.{Bor}
+use Rattle.std.proofs.lemmas.Option.{same_Some}
+use Rattle.lvm_volume.specs.Names.{NameParts, built, Returns, is_letter, begins_with, part_fault, layer_fault, or_later, doubled, undoubled, behind_hyphen, joined, fault_of, Builds, IsSplit, doubled_parts, name_or}
+use Rattle.dm_table.specs.Name.{is_device_byte, is_device_name}
+use Rattle.lvm_volume.specs.Cuts.{head_length, head_of, after_hyphen, tail_of, with_layer, slices_of}
+use Rattle.lvm_volume.specs.declared.fault.NameFault.{NameFault}
+use Rattle.lvm_volume.specs.declared.fault.NameFault.TheVariants.{Letter, HyphenFirst, Empty, Long, Memory}
+
+-- what holds of both values of a choice, each under its test
+cond_elim : {X : Type 0} (b : Bool) (P : X → Type 0) (x y : X) → (b ≡ true → P x) → (b ≡ false → P y) → P (cond b x y)
+cond_elim true P x y f g = f refl
+cond_elim false P x y f g = g refl
+
+-- Doubled parts
+
+plain_length : (b : ℕ) (bs : List ℕ) → eqb b 45 ≡ false → head_length (b ∷ bs) ≡ suc (head_length bs)
+plain_length b [] e = rw e refl
+plain_length b (c ∷ bs) e = rw e refl
+
+plain_undoubled : (b : ℕ) (bs : List ℕ) → eqb b 45 ≡ false → undoubled (b ∷ bs) ≡ b ∷ undoubled bs
+plain_undoubled b [] e = refl
+plain_undoubled b (c ∷ bs) e = rw e refl
+
+pub undoubled-doubled : (w : List ℕ) → undoubled (doubled w) ≡ w
+undoubled-doubled [] = refl
+undoubled-doubled (b ∷ w) =
+    cond_elim (eqb b 45) (λ xs. undoubled xs ≡ b ∷ w) (45 ∷ 45 ∷ doubled w) (b ∷ doubled w)
+    (λ e. ap (λ (xs : List ℕ). 45 ∷ xs) (undoubled-doubled w) ∙ ap (λ n. n ∷ w) (sym (eqb-true b 45 e)))
+    (λ e. plain_undoubled b (doubled w) e ∙ ap (λ (xs : List ℕ). b ∷ xs) (undoubled-doubled w))
+
+pub doubled-append : (xs ys : List ℕ) → doubled (xs ++ ys) ≡ doubled xs ++ doubled ys
+doubled-append [] ys = refl
+doubled-append (b ∷ xs) ys =
+    cond_elim (eqb b 45) (λ zs. cond (eqb b 45) (45 ∷ 45 ∷ doubled (xs ++ ys)) (b ∷ doubled (xs ++ ys)) ≡ zs ++ doubled ys) (45 ∷ 45 ∷ doubled xs) (b ∷ doubled xs)
+    (λ e. rw e (ap (λ (zs : List ℕ). 45 ∷ 45 ∷ zs) (doubled-append xs ys)))
+    (λ e. rw e (ap (λ (zs : List ℕ). b ∷ zs) (doubled-append xs ys)))
+
+-- a byte of a part after those of its front
+pub doubled_more : (xs : List ℕ) (i : ℕ) → i < length xs → doubled (take (i + 1) xs) ≡ doubled (take i xs) ++ doubled (get_or xs i 0 ∷ [])
+doubled_more xs i lt = ap doubled (take_more xs i 0 lt) ∙ doubled-append (take i xs) (get_or xs i 0 ∷ [])
+
+not_equal : (a b : ℕ) (x : Bool) → eqb a b ≡ x → (a ≡ b → ⊥) → x ≡ false
+not_equal a b true e n = absurd (n (eqb-true a b e))
+not_equal a b false e n = refl
+
+pub push_hyphen : (xs : List ℕ) (i : ℕ) (old t one two e : List ℕ) → i < length xs → t ≡ old ++ doubled (take i xs) → one ≡ t ++ e → e ≡ get_or xs i 0 ∷ [] → get_or xs i 0 ≡ 45 → two ≡ one ++ 45 ∷ [] → two ≡ old ++ doubled (take (i + 1) xs)
+push_hyphen xs i old t one two e lt at grown is hyphen last =
+    last
+    ∙ ap (λ (z : List ℕ). z ++ 45 ∷ []) (grown ∙ ap (λ (z : List ℕ). t ++ z) (is ∙ ap (λ n. n ∷ []) hyphen) ∙ ap (λ (z : List ℕ). z ++ 45 ∷ []) at)
+    ∙ append_assoc (old ++ doubled (take i xs)) (45 ∷ []) (45 ∷ [])
+    ∙ append_assoc old (doubled (take i xs)) (45 ∷ 45 ∷ [])
+    ∙ ap (λ (z : List ℕ). old ++ z) (sym (doubled_more xs i lt ∙ ap (λ n. doubled (take i xs) ++ doubled (n ∷ [])) hyphen))
+
+pub push_plain : (xs : List ℕ) (i : ℕ) (old t one e : List ℕ) → i < length xs → t ≡ old ++ doubled (take i xs) → one ≡ t ++ e → e ≡ get_or xs i 0 ∷ [] → (get_or xs i 0 ≡ 45 → ⊥) → one ≡ old ++ doubled (take (i + 1) xs)
+push_plain xs i old t one e lt at grown is plain =
+    let b = get_or xs i 0 in
+    let own : doubled (b ∷ []) ≡ b ∷ [] = rw (not_equal b 45 (eqb b 45) refl plain) refl in
+    grown ∙ ap (λ (z : List ℕ). t ++ z) is ∙ ap (λ (z : List ℕ). z ++ b ∷ []) at
+    ∙ append_assoc old (doubled (take i xs)) (b ∷ [])
+    ∙ ap (λ (z : List ℕ). old ++ z) (sym (doubled_more xs i lt ∙ ap (λ (z : List ℕ). doubled (take i xs) ++ z) own))
+
+letter_ascii : (b : ℕ) → is_letter b ≡ true → b < 128
+letter_ascii b h = grind (arith, nat_tests)
+
+pub letter_at : (xs : List ℕ) (i : ℕ) → list_all is_letter xs ≡ true → i < length xs → get_or xs i 0 < 128
+letter_at [] i h lt = absurd (omega arith)
+letter_at (x ∷ xs) zero h lt = letter_ascii x (and_parts (is_letter x) (list_all is_letter xs) h).0
+letter_at (x ∷ xs) (suc i) h lt = letter_at xs i (and_parts (is_letter x) (list_all is_letter xs) h).1 (omega arith)
+
+drop_next : (bs : List ℕ) (i : ℕ) → i < length bs → drop i bs ≡ get_or bs i 0 ∷ drop (i + 1) bs
+drop_next bs i lt = rw add-one (drop-cons bs i 0 lt)
+
+pub length_plain : (bs : List ℕ) (i : ℕ) → i < length bs → (get_or bs i 0 ≡ 45 → ⊥) → head_length bs ≡ i + head_length (drop i bs) → head_length bs ≡ i + 1 + head_length (drop (i + 1) bs)
+length_plain bs i lt plain e =
+    let b = get_or bs i 0 in
+    let step : head_length (drop i bs) ≡ suc (head_length (drop (i + 1) bs)) = ap head_length (drop_next bs i lt) ∙ plain_length b (drop (i + 1) bs) (not_equal b 45 (eqb b 45) refl plain) in
+    omega (arith, e, step)
+
+-- What is wrong with a part is wrong with it doubled
+
+not_zero : (n : ℕ) (b : Bool) → eqb (suc n) 0 ≡ b → b ≡ false
+not_zero n true e = let wrong : suc n ≡ 0 = eqb-true (suc n) 0 e in absurd (omega arith)
+not_zero n false e = refl
+
+begins-doubled : (c b : ℕ) (w more : List ℕ) → begins_with c (doubled (b ∷ w) ++ more) ≡ eqb b c
+begins-doubled c b w more =
+    cond_elim (eqb b 45) (λ xs. begins_with c (xs ++ more) ≡ eqb b c) (45 ∷ 45 ∷ doubled w) (b ∷ doubled w)
+    (λ e. ap (λ n. eqb n c) (sym (eqb-true b 45 e)))
+    (λ e. refl)
+
+empty-doubled : (b : ℕ) (w : List ℕ) → eqb (length (doubled (b ∷ w))) 0 ≡ false
+empty-doubled b w =
+    cond_elim (eqb b 45) (λ xs. eqb (length xs) 0 ≡ false) (45 ∷ 45 ∷ doubled w) (b ∷ doubled w)
+    (λ e. not_zero (length (45 ∷ doubled w)) _ refl)
+    (λ e. not_zero (length (doubled w)) _ refl)
+
+letters-doubled : (w : List ℕ) → list_all is_letter (doubled w) ≡ list_all is_letter w
+letters-doubled [] = refl
+letters-doubled (b ∷ w) =
+    cond_elim (eqb b 45) (λ xs. list_all is_letter xs ≡ (is_letter b && list_all is_letter w)) (45 ∷ 45 ∷ doubled w) (b ∷ doubled w)
+    (λ e. letters-doubled w ∙ ap (λ n. is_letter n && list_all is_letter w) (sym (eqb-true b 45 e)))
+    (λ e. ap (λ (x : Bool). is_letter b && x) (letters-doubled w))
+
+abbrev fault_by : Bool → Bool → Bool → Option NameFault
+fault_by empty letters hyphen = cond empty (Some Empty) (cond letters (cond hyphen (Some HyphenFirst) None) (Some Letter))
+
+part-doubled : (w : List ℕ) → part_fault (doubled w) ≡ part_fault w
+part-doubled [] = refl
+part-doubled (b ∷ w) =
+    let d = doubled (b ∷ w) in
+    ap (λ (x : Bool). fault_by x (list_all is_letter d) (begins_with 45 d)) (empty-doubled b w ∙ sym (not_zero (length w) _ refl))
+    ∙ ap (λ (x : Bool). fault_by (eqb (length (b ∷ w)) 0) x (begins_with 45 d)) (letters-doubled (b ∷ w))
+    ∙ ap (λ (x : Bool). fault_by (eqb (length (b ∷ w)) 0) (list_all is_letter (b ∷ w)) x) (ap (begins_with 45) (sym (append-nil d)) ∙ begins-doubled 45 b w [])
+
+layer-doubled : (l : Option (List ℕ)) → layer_fault (option_map doubled l) ≡ layer_fault l
+layer-doubled None = refl
+layer-doubled (Some []) = refl
+layer-doubled (Some (b ∷ w)) =
+    ap (λ (x : Bool). cond x (Some Letter) (part_fault (doubled (b ∷ w)))) (ap (begins_with 95) (sym (append-nil (doubled (b ∷ w)))) ∙ begins-doubled 95 b w [])
+    ∙ ap (λ (x : Option NameFault). cond (eqb b 95) (Some Letter) x) (part-doubled (b ∷ w))
+
+-- the faults of parts
+abbrev pub parts_faults : NameParts → Option NameFault
+parts_faults p = or_later (part_fault p.vg) (or_later (part_fault p.lv) (layer_fault p.layer))
+
+parts-doubled : (p : NameParts) → parts_faults (doubled_parts p) ≡ parts_faults p
+parts-doubled p =
+    ap (λ (x : Option NameFault). or_later x (or_later (part_fault (doubled p.lv)) (layer_fault (option_map doubled p.layer)))) (part-doubled p.vg)
+    ∙ ap (λ (x : Option NameFault). or_later (part_fault p.vg) (or_later x (layer_fault (option_map doubled p.layer)))) (part-doubled p.lv)
+    ∙ ap (λ (x : Option NameFault). or_later (part_fault p.vg) (or_later (part_fault p.lv) x)) (layer-doubled p.layer)
+
+or_whole : (a b c d : Option NameFault) → or_later a (or_later b (or_later c d)) ≡ or_later (or_later a (or_later b c)) d
+or_whole None None c d = refl
+or_whole None (Some f) c d = refl
+or_whole (Some f) b c d = refl
+
+-- the fault of the whole
+abbrev pub long_fault : NameParts → Option NameFault
+long_fault p = cond (nat_le (length (joined p)) 127) None (Some Long)
+
+pub fault_parts : (p : NameParts) → fault_of p ≡ or_later (parts_faults p) (long_fault p)
+fault_parts p = or_whole (part_fault p.vg) (part_fault p.lv) (layer_fault p.layer) (long_fault p)
+
+-- Building
+
+pub returns_fault : (f : NameFault) (said : Result (List ℕ) NameFault) → said ≡ Err f → Returns (Err f) said
+returns_fault Letter said e = sym e
+returns_fault HyphenFirst said e = sym e
+returns_fault Empty said e = sym e
+returns_fault Long said e = sym e
+returns_fault Memory said e = tt
+
+letter_device : (b : ℕ) → is_letter b ≡ true → is_device_byte b ≡ true
+letter_device b h = grind (arith, nat_tests)
+
+device_doubled : (w : List ℕ) → list_all is_letter w ≡ true → list_all is_device_byte (doubled w) ≡ true
+device_doubled [] h = refl
+device_doubled (b ∷ w) h =
+    let a = and_parts (is_letter b) (list_all is_letter w) h in
+    cond_elim (eqb b 45) (λ (xs : List ℕ). list_all is_device_byte xs ≡ true) (45 ∷ 45 ∷ doubled w) (b ∷ doubled w)
+    (λ e. device_doubled w a.1)
+    (λ e. and_from (is_device_byte b) (list_all is_device_byte (doubled w)) (letter_device b a.0) (device_doubled w a.1))
+
+device_append : (xs ys : List ℕ) → list_all is_device_byte xs ≡ true → list_all is_device_byte ys ≡ true → list_all is_device_byte (xs ++ ys) ≡ true
+device_append [] ys h k = k
+device_append (x ∷ xs) ys h k =
+    let a = and_parts (is_device_byte x) (list_all is_device_byte xs) h in
+    and_from (is_device_byte x) (list_all is_device_byte (xs ++ ys)) a.0 (device_append xs ys a.1 k)
+
+by_none : (empty letters hyphen : Bool) → fault_by empty letters hyphen ≡ None → (letters ≡ true) × (hyphen ≡ false)
+by_none true l h e = absurd cc
+by_none false true true e = absurd cc
+by_none false true false e = (refl, refl)
+by_none false false h e = absurd cc
+
+part_letters : (w : List ℕ) → part_fault w ≡ None → list_all is_letter w ≡ true
+part_letters w e = (by_none (eqb (length w) 0) (list_all is_letter w) (begins_with 45 w) e).0
+
+layer_none : (l : List ℕ) (b : Bool) → cond b (Some Letter) (part_fault l) ≡ None → part_fault l ≡ None
+layer_none l true e = absurd cc
+layer_none l false e = e
+
+device_layer : (l : Option (List ℕ)) → layer_fault l ≡ None → list_all is_device_byte (behind_hyphen (option_map doubled l)) ≡ true
+device_layer None e = refl
+device_layer (Some l) e = device_doubled l (part_letters l (layer_none l (begins_with 95 l) e))
+
+or_none : (a b : Option NameFault) → or_later a b ≡ None → (a ≡ None) × (b ≡ None)
+or_none None b e = (refl, e)
+or_none (Some f) b e = absurd cc
+
+joined_device : (p : NameParts) → parts_faults p ≡ None → list_all is_device_byte (joined p) ≡ true
+joined_device p e =
+    let v = or_none (part_fault p.vg) (or_later (part_fault p.lv) (layer_fault p.layer)) e in
+    let l = or_none (part_fault p.lv) (layer_fault p.layer) v.1 in
+    device_append (doubled p.vg) (45 ∷ (doubled p.lv ++ behind_hyphen (option_map doubled p.layer))) (device_doubled p.vg (part_letters p.vg v.0))
+    (device_append (doubled p.lv) (behind_hyphen (option_map doubled p.layer)) (device_doubled p.lv (part_letters p.lv l.0)) (device_layer p.layer l.1))
+
+pub layer_letters : (l : Option (Bor (List ℕ))) (vg lv : List ℕ) → None ≡ or_later (part_fault vg) (or_later (part_fault lv) (layer_fault (option_map (λ t. t.now) l))) → IfSome l (λ t. IsTrue (list_all is_letter t.now))
+layer_letters None vg lv e = tt
+layer_letters (Some t) vg lv e =
+    let v = or_none (part_fault vg) (or_later (part_fault lv) (layer_fault (Some t.now))) (sym e) in
+    let l = or_none (part_fault lv) (layer_fault (Some t.now)) v.1 in
+    part_letters t.now (layer_none t.now (begins_with 95 t.now) l.1)
+
+long_joined : (n : ℕ) → 1 ≤ n → (b : Bool) → nat_le n 127 ≡ b → (nat_le 1 n && (b && true)) ≡ false → b ≡ false
+long_joined n some true e h = let wrong : true ≡ false = sym (ap (λ (x : Bool). x && true) (le-leb 1 n some)) ∙ h in absurd cc
+long_joined n some false e h = refl
+
+pub form_is_long : (p : NameParts) (text : List ℕ) → None ≡ parts_faults p → text ≡ joined p → is_device_name text ≡ false → Err Long ≡ built p
+form_is_long p text e same refused =
+    let n = length (joined p) in
+    let some : 1 ≤ n = omega (arith, length-append (doubled p.vg) (45 ∷ (doubled p.lv ++ behind_hyphen (option_map doubled p.layer)))) in
+    let told : (nat_le 1 n && (nat_le n 127 && true)) ≡ false = ap (λ (x : Bool). nat_le 1 n && (nat_le n 127 && x)) (sym (joined_device p (sym e))) ∙ ap is_device_name (sym same) ∙ refused in
+    let long : nat_le n 127 ≡ false = long_joined n some (nat_le n 127) refl told in
+    sym (ap (λ (f : Option NameFault). name_or f (joined p)) (fault_parts p ∙ ap (λ (f : Option NameFault). or_later f (long_fault p)) (sym e) ∙ ap (λ (x : Bool). cond x None (Some Long)) long))
+
+pub fault_built : (p : NameParts) (f : NameFault) → Some f ≡ parts_faults p → Returns (Err f) (built p)
+fault_built p f e = returns_fault f (built p) (ap (λ (x : Option NameFault). name_or x (joined p)) (fault_parts p ∙ ap (λ (x : Option NameFault). or_later x (long_fault p)) (sym e)))
+
+-- The front of a name
+
+-- nothing, or one hyphen that none follows
+abbrev IsEnd : List ℕ → Type 0
+IsEnd [] = Unit {0}
+IsEnd (b ∷ bs) = (b ≡ 45) × (begins_with 45 bs ≡ false)
+
+end_length : (rest : List ℕ) → IsEnd rest → head_length rest ≡ 0
+end_length [] h = refl
+end_length (b ∷ []) h = rw h.0 refl
+end_length (b ∷ c ∷ bs) h = rw h.0 (rw h.1 refl)
+
+head_doubled : (w rest : List ℕ) → IsEnd rest → head_length (doubled w ++ rest) ≡ length (doubled w)
+head_doubled [] rest h = end_length rest h
+head_doubled (b ∷ w) rest h =
+    cond_elim (eqb b 45) (λ xs. head_length (xs ++ rest) ≡ length xs) (45 ∷ 45 ∷ doubled w) (b ∷ doubled w)
+    (λ e. ap (λ n. suc (suc n)) (head_doubled w rest h))
+    (λ e. plain_length b (doubled w ++ rest) e ∙ ap (λ n. suc n) (head_doubled w rest h))
+
+take_front : (xs ys : List ℕ) → take (length xs) (xs ++ ys) ≡ xs
+take_front [] ys = refl
+take_front (x ∷ xs) ys = ap (λ (zs : List ℕ). x ∷ zs) (take_front xs ys)
+
+drop_front : (xs ys : List ℕ) → drop (length xs) (xs ++ ys) ≡ ys
+drop_front [] ys = refl
+drop_front (x ∷ xs) ys = drop_front xs ys
+
+-- of a doubled part with an end behind it
+cut_head : (w rest : List ℕ) → IsEnd rest → head_of (doubled w ++ rest) ≡ doubled w
+cut_head w rest h = ap (λ n. take n (doubled w ++ rest)) (head_doubled w rest h) ∙ take_front (doubled w) rest
+
+cut_tail : (w rest : List ℕ) → IsEnd rest → tail_of (doubled w ++ rest) ≡ after_hyphen rest
+cut_tail w rest h = ap after_hyphen (ap (λ n. drop n (doubled w ++ rest)) (head_doubled w rest h) ∙ drop_front (doubled w) rest)
+
+-- any text begins with a doubled part
+record Front (bs : List ℕ) (n : ℕ) : Type 0 where
+  pub part : List ℕ
+  pub is : bs ≡ doubled part ++ drop n bs
+  pub end : IsEnd (drop n bs)
+
+front_pair : (b c : ℕ) (bs : List ℕ) → eqb b 45 ≡ true → eqb c 45 ≡ true → Front bs (head_length bs) → Front (b ∷ c ∷ bs) (suc (suc (head_length bs)))
+front_pair b c bs e d f = record {
+  part = 45 ∷ f.part;
+  is = ap (λ n. n ∷ c ∷ bs) (eqb-true b 45 e) ∙ ap (λ n. 45 ∷ n ∷ bs) (eqb-true c 45 d) ∙ ap (λ (xs : List ℕ). 45 ∷ 45 ∷ xs) f.is;
+  end = f.end;
+}
+
+front_plain : (b : ℕ) (bs : List ℕ) → eqb b 45 ≡ false → Front bs (head_length bs) → Front (b ∷ bs) (suc (head_length bs))
+front_plain b bs e f = record {
+  part = b ∷ f.part;
+  is = ap (λ (xs : List ℕ). b ∷ xs) f.is ∙ sym (rw e refl);
+  end = f.end;
+}
+
+front_end : (bs : List ℕ) → IsEnd bs → Front bs 0
+front_end bs h = record { part = []; is = refl; end = h }
+
+front : (bs : List ℕ) → Front bs (head_length bs)
+front [] = front_end [] tt
+front (b ∷ []) =
+    cond_elim (eqb b 45) (Front (b ∷ [])) 0 1
+    (λ e. front_end (b ∷ []) (eqb-true b 45 e, refl))
+    (λ e. front_plain b [] e (front_end [] tt))
+front (b ∷ c ∷ bs) =
+    cond_elim (eqb b 45) (Front (b ∷ c ∷ bs)) (cond (eqb c 45) (suc (suc (head_length bs))) 0) (suc (head_length (c ∷ bs)))
+    (λ e. cond_elim (eqb c 45) (Front (b ∷ c ∷ bs)) (suc (suc (head_length bs))) 0
+    (λ d. front_pair b c bs e d (front bs))
+    (λ d. front_end (b ∷ c ∷ bs) (eqb-true b 45 e, d)))
+    (λ e. front_plain b (c ∷ bs) e (front (c ∷ bs)))
+
+head_part : (bs : List ℕ) → head_length bs ≡ length (doubled (front bs).part)
+head_part bs = let f = front bs in ap head_length f.is ∙ head_doubled f.part (drop (head_length bs) bs) f.end
+
+pub head_within : (bs : List ℕ) → head_length bs ≤ length bs
+head_within bs =
+    let f = front bs in
+    let whole : length bs ≡ length (doubled f.part) + length (drop (head_length bs) bs) = ap length f.is ∙ length-append (doubled f.part) (drop (head_length bs) bs) in
+    omega (arith, whole, head_part bs)
+
+pub hyphen_at : (bs : List ℕ) → head_length bs < length bs → get_or bs (head_length bs) 0 ≡ 45
+hyphen_at bs lt = (subst IsEnd (drop-cons bs (head_length bs) 0 lt) (front bs).end).0
+
+pub after_is : (bs : List ℕ) (r : Option (Bor (List ℕ))) → MatchOption r ((rest : List ℕ) → bs ≢ 45 ∷ rest) (λ x. bs ≡ 45 ∷ x.now) → option_map (λ t. t.now) r ≡ after_hyphen bs
+after_is [] None m = refl
+after_is (b ∷ bs) None m =
+    cond_elim (eqb b 45) (λ (o : Option (List ℕ)). None ≡ o) (Some bs) None
+    (λ e. absurd (m bs (ap (λ n. n ∷ bs) (eqb-true b 45 e))))
+    (λ e. refl)
+after_is bs (Some x) m = sym (ap after_hyphen m)
+
+-- behind a part stands nothing, or a hyphen and the tail
+end_is : (bs : List ℕ) → IsEnd bs → bs ≡ behind_hyphen (after_hyphen bs)
+end_is [] h = refl
+end_is (b ∷ bs) h = rw h.0 refl
+
+-- a text is a doubled part, and the tail behind a hyphen
+record Head (bs : List ℕ) : Type 0 where
+  pub part : List ℕ
+  pub head : head_of bs ≡ doubled part
+  pub whole : bs ≡ doubled part ++ behind_hyphen (tail_of bs)
+
+head : (bs : List ℕ) → Head bs
+head bs =
+    let f = front bs in
+    record {
+      part = f.part;
+      head = ap head_of f.is ∙ cut_head f.part (drop (head_length bs) bs) f.end;
+      whole = f.is ∙ ap (λ (xs : List ℕ). doubled f.part ++ xs) (end_is (drop (head_length bs) bs) f.end);
+    }
+
+-- The slices of a name
+
+-- they are doubled parts, which spell it
+record Sliced (name : List ℕ) (s : NameParts) : Type 0 where
+  pub parts : NameParts
+  pub are : s ≡ doubled_parts parts
+  pub spell : name ≡ joined parts
+
+sliced_two : (name rest : List ℕ) (s : NameParts) → Head name → tail_of name ≡ Some rest → Head rest → tail_of rest ≡ None → Some (record { vg = head_of name; lv = head_of rest; layer = None }) ≡ Some s → Sliced name s
+sliced_two name rest s h t g u e = record {
+  parts = record { vg = h.part; lv = g.part; layer = None };
+  are = sym (same_Some _ _ e)
+      ∙ ap (λ (x : List ℕ). let q : NameParts = record { vg = x; lv = head_of rest; layer = None } in q) h.head
+      ∙ ap (λ (x : List ℕ). let q : NameParts = record { vg = doubled h.part; lv = x; layer = None } in q) g.head;
+  spell = h.whole
+      ∙ ap (λ (x : Option (List ℕ)). doubled h.part ++ behind_hyphen x) t
+      ∙ ap (λ (x : List ℕ). doubled h.part ++ 45 ∷ x) (g.whole ∙ ap (λ (x : Option (List ℕ)). doubled g.part ++ behind_hyphen x) u);
+}
+
+sliced_three : (name rest last : List ℕ) (s : NameParts) → Head name → tail_of name ≡ Some rest → Head rest → tail_of rest ≡ Some last → Head last → tail_of last ≡ None
+    → Some (record { vg = head_of name; lv = head_of rest; layer = Some (head_of last) }) ≡ Some s → Sliced name s
+sliced_three name rest last s h t g u k v e =
+    let end : last ≡ doubled k.part = k.whole ∙ ap (λ (x : Option (List ℕ)). doubled k.part ++ behind_hyphen x) v ∙ append-nil (doubled k.part) in
+    record {
+      parts = record { vg = h.part; lv = g.part; layer = Some k.part };
+      are = sym (same_Some _ _ e)
+          ∙ ap (λ (x : List ℕ). let q : NameParts = record { vg = x; lv = head_of rest; layer = Some (head_of last) } in q) h.head
+          ∙ ap (λ (x : List ℕ). let q : NameParts = record { vg = doubled h.part; lv = x; layer = Some (head_of last) } in q) g.head
+          ∙ ap (λ (x : List ℕ). let q : NameParts = record { vg = doubled h.part; lv = doubled g.part; layer = Some x } in q) k.head;
+      spell = h.whole
+          ∙ ap (λ (x : Option (List ℕ)). doubled h.part ++ behind_hyphen x) t
+          ∙ ap (λ (x : List ℕ). doubled h.part ++ 45 ∷ x) (g.whole ∙ ap (λ (x : Option (List ℕ)). doubled g.part ++ behind_hyphen x) u ∙ ap (λ (x : List ℕ). doubled g.part ++ 45 ∷ x) end);
+    }
+
+sliced_last : (name rest last : List ℕ) (s : NameParts) (more : Option (List ℕ)) → tail_of name ≡ Some rest → tail_of rest ≡ Some last → tail_of last ≡ more
+    → cond (is_none more) (Some (record { vg = head_of name; lv = head_of rest; layer = Some (head_of last) })) None ≡ Some s → Sliced name s
+sliced_last name rest last s None t u v e = sliced_three name rest last s (head name) t (head rest) u (head last) v e
+sliced_last name rest last s (Some x) t u v e = absurd cc
+
+sliced_rest : (name rest : List ℕ) (s : NameParts) (tail : Option (List ℕ)) → tail_of name ≡ Some rest → tail_of rest ≡ tail → with_layer (head_of name) (head_of rest) tail ≡ Some s → Sliced name s
+sliced_rest name rest s None t u e = sliced_two name rest s (head name) t (head rest) u e
+sliced_rest name rest s (Some last) t u e = sliced_last name rest last s (tail_of last) t u refl e
+
+sliced_at : (name : List ℕ) (s : NameParts) (tail : Option (List ℕ)) → tail_of name ≡ tail → option_and_then (λ rest. with_layer (head_of name) (head_of rest) (tail_of rest)) tail ≡ Some s → Sliced name s
+sliced_at name s None t e = absurd cc
+sliced_at name s (Some rest) t e = sliced_rest name rest s (tail_of rest) t refl e
+
+sliced : (name : List ℕ) (s : NameParts) → slices_of name ≡ Some s → Sliced name s
+sliced name s e = sliced_at name s (tail_of name) refl e
+
+-- The parts that build a name are those of its slices
+
+no_hyphen : (w more : List ℕ) → part_fault w ≡ None → begins_with 45 (doubled w ++ more) ≡ false
+no_hyphen [] more e = absurd cc
+no_hyphen (b ∷ w) more e = begins-doubled 45 b w more ∙ (by_none (eqb (length (b ∷ w)) 0) (list_all is_letter (b ∷ w)) (eqb b 45) e).1
+
+layer_end : (l : Option (List ℕ)) → layer_fault l ≡ None → IsEnd (behind_hyphen (option_map doubled l))
+layer_end None e = tt
+layer_end (Some l) e = (refl, ap (begins_with 45) (sym (append-nil (doubled l))) ∙ no_hyphen l [] (layer_none l (begins_with 95 l) e))
+
+head_whole : (w : List ℕ) → head_of (doubled w) ≡ doubled w
+head_whole w = ap head_of (sym (append-nil (doubled w))) ∙ cut_head w [] tt
+
+tail_whole : (w : List ℕ) → tail_of (doubled w) ≡ None
+tail_whole w = ap tail_of (sym (append-nil (doubled w))) ∙ cut_tail w [] tt
+
+layer_slices : (vg lv : List ℕ) (l : Option (List ℕ)) → with_layer vg lv (after_hyphen (behind_hyphen (option_map doubled l))) ≡ Some (record { vg = vg; lv = lv; layer = option_map doubled l })
+layer_slices vg lv None = refl
+layer_slices vg lv (Some l) =
+    ap (λ (x : Option (List ℕ)). cond (is_none x) (Some (let q : NameParts = record { vg = vg; lv = lv; layer = Some (head_of (doubled l)) } in q)) None) (tail_whole l)
+    ∙ ap (λ (x : List ℕ). Some (let q : NameParts = record { vg = vg; lv = lv; layer = Some x } in q)) (head_whole l)
+
+joined_slices : (vg lv : List ℕ) (l : Option (List ℕ)) → part_fault vg ≡ None → part_fault lv ≡ None → layer_fault l ≡ None
+    → slices_of (doubled vg ++ 45 ∷ (doubled lv ++ behind_hyphen (option_map doubled l))) ≡ Some (record { vg = doubled vg; lv = doubled lv; layer = option_map doubled l })
+joined_slices vg lv l a b c =
+    let end = behind_hyphen (option_map doubled l) in
+    let rest = doubled lv ++ end in
+    let name = doubled vg ++ 45 ∷ rest in
+    let first : IsEnd (45 ∷ rest) = (refl, no_hyphen lv end b) in
+    ap (λ (x : Option (List ℕ)). option_and_then (λ (r : List ℕ). with_layer (head_of name) (head_of r) (tail_of r)) x) (cut_tail vg (45 ∷ rest) first)
+    ∙ ap (λ (x : List ℕ). with_layer x (head_of rest) (tail_of rest)) (cut_head vg (45 ∷ rest) first)
+    ∙ ap (λ (x : List ℕ). with_layer (doubled vg) x (tail_of rest)) (cut_head lv end (layer_end l c))
+    ∙ ap (λ (x : Option (List ℕ)). with_layer (doubled vg) (doubled lv) x) (cut_tail lv end (layer_end l c))
+    ∙ layer_slices (doubled vg) (doubled lv) l
+
+built_slices : (p : NameParts) (name : List ℕ) → Builds p name → slices_of name ≡ Some (doubled_parts p)
+built_slices p name h =
+    let w = or_none (parts_faults p) (long_fault p) (sym (fault_parts p) ∙ h.0) in
+    let v = or_none (part_fault p.vg) (or_later (part_fault p.lv) (layer_fault p.layer)) w.0 in
+    let l = or_none (part_fault p.lv) (layer_fault p.layer) v.1 in
+    ap slices_of (sym h.1) ∙ joined_slices p.vg p.lv p.layer v.0 l.0 l.1
+
+abbrev undoubled_parts : NameParts → NameParts
+undoubled_parts p = record { vg = undoubled p.vg; lv = undoubled p.lv; layer = option_map undoubled p.layer }
+
+layer_back : (l : Option (List ℕ)) → option_map undoubled (option_map doubled l) ≡ l
+layer_back None = refl
+layer_back (Some l) = ap (λ (x : List ℕ). Some x) (undoubled-doubled l)
+
+parts_back : (p : NameParts) → undoubled_parts (doubled_parts p) ≡ p
+parts_back p =
+    ap (λ (x : List ℕ). let q : NameParts = record { vg = x; lv = undoubled (doubled p.lv); layer = option_map undoubled (option_map doubled p.layer) } in q) (undoubled-doubled p.vg)
+    ∙ ap (λ (x : List ℕ). let q : NameParts = record { vg = p.vg; lv = x; layer = option_map undoubled (option_map doubled p.layer) } in q) (undoubled-doubled p.lv)
+    ∙ ap (λ (x : Option (List ℕ)). let q : NameParts = record { vg = p.vg; lv = p.lv; layer = x } in q) (layer_back p.layer)
+
+-- The clauses
+
+pub one_split : (name : List ℕ) (p q : NameParts) → Builds p name → Builds q name → p ≡ q
+one_split name p q h k =
+    let same : doubled_parts p ≡ doubled_parts q = same_Some _ _ (sym (built_slices p name h) ∙ built_slices q name k) in
+    sym (parts_back p) ∙ ap undoubled_parts same ∙ parts_back q
+
+pub none_sliced : (name : List ℕ) → None ≡ slices_of name → (p : NameParts) → ¬ (Builds p name)
+none_sliced name e p h = let wrong : ◌≡◌ {A = Option NameParts} None (Some (doubled_parts p)) = e ∙ built_slices p name h in absurd cc
+
+pub none_faulty : (name : List ℕ) (s : NameParts) (f : Option NameFault) → Some s ≡ slices_of name → f ≡ parts_faults s → is_none f ≡ false → (p : NameParts) → ¬ (Builds p name)
+none_faulty name s None e is n p h = absurd cc
+none_faulty name s (Some f) e is n p h =
+    let same : s ≡ doubled_parts p = same_Some _ _ (e ∙ built_slices p name h) in
+    let w = or_none (parts_faults p) (long_fault p) (sym (fault_parts p) ∙ h.0) in
+    let wrong : Some f ≡ None = is ∙ ap parts_faults same ∙ parts-doubled p ∙ w.0 in
+    absurd cc
+
+long_none : (n : ℕ) (b : Bool) → nat_le n 127 ≡ b → cond b None (Some Long) ≡ None → n ≤ 127
+long_none n true e h = leb-true n 127 e
+long_none n false e h = absurd cc
+
+pub none_long : (name : List ℕ) → 127 < length name → (p : NameParts) → ¬ (Builds p name)
+none_long name lt p h =
+    let w = or_none (parts_faults p) (long_fault p) (sym (fault_parts p) ∙ h.0) in
+    let le : length (joined p) ≤ 127 = long_none (length (joined p)) _ refl w.1 in
+    let same : length (joined p) ≡ length name = ap length h.1 in
+    absurd (omega arith)
+
+pub some_split : (name : List ℕ) (s : NameParts) (f : Option NameFault) → Some s ≡ slices_of name → f ≡ parts_faults s → is_none f ≡ true → length name ≤ 127 → IsSplit name s
+some_split name s (Some f) e is n le = absurd cc
+some_split name s None e is n le =
+    let d = sliced name s (sym e) in
+    let short : long_fault d.parts ≡ None = ap (λ (x : Bool). cond x None (Some Long)) (le-leb (length (joined d.parts)) 127 (subst (λ (xs : List ℕ). length xs ≤ 127) d.spell le)) in
+    let fine : parts_faults d.parts ≡ None = sym (parts-doubled d.parts) ∙ ap parts_faults (sym d.are) ∙ sym is in
+    (d.parts, (fault_parts d.parts ∙ ap (λ (x : Option NameFault). or_later x (long_fault d.parts)) fine ∙ short, sym d.spell), d.are)
+
+-- Undoubling
+
+apart_undoubled : (x : ℕ) (zs : List ℕ) → ((rest : List ℕ) → x ∷ zs ≢ 45 ∷ 45 ∷ rest) → undoubled (x ∷ zs) ≡ x ∷ undoubled zs
+apart_undoubled x [] h = refl
+apart_undoubled x (y ∷ zs) h =
+    cond_elim (eqb x 45 && eqb y 45) (λ (r : List ℕ). r ≡ x ∷ undoubled (y ∷ zs)) (45 ∷ undoubled zs) (x ∷ undoubled (y ∷ zs))
+    (λ e. let both = and_parts (eqb x 45) (eqb y 45) e in absurd (h zs (ap (λ n. n ∷ y ∷ zs) (eqb-true x 45 both.0) ∙ ap (λ n. 45 ∷ n ∷ zs) (eqb-true y 45 both.1))))
+    (λ e. refl)
+
+undoubled_pair : (xs ys : List ℕ) → ((i : ℕ) → i < length xs → LacksTextAt (45 ∷ 45 ∷ []) (xs ++ 45 ∷ 45 ∷ ys) i) → undoubled (xs ++ 45 ∷ 45 ∷ ys) ≡ xs ++ 45 ∷ undoubled ys
+undoubled_pair [] ys h = refl
+undoubled_pair (x ∷ xs) ys h =
+    apart_undoubled x (xs ++ 45 ∷ 45 ∷ ys) (h 0 (omega arith))
+    ∙ ap (λ (zs : List ℕ). x ∷ zs) (undoubled_pair xs ys (λ i lt. h (suc i) (omega (arith, lt))))
+
+pub undoubled_none : (bs : List ℕ) → ((i : ℕ) → i ≤ length bs → LacksTextAt (45 ∷ 45 ∷ []) bs i) → undoubled bs ≡ bs
+undoubled_none [] h = refl
+undoubled_none (x ∷ bs) h =
+    apart_undoubled x bs (h 0 (omega arith)) ∙ ap (λ (zs : List ℕ). x ∷ zs) (undoubled_none bs (λ i le. h (suc i) (omega (arith, le))))
+
+pub undoubled_step : (s before after : List ℕ) (i j : ℕ) → ((k : ℕ) → k < i → LacksTextAt (45 ∷ 45 ∷ []) s k) → HasTextAt (45 ∷ 45 ∷ []) s i j → before ≡ take i s → after ≡ drop j s → length before ≡ i → undoubled s ≡ before ++ 45 ∷ undoubled after
+undoubled_step s before after i j lacks has b a n =
+    let whole : s ≡ before ++ 45 ∷ 45 ∷ after =
+    sym (take-append-drop i s) ∙ ap (λ (z : List ℕ). z ++ drop i s) (sym b) ∙ ap (λ (z : List ℕ). before ++ z) (has.split ∙ ap (λ (z : List ℕ). 45 ∷ 45 ∷ z) (sym a)) in
+    let clear : (k : ℕ) → k < length before → LacksTextAt (45 ∷ 45 ∷ []) (before ++ 45 ∷ 45 ∷ after) k = λ k lt. subst (λ (z : List ℕ). LacksTextAt (45 ∷ 45 ∷ []) z k) whole (lacks k (omega (arith, lt, n))) in
+    ap undoubled whole ∙ undoubled_pair before after clear
+
+pub undoubled_joined : (all whole rest before after one two : List ℕ) → all ≡ whole ++ rest → rest ≡ before ++ 45 ∷ after → one ≡ whole ++ before → two ≡ one ++ 45 ∷ [] → all ≡ two ++ after
+undoubled_joined all whole rest before after one two a r o t =
+    a ∙ ap (λ (z : List ℕ). whole ++ z) r ∙ sym (append_assoc whole before (45 ∷ after)) ∙ ap (λ (z : List ℕ). z ++ 45 ∷ after) (sym o)
+    ∙ sym (append_assoc one (45 ∷ []) after) ∙ ap (λ (z : List ℕ). z ++ after) (sym t)

@@ -1,0 +1,7 @@
+use Rattle.std.proofs.Common.{◌≡◌, ◌++◌, take}
+use Rattle.std.specs.String.{string_bytes}
+use Rattle.lvm_volume.specs.Names.{doubled}
+use Rattle.lvm_volume.proofs.names.push_doubled.Given as goal
+
+abbrev pub invariant-loop-byte : goal.invariant-loop-byte
+invariant-loop-byte l = string_bytes l.text ≡ string_bytes l.initial.text ++ doubled (take l.byte-index l.byte-items)

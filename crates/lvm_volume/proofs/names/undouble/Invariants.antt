@@ -1,0 +1,12 @@
+use Rattle.std.proofs.Common.{◌≡◌, ◌++◌, length}
+use Rattle.std.specs.String.{string_bytes}
+use Rattle.lvm_volume.specs.Names.{undoubled}
+use Rattle.lvm_volume.proofs.names.undouble.Given as goal
+use denote.Shadow.{shadow}
+use denote.Text.{Utf8}
+
+abbrev pub invariant-loop-before : goal.invariant-loop-before
+invariant-loop-before l = (undoubled l.fn.text ≡ string_bytes l.whole ++ undoubled l.rest) × shadow (Utf8 l.rest)
+
+abbrev pub decreases-loop-before : goal.decreases-loop-before
+decreases-loop-before l = length l.rest

@@ -1,0 +1,219 @@
+//! Names of volumes: a group, a volume and perhaps a layer, with each hyphen of a part doubled, joined by hyphens.
+//! So the one hyphen that ends a part is told from those inside it, and a name splits in one way: that is a clause
+//! of `split_name`. What a part may be is changed in `specs/Names` first.
+
+ghost use Rattle.std.specs.Prelude.{◌≡◌, ℕ, ◌++◌, List, IfOk, IfSome, IfNone, OnOk, option_map, IsTrue};
+ghost use Rattle.std.specs.List.{list_all};
+ghost use Rattle.std.specs.String.{string_bytes};
+ghost use Rattle.lvm_volume.specs.Names.{NameParts, is_letter, begins_with, part_fault, layer_fault, or_later, doubled, undoubled, joined, built, Returns, Builds, IsSplit, parts_view};
+ghost use Rattle.lvm_volume.specs.Cuts.{head_length, head_of, tail_of, slices_of};
+
+use crate::fault::NameFault;
+use dm_table::{CheckFault, Name};
+use std::alloc::{AllocError, Global};
+
+/// The parts of a name, as slices of it: their hyphens are doubled.
+#[derive(Clone, Copy, Debug, PartialEq, Eq)]
+pub struct Parts<'a> {
+    pub vg: &'a str,
+    pub lv: &'a str,
+    pub layer: Option<&'a str>,
+}
+
+fn is_letter(byte: u8) -> bool
+    ensures { result ≡ is_letter byte }
+{
+    byte.is_ascii_alphanumeric() || matches!(byte, b'+' | b'_' | b'.' | b'-')
+}
+
+fn begins_with(part: &[u8], byte: u8) -> bool
+    ensures { result ≡ begins_with byte part.now }
+{
+    !part.is_empty() && part[0] == byte
+}
+
+fn are_letters(part: &[u8]) -> bool
+    ensures { result ≡ list_all is_letter part.now }
+{
+    part.iter().all(|byte| is_letter(*byte))
+}
+
+/// What is wrong with a group or a volume.
+fn part_fault(part: &[u8]) -> Option<NameFault>
+    ensures { result ≡ part_fault part.now }
+{
+    if part.is_empty() {
+        return Some(NameFault::Empty);
+    }
+    if !are_letters(part) {
+        return Some(NameFault::Letter);
+    }
+    if begins_with(part, b'-') {
+        Some(NameFault::HyphenFirst)
+    } else {
+        None
+    }
+}
+
+/// What is wrong with a layer.
+fn layer_fault(layer: Option<&str>) -> Option<NameFault>
+    ensures { result ≡ layer_fault (option_map (λ l. l.now) layer.entry) }
+{
+    let bytes = layer?.as_bytes();
+    if begins_with(bytes, b'_') {
+        Some(NameFault::Letter)
+    } else {
+        part_fault(bytes)
+    }
+}
+
+/// The first fault of the parts in their order.
+fn parts_fault(vg: &str, lv: &str, layer: Option<&str>) -> Option<NameFault>
+    ensures { result ≡ or_later (part_fault vg.now) (or_later (part_fault lv.now) (layer_fault (option_map (λ l. l.now) layer.entry))) }
+{
+    if let Some(fault) = part_fault(vg.as_bytes()) {
+        return Some(fault);
+    }
+    if let Some(fault) = part_fault(lv.as_bytes()) {
+        return Some(fault);
+    }
+    layer_fault(layer)
+}
+
+/// Adds a part with each hyphen doubled.
+fn push_doubled(text: &mut String, part: &str) -> Result<(), AllocError>
+    requires { IsTrue (list_all is_letter part.now) }
+    ensures { OnOk result (string_bytes text.new ≡ string_bytes text.old ++ doubled part.now) }
+{
+    for byte in part.as_bytes() {
+        text.push(*byte as char)?;
+        if *byte == b'-' {
+            text.push('-')?;
+        }
+    }
+    Ok(())
+}
+
+/// The parts with their hyphens doubled, joined by one hyphen.
+fn joined(alloc: Global, vg: &str, lv: &str, layer: Option<&str>) -> Result<String, AllocError>
+    requires vg { IsTrue (list_all is_letter vg.now) }
+    requires lv { IsTrue (list_all is_letter lv.now) }
+    requires layer { IfSome layer (λ l. IsTrue (list_all is_letter l.now)) }
+    ensures { IfOk result (λ text. string_bytes text ≡ joined (record { vg = vg.now; lv = lv.now; layer = option_map (λ l. l.now) layer.entry })) }
+{
+    let mut text = String::new(alloc);
+    push_doubled(&mut text, vg)?;
+    text.push('-')?;
+    push_doubled(&mut text, lv)?;
+    if let Some(layer) = layer {
+        text.push('-')?;
+        push_doubled(&mut text, layer)?;
+    }
+    Ok(text)
+}
+
+/// The device mapper's name of a volume, or of a layer of it.
+///
+/// The parts are checked in their order, each whether it is empty (`Empty`), has a byte that no part has
+/// (`Letter`, also for a layer that begins with an underscore) and begins with a hyphen (`HyphenFirst`); then the
+/// whole for more than 127 bytes (`Long`). `Memory` is returned only where a growth was refused.
+/// Source: lvm(8), "Valid names"; which letters a part has there is this project's profile.
+pub fn build_name(alloc: Global, vg: &str, lv: &str, layer: Option<&str>) -> Result<Name, NameFault>
+    ensures { Returns result (built (record { vg = vg.now; lv = lv.now; layer = option_map (λ l. l.now) layer.entry })) }
+{
+    if let Some(fault) = parts_fault(vg, lv, layer) {
+        return Err(fault);
+    }
+    let text = joined(alloc, vg, lv, layer)?;
+    // Each letter is one of a device's name, so its length alone can be wrong.
+    match Name::new(alloc, text.as_str()) {
+        Ok(name) => Ok(name),
+        Err(CheckFault::Form) => Err(NameFault::Long),
+        Err(CheckFault::Memory) => Err(NameFault::Memory),
+    }
+}
+
+/// How many bytes of a name stand before the first hyphen that no other pairs with.
+fn head_length(bytes: &[u8]) -> usize
+    ensures { result ≡ head_length bytes.now }
+{
+    let mut at = 0;
+    while at < bytes.len() {
+        if bytes[at] != b'-' {
+            at += 1;
+        } else if at + 1 < bytes.len() && bytes[at + 1] == b'-' {
+            at += 2;
+        } else {
+            return at;
+        }
+    }
+    at
+}
+
+/// The part at the front of a name, and what stands behind the hyphen that ends it, if one does.
+fn cut(name: &str) -> (&str, Option<&str>)
+    ensures head { result.0.now ≡ head_of name.now }
+    ensures tail { option_map (λ t. t.now) result.1 ≡ tail_of name.now }
+{
+    let (head, rest) = name.split_at(head_length(name.as_bytes()));
+    (head, rest.strip_prefix('-'))
+}
+
+/// The slices of a name that are a group, a volume and perhaps a layer, whatever is wrong with them.
+fn slices_of(name: &str) -> Option<Parts<'_>>
+    ensures { option_map parts_view result ≡ slices_of name.now }
+{
+    let (vg, rest) = cut(name);
+    let (lv, rest) = cut(rest?);
+    let Some(rest) = rest else {
+        return Some(Parts {
+            vg,
+            lv,
+            layer: None,
+        });
+    };
+    let (layer, more) = cut(rest);
+    if more.is_some() {
+        return None;
+    }
+    Some(Parts {
+        vg,
+        lv,
+        layer: Some(layer),
+    })
+}
+
+/// The parts of a name, as slices of it with their hyphens doubled, and `None` exactly where no parts build it.
+/// `undouble` gives each part back. Takes no memory.
+///
+/// Source: dmsetup(8), splitname.
+pub fn split_name(name: &str) -> Option<Parts<'_>>
+    ensures some { IfSome result (λ slices. IsSplit name.now (parts_view slices)) }
+    ensures none { IfNone result ((p : NameParts) → ¬ (Builds p name.now)) }
+    // A name splits in one way.
+    ensures one { (p q : NameParts) → Builds p name.now → Builds q name.now → p ≡ q }
+{
+    let parts = slices_of(name)?;
+    if name.len() <= 127 && parts_fault(parts.vg, parts.lv, parts.layer).is_none() {
+        Some(parts)
+    } else {
+        None
+    }
+}
+
+/// A text in which, from the left, each two neighbouring hyphens have become one: of a slice of a name, its part.
+/// Fails only where a growth was refused.
+pub fn undouble(alloc: Global, text: &str) -> Result<String, AllocError>
+    ensures text { IfOk result (λ s. string_bytes s ≡ undoubled text.now) }
+    ensures part { (part : List ℕ) → text.now ≡ doubled part → IfOk result (λ s. string_bytes s ≡ part) }
+{
+    let mut whole = String::new(alloc);
+    let mut rest = text;
+    while let Some((before, after)) = rest.split_once("--") {
+        whole.push_str(before)?;
+        whole.push('-')?;
+        rest = after;
+    }
+    whole.push_str(rest)?;
+    Ok(whole)
+}

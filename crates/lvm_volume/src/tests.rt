@@ -1,0 +1,93 @@
+//! Rows of names: each public call answers here with memory at hand.
+
+use crate::{NameFault, build_name, split_name, undouble};
+use std::alloc::Global;
+use std::process::Abort;
+use std::test::Fail;
+
+const PART_OF_63: &str = "abcdefghijklmnopqrstuvwxyzabcdefghijklmnopqrstuvwxyz01234567890";
+
+const PART_OF_64: &str = "abcdefghijklmnopqrstuvwxyzabcdefghijklmnopqrstuvwxyz012345678901";
+
+#[test]
+fn built(rt: HostRuntime) -> Result<(), Fail> {
+    for (vg, lv, layer, name) in [
+        ("a-", "b", None, Ok("a---b")),
+        ("vg0", "lv-1", None, Ok("vg0-lv--1")),
+        ("vg", "lv", Some("real"), Ok("vg-lv-real")),
+        ("A.b+c_d", "9--", Some("x-"), Ok("A.b+c_d-9-----x--")),
+        ("a", "-b", None, Err(NameFault::HyphenFirst)),
+        ("a", "", None, Err(NameFault::Empty)),
+        ("a/b", "-b", None, Err(NameFault::Letter)),
+        ("", "b/", None, Err(NameFault::Empty)),
+        ("a", "b", Some("_tdata"), Err(NameFault::Letter)),
+        ("a", "_b", None, Ok("a-_b")),
+        ("a", "é", None, Err(NameFault::Letter)),
+        (PART_OF_64, PART_OF_63, None, Err(NameFault::Long)),
+        (PART_OF_64, "-", None, Err(NameFault::HyphenFirst)),
+    ] {
+        match (build_name(rt.alloc(), vg, lv, layer), name) {
+            (Ok(built), Ok(name)) => assert_eq!(rt; built.as_str(), name),
+            (Err(fault), Err(wanted)) => assert_eq!(rt; fault, wanted),
+            (_, _) => return Err("another answer".into()),
+        }
+    }
+    let longest = build_name(rt.alloc(), PART_OF_63, PART_OF_63, None)?;
+    assert_eq!(rt; longest.as_str().len(), 127);
+    Ok(())
+}
+
+/// The parts of a name with single spaces, if it has parts.
+fn parts_of(alloc: Global, name: &str) -> Result<Option<String>, Fail> {
+    let Some(parts) = split_name(name) else {
+        return Ok(None);
+    };
+    let vg = undouble(alloc, parts.vg)?;
+    let lv = undouble(alloc, parts.lv)?;
+    let mut text = format!(in alloc; "{vg} {lv}")?;
+    if let Some(layer) = parts.layer {
+        text.push_str(" ")?;
+        text.push_str(undouble(alloc, layer)?.as_str())?;
+    }
+    Ok(Some(text))
+}
+
+#[test]
+fn split(rt: HostRuntime) -> Result<(), Fail> {
+    for (name, wanted) in [
+        ("a---b", Some("a- b")),
+        ("a-b--c-d", Some("a b-c d")),
+        ("a-----b", Some("a-- b")),
+        ("vg0-lv0", Some("vg0 lv0")),
+        ("a--b", None),
+        ("a-b-c-d", None),
+        ("a-b-_c", None),
+        ("a-", None),
+        ("-a-b", None),
+        ("a-b/c", None),
+        ("", None),
+    ] {
+        let parts = parts_of(rt.alloc(), name)?;
+        assert_eq!(rt;
+            parts.as_ref().map(|parts| parts.as_str()),
+            wanted,
+            "{name}"
+        );
+    }
+    Ok(())
+}
+
+#[test]
+fn undoubled(rt: HostRuntime) -> Result<(), Fail> {
+    for (text, wanted) in [("", ""), ("a---b", "a--b"), ("----", "--"), ("é--", "é-")] {
+        assert_eq!(rt; undouble(rt.alloc(), text)?.as_str(), wanted);
+    }
+    Ok(())
+}
+
+#[test]
+fn messages(rt: HostRuntime) -> Result<(), Fail> {
+    let text = NameFault::Long.to_string(rt.alloc())?;
+    assert_eq!(rt; text.as_str(), "more than 127 bytes");
+    Ok(())
+}
