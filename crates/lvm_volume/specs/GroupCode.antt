@@ -4,6 +4,9 @@ use Rattle.std.specs.Ordering.{nat_cmp}
 use Rattle.std.specs.Cmp.Lexicographic.{slice_cmp}
 use Rattle.std.specs.BTreeMap.{BTreeMap, get_by}
 use Rattle.lvm_volume.specs.Group.{place_from}
+use Rattle.lvm_volume.specs.declared.volume_group.Parts.{Parts}
+use Rattle.lvm_volume.specs.declared.physical.Physical.{Physical}
+use Rattle.lvm_volume.specs.declared.volume.Volume.{Volume}
 use denote.Ref.{Bor}
 
 -- what slices point to
@@ -17,3 +20,7 @@ Finds index first keys = (key : List ℕ) → get_by (λ k. slice_cmp nat_cmp ke
 -- the map has how often each text is among these
 abbrev pub Counts : BTreeMap (Bor (List ℕ)) ℕ → List (List ℕ) → Type 0
 Counts counts texts = (text : List ℕ) → unwrap_or (get_by (λ k. slice_cmp nat_cmp text k.now) counts) 0 ≡ count_by (λ other. bytes_eq text other) texts
+
+-- the parts of a group
+abbrev pub parts_view : Parts → List Physical × List Volume
+parts_view parts = (parts.physicals.items, parts.volumes.items)

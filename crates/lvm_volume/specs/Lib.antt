@@ -5,3 +5,4 @@ pub mod GroupCode
 pub mod Extents
 pub mod Used
 pub mod Cuts
+pub mod Tables

@@ -18,6 +18,7 @@ mod unknown;
 mod used;
 mod value;
 mod volume;
+mod volume_group;
 mod walk;
 mod names;
 #[cfg(test)]
@@ -25,3 +26,4 @@ mod tests;
 
 pub use fault::NameFault;
 pub use names::{Parts, build_name, split_name, undouble};
+pub use volume_group::VolumeGroup;
