@@ -5,3 +5,6 @@ pub mod StripeLemmas
 pub mod UsedLemmas
 pub mod HoldLemmas
 pub mod Splits
+pub mod FaultKinds
+pub mod Sound
+pub mod GroupLemmas

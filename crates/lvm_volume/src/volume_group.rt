@@ -4,7 +4,7 @@
 //! in sectors, and stripes of physical volumes that are there. A new check takes its place here and in
 //! `group_checks` of `specs/Tables.antt`.
 
-ghost use Rattle.std.specs.Prelude.{◌≡◌, ◌∷◌, [], ℕ, List, None, IfOk, codes, map};
+ghost use Rattle.std.specs.Prelude.{◌≡◌, ◌∷◌, [], ℕ, List, None, IfOk, codes, length, map};
 ghost use Rattle.lvm_text.specs.Tree as tree;
 ghost use Rattle.lvm_text.specs.Iterate.{item_view};
 ghost use Rattle.dm_table.specs.LoadFault.{Answers, first_fault, first_or, unless};
@@ -80,11 +80,17 @@ impl VolumeGroup {
         let Ok(sections) = sections_of(alloc, top) else {
             return Err(LoadFault::memory(Part::Source));
         };
-        match sections.as_slice() {
-            [group] => read_group(alloc, top, group.0, group.1),
-            _ => unreachable!(),
-        }
+        let (key, group) = only(&sections);
+        read_group(alloc, top, key, group)
     }
+}
+
+/// The one section of a list.
+fn only<'s, 'a>(sections: &[(&'a str, &'s Section<'a>)]) -> (&'a str, &'s Section<'a>)
+    requires { length sections.now ≡ 1 }
+    ensures { map item_view sections.now ≡ item_view result ∷ [] }
+{
+    sections[0]
 }
 
 /// The group of a section, by the checks after the one of fields.
