@@ -214,7 +214,7 @@ below_limit : (n : ℕ) → n ≤ most → n < 2 ^ 64
 below_limit n h = omega (arith, h)
 
 stripe_offset : (start extent extents size : ℕ) → start ≤ most → extent ≤ extents → extents * size ≤ most → start + extent * size < 2 ^ 64
-stripe_offset start extent extents size low within_it sectors = omega (arith, low, sectors, mul-le-mul_right extent extents size within_it)
+stripe_offset start extent extents size low within_it sectors = omega (arith, low, sectors, mul-le-mul_right size within_it)
 
 sound_stripes : (size : ℕ) (physicals : List Physical) (stripes : List Stripe) → AllByRecursion (IsSmall size) physicals → AllByRecursion (λ stripe. stripe.physical < length physicals) stripes → AllByRecursion (λ stripe. stripe.extent ≤ extents_at physicals stripe.physical) stripes → AllByRecursion (IsStripeIn size physicals) stripes
 sound_stripes size physicals [] few known begins = tt

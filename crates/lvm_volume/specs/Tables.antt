@@ -1,10 +1,10 @@
 -- The checks of a group in their order, and the devices and disks that a group is.
-use Rattle.std.specs.Prelude.{◌≡◌, ℕ, ◌+◌, ◌*◌, ◌^◌, ◌<◌, Bool, List, [], ◌∷◌, ◌++◌, None, codes, is_some, length, map, slice_index_or}
+use Rattle.std.specs.Prelude.{ℕ, ◌+◌, ◌*◌, ◌^◌, ◌<◌, List, [], ◌∷◌, ◌++◌, None, Result, is_some, length, map, slice_index_or}
 use Rattle.std.specs.List.{flat_map, AllByRecursion}
-use Rattle.lvm_text.specs.Tree.{Tree, sections_of}
+use Rattle.lvm_text.specs.Tree.{Tree}
 use Rattle.dm_table.specs.declared.place.Part.TheVariants.{Source}
 use Rattle.dm_table.specs.declared.place.Place.{Place}
-use Rattle.dm_table.specs.declared.load_fault.LoadKind.TheVariants.{Name}
+use Rattle.dm_table.specs.declared.load_fault.LoadKind.TheVariants.{Deep, Field, Memory, Name, Syntax, Twice}
 use Rattle.dm_table.specs.declared.load_fault.LoadFault.{LoadFault}
 use Rattle.dm_table.specs.declared.table.DevRef.TheVariants as refs
 use Rattle.dm_table.specs.declared.table.Column.{Column}
@@ -13,6 +13,9 @@ use Rattle.dm_table.specs.declared.table.Target.TheVariants as targets
 use Rattle.dm_table.specs.declared.table.Line.{Line}
 use Rattle.dm_table.specs.declared.table.DeviceSpec.{DeviceSpec}
 use Rattle.dm_table.specs.declared.disk.Disk.{Disk}
+use Rattle.dm_table.specs.LoadFault.{fault_at, first_or, unless}
+use Rattle.lvm_text.specs.declared.fault.TextFault.{TextFault}
+use Rattle.lvm_text.specs.declared.fault.TextFault.TheVariants as texts
 use Rattle.lvm_volume.specs.declared.segment.Stripe.{Stripe}
 use Rattle.lvm_volume.specs.declared.segment.SegmentType.{SegmentType}
 use Rattle.lvm_volume.specs.declared.segment.SegmentType.TheVariants.{Zero, Error, Striped}
@@ -21,7 +24,7 @@ use Rattle.lvm_volume.specs.declared.volume.Volume.{Volume}
 use Rattle.lvm_volume.specs.declared.physical.Physical.{Physical}
 use Rattle.lvm_volume.specs.declared.check.Check.TheVariants.{Fields, Limits}
 use Rattle.lvm_volume.specs.Names.{NameParts, fault_of, joined}
-use Rattle.lvm_volume.specs.Fields.{faults_of_fields, number_at}
+use Rattle.lvm_volume.specs.Fields.{faults_of_fields}
 use Rattle.lvm_volume.specs.Group.{Group, group_of}
 use Rattle.lvm_volume.specs.Extents.{hit, name_faults, size_faults, stripes_of, unknown_faults, volume_faults}
 
@@ -113,3 +116,18 @@ pub record IsSegmentIn (extent_size : ℕ) (physicals : List Physical) (segment 
 
 pub record IsSoundGroup (group : Group) : Type 0 where
   pub volumes : AllByRecursion (λ volume. AllByRecursion (IsSegmentIn group.extent_size group.physicals) volume.segments) group.volumes
+
+-- the name of a volume's device, or the fault where none is built
+abbrev pub named_or : List ℕ → Volume → Result (List ℕ) LoadFault
+named_or group volume =
+    let parts : NameParts = record { vg = group; lv = volume.name; layer = None } in
+    unless (first_or (hit (is_some (fault_of parts)) Name volume.line) None) (joined parts)
+
+-- Faults of a metadata text, as faults of a load
+abbrev pub text_fault : TextFault → LoadFault
+text_fault (texts.Token line) = fault_at Source Syntax line
+text_fault (texts.Syntax line) = fault_at Source Syntax line
+text_fault (texts.KeyTwice line) = fault_at Source Twice line
+text_fault (texts.Deep line) = fault_at Source Deep line
+text_fault (texts.Number line) = fault_at Source Field line
+text_fault texts.Memory = fault_at Source Memory 0

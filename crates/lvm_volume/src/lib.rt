@@ -9,21 +9,23 @@ mod extents;
 mod fault;
 mod field;
 mod fits;
-
 mod key;
+mod names;
 mod physical;
 mod places;
+mod refused_text;
 mod segment;
+mod tables;
+#[cfg(test)]
+mod tests;
 mod unknown;
 mod used;
 mod value;
 mod volume;
 mod volume_group;
 mod walk;
-mod names;
-#[cfg(test)]
-mod tests;
 
 pub use fault::NameFault;
 pub use names::{Parts, build_name, split_name, undouble};
+pub use refused_text::text_fault;
 pub use volume_group::VolumeGroup;
