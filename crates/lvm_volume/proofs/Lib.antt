@@ -8,3 +8,4 @@ pub mod Splits
 pub mod FaultKinds
 pub mod Sound
 pub mod GroupLemmas
+pub mod NamedLemmas

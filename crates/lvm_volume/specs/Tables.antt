@@ -1,5 +1,5 @@
 -- The checks of a group in their order, and the devices and disks that a group is.
-use Rattle.std.specs.Prelude.{ℕ, ◌+◌, ◌*◌, ◌^◌, ◌<◌, List, [], ◌∷◌, ◌++◌, None, Result, is_some, length, map, slice_index_or}
+use Rattle.std.specs.Prelude.{ℕ, ◌+◌, ◌*◌, ◌^◌, ◌<◌, List, [], ◌∷◌, ◌++◌, None, is_some, length, map, slice_index_or}
 use Rattle.std.specs.List.{flat_map, AllByRecursion}
 use Rattle.lvm_text.specs.Tree.{Tree}
 use Rattle.dm_table.specs.declared.place.Part.TheVariants.{Source}
@@ -13,7 +13,7 @@ use Rattle.dm_table.specs.declared.table.Target.TheVariants as targets
 use Rattle.dm_table.specs.declared.table.Line.{Line}
 use Rattle.dm_table.specs.declared.table.DeviceSpec.{DeviceSpec}
 use Rattle.dm_table.specs.declared.disk.Disk.{Disk}
-use Rattle.dm_table.specs.LoadFault.{fault_at, first_or, unless}
+use Rattle.dm_table.specs.LoadFault.{fault_at}
 use Rattle.lvm_text.specs.declared.fault.TextFault.{TextFault}
 use Rattle.lvm_text.specs.declared.fault.TextFault.TheVariants as texts
 use Rattle.lvm_volume.specs.declared.segment.Stripe.{Stripe}
@@ -80,15 +80,16 @@ line_of extent_size physicals segment = record {
   at = place_at segment.line;
 }
 
--- what the name of a volume is built of
-abbrev pub name_parts : Group → Volume → NameParts
-name_parts group volume = record { vg = group.name; lv = volume.name; layer = None }
+-- what the name of a volume of a group is built of
+abbrev pub volume_parts : List ℕ → Volume → NameParts
+volume_parts group volume = record { vg = group; lv = volume.name; layer = None }
 
-unfoldable pub device_of : Group → Volume → DeviceSpec
-device_of group volume = record {
-  name = joined (name_parts group volume);
+-- the device of a volume, in a group of this name
+unfoldable pub device_in : List ℕ → ℕ → List Physical → Volume → DeviceSpec
+device_in group extent_size physicals volume = record {
+  name = joined (volume_parts group volume);
   ro = volume.ro;
-  lines = map (line_of group.extent_size group.physicals) volume.segments;
+  lines = map (line_of extent_size physicals) volume.segments;
   at = place_at volume.line;
 }
 
@@ -96,12 +97,15 @@ unfoldable pub disk_of : Physical → Disk
 disk_of physical = record { name = physical.disk; len = physical.size; at = place_at physical.line }
 
 -- a volume of whose group and key no name is built
+unfoldable pub unnamed_volume : List ℕ → Volume → List LoadFault
+unnamed_volume group volume = hit (is_some (fault_of (volume_parts group volume))) Name volume.line
+
 abbrev pub unnamed : Group → List LoadFault
-unnamed group = flat_map (λ volume. hit (is_some (fault_of (name_parts group volume))) Name volume.line) group.volumes
+unnamed group = flat_map (unnamed_volume group.name) group.volumes
 
 -- the devices and the disks of a group
 abbrev pub tables_of : Group → List DeviceSpec × List Disk
-tables_of group = (map (device_of group) group.volumes, map disk_of group.physicals)
+tables_of group = (map (device_in group.name group.extent_size group.physicals) group.volumes, map disk_of group.physicals)
 
 -- What checks leave: numbers that fit 64 bits in sectors, and stripes of physical volumes that are there
 
@@ -116,12 +120,6 @@ pub record IsSegmentIn (extent_size : ℕ) (physicals : List Physical) (segment 
 
 pub record IsSoundGroup (group : Group) : Type 0 where
   pub volumes : AllByRecursion (λ volume. AllByRecursion (IsSegmentIn group.extent_size group.physicals) volume.segments) group.volumes
-
--- the name of a volume's device, or the fault where none is built
-abbrev pub named_or : List ℕ → Volume → Result (List ℕ) LoadFault
-named_or group volume =
-    let parts : NameParts = record { vg = group; lv = volume.name; layer = None } in
-    unless (first_or (hit (is_some (fault_of parts)) Name volume.line) None) (joined parts)
 
 -- Faults of a metadata text, as faults of a load
 abbrev pub text_fault : TextFault → LoadFault

@@ -3,15 +3,15 @@
 //! What the checks of a group left makes each product fit and each look-up succeed, so nothing here is refused but a
 //! name. A new type of segment is an arm in `line_target`, here and in `specs/Tables.antt`.
 
-ghost use Rattle.std.specs.Prelude.{◌≡◌, ◌+◌, ◌*◌, ◌^◌, ◌<◌, ◌≤◌, None, Some, IfOk, length, map};
-ghost use Rattle.std.specs.List.{AllByRecursion};
-ghost use Rattle.dm_table.specs.LoadFault.{Answers, first_or, unless};
+ghost use Rattle.std.specs.Prelude.{◌≡◌, ◌≢◌, None, IfOk, map};
+ghost use Rattle.std.specs.List.{AllByRecursion, flat_map};
+ghost use Rattle.dm_table.specs.LoadFault.{Answers, fault_at, first_or, unless};
+ghost use Rattle.dm_table.specs.declared.load_fault.LoadKind.TheVariants as loads;
+ghost use Rattle.lvm_volume.specs.declared.fault.NameFault.TheVariants as names;
 ghost use Rattle.dm_table.specs.declared.place.Part.TheVariants.{Source};
 ghost use Rattle.lvm_volume.specs.Extents.{stripes_of};
-ghost use Rattle.lvm_volume.specs.Group.{Group};
-ghost use Rattle.lvm_volume.specs.Names.{built, joined};
-ghost use Rattle.lvm_volume.specs.Tables as spec;
-ghost use Rattle.lvm_volume.specs.Tables.{IsSegmentIn, IsStripeIn, column_of, columns_target, disk_of, line_of, line_target, name_parts, named_or, place_at, tables_of, unnamed};
+ghost use Rattle.lvm_volume.specs.Names.{joined};
+ghost use Rattle.lvm_volume.specs.Tables.{IsSegmentIn, IsStripeIn, column_of, columns_target, device_in, disk_of, line_of, line_target, place_at, tables_of, unnamed, unnamed_volume, volume_parts};
 
 use crate::fault::NameFault;
 use crate::names::build_name;
@@ -38,26 +38,67 @@ impl VolumeGroup {
         // The tables of the group exactly where each volume has a name, unless memory runs out.
         ensures { Answers Source (λ tables. (tables.0.items, tables.1.items)) result (unless (first_or (unnamed self.now) None) (tables_of self.now)) }
     {
-        let mut devices = Vec::new(alloc);
-        for volume in &self.volumes {
-            let name = name_of(alloc, self.name.as_str(), volume)?;
-            let Ok(lines) = lines_of(alloc, self.extent_size, &self.physicals, volume.segments.as_slice()) else {
-                return Err(LoadFault::memory(Part::Source));
-            };
-            let device = DeviceSpec {
-                name,
-                ro: volume.ro,
-                lines,
-                at: place_at(volume.line),
-            };
-            let Ok(()) = devices.push(device) else {
-                return Err(LoadFault::memory(Part::Source));
-            };
-        }
+        let devices = match devices_of(alloc, self.name.as_str(), self.extent_size, &self.physicals, &self.volumes) {
+            Ok(devices) => devices,
+            Err(fault) => return Err(fault),
+        };
         match disks_of(alloc, &self.physicals) {
             Ok(disks) => Ok((devices, disks)),
             Err(_) => Err(LoadFault::memory(Part::Source)),
         }
+    }
+}
+
+/// The devices of volumes of a group of this name, or the first that gets no name.
+fn devices_of(
+    alloc: Global,
+    name: &str,
+    extent_size: u64,
+    physicals: &[Physical],
+    volumes: &[Volume],
+) -> Result<Vec<DeviceSpec>, LoadFault>
+    requires { AllByRecursion (λ volume. AllByRecursion (IsSegmentIn extent_size physicals.now) volume.segments) volumes.now }
+    ensures { Answers Source (λ v. v.items) result
+        (unless (first_or (flat_map (unnamed_volume name.now) volumes.now) None) (map (device_in name.now extent_size physicals.now) volumes.now)) }
+{
+    let mut devices = Vec::new(alloc);
+    for volume in volumes {
+        let device = match device_of(alloc, name, extent_size, physicals, volume) {
+            Ok(device) => device,
+            Err(fault) => return Err(fault),
+        };
+        let Ok(()) = devices.push(device) else {
+            return Err(LoadFault::memory(Part::Source));
+        };
+    }
+    Ok(devices)
+}
+
+/// The device of a volume of a group of this name, unless it gets no name.
+#[tactic(auto, unfolding(crate::specs::Tables::device_in))]
+fn device_of(
+    alloc: Global,
+    name: &str,
+    extent_size: u64,
+    physicals: &[Physical],
+    volume: &Volume,
+) -> Result<DeviceSpec, LoadFault>
+    requires { AllByRecursion (IsSegmentIn extent_size physicals.now) volume.now.segments }
+    ensures { Answers Source (λ device. device) result
+        (unless (first_or (unnamed_volume name.now volume.now) None) (device_in name.now extent_size physicals.now volume.now)) }
+{
+    let name = match name_of(alloc, name, volume) {
+        Ok(name) => name,
+        Err(fault) => return Err(fault),
+    };
+    match lines_of(alloc, extent_size, physicals, volume.segments.as_slice()) {
+        Ok(lines) => Ok(DeviceSpec {
+            name,
+            ro: volume.ro,
+            lines,
+            at: place_at(volume.line),
+        }),
+        Err(_) => Err(LoadFault::memory(Part::Source)),
     }
 }
 
@@ -73,12 +114,22 @@ fn place_at(line: u64) -> Place
 
 /// The name of a volume's device.
 fn name_of(alloc: Global, group: &str, volume: &Volume) -> Result<Name, LoadFault>
-    ensures { Answers Source (λ name. name) result (named_or group.now volume.now) }
+    ensures { Answers Source (λ name. name) result (unless (first_or (unnamed_volume group.now volume.now) None) (joined (volume_parts group.now volume.now))) }
 {
     match build_name(alloc, group, volume.name.as_str(), None) {
         Ok(name) => Ok(name),
-        Err(NameFault::Memory) => Err(LoadFault::memory(Part::Source)),
-        Err(_) => Err(source_fault(LoadKind::Name, volume.line)),
+        Err(fault) => Err(refused_name(fault, volume.line)),
+    }
+}
+
+/// The fault of a volume, at this line, of which no name was built.
+fn refused_name(fault: NameFault, line: u64) -> LoadFault
+    ensures memory { fault ≡ names.Memory → result ≡ fault_at Source loads.Memory 0 }
+    ensures name { fault ≢ names.Memory → result ≡ fault_at Source loads.Name line }
+{
+    match fault {
+        NameFault::Memory => LoadFault::memory(Part::Source),
+        NameFault::Letter | NameFault::HyphenFirst | NameFault::Empty | NameFault::Long => source_fault(LoadKind::Name, line),
     }
 }
 
@@ -124,10 +175,9 @@ fn line_target(alloc: Global, extent_size: u64, physicals: &[Physical], target: 
 }
 
 /// One column is linear, others are striped.
-fn columns_target(chunk: u64, columns: Vec<Column>) -> Target
-    ensures { result ≡ columns_target chunk columns.entry.items }
+fn columns_target(chunk: u64, mut columns: Vec<Column>) -> Target
+    ensures { result ≡ columns_target chunk columns.items }
 {
-    let mut columns = columns;
     if columns.len() == 1 {
         if let Some(column) = columns.pop() {
             return Target::Linear {
