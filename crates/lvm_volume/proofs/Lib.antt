@@ -1,1 +1,11 @@
+pub mod Faults
+pub mod PlaceLemmas
+pub mod PhysicalLemmas
+pub mod StripeLemmas
+pub mod UsedLemmas
+pub mod HoldLemmas
 pub mod Splits
+pub mod FaultKinds
+pub mod Sound
+pub mod GroupLemmas
+pub mod NamedLemmas

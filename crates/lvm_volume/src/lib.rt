@@ -4,10 +4,28 @@
 //! group. The rules are those of lvm(8), dmsetup(8) and of metadata as vgcfgbackup(8) writes it.
 #![tactic(auto)]
 
+mod check;
+mod extents;
 mod fault;
+mod field;
+mod fits;
+mod key;
 mod names;
+mod physical;
+mod places;
+mod refused_text;
+mod segment;
+mod tables;
 #[cfg(test)]
 mod tests;
+mod unknown;
+mod used;
+mod value;
+mod volume;
+mod volume_group;
+mod walk;
 
 pub use fault::NameFault;
 pub use names::{Parts, build_name, split_name, undouble};
+pub use refused_text::text_fault;
+pub use volume_group::VolumeGroup;

@@ -1,0 +1,12 @@
+use Rattle.std.proofs.Common.{◌≡◌, ◌≤◌, drop, length}
+use Rattle.lvm_volume.specs.Extents.{least_unknown_of}
+use Rattle.lvm_volume.proofs.unknown.least_unknown_of.Given as goal
+
+abbrev pub invariant-loop-at : goal.invariant-loop-at
+invariant-loop-at l = record {
+  least : l.least ≡ least_unknown_of l.physicals (drop l.at l.volumes);
+  within : l.at ≤ length l.volumes;
+}
+
+abbrev pub decreases-loop-at : goal.decreases-loop-at
+decreases-loop-at l = l.at

@@ -1,0 +1,125 @@
+-- The checks of a group beyond its fields: names of disks, stripes that name nothing, and how extents lie.
+use Rattle.std.specs.Prelude.{◌≡◌, ℕ, ◌+◌, ◌*◌, ◌/◌, ◌%◌, ◌<◌, ◌≤◌, Bool, true, false, not, ◌&&◌, ◌||◌, ◌==◌, List, [], ◌∷◌, ◌++◌, Option, Some, None, nat_lt, length, map, min, slice_index, if◌then◌else◌}
+use Rattle.std.specs.List.{flat_map, list_any}
+use Rattle.dm_table.specs.declared.load_fault.LoadKind.{LoadKind}
+use Rattle.dm_table.specs.declared.load_fault.LoadKind.TheVariants.{Name, Unknown, Extents}
+use Rattle.dm_table.specs.declared.load_fault.LoadFault.{LoadFault}
+use Rattle.dm_table.specs.Name.{is_disk_name}
+use Rattle.lvm_volume.specs.declared.segment.Stripe.{Stripe}
+use Rattle.lvm_volume.specs.declared.segment.SegmentType.{SegmentType}
+use Rattle.lvm_volume.specs.declared.segment.SegmentType.TheVariants.{Zero, Error, Striped}
+use Rattle.lvm_volume.specs.declared.segment.Segment.{Segment}
+use Rattle.lvm_volume.specs.declared.volume.Volume.{Volume}
+use Rattle.lvm_volume.specs.declared.physical.Physical.{Physical}
+use Rattle.lvm_volume.specs.Fields.{source_fault}
+use Rattle.lvm_volume.specs.Group.{Group}
+
+-- a fault where a test hits
+abbrev pub hit : Bool → LoadKind → ℕ → List LoadFault
+hit bad kind line = if bad then source_fault kind line else []
+
+-- Names: a physical volume whose disk gets no name of a disk. A key is a word, so this is one of more than 255 bytes.
+abbrev pub name_faults : List Physical → List LoadFault
+name_faults physicals = flat_map (λ physical. hit (not (is_disk_name physical.disk)) Name physical.line) physicals
+
+-- Unknown: a stripe that names no physical volume, the first in the text, whose lines ascend
+
+abbrev pub stripes_of : SegmentType → List Stripe
+stripes_of (Striped chunk stripes) = stripes
+stripes_of Zero = []
+stripes_of Error = []
+
+abbrev pub is_unknown : ℕ → Segment → Bool
+is_unknown physicals segment = list_any (λ stripe. not (nat_lt stripe.physical physicals)) (stripes_of segment.target)
+
+-- the lesser of a line and one that may be missing
+abbrev pub lesser : ℕ → Option ℕ → ℕ
+lesser line None = line
+lesser line (Some other) = min line other
+
+-- the least line of a segment that names nothing, or of those after them
+abbrev pub least_unknown : ℕ → List Segment → Option ℕ → Option ℕ
+least_unknown physicals [] later = later
+least_unknown physicals (segment ∷ segments) later =
+    if is_unknown physicals segment then Some (lesser segment.line (least_unknown physicals segments later)) else least_unknown physicals segments later
+
+abbrev pub least_unknown_of : ℕ → List Volume → Option ℕ
+least_unknown_of physicals [] = None
+least_unknown_of physicals (volume ∷ volumes) = least_unknown physicals volume.segments (least_unknown_of physicals volumes)
+
+abbrev pub at_line : LoadKind → Option ℕ → List LoadFault
+at_line kind None = []
+at_line kind (Some line) = source_fault kind line
+
+abbrev pub unknown_faults : Group → List LoadFault
+unknown_faults group = at_line Unknown (least_unknown_of (length group.physicals) group.volumes)
+
+-- Extents: physical volumes that are longer than their device
+
+abbrev pub is_too_long : ℕ → Physical → Bool
+is_too_long extent_size physical = nat_lt physical.size (physical.start + physical.count * extent_size)
+
+abbrev pub size_faults : ℕ → List Physical → List LoadFault
+size_faults extent_size physicals = flat_map (λ physical. hit (is_too_long extent_size physical) Extents physical.line) physicals
+
+-- Extents: what the stripes of segments use
+
+-- extents of a physical volume, from the first to before the end
+pub record Claim : Type 0 where
+  pub physical : ℕ
+  pub first : ℕ
+  pub end : ℕ
+
+-- two claims have an extent in common
+abbrev pub meets : Claim → Claim → Bool
+meets a b = a.physical == b.physical && (nat_lt a.first b.end && nat_lt b.first a.end)
+
+-- how many extents a physical volume has
+abbrev pub extents_at : List Physical → ℕ → ℕ
+extents_at physicals i = slice_index (map (λ physical. physical.count) physicals) i
+
+-- the number of parts that a segment is divided into
+abbrev pub parts_of : SegmentType → ℕ
+parts_of (Striped chunk stripes) = length stripes
+parts_of Zero = 1
+parts_of Error = 1
+
+-- the claims of a segment, each of as many extents
+abbrev pub claims_of : Segment → List Claim
+claims_of segment =
+    map (λ stripe. record { physical = stripe.physical; first = stripe.extent; end = stripe.extent + segment.count / parts_of segment.target }) (stripes_of segment.target)
+
+-- a claim that passes the end of its physical volume, or meets one of these or an earlier one
+abbrev pub have_clash : List Physical → List Claim → List Claim → Bool
+have_clash physicals used [] = false
+have_clash physicals used (claim ∷ claims) =
+    nat_lt (extents_at physicals claim.physical) claim.end || (list_any (meets claim) used || have_clash physicals (claim ∷ used) claims)
+
+-- these and the claims after them
+abbrev pub used_by : List Claim → List Claim → List Claim
+used_by used [] = used
+used_by used (claim ∷ claims) = used_by (claim ∷ used) claims
+
+-- the segment doesn't start at the end of the one before, is empty or not divided by its stripes, or its claims clash
+abbrev pub is_misplaced : List Physical → List Claim → ℕ → Segment → Bool
+is_misplaced physicals used end segment =
+    not (segment.start == end)
+    || (segment.count == 0
+    || (parts_of segment.target == 0
+    || (not (segment.count % parts_of segment.target == 0) || have_clash physicals used (claims_of segment))))
+
+-- the segments of a volume, the first of which starts at this extent
+abbrev pub segment_faults : List Physical → List Claim → ℕ → List Segment → List LoadFault
+segment_faults physicals used end [] = []
+segment_faults physicals used end (segment ∷ segments) =
+    hit (is_misplaced physicals used end segment) Extents segment.line
+    ++ segment_faults physicals (used_by used (claims_of segment)) (segment.start + segment.count) segments
+
+abbrev pub used_after : List Claim → List Segment → List Claim
+used_after used [] = used
+used_after used (segment ∷ segments) = used_after (used_by used (claims_of segment)) segments
+
+abbrev pub volume_faults : List Physical → List Claim → List Volume → List LoadFault
+volume_faults physicals used [] = []
+volume_faults physicals used (volume ∷ volumes) =
+    segment_faults physicals used 0 volume.segments ++ volume_faults physicals (used_after used volume.segments) volumes

@@ -1,0 +1,114 @@
+-- What a group's metadata says: the group, its physical volumes, and its volumes with their segments.
+use Rattle.std.specs.Prelude.{ℕ, ◌+◌, ◌*◌, Bool, true, false, not, ◌&&◌, ◌||◌, ◌==◌, List, [], ◌∷◌, Option, Some, None, nat_lt, bytes_eq, codes, count_by, length, map, unwrap_or, if◌then◌else◌}
+use Rattle.std.specs.List.{list_any}
+use Rattle.lvm_text.specs.Tree.{Tree, Scalar, Int, Text, Nothing, sections_of}
+use Rattle.dm_table.specs.Name.{is_disk_name}
+use Rattle.lvm_volume.specs.declared.segment.Stripe.{Stripe}
+use Rattle.lvm_volume.specs.declared.segment.SegmentType.{SegmentType}
+use Rattle.lvm_volume.specs.declared.segment.SegmentType.TheVariants.{Zero, Error, Striped}
+use Rattle.lvm_volume.specs.declared.segment.Segment.{Segment}
+use Rattle.lvm_volume.specs.declared.volume.Volume.{Volume}
+use Rattle.lvm_volume.specs.declared.physical.Physical.{Physical}
+use Rattle.lvm_volume.specs.Fields.{number_at, text_at, items_at, sections_at, segments_of, is_striped}
+
+-- a group: its name, the sectors of an extent, its physical volumes, and its volumes
+pub record Group : Type 0 where
+  pub name : List ℕ
+  pub extent_size : ℕ
+  pub physicals : List Physical
+  pub volumes : List Volume
+
+-- Physical volumes
+
+-- a section with its key
+abbrev pub Keyed : Type 0
+Keyed = List ℕ × Tree
+
+abbrev pub device_of : Keyed → List ℕ
+device_of physical = text_at (codes "device") physical.1
+
+abbrev pub begins_with_slash : List ℕ → Bool
+begins_with_slash [] = false
+begins_with_slash (b ∷ bs) = b == 47
+
+-- the device of two physical volumes or more
+abbrev pub is_shared : List (List ℕ) → List ℕ → Bool
+is_shared devices device = nat_lt 1 (count_by (λ other. bytes_eq device other) devices)
+
+-- the device, where it can be a disk's name and is a path that no other has, and else the key
+unfoldable pub chosen : Bool → (key device : List ℕ) → List ℕ
+chosen shared key device = if begins_with_slash device && (not shared && is_disk_name device) then device else key
+
+-- the name of the disk of a physical volume, among the devices of all
+abbrev pub disk_name : List (List ℕ) → Keyed → List ℕ
+disk_name devices physical = chosen (is_shared devices (device_of physical)) physical.0 (device_of physical)
+
+unfoldable pub physical_of : List (List ℕ) → Keyed → Physical
+physical_of devices physical = record {
+  disk = disk_name devices physical;
+  size = number_at (codes "dev_size") physical.1;
+  start = number_at (codes "pe_start") physical.1;
+  count = number_at (codes "pe_count") physical.1;
+  line = physical.1.line;
+}
+
+-- Volumes
+
+-- the place of a key among these, from this place on
+abbrev pub place_from : List ℕ → ℕ → List (List ℕ) → Option ℕ
+place_from key first [] = None
+place_from key first (k ∷ ks) = if bytes_eq k key then Some first else place_from key (first + 1) ks
+
+-- the place of a physical volume by its key, or their number where none has it
+abbrev pub place_of : List (List ℕ) → List ℕ → ℕ
+place_of keys key = unwrap_or (place_from key 0 keys) (length keys)
+
+abbrev pub stripes_in : List (List ℕ) → List Scalar → List Stripe
+stripes_in keys (Text key ∷ Int extent ∷ items) = record { physical = place_of keys key; extent = extent } ∷ stripes_in keys items
+stripes_in keys _ = []
+
+abbrev pub target_of : List (List ℕ) → Tree → SegmentType
+target_of keys segment =
+    if is_striped segment then Striped (number_at (codes "stripe_size") segment) (stripes_in keys (items_at (codes "stripes") segment))
+    else (if bytes_eq (text_at (codes "type") segment) (codes "zero") then Zero else Error)
+
+unfoldable pub segment_of : List (List ℕ) → Tree → Segment
+segment_of keys segment = record {
+  start = number_at (codes "start_extent") segment;
+  count = number_at (codes "extent_count") segment;
+  target = target_of keys segment;
+  line = segment.line;
+}
+
+abbrev pub is_write : Scalar → Bool
+is_write (Text text) = bytes_eq text (codes "WRITE") || bytes_eq text (codes "WRITE_LOCKED")
+is_write (Int n) = false
+
+unfoldable pub volume_of : List (List ℕ) → Keyed → Volume
+volume_of keys volume = record {
+  name = volume.0;
+  ro = not (list_any is_write (items_at (codes "status") volume.1));
+  segments = map (segment_of keys) (segments_of volume.1);
+  line = volume.1.line;
+}
+
+-- The group
+
+abbrev pub group_in : Keyed → Group
+group_in group =
+    let physicals = sections_at (codes "physical_volumes") group.1 in
+    record {
+      name = group.0;
+      extent_size = number_at (codes "extent_size") group.1;
+      physicals = map (physical_of (map device_of physicals)) physicals;
+      volumes = map (volume_of (map (λ physical. physical.0) physicals)) (sections_at (codes "logical_volumes") group.1);
+    }
+
+-- the first section, or an empty one
+abbrev pub first_section : List Keyed → Keyed
+first_section [] = ([], record { line = 0; values = Nothing })
+first_section (section ∷ sections) = section
+
+-- the group of a text
+abbrev pub group_of : Tree → Group
+group_of top = group_in (first_section (sections_of top.values))

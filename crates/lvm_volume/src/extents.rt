@@ -1,0 +1,175 @@
+//! The check of how extents lie: physical volumes within their devices, segments one after the other, and no extent
+//! of a physical volume in two stripes.
+//!
+//! What stripes use is kept by physical volume (`used`), over all volumes in the order of the text.
+
+ghost use Rattle.std.specs.Prelude.{◌≡◌, ◌==◌, ◌+◌, ◌*◌, ◌/◌, ◌%◌, ◌^◌, ◌<◌, ◌∷◌, ◌||◌, [], List, Bool, None, Some, true, false, not, nat_lt, length, IfOk};
+ghost use Rattle.std.specs.List.{list_any};
+ghost use Rattle.dm_table.specs.LoadFault.{first_or};
+ghost use Rattle.lvm_volume.specs.Extents as spec;
+ghost use Rattle.lvm_volume.specs.Extents.{Claim, extents_at, have_clash, is_misplaced, is_too_long, meets, segment_faults, size_faults, used_after, used_by, volume_faults};
+ghost use Rattle.lvm_volume.specs.Used.{Claimed, Holds, claims_by};
+
+use crate::physical::Physical;
+use crate::segment::{Segment, SegmentType, Stripe};
+use crate::used::take;
+use crate::volume::Volume;
+use crate::walk::source_fault;
+use dm_table::{LoadFault, LoadKind};
+use std::alloc::{AllocError, Global};
+use std::collections::BTreeMap;
+
+/// The first physical volume that is longer than its device.
+pub(crate) fn size_fault(extent_size: u64, physicals: &[Physical]) -> Option<LoadFault>
+    ensures { result ≡ first_or (size_faults extent_size physicals.now) None }
+{
+    for physical in physicals {
+        if is_too_long(extent_size, physical) {
+            return Some(source_fault(LoadKind::Extents, physical.line));
+        }
+    }
+    None
+}
+
+/// Whether a physical volume is longer than its device. Products of two numbers of 64 bits, and one more, fit 128.
+fn is_too_long(extent_size: u64, physical: &Physical) -> bool
+    ensures { result ≡ is_too_long extent_size physical.now }
+{
+    u128::from(physical.size) < end_of(physical.start, physical.count, extent_size)
+}
+
+/// The sector after so many extents from a start on.
+fn end_of(start: u64, count: u64, extent_size: u64) -> u128
+    ensures { result ≡ start + count * extent_size }
+{
+    u128::from(start) + u128::from(count) * u128::from(extent_size)
+}
+
+/// The first segment that is misplaced.
+///
+/// Cost: near-linear in segments and stripes.
+pub(crate) fn volumes_fault(alloc: Global, physicals: &[Physical], volumes: &[Volume]) -> Result<Option<LoadFault>, AllocError>
+    ensures { IfOk result (λ fault. fault ≡ first_or (volume_faults physicals.now [] volumes.now) None) }
+{
+    let mut maps = maps_of(alloc, physicals.len())?;
+    each_fault(physicals, &mut maps, volumes)
+}
+
+/// The first segment that is misplaced, beside nothing that was used before.
+fn each_fault(physicals: &[Physical], maps: &mut [BTreeMap<u64, u64>], volumes: &[Volume]) -> Result<Option<LoadFault>, AllocError>
+    requires len { length maps.old ≡ length physicals.now }
+    requires held { Holds maps.old [] }
+    ensures { IfOk result (λ fault. fault ≡ first_or (volume_faults physicals.now [] volumes.now) None) }
+{
+    for volume in volumes {
+        if let Some(fault) = segments_fault(physicals, maps, volume.segments.as_slice())? {
+            return Ok(Some(fault));
+        }
+    }
+    Ok(None)
+}
+
+/// For each physical volume nothing that is used.
+fn maps_of(alloc: Global, physicals: usize) -> Result<Vec<BTreeMap<u64, u64>>, AllocError>
+    ensures held { IfOk result (λ maps. Holds maps.items []) }
+    ensures len { IfOk result (λ maps. length maps.items ≡ physicals) }
+{
+    let mut maps = Vec::new(alloc);
+    for made in 0..physicals {
+        maps.push(BTreeMap::new(alloc))?;
+    }
+    Ok(maps)
+}
+
+/// The first of a volume's segments that is misplaced, beside what was used before.
+fn segments_fault(physicals: &[Physical], maps: &mut [BTreeMap<u64, u64>], segments: &[Segment]) -> Result<Option<LoadFault>, AllocError>
+    requires { length maps.old ≡ length physicals.now }
+    ensures value { (used : List Claim) → Holds maps.old used → IfOk result (λ fault. fault ≡ first_or (segment_faults physicals.now used 0 segments.now) None) }
+    ensures held { (used : List Claim) → Holds maps.old used → IfOk result (λ fault. fault ≡ None → Holds maps.new (used_after used segments.now)) }
+    ensures len { length maps.new ≡ length maps.old }
+{
+    let mut end = 0;
+    for segment in segments {
+        if is_misplaced(physicals, maps, end, segment)? {
+            return Ok(Some(source_fault(LoadKind::Extents, segment.line)));
+        }
+        end = u128::from(segment.start) + u128::from(segment.count);
+    }
+    Ok(None)
+}
+
+/// Whether a segment is misplaced after one that ends at this extent. It claims its extents where it isn't.
+fn is_misplaced(physicals: &[Physical], maps: &mut [BTreeMap<u64, u64>], end: u128, segment: &Segment) -> Result<bool, AllocError>
+    requires { length maps.old ≡ length physicals.now }
+    ensures value { (used : List Claim) → Holds maps.old used → IfOk result (λ misplaced. misplaced ≡ is_misplaced physicals.now used end segment.now) }
+    ensures held { (used : List Claim) → Holds maps.old used → IfOk result (λ misplaced. misplaced ≡ false → Holds maps.new (used_by used (spec.claims_of segment.now))) }
+    ensures len { length maps.new ≡ length maps.old }
+{
+    if u128::from(segment.start) != end || segment.count == 0 {
+        return Ok(true);
+    }
+    match &segment.target {
+        SegmentType::Striped { stripes, .. } => {
+            is_clash(physicals, maps, segment.count, stripes.as_slice())
+        }
+        SegmentType::Zero | SegmentType::Error => Ok(false),
+    }
+}
+
+/// Whether stripes don't divide so many extents, or clash with what is used. They claim their extents where they don't.
+fn is_clash(physicals: &[Physical], maps: &mut [BTreeMap<u64, u64>], count: u64, stripes: &[Stripe]) -> Result<bool, AllocError>
+    requires len { length maps.old ≡ length physicals.now }
+    requires some { 0 < count }
+    ensures value { (used : List Claim) → Holds maps.old used
+        → IfOk result (λ clash. clash ≡ (length stripes.now == 0 || (not (count % length stripes.now == 0) || have_clash physicals.now used (claims_by (count / length stripes.now) stripes.now)))) }
+    ensures held { (used : List Claim) → Holds maps.old used → IfOk result (λ clash. clash ≡ false → Holds maps.new (used_by used (claims_by (count / length stripes.now) stripes.now))) }
+    ensures kept { length maps.new ≡ length maps.old }
+{
+    let parts = stripes.len() as u64;
+    if parts == 0 || count % parts != 0 {
+        return Ok(true);
+    }
+    claim_all(physicals, maps, count / parts, stripes)
+}
+
+/// Whether one of the stripes clashes. Each claims its extents up to one that does.
+fn claim_all(physicals: &[Physical], maps: &mut [BTreeMap<u64, u64>], share: u64, stripes: &[Stripe]) -> Result<bool, AllocError>
+    requires len { length maps.old ≡ length physicals.now }
+    requires some { 0 < share }
+    ensures claimed { (used : List Claim) → Holds maps.old used → IfOk result (Claimed physicals.now maps.new (claims_by share stripes.now) used) }
+    ensures kept { length maps.new ≡ length maps.old }
+{
+    for stripe in stripes {
+        if passes_end(physicals, stripe, share) {
+            return Ok(true);
+        }
+        if !claim(maps, stripe.physical, stripe.extent, stripe.extent + share)? {
+            return Ok(true);
+        }
+    }
+    Ok(false)
+}
+
+/// Whether so many extents of a stripe pass the end of its physical volume; nothing is added up, so nothing wraps.
+fn passes_end(physicals: &[Physical], stripe: &Stripe, share: u64) -> bool
+    requires { 0 < share }
+    ensures value { result ≡ nat_lt (extents_at physicals.now stripe.now.physical) (stripe.now.extent + share) }
+    ensures within { result ≡ false → stripe.now.physical < length physicals.now }
+    ensures fits { result ≡ false → stripe.now.extent + share < 2 ^ 64 }
+{
+    match physicals.get(stripe.physical) {
+        Some(physical) => physical.count < share || physical.count - share < stripe.extent,
+        None => true,
+    }
+}
+
+/// Claims extents of a physical volume, unless one of them is used.
+fn claim(maps: &mut [BTreeMap<u64, u64>], physical: usize, first: u64, end: u64) -> Result<bool, AllocError>
+    requires within { physical < length maps.old }
+    requires some { first < end }
+    ensures free { (used : List Claim) → Holds maps.old used → IfOk result (λ free. free ≡ not (list_any (meets (record { physical = physical; first = first; end = end })) used)) }
+    ensures held { (used : List Claim) → Holds maps.old used → IfOk result (λ free. free ≡ true → Holds maps.new (record { physical = physical; first = first; end = end } ∷ used)) }
+    ensures kept { length maps.new ≡ length maps.old }
+{
+    take(&mut maps[physical], first, end)
+}

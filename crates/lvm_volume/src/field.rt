@@ -1,0 +1,117 @@
+//! The fields of a group's metadata that are read, in the order in which they are checked.
+//!
+//! The tables here are those of `specs/Fields.antt`, row by row. A field that is to be read becomes a row there and
+//! here; a new form of value is a variant of `Kind`, with an arm in `fits`.
+
+ghost use Rattle.std.specs.Prelude.{◌≡◌, map};
+ghost use Rattle.lvm_volume.specs.Fields as spec;
+ghost use Rattle.lvm_volume.specs.Fields.{field_view, field_views};
+
+/// What a field may hold.
+#[derive(Clone, Copy, Debug, PartialEq, Eq)]
+pub(crate) enum Kind {
+    /// The string that says what the text is.
+    Title,
+    /// The integer 1.
+    Version,
+    /// Any integer.
+    Number,
+    /// An integer of 1 or more.
+    Positive,
+    /// A number of extents: any integer, limited by its sectors too.
+    Extents,
+    /// A string.
+    Text,
+    /// A list of strings.
+    Texts,
+    /// The type of a segment.
+    Type,
+    /// As many pairs of a string and an integer as the section has stripes.
+    Stripes,
+    /// A section.
+    Section,
+}
+
+/// Where a field is asked for.
+#[derive(Clone, Copy, Debug, PartialEq, Eq)]
+pub(crate) enum Condition {
+    Always,
+    /// Where the key is there.
+    Given,
+    /// In a striped segment.
+    Striped,
+    /// In a segment of two stripes or more.
+    Several,
+}
+
+/// A row of a table: a key, what it may hold, and where it is asked for.
+#[derive(Clone, Copy, Debug)]
+pub(crate) struct Field<'k> {
+    pub key: &'k str,
+    pub kind: Kind,
+    pub when: Condition,
+}
+
+/// The fields at the top, before the group's section.
+pub(crate) fn top_fields() -> [Field<'static>; 2]
+    ensures { field_views result ≡ spec.top_fields }
+{
+    [
+        row("contents", Kind::Title, Condition::Always),
+        row("version", Kind::Version, Condition::Always),
+    ]
+}
+
+/// The fields of a group.
+pub(crate) fn group_fields() -> [Field<'static>; 3]
+    ensures { field_views result ≡ spec.group_fields }
+{
+    [
+        row("extent_size", Kind::Positive, Condition::Always),
+        row("physical_volumes", Kind::Section, Condition::Always),
+        row("logical_volumes", Kind::Section, Condition::Given),
+    ]
+}
+
+/// The fields of a physical volume.
+pub(crate) fn physical_fields() -> [Field<'static>; 4]
+    ensures { field_views result ≡ spec.physical_fields }
+{
+    [
+        row("device", Kind::Text, Condition::Always),
+        row("dev_size", Kind::Number, Condition::Always),
+        row("pe_start", Kind::Number, Condition::Always),
+        row("pe_count", Kind::Extents, Condition::Always),
+    ]
+}
+
+/// The fields of a logical volume, before its segments.
+pub(crate) fn volume_fields() -> [Field<'static>; 2]
+    ensures { field_views result ≡ spec.volume_fields }
+{
+    [
+        row("status", Kind::Texts, Condition::Always),
+        row("segment_count", Kind::Number, Condition::Always),
+    ]
+}
+
+/// The fields of a segment.
+pub(crate) fn segment_fields() -> [Field<'static>; 6]
+    ensures { field_views result ≡ spec.segment_fields }
+{
+    [
+        row("start_extent", Kind::Extents, Condition::Always),
+        row("extent_count", Kind::Extents, Condition::Always),
+        row("type", Kind::Type, Condition::Always),
+        row("stripe_count", Kind::Positive, Condition::Striped),
+        row("stripes", Kind::Stripes, Condition::Striped),
+        row("stripe_size", Kind::Number, Condition::Several),
+    ]
+}
+
+/// A row of a table.
+pub(crate) fn row(key: &str, kind: Kind, when: Condition) -> Field<'_>
+    ensures { field_view result ≡ record { key = key.now; kind = kind; when = when } }
+{
+    Field { key, kind, when }
+}

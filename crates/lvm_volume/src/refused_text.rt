@@ -1,0 +1,22 @@
+//! The faults of a metadata text, as faults of a load.
+
+ghost use Rattle.std.specs.Prelude.{◌≡◌};
+ghost use Rattle.lvm_volume.specs.Tables.{text_fault};
+
+use crate::walk::source_fault;
+use dm_table::{LoadFault, LoadKind, Part};
+use lvm_text::TextFault;
+
+/// The fault of a load that a fault of the metadata text is, at its line of the source.
+pub fn text_fault(fault: TextFault) -> LoadFault
+    ensures { result ≡ text_fault fault }
+{
+    match fault {
+        TextFault::Token(line) => source_fault(LoadKind::Syntax, line),
+        TextFault::Syntax(line) => source_fault(LoadKind::Syntax, line),
+        TextFault::KeyTwice(line) => source_fault(LoadKind::Twice, line),
+        TextFault::Deep(line) => source_fault(LoadKind::Deep, line),
+        TextFault::Number(line) => source_fault(LoadKind::Field, line),
+        TextFault::Memory => LoadFault::memory(Part::Source),
+    }
+}

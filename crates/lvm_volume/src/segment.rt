@@ -1,0 +1,185 @@
+//! Segments of a volume, as their sections say them, with physical volumes by their places.
+//!
+//! What they say is not checked here. A new type of segment is a variant of `SegmentType`, a word of the field
+//! `type`, and an arm where segments are checked and where they become lines.
+
+ghost use Rattle.std.specs.Prelude.{◌≡◌, ◌∷◌, [], ℕ, List, MatchOption, IfOk, codes, map};
+ghost use Rattle.lvm_text.specs.Tree as tree;
+ghost use Rattle.lvm_text.specs.View.{scalar_view, scalar_views};
+ghost use Rattle.lvm_text.specs.Iterate.{item_view};
+ghost use Rattle.lvm_volume.specs.Fields as fields;
+ghost use Rattle.lvm_volume.specs.Fields.{section_view};
+ghost use Rattle.lvm_volume.specs.declared.segment.SegmentType.TheVariants.{Striped};
+ghost use Rattle.lvm_volume.specs.Group.{segment_of, stripes_in, target_of};
+
+use crate::fits::is_striped;
+use crate::places::Places;
+use crate::value::{items_at, number_at, text_at};
+use lvm_text::{Scalar, Section};
+use std::alloc::{AllocError, Global};
+use std::marker::Model;
+
+/// A stripe: the place of its physical volume among those of the group, or their number where it names none of them,
+/// and the first extent.
+#[derive(Clone, Copy, Debug)]
+pub(crate) struct Stripe {
+    pub physical: usize,
+    pub extent: u64,
+}
+
+/// The stripes of a segment, in order. A clause sees them as a list.
+#[derive(Debug, Drop)]
+pub(crate) struct Stripes {
+    stripes: Vec<Stripe>,
+}
+
+impl Model for Stripes {
+    ghost use Rattle.std.specs.Prelude.{List};
+    ghost use Rattle.lvm_volume.specs.declared.segment.Stripe.{Stripe};
+
+    ghost Value = { List Stripe };
+
+    ghost view = { λ row. row.stripes.items };
+}
+
+impl Stripes {
+    pub(crate) fn from_vec(stripes: Vec<Stripe>) -> Stripes
+        ensures { result ≡ stripes.items }
+    {
+        Stripes { stripes }
+    }
+
+    pub(crate) fn as_slice(&self) -> &[Stripe]
+        ensures { result.now ≡ self.now }
+    {
+        self.stripes.as_slice()
+    }
+}
+
+/// What becomes of a segment's extents. A chunk is in sectors.
+#[derive(Debug, Drop)]
+pub(crate) enum SegmentType {
+    Zero,
+    Error,
+    Striped { chunk: u64, stripes: Stripes },
+}
+
+/// A segment: its first extent in the volume, how many there are, and the line of its key.
+#[derive(Debug, Drop)]
+pub(crate) struct Segment {
+    pub start: u64,
+    pub count: u64,
+    pub target: SegmentType,
+    pub line: u64,
+}
+
+/// The segments of a volume, from 1 on. A clause sees them as a list.
+#[derive(Debug, Drop)]
+pub(crate) struct Segments {
+    segments: Vec<Segment>,
+}
+
+impl Model for Segments {
+    ghost use Rattle.std.specs.Prelude.{List};
+    ghost use Rattle.lvm_volume.specs.declared.segment.Segment.{Segment};
+
+    ghost Value = { List Segment };
+
+    ghost view = { λ row. row.segments.items };
+}
+
+impl Segments {
+    pub(crate) fn from_vec(segments: Vec<Segment>) -> Segments
+        ensures { result ≡ segments.items }
+    {
+        Segments { segments }
+    }
+
+    pub(crate) fn as_slice(&self) -> &[Segment]
+        ensures { result.now ≡ self.now }
+    {
+        self.segments.as_slice()
+    }
+}
+
+/// The stripes that a list says, pair by pair. One pass, with a look-up for each.
+fn stripes_of(alloc: Global, places: &Places<'_>, items: &[Scalar<'_>]) -> Result<Vec<Stripe>, AllocError>
+    ensures { IfOk result (λ v. v.items ≡ stripes_in places.now (scalar_views items.now)) }
+{
+    let mut stripes = Vec::new(alloc);
+    let mut rest = items;
+    while let [first, second, more @ ..] = rest {
+        let Some((key, extent)) = pair(first, second) else {
+            return Ok(stripes);
+        };
+        stripes.push(Stripe {
+            physical: places.place_of(key),
+            extent,
+        })?;
+        rest = more;
+    }
+    Ok(stripes)
+}
+
+/// A string and an integer.
+fn pair<'a>(first: &Scalar<'a>, second: &Scalar<'a>) -> Option<(&'a str, u64)>
+    ensures { MatchOption result ((keys : List (List ℕ)) (items : List tree.Scalar) → stripes_in keys (scalar_view first.now ∷ scalar_view second.now ∷ items) ≡ [])
+        (λ pair. (scalar_view first.now ≡ tree.Text pair.0.now) × (scalar_view second.now ≡ tree.Int pair.1)) }
+{
+    match (first, second) {
+        (Scalar::Text(key), Scalar::Int(extent)) => Some((*key, *extent)),
+        _ => None,
+    }
+}
+
+/// What becomes of a segment's extents.
+fn target_of(alloc: Global, places: &Places<'_>, segment: &Section<'_>) -> Result<SegmentType, AllocError>
+    ensures { IfOk result (λ target. target ≡ target_of places.now segment.now) }
+{
+    if is_striped(segment) {
+        return striped(alloc, places, segment);
+    }
+    if text_at(segment, "type") == "zero" {
+        Ok(SegmentType::Zero)
+    } else {
+        Ok(SegmentType::Error)
+    }
+}
+
+/// The stripes of a striped segment, with their chunk.
+fn striped(alloc: Global, places: &Places<'_>, segment: &Section<'_>) -> Result<SegmentType, AllocError>
+    ensures { IfOk result (λ target. target ≡ Striped (fields.number_at (codes "stripe_size") segment.now) (stripes_in places.now (fields.items_at (codes "stripes") segment.now))) }
+{
+    let stripes = match items_at(segment, "stripes") {
+        Some(items) => stripes_of(alloc, places, items)?,
+        None => Vec::new(alloc),
+    };
+    Ok(SegmentType::Striped {
+        chunk: number_at(segment, "stripe_size"),
+        stripes: Stripes::from_vec(stripes),
+    })
+}
+
+/// The segment that a section says.
+#[tactic(auto, unfolding(crate::specs::Group::segment_of))]
+fn segment_of(alloc: Global, places: &Places<'_>, segment: &Section<'_>) -> Result<Segment, AllocError>
+    ensures { IfOk result (λ made. made ≡ segment_of places.now segment.now) }
+{
+    Ok(Segment {
+        start: number_at(segment, "start_extent"),
+        count: number_at(segment, "extent_count"),
+        target: target_of(alloc, places, segment)?,
+        line: segment.line(),
+    })
+}
+
+/// The segments that sections say.
+pub(crate) fn segments_in(alloc: Global, places: &Places<'_>, sections: &[&Section<'_>]) -> Result<Segments, AllocError>
+    ensures { IfOk result (λ made. made ≡ map (segment_of places.now) (map section_view sections.now)) }
+{
+    let mut segments = Vec::new(alloc);
+    for section in sections {
+        segments.push(segment_of(alloc, places, *section)?)?;
+    }
+    Ok(Segments::from_vec(segments))
+}

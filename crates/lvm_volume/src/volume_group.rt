@@ -1,0 +1,177 @@
+//! Volume groups: what the metadata of a group says, once no check finds a fault in it.
+//!
+//! A `VolumeGroup` exists only where that is so, and its type keeps what tables rest on: numbers that fit 64 bits
+//! in sectors, and stripes of physical volumes that are there. A new check takes its place here and in
+//! `group_checks` of `specs/Tables.antt`.
+
+ghost use Rattle.std.specs.Prelude.{◌≡◌, ◌∷◌, [], ℕ, List, None, IfOk, codes, length, map};
+ghost use Rattle.lvm_text.specs.Tree as tree;
+ghost use Rattle.lvm_text.specs.Iterate.{item_view};
+ghost use Rattle.dm_table.specs.LoadFault.{Answers, first_fault, first_or, unless};
+ghost use Rattle.dm_table.specs.declared.place.Part.TheVariants.{Source};
+ghost use Rattle.lvm_volume.specs.declared.check.Check.TheVariants.{Fields};
+ghost use Rattle.lvm_volume.specs.Extents.{name_faults};
+ghost use Rattle.lvm_volume.specs.Fields as fields;
+ghost use Rattle.lvm_volume.specs.Fields.{faults_of_fields};
+ghost use Rattle.lvm_volume.specs.Group.{group_in, group_of, volume_of};
+ghost use Rattle.lvm_volume.specs.GroupCode.{parts_view, texts};
+ghost use Rattle.lvm_volume.specs.Tables.{checks_of_parts, group_checks, later_checks};
+
+use crate::check::Check;
+use crate::extents::{size_fault, volumes_fault};
+use crate::key::Key;
+use crate::physical::{Physical, physicals_in};
+use crate::places::Places;
+use crate::unknown::least_unknown_of;
+use crate::value::{number_at, sections_at, sections_of};
+use crate::volume::{Volume, volumes_in};
+use crate::walk::{self, source_fault};
+use dm_table::{LoadFault, LoadKind, Part};
+use lvm_text::Section;
+use std::alloc::{AllocError, Global};
+use std::marker::Model;
+
+/// A volume group, with its physical volumes and its volumes.
+#[derive(Debug, Drop)]
+pub struct VolumeGroup {
+    pub(crate) name: Key,
+    pub(crate) extent_size: u64,
+    pub(crate) physicals: Vec<Physical>,
+    pub(crate) volumes: Vec<Volume>,
+}
+
+impl Model for VolumeGroup {
+    ghost use Rattle.lvm_volume.specs.Group.{Group};
+    ghost use Rattle.lvm_volume.specs.Tables.{IsSoundGroup};
+
+    ghost Value = { Group };
+
+    ghost view = { λ group. record { name = group.name; extent_size = group.extent_size; physicals = group.physicals.items; volumes = group.volumes.items } };
+
+    ghost invariant = { λ group. IsSoundGroup (record { name = group.name; extent_size = group.extent_size; physicals = group.physicals.items; volumes = group.volumes.items }) };
+}
+
+/// The parts of a group.
+#[derive(Drop)]
+pub(crate) struct Parts {
+    physicals: Vec<Physical>,
+    volumes: Vec<Volume>,
+}
+
+impl VolumeGroup {
+    /// The volume group that a text of metadata says, from the top of its tree.
+    ///
+    /// The checks run over the whole text one after the other, and the first that finds anything gives the fault,
+    /// at its first line: `Field` for a field that is missing or not what it may be, `Limit` for an integer above
+    /// 2^50, also where extents are counted in sectors, `Name` for a physical volume whose disk gets no name,
+    /// `Unknown` for a stripe of no physical volume, `Extents` for physical volumes longer than their device and
+    /// segments that lie wrong or use an extent twice. `Memory` is returned only where a growth was refused.
+    ///
+    /// Cost: near-linear in the text. Source: vgcfgbackup(8), lvm.conf(5); the limits are this project's own.
+    pub fn read(alloc: Global, top: &Section<'_>) -> Result<VolumeGroup, LoadFault>
+        // The group of the text exactly where no check finds anything, else the first fault, unless memory runs out.
+        ensures { Answers Source (λ group. group) result (unless (first_fault (group_checks top.now)) (group_of top.now)) }
+    {
+        match walk::first_fault(alloc, Check::Fields, top) {
+            Ok(None) => {}
+            Ok(Some(fault)) => return Err(fault),
+            Err(_) => return Err(LoadFault::memory(Part::Source)),
+        }
+        let Ok(sections) = sections_of(alloc, top) else {
+            return Err(LoadFault::memory(Part::Source));
+        };
+        let (key, group) = only(&sections);
+        read_group(alloc, top, key, group)
+    }
+}
+
+/// The one section of a list.
+fn only<'s, 'a>(sections: &[(&'a str, &'s Section<'a>)]) -> (&'a str, &'s Section<'a>)
+    requires { length sections.now ≡ 1 }
+    ensures { map item_view sections.now ≡ item_view result ∷ [] }
+{
+    sections[0]
+}
+
+/// The group of a section, by the checks after the one of fields.
+fn read_group(alloc: Global, top: &Section<'_>, key: &str, group: &Section<'_>) -> Result<VolumeGroup, LoadFault>
+    requires one { tree.sections_of top.now.values ≡ (key.now, group.now) ∷ [] }
+    requires fields { first_or (faults_of_fields Fields top.now) None ≡ None }
+    ensures { Answers Source (λ group. group) result (unless (first_fault (later_checks top.now)) (group_of top.now)) }
+{
+    let extent_size = number_at(group, "extent_size");
+    match walk::first_fault(alloc, Check::Limits { extent_size }, top) {
+        Ok(None) => {}
+        Ok(Some(fault)) => return Err(fault),
+        Err(_) => return Err(LoadFault::memory(Part::Source)),
+    }
+    let parts = match parts_in(alloc, key, group) {
+        Ok(parts) => parts,
+        Err(fault) => return Err(fault),
+    };
+    match parts_fault(alloc, extent_size, &parts) {
+        Ok(None) => {}
+        Ok(Some(fault)) => return Err(fault),
+        Err(_) => return Err(LoadFault::memory(Part::Source)),
+    }
+    let Ok(name) = Key::new(alloc, key) else {
+        return Err(LoadFault::memory(Part::Source));
+    };
+    Ok(VolumeGroup {
+        name,
+        extent_size,
+        physicals: parts.physicals,
+        volumes: parts.volumes,
+    })
+}
+
+/// The parts of a group, unless a disk gets no name.
+fn parts_in(alloc: Global, key: &str, group: &Section<'_>) -> Result<Parts, LoadFault>
+    ensures { let said = group_in (key.now, group.now) in
+        Answers Source parts_view result (unless (first_or (name_faults said.physicals) None) (said.physicals, said.volumes)) }
+{
+    let Ok(sections) = sections_at(alloc, group, "physical_volumes") else {
+        return Err(LoadFault::memory(Part::Source));
+    };
+    let physicals = match physicals_in(alloc, &sections) {
+        Ok(physicals) => physicals,
+        Err(fault) => return Err(fault),
+    };
+    match volumes_of(alloc, group, &sections) {
+        Ok(volumes) => Ok(Parts { physicals, volumes }),
+        Err(_) => Err(LoadFault::memory(Part::Source)),
+    }
+}
+
+/// The volumes of a group with these physical volumes.
+fn volumes_of<'s, 'a>(alloc: Global, group: &Section<'_>, physicals: &[(&'a str, &'s Section<'a>)]) -> Result<Vec<Volume>, AllocError>
+    ensures { IfOk result (λ v. v.items ≡ map (volume_of (map (λ physical. physical.0) (map item_view physicals.now))) (fields.sections_at (codes "logical_volumes") group.now)) }
+{
+    let places = Places::new(alloc, keys_of(alloc, physicals)?)?;
+    let sections = sections_at(alloc, group, "logical_volumes")?;
+    volumes_in(alloc, &places, &sections)
+}
+
+/// The keys of sections.
+fn keys_of<'s, 'a>(alloc: Global, sections: &[(&'a str, &'s Section<'a>)]) -> Result<Vec<&'a str>, AllocError>
+    ensures { IfOk result (λ v. texts v.items ≡ map (λ section. section.0) (map item_view sections.now)) }
+{
+    let mut keys = Vec::new(alloc);
+    for section in sections {
+        keys.push(section.0)?;
+    }
+    Ok(keys)
+}
+
+/// The first fault of the checks of stripes and extents.
+fn parts_fault(alloc: Global, extent_size: u64, parts: &Parts) -> Result<Option<LoadFault>, AllocError>
+    ensures { (name : List ℕ) → IfOk result (λ fault. fault ≡ first_fault (checks_of_parts (record { name = name; extent_size = extent_size; physicals = parts.now.physicals.items; volumes = parts.now.volumes.items }))) }
+{
+    if let Some(line) = least_unknown_of(parts.physicals.len(), &parts.volumes) {
+        return Ok(Some(source_fault(LoadKind::Unknown, line)));
+    }
+    if let Some(fault) = size_fault(extent_size, &parts.physicals) {
+        return Ok(Some(fault));
+    }
+    volumes_fault(alloc, &parts.physicals, &parts.volumes)
+}

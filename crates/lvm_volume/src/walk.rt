@@ -1,0 +1,204 @@
+//! The walk over the fields of a group, in the order of the tables: the top, the group, its physical volumes, its
+//! volumes with their segments.
+//!
+//! Both checks take it, each over the whole text before the next one begins; a new field is a row of a table, and
+//! no step here.
+
+ghost use Rattle.std.specs.Prelude.{◌≡◌, ◌≢◌, ◌+◌, None, Some, Ok, Err, IfOk, IfErr, codes, map};
+ghost use Rattle.std.specs.List.{flat_map, range_with_len};
+ghost use Rattle.lvm_text.specs.Iterate.{item_view};
+ghost use Rattle.lvm_text.specs.View.{node_view, content_view};
+ghost use Rattle.lvm_text.specs.Tree as tree;
+ghost use Rattle.dm_table.specs.LoadFault.{Answers, first_or, fault_at, unless};
+ghost use Rattle.dm_table.specs.declared.load_fault.LoadKind.TheVariants as loads;
+ghost use Rattle.dm_table.specs.declared.place.Part.TheVariants.{Source};
+ghost use Rattle.lvm_volume.specs.Fields as spec;
+ghost use Rattle.lvm_volume.specs.Fields.{faults_of_fields, fields_faults, field_faults, field_view, field_views, group_faults, is_wrong, load_kind, missing, node_faults, number_at, one_group_faults, segment_field, section_view, segments_of, volume_faults};
+
+use crate::check::Check;
+use crate::field::{
+    Condition, Field, Kind, group_fields, physical_fields, row, segment_fields, top_fields, volume_fields,
+};
+use crate::fits::{fits, is_asked, is_far};
+use crate::value::{number_at, section_at, sections_at, sections_of, segment_key, segments_of};
+use dm_table::{LoadFault, LoadKind, Part, Place};
+use lvm_text::{Node, Section, Value};
+use std::alloc::{AllocError, Global};
+
+/// A fault at a line of the source.
+pub(crate) fn source_fault(kind: LoadKind, line: u64) -> LoadFault
+    ensures { result ≡ fault_at Source kind line }
+{
+    LoadFault {
+        kind,
+        at: Place {
+            part: Part::Source,
+            number: line,
+        },
+    }
+}
+
+/// What a check answers at a missing field of a section at this line.
+fn missing(check: Check, line: u64) -> Option<LoadFault>
+    ensures { result ≡ first_or (missing check line) None }
+{
+    match check {
+        Check::Fields => Some(source_fault(LoadKind::Field, line)),
+        Check::Limits { .. } => None,
+    }
+}
+
+/// What a check answers at the value of a field.
+fn node_fault(check: Check, section: &Section<'_>, kind: Kind, node: &Node<'_>) -> Option<LoadFault>
+    ensures { result ≡ first_or (node_faults check kind section.now (Some (node_view node.now))) None }
+{
+    let wrong = is_wrong(check, section, kind, &node.value);
+    if wrong {
+        Some(source_fault(load_kind(check), node.line()))
+    } else {
+        None
+    }
+}
+
+fn load_kind(check: Check) -> LoadKind
+    ensures { result ≡ load_kind check }
+{
+    match check {
+        Check::Fields => LoadKind::Field,
+        Check::Limits { .. } => LoadKind::Limit,
+    }
+}
+
+fn is_wrong(check: Check, section: &Section<'_>, kind: Kind, value: &Value<'_>) -> bool
+    ensures { result ≡ is_wrong check kind section.now (content_view value.now) }
+{
+    match check {
+        Check::Fields => !fits(section, kind, value),
+        Check::Limits { extent_size } => is_far(extent_size, kind, value),
+    }
+}
+
+/// What a check answers at a field of a section.
+#[tactic(auto, unfolding(crate::specs::Fields::field_faults))]
+fn field_fault(check: Check, section: &Section<'_>, field: &Field<'_>) -> Option<LoadFault>
+    ensures { result ≡ first_or (field_faults check section.now (field_view field.now)) None }
+{
+    if !is_asked(section, field) {
+        return None;
+    }
+    match section.get(field.key) {
+        Some(node) => node_fault(check, section, field.kind, node),
+        None => missing(check, section.line()),
+    }
+}
+
+/// What a check answers at the fields of a section.
+fn fields_fault(check: Check, section: &Section<'_>, fields: &[Field<'_>]) -> Option<LoadFault>
+    ensures { result ≡ first_or (fields_faults check section.now (field_views fields.now)) None }
+{
+    for field in fields {
+        if let Some(fault) = field_fault(check, section, field) {
+            return Some(fault);
+        }
+    }
+    None
+}
+
+/// What a check answers at the physical volumes.
+fn physicals_fault(check: Check, physicals: &[(&str, &Section<'_>)]) -> Option<LoadFault>
+    ensures { result ≡ first_or (flat_map (λ physical. fields_faults check physical.1 spec.physical_fields) (map item_view physicals.now)) None }
+{
+    for physical in physicals {
+        if let Some(fault) = fields_fault(check, physical.1, &physical_fields()) {
+            return Some(fault);
+        }
+    }
+    None
+}
+
+/// What a check answers at the keys of a volume's segments. It stops at the first that is missing, so that
+/// no count makes it long.
+fn keys_fault(alloc: Global, check: Check, volume: &Section<'_>) -> Result<Option<LoadFault>, AllocError>
+    ensures { IfOk result (λ fault. fault ≡ first_or (flat_map (λ i. field_faults check volume.now (segment_field i)) (range_with_len 1 (number_at (codes "segment_count") volume.now))) None) }
+{
+    for i in 0..number_at(volume, "segment_count") {
+        let key = segment_key(alloc, i + 1)?;
+        if let Some(fault) = field_fault(check, volume, &row(key.as_str(), Kind::Section, Condition::Always)) {
+            return Ok(Some(fault));
+        }
+    }
+    Ok(None)
+}
+
+/// What a check answers at the fields of segments.
+fn segments_fault(check: Check, segments: &[&Section<'_>]) -> Option<LoadFault>
+    ensures { result ≡ first_or (flat_map (λ segment. fields_faults check segment spec.segment_fields) (map section_view segments.now)) None }
+{
+    for segment in segments {
+        if let Some(fault) = fields_fault(check, *segment, &segment_fields()) {
+            return Some(fault);
+        }
+    }
+    None
+}
+
+/// What a check answers at a volume and its segments.
+#[tactic(auto, unfolding(crate::specs::Fields::volume_faults))]
+fn volume_fault(alloc: Global, check: Check, volume: &Section<'_>) -> Result<Option<LoadFault>, AllocError>
+    ensures { IfOk result (λ fault. fault ≡ first_or (volume_faults check volume.now) None) }
+{
+    if let Some(fault) = fields_fault(check, volume, &volume_fields()) {
+        return Ok(Some(fault));
+    }
+    if let Some(fault) = keys_fault(alloc, check, volume)? {
+        return Ok(Some(fault));
+    }
+    let segments = segments_of(alloc, volume)?;
+    Ok(segments_fault(check, &segments))
+}
+
+/// What a check answers at the volumes.
+fn volumes_fault(alloc: Global, check: Check, volumes: &[(&str, &Section<'_>)]) -> Result<Option<LoadFault>, AllocError>
+    ensures { IfOk result (λ fault. fault ≡ first_or (flat_map (λ volume. volume_faults check volume.1) (map item_view volumes.now)) None) }
+{
+    for volume in volumes {
+        if let Some(fault) = volume_fault(alloc, check, volume.1)? {
+            return Ok(Some(fault));
+        }
+    }
+    Ok(None)
+}
+
+/// What a check answers at a group.
+#[tactic(auto, unfolding(crate::specs::Fields::group_faults))]
+fn group_fault(alloc: Global, check: Check, group: &Section<'_>) -> Result<Option<LoadFault>, AllocError>
+    ensures { IfOk result (λ fault. fault ≡ first_or (group_faults check group.now) None) }
+{
+    if let Some(fault) = fields_fault(check, group, &group_fields()) {
+        return Ok(Some(fault));
+    }
+    let physicals = sections_at(alloc, group, "physical_volumes")?;
+    if let Some(fault) = physicals_fault(check, &physicals) {
+        return Ok(Some(fault));
+    }
+    let volumes = sections_at(alloc, group, "logical_volumes")?;
+    volumes_fault(alloc, check, &volumes)
+}
+
+/// What a check answers at all fields that are read.
+///
+/// Cost: near-linear in the values of the sections that are read.
+#[tactic(auto, unfolding(crate::specs::Fields::one_group_faults))]
+pub(crate) fn first_fault(alloc: Global, check: Check, top: &Section<'_>) -> Result<Option<LoadFault>, AllocError>
+    ensures { IfOk result (λ fault. fault ≡ first_or (faults_of_fields check top.now) None) }
+{
+    if let Some(fault) = fields_fault(check, top, &top_fields()) {
+        return Ok(Some(fault));
+    }
+    let sections = sections_of(alloc, top)?;
+    match sections.as_slice() {
+        [] => Ok(missing(check, top.line())),
+        [group] => group_fault(alloc, check, group.1),
+        [_, second, ..] => Ok(missing(check, second.1.line())),
+    }
+}
