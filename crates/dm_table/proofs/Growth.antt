@@ -28,7 +28,7 @@ pub front_beginning : (old new bytes : List ℕ) (at : ℕ) → new ≡ old ++ t
 front_beginning old new bytes at e =
     (drop at bytes, sym (take-append-drop at bytes) ∙ ap (λ xs. xs ++ drop at bytes) (sym (since_is old new (take at bytes) e)))
 
--- what is left of a rest after its first n bytes
+-- what is left of a rest behind its first n bytes
 abbrev pub behind : List ℕ → ℕ → List ℕ
 behind rest n = take (length rest - n) (drop n rest)
 
