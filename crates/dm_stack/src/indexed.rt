@@ -5,13 +5,13 @@
 
 ghost use Rattle.std.specs.Prelude.{◌≡◌, map};
 ghost use Rattle.std.specs.List.{All};
-ghost use Rattle.dm_stack.specs.Description.{lower_len, lower_of};
+ghost use Rattle.dm_stack.specs.Description.{device_id, disk_id, lower_len, lower_of};
 ghost use Rattle.dm_stack.specs.Soundness.{HaveSmallEnds, is_unknown_ref};
 
 use crate::id::{DeviceId, DiskId, Lower};
 use crate::layout::end_of;
 use crate::name_index::NameIndex;
-use dm_table::{DevRef, DeviceSpec, Disk};
+use dm_table::{DevRef, DeviceSpec, Disk, DiskName, Name};
 use std::marker::Model;
 
 /// The devices and the disks of a description, with their names by their places. The ends of its
@@ -80,19 +80,29 @@ impl<'a> Indexed<'a> {
         }
     }
 
-    /// What a line names, by its id; an id past the last where it is not there.
+    /// The id of a device's name; one past the last where no device has it.
+    pub(crate) fn device_of(&self, name: &Name) -> DeviceId
+        ensures { result ≡ device_id self.now name.now }
+    {
+        let place = self.device_names.find(name.as_str());
+        DeviceId::new(place.unwrap_or(self.devices.len()))
+    }
+
+    /// The id of a disk's name; one past the last where no disk has it.
+    fn disk_of(&self, name: &DiskName) -> DiskId
+        ensures { result ≡ disk_id self.now name.now }
+    {
+        let place = self.disk_names.find(name.as_str());
+        DiskId::new(place.unwrap_or(self.disks.len()))
+    }
+
+    /// What a line names, by its id; one past the last where it is not there.
     pub(crate) fn lower_of(&self, to: &DevRef) -> Lower
         ensures { result ≡ lower_of self.now to.now }
     {
         match to {
-            DevRef::Device(name) => {
-                let place = self.device_names.find(name.as_str());
-                Lower::Device(DeviceId::new(place.unwrap_or(self.devices.len())))
-            }
-            DevRef::Disk(name) => {
-                let place = self.disk_names.find(name.as_str());
-                Lower::Disk(DiskId::new(place.unwrap_or(self.disks.len())))
-            }
+            DevRef::Device(name) => Lower::Device(self.device_of(name)),
+            DevRef::Disk(name) => Lower::Disk(self.disk_of(name)),
         }
     }
 

@@ -5,10 +5,9 @@ ghost use Rattle.std.specs.List.{flat_map};
 ghost use Rattle.dm_stack.specs.Description.{line_links, links};
 ghost use Rattle.dm_stack.specs.Graph.{links_in};
 
-use crate::id::Lower;
 use crate::indexed::Indexed;
 use crate::span::Spans;
-use dm_table::Line;
+use dm_table::{DevRef, Line};
 use std::alloc::{AllocError, Global};
 
 /// What each device names.
@@ -39,8 +38,8 @@ fn add_line(links: &mut Vec<usize>, stack: &Indexed, line: &Line) -> Result<(), 
     ensures { OnOk result (links.new.items ≡ links.old.items ++ line_links stack.now line.now) }
 {
     for span in Spans::of(line) {
-        if let Lower::Device(device) = stack.lower_of(span.to) {
-            links.push(device.index())?;
+        if let DevRef::Device(name) = span.to {
+            links.push(stack.device_of(name).index())?;
         }
     }
     Ok(())
