@@ -168,7 +168,7 @@ device_name_first text none =
       | inr cut ↦ device_name_cut text cut
     ]
 
--- and where a space is behind them, they are the first field
+-- and where a space is after them, they are the first field
 pub record StandsFirst (test : ℕ → Bool) (text field : List ℕ) : Type 0 where
   pub front : take (prefix_len test text) text ≡ field
   pub rest : List ℕ

@@ -1,8 +1,10 @@
 -- Checks that find something, and checks that find nothing.
-use Rattle.std.proofs.Common.{◌≡◌, ℕ, suc, Bool, true, false, cond, List, [], ◌∷◌, ◌++◌, map, Option, Some, None, Ok, Err, refl, ap, ◌∙◌}
+use Rattle.std.proofs.Common.{◌≡◌, ◌≢◌, inl, inr, ℕ, suc, Bool, true, false, cond, List, [], ◌∷◌, ◌++◌, map, Option, Some, None, Ok, Err, refl, ap, ◌∙◌}
 use Rattle.std.specs.List.{AllByRecursion}
+use Rattle.std.proofs.lemmas.Bool.{cases_Bool}
 use Rattle.dm_table.specs.declared.place.Part.{Part}
 use Rattle.dm_table.specs.declared.load_fault.LoadKind.{LoadKind}
+use Rattle.dm_table.specs.declared.load_fault.LoadKind.TheVariants.{Memory}
 use Rattle.dm_table.specs.declared.load_fault.LoadFault.{LoadFault}
 use Rattle.dm_table.specs.LoadFault.{Answers, fault_at, first_or, first_fault, faults_from, unless, unended}
 
@@ -13,7 +15,7 @@ pub first_or-found : (faults : List LoadFault) (later : Option LoadFault) (fault
 first_or-found [] later fault h = absurd cc
 first_or-found (other ∷ faults) later fault h = h
 
--- a check that finds nothing leaves the answer to those behind it
+-- a check that finds nothing leaves the result to those after it
 pub first_or-passed : (faults : List LoadFault) (later : Option LoadFault) → first_or faults None ≡ None → first_or faults later ≡ later
 first_or-passed [] later h = refl
 first_or-passed (fault ∷ faults) later h = absurd cc
@@ -71,7 +73,7 @@ pub unended-nil : (part : Part) (n : ℕ) (rest : List ℕ) → unended part n r
 unended-nil part n [] e = refl
 unended-nil part n (byte ∷ bytes) e = absurd cc
 
--- What is answered
+-- What is returned
 
 pub unless-ok : {X : Type 0} (found : Option LoadFault) (x y : X) → unless found x ≡ Ok y → (found ≡ None) × (x ≡ y)
 unless-ok None x y h = (refl, cc)
@@ -89,9 +91,36 @@ Answers-refused part view whole fault faults later y w h = (
   λ other. let found = first_or-found faults later fault (unless-err (first_or faults None) y fault (h.1 other)) in rw found refl,
 )
 
--- what a first step takes, the whole call answers by the steps behind it
+-- what a first step takes, the whole call returns what the steps after it do
 pub unless-passed : {Y W : Type 0} (faults : List LoadFault) (later : Option LoadFault) (y taken : Y) (w : W)
     → unless (first_or faults None) y ≡ Ok taken → (y ≡ taken) × (unless (first_or faults later) w ≡ unless later w)
 unless-passed faults later y taken w h =
     let a = unless-ok (first_or faults None) y taken h in
     (a.1, rw (first_or-passed faults later a.0) refl)
+
+-- Which kinds are found
+
+-- a fault that is not of memory
+abbrev pub IsOfText : LoadFault → Type 0
+IsOfText fault = fault.kind ≢ Memory
+
+pub faults_from-text : {X : Type 0} (part : Part) (kind : LoadKind) (bad : X → Bool) (n : ℕ) (xs : List X) → kind ≢ Memory → AllByRecursion IsOfText (faults_from part kind bad n xs)
+faults_from-text part kind bad n [] h = tt
+faults_from-text part kind bad n (x ∷ xs) h = elim (cases_Bool (bad x)) [
+  | inl e ↦ rw e (h, faults_from-text part kind bad (suc n) xs h)
+  | inr e ↦ rw e (faults_from-text part kind bad (suc n) xs h)
+]
+
+pub text-append : (a b : List LoadFault) → AllByRecursion IsOfText a → AllByRecursion IsOfText b → AllByRecursion IsOfText (a ++ b)
+text-append [] b h k = k
+text-append (fault ∷ a) b h k = (h.0, text-append a b h.1 k)
+
+pub unended-text : (part : Part) (n : ℕ) (rest : List ℕ) → AllByRecursion IsOfText (unended part n rest)
+unended-text part n [] = tt
+unended-text part n (byte ∷ bytes) = (λ e. cc, tt)
+
+-- the first fault of checks that find none of memory is none of memory
+pub first_fault-text : (checks : List (List LoadFault)) (fault : LoadFault) → AllByRecursion (AllByRecursion IsOfText) checks → first_fault checks ≡ Some fault → fault.kind ≢ Memory
+first_fault-text [] fault h e = absurd cc
+first_fault-text ([] ∷ checks) fault h e = first_fault-text checks fault h.1 e
+first_fault-text ((other ∷ faults) ∷ checks) fault h e = let same : other ≡ fault = cc in rw (← same) h.0.0

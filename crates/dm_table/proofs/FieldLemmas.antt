@@ -17,7 +17,7 @@ IsClearOf c = All (λ b. eqb b c ≡ false)
 
 -- Cutting
 
--- the part before the first c, and the parts behind it
+-- the part before the first c, and the parts after it
 pub parts_at-first : (c : ℕ) (part more : List ℕ) → IsClearOf c part → parts_at c (part ++ c ∷ more) ≡ part ∷ parts_at c more
 parts_at-first c part more clear = slice_split_at (λ b. eqb b c) part c more clear (eq-eqb c c refl)
 

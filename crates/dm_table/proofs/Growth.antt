@@ -5,15 +5,15 @@ use Rattle.std.proofs.lemmas.List.{take_rest, append-nil, drop-drop, length-drop
 use Rattle.dm_table.specs.DeviceIo.{since}
 use Rattle.dm_table.specs.WriteAll.{IsBeginning, IsCutShort}
 
--- what was put behind a list
+-- what was added after a list
 pub since_is : (old new more : List ℕ) → new ≡ old ++ more → since old new ≡ more
 since_is old new more e = ap (drop (length old)) e ∙ drop-append_seam old more
 
--- a list behind which nothing was put
+-- a list after which nothing was added
 pub quiet_since : (old new held : List ℕ) → new ≡ old ++ [] → held ≡ held ++ since old new
 quiet_since old new held e = sym (append-nil held) ∙ ap (λ xs. held ++ xs) (sym (since_is old new [] e))
 
--- what was put behind it in two steps
+-- what was added after it in two steps
 pub since_more : (old mid new : List ℕ) → mid ≡ old ++ since old mid → new ≡ mid ++ since mid new → since old new ≡ since old mid ++ since mid new
 since_more old mid new e f =
     since_is old new (since old mid ++ since mid new) (f ∙ ap (λ xs. xs ++ since mid new) e ∙ append_assoc old (since old mid) (since mid new))
@@ -37,7 +37,7 @@ front_cut old new bytes (byte ∷ more) at e is some = (
   sym (take-append-drop at bytes) ∙ ap (λ xs. xs ++ drop at bytes) (sym (since_is old new (take at bytes) e)) ∙ ap (λ xs. since old new ++ xs) (sym is),
 )
 
--- what is left of a rest behind its first n bytes
+-- what is left of a rest after its first n bytes
 abbrev pub behind : List ℕ → ℕ → List ℕ
 behind rest n = take (length rest - n) (drop n rest)
 

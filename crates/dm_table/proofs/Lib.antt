@@ -6,9 +6,12 @@ pub mod RequestLemmas
 mod Portions
 pub mod DiskLemmas
 pub mod TableGroups
+pub mod BodyRows
 pub mod TableRows
+pub mod TableLines
 pub mod TableDescribed
 pub mod TableFields
 pub mod TargetRows
-pub mod TableRuns
 pub mod Growth
+pub mod RowFaultLemmas
+pub mod WriteLemmas

@@ -3,7 +3,7 @@ use Rattle.std.proofs.Common.{◌≡◌, ◌≤◌, ◌+◌, ◌-◌, ◌++◌, 
 use Rattle.std.proofs.Math.Seq.{take-add}
 use Rattle.std.proofs.lemmas.List.{take_at, take_all, take-append-drop, drop-drop}
 
--- all that lies behind a place
+-- all that lies after a place
 abbrev pub behind : List ℕ → ℕ → List ℕ
 behind bytes at = take (length bytes - at) (drop at bytes)
 

@@ -9,7 +9,7 @@ use Rattle.dm_table.specs.declared.load_fault.LoadFault.{LoadFault}
 use Rattle.dm_table.specs.Fields.{parts_at, front, back, lines_of, rest_of, lines_and_rest}
 use Rattle.dm_table.specs.LoadFault.{first_or, first_fault, faults_from, unless, is_text, not_text, unended}
 use Rattle.dm_table.specs.TableText.{NamedLine, Says, DescribesTable, named_lines, row_of, is_row, is_line, has_names, table_checks}
-use Rattle.dm_table.specs.TableReading.{name_of_row, line_in, named_from, joined, devices_from, rows_of, bad_syntax, bad_field, bad_name, read_rows, read_table}
+use Rattle.dm_table.specs.TableReading.{named_in, named_from, joined, devices_from, rows_of, bad_syntax, bad_field, bad_name, read_rows, read_table}
 use Rattle.dm_table.proofs.ByteLemmas.{is_text-clear}
 use Rattle.dm_table.proofs.FaultLemmas.{first_fault-none, first_fault-all, faults_from-nil, faults_from-good, append-nil_both, unended-nil, unless-ok, unless-err, unless-passed}
 use Rattle.dm_table.proofs.FieldLemmas.{IsClearOf, lines_of-whole, parts_at-lines, front-push, back-push}
@@ -87,7 +87,7 @@ named_again n [] [] s = refl
 named_again n [] (named ∷ ns) s = absurd s
 named_again n (line ∷ ls) [] s = absurd s
 named_again n (line ∷ ls) (named ∷ ns) s =
-    ap (λ (more : List NamedLine). record { name = name_of_row (row_for named); line = line_in n (row_for named) } ∷ more) (named_again (suc n) ls ns s.2)
+    ap (λ (more : List NamedLine). named_in n (row_for named) ∷ more) (named_again (suc n) ls ns s.2)
     ∙ ap (λ (one : NamedLine). one ∷ ns) (line_again n named s.1)
 
 lines_clear : (ls : List (List ℕ)) → AllByRecursion (λ line. is_text line ≡ true) ls → AllByRecursion (IsClearOf 10) ls

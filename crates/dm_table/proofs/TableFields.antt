@@ -1,10 +1,21 @@
--- What the tests of rows say, by places: the last field, all before it, and the names.
-use Rattle.std.proofs.Common.{◌≡◌, ℕ, suc, ◌-◌, ◌<◌, ◌≤◌, true, false, eqb, List, [], ◌∷◌, length, get_or, take, refl, ap, arith}
+-- What the tests of rows say, by places: the last field, and all before it.
+use Rattle.std.proofs.Common.{◌≡◌, ℕ, suc, ◌-◌, ◌≤◌, true, false, eqb, List, [], ◌∷◌, length, get_or, take, refl, ap, arith}
 use Rattle.std.proofs.lemmas.Bool.{lt-ltb, ne_eqb}
-use Rattle.dm_table.specs.Name.{is_device_name}
 use Rattle.dm_table.specs.Fields.{texts, front, back}
-use Rattle.dm_table.specs.TableText.{is_label, has_names, without_last_space}
-use Rattle.dm_table.specs.TableReading.{ends_empty, name_of_row}
+use Rattle.dm_table.specs.TableText.{is_label, without_last_space}
+use Rattle.dm_table.specs.TableReading.{ends_empty}
+use Rattle.std.proofs.lemmas.List.{take_rest}
+use Rattle.std.specs.Prelude.{Bool, ◌&&◌, slice_index_or, drop, Err}
+use Rattle.dm_table.specs.declared.table.Line.{Line}
+use Rattle.dm_table.specs.declared.place.Part.TheVariants.{Source}
+use Rattle.dm_table.specs.declared.row_faults.RowFault.{RowFault}
+use Rattle.dm_table.specs.Name.{is_device_name}
+use Rattle.dm_table.specs.RowFaults.{value_fault, read_unless}
+use Rattle.dm_table.specs.LineBody.{is_body_row, is_body, has_body_names}
+use Rattle.dm_table.specs.LineReading.{body_in, body_reading}
+use Rattle.dm_table.specs.TableText.{NamedLine, name_in}
+use Rattle.dm_table.specs.TableReading.{named_in, row_reading}
+use Rattle.dm_table.proofs.TargetRows.{read_fault, and_false}
 use denote.Ref.{Bor}
 
 last_place : {X : Type 0} (x y : X) (xs : List X) → length (x ∷ y ∷ xs) - 1 ≡ suc (length (y ∷ xs) - 1)
@@ -47,9 +58,16 @@ not_spaced ([] ∷ []) e = absurd cc
 not_spaced ((b ∷ bs) ∷ []) e = refl
 not_spaced (f ∷ g ∷ fs) e = ap (λ (rest : List (List ℕ)). f ∷ rest) (not_spaced (g ∷ fs) e)
 
--- a row of few fields has one name
-pub few_names : (row : List (List ℕ)) → 1 ≤ length row → length row < 3 → is_device_name (name_of_row row) ≡ has_names row
-few_names [] low high = absurd (omega arith)
-few_names (a ∷ []) low high = refl
-few_names (a ∷ b ∷ []) low high = refl
-few_names (a ∷ b ∷ c ∷ rest) low high = absurd (omega arith)
+-- values with a fault have it under any label
+labelled_fault : (known named labelled : Bool) (x : Line) (y : NamedLine) (fault : RowFault) → read_unless (value_fault known named) x ≡ Err fault → read_unless (value_fault known (labelled && named)) y ≡ Err fault
+labelled_fault false named labelled x y fault h = read_fault (value_fault false named) x y fault h
+labelled_fault true false labelled x y fault h = rw (and_false labelled) (read_fault (value_fault true false) x y fault h)
+labelled_fault true true labelled x y fault h = absurd cc
+
+-- a body with a fault, in a row
+pub row_body_fault : (n : ℕ) (row : List (Bor (List ℕ))) (d : Bor (List ℕ)) (fault : RowFault) → 1 ≤ length row → is_label (slice_index_or row 0 d).now ≡ true → is_body_row (texts (take (length row - 1) (drop 1 row))) ≡ true
+    → body_reading (record { part = Source; number = n }) (texts (take (length row - 1) (drop 1 row))) ≡ Err fault → row_reading n (texts row) ≡ Err fault
+row_body_fault n [] d fault h l b r = absurd (omega arith)
+row_body_fault n (f ∷ fs) d fault h l b r =
+    let is_row : is_body_row (texts fs) ≡ true = rw (take_rest (f ∷ fs) 1) at b in
+    rw (l, is_row) (labelled_fault (is_body (texts fs)) (has_body_names (texts fs)) (is_device_name (name_in f.now)) (body_in (record { part = Source; number = n }) (texts fs)) (named_in n (texts (f ∷ fs))) fault (rw (take_rest (f ∷ fs) 1) at r))

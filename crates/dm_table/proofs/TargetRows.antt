@@ -1,16 +1,50 @@
--- What the tests of a target's fields say of the slices that the code has in hand.
-use Rattle.std.proofs.Common.{◌≡◌, ℕ, ◌-◌, ◌<◌, ◌≤◌, true, eqb, nat_eq, ◌&&◌, List, [], ◌∷◌, ◌++◌, length, take, drop, slice_index_or, refl, append_assoc, arith}
-use Rattle.std.specs.Prelude.{codes, is_some}
+-- What is read of the slices that the code has in hand, field by field.
+use Rattle.std.proofs.Common.{◌≡◌, ◌≢◌, inl, inr, ℕ, ◌-◌, ◌<◌, ◌≤◌, Bool, true, false, eqb, nat_eq, ◌&&◌, List, [], ◌∷◌, length, take, drop, slice_index_or, Option, Some, None, Result, Ok, Err, refl, ap, arith}
+use Rattle.std.specs.Prelude.{codes}
 use Rattle.std.specs.Cmp.Lexicographic.{pointwise}
-use Rattle.std.proofs.lemmas.Bool.{and_parts}
-use Rattle.std.proofs.lemmas.List.{take_rest}
+use Rattle.std.proofs.lemmas.Bool.{cases_Bool, ne_eqb}
+use Rattle.std.proofs.lemmas.List.{take_rest, length-map}
 use denote.Ref.{Bor}
 use Rattle.dm_table.specs.declared.table.Column.{Column}
-use Rattle.dm_table.specs.Number.{number_of, number_in}
+use Rattle.dm_table.specs.declared.table.DevRef.{DevRef}
+use Rattle.dm_table.specs.declared.table.Target.TheVariants.{Linear, Striped}
+use Rattle.dm_table.specs.declared.place.Place.{Place}
+use Rattle.dm_table.specs.declared.row_faults.RowFault.{RowFault}
+use Rattle.dm_table.specs.declared.row_faults.RowFault.TheVariants.{Field, Name, Memory}
+use Rattle.dm_table.specs.Number.{number_of}
 use Rattle.dm_table.specs.Fields.{texts}
-use Rattle.dm_table.specs.TableText.{is_linear, are_columns, is_half, is_striped, is_dev, are_devs, has_devs}
-use Rattle.dm_table.specs.TableReading.{dev_in, columns_in}
+use Rattle.dm_table.specs.LineBody.{are_columns, is_half, is_dev, are_devs, has_devs}
+use Rattle.dm_table.specs.RowFaults.{value_fault, read_unless}
+use Rattle.dm_table.specs.LineReading.{dev_in, columns_in, dev_reading, columns_reading, fault_before, linear_reading, striped_reading, target_reading, body_reading}
 use Rattle.dm_table.proofs.TableGroups.{same_name}
+
+-- What is read of a value
+
+-- a fault is that of any value
+pub read_fault : {X Y : Type 0} (found : Option RowFault) (x : X) (y : Y) (fault : RowFault) → read_unless found x ≡ Err fault → read_unless found y ≡ Err fault
+read_fault None x y fault h = absurd cc
+read_fault (Some other) x y fault h = let same : other ≡ fault = cc in ap Err same
+
+pub read_none : {X : Type 0} (found : Option RowFault) (x : X) (fault : RowFault) → read_unless found x ≡ Err fault → found ≡ Some fault
+read_none None x fault h = absurd cc
+read_none (Some other) x fault h = let same : other ≡ fault = cc in ap Some same
+
+-- a value was read where nothing was found
+pub read_value : {X : Type 0} (found : Option RowFault) (x y : X) → read_unless found x ≡ Ok y → (found ≡ None) × (x ≡ y)
+read_value None x y h = (refl, cc)
+read_value (Some fault) x y h = absurd cc
+
+dev_parts : (text : List ℕ) (to : DevRef) → dev_reading text ≡ Ok to → (is_dev text ≡ true) × (dev_in text ≡ to)
+dev_parts text to h = elim (cases_Bool (is_dev text)) [
+  | inl e ↦ (e, (read_value None (dev_in text) to (rw e at h)).1)
+  | inr e ↦ absurd (let no : ◌≡◌ {A = Result DevRef RowFault} (Err Name) (Ok to) = rw e at h in cc)
+]
+
+dev_unnamed : (text : List ℕ) (fault : RowFault) → dev_reading text ≡ Err fault → (is_dev text ≡ false) × (fault ≡ Name)
+dev_unnamed text fault h = elim (cases_Bool (is_dev text)) [
+  | inl e ↦ absurd (let no : Ok (dev_in text) ≡ Err fault = rw e at h in cc)
+  | inr e ↦ (e, let same : ◌≡◌ {A = Result DevRef RowFault} (Err Name) (Err fault) = rw e at h in cc)
+]
 
 -- Columns, two fields at a time
 
@@ -29,58 +63,126 @@ no_column [] h = refl
 no_column (f ∷ []) h = refl
 no_column (f ∷ g ∷ fs) h = absurd (omega arith)
 
-pub first_named : (fs : List (Bor (List ℕ))) (d : Bor (List ℕ)) → 2 ≤ length fs → are_devs (texts fs) ≡ true → is_dev (slice_index_or fs 0 d).now ≡ true
-first_named [] d h named = absurd (omega arith)
-first_named (f ∷ []) d h named = absurd (omega arith)
-first_named (f ∷ g ∷ fs) d h named = (and_parts (is_dev f.now) (are_devs (texts fs)) named).0
-
-pub second_numbered : (fs : List (Bor (List ℕ))) (d : Bor (List ℕ)) → 2 ≤ length fs → are_columns (texts fs) ≡ true → is_some (number_of (slice_index_or fs 1 d).now) ≡ true
-second_numbered [] d h known = absurd (omega arith)
-second_numbered (f ∷ []) d h known = absurd (omega arith)
-second_numbered (f ∷ g ∷ fs) d h known = (and_parts (is_some (number_of g.now)) (are_columns (texts fs)) known).0
-
-pub columns_more : (fs : List (Bor (List ℕ))) → 2 ≤ length fs → are_columns (texts fs) ≡ true → are_columns (texts (take (length fs - 2) (drop 2 fs))) ≡ true
-columns_more [] h known = absurd (omega arith)
-columns_more (f ∷ []) h known = absurd (omega arith)
-columns_more (f ∷ g ∷ fs) h known = rw (take_rest (f ∷ g ∷ fs) 2) ((and_parts (is_some (number_of g.now)) (are_columns (texts fs)) known).1)
-
-pub devs_more : (fs : List (Bor (List ℕ))) → 2 ≤ length fs → are_devs (texts fs) ≡ true → are_devs (texts (take (length fs - 2) (drop 2 fs))) ≡ true
-devs_more [] h named = absurd (omega arith)
-devs_more (f ∷ []) h named = absurd (omega arith)
-devs_more (f ∷ g ∷ fs) h named = rw (take_rest (f ∷ g ∷ fs) 2) ((and_parts (is_dev f.now) (are_devs (texts fs)) named).1)
-
 -- one column further
-pub column_made : (fs : List (Bor (List ℕ))) (d e : Bor (List ℕ)) (so_far all : List Column) → 2 ≤ length fs → so_far ++ columns_in (texts fs) ≡ all
-    → (so_far ++ record { to = dev_in (slice_index_or fs 0 d).now; offset = number_in (slice_index_or fs 1 e).now } ∷ []) ++ columns_in (texts (take (length fs - 2) (drop 2 fs))) ≡ all
-column_made [] d e so_far all h made = absurd (omega arith)
-column_made (f ∷ []) d e so_far all h made = absurd (omega arith)
-column_made (f ∷ g ∷ fs) d e so_far all h made = rw (take_rest (f ∷ g ∷ fs) 2, append_assoc) made
+pub record IsColumnFurther (fs : List (Bor (List ℕ))) (rest : List (Bor (List ℕ))) (to : DevRef) (offset : ℕ) : Type 0 where
+  pub made : columns_in (texts fs) ≡ record { to = to; offset = offset } ∷ columns_in (texts rest)
+  pub known : are_columns (texts fs) ≡ are_columns (texts rest)
+  pub named : are_devs (texts fs) ≡ are_devs (texts rest)
+
+pub column_further : (fs : List (Bor (List ℕ))) (d e : Bor (List ℕ)) (to : DevRef) (offset : ℕ) → 2 ≤ length fs → number_of (slice_index_or fs 1 e).now ≡ Some offset → dev_reading (slice_index_or fs 0 d).now ≡ Ok to
+    → IsColumnFurther fs (take (length fs - 2) (drop 2 fs)) to offset
+column_further [] d e to offset h n r = absurd (omega arith)
+column_further (f ∷ []) d e to offset h n r = absurd (omega arith)
+column_further (f ∷ g ∷ fs) d e to offset h n r =
+    let a = dev_parts f.now to r in
+    record {
+      made = rw (take_rest (f ∷ g ∷ fs) 2, a.1, n) refl;
+      known = rw (take_rest (f ∷ g ∷ fs) 2, n) refl;
+      named = rw (take_rest (f ∷ g ∷ fs) 2, a.0) refl;
+    }
+
+-- a column whose text is no name
+pub column_unnamed : (fs : List (Bor (List ℕ))) (d e : Bor (List ℕ)) (offset : ℕ) (fault : RowFault) → 2 ≤ length fs → number_of (slice_index_or fs 1 e).now ≡ Some offset → dev_reading (slice_index_or fs 0 d).now ≡ Err fault
+    → columns_reading (texts fs) ≡ Err (fault_before fault (texts (take (length fs - 2) (drop 2 fs))))
+column_unnamed [] d e offset fault h n r = absurd (omega arith)
+column_unnamed (f ∷ []) d e offset fault h n r = absurd (omega arith)
+column_unnamed (f ∷ g ∷ fs) d e offset fault h n r =
+    let a = dev_unnamed f.now fault r in
+    elim (cases_Bool (are_columns (texts fs))) [
+      | inl c ↦ rw (take_rest (f ∷ g ∷ fs) 2, a.1, a.0, n, c) refl
+      | inr c ↦ rw (take_rest (f ∷ g ∷ fs) 2, a.1, a.0, n, c) refl
+    ]
+
+-- memory that ran out stays so
+pub memory_before : (fault : RowFault) (fields : List (List ℕ)) → fault ≡ Memory → fault_before fault fields ≡ Memory
+memory_before fault fields e = rw e refl
+
+-- a column whose offset is no number
+pub column_unknown : (fs : List (Bor (List ℕ))) (e : Bor (List ℕ)) → 2 ≤ length fs → number_of (slice_index_or fs 1 e).now ≡ None → columns_reading (texts fs) ≡ Err Field
+column_unknown [] e h n = absurd (omega arith)
+column_unknown (f ∷ []) e h n = absurd (omega arith)
+column_unknown (f ∷ g ∷ fs) e h n = rw n refl
+
+-- fields that differ in nothing that columns are tested for have the same fault
+pub same_columns_fault : (fs gs : List (List ℕ)) (fault : RowFault) → are_columns fs ≡ are_columns gs → are_devs fs ≡ are_devs gs → columns_reading fs ≡ Err fault → columns_reading gs ≡ Err fault
+same_columns_fault fs gs fault c d h = read_fault (value_fault (are_columns gs) (are_devs gs)) (columns_in fs) (columns_in gs) fault (rw (c, d) at h)
+
+-- a field left over
+pub columns_odd : (fs : List (Bor (List ℕ))) → length fs < 2 → eqb (length fs) 0 ≡ false → columns_reading (texts fs) ≡ Err Field
+columns_odd [] h some = absurd cc
+columns_odd (f ∷ []) h some = refl
+columns_odd (f ∷ g ∷ fs) h some = absurd (omega arith)
 
 -- The arguments of a type
 
-pub linear_two : (fs : List (Bor (List ℕ))) → is_linear (texts fs) ≡ true → length fs ≡ 2
-linear_two [] h = absurd cc
-linear_two (f ∷ []) h = absurd cc
-linear_two (f ∷ g ∷ []) h = refl
-linear_two (f ∷ g ∷ k ∷ fs) h = absurd cc
+pub linear_none : (fs : List (Bor (List ℕ))) → length fs ≢ 2 → linear_reading (texts fs) ≡ Err Field
+linear_none [] h = refl
+linear_none (f ∷ []) h = refl
+linear_none (f ∷ g ∷ []) h = absurd (h refl)
+linear_none (f ∷ g ∷ k ∷ fs) h = refl
 
-pub striped_two : (fs : List (Bor (List ℕ))) → is_striped (texts fs) ≡ true → 2 ≤ length fs
-striped_two [] h = absurd cc
-striped_two (f ∷ []) h = absurd cc
-striped_two (f ∷ g ∷ fs) h = omega arith
+pub linear_unnamed : (fs : List (Bor (List ℕ))) (d e : Bor (List ℕ)) (offset : ℕ) (fault : RowFault) → length fs ≡ 2 → number_of (slice_index_or fs 1 e).now ≡ Some offset → dev_reading (slice_index_or fs 0 d).now ≡ Err fault
+    → linear_reading (texts fs) ≡ Err fault
+linear_unnamed [] d e offset fault h n r = absurd (omega arith)
+linear_unnamed (f ∷ []) d e offset fault h n r = absurd (omega arith)
+linear_unnamed (f ∷ g ∷ []) d e offset fault h n r = let a = dev_unnamed f.now fault r in rw (n, a.0, a.1) refl
+linear_unnamed (f ∷ g ∷ k ∷ fs) d e offset fault h n r = absurd (omega arith)
 
-pub striped_columns : (fs : List (Bor (List ℕ))) → is_striped (texts fs) ≡ true → are_columns (texts (take (length fs - 2) (drop 2 fs))) ≡ true
-striped_columns [] h = absurd cc
-striped_columns (f ∷ []) h = absurd cc
-striped_columns (f ∷ g ∷ fs) h =
-    let a = and_parts (is_half f.now (length (texts fs))) (is_some (number_of g.now) && are_columns (texts fs)) h in
-    rw (take_rest (f ∷ g ∷ fs) 2) ((and_parts (is_some (number_of g.now)) (are_columns (texts fs)) a.1).1)
+pub linear_read : (fs : List (Bor (List ℕ))) (d e : Bor (List ℕ)) (offset : ℕ) (to : DevRef) → length fs ≡ 2 → number_of (slice_index_or fs 1 e).now ≡ Some offset → dev_reading (slice_index_or fs 0 d).now ≡ Ok to
+    → linear_reading (texts fs) ≡ Ok (Linear to offset)
+linear_read [] d e offset to h n r = absurd (omega arith)
+linear_read (f ∷ []) d e offset to h n r = absurd (omega arith)
+linear_read (f ∷ g ∷ []) d e offset to h n r = let a = dev_parts f.now to r in rw (n, a.0, a.1) refl
+linear_read (f ∷ g ∷ k ∷ fs) d e offset to h n r = absurd (omega arith)
+
+pub striped_none : (fs : List (Bor (List ℕ))) → length fs < 2 → striped_reading (texts fs) ≡ Err Field
+striped_none [] h = refl
+striped_none (f ∷ []) h = refl
+striped_none (f ∷ g ∷ fs) h = absurd (omega arith)
+
+-- columns in number and a chunk: what is read is what is read of the columns
+half_texts : (count : List ℕ) (fs : List (Bor (List ℕ))) (n : ℕ) → n ≡ length fs → is_half count n ≡ true → is_half count (length (texts fs)) ≡ true
+half_texts count fs n e h = rw (length-map, ← e) h
+
+pub striped_fault : (fs : List (Bor (List ℕ))) (d e : Bor (List ℕ)) (chunk : ℕ) (fault : RowFault) → 2 ≤ length fs → is_half (slice_index_or fs 0 d).now (length (take (length fs - 2) (drop 2 fs))) ≡ true
+    → number_of (slice_index_or fs 1 e).now ≡ Some chunk → columns_reading (texts (take (length fs - 2) (drop 2 fs))) ≡ Err fault → striped_reading (texts fs) ≡ Err fault
+striped_fault [] d e chunk fault h c n r = absurd (omega arith)
+striped_fault (f ∷ []) d e chunk fault h c n r = absurd (omega arith)
+striped_fault (f ∷ g ∷ fs) d e chunk fault h c n r =
+    let half : is_half f.now (length (texts fs)) ≡ true = half_texts f.now fs _ (ap length (take_rest (f ∷ g ∷ fs) 2)) c in
+    rw (half, n) (read_fault (value_fault (are_columns (texts fs)) (are_devs (texts fs))) (columns_in (texts fs)) _ fault (rw (take_rest (f ∷ g ∷ fs) 2) at r))
+
+pub striped_read : (fs : List (Bor (List ℕ))) (d e : Bor (List ℕ)) (chunk : ℕ) (columns : List Column) → 2 ≤ length fs → is_half (slice_index_or fs 0 d).now (length (take (length fs - 2) (drop 2 fs))) ≡ true
+    → number_of (slice_index_or fs 1 e).now ≡ Some chunk → columns_reading (texts (take (length fs - 2) (drop 2 fs))) ≡ Ok columns → striped_reading (texts fs) ≡ Ok (Striped chunk columns)
+striped_read [] d e chunk columns h c n r = absurd (omega arith)
+striped_read (f ∷ []) d e chunk columns h c n r = absurd (omega arith)
+striped_read (f ∷ g ∷ fs) d e chunk columns h c n r =
+    let half : is_half f.now (length (texts fs)) ≡ true = half_texts f.now fs _ (ap length (take_rest (f ∷ g ∷ fs) 2)) c in
+    let a = read_value (value_fault (are_columns (texts fs)) (are_devs (texts fs))) (columns_in (texts fs)) columns (rw (take_rest (f ∷ g ∷ fs) 2) at r) in
+    rw (half, n, a.0, a.1) refl
 
 -- the word linear is not the word striped
-pub linear_devs : (type : List ℕ) (arguments : List (List ℕ)) → type ≡ codes "linear" → has_devs (type ∷ arguments) ≡ true → are_devs arguments ≡ true
-linear_devs type arguments is h = rw is at h
+pub linear_devs : (type : List ℕ) (arguments : List (List ℕ)) → type ≡ codes "linear" → has_devs (type ∷ arguments) ≡ are_devs arguments
+linear_devs type arguments is = rw is refl
 
-pub linear_named : (fs : List (Bor (List ℕ))) (d : Bor (List ℕ)) → 1 ≤ length fs → pointwise nat_eq (slice_index_or fs 0 d).now (codes "linear") ≡ true → has_devs (texts fs) ≡ true
-    → are_devs (texts (take (length fs - 1) (drop 1 fs))) ≡ true
-linear_named [] d h is named = absurd (omega arith)
-linear_named (f ∷ fs) d h is named = rw (take_rest (f ∷ fs) 1) (linear_devs f.now (texts fs) (same_name f.now (codes "linear") is) named)
+pub target_linear : (fs : List (Bor (List ℕ))) (d : Bor (List ℕ)) → 1 ≤ length fs → pointwise nat_eq (slice_index_or fs 0 d).now (codes "linear") ≡ true
+    → target_reading (texts fs) ≡ linear_reading (texts (take (length fs - 1) (drop 1 fs)))
+target_linear [] d h is = absurd (omega arith)
+target_linear (f ∷ fs) d h is = rw (take_rest (f ∷ fs) 1, is, linear_devs f.now (texts fs) (same_name f.now (codes "linear") is)) refl
+
+pub and_false : (b : Bool) → (b && false) ≡ false
+and_false true = refl
+and_false false = refl
+
+pub target_more : (fs : List (Bor (List ℕ))) (d : Bor (List ℕ)) → 1 ≤ length fs → pointwise nat_eq (slice_index_or fs 0 d).now (codes "linear") ≡ false → pointwise nat_eq (slice_index_or fs 0 d).now (codes "striped") ≡ false
+    → eqb (length (take (length fs - 1) (drop 1 fs))) 0 ≡ false → target_reading (texts fs) ≡ Err Field
+target_more [] d h l s some = absurd (omega arith)
+target_more (f ∷ []) d h l s some = absurd cc
+target_more (f ∷ g ∷ fs) d h l s some =
+    let long : eqb (length (texts (g ∷ fs))) 0 ≡ false = ne_eqb _ _ (λ e. omega arith) in
+    rw (l, s, long, and_false _) refl
+
+pub body_none : (at : Place) (fs : List (Bor (List ℕ))) → length fs < 2 → body_reading at (texts fs) ≡ Err Field
+body_none at [] h = refl
+body_none at (f ∷ []) h = refl
+body_none at (f ∷ g ∷ fs) h = absurd (omega arith)

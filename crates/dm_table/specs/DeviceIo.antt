@@ -1,4 +1,4 @@
--- What a call of an input or an output did, told from its answer, and what an input delivered in some calls.
+-- What a call of an input or an output did, told from its result, and what an input delivered in some calls.
 use Rattle.std.specs.Prelude.{ℕ, List, [], length, take, drop, Result, Ok, Err, nat_lt, ◌==◌, ◌&&◌, if◌then◌else◌}
 
 -- the bytes that changed hands: those a read left at the front of the slice, or a write took from there
@@ -6,12 +6,12 @@ abbrev pub given : {E : Type 0} → Result ℕ E → List ℕ → List ℕ
 given (Ok n) slice = take n slice
 given (Err e) slice = []
 
--- how many faults an answer adds
+-- how many faults a result adds
 abbrev pub fault_of : {T E : Type 0} → Result T E → ℕ
 fault_of (Ok x) = 0
 fault_of (Err e) = 1
 
--- how many ends an answer to a read adds: one for a 0 where the slice had room
+-- how many ends the result of a read adds: one for a 0 where the slice had room
 abbrev pub end_of : {E : Type 0} → Result ℕ E → ℕ → ℕ
 end_of (Ok n) room = if n == 0 && nat_lt 0 room then 1 else 0
 end_of (Err e) room = 0

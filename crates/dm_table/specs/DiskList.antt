@@ -65,7 +65,7 @@ disk_checks text =
     let rows = map fields (lines_of text) in
     not_text Disks text ∷ bad_syntax rows (rest_of text) ∷ bad_field rows ∷ bad_name rows ∷ []
 
--- How rows are read, for the functions behind the public call
+-- How rows are read, for the functions that the public call stands on
 
 -- the disk of a row, on line n
 abbrev pub disk_of : ℕ → List (List ℕ) → Disk

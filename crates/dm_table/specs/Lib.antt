@@ -3,9 +3,13 @@ pub mod Name
 pub mod Fields
 pub mod LoadFault
 pub mod DiskList
+pub mod RowFaults
+pub mod LineBody
+pub mod LineReading
 pub mod TableText
 pub mod TableReading
 pub mod RequestLine
 pub mod DeviceIo
 pub mod ShortIo
 pub mod WriteAll
+pub mod CanonicalText

@@ -1,49 +1,18 @@
--- How table text is read where no check finds anything: each row of fields as a line, and neighbouring lines of one name as a device.
-use Rattle.std.specs.Prelude.{ℕ, suc, ◌+◌, Bool, true, false, not, ◌&&◌, List, [], ◌∷◌, ◌++◌, length, map, nat_eq, codes, drop, IsTrue, Result, if◌then◌else◌}
+-- How a row of table text is read, for the functions that the public call stands on.
+use Rattle.std.specs.Prelude.{ℕ, suc, ◌+◌, Bool, true, false, not, List, [], ◌∷◌, ◌++◌, length, map, nat_eq, Option, Result, Ok, Err, if◌then◌else◌}
 use Rattle.std.specs.Cmp.Lexicographic.{pointwise}
-use Rattle.std.specs.List.{AllByRecursion}
-use Rattle.dm_table.specs.declared.table.DevRef.{DevRef}
-use Rattle.dm_table.specs.declared.table.DevRef.TheVariants.{Device, Disk}
-use Rattle.dm_table.specs.declared.table.Column.{Column}
-use Rattle.dm_table.specs.declared.table.Target.{Target}
-use Rattle.dm_table.specs.declared.table.Target.TheVariants.{Linear, Striped, Zero, Error}
 use Rattle.dm_table.specs.declared.table.Line.{Line}
 use Rattle.dm_table.specs.declared.table.DeviceSpec.{DeviceSpec}
 use Rattle.dm_table.specs.declared.place.Part.TheVariants.{Source}
 use Rattle.dm_table.specs.declared.load_fault.LoadKind.TheVariants.{Syntax, Field, Name}
 use Rattle.dm_table.specs.declared.load_fault.LoadFault.{LoadFault}
-use Rattle.dm_table.specs.Name.{names_device, mapper}
-use Rattle.dm_table.specs.Number.{number_in}
+use Rattle.dm_table.specs.declared.row_faults.RowFault.{RowFault}
+use Rattle.dm_table.specs.declared.table_row.Row.{Row}
 use Rattle.dm_table.specs.Fields.{lines_of}
 use Rattle.dm_table.specs.LoadFault.{first_fault, faults_from, unended, unless}
+use Rattle.dm_table.specs.RowFaults.{value_fault, row_fault, read_unless}
+use Rattle.dm_table.specs.LineReading.{body_in}
 use Rattle.dm_table.specs.TableText.{NamedLine, name_in, row_of, is_row, is_line, has_names, table_checks}
-
--- what a text names
-abbrev pub dev_in : List ℕ → DevRef
-dev_in text = if names_device text then Device (drop (length mapper) text) else Disk text
-
--- columns, each of two arguments
-abbrev pub columns_in : List (List ℕ) → List Column
-columns_in (to ∷ offset ∷ more) = record { to = dev_in to; offset = number_in offset } ∷ columns_in more
-columns_in _ = []
-
--- the arguments of a linear line as its target
-abbrev pub linear_in : List (List ℕ) → Target
-linear_in (to ∷ offset ∷ []) = Linear (dev_in to) (number_in offset)
-linear_in _ = Error
-
--- the arguments of a striped line as its target
-abbrev pub striped_in : List (List ℕ) → Target
-striped_in (count ∷ chunk ∷ columns) = Striped (number_in chunk) (columns_in columns)
-striped_in _ = Error
-
--- the target of a type and its arguments
-abbrev pub target_in : List (List ℕ) → Target
-target_in [] = Error
-target_in (type ∷ arguments) =
-    if pointwise nat_eq type (codes "linear") then linear_in arguments
-    else (if pointwise nat_eq type (codes "striped") then striped_in arguments
-    else (if pointwise nat_eq type (codes "zero") then Zero else Error))
 
 -- the last field is empty
 abbrev pub ends_empty : List (List ℕ) → Bool
@@ -56,13 +25,9 @@ ends_empty (field ∷ next ∷ fields) = ends_empty (next ∷ fields)
 abbrev pub rows_of : List (List ℕ) → List (List (List ℕ))
 rows_of = map row_of
 
--- a row whose values are in order, so that a line can be made of it
-abbrev pub is_checked : List (List ℕ) → Bool
-is_checked row = is_line row && has_names row
-
--- rows that are so
-abbrev pub AreChecked : List (List (List ℕ)) → Type 0
-AreChecked = AllByRecursion (λ row. IsTrue (is_checked row))
+-- what the code has of a row
+abbrev pub named_of : Row → NamedLine
+named_of row = record { name = row.name.now; line = row.line }
 
 -- the name in a row
 abbrev pub name_of_row : List (List ℕ) → List ℕ
@@ -71,23 +36,17 @@ name_of_row (label ∷ fields) = name_in label
 
 -- the line of a row, as line number n
 abbrev pub line_in : ℕ → List (List ℕ) → Line
-line_in n (label ∷ start ∷ len ∷ target) =
-    record { start = number_in start; len = number_in len; target = target_in target; at = record { part = Source; number = n } }
-line_in n _ = record { start = 0; len = 0; target = Error; at = record { part = Source; number = n } }
+line_in n (label ∷ body) = body_in (record { part = Source; number = n }) body
+line_in n [] = body_in (record { part = Source; number = n }) []
+
+-- the same with its name
+abbrev pub named_in : ℕ → List (List ℕ) → NamedLine
+named_in n row = record { name = name_of_row row; line = line_in n row }
 
 -- the lines of rows, numbered from n
-abbrev pub lines_from : ℕ → List (List (List ℕ)) → List Line
-lines_from n [] = []
-lines_from n (row ∷ rows) = line_in n row ∷ lines_from (suc n) rows
-
--- the same, each with its name
 abbrev pub named_from : ℕ → List (List (List ℕ)) → List NamedLine
 named_from n [] = []
-named_from n (row ∷ rows) = record { name = name_of_row row; line = line_in n row } ∷ named_from (suc n) rows
-
--- a device of a name and its rows, numbered from n
-abbrev pub run_device : List ℕ → ℕ → List (List (List ℕ)) → DeviceSpec
-run_device name n rows = record { name = name; ro = false; lines = lines_from n rows; at = record { part = Source; number = n } }
+named_from n (row ∷ rows) = named_in n row ∷ named_from (suc n) rows
 
 -- a device of one line
 abbrev pub alone : NamedLine → DeviceSpec
@@ -107,6 +66,29 @@ join_line named (device ∷ devices) =
 abbrev pub joined : List NamedLine → List DeviceSpec
 joined [] = []
 joined (named ∷ more) = join_line named (joined more)
+
+-- a line after those of devices: the last of them takes it, where it has the line's name
+abbrev pub add_line : List DeviceSpec → NamedLine → List DeviceSpec
+add_line [] named = alone named ∷ []
+add_line (device ∷ []) named =
+    if pointwise nat_eq named.name device.name then record device { lines = device.lines ++ named.line ∷ [] } ∷ [] else device ∷ alone named ∷ []
+add_line (device ∷ next ∷ devices) named = device ∷ add_line (next ∷ devices) named
+
+-- what is wrong with a row, and what it says
+abbrev pub fault_of_row : List (List ℕ) → Option RowFault
+fault_of_row row = row_fault (is_row row) (value_fault (is_line row) (has_names row))
+
+abbrev pub row_reading : ℕ → List (List ℕ) → Result NamedLine RowFault
+row_reading n row = read_unless (fault_of_row row) (named_in n row)
+
+-- devices after a row was read, as line number n, and after all rows were, numbered from n
+abbrev pub with_reading : List DeviceSpec → Result NamedLine RowFault → List DeviceSpec
+with_reading devices (Ok named) = add_line devices named
+with_reading devices (Err fault) = devices
+
+abbrev pub with_rows : List DeviceSpec → ℕ → List (List (List ℕ)) → List DeviceSpec
+with_rows devices n [] = devices
+with_rows devices n (row ∷ rows) = with_rows (with_reading devices (row_reading n row)) (suc n) rows
 
 -- the devices of rows, whose lines are numbered from n
 abbrev pub devices_from : ℕ → List (List (List ℕ)) → List DeviceSpec

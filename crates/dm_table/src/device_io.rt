@@ -24,11 +24,11 @@ pub trait Input {
     /// How many reads failed so far.
     ghost faults: { Self → ℕ };
 
-    /// How many reads into a slice with room answered 0 so far.
+    /// How many reads into a slice with room returned 0 so far.
     ghost ends: { Self → ℕ };
 
-    /// Fills a front of the slice, and answers its length in bytes: 0 at an end, or where the slice
-    /// has no room. Behind that front, and after a failed read, the slice may hold anything.
+    /// Fills the first bytes of the slice, and returns how many: 0 at an end, or where the slice has
+    /// no room. After those bytes, and after a failed read, the slice may hold anything.
     fn read(&mut self, buffer: &mut [u8]) -> Result<usize, InFault>
         ensures within { IfOk result (λ n. n ≤ length buffer.new) }
         ensures bytes { handed self.new ≡ handed self.old ++ given result buffer.new }
@@ -50,8 +50,8 @@ pub trait Output {
     /// How many flushes were asked of it so far, failed ones too.
     ghost flushes: { Self → ℕ };
 
-    /// Takes a front of the slice, and answers its length in bytes, which is 0 only for an empty
-    /// slice. A write that fails takes nothing.
+    /// Takes the first bytes of the slice, and returns how many, which is 0 only for an empty slice.
+    /// A write that fails takes nothing.
     fn write(&mut self, bytes: &[u8]) -> Result<usize, OutFault>
         ensures within { IfOk result (λ n. n ≤ length bytes.now) }
         ensures progress { IfOk result (λ n. 0 < length bytes.now → 0 < n) }

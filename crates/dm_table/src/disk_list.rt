@@ -141,7 +141,7 @@ fn second<'a>(row: &[&'a [u8]]) -> &'a [u8]
     }
 }
 
-/// The disks of rows whose names are names of disks. Fails only for want of memory.
+/// The disks of rows whose names are names of disks. Fails only where memory runs out.
 fn disks_of(alloc: Global, rows: &[Vec<&[u8]>]) -> Result<Vec<Disk>, AllocError>
     requires { bad_name (row_texts rows.now) ≡ [] }
     ensures { IfOk result (λ disks. disks.items ≡ disks_from 1 (row_texts rows.now)) }

@@ -50,7 +50,7 @@ impl DiskName {
         })
     }
 
-    /// The name of these bytes, which have passed the test. Fails only for want of memory.
+    /// The name of these bytes, which have passed the test. Fails only where memory runs out.
     pub(crate) fn of_bytes(alloc: Global, bytes: &[u8]) -> Result<DiskName, AllocError>
         requires { IsTrue (is_disk_name bytes.now) }
         ensures { IfOk result (λ name. name ≡ bytes.now) }

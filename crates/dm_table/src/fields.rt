@@ -3,7 +3,7 @@
 //! A text is cut once, and all checks look at its parts; the parts borrow the text. A form that
 //! cuts at another byte calls `cut` too.
 
-ghost use Rattle.std.specs.Prelude.{◌≡◌, [], map, IfOk};
+ghost use Rattle.std.specs.Prelude.{◌≡◌, [], map, IfOk, OnOk};
 ghost use Rattle.dm_table.specs.Fields.{texts, row_texts, parts_at, front, back, fields};
 
 use memchr::memchr;
@@ -21,6 +21,19 @@ pub(crate) fn cut<'a>(alloc: Global, at: u8, text: &'a [u8]) -> Result<Vec<&'a [
     ensures { IfOk result (λ v. texts v.items ≡ parts_at at text.now) }
 {
     let mut parts = Vec::new(alloc);
+    cut_into(&mut parts, at, text)?;
+    Ok(parts)
+}
+
+/// Puts the parts of a text in place of those of another, so that one list serves many texts.
+pub(crate) fn cut_into<'a>(
+    parts: &mut Vec<&'a [u8]>,
+    at: u8,
+    text: &'a [u8],
+) -> Result<(), AllocError>
+    ensures { OnOk result (texts parts.new.items ≡ parts_at at text.now) }
+{
+    parts.clear();
     let mut rest = text;
     while let Some(end) = memchr(at, rest) {
         let (part, after) = rest.split_at(end);
@@ -28,7 +41,7 @@ pub(crate) fn cut<'a>(alloc: Global, at: u8, text: &'a [u8]) -> Result<Vec<&'a [
         rest = &after[1..];
     }
     parts.push(rest)?;
-    Ok(parts)
+    Ok(())
 }
 
 /// The last part is what stands after the last newline, the others are lines.

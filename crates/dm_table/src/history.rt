@@ -25,7 +25,7 @@ impl History {
         History {}
     }
 
-    /// Puts the slice behind the bytes so far, in no time.
+    /// Adds the slice after the bytes so far, in no time.
     #[inline(always)]
     pub fn note(&mut self, _more: &[u8])
         ensures { self.new.bytes ≡ self.old.bytes ++ _more.now }

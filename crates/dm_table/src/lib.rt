@@ -1,11 +1,12 @@
 //! Device-mapper tables, disk lists and requests: their texts, what the texts say, and the devices
 //! of bytes that they are read from and written to.
 //!
-//! A text is accepted exactly where its grammar spells a description, and that description is what
-//! a call answers; else the call answers the first check that finds anything, at its first place.
+//! A text is accepted exactly where its grammar spells a description, and a call returns that
+//! description; else it returns the fault of the first check that finds anything, at its first place.
 //! The words are those of dmsetup(8) and of the kernel's admin-guide/device-mapper documents.
 #![tactic(auto)]
 
+mod canonical_text;
 mod counted;
 mod device_io;
 mod disk;
@@ -13,6 +14,7 @@ mod disk_list;
 mod disk_name;
 mod fields;
 mod history;
+mod line_body;
 mod load_fault;
 mod name;
 mod number;
@@ -20,14 +22,15 @@ mod number_text;
 mod place;
 mod request;
 mod request_line;
+mod row_faults;
 mod short_io;
 mod table;
 mod table_row;
 mod table_text;
-mod target_row;
 mod text_checks;
 mod writing;
 
+pub use canonical_text::{write_concise, write_table};
 pub use counted::Counted;
 pub use device_io::{InFault, Input, OutFault, Output};
 pub use disk::Disk;

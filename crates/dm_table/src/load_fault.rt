@@ -83,7 +83,7 @@ pub struct LoadFault {
 }
 
 impl LoadFault {
-    /// Want of memory while a part was read.
+    /// Out of memory while a part was read.
     pub fn memory(part: Part) -> LoadFault
         ensures { IsMemoryFault part result }
     {

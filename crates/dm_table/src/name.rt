@@ -70,7 +70,7 @@ impl Name {
         })
     }
 
-    /// The name of these bytes, which have passed the test. Fails only for want of memory.
+    /// The name of these bytes, which have passed the test. Fails only where memory runs out.
     pub(crate) fn of_bytes(alloc: Global, bytes: &[u8]) -> Result<Name, AllocError>
         requires { IsTrue (is_device_name bytes.now) }
         ensures { IfOk result (λ name. name ≡ bytes.now) }

@@ -1,4 +1,4 @@
-//! Numbers as texts: `0`, or a digit 1 to 9 and at most 18 digits behind it.
+//! Numbers as texts: `0`, or a digit 1 to 9 and at most 18 digits after it.
 //!
 //! Texts and requests share this one form, so that what is read is written back byte by byte.
 //! To take more digits, change `specs/Number.antt` and see that the value still fits a `u64`.

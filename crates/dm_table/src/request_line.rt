@@ -16,8 +16,8 @@ use crate::number;
 use crate::request::{MOST_SECTORS, Op, Request, RequestFault};
 use memchr::memchr;
 
-/// What follows the space that stands behind the first `len` bytes of a text.
-fn behind_space<'a>(text: &'a [u8], len: usize) -> Option<&'a [u8]>
+/// What follows the space after the first `len` bytes of a text.
+fn after_space<'a>(text: &'a [u8], len: usize) -> Option<&'a [u8]>
     requires { len ≤ length text.now }
     ensures cut { IfSome result (λ rest. text.now ≡ take len text.now ++ 32 ∷ rest.now) }
     ensures other { IfNone result ((rest : List ℕ) → drop len text.now ≢ 32 ∷ rest) }
@@ -49,7 +49,7 @@ fn first_op<'a>(line: &'a [u8]) -> Option<(Op, &'a [u8])>
         return None;
     };
     let op = op_of(*letter)?;
-    let rest = behind_space(line, 1)?;
+    let rest = after_space(line, 1)?;
     Some((op, rest))
 }
 
@@ -60,7 +60,7 @@ fn first_name<'a>(text: &'a [u8]) -> Option<(&'a str, &'a [u8])>
     ensures other { IfNone result ((name next : List ℕ) (more : List (List ℕ)) → fields text.now ≡ name ∷ next ∷ more → is_device_name name ≢ true) }
 {
     let len = leading_name(text)?;
-    let rest = behind_space(text, len)?;
+    let rest = after_space(text, len)?;
     Some((ascii_str(&text[..len]), rest))
 }
 
@@ -70,7 +70,7 @@ fn first_number<'a>(text: &'a [u8]) -> Option<(u64, &'a [u8])>
     ensures other { IfNone result ((field next : List ℕ) (more : List (List ℕ)) (n : ℕ) → fields text.now ≡ field ∷ next ∷ more → number_of field ≢ Some n) }
 {
     let (number, len) = number::leading(text)?;
-    let rest = behind_space(text, len)?;
+    let rest = after_space(text, len)?;
     Some((number, rest))
 }
 
@@ -118,7 +118,7 @@ fn number_fault(text: &[u8]) -> RequestFault
 /// a start below 10^19 and a length of 1 to [`MOST_SECTORS`] sectors of 512 bytes, both in digits
 /// without a leading zero, with one space between them. A line says at most one request.
 ///
-/// A line that says none is answered by the first of `Form`, `Number` and `Length` that applies.
+/// For a line that says none it returns the first of `Form`, `Number` and `Length` that applies.
 ///
 /// Cost: no memory, and at most three passes over each field.
 pub fn parse_request<'a>(line: &'a [u8], number: u64) -> Result<Request<'a>, RequestFault>

@@ -10,7 +10,7 @@ use crate::history::{History, Tally};
 use std::alloc::{AllocError, Global};
 use std::marker::Model;
 
-/// An input that hands out a slice, at most `step` bytes a read. Behind it each read meets an end, or
+/// An input that hands out a slice, at most `step` bytes a read. After it each read meets an end, or
 /// fails, as the input was made.
 #[derive(Drop)]
 pub struct ShortIn<'a> {

@@ -1,29 +1,27 @@
 //! Table text: a line `NAME: START LEN TYPE ARGS` for each line of a table, as dmsetup(8) has it.
 //!
-//! The text is cut once into rows of fields. Each check is one pass over the rows, in the order of
-//! the definitions, and only rows that passed all of them are read. A new target type belongs in
-//! `target_row`.
+//! The lines are read one after the other, each once, into the devices so far, and what is wrong with
+//! them is kept until the end, where the checks take precedence in the order of the definitions. A
+//! new target type belongs in `line_body`.
 
-ghost use Rattle.std.specs.Prelude.{◌≡◌, ◌≢◌, ◌+◌, ◌^◌, ◌<◌, List, None, Some, Ok, IsTrue, length, nat_eq, IfOk, IfErr, OnOk, IfSome};
-ghost use Rattle.std.specs.Cmp.Lexicographic.{pointwise};
-ghost use Rattle.std.specs.List.{prefix_len};
+ghost use Rattle.std.specs.Prelude.{◌≡◌, ◌≢◌, List, [], ◌∷◌, ◌++◌, None, Some, Ok, IfOk, IfErr, OnOk, IsTrue};
 ghost use Rattle.dm_table.specs.declared.place.Part.TheVariants.{Source};
 ghost use Rattle.dm_table.specs.declared.load_fault.LoadKind.TheVariants.{Memory};
 ghost use Rattle.dm_table.specs.declared.table.DeviceSpec.{DeviceSpec};
-ghost use Rattle.dm_table.specs.Fields.{texts, row_texts};
-ghost use Rattle.dm_table.specs.LoadFault.{Answers, IsMemoryFault, first_or, first_fault};
+ghost use Rattle.dm_table.specs.Fields.{texts};
+ghost use Rattle.dm_table.specs.LoadFault.{Answers, IsMemoryFault, first_fault};
 ghost use Rattle.dm_table.specs.Name.{is_device_name};
+ghost use Rattle.dm_table.specs.RowFaults.{no_faults, noted_at, noted_rows};
 ghost use Rattle.dm_table.specs.TableText.{DescribesTable, table_checks};
-ghost use Rattle.dm_table.specs.TableReading.{is_checked, AreChecked, line_in, lines_from, name_of_row, run_device, devices_from, bad_syntax, bad_field, bad_name, read_rows, read_table};
+ghost use Rattle.dm_table.specs.TableReading.{named_of, alone, add_line, fault_of_row, row_reading, with_reading, with_rows, rows_of, read_rows, read_table};
 
-use crate::load_fault::{LoadFault, LoadKind};
+use crate::load_fault::LoadFault;
 use crate::name::Name;
-use crate::number::number_in;
-use crate::place::{Part, Place};
+use crate::place::Part;
+use crate::row_faults::FirstFaults;
 use crate::table::{DeviceSpec, Line, Table};
-use crate::table_row::{has_names, is_line, is_row, name_of_row, rows_of};
-use crate::target_row::target_of;
-use crate::text_checks::{text_lines, unended};
+use crate::table_row::{Row, cut_row, read_row};
+use crate::text_checks::text_lines;
 use std::alloc::{AllocError, Global};
 
 /// The devices of table text, in its order. Neighbouring lines of one name are one device, whose
@@ -59,146 +57,112 @@ fn read(alloc: Global, text: &[u8]) -> Result<Vec<DeviceSpec>, LoadFault>
     ensures { Answers Source (λ v. v.items) result (read_table text.now) }
 {
     let cut = text_lines(alloc, Part::Source, text)?;
-    let rows = rows_of(alloc, &cut.lines).map_err(|_| LoadFault::memory(Part::Source))?;
-    read_rows(alloc, &rows, cut.rest)
+    read_lines(alloc, &cut.lines, cut.rest)
 }
 
-fn read_rows(alloc: Global, rows: &[Vec<&[u8]>], rest: &[u8]) -> Result<Vec<DeviceSpec>, LoadFault>
-    ensures { Answers Source (λ v. v.items) result (read_rows (row_texts rows.now) rest.now) }
+fn read_lines(alloc: Global, lines: &[&[u8]], rest: &[u8]) -> Result<Vec<DeviceSpec>, LoadFault>
+    ensures { Answers Source (λ v. v.items) result (read_rows (rows_of (texts lines.now)) rest.now) }
 {
-    if let Some(fault) = bad_syntax(rows, rest) {
-        return Err(fault);
-    }
-    if let Some(fault) = bad_field(rows) {
-        return Err(fault);
-    }
-    if let Some(fault) = bad_name(rows) {
-        return Err(fault);
-    }
-    devices_of(alloc, rows).map_err(|_| LoadFault::memory(Part::Source))
-}
-
-/// The first line that is no row of a table, or else what no newline ends.
-fn bad_syntax(rows: &[Vec<&[u8]>], rest: &[u8]) -> Option<LoadFault>
-    ensures value { result ≡ first_or (bad_syntax (row_texts rows.now) rest.now) None }
-    ensures kind { IfSome result (λ fault. fault.kind ≢ Memory) }
-{
-    for (index, row) in rows.iter().enumerate() {
-        if !is_row(row) {
-            return Some(LoadFault::at_index(Part::Source, LoadKind::Syntax, index));
-        }
-    }
-    unended(Part::Source, rows.len() as u64 + 1, rest)
-}
-
-/// The first line without numbers or a known target.
-fn bad_field(rows: &[Vec<&[u8]>]) -> Option<LoadFault>
-    ensures value { result ≡ first_or (bad_field (row_texts rows.now)) None }
-    ensures kind { IfSome result (λ fault. fault.kind ≢ Memory) }
-{
-    for (index, row) in rows.iter().enumerate() {
-        if !is_line(row) {
-            return Some(LoadFault::at_index(Part::Source, LoadKind::Field, index));
-        }
-    }
-    None
-}
-
-/// The first line with a text that is no name.
-fn bad_name(rows: &[Vec<&[u8]>]) -> Option<LoadFault>
-    ensures value { result ≡ first_or (bad_name (row_texts rows.now)) None }
-    ensures kind { IfSome result (λ fault. fault.kind ≢ Memory) }
-{
-    for (index, row) in rows.iter().enumerate() {
-        if !has_names(row) {
-            return Some(LoadFault::at_index(Part::Source, LoadKind::Name, index));
-        }
-    }
-    None
-}
-
-/// The devices of rows: each run of rows of one name is a device.
-fn devices_of(alloc: Global, rows: &[Vec<&[u8]>]) -> Result<Vec<DeviceSpec>, AllocError>
-    requires { AreChecked (row_texts rows.now) }
-    ensures { IfOk result (λ v. v.items ≡ devices_from 1 (row_texts rows.now)) }
-{
-    let mut devices = Vec::new(alloc);
-    let mut start = 0;
-    while start < rows.len() {
-        let rest = &rows[start..];
-        let name = name_of_row(&rest[0]);
-        let run = &rest[..run_len(name, rest)];
-        devices.push(device_of(alloc, name, run, start as u64 + 1)?)?;
-        start += run.len();
-    }
-    Ok(devices)
-}
-
-/// How many rows there are before the first of another name.
-fn run_len(name: &[u8], rows: &[Vec<&[u8]>]) -> usize
-    ensures { result
-        ≡ prefix_len (λ row. pointwise nat_eq name.now (name_of_row row)) (row_texts rows.now) }
-{
-    for (index, row) in rows.iter().enumerate() {
-        if name != name_of_row(row) {
-            return index;
-        }
-    }
-    rows.len()
-}
-
-/// The device of a name and its rows, the first of which is line `number`.
-fn device_of(
-    alloc: Global,
-    name: &[u8],
-    run: &[Vec<&[u8]>],
-    number: u64,
-) -> Result<DeviceSpec, AllocError>
-    requires name { IsTrue (is_device_name name.now) }
-    requires names { AreChecked (row_texts run.now) }
-    requires room { number + length run.now < 2 ^ 64 }
-    ensures { IfOk result (λ device. device ≡ run_device name.now number (row_texts run.now)) }
-{
-    let name = Name::of_bytes(alloc, name)?;
-    let lines = lines_of(alloc, run, number)?;
-    let at = Place {
-        part: Part::Source,
-        number,
+    let mut reading = match read_rows(alloc, lines) {
+        Ok(reading) => reading,
+        Err(_) => return Err(LoadFault::memory(Part::Source)),
     };
+    reading
+        .faults
+        .note_rest(Part::Source, lines.len() as u64 + 1, rest);
+    match reading.faults.first() {
+        Some(fault) => Err(fault),
+        None => Ok(reading.devices),
+    }
+}
+
+/// What was read of the lines so far. Of devices with faults beside them nothing comes.
+#[derive(Drop)]
+struct Reading {
+    devices: Vec<DeviceSpec>,
+    faults: FirstFaults,
+}
+
+/// Reads each line, with one list of fields for all of them.
+fn read_rows(alloc: Global, lines: &[&[u8]]) -> Result<Reading, AllocError>
+    ensures devices { IfOk result (λ reading. reading.devices.items
+        ≡ with_rows [] 1 (rows_of (texts lines.now))) }
+    ensures faults { IfOk result (λ reading. reading.faults
+        ≡ noted_rows Source fault_of_row no_faults 1 (rows_of (texts lines.now))) }
+{
+    let mut reading = Reading {
+        devices: Vec::new(alloc),
+        faults: FirstFaults::new(),
+    };
+    let mut fields = Vec::new(alloc);
+    for (index, line) in lines.iter().enumerate() {
+        cut_row(&mut fields, *line)?;
+        reading.read_row(alloc, &fields, index as u64 + 1)?;
+    }
+    Ok(reading)
+}
+
+impl Reading {
+    /// Reads the row that is line `number` of the text.
+    fn read_row(&mut self, alloc: Global, row: &[&[u8]], number: u64) -> Result<(), AllocError>
+        ensures devices { OnOk result (self.new.devices.items
+            ≡ with_reading self.old.devices.items (row_reading number (texts row.now))) }
+        ensures faults { OnOk result (self.new.faults
+            ≡ noted_at Source self.old.faults number (fault_of_row (texts row.now))) }
+    {
+        match read_row(alloc, row, number) {
+            Ok(row) => add_line(alloc, &mut self.devices, row),
+            Err(fault) => self.faults.note(Part::Source, number, fault),
+        }
+    }
+}
+
+/// Adds a line to the last device, where that has its name, or else as the first line of a new one.
+fn add_line(alloc: Global, devices: &mut Vec<DeviceSpec>, row: Row<'_>) -> Result<(), AllocError>
+    requires { IsTrue (is_device_name row.name.now) }
+    ensures { OnOk result (devices.new.items ≡ add_line devices.old.items (named_of row.entry)) }
+{
+    let Some(last) = devices.pop() else {
+        devices.push(device_of(alloc, row)?)?;
+        return Ok(());
+    };
+    if row.name == last.name.as_str().as_bytes() {
+        let longer = with_line(last, row.line)?;
+        devices.push(longer)?;
+        return Ok(());
+    }
+    devices.push(last)?;
+    devices.push(device_of(alloc, row)?)?;
+    Ok(())
+}
+
+/// A device of one line.
+fn device_of(alloc: Global, row: Row<'_>) -> Result<DeviceSpec, AllocError>
+    requires { IsTrue (is_device_name row.name.now) }
+    ensures { IfOk result (λ device. device ≡ alone (named_of row.entry)) }
+{
+    let Row { name, line } = row;
+    let at = line.at;
+    let mut lines = Vec::new(alloc);
+    lines.push(line)?;
     Ok(DeviceSpec {
-        name,
+        name: Name::of_bytes(alloc, name)?,
         ro: false,
         lines: Table::from_vec(lines),
         at,
     })
 }
 
-fn lines_of(alloc: Global, run: &[Vec<&[u8]>], number: u64) -> Result<Vec<Line>, AllocError>
-    requires names { AreChecked (row_texts run.now) }
-    requires room { number + length run.now < 2 ^ 64 }
-    ensures { IfOk result (λ v. v.items ≡ lines_from number (row_texts run.now)) }
+/// The device with one more line.
+fn with_line(device: DeviceSpec, line: Line) -> Result<DeviceSpec, AllocError>
+    ensures { IfOk result (λ longer. longer ≡ record device { lines = device.lines ++ line ∷ [] }) }
 {
-    let mut lines = Vec::new(alloc);
-    for (index, row) in run.iter().enumerate() {
-        lines.push(line_of(alloc, row, number + index as u64)?)?;
-    }
-    Ok(lines)
-}
-
-fn line_of(alloc: Global, row: &[&[u8]], number: u64) -> Result<Line, AllocError>
-    requires { IsTrue (is_checked (texts row.now)) }
-    ensures { IfOk result (λ line. line ≡ line_in number (texts row.now)) }
-{
-    match row {
-        [_, start, len, target @ ..] => Ok(Line {
-            start: number_in(*start),
-            len: number_in(*len),
-            target: target_of(alloc, target)?,
-            at: Place {
-                part: Part::Source,
-                number,
-            },
-        }),
-        _ => unreachable!(),
-    }
+    let mut lines = device.lines.into_vec();
+    lines.push(line)?;
+    Ok(DeviceSpec {
+        name: device.name,
+        ro: device.ro,
+        lines: Table::from_vec(lines),
+        at: device.at,
+    })
 }

@@ -1,6 +1,6 @@
 //! The checks that all texts of lines share: bytes that are no text, and a missing last newline.
 //!
-//! A check is one pass that answers its first fault. The readers run their checks in the order of
+//! A check is one pass that returns its first fault. The readers run their checks in the order of
 //! the definitions, so a check that is moved or added here is moved or added in `specs/` first.
 
 ghost use Rattle.std.specs.Prelude.{◌≡◌, ◌≢◌, None, not, IfSome};

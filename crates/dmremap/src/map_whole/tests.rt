@@ -10,10 +10,14 @@ use dm_table::{ShortIn, ShortOut};
 use std::process::Abort;
 
 mod bad_requests;
+mod columns;
+mod counted;
+mod fault_texts;
 mod faults;
 mod intervals;
 mod large_parts;
 mod parts;
+mod printed;
 mod refused_loads;
 mod rows;
 mod stacks;

@@ -1,0 +1,85 @@
+-- Texts written part by part.
+use Rattle.std.proofs.Common.{◌≡◌, ℕ, ◌+◌, ◌-◌, ◌<◌, ◌≤◌, map, arith, List, [], ◌∷◌, ◌++◌, length, take, drop, get_or, Result, Ok, Err, sym, ap, ◌∙◌, append_assoc, add-zero, take-append-drop}
+use Rattle.std.specs.List.{flat_map, join_with_byte}
+use Rattle.std.proofs.Math.Seq.{take-add}
+use Rattle.std.proofs.lemmas.Grind.{flat_map-append}
+use Rattle.std.proofs.lemmas.List.{drop_more, append-nil, take_rest}
+use Rattle.dm_table.specs.DeviceIo.{since}
+use Rattle.dm_table.specs.CanonicalText.{Wrote}
+use Rattle.dm_table.proofs.Growth.{since_more, grows_more}
+
+-- a fault in the first part
+pub wrote_stop : {X E : Type 0} (written waiting : X → List ℕ) (faults flushes : X → ℕ) (old new : X) (fault : E) (first rest text : List ℕ) → text ≡ first ++ rest
+    → Wrote written waiting faults flushes old new (Err fault) first → Wrote written waiting faults flushes old new (Err fault) text
+wrote_stop written waiting faults flushes old new fault first rest text is h = record {
+  appends = h.appends;
+  ok = tt;
+  err = (h.err.0 ++ rest, is ∙ ap (λ (t : List ℕ). t ++ rest) h.err.1 ∙ append_assoc (since (written old) (written new)) h.err.0 rest);
+  waits = h.waits;
+  failed = h.failed;
+  flushed = h.flushed;
+}
+
+waits_more : {X : Type 0} (written waiting : X → List ℕ) (old mid new : X) → waiting mid ≡ waiting old ++ since (written old) (written mid) → waiting new ≡ waiting mid ++ since (written mid) (written new)
+    → since (written old) (written new) ≡ since (written old) (written mid) ++ since (written mid) (written new) → waiting new ≡ waiting old ++ since (written old) (written new)
+waits_more written waiting old mid new a b more = b ∙ ap (λ (w : List ℕ). w ++ since (written mid) (written new)) a ∙ append_assoc (waiting old) _ _ ∙ ap (λ (w : List ℕ). waiting old ++ w) (sym more)
+
+-- one part written, and the next
+pub wrote_then : {X E : Type 0} (written waiting : X → List ℕ) (faults flushes : X → ℕ) (old mid new : X) (result : Result (Unit {0}) E) (first next text : List ℕ) → text ≡ first ++ next
+    → Wrote {E = E} written waiting faults flushes old mid (Ok tt) first → Wrote written waiting faults flushes mid new result next → Wrote written waiting faults flushes old new result text
+wrote_then written waiting faults flushes old mid new (Ok done) first next text is a b =
+    let more = since_more (written old) (written mid) (written new) a.appends b.appends in
+    record {
+      appends = grows_more (written old) (written mid) (written new) a.appends b.appends;
+      ok = more ∙ ap (λ (t : List ℕ). t ++ since (written mid) (written new)) a.ok ∙ ap (λ (t : List ℕ). first ++ t) b.ok ∙ sym is;
+      err = tt;
+      waits = waits_more written waiting old mid new a.waits b.waits more;
+      failed = b.failed ∙ add-zero _ ∙ a.failed;
+      flushed = b.flushed ∙ a.flushed;
+    }
+wrote_then written waiting faults flushes old mid new (Err fault) first next text is a b =
+    let more = since_more (written old) (written mid) (written new) a.appends b.appends in
+    record {
+      appends = grows_more (written old) (written mid) (written new) a.appends b.appends;
+      ok = tt;
+      err = (b.err.0, is ∙ ap (λ (t : List ℕ). first ++ t) b.err.1 ∙ sym (append_assoc first (since (written mid) (written new)) b.err.0) ∙ ap (λ (t : List ℕ). t ++ b.err.0) (sym (more ∙ ap (λ (t : List ℕ). t ++ since (written mid) (written new)) a.ok)));
+      waits = waits_more written waiting old mid new a.waits b.waits more;
+      failed = b.failed ∙ ap (λ n. n + 1) (a.failed ∙ add-zero _);
+      flushed = b.flushed ∙ a.flushed;
+    }
+
+-- The same, as answers cite them
+
+-- a part with a fault, before the rest of the text
+pub stopped : {X E : Type 0} {written waiting : X → List ℕ} {faults flushes : X → ℕ} {old new : X} {fault : E} {text : List ℕ} (first rest : List ℕ) → text ≡ first ++ rest
+    → Wrote written waiting faults flushes old new (Err fault) first → Wrote written waiting faults flushes old new (Err fault) text
+stopped {written = written} {waiting = waiting} {faults = faults} {flushes = flushes} {old = old} {new = new} {fault = fault} {text = text} first rest is h =
+    wrote_stop written waiting faults flushes old new fault first rest text is h
+
+-- a part that is written, before what comes of the next
+pub and_then : {X E : Type 0} {written waiting : X → List ℕ} {faults flushes : X → ℕ} {old mid new : X} {result : Result (Unit {0}) E} {text : List ℕ} (first next : List ℕ) → text ≡ first ++ next
+    → Wrote {E = E} written waiting faults flushes old mid (Ok tt) first → Wrote written waiting faults flushes mid new result next → Wrote written waiting faults flushes old new result text
+and_then {written = written} {waiting = waiting} {faults = faults} {flushes = flushes} {old = old} {mid = mid} {new = new} {result = result} {text = text} first next is a b =
+    wrote_then written waiting faults flushes old mid new result first next text is a b
+
+-- what is written of the elements of a list, up to one of them, of it, and of the others
+pub flat_map_at : {X : Type 0} (f : X → List ℕ) (xs : List X) (i : ℕ) (x : X) → i < length xs → x ≡ get_or xs i x → flat_map f xs ≡ flat_map f (take i xs) ++ (f x ++ flat_map f (drop (i + 1) xs))
+flat_map_at f xs i x below is =
+    let rest : drop i xs ≡ x ∷ drop (i + 1) xs = drop_more xs i x below ∙ ap (λ y. y ∷ drop (i + 1) xs) (sym is) in
+    ap (flat_map f) (sym (take-append-drop i xs)) ∙ flat_map-append f (take i xs) (drop i xs) ∙ ap (λ ys. flat_map f (take i xs) ++ flat_map f ys) rest
+
+-- up to the next one
+pub flat_map_next : {X : Type 0} (f : X → List ℕ) (xs : List X) (i : ℕ) (x : X) → i < length xs → x ≡ get_or xs i x → flat_map f (take (i + 1) xs) ≡ flat_map f (take i xs) ++ f x
+flat_map_next f xs i x below is =
+    let rest : drop i xs ≡ x ∷ drop (i + 1) xs = drop_more xs i x below ∙ ap (λ y. y ∷ drop (i + 1) xs) (sym is) in
+    ap (flat_map f) (take-add i 1 xs ∙ ap (λ ys. take i xs ++ take 1 ys) rest) ∙ flat_map-append f (take i xs) (x ∷ []) ∙ ap (λ ys. flat_map f (take i xs) ++ ys) (append-nil (f x))
+
+-- elements with a byte between them: the first, and each of the others after the byte
+pub joined_first : {X : Type 0} (byte : ℕ) (f : X → List ℕ) (x : X) (xs : List X) → join_with_byte byte (map f (x ∷ xs)) ≡ f x ++ flat_map (λ y. byte ∷ f y) xs
+joined_first byte f x [] = sym (append-nil (f x))
+joined_first byte f x (y ∷ xs) = ap (λ (rest : List ℕ). f x ++ (byte ∷ rest)) (joined_first byte f y xs)
+
+-- the same of a slice's elements
+pub joined_slice : {X : Type 0} (byte : ℕ) (f : X → List ℕ) (xs : List X) (x : X) → 1 ≤ length xs → x ≡ get_or xs 0 x → join_with_byte byte (map f xs) ≡ f x ++ flat_map (λ y. byte ∷ f y) (take (length xs - 1) (drop 1 xs))
+joined_slice byte f [] x h is = absurd (omega arith)
+joined_slice byte f (y ∷ ys) x h is = rw (take_rest (y ∷ ys) 1, is) (joined_first byte f y ys)

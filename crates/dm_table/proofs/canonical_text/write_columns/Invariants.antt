@@ -1,0 +1,11 @@
+-- the text of the items so far is written, and nothing failed
+use Rattle.std.proofs.Common.{take, Ok}
+use Rattle.std.specs.List.{flat_map}
+use Rattle.dm_table.specs.LineBody.{column_text}
+use Rattle.dm_table.specs.CanonicalText.{Wrote}
+use Rattle.dm_table.specs.declared.device_io.OutFault.{OutFault}
+use Rattle.dm_table.proofs.canonical_text.write_columns.Given as goal
+
+abbrev pub invariant-loop-column : goal.invariant-loop-column
+invariant-loop-column g l =
+    Wrote {E = OutFault} g.W.Output.written g.W.Output.waiting g.W.Output.faults g.W.Output.flushes l.fn.writer l.writer (Ok tt) (flat_map column_text (take l.column-index l.columns))

@@ -1,0 +1,9 @@
+-- the text of the items so far is written, and nothing failed
+use Rattle.std.proofs.Common.{take, Ok}
+use Rattle.dm_table.specs.CanonicalText.{Wrote, lines_text}
+use Rattle.dm_table.specs.declared.device_io.OutFault.{OutFault}
+use Rattle.dm_table.proofs.canonical_text.write_lines.Given as goal
+
+abbrev pub invariant-loop-line : goal.invariant-loop-line
+invariant-loop-line g l =
+    Wrote {E = OutFault} g.W.Output.written g.W.Output.waiting g.W.Output.faults g.W.Output.flushes l.fn.writer l.writer (Ok tt) (lines_text l.name (take l.line-index l.lines))

@@ -1,0 +1,39 @@
+-- The one text that a description is written as, in table text and in concise text (dmsetup(8)).
+use Rattle.std.specs.Prelude.{◌≡◌, ℕ, Bool, List, [], ◌∷◌, ◌++◌, map, codes, Result, OnOk, OnErr, if◌then◌else◌, ◌+◌}
+use Rattle.std.specs.List.{flat_map, join_with_byte}
+use Rattle.dm_table.specs.declared.table.Line.{Line}
+use Rattle.dm_table.specs.declared.table.DeviceSpec.{DeviceSpec}
+use Rattle.dm_table.specs.DeviceIo.{fault_of, since}
+use Rattle.dm_table.specs.LineBody.{body_text}
+use Rattle.dm_table.specs.TableText.{line_text}
+use Rattle.dm_table.specs.WriteAll.{IsBeginning}
+
+-- the lines of a device, each with its name and a newline
+abbrev pub lines_text : List ℕ → List Line → List ℕ
+lines_text name lines = flat_map (λ line. line_text (record { name = name; line = line }) ++ 10 ∷ []) lines
+
+-- a line for each line of each device, in order
+abbrev pub table_text : List DeviceSpec → List ℕ
+table_text devices = flat_map (λ device. lines_text device.name device.lines) devices
+
+-- what stands between a device's name and its lines: no uuid, no minor number, its flag
+abbrev pub flag_text : Bool → List ℕ
+flag_text ro = if ro then codes ",,,ro," else codes ",,,rw,"
+
+-- a device with its lines
+abbrev pub concise_device : DeviceSpec → List ℕ
+concise_device device = device.name ++ flag_text device.ro ++ join_with_byte 44 (map body_text device.lines)
+
+-- the devices with semicolons between them, and a newline
+abbrev pub concise_text : List DeviceSpec → List ℕ
+concise_text devices = join_with_byte 59 (map concise_device devices) ++ 10 ∷ []
+
+-- What calls of an output did that write a text: all of it, or a beginning of it and a fault
+
+pub record Wrote {X E : Type 0} (written waiting : X → List ℕ) (faults flushes : X → ℕ) (old new : X) (result : Result (Unit {0}) E) (text : List ℕ) : Type 0 where
+  pub appends : written new ≡ written old ++ since (written old) (written new)
+  pub ok : OnOk result (since (written old) (written new) ≡ text)
+  pub err : OnErr result (IsBeginning text (since (written old) (written new)))
+  pub waits : waiting new ≡ waiting old ++ since (written old) (written new)
+  pub failed : faults new ≡ faults old + fault_of result
+  pub flushed : flushes new ≡ flushes old

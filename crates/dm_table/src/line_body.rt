@@ -1,0 +1,203 @@
+//! The body of a table's line: a start, a length, and a target with its arguments.
+//!
+//! Each form of a table labels such bodies in its own way, and hands their fields over. They are read
+//! once into a line: what isn't one is told as it is met. A new target type is an arm in
+//! `read_target` with a function that reads its arguments, and the same in `specs/LineBody.antt` and
+//! `specs/LineReading.antt`.
+
+ghost use Rattle.std.specs.Prelude.{◌≡◌, true, false, length, drop, is_some, nat_lt, MatchOption};
+ghost use Rattle.std.specs.List.{list_all};
+ghost use Rattle.dm_table.specs.Fields.{texts};
+ghost use Rattle.dm_table.specs.Name.{names_device, mapper};
+ghost use Rattle.dm_table.specs.LineBody.{is_body_row, are_columns, is_half, is_dev};
+ghost use Rattle.dm_table.specs.LineReading.{dev_reading, columns_reading, fault_before, linear_reading, striped_reading, target_reading, body_reading};
+ghost use Rattle.dm_table.specs.RowFaults.{Reads};
+
+use crate::disk_name::{DiskName, is_disk_name};
+use crate::name::{Name, is_device_name};
+use crate::number::number;
+use crate::place::Place;
+use crate::row_faults::RowFault;
+use crate::table::{Column, Columns, DevRef, Line, Target};
+use std::alloc::Global;
+
+/// Whether the fields are as many as a body has, and none of them is empty.
+pub(crate) fn is_body_row(fields: &[&[u8]]) -> bool
+    ensures { result ≡ is_body_row (texts fields.now) }
+{
+    let filled = are_filled(fields);
+    fields.len() >= 3 && filled
+}
+
+fn are_filled(fields: &[&[u8]]) -> bool
+    ensures { result ≡ list_all (λ field. nat_lt 0 (length field)) (texts fields.now) }
+{
+    for field in fields {
+        if field.is_empty() {
+            return false;
+        }
+    }
+    true
+}
+
+/// The line of a body, at its place. Of its faults, `Field` takes precedence over `Name`.
+pub(crate) fn read_body(alloc: Global, fields: &[&[u8]], at: Place) -> Result<Line, RowFault>
+    ensures { Reads (λ line. line) result (body_reading at (texts fields.now)) }
+{
+    let [start, len, target @ ..] = fields else {
+        return Err(RowFault::Field);
+    };
+    let Some(start) = number(*start) else {
+        return Err(RowFault::Field);
+    };
+    let Some(len) = number(*len) else {
+        return Err(RowFault::Field);
+    };
+    let target = read_target(alloc, target)?;
+    Ok(Line {
+        start,
+        len,
+        target,
+        at,
+    })
+}
+
+/// The target of a type and its arguments.
+fn read_target(alloc: Global, target: &[&[u8]]) -> Result<Target, RowFault>
+    ensures { Reads (λ target. target) result (target_reading (texts target.now)) }
+{
+    let [kind, arguments @ ..] = target else {
+        return Err(RowFault::Field);
+    };
+    if *kind == b"linear".as_slice() {
+        read_linear(alloc, arguments)
+    } else if *kind == b"striped".as_slice() {
+        read_striped(alloc, arguments)
+    } else if !arguments.is_empty() {
+        Err(RowFault::Field)
+    } else if *kind == b"zero".as_slice() {
+        Ok(Target::Zero)
+    } else if *kind == b"error".as_slice() {
+        Ok(Target::Error)
+    } else {
+        Err(RowFault::Field)
+    }
+}
+
+fn read_linear(alloc: Global, arguments: &[&[u8]]) -> Result<Target, RowFault>
+    ensures { Reads (λ target. target) result (linear_reading (texts arguments.now)) }
+{
+    let [to, offset] = arguments else {
+        return Err(RowFault::Field);
+    };
+    let Some(offset) = number(*offset) else {
+        return Err(RowFault::Field);
+    };
+    let to = read_dev(alloc, *to)?;
+    Ok(Target::Linear { to, offset })
+}
+
+fn read_striped(alloc: Global, arguments: &[&[u8]]) -> Result<Target, RowFault>
+    ensures { Reads (λ target. target) result (striped_reading (texts arguments.now)) }
+{
+    let [count, chunk, columns @ ..] = arguments else {
+        return Err(RowFault::Field);
+    };
+    if !is_half(*count, columns.len()) {
+        return Err(RowFault::Field);
+    }
+    let Some(chunk) = number(*chunk) else {
+        return Err(RowFault::Field);
+    };
+    let columns = read_columns(alloc, columns)?;
+    Ok(Target::Striped { chunk, columns })
+}
+
+/// Whether the field is a number, and half of the other one: nothing is doubled, so nothing wraps.
+fn is_half(count: &[u8], fields: usize) -> bool
+    ensures { result ≡ is_half count.now fields }
+{
+    match number(count) {
+        Some(count) => fields % 2 == 0 && fields as u64 / 2 == count,
+        None => false,
+    }
+}
+
+/// The columns of fields that go two by two, a name and a number. One pass.
+fn read_columns(alloc: Global, fields: &[&[u8]]) -> Result<Columns, RowFault>
+    ensures { Reads (λ columns. columns) result (columns_reading (texts fields.now)) }
+{
+    let mut columns = Vec::new(alloc);
+    let mut rest = fields;
+    while let [to, offset, more @ ..] = rest {
+        let Some(offset) = number(*offset) else {
+            return Err(RowFault::Field);
+        };
+        let to = match read_dev(alloc, *to) {
+            Ok(to) => to,
+            Err(fault) => return Err(fault_before(fault, more)),
+        };
+        match columns.push(Column { to, offset }) {
+            Ok(()) => {}
+            Err(_) => return Err(RowFault::Memory),
+        }
+        rest = more;
+    }
+    if !rest.is_empty() {
+        return Err(RowFault::Field);
+    }
+    Ok(Columns::from_vec(columns))
+}
+
+/// The fault of columns in which this one comes before these fields: a field that is wrong takes
+/// precedence over a name.
+fn fault_before(fault: RowFault, fields: &[&[u8]]) -> RowFault
+    ensures { result ≡ fault_before fault (texts fields.now) }
+{
+    match fault {
+        RowFault::Name if !are_columns(fields) => RowFault::Field,
+        _ => fault,
+    }
+}
+
+/// Whether the fields go two by two, the second of each two a number. One pass.
+fn are_columns(fields: &[&[u8]]) -> bool
+    ensures { result ≡ are_columns (texts fields.now) }
+{
+    let mut rest = fields;
+    while let [_, offset, more @ ..] = rest {
+        if number(*offset).is_none() {
+            return false;
+        }
+        rest = more;
+    }
+    rest.is_empty()
+}
+
+/// The device of the stack, or the disk, that a text names.
+fn read_dev(alloc: Global, text: &[u8]) -> Result<DevRef, RowFault>
+    ensures { Reads (λ dev. dev) result (dev_reading text.now) }
+{
+    match device_name_in(text) {
+        Some(name) => {
+            if !is_device_name(name) {
+                return Err(RowFault::Name);
+            }
+            Ok(DevRef::Device(Name::of_bytes(alloc, name)?))
+        }
+        None => {
+            if !is_disk_name(text) {
+                return Err(RowFault::Name);
+            }
+            Ok(DevRef::Disk(DiskName::of_bytes(alloc, text)?))
+        }
+    }
+}
+
+/// What follows `/dev/mapper/`, where the text speaks of a device of the stack.
+fn device_name_in(text: &[u8]) -> Option<&[u8]>
+    ensures { MatchOption result (names_device text.now ≡ false)
+        (λ name. (names_device text.now ≡ true) × (name.now ≡ drop (length mapper) text.now)) }
+{
+    text.strip_prefix(b"/dev/mapper/")
+}

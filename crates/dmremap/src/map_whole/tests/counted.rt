@@ -1,0 +1,131 @@
+//! Readers and writers of std behind `Counted`: one call of theirs for each call, and nothing again.
+//!
+//! A script says what each call of a fake returns, and the fake counts its calls. A row is a script
+//! and what must come of it.
+
+ghost use Rattle.std.specs.Prelude.{◌≤◌, IfOk};
+
+use dm_table::{Counted, Input, Output, write_all};
+use std::cell::Cell;
+use std::io::{self, Error, ErrorKind, Read, Write};
+
+/// What a call of a fake returns: a count of bytes, or a fault.
+#[derive(Clone, Copy)]
+enum Step {
+    Moves(usize),
+    Fails,
+}
+
+/// A reader or a writer that does what its script says, and then moves nothing.
+#[derive(Drop)]
+struct Fake<'a> {
+    script: &'a [Step],
+    calls: &'a Cell<usize>,
+}
+
+impl<'a> Fake<'a> {
+    fn step(&self, len: usize) -> io::Result<usize>
+        ensures { IfOk result (λ n. n ≤ len) }
+    {
+        let call = self.calls.get();
+        self.calls.set(call.saturating_add(1));
+        match self.script.get(call) {
+            Some(Step::Moves(count)) => Ok((*count).min(len)),
+            Some(Step::Fails) => Err(Error::from(ErrorKind::Interrupted)),
+            None => Ok(0),
+        }
+    }
+}
+
+impl<'a> Read for Fake<'a> {
+    fn read(&mut self, buffer: &mut [u8]) -> io::Result<usize> {
+        self.step(buffer.len())
+    }
+}
+
+impl<'a> Write for Fake<'a> {
+    fn write(&mut self, bytes: &[u8]) -> io::Result<usize> {
+        self.step(bytes.len())
+    }
+
+    fn flush(&mut self) -> io::Result<()> {
+        match self.step(0) {
+            Ok(_) => Ok(()),
+            Err(error) => Err(error),
+        }
+    }
+}
+
+#[test]
+fn reads(rt: HostRuntime) {
+    for (step, want) in [
+        (Step::Moves(4), Some(4)),
+        (Step::Moves(1), Some(1)),
+        (Step::Moves(0), Some(0)),
+        (Step::Fails, None),
+    ] {
+        let calls = Cell::new(0);
+        let script = [step, Step::Moves(4)];
+        let mut input = Counted::new(Fake {
+            script: &script,
+            calls: &calls,
+        });
+        assert!(rt; input.read(&mut [0; 4]).ok() == want, "a read of {want:?}");
+        assert_eq!(rt; calls.get(), 1, "calls at a read of {want:?}");
+    }
+}
+
+#[test]
+fn writes(rt: HostRuntime) {
+    for (step, want) in [
+        (Step::Moves(4), Some(4)),
+        (Step::Moves(1), Some(1)),
+        (Step::Moves(0), None),
+        (Step::Fails, None),
+    ] {
+        let calls = Cell::new(0);
+        let script = [step, Step::Moves(4)];
+        let mut output = Counted::new(Fake {
+            script: &script,
+            calls: &calls,
+        });
+        assert!(rt;
+            output.write(&[1, 2, 3, 4]).ok() == want,
+            "a write of {want:?}"
+        );
+        assert_eq!(rt; calls.get(), 1, "calls at a write of {want:?}");
+    }
+}
+
+#[test]
+fn flushes(rt: HostRuntime) {
+    for (step, succeeds) in [(Step::Moves(0), true), (Step::Fails, false)] {
+        let calls = Cell::new(0);
+        let script = [step, Step::Moves(0)];
+        let mut output = Counted::new(Fake {
+            script: &script,
+            calls: &calls,
+        });
+        assert_eq!(rt; output.flush().is_ok(), succeeds, "a flush");
+        assert_eq!(rt; calls.get(), 1, "calls at a flush");
+    }
+}
+
+#[test]
+fn all_of_some_bytes(rt: HostRuntime) {
+    for (script, succeeds, want) in [
+        ([Step::Moves(4), Step::Fails, Step::Fails], true, 1),
+        ([Step::Moves(1), Step::Moves(1), Step::Moves(2)], true, 3),
+        ([Step::Moves(2), Step::Fails, Step::Moves(4)], false, 2),
+        ([Step::Moves(3), Step::Moves(0), Step::Moves(4)], false, 2),
+    ] {
+        let calls = Cell::new(0);
+        let mut output = Counted::new(Fake {
+            script: &script,
+            calls: &calls,
+        });
+        let result = write_all(&mut output, &[1, 2, 3, 4]);
+        assert_eq!(rt; result.is_ok(), succeeds, "all after {want} writes");
+        assert_eq!(rt; calls.get(), want, "writes");
+    }
+}
