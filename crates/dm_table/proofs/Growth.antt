@@ -37,7 +37,7 @@ front_cut old new bytes (byte ∷ more) at e is some = (
   sym (take-append-drop at bytes) ∙ ap (λ xs. xs ++ drop at bytes) (sym (since_is old new (take at bytes) e)) ∙ ap (λ xs. since old new ++ xs) (sym is),
 )
 
--- what is left of a rest after its first n bytes
+-- what is left of a rest behind its first n bytes
 abbrev pub behind : List ℕ → ℕ → List ℕ
 behind rest n = take (length rest - n) (drop n rest)
 

@@ -15,3 +15,4 @@ pub mod TargetRows
 pub mod Growth
 pub mod RowFaultLemmas
 pub mod WriteLemmas
+pub mod CanonicalTable

@@ -1,8 +1,9 @@
 -- The one text that a description is written as, in table text and in concise text (dmsetup(8)).
-use Rattle.std.specs.Prelude.{◌≡◌, ℕ, Bool, List, [], ◌∷◌, ◌++◌, map, codes, Result, OnOk, OnErr, if◌then◌else◌, ◌+◌}
+use Rattle.std.specs.Prelude.{◌≡◌, ℕ, suc, Bool, false, length, List, [], ◌∷◌, ◌++◌, map, codes, Result, OnOk, OnErr, if◌then◌else◌, ◌+◌}
 use Rattle.std.specs.List.{flat_map, join_with_byte}
 use Rattle.dm_table.specs.declared.table.Line.{Line}
 use Rattle.dm_table.specs.declared.table.DeviceSpec.{DeviceSpec}
+use Rattle.dm_table.specs.declared.place.Part.TheVariants.{Source}
 use Rattle.dm_table.specs.DeviceIo.{fault_of, since}
 use Rattle.dm_table.specs.LineBody.{body_text}
 use Rattle.dm_table.specs.TableText.{line_text}
@@ -27,6 +28,20 @@ concise_device device = device.name ++ flag_text device.ro ++ join_with_byte 44 
 -- the devices with semicolons between them, and a newline
 abbrev pub concise_text : List DeviceSpec → List ℕ
 concise_text devices = join_with_byte 59 (map concise_device devices) ++ 10 ∷ []
+
+-- What table text says of devices
+
+-- lines whose places are their numbers in a source, from n on
+abbrev pub placed_lines : ℕ → List Line → List Line
+placed_lines n [] = []
+placed_lines n (line ∷ lines) = record line { at = record { part = Source; number = n } } ∷ placed_lines (suc n) lines
+
+-- devices whose lines are numbered so, and which are writable
+abbrev pub as_table : ℕ → List DeviceSpec → List DeviceSpec
+as_table n [] = []
+as_table n (device ∷ devices) =
+    record { name = device.name; ro = false; lines = placed_lines n device.lines; at = record { part = Source; number = n } }
+    ∷ as_table (n + length device.lines) devices
 
 -- What calls of an output did that write a text: all of it, or a beginning of it and a fault
 

@@ -5,13 +5,14 @@
 //! writes wants a buffer before it. A new target is an arm in `write_target` and in `target_text`
 //! of `specs/LineBody.antt`.
 
-ghost use Rattle.std.specs.Prelude.{◌≡◌, ◌+◌, ◌∷◌, ◌++◌, OnOk, OnErr, decimal, map};
+ghost use Rattle.std.specs.Prelude.{◌≡◌, ℕ, List, ◌+◌, ◌∷◌, ◌++◌, OnOk, OnErr, decimal, map};
 ghost use Rattle.std.specs.List.{flat_map, join_with_byte};
 ghost use Rattle.dm_table.specs.DeviceIo.{since, fault_of};
 ghost use Rattle.dm_table.specs.WriteAll.{IsBeginning};
 ghost use Rattle.dm_table.specs.LineBody.{dev_text, column_text, target_text, body_text};
-ghost use Rattle.dm_table.specs.TableText.{line_text};
-ghost use Rattle.dm_table.specs.CanonicalText.{Wrote, lines_text, table_text, flag_text, concise_device, concise_text};
+ghost use Rattle.dm_table.specs.TableText.{line_text, DescribesTable};
+ghost use Rattle.dm_table.specs.declared.table.DeviceSpec.{DeviceSpec};
+ghost use Rattle.dm_table.specs.CanonicalText.{Wrote, as_table, lines_text, table_text, flag_text, concise_device, concise_text};
 
 use crate::device_io::{OutFault, Output};
 use crate::number_text::{MOST_DIGITS, put_number};
@@ -129,6 +130,10 @@ fn write_lines<W: Output>(writer: &mut W, name: &[u8], lines: &[Line]) -> Result
 /// After a fault a beginning of the text is written, and nothing is tried again. Takes no memory, and
 /// makes a few writes for each line.
 pub fn write_table<W: Output>(devices: &[DeviceSpec], writer: &mut W) -> Result<(), OutFault>
+    // Where some table text says the devices, places and flags aside, the text written says them.
+    ensures reads_back { (text : List ℕ) (said : List DeviceSpec) → DescribesTable text said
+        → as_table 1 said ≡ as_table 1 devices.now
+        → DescribesTable (table_text devices.now) (as_table 1 devices.now) }
     ensures appends { W.written writer.new
         ≡ W.written writer.old ++ since (W.written writer.old) (W.written writer.new) }
     ensures ok { OnOk result (since (W.written writer.old) (W.written writer.new) ≡ table_text devices.now) }

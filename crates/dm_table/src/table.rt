@@ -1,8 +1,8 @@
 //! Devices and their tables, as a text describes them and before any check of the whole.
 //!
 //! The words are those of dmsetup(8): a table is a list of lines, and a line maps a range of
-//! sectors to a target. A new target is a variant of `Target` here, an arm in `target_row`, and
-//! a definition of its text and its meaning.
+//! sectors to a target. A new target is a variant of `Target` here, an arm in `line_body` and one in
+//! `canonical_text`, and a definition of its text and its meaning.
 
 ghost use Rattle.std.specs.Prelude.{◌≡◌};
 
