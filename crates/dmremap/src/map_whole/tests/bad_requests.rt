@@ -131,34 +131,23 @@ fn answer_to_beginning(count: usize) -> Answer<'static> {
 }
 
 #[test]
-fn a_clean_end_after_each_byte(rt: HostRuntime) {
+fn an_end_or_a_fault_after_each_byte(rt: HostRuntime) {
     let alloc = rt.alloc();
     let requests = LINE_AND_REST.requests.as_bytes();
     for count in 0..requests.len() + 1 {
-        for step in [1, PLENTY] {
-            let mut streams = LINE_AND_REST.streams(&rt, alloc, step);
-            streams.requests = ShortIn::new(&requests[..count], step);
-            let answer = answer_to_beginning(count);
-            check_streams(&rt, alloc, "a clean end", streams, &answer);
-        }
-    }
-}
-
-#[test]
-fn a_read_fault_after_each_byte(rt: HostRuntime) {
-    let alloc = rt.alloc();
-    let requests = LINE_AND_REST.requests.as_bytes();
-    for count in 0..requests.len() + 1 {
-        let output = if count < 8 { "" } else { "1 R sda 50 1\n" };
-        let answer = Answer {
-            output: output.as_bytes(),
+        let at_end = answer_to_beginning(count);
+        let at_fault = Answer {
+            output: at_end.output,
             message: "dmremap: requests: read\n".as_bytes(),
             status: 4,
         };
         for step in [1, PLENTY] {
             let mut streams = LINE_AND_REST.streams(&rt, alloc, step);
+            streams.requests = ShortIn::new(&requests[..count], step);
+            check_streams(&rt, alloc, "a clean end", streams, &at_end);
+            let mut streams = LINE_AND_REST.streams(&rt, alloc, step);
             streams.requests = ShortIn::failing(requests, step, count);
-            check_streams(&rt, alloc, "a read fault", streams, &answer);
+            check_streams(&rt, alloc, "a read fault", streams, &at_fault);
         }
     }
 }
