@@ -223,6 +223,8 @@ pub(crate) fn section_at<'a>(
         put_entry(&mut entries, &mut index, Entry { key, node })?;
         at = after;
     }
+    // Most sections have few keys, so the room left for more would be most of the memory.
+    entries.shrink_to_fit();
     let section = Section {
         line,
         entries,

@@ -297,14 +297,14 @@ fn deep_nesting(rt: HostRuntime) -> Result<(), Fail> {
 fn many_keys(rt: HostRuntime) -> Result<(), Fail> {
     let alloc = rt.alloc();
     let mut text = String::new(alloc);
-    for i in 0..100_000u32 {
+    for i in 0..30_000u32 {
         text.push_str(format!(in alloc; "k{i} = {i}\n")?.as_str())?;
     }
     assert_eq!(rt; fault_of(alloc, text.as_str()), None);
-    text.push_str("k99999 = 0")?;
+    text.push_str("k29999 = 0")?;
     assert_eq!(rt;
         fault_of(alloc, text.as_str()),
-        Some(TextFault::KeyTwice(100_001))
+        Some(TextFault::KeyTwice(30_001))
     );
     Ok(())
 }

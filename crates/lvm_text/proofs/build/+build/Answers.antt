@@ -2,6 +2,7 @@ use Rattle.std.proofs.Common.{◌≡◌, sym, ◌∙◌, ap, subst, ◌+◌, Lis
 use Rattle.std.specs.Prelude.{is_some}
 use Rattle.std.proofs.lemmas.Result.{err_from_is_err_and}
 use Rattle.lvm_text.specs.Places.{place_of}
+use Rattle.lvm_text.specs.Build.{ReadsValues}
 use Rattle.lvm_text.specs.TokenView.{view, views}
 use Rattle.lvm_text.specs.View.{values_of, lines_agree}
 use Rattle.lvm_text.specs.Checks.{twice_lines}
@@ -48,7 +49,9 @@ value_at-returns-in_err-section-clause-twice t c =
 
 pub section_at-returns-clause-read : goal.section_at-returns-clause-read
 section_at-returns-clause-read t c =
-    values_end (views (drop c.args.start c.args.tokens.now)) c.loop-key.entries.items (views (drop c.loop-key.at c.args.tokens.now)) c.loop-key.invariant.so_far c.in_default.ensures
+    let start = views (drop c.args.start c.args.tokens.now) in
+    let rest = views (drop c.loop-key.at c.args.tokens.now) in
+    subst (λ (es : List Entry). ReadsValues start (values_of es) rest) (sym c.shrink_to_fit.ensures.items) (values_end start c.loop-key.entries.items rest c.loop-key.invariant.so_far c.in_default.ensures)
 
 pub value_at-returns-in_default-clause-read : goal.value_at-returns-in_default-clause-read
 value_at-returns-in_default-clause-read t c = value_nothing c.args.line (views (drop c.args.start c.args.tokens.now)) (values.Int 0) (views (drop c.args.start c.args.tokens.now)) (ap views c.in_default.ensures)
