@@ -192,9 +192,9 @@ known_stripes physicals [] e = tt
 known_stripes physicals (stripe ∷ stripes) e =
     let a = or_false (not (nat_lt stripe.physical physicals)) _ e in
     (ltb-true stripe.physical physicals (not-false_true (nat_lt stripe.physical physicals) a.0), known_stripes physicals stripes a.1) where
-  not-false_true : (b : Bool) → not b ≡ false → b ≡ true
-  not-false_true true h = refl
-  not-false_true false h = absurd cc
+      not-false_true : (b : Bool) → not b ≡ false → b ≡ true
+      not-false_true true h = refl
+      not-false_true false h = absurd cc
 
 known_segments : (physicals : ℕ) (segments : List Segment) (later : Option ℕ) → least_unknown physicals segments later ≡ None → AllByRecursion (IsKnown physicals) segments × (later ≡ None)
 known_segments physicals [] later e = (tt, e)
@@ -257,6 +257,6 @@ sound_group group limits e =
       volumes = sound_volumes g.extent_size g.physicals (map (λ physical. physical.0) sections) (sections_at (codes "logical_volumes") group.1) few limits.volumes
           (known_volumes (length g.physicals) g.volumes (no_line (least_unknown_of (length g.physicals) g.volumes) a.0)) (volumes_placed g.physicals [] g.volumes lies.1);
     } where
-  no_line : (line : Option ℕ) → at_line Unknown line ≡ [] → line ≡ None
-  no_line None h = refl
-  no_line (Some line) h = absurd cc
+      no_line : (line : Option ℕ) → at_line Unknown line ≡ [] → line ≡ None
+      no_line None h = refl
+      no_line (Some line) h = absurd cc
