@@ -1,5 +1,5 @@
 -- The names of volumes, as they are built one after the other.
-use Rattle.std.proofs.Common.{◌≡◌, ◌≢◌, ℕ, ◌+◌, ◌<◌, Bool, true, false, List, [], ◌∷◌, ◌++◌, length, get_or, drop, map, Option, Some, None, Result, Ok, Err, refl, sym, ap, subst, ◌∙◌}
+use Rattle.std.proofs.Common.{◌≡◌, ◌≢◌, ℕ, ◌+◌, ◌<◌, List, ◌∷◌, length, get_or, drop, map, Option, Some, None, Ok, Err, refl, sym, ap, subst, ◌∙◌}
 use Rattle.std.specs.Prelude.{is_some}
 use Rattle.std.specs.List.{AllByRecursion, flat_map}
 use Rattle.std.proofs.lemmas.List.{drop_more}
@@ -11,7 +11,7 @@ use Rattle.dm_table.specs.LoadFault.{fault_at, first_or, unless}
 use Rattle.lvm_volume.specs.declared.fault.NameFault.{NameFault}
 use Rattle.lvm_volume.specs.declared.fault.NameFault.TheVariants as names
 use Rattle.lvm_volume.specs.declared.volume.Volume.{Volume}
-use Rattle.lvm_volume.specs.Names.{Returns, fault_of, joined, name_or}
+use Rattle.lvm_volume.specs.Names.{Returns, name_or}
 use Rattle.lvm_volume.specs.Extents.{hit}
 use Rattle.lvm_volume.proofs.GroupLemmas.{Refused, ok_is}
 use Rattle.lvm_volume.proofs.Faults.{first_here, first_after}

@@ -1,4 +1,4 @@
-use Rattle.std.proofs.Common.{◌≡◌, ◌+◌, ◌++◌, ◌∷◌, [], List, ℕ, Vec, sym, ap, ◌∙◌, map, codes, decimal}
+use Rattle.std.proofs.Common.{◌≡◌, ◌+◌, ◌++◌, List, ℕ, Vec, sym, ap, ◌∙◌, map, codes, decimal}
 use Rattle.std.specs.Global.{Global}
 use Rattle.lvm_text.specs.Tree.{Tree}
 use denote.Ref.{Bor}
