@@ -1,9 +1,9 @@
 -- No check of a group finds a fault of memory.
-use Rattle.std.proofs.Common.{◌≡◌, ◌≢◌, ℕ, Bool, true, false, List, [], ◌∷◌, ◌++◌, map, length, codes, Option, Some, None, sym, ap, ◌∙◌, if◌then◌else◌, ◌+◌}
+use Rattle.std.proofs.Common.{◌≡◌, ◌≢◌, ℕ, Bool, true, false, List, [], ◌∷◌, ◌++◌, length, codes, Option, Some, None, ap, ◌∙◌, if◌then◌else◌, ◌+◌}
 use Rattle.std.specs.List.{AllByRecursion, flat_map, range_with_len}
 use Rattle.lvm_text.specs.Tree.{Tree, Shown, node_of, sections_of}
 use Rattle.dm_table.specs.declared.load_fault.LoadKind.{LoadKind}
-use Rattle.dm_table.specs.declared.load_fault.LoadKind.TheVariants.{Memory, Name, Unknown, Extents}
+use Rattle.dm_table.specs.declared.load_fault.LoadKind.TheVariants.{Memory, Unknown, Extents}
 use Rattle.dm_table.specs.declared.load_fault.LoadFault.{LoadFault}
 use Rattle.dm_table.specs.LoadFault.{first_or}
 use Rattle.lvm_volume.specs.declared.check.Check.{Check}

@@ -1,5 +1,5 @@
 -- The names of volumes, as they are built one after the other.
-use Rattle.std.proofs.Common.{◌≡◌, ◌≢◌, ℕ, ◌+◌, ◌<◌, Bool, true, false, List, [], ◌∷◌, ◌++◌, length, get_or, drop, map, Option, Some, None, Result, Ok, Err, refl, sym, ap, ◌∙◌, append_assoc}
+use Rattle.std.proofs.Common.{◌≡◌, ◌≢◌, ℕ, ◌+◌, ◌<◌, List, ◌∷◌, length, get_or, drop, map, Option, Some, None, Ok, Err, refl, sym, ap, subst, ◌∙◌}
 use Rattle.std.specs.Prelude.{is_some}
 use Rattle.std.specs.List.{AllByRecursion, flat_map}
 use Rattle.std.proofs.lemmas.List.{drop_more}
@@ -11,7 +11,7 @@ use Rattle.dm_table.specs.LoadFault.{fault_at, first_or, unless}
 use Rattle.lvm_volume.specs.declared.fault.NameFault.{NameFault}
 use Rattle.lvm_volume.specs.declared.fault.NameFault.TheVariants as names
 use Rattle.lvm_volume.specs.declared.volume.Volume.{Volume}
-use Rattle.lvm_volume.specs.Names.{Returns, fault_of, joined, name_or}
+use Rattle.lvm_volume.specs.Names.{Returns, name_or}
 use Rattle.lvm_volume.specs.Extents.{hit}
 use Rattle.lvm_volume.proofs.GroupLemmas.{Refused, ok_is}
 use Rattle.lvm_volume.proofs.Faults.{first_here, first_after}
@@ -36,8 +36,10 @@ pub refused_name : (o : Option NameFault) (text : List ℕ) (f : NameFault) (lin
 refused_name o text f line fault memory name e = by_cases f refl where
   no_memory : (g : LoadFault) → g ≡ fault_at Source Name line → g.kind ≡ Memory → ⊥
   no_memory g is kind = let wrong : Name ≡ Memory = sym (ap (λ (h : LoadFault). h.kind) is) ∙ kind in cc
+
   other_is : f ≢ names.Memory → Refused fault (unless (first_or (hit (is_some o) Name line) None) text)
   other_is other = (λ kind. absurd (no_memory fault (name other) kind), λ _. unnamed o text f line other e ∙ ap Err (sym (name other)))
+
   by_cases : (g : NameFault) → f ≡ g → Refused fault (unless (first_or (hit (is_some o) Name line) None) text)
   by_cases names.Letter is = other_is (λ memory. let wrong : names.Letter ≡ names.Memory = sym is ∙ memory in cc)
   by_cases names.HyphenFirst is = other_is (λ memory. let wrong : names.HyphenFirst ≡ names.Memory = sym is ∙ memory in cc)
@@ -59,8 +61,8 @@ pub refused_volume : (f : Volume → List LoadFault) (m : Volume → DeviceSpec)
 refused_volume f m xs i x fault within is left h = (
   h.0,
   λ other.
-    let found = sym left ∙ at_place (λ (ys : List Volume). first_or (flat_map f ys) None) xs i x within is ∙ first_here (f x) (flat_map f (drop (i + 1) xs)) None fault (err_is (first_or (f x) None) (m x) fault (h.1 other)) in
-    ap (λ (o : Option LoadFault). unless o (map m xs)) found,
+      let found = sym left ∙ at_place (λ (ys : List Volume). first_or (flat_map f ys) None) xs i x within is ∙ first_here (f x) (flat_map f (drop (i + 1) xs)) None fault (err_is (first_or (f x) None) (m x) fault (h.1 other)) in
+      ap (λ (o : Option LoadFault). unless o (map m xs)) found,
 )
 
 pub made_volume : (f : Volume → List LoadFault) (m : Volume → DeviceSpec) (xs : List Volume) (i : ℕ) (x : Volume) (d : DeviceSpec) → i < length xs → x ≡ get_or xs i x → unless (first_or (f x) None) (m x) ≡ Ok d
@@ -70,3 +72,10 @@ made_volume f m xs i x d within is e =
       at_place (map m) xs i x within is ∙ ap (λ (y : DeviceSpec). y ∷ map m (drop (i + 1) xs)) a.1,
       sym (at_place (λ (ys : List Volume). first_or (flat_map f ys) None) xs i x within is ∙ first_after (f x) (flat_map f (drop (i + 1) xs)) None a.0),
     )
+
+-- what holds of all that are left holds of those after the next
+pub all_left : (p : Volume → Type 0) (xs : List Volume) (i : ℕ) (x : Volume) → i < length xs → x ≡ get_or xs i x → AllByRecursion p (drop i xs) → AllByRecursion p (drop (i + 1) xs)
+all_left p xs i x within is all =
+    let at : drop i xs ≡ x ∷ drop (i + 1) xs = at_place (λ (ys : List Volume). ys) xs i x within is in
+    let split : AllByRecursion p (x ∷ drop (i + 1) xs) = subst (AllByRecursion p) at all in
+    split.1

@@ -1,5 +1,5 @@
 -- Physical volumes as they are read, one after the other.
-use Rattle.std.proofs.Common.{◌≡◌, ◌≢◌, ℕ, ◌+◌, ◌<◌, Bool, true, false, not, List, [], ◌∷◌, ◌++◌, length, get_or, drop, map, Option, Some, None, Result, Ok, Err, refl, sym, ap, ◌∙◌}
+use Rattle.std.proofs.Common.{◌≡◌, ℕ, ◌+◌, ◌<◌, Bool, true, false, not, List, [], ◌∷◌, ◌++◌, length, get_or, drop, map, Option, Some, None, Ok, Err, refl, sym, ap, ◌∙◌}
 use Rattle.std.proofs.lemmas.List.{drop_more}
 use Rattle.lvm_text.specs.Tree.{Tree}
 use Rattle.lvm_text.specs.Iterate.{item_view}
@@ -8,7 +8,7 @@ use Rattle.dm_table.specs.declared.load_fault.LoadFault.{LoadFault}
 use Rattle.dm_table.specs.LoadFault.{first_or, unless}
 use Rattle.lvm_volume.specs.declared.physical.Physical.{Physical}
 use Rattle.lvm_volume.specs.Extents.{hit, name_faults}
-use Rattle.lvm_volume.specs.Group.{Keyed, chosen, device_of, disk_name, is_shared, physical_of}
+use Rattle.lvm_volume.specs.Group.{Keyed, chosen, device_of, disk_name, is_shared}
 use Rattle.dm_table.specs.declared.load_fault.LoadKind.TheVariants.{Name}
 use Rattle.dm_table.specs.LoadFault.{fault_at}
 use Rattle.dm_table.specs.declared.place.Part.TheVariants.{Source}

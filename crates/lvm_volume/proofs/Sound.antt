@@ -1,6 +1,6 @@
 -- What no check finds fault with fits 64 bits in sectors, and its stripes are on physical volumes that are there.
-use Rattle.std.proofs.Common.{◌≡◌, ◌≢◌, ◌⊎◌, ℕ, suc, zero, ◌+◌, ◌*◌, ◌/◌, ◌%◌, ◌^◌, ◌<◌, ◌≤◌, ◌==◌, Bool, true, false, not, ◌&&◌, ◌||◌, List, [], ◌∷◌, ◌++◌, length, map, Option, Some, None, refl, sym, ap, subst, ◌∙◌, arith, mul-le-mul_right, if◌then◌else◌}
-use Rattle.std.specs.Prelude.{nat_lt, codes, slice_index, slice_index_or}
+use Rattle.std.proofs.Common.{◌≡◌, ℕ, suc, zero, ◌+◌, ◌*◌, ◌/◌, ◌%◌, ◌^◌, ◌<◌, ◌≤◌, ◌==◌, Bool, true, false, not, ◌||◌, List, [], ◌∷◌, ◌++◌, length, map, Option, Some, None, refl, sym, ap, ◌∙◌, arith, mul-le-mul_right, if◌then◌else◌}
+use Rattle.std.specs.Prelude.{nat_lt, codes}
 use Rattle.std.specs.List.{AllByRecursion, flat_map, list_any, range_with_len}
 use Rattle.std.proofs.lemmas.Bool.{ltb-false, ltb-true}
 use Rattle.lvm_text.specs.Tree.{Tree, Shown, Content, Inner, Whole, Items, Int, Text, node_of, sections_of}
@@ -8,7 +8,6 @@ use Rattle.dm_table.specs.declared.load_fault.LoadKind.{LoadKind}
 use Rattle.dm_table.specs.declared.load_fault.LoadKind.TheVariants.{Extents, Unknown}
 use Rattle.dm_table.specs.declared.load_fault.LoadFault.{LoadFault}
 use Rattle.dm_table.specs.LoadFault.{first_or, first_fault}
-use Rattle.lvm_volume.specs.declared.check.Check.{Check}
 use Rattle.lvm_volume.specs.declared.check.Check.TheVariants.{Fields, Limits}
 use Rattle.lvm_volume.specs.declared.field.Kind.{Kind}
 use Rattle.lvm_volume.specs.declared.field.Kind.TheVariants as kinds
@@ -192,9 +191,9 @@ known_stripes physicals [] e = tt
 known_stripes physicals (stripe ∷ stripes) e =
     let a = or_false (not (nat_lt stripe.physical physicals)) _ e in
     (ltb-true stripe.physical physicals (not-false_true (nat_lt stripe.physical physicals) a.0), known_stripes physicals stripes a.1) where
-  not-false_true : (b : Bool) → not b ≡ false → b ≡ true
-  not-false_true true h = refl
-  not-false_true false h = absurd cc
+      not-false_true : (b : Bool) → not b ≡ false → b ≡ true
+      not-false_true true h = refl
+      not-false_true false h = absurd cc
 
 known_segments : (physicals : ℕ) (segments : List Segment) (later : Option ℕ) → least_unknown physicals segments later ≡ None → AllByRecursion (IsKnown physicals) segments × (later ≡ None)
 known_segments physicals [] later e = (tt, e)
@@ -257,6 +256,6 @@ sound_group group limits e =
       volumes = sound_volumes g.extent_size g.physicals (map (λ physical. physical.0) sections) (sections_at (codes "logical_volumes") group.1) few limits.volumes
           (known_volumes (length g.physicals) g.volumes (no_line (least_unknown_of (length g.physicals) g.volumes) a.0)) (volumes_placed g.physicals [] g.volumes lies.1);
     } where
-  no_line : (line : Option ℕ) → at_line Unknown line ≡ [] → line ≡ None
-  no_line None h = refl
-  no_line (Some line) h = absurd cc
+      no_line : (line : Option ℕ) → at_line Unknown line ≡ [] → line ≡ None
+      no_line None h = refl
+      no_line (Some line) h = absurd cc

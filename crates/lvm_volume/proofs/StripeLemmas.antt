@@ -1,12 +1,9 @@
 -- Lists of strings and integers in turn, pair by pair.
-use Rattle.std.proofs.Common.{◌≡◌, ℕ, ◌<◌, ◌≤◌, ◌++◌, List, [], ◌∷◌, length, get_or, drop, refl, sym, ap, ◌∙◌, arith, append_assoc}
-use Rattle.lvm_text.specs.Tree as tree
-use Rattle.lvm_text.specs.View.{scalar_view, scalar_views}
+use Rattle.std.proofs.Common.{◌≡◌, ℕ, ◌<◌, List, [], ◌∷◌, length, refl, arith}
+use Rattle.lvm_text.specs.View.{scalar_views}
 use Rattle.lvm_text.specs.declared.tree.Scalar.{Scalar}
 use Rattle.lvm_text.specs.declared.tree.Scalar.TheVariants.{Int, Text}
-use Rattle.lvm_volume.specs.declared.segment.Stripe.{Stripe}
-use Rattle.lvm_volume.specs.Group.{place_of, stripes_in}
-use denote.Ref.{Bor}
+use Rattle.lvm_volume.specs.Group.{stripes_in}
 
 pub too_short : (keys : List (List ℕ)) (xs : List Scalar) → length xs < 2 → stripes_in keys (scalar_views xs) ≡ []
 too_short keys [] below = refl

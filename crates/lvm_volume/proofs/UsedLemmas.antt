@@ -1,5 +1,5 @@
 -- Ranges that are used: what a look-up of the last one before an end tells, and one range more.
-use Rattle.std.proofs.Common.{◌≡◌, ◌≢◌, ◌⊎◌, ℕ, ◌+◌, ◌<◌, ◌≤◌, Bool, true, false, ◌&&◌, ◌||◌, List, [], ◌∷◌, Option, Some, None, refl, sym, ap, ◌∙◌, subst, arith, rules, inl, inr}
+use Rattle.std.proofs.Common.{◌≡◌, ◌⊎◌, ℕ, ◌<◌, ◌≤◌, Bool, true, false, ◌&&◌, ◌||◌, List, [], ◌∷◌, Option, Some, None, refl, sym, ap, ◌∙◌, arith, rules, inl, inr}
 use Rattle.std.proofs.lemmas.Grind.{common_steps}
 use Rattle.std.specs.Prelude.{IsSome, nat_lt}
 use Rattle.std.specs.List.{list_any, AllByRecursion}
@@ -114,9 +114,11 @@ keeps_more old new ranges first end keeps some free added = record {
       let ends : e ≡ end = same_end (get nat_cmp new s) e end is (ap (get nat_cmp new) (sym same) ∙ added.here) in
       rw (same, ← ends, hit) refl
   only_at s e is a b hit (inr other) = rw (keeps.only s e (sym other ∙ is) a b hit) (or_true (reaches a b (first, end)))
+
   some_at : (s e : ℕ) → get nat_cmp new s ≡ Some e → (first ≡ s) ⊎ (get nat_cmp new s ≡ get nat_cmp old s) → s < e
   some_at s e is (inl same) = omega (arith, same, some, same_end (get nat_cmp new s) e end is (ap (get nat_cmp new) (sym same) ∙ added.here))
   some_at s e is (inr other) = keeps.some s e (sym other ∙ is)
+
   apart_at : (a b c d : ℕ) → get nat_cmp new a ≡ Some b → get nat_cmp new c ≡ Some d → a < c → (first ≡ a) ⊎ (get nat_cmp new a ≡ get nat_cmp old a) → (first ≡ c) ⊎ (get nat_cmp new c ≡ get nat_cmp old c) → b ≤ c
   apart_at a b c d is_b is_d before (inl one) (inl two) = absurd (omega (arith, one, two, before))
   apart_at a b c d is_b is_d before (inl one) (inr two) =

@@ -1,7 +1,7 @@
 -- The fields of a group's metadata that are read, and what each may hold (vgcfgbackup(8), lvm.conf(5)).
-use Rattle.std.specs.Prelude.{ℕ, suc, ◌+◌, ◌*◌, Bool, true, false, not, ◌&&◌, ◌||◌, ◌==◌, List, [], ◌∷◌, ◌++◌, Option, Some, None, nat_lt, is_some, bytes_eq, codes, decimal, length, map, if◌then◌else◌}
+use Rattle.std.specs.Prelude.{ℕ, ◌*◌, Bool, true, false, not, ◌&&◌, ◌||◌, ◌==◌, List, [], ◌∷◌, ◌++◌, Option, Some, None, nat_lt, is_some, bytes_eq, codes, decimal, length, map, if◌then◌else◌}
 use Rattle.std.specs.List.{flat_map, list_any, list_all, range_with_len}
-use Rattle.lvm_text.specs.Tree.{Tree, Content, Inner, Whole, Items, Scalar, Int, Text, Shown, Nothing, node_of, sections_of}
+use Rattle.lvm_text.specs.Tree.{Tree, Content, Inner, Whole, Items, Scalar, Int, Text, Shown, node_of, sections_of}
 use Rattle.dm_table.specs.declared.place.Part.TheVariants.{Source}
 use Rattle.dm_table.specs.declared.load_fault.LoadKind.{LoadKind}
 use Rattle.dm_table.specs.declared.load_fault.LoadKind.TheVariants as loads

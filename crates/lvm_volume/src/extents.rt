@@ -48,7 +48,11 @@ fn end_of(start: u64, count: u64, extent_size: u64) -> u128
 /// The first segment that is misplaced.
 ///
 /// Cost: near-linear in segments and stripes.
-pub(crate) fn volumes_fault(alloc: Global, physicals: &[Physical], volumes: &[Volume]) -> Result<Option<LoadFault>, AllocError>
+pub(crate) fn volumes_fault(
+    alloc: Global,
+    physicals: &[Physical],
+    volumes: &[Volume],
+) -> Result<Option<LoadFault>, AllocError>
     ensures { IfOk result (λ fault. fault ≡ first_or (volume_faults physicals.now [] volumes.now) None) }
 {
     let mut maps = maps_of(alloc, physicals.len())?;
@@ -56,7 +60,11 @@ pub(crate) fn volumes_fault(alloc: Global, physicals: &[Physical], volumes: &[Vo
 }
 
 /// The first segment that is misplaced, beside nothing that was used before.
-fn each_fault(physicals: &[Physical], maps: &mut [BTreeMap<u64, u64>], volumes: &[Volume]) -> Result<Option<LoadFault>, AllocError>
+fn each_fault(
+    physicals: &[Physical],
+    maps: &mut [BTreeMap<u64, u64>],
+    volumes: &[Volume],
+) -> Result<Option<LoadFault>, AllocError>
     requires len { length maps.old ≡ length physicals.now }
     requires held { Holds maps.old [] }
     ensures { IfOk result (λ fault. fault ≡ first_or (volume_faults physicals.now [] volumes.now) None) }
@@ -82,7 +90,11 @@ fn maps_of(alloc: Global, physicals: usize) -> Result<Vec<BTreeMap<u64, u64>>, A
 }
 
 /// The first of a volume's segments that is misplaced, beside what was used before.
-fn segments_fault(physicals: &[Physical], maps: &mut [BTreeMap<u64, u64>], segments: &[Segment]) -> Result<Option<LoadFault>, AllocError>
+fn segments_fault(
+    physicals: &[Physical],
+    maps: &mut [BTreeMap<u64, u64>],
+    segments: &[Segment],
+) -> Result<Option<LoadFault>, AllocError>
     requires { length maps.old ≡ length physicals.now }
     ensures value { (used : List Claim) → Holds maps.old used → IfOk result (λ fault. fault ≡ first_or (segment_faults physicals.now used 0 segments.now) None) }
     ensures held { (used : List Claim) → Holds maps.old used → IfOk result (λ fault. fault ≡ None → Holds maps.new (used_after used segments.now)) }
@@ -99,7 +111,12 @@ fn segments_fault(physicals: &[Physical], maps: &mut [BTreeMap<u64, u64>], segme
 }
 
 /// Whether a segment is misplaced after one that ends at this extent. It claims its extents where it isn't.
-fn is_misplaced(physicals: &[Physical], maps: &mut [BTreeMap<u64, u64>], end: u128, segment: &Segment) -> Result<bool, AllocError>
+fn is_misplaced(
+    physicals: &[Physical],
+    maps: &mut [BTreeMap<u64, u64>],
+    end: u128,
+    segment: &Segment,
+) -> Result<bool, AllocError>
     requires { length maps.old ≡ length physicals.now }
     ensures value { (used : List Claim) → Holds maps.old used → IfOk result (λ misplaced. misplaced ≡ is_misplaced physicals.now used end segment.now) }
     ensures held { (used : List Claim) → Holds maps.old used → IfOk result (λ misplaced. misplaced ≡ false → Holds maps.new (used_by used (spec.claims_of segment.now))) }
@@ -117,7 +134,12 @@ fn is_misplaced(physicals: &[Physical], maps: &mut [BTreeMap<u64, u64>], end: u1
 }
 
 /// Whether stripes don't divide so many extents, or clash with what is used. They claim their extents where they don't.
-fn is_clash(physicals: &[Physical], maps: &mut [BTreeMap<u64, u64>], count: u64, stripes: &[Stripe]) -> Result<bool, AllocError>
+fn is_clash(
+    physicals: &[Physical],
+    maps: &mut [BTreeMap<u64, u64>],
+    count: u64,
+    stripes: &[Stripe],
+) -> Result<bool, AllocError>
     requires len { length maps.old ≡ length physicals.now }
     requires some { 0 < count }
     ensures value { (used : List Claim) → Holds maps.old used
@@ -133,7 +155,12 @@ fn is_clash(physicals: &[Physical], maps: &mut [BTreeMap<u64, u64>], count: u64,
 }
 
 /// Whether one of the stripes clashes. Each claims its extents up to one that does.
-fn claim_all(physicals: &[Physical], maps: &mut [BTreeMap<u64, u64>], share: u64, stripes: &[Stripe]) -> Result<bool, AllocError>
+fn claim_all(
+    physicals: &[Physical],
+    maps: &mut [BTreeMap<u64, u64>],
+    share: u64,
+    stripes: &[Stripe],
+) -> Result<bool, AllocError>
     requires len { length maps.old ≡ length physicals.now }
     requires some { 0 < share }
     ensures claimed { (used : List Claim) → Holds maps.old used → IfOk result (Claimed physicals.now maps.new (claims_by share stripes.now) used) }
@@ -164,7 +191,12 @@ fn passes_end(physicals: &[Physical], stripe: &Stripe, share: u64) -> bool
 }
 
 /// Claims extents of a physical volume, unless one of them is used.
-fn claim(maps: &mut [BTreeMap<u64, u64>], physical: usize, first: u64, end: u64) -> Result<bool, AllocError>
+fn claim(
+    maps: &mut [BTreeMap<u64, u64>],
+    physical: usize,
+    first: u64,
+    end: u64,
+) -> Result<bool, AllocError>
     requires within { physical < length maps.old }
     requires some { first < end }
     ensures free { (used : List Claim) → Holds maps.old used → IfOk result (λ free. free ≡ not (list_any (meets (record { physical = physical; first = first; end = end })) used)) }

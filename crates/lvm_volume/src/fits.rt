@@ -47,8 +47,7 @@ pub(crate) fn fits(section: &Section<'_>, kind: Kind, value: &Value<'_>) -> bool
         (Kind::Texts, Value::List(items)) => are_texts(items.as_slice()),
         (Kind::Type, Value::Text(text)) => is_type(*text),
         (Kind::Stripes, Value::List(items)) => {
-            are_pairs(items.as_slice())
-                && is_half(number_at(section, "stripe_count"), items.len())
+            are_pairs(items.as_slice()) && is_half(number_at(section, "stripe_count"), items.len())
         }
         (Kind::Section, Value::Section(_)) => true,
         _ => false,

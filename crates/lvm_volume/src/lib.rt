@@ -9,6 +9,8 @@ mod extents;
 mod fault;
 mod field;
 mod fits;
+#[cfg(test)]
+mod group_tests;
 mod key;
 mod names;
 mod physical;

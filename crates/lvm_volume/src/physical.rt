@@ -37,7 +37,10 @@ pub(crate) struct Physical {
 /// The physical volumes that sections say, or the first whose disk gets no name.
 ///
 /// Cost: near-linear, with memory for each name.
-pub(crate) fn physicals_in<'s, 'a>(alloc: Global, sections: &[(&'a str, &'s Section<'a>)]) -> Result<Vec<Physical>, LoadFault>
+pub(crate) fn physicals_in<'s, 'a>(
+    alloc: Global,
+    sections: &[(&'a str, &'s Section<'a>)],
+) -> Result<Vec<Physical>, LoadFault>
     ensures { let said = map (physical_of (map device_of (map item_view sections.now))) (map item_view sections.now) in
         Answers Source (λ v. v.items) result (unless (first_or (name_faults said) None) said) }
 {
@@ -61,7 +64,10 @@ pub(crate) fn physicals_in<'s, 'a>(alloc: Global, sections: &[(&'a str, &'s Sect
 }
 
 /// The devices that sections of physical volumes say.
-fn devices_of<'s, 'a>(alloc: Global, sections: &[(&'a str, &'s Section<'a>)]) -> Result<Vec<&'a str>, AllocError>
+fn devices_of<'s, 'a>(
+    alloc: Global,
+    sections: &[(&'a str, &'s Section<'a>)],
+) -> Result<Vec<&'a str>, AllocError>
     ensures { IfOk result (λ v. texts v.items ≡ map device_of (map item_view sections.now)) }
 {
     let mut devices = Vec::new(alloc);
@@ -111,7 +117,12 @@ fn disk_name(alloc: Global, shared: bool, key: &str, device: &str) -> Result<Dis
 
 /// The physical volume that a section says, unless its disk gets no name.
 #[tactic(auto, unfolding(crate::specs::Group::physical_of))]
-fn physical_of(alloc: Global, counts: &BTreeMap<&str, usize>, key: &str, section: &Section<'_>) -> Result<Physical, LoadFault>
+fn physical_of(
+    alloc: Global,
+    counts: &BTreeMap<&str, usize>,
+    key: &str,
+    section: &Section<'_>,
+) -> Result<Physical, LoadFault>
     ensures { (devices : List (List ℕ)) → Counts counts.now devices
         → let said = physical_of devices (key.now, section.now) in Answers Source (λ p. p) result (unless (first_or (name_faults (said ∷ [])) None) said) }
 {

@@ -103,7 +103,11 @@ impl Segments {
 }
 
 /// The stripes that a list says, pair by pair. One pass, with a look-up for each.
-fn stripes_of(alloc: Global, places: &Places<'_>, items: &[Scalar<'_>]) -> Result<Vec<Stripe>, AllocError>
+fn stripes_of(
+    alloc: Global,
+    places: &Places<'_>,
+    items: &[Scalar<'_>],
+) -> Result<Vec<Stripe>, AllocError>
     ensures { IfOk result (λ v. v.items ≡ stripes_in places.now (scalar_views items.now)) }
 {
     let mut stripes = Vec::new(alloc);
@@ -133,7 +137,11 @@ fn pair<'a>(first: &Scalar<'a>, second: &Scalar<'a>) -> Option<(&'a str, u64)>
 }
 
 /// What becomes of a segment's extents.
-fn target_of(alloc: Global, places: &Places<'_>, segment: &Section<'_>) -> Result<SegmentType, AllocError>
+fn target_of(
+    alloc: Global,
+    places: &Places<'_>,
+    segment: &Section<'_>,
+) -> Result<SegmentType, AllocError>
     ensures { IfOk result (λ target. target ≡ target_of places.now segment.now) }
 {
     if is_striped(segment) {
@@ -147,7 +155,11 @@ fn target_of(alloc: Global, places: &Places<'_>, segment: &Section<'_>) -> Resul
 }
 
 /// The stripes of a striped segment, with their chunk.
-fn striped(alloc: Global, places: &Places<'_>, segment: &Section<'_>) -> Result<SegmentType, AllocError>
+fn striped(
+    alloc: Global,
+    places: &Places<'_>,
+    segment: &Section<'_>,
+) -> Result<SegmentType, AllocError>
     ensures { IfOk result (λ target. target ≡ Striped (fields.number_at (codes "stripe_size") segment.now) (stripes_in places.now (fields.items_at (codes "stripes") segment.now))) }
 {
     let stripes = match items_at(segment, "stripes") {
@@ -162,7 +174,11 @@ fn striped(alloc: Global, places: &Places<'_>, segment: &Section<'_>) -> Result<
 
 /// The segment that a section says.
 #[tactic(auto, unfolding(crate::specs::Group::segment_of))]
-fn segment_of(alloc: Global, places: &Places<'_>, segment: &Section<'_>) -> Result<Segment, AllocError>
+fn segment_of(
+    alloc: Global,
+    places: &Places<'_>,
+    segment: &Section<'_>,
+) -> Result<Segment, AllocError>
     ensures { IfOk result (λ made. made ≡ segment_of places.now segment.now) }
 {
     Ok(Segment {
@@ -174,7 +190,11 @@ fn segment_of(alloc: Global, places: &Places<'_>, segment: &Section<'_>) -> Resu
 }
 
 /// The segments that sections say.
-pub(crate) fn segments_in(alloc: Global, places: &Places<'_>, sections: &[&Section<'_>]) -> Result<Segments, AllocError>
+pub(crate) fn segments_in(
+    alloc: Global,
+    places: &Places<'_>,
+    sections: &[&Section<'_>],
+) -> Result<Segments, AllocError>
     ensures { IfOk result (λ made. made ≡ map (segment_of places.now) (map section_view sections.now)) }
 {
     let mut segments = Vec::new(alloc);

@@ -21,8 +21,8 @@ use crate::volume::Volume;
 use crate::volume_group::VolumeGroup;
 use crate::walk::source_fault;
 use dm_table::{
-    CheckFault, Column, Columns, DevRef, DeviceSpec, Disk, DiskName, Line, LoadFault, LoadKind, Name, Part, Place,
-    Table, Target,
+    CheckFault, Column, Columns, DevRef, DeviceSpec, Disk, DiskName, Line, LoadFault, LoadKind,
+    Name, Part, Place, Table, Target,
 };
 use std::alloc::{AllocError, Global};
 
@@ -38,7 +38,13 @@ impl VolumeGroup {
         // The tables of the group exactly where each volume has a name, unless memory runs out.
         ensures { Answers Source (λ tables. (tables.0.items, tables.1.items)) result (unless (first_or (unnamed self.now) None) (tables_of self.now)) }
     {
-        let devices = match devices_of(alloc, self.name.as_str(), self.extent_size, &self.physicals, &self.volumes) {
+        let devices = match devices_of(
+            alloc,
+            self.name.as_str(),
+            self.extent_size,
+            &self.physicals,
+            &self.volumes,
+        ) {
             Ok(devices) => devices,
             Err(fault) => return Err(fault),
         };
@@ -129,12 +135,18 @@ fn refused_name(fault: NameFault, line: u64) -> LoadFault
 {
     match fault {
         NameFault::Memory => LoadFault::memory(Part::Source),
-        NameFault::Letter | NameFault::HyphenFirst | NameFault::Empty | NameFault::Long => source_fault(LoadKind::Name, line),
+        NameFault::Letter | NameFault::HyphenFirst | NameFault::Empty | NameFault::Long =>
+            source_fault(LoadKind::Name, line),
     }
 }
 
 /// The lines of segments.
-fn lines_of(alloc: Global, extent_size: u64, physicals: &[Physical], segments: &[Segment]) -> Result<Table, AllocError>
+fn lines_of(
+    alloc: Global,
+    extent_size: u64,
+    physicals: &[Physical],
+    segments: &[Segment],
+) -> Result<Table, AllocError>
     requires { AllByRecursion (IsSegmentIn extent_size physicals.now) segments.now }
     ensures { IfOk result (λ table. table ≡ map (line_of extent_size physicals.now) segments.now) }
 {
@@ -147,7 +159,12 @@ fn lines_of(alloc: Global, extent_size: u64, physicals: &[Physical], segments: &
 
 /// The line of a segment.
 #[tactic(auto, unfolding(crate::specs::Tables::line_of))]
-fn line_of(alloc: Global, extent_size: u64, physicals: &[Physical], segment: &Segment) -> Result<Line, AllocError>
+fn line_of(
+    alloc: Global,
+    extent_size: u64,
+    physicals: &[Physical],
+    segment: &Segment,
+) -> Result<Line, AllocError>
     requires { IsSegmentIn extent_size physicals.now segment.now }
     ensures { IfOk result (λ line. line ≡ line_of extent_size physicals.now segment.now) }
 {
@@ -160,7 +177,12 @@ fn line_of(alloc: Global, extent_size: u64, physicals: &[Physical], segment: &Se
 }
 
 /// What becomes of the sectors of a segment.
-fn line_target(alloc: Global, extent_size: u64, physicals: &[Physical], target: &SegmentType) -> Result<Target, AllocError>
+fn line_target(
+    alloc: Global,
+    extent_size: u64,
+    physicals: &[Physical],
+    target: &SegmentType,
+) -> Result<Target, AllocError>
     requires { AllByRecursion (IsStripeIn extent_size physicals.now) (stripes_of target.now) }
     ensures { IfOk result (λ made. made ≡ line_target extent_size physicals.now target.now) }
 {
@@ -193,7 +215,12 @@ fn columns_target(chunk: u64, mut columns: Vec<Column>) -> Target
 }
 
 /// The columns of stripes.
-fn columns_of(alloc: Global, extent_size: u64, physicals: &[Physical], stripes: &[Stripe]) -> Result<Vec<Column>, AllocError>
+fn columns_of(
+    alloc: Global,
+    extent_size: u64,
+    physicals: &[Physical],
+    stripes: &[Stripe],
+) -> Result<Vec<Column>, AllocError>
     requires { AllByRecursion (IsStripeIn extent_size physicals.now) stripes.now }
     ensures { IfOk result (λ v. v.items ≡ map (column_of extent_size physicals.now) stripes.now) }
 {
@@ -205,7 +232,12 @@ fn columns_of(alloc: Global, extent_size: u64, physicals: &[Physical], stripes: 
 }
 
 /// The column of a stripe.
-fn column_of(alloc: Global, extent_size: u64, physicals: &[Physical], stripe: Stripe) -> Result<Column, AllocError>
+fn column_of(
+    alloc: Global,
+    extent_size: u64,
+    physicals: &[Physical],
+    stripe: Stripe,
+) -> Result<Column, AllocError>
     requires { IsStripeIn extent_size physicals.now stripe }
     ensures { IfOk result (λ column. column ≡ column_of extent_size physicals.now stripe) }
 {

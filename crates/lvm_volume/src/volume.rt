@@ -24,7 +24,11 @@ pub(crate) struct Volume {
 }
 
 /// The volumes that sections say.
-pub(crate) fn volumes_in(alloc: Global, places: &Places<'_>, sections: &[(&str, &Section<'_>)]) -> Result<Vec<Volume>, AllocError>
+pub(crate) fn volumes_in(
+    alloc: Global,
+    places: &Places<'_>,
+    sections: &[(&str, &Section<'_>)],
+) -> Result<Vec<Volume>, AllocError>
     ensures { IfOk result (λ v. v.items ≡ map (volume_of places.now) (map item_view sections.now)) }
 {
     let mut volumes = Vec::new(alloc);
@@ -36,7 +40,12 @@ pub(crate) fn volumes_in(alloc: Global, places: &Places<'_>, sections: &[(&str, 
 
 /// The volume that a section says.
 #[tactic(auto, unfolding(crate::specs::Group::volume_of))]
-fn volume_of(alloc: Global, places: &Places<'_>, key: &str, section: &Section<'_>) -> Result<Volume, AllocError>
+fn volume_of(
+    alloc: Global,
+    places: &Places<'_>,
+    key: &str,
+    section: &Section<'_>,
+) -> Result<Volume, AllocError>
     ensures { IfOk result (λ volume. volume ≡ volume_of places.now (key.now, section.now)) }
 {
     let segments = segments_of(alloc, section)?;

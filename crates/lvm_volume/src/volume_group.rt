@@ -94,7 +94,12 @@ fn only<'s, 'a>(sections: &[(&'a str, &'s Section<'a>)]) -> (&'a str, &'s Sectio
 }
 
 /// The group of a section, by the checks after the one of fields.
-fn read_group(alloc: Global, top: &Section<'_>, key: &str, group: &Section<'_>) -> Result<VolumeGroup, LoadFault>
+fn read_group(
+    alloc: Global,
+    top: &Section<'_>,
+    key: &str,
+    group: &Section<'_>,
+) -> Result<VolumeGroup, LoadFault>
     requires one { tree.sections_of top.now.values ≡ (key.now, group.now) ∷ [] }
     requires fields { first_or (faults_of_fields Fields top.now) None ≡ None }
     ensures { Answers Source (λ group. group) result (unless (first_fault (later_checks top.now)) (group_of top.now)) }
@@ -144,7 +149,11 @@ fn parts_in(alloc: Global, key: &str, group: &Section<'_>) -> Result<Parts, Load
 }
 
 /// The volumes of a group with these physical volumes.
-fn volumes_of<'s, 'a>(alloc: Global, group: &Section<'_>, physicals: &[(&'a str, &'s Section<'a>)]) -> Result<Vec<Volume>, AllocError>
+fn volumes_of<'s, 'a>(
+    alloc: Global,
+    group: &Section<'_>,
+    physicals: &[(&'a str, &'s Section<'a>)],
+) -> Result<Vec<Volume>, AllocError>
     ensures { IfOk result (λ v. v.items ≡ map (volume_of (map (λ physical. physical.0) (map item_view physicals.now))) (fields.sections_at (codes "logical_volumes") group.now)) }
 {
     let places = Places::new(alloc, keys_of(alloc, physicals)?)?;
@@ -153,7 +162,10 @@ fn volumes_of<'s, 'a>(alloc: Global, group: &Section<'_>, physicals: &[(&'a str,
 }
 
 /// The keys of sections.
-fn keys_of<'s, 'a>(alloc: Global, sections: &[(&'a str, &'s Section<'a>)]) -> Result<Vec<&'a str>, AllocError>
+fn keys_of<'s, 'a>(
+    alloc: Global,
+    sections: &[(&'a str, &'s Section<'a>)],
+) -> Result<Vec<&'a str>, AllocError>
     ensures { IfOk result (λ v. texts v.items ≡ map (λ section. section.0) (map item_view sections.now)) }
 {
     let mut keys = Vec::new(alloc);
@@ -164,7 +176,11 @@ fn keys_of<'s, 'a>(alloc: Global, sections: &[(&'a str, &'s Section<'a>)]) -> Re
 }
 
 /// The first fault of the checks of stripes and extents.
-fn parts_fault(alloc: Global, extent_size: u64, parts: &Parts) -> Result<Option<LoadFault>, AllocError>
+fn parts_fault(
+    alloc: Global,
+    extent_size: u64,
+    parts: &Parts,
+) -> Result<Option<LoadFault>, AllocError>
     ensures { (name : List ℕ) → IfOk result (λ fault. fault ≡ first_fault (checks_of_parts (record { name = name; extent_size = extent_size; physicals = parts.now.physicals.items; volumes = parts.now.volumes.items }))) }
 {
     if let Some(line) = least_unknown_of(parts.physicals.len(), &parts.volumes) {

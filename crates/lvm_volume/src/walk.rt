@@ -17,7 +17,8 @@ ghost use Rattle.lvm_volume.specs.Fields.{faults_of_fields, fields_faults, field
 
 use crate::check::Check;
 use crate::field::{
-    Condition, Field, Kind, group_fields, physical_fields, row, segment_fields, top_fields, volume_fields,
+    Condition, Field, Kind, group_fields, physical_fields, row, segment_fields, top_fields,
+    volume_fields,
 };
 use crate::fits::{fits, is_asked, is_far};
 use crate::value::{number_at, section_at, sections_at, sections_of, segment_key, segments_of};
@@ -118,12 +119,20 @@ fn physicals_fault(check: Check, physicals: &[(&str, &Section<'_>)]) -> Option<L
 
 /// What a check answers at the keys of a volume's segments. It stops at the first that is missing, so that
 /// no count makes it long.
-fn keys_fault(alloc: Global, check: Check, volume: &Section<'_>) -> Result<Option<LoadFault>, AllocError>
+fn keys_fault(
+    alloc: Global,
+    check: Check,
+    volume: &Section<'_>,
+) -> Result<Option<LoadFault>, AllocError>
     ensures { IfOk result (λ fault. fault ≡ first_or (flat_map (λ i. field_faults check volume.now (segment_field i)) (range_with_len 1 (number_at (codes "segment_count") volume.now))) None) }
 {
     for i in 0..number_at(volume, "segment_count") {
         let key = segment_key(alloc, i + 1)?;
-        if let Some(fault) = field_fault(check, volume, &row(key.as_str(), Kind::Section, Condition::Always)) {
+        if let Some(fault) = field_fault(
+            check,
+            volume,
+            &row(key.as_str(), Kind::Section, Condition::Always),
+        ) {
             return Ok(Some(fault));
         }
     }
@@ -144,7 +153,11 @@ fn segments_fault(check: Check, segments: &[&Section<'_>]) -> Option<LoadFault>
 
 /// What a check answers at a volume and its segments.
 #[tactic(auto, unfolding(crate::specs::Fields::volume_faults))]
-fn volume_fault(alloc: Global, check: Check, volume: &Section<'_>) -> Result<Option<LoadFault>, AllocError>
+fn volume_fault(
+    alloc: Global,
+    check: Check,
+    volume: &Section<'_>,
+) -> Result<Option<LoadFault>, AllocError>
     ensures { IfOk result (λ fault. fault ≡ first_or (volume_faults check volume.now) None) }
 {
     if let Some(fault) = fields_fault(check, volume, &volume_fields()) {
@@ -158,7 +171,11 @@ fn volume_fault(alloc: Global, check: Check, volume: &Section<'_>) -> Result<Opt
 }
 
 /// What a check answers at the volumes.
-fn volumes_fault(alloc: Global, check: Check, volumes: &[(&str, &Section<'_>)]) -> Result<Option<LoadFault>, AllocError>
+fn volumes_fault(
+    alloc: Global,
+    check: Check,
+    volumes: &[(&str, &Section<'_>)],
+) -> Result<Option<LoadFault>, AllocError>
     ensures { IfOk result (λ fault. fault ≡ first_or (flat_map (λ volume. volume_faults check volume.1) (map item_view volumes.now)) None) }
 {
     for volume in volumes {
@@ -171,7 +188,11 @@ fn volumes_fault(alloc: Global, check: Check, volumes: &[(&str, &Section<'_>)]) 
 
 /// What a check answers at a group.
 #[tactic(auto, unfolding(crate::specs::Fields::group_faults))]
-fn group_fault(alloc: Global, check: Check, group: &Section<'_>) -> Result<Option<LoadFault>, AllocError>
+fn group_fault(
+    alloc: Global,
+    check: Check,
+    group: &Section<'_>,
+) -> Result<Option<LoadFault>, AllocError>
     ensures { IfOk result (λ fault. fault ≡ first_or (group_faults check group.now) None) }
 {
     if let Some(fault) = fields_fault(check, group, &group_fields()) {
@@ -189,7 +210,11 @@ fn group_fault(alloc: Global, check: Check, group: &Section<'_>) -> Result<Optio
 ///
 /// Cost: near-linear in the values of the sections that are read.
 #[tactic(auto, unfolding(crate::specs::Fields::one_group_faults))]
-pub(crate) fn first_fault(alloc: Global, check: Check, top: &Section<'_>) -> Result<Option<LoadFault>, AllocError>
+pub(crate) fn first_fault(
+    alloc: Global,
+    check: Check,
+    top: &Section<'_>,
+) -> Result<Option<LoadFault>, AllocError>
     ensures { IfOk result (λ fault. fault ≡ first_or (faults_of_fields check top.now) None) }
 {
     if let Some(fault) = fields_fault(check, top, &top_fields()) {

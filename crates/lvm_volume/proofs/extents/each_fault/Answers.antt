@@ -1,4 +1,4 @@
-use Rattle.std.proofs.Common.{◌≡◌, sym, ap, ◌∙◌, length}
+use Rattle.std.proofs.Common.{sym, ◌∙◌}
 use Rattle.lvm_volume.specs.Extents.{used_after}
 use Rattle.lvm_volume.proofs.HoldLemmas.{volume_passed}
 use Rattle.lvm_volume.proofs.extents.each_fault.Goals as goal

@@ -1,4 +1,4 @@
-use Rattle.std.proofs.Common.{Bool, ◌≡◌, List, false, ◌/◌, sym, subst, ap, length, ◌∙◌}
+use Rattle.std.proofs.Common.{◌≡◌, List, false, ◌/◌, sym, subst, ap, length, ◌∙◌}
 use Rattle.std.specs.Prelude.{IfOk}
 use Rattle.lvm_volume.specs.declared.segment.Stripe.{Stripe}
 use Rattle.lvm_volume.specs.declared.segment.SegmentType.{SegmentType}

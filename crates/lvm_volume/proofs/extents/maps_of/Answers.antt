@@ -1,4 +1,4 @@
-use Rattle.std.proofs.Common.{[], refl, sym, subst, arith, length-append, List}
+use Rattle.std.proofs.Common.{[], refl, sym, subst, arith, List}
 use Rattle.std.specs.BTreeMap.{BTreeMap}
 use Rattle.std.proofs.Common.{ℕ}
 use Rattle.std.proofs.lemmas.Grind.{common_steps}

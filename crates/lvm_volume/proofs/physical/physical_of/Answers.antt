@@ -1,13 +1,12 @@
-use Rattle.std.proofs.Common.{◌≡◌, ◌≢◌, ℕ, List, Ok, Err, refl, sym, ap, ◌∙◌}
+use Rattle.std.proofs.Common.{◌≡◌, Ok, Err, refl, sym, ap, ◌∙◌}
 use Rattle.std.specs.Prelude.{nat_lt}
-use Rattle.lvm_text.specs.Tree.{Tree}
 use Rattle.dm_table.specs.declared.place.Part.TheVariants.{Source}
 use Rattle.dm_table.specs.declared.load_fault.LoadKind.TheVariants.{Memory, Name}
 use Rattle.dm_table.specs.declared.load_fault.LoadFault.{LoadFault}
 use Rattle.dm_table.specs.LoadFault.{fault_at}
 use Rattle.dm_table.specs.Name.{is_disk_name}
 use Rattle.lvm_volume.specs.declared.physical.Physical.{Physical}
-use Rattle.lvm_volume.specs.Group.{Keyed, disk_name, physical_of}
+use Rattle.lvm_volume.specs.Group.{Keyed, physical_of}
 use Rattle.lvm_volume.proofs.PhysicalLemmas.{disk_is, named, unnamed}
 use Rattle.lvm_volume.proofs.physical.physical_of.Goals as goal
 

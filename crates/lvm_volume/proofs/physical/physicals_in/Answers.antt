@@ -1,4 +1,4 @@
-use Rattle.std.proofs.Common.{◌≡◌, ◌+◌, ◌++◌, ◌∷◌, [], ℕ, List, None, sym, ap, ◌∙◌, map, drop, append_assoc, count_by}
+use Rattle.std.proofs.Common.{◌+◌, ◌++◌, ◌∷◌, [], List, sym, ap, ◌∙◌, map, drop, append_assoc, count_by}
 use Rattle.std.specs.Prelude.{bytes_eq}
 use Rattle.lvm_text.specs.Iterate.{item_view}
 use Rattle.lvm_volume.specs.declared.physical.Physical.{Physical}

@@ -1,5 +1,4 @@
-use Rattle.std.proofs.Common.{◌≡◌, ap, ◌∙◌, subst, sym, List, ℕ, None, Ok, Err}
-use Rattle.dm_table.specs.LoadFault.{first_or, unless}
+use Rattle.std.proofs.Common.{subst, List, ℕ, None, Ok, Err}
 use Rattle.lvm_volume.specs.Names.{NameParts, Returns, built, fault_of, joined}
 use Rattle.lvm_volume.specs.Tables.{unnamed_volume, volume_parts}
 use Rattle.lvm_volume.proofs.NamedLemmas.{named, refused_name}

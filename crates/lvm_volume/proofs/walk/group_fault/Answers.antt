@@ -1,10 +1,10 @@
-use Rattle.std.proofs.Common.{◌≡◌, ℕ, List, Option, Some, None, sym, ap, ◌∙◌, map, subst, codes}
+use Rattle.std.proofs.Common.{◌≡◌, ℕ, List, Option, None, sym, ap, ◌∙◌, map, subst}
 use Rattle.std.specs.Prelude.{IfOk}
 use Rattle.std.specs.List.{flat_map}
 use Rattle.lvm_text.specs.Tree.{Tree}
 use Rattle.lvm_text.specs.Iterate.{item_view}
 use Rattle.dm_table.specs.LoadFault.{first_or}
-use Rattle.lvm_volume.specs.Fields.{Field, fields_faults, group_fields, group_faults, physical_fields, sections_at, volume_faults}
+use Rattle.lvm_volume.specs.Fields.{Field, fields_faults, group_fields, group_faults, physical_fields, volume_faults}
 use Rattle.dm_table.specs.declared.load_fault.LoadFault.{LoadFault}
 use Rattle.lvm_volume.specs.declared.check.Check.{Check}
 use Rattle.lvm_volume.proofs.Faults.{then_here, then_after}

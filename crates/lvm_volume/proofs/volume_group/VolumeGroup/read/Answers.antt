@@ -1,9 +1,8 @@
-use Rattle.std.proofs.Common.{sym, ◌∙◌, ap, length, ◌≡◌, List}
+use Rattle.std.proofs.Common.{sym, ◌∙◌, ap, length}
 use Rattle.std.proofs.lemmas.List.{length-map}
 use Rattle.lvm_text.specs.Iterate.{item_view}
-use Rattle.lvm_volume.specs.Group.{Keyed}
 use Rattle.lvm_volume.proofs.Sound.{one_section}
-use Rattle.lvm_volume.proofs.GroupLemmas.{at_fields, past_fields}
+use Rattle.lvm_volume.proofs.GroupLemmas.{at_fields}
 use Rattle.lvm_volume.proofs.volume_group.VolumeGroup.read.Goals as goal
 
 pub returns-in-Ok-Some : goal.returns-in-Ok-Some
