@@ -1,6 +1,7 @@
 pub mod Names
 pub mod Fields
 pub mod Group
+pub mod Metadata
 pub mod GroupCode
 pub mod Extents
 pub mod Used

@@ -12,6 +12,7 @@ mod fits;
 #[cfg(test)]
 mod group_tests;
 mod key;
+mod metadata;
 mod names;
 mod physical;
 mod places;
@@ -28,6 +29,7 @@ mod volume_group;
 mod walk;
 
 pub use fault::NameFault;
+pub use metadata::parse_metadata;
 pub use names::{Parts, build_name, split_name, undouble};
 pub use refused_text::text_fault;
 pub use volume_group::VolumeGroup;

@@ -1,0 +1,42 @@
+-- What a text of metadata describes, and why one is refused.
+use Rattle.std.specs.Prelude.{◌≡◌, ℕ, ◌+◌, List, [], ◌∷◌, ◌++◌, None, Some, take}
+use Rattle.std.specs.Str.{IsUtf8}
+use Rattle.std.specs.Str.Lossy.{utf8_valid_len}
+use Rattle.lvm_text.specs.Tree.{Tree}
+use Rattle.lvm_text.specs.Spelling.{newlines}
+use Rattle.lvm_text.specs.Reading.{Describes, HasFault}
+use Rattle.lvm_text.specs.declared.fault.TextFault.{TextFault}
+use Rattle.dm_table.specs.declared.place.Part.TheVariants.{Source}
+use Rattle.dm_table.specs.declared.load_fault.LoadKind.TheVariants.{NotText}
+use Rattle.dm_table.specs.declared.load_fault.LoadFault.{LoadFault}
+use Rattle.dm_table.specs.declared.table.DeviceSpec.{DeviceSpec}
+use Rattle.dm_table.specs.declared.disk.Disk.{Disk}
+use Rattle.dm_table.specs.LoadFault.{fault_at, first_fault}
+use Rattle.lvm_volume.specs.Group.{group_of}
+use Rattle.lvm_volume.specs.Tables.{group_checks, tables_of, text_fault, unnamed}
+
+-- the line of the first byte that is no UTF-8
+abbrev pub bad_byte_line : List ℕ → ℕ
+bad_byte_line source = 1 + newlines (take (utf8_valid_len source) source)
+
+-- the bytes are UTF-8, and a text of this tree
+pub record SaysTree (source : List ℕ) (tree : Tree) : Type 0 where
+  pub utf8 : IsUtf8 source
+  pub says : Describes source tree
+
+-- the checks of a group, and then the one of its volumes' names
+abbrev pub metadata_checks : Tree → List (List LoadFault)
+metadata_checks tree = group_checks tree ++ unnamed (group_of tree) ∷ []
+
+-- the text describes these devices and disks: no check finds anything in its group
+pub record DescribesGroup (source : List ℕ) (tables : List DeviceSpec × List Disk) : Type 0 where
+  pub tree : Tree
+  pub says : SaysTree source tree
+  pub sound : first_fault (metadata_checks tree) ≡ None
+  pub is : tables ≡ tables_of (group_of tree)
+
+-- the text is refused: for a byte that is no UTF-8, or else for a fault of the text, or else for one of its group
+pub data IsRefusedText (source : List ℕ) (fault : LoadFault) : Type 0 where
+  NotUtf8 : ¬ (IsUtf8 source) → fault ≡ fault_at Source NotText (bad_byte_line source) → IsRefusedText source fault
+  OfText : IsUtf8 source → (found : TextFault) → HasFault source found → fault ≡ text_fault found → IsRefusedText source fault
+  OfGroup : (tree : Tree) → SaysTree source tree → first_fault (metadata_checks tree) ≡ Some fault → IsRefusedText source fault

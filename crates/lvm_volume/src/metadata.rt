@@ -1,0 +1,75 @@
+//! Texts of metadata, from their bytes to the tables of their group.
+//!
+//! This joins the steps in the order of their refusals: bytes that are no UTF-8, the language of the text, the
+//! group, the names of its volumes. None has a rule of its own here.
+
+ghost use Rattle.std.specs.Prelude.{◌≡◌, ◌≢◌, ◌+◌, IfErr, IfOk};
+ghost use Rattle.std.specs.Str.{IsUtf8};
+ghost use Rattle.lvm_text.specs.Spelling.{newlines};
+ghost use Rattle.dm_table.specs.LoadFault.{Answers, IsMemoryFault, fault_at, first_fault, unless};
+ghost use Rattle.dm_table.specs.declared.load_fault.LoadKind.TheVariants.{Memory, NotText};
+ghost use Rattle.dm_table.specs.declared.place.Part.TheVariants.{Source};
+ghost use Rattle.lvm_volume.specs.Group.{group_of};
+ghost use Rattle.lvm_volume.specs.Metadata.{DescribesGroup, IsRefusedText, bad_byte_line, metadata_checks};
+ghost use Rattle.lvm_volume.specs.Tables.{tables_of};
+
+use crate::refused_text::text_fault;
+use crate::volume_group::VolumeGroup;
+use crate::walk::source_fault;
+use dm_table::{DeviceSpec, Disk, LoadFault, LoadKind};
+use lvm_text::{Section, parse};
+use std::alloc::Global;
+
+/// The devices and disks that a text of LVM2 metadata describes, or why it is refused.
+///
+/// `NotText` at the line of the first byte that is no UTF-8; else the fault of the text as `text_fault` gives it;
+/// else that of the group as `VolumeGroup::read` and `VolumeGroup::tables` give it. `Memory` is returned only
+/// where a growth was refused. All places are of part `source`.
+///
+/// Cost: near-linear in the text. Source: vgcfgbackup(8).
+pub fn parse_metadata(alloc: Global, source: &[u8]) -> Result<(Vec<DeviceSpec>, Vec<Disk>), LoadFault>
+    ensures described { IfOk result (λ tables. DescribesGroup source.now (tables.0.items, tables.1.items)) }
+    ensures refused { IfErr result (λ fault. fault.kind ≢ Memory → IsRefusedText source.now fault) }
+    ensures memory { IfErr result (λ fault. fault.kind ≡ Memory → IsMemoryFault Source fault) }
+{
+    let text = utf8_text(source)?;
+    match parse(alloc, text) {
+        Ok(top) => group_tables(alloc, &top),
+        Err(fault) => Err(text_fault(fault)),
+    }
+}
+
+/// The bytes as a text, where they are UTF-8.
+fn utf8_text(source: &[u8]) -> Result<&str, LoadFault>
+    ensures text { IfOk result (λ text. (text.now ≡ source.now) × IsUtf8 source.now) }
+    ensures fault { IfErr result (λ fault. ¬ (IsUtf8 source.now) × (fault ≡ fault_at Source NotText (bad_byte_line source.now))) }
+{
+    match std::str::from_utf8(source) {
+        Ok(text) => Ok(text),
+        Err(error) => Err(source_fault(LoadKind::NotText, end_line(&source[..error.valid_up_to()]))),
+    }
+}
+
+/// The line of the end of some bytes: one more than they have newlines.
+fn end_line(bytes: &[u8]) -> u64
+    ensures { result ≡ 1 + newlines bytes.now }
+{
+    let mut line = 1;
+    for byte in bytes {
+        if *byte == b'\n' {
+            line += 1;
+        }
+    }
+    line
+}
+
+/// The tables of the group of a tree, or the first fault of a check.
+fn group_tables(alloc: Global, top: &Section<'_>) -> Result<(Vec<DeviceSpec>, Vec<Disk>), LoadFault>
+    ensures { Answers Source (λ tables. (tables.0.items, tables.1.items)) result
+        (unless (first_fault (metadata_checks top.now)) (tables_of (group_of top.now))) }
+{
+    match VolumeGroup::read(alloc, top) {
+        Ok(group) => group.tables(alloc),
+        Err(fault) => Err(fault),
+    }
+}
