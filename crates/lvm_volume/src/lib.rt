@@ -1,5 +1,5 @@
 //! LVM2 volume groups as tables of the device mapper, and the names of their volumes.
-//! Standing on the tree of a group's metadata text, it answers the devices and disks that the group is, or the
+//! Standing on the tree of a group's metadata text, it gives the devices and disks that the group is, or the
 //! first thing that is wrong with it; and it builds and splits the names under which the device mapper knows
 //! a group's volumes. The rules are those of lvm(8), dmsetup(8) and of metadata as vgcfgbackup(8) writes it.
 #![tactic(auto)]
