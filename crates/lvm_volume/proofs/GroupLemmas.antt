@@ -1,4 +1,4 @@
--- The checks of a group one after the other, and what each of them answers.
+-- The checks of a group one after the other, and the fault of each.
 use Rattle.std.proofs.Common.{◌≡◌, ◌≢◌, List, [], ◌∷◌, Option, Some, None, Result, Ok, Err, refl, ap, ◌∙◌}
 use Rattle.lvm_text.specs.Tree.{Tree}
 use Rattle.dm_table.specs.declared.place.Part.TheVariants.{Source}
@@ -12,7 +12,7 @@ use Rattle.lvm_volume.specs.Group.{Group, group_of}
 use Rattle.lvm_volume.specs.Tables.{checks_of_parts, extent_faults, group_checks, later_checks}
 use Rattle.lvm_volume.proofs.FaultKinds.{NoMemory, first_kind, of_walk, of_unknown, of_extents}
 
--- what is answered where a fault is found
+-- what is returned where a fault is found
 abbrev pub Refused : {X : Type 0} → LoadFault → Result X LoadFault → Type 0
 Refused fault said = (fault.kind ≡ Memory → IsMemoryFault Source fault) × (fault.kind ≢ Memory → said ≡ Err fault)
 
@@ -32,7 +32,7 @@ pub ok_is : {X : Type 0} (o : Option LoadFault) (x y : X) → unless o x ≡ Ok 
 ok_is None x y e = (refl, cc)
 ok_is (Some f) x y e = absurd cc
 
--- the answer of the checks after that of fields, at the group of the text
+-- the first fault of the checks after that of fields, at the group of the text
 abbrev later_of : Tree → Group → Option LoadFault
 later_of top group = first_or (faults_of_fields (Limits group.extent_size) top) (first_or (name_faults group.physicals) (first_fault (checks_of_parts group)))
 

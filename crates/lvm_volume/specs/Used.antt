@@ -28,7 +28,7 @@ ranges_of physical (claim ∷ claims) = if physical == claim.physical then (clai
 pub record Holds (maps : List (BTreeMap ℕ ℕ)) (claims : List Claim) : Type 0 where
   pub at : (physical : ℕ) (d : BTreeMap ℕ ℕ) → physical < length maps → Keeps (get_or maps physical d) (ranges_of physical claims)
 
--- the claims of stripes of so many extents
+-- the claims of stripes, with this many extents each
 abbrev pub claims_by : ℕ → List Stripe → List Claim
 claims_by share stripes = map (λ stripe. record { physical = stripe.physical; first = stripe.extent; end = stripe.extent + share }) stripes
 

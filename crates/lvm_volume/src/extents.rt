@@ -38,7 +38,7 @@ fn is_too_long(extent_size: u64, physical: &Physical) -> bool
     u128::from(physical.size) < end_of(physical.start, physical.count, extent_size)
 }
 
-/// The sector after so many extents from a start on.
+/// The sector at which `count` extents from `start` on end.
 fn end_of(start: u64, count: u64, extent_size: u64) -> u128
     ensures { result ≡ start + count * extent_size }
 {
@@ -133,7 +133,7 @@ fn is_misplaced(
     }
 }
 
-/// Whether stripes don't divide so many extents, or clash with what is used. They claim their extents where they don't.
+/// Whether `count` extents are not divided by the stripes, or these clash with what is used; if not, they claim theirs.
 fn is_clash(
     physicals: &[Physical],
     maps: &mut [BTreeMap<u64, u64>],
@@ -177,7 +177,7 @@ fn claim_all(
     Ok(false)
 }
 
-/// Whether so many extents of a stripe pass the end of its physical volume; nothing is added up, so nothing wraps.
+/// Whether `share` extents of a stripe pass the end of its physical volume; nothing is added up, so nothing wraps.
 fn passes_end(physicals: &[Physical], stripe: &Stripe, share: u64) -> bool
     requires { 0 < share }
     ensures value { result ≡ nat_lt (extents_at physicals.now stripe.now.physical) (stripe.now.extent + share) }

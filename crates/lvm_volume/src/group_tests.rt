@@ -15,7 +15,7 @@ const ONE: &str =
 const SECOND: &str =
     "    lv-1 {\n      status = [\"READ\"]\n      segment_count = 1\n      segment1 {\n        start_extent = 0\n        extent_count = 4\n        type = \"striped\"\n        stripe_count = 2\n        stripe_size = 128\n        stripes = [\"pv0\", 25, \"pv0\", 27]\n      }\n    }\n";
 
-/// What a text answers: its devices and disks, or its fault.
+/// What becomes of a text: its devices and disks, or its fault.
 fn answer(alloc: Global, text: &str) -> Result<String, Fail> {
     let top = match parse(alloc, text) {
         Ok(top) => top,

@@ -1,6 +1,6 @@
 //! The check that each stripe names a physical volume of the group.
 //!
-//! What is answered is the first in the text, and segments may stand there in any order, so it is the least line.
+//! The fault is the first in the text, where segments may stand in any order, so it is the one at the least line.
 
 ghost use Rattle.std.specs.Prelude.{◌≡◌, None, length, not, nat_lt};
 ghost use Rattle.std.specs.List.{list_any};

@@ -10,7 +10,7 @@ ghost use Rattle.lvm_volume.specs.Used.{Keeps, reaches};
 use std::alloc::{AllocError, Global};
 use std::collections::BTreeMap;
 
-/// Takes the extents from the first to before the end, and answers whether none of them was used before.
+/// Takes the extents from `first` to before `end`, and returns whether none of them was used before.
 /// What is used stays as it was where one was.
 ///
 /// Cost: about `log n` steps at `n` ranges.

@@ -39,7 +39,7 @@ pub(crate) fn source_fault(kind: LoadKind, line: u64) -> LoadFault
     }
 }
 
-/// What a check answers at a missing field of a section at this line.
+/// The first fault that a check finds at a missing field of a section at this line.
 fn missing(check: Check, line: u64) -> Option<LoadFault>
     ensures { result ≡ first_or (missing check line) None }
 {
@@ -49,7 +49,7 @@ fn missing(check: Check, line: u64) -> Option<LoadFault>
     }
 }
 
-/// What a check answers at the value of a field.
+/// The first fault that a check finds at the value of a field.
 fn node_fault(check: Check, section: &Section<'_>, kind: Kind, node: &Node<'_>) -> Option<LoadFault>
     ensures { result ≡ first_or (node_faults check kind section.now (Some (node_view node.now))) None }
 {
@@ -79,7 +79,7 @@ fn is_wrong(check: Check, section: &Section<'_>, kind: Kind, value: &Value<'_>) 
     }
 }
 
-/// What a check answers at a field of a section.
+/// The first fault that a check finds at a field of a section.
 #[tactic(auto, unfolding(crate::specs::Fields::field_faults))]
 fn field_fault(check: Check, section: &Section<'_>, field: &Field<'_>) -> Option<LoadFault>
     ensures { result ≡ first_or (field_faults check section.now (field_view field.now)) None }
@@ -93,7 +93,7 @@ fn field_fault(check: Check, section: &Section<'_>, field: &Field<'_>) -> Option
     }
 }
 
-/// What a check answers at the fields of a section.
+/// The first fault that a check finds at the fields of a section.
 fn fields_fault(check: Check, section: &Section<'_>, fields: &[Field<'_>]) -> Option<LoadFault>
     ensures { result ≡ first_or (fields_faults check section.now (field_views fields.now)) None }
 {
@@ -105,7 +105,7 @@ fn fields_fault(check: Check, section: &Section<'_>, fields: &[Field<'_>]) -> Op
     None
 }
 
-/// What a check answers at the physical volumes.
+/// The first fault that a check finds at the physical volumes.
 fn physicals_fault(check: Check, physicals: &[(&str, &Section<'_>)]) -> Option<LoadFault>
     ensures { result ≡ first_or (flat_map (λ physical. fields_faults check physical.1 spec.physical_fields) (map item_view physicals.now)) None }
 {
@@ -117,7 +117,7 @@ fn physicals_fault(check: Check, physicals: &[(&str, &Section<'_>)]) -> Option<L
     None
 }
 
-/// What a check answers at the keys of a volume's segments. It stops at the first that is missing, so that
+/// The first fault that a check finds at the keys of a volume's segments. It stops at the first that is missing, so that
 /// no count makes it long.
 fn keys_fault(
     alloc: Global,
@@ -139,7 +139,7 @@ fn keys_fault(
     Ok(None)
 }
 
-/// What a check answers at the fields of segments.
+/// The first fault that a check finds at the fields of segments.
 fn segments_fault(check: Check, segments: &[&Section<'_>]) -> Option<LoadFault>
     ensures { result ≡ first_or (flat_map (λ segment. fields_faults check segment spec.segment_fields) (map section_view segments.now)) None }
 {
@@ -151,7 +151,7 @@ fn segments_fault(check: Check, segments: &[&Section<'_>]) -> Option<LoadFault>
     None
 }
 
-/// What a check answers at a volume and its segments.
+/// The first fault that a check finds at a volume and its segments.
 #[tactic(auto, unfolding(crate::specs::Fields::volume_faults))]
 fn volume_fault(
     alloc: Global,
@@ -170,7 +170,7 @@ fn volume_fault(
     Ok(segments_fault(check, &segments))
 }
 
-/// What a check answers at the volumes.
+/// The first fault that a check finds at the volumes.
 fn volumes_fault(
     alloc: Global,
     check: Check,
@@ -186,7 +186,7 @@ fn volumes_fault(
     Ok(None)
 }
 
-/// What a check answers at a group.
+/// The first fault that a check finds at a group.
 #[tactic(auto, unfolding(crate::specs::Fields::group_faults))]
 fn group_fault(
     alloc: Global,
@@ -206,7 +206,7 @@ fn group_fault(
     volumes_fault(alloc, check, &volumes)
 }
 
-/// What a check answers at all fields that are read.
+/// The first fault that a check finds at all fields that are read.
 ///
 /// Cost: near-linear in the values of the sections that are read.
 #[tactic(auto, unfolding(crate::specs::Fields::one_group_faults))]
