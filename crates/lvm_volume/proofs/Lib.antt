@@ -9,3 +9,4 @@ pub mod FaultKinds
 pub mod Sound
 pub mod GroupLemmas
 pub mod NamedLemmas
+pub mod MetadataLemmas

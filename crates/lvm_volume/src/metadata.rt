@@ -27,7 +27,10 @@ use std::alloc::Global;
 /// where a growth was refused. All places are of part `source`.
 ///
 /// Cost: near-linear in the text. Source: vgcfgbackup(8).
-pub fn parse_metadata(alloc: Global, source: &[u8]) -> Result<(Vec<DeviceSpec>, Vec<Disk>), LoadFault>
+pub fn parse_metadata(
+    alloc: Global,
+    source: &[u8],
+) -> Result<(Vec<DeviceSpec>, Vec<Disk>), LoadFault>
     ensures described { IfOk result (λ tables. DescribesGroup source.now (tables.0.items, tables.1.items)) }
     ensures refused { IfErr result (λ fault. fault.kind ≢ Memory → IsRefusedText source.now fault) }
     ensures memory { IfErr result (λ fault. fault.kind ≡ Memory → IsMemoryFault Source fault) }
@@ -46,7 +49,10 @@ fn utf8_text(source: &[u8]) -> Result<&str, LoadFault>
 {
     match std::str::from_utf8(source) {
         Ok(text) => Ok(text),
-        Err(error) => Err(source_fault(LoadKind::NotText, end_line(&source[..error.valid_up_to()]))),
+        Err(error) => Err(source_fault(
+            LoadKind::NotText,
+            end_line(&source[..error.valid_up_to()]),
+        )),
     }
 }
 

@@ -1,0 +1,59 @@
+-- What the steps from a text of metadata to its tables say together.
+use Rattle.std.proofs.Common.{◌≡◌, ◌≢◌, ℕ, List, [], ◌∷◌, ◌++◌, Option, Some, None, Result, Ok, Err, IfErr, refl, sym, ap, ◌∙◌}
+use Rattle.lvm_text.specs.Tree.{Tree}
+use Rattle.lvm_text.specs.Reading.{HasFault}
+use Rattle.lvm_text.specs.declared.fault.TextFault.{TextFault}
+use Rattle.lvm_text.specs.declared.fault.TextFault.TheVariants as texts
+use Rattle.std.specs.Str.{IsUtf8}
+use Rattle.dm_table.specs.declared.place.Part.TheVariants.{Source}
+use Rattle.dm_table.specs.declared.load_fault.LoadKind.TheVariants.{Memory}
+use Rattle.dm_table.specs.declared.load_fault.LoadFault.{LoadFault}
+use Rattle.dm_table.specs.declared.table.DeviceSpec.{DeviceSpec}
+use Rattle.dm_table.specs.declared.disk.Disk.{Disk}
+use Rattle.dm_table.specs.LoadFault.{Answers, first_fault, first_or, unless}
+use Rattle.lvm_volume.specs.Group.{Group, group_of}
+use Rattle.lvm_volume.specs.Metadata.{SaysTree, IsRefusedText, OfText, OfGroup, metadata_checks}
+use Rattle.lvm_volume.specs.Tables.{group_checks, tables_of, text_fault, unnamed}
+
+-- a check after others of which none finds anything, and after one that does
+last_check : (checks : List (List LoadFault)) (last : List LoadFault) → first_fault checks ≡ None → first_fault (checks ++ last ∷ []) ≡ first_or last None
+last_check [] last none = refl
+last_check ([] ∷ checks) last none = last_check checks last none
+last_check ((fault ∷ faults) ∷ checks) last none = absurd cc
+
+earlier_check : (checks : List (List LoadFault)) (last : List LoadFault) (fault : LoadFault) → first_fault checks ≡ Some fault → first_fault (checks ++ last ∷ []) ≡ Some fault
+earlier_check [] last fault is = absurd cc
+earlier_check ([] ∷ checks) last fault is = earlier_check checks last fault is
+earlier_check ((found ∷ faults) ∷ checks) last fault is = is
+
+-- a reading that gave a value found no fault, and one that gave a fault found that
+no_fault : {X : Type 0} (found : Option LoadFault) (x y : X) → unless found x ≡ Ok y → (found ≡ None) × (x ≡ y)
+no_fault None x y is = (refl, cc)
+no_fault (Some fault) x y is = absurd cc
+
+one_fault : {X : Type 0} (found : Option LoadFault) (x : X) (fault : LoadFault) → unless found x ≡ Err fault → found ≡ Some fault
+one_fault None x fault is = absurd cc
+one_fault (Some found) x fault is = cc
+
+-- the checks of a group, then the one of names
+pub refused_group : (top : Tree) (fault : LoadFault) → unless (first_fault (group_checks top)) (group_of top) ≡ Err fault → unless (first_fault (metadata_checks top)) (tables_of (group_of top)) ≡ Err fault
+refused_group top fault is =
+    ap (λ (found : Option LoadFault). unless found (tables_of (group_of top)))
+    (earlier_check (group_checks top) (unnamed (group_of top)) fault (one_fault (first_fault (group_checks top)) (group_of top) fault is))
+
+pub named_group : (top : Tree) (group : Group) → unless (first_fault (group_checks top)) (group_of top) ≡ Ok group
+    → unless (first_or (unnamed group) None) (tables_of group) ≡ unless (first_fault (metadata_checks top)) (tables_of (group_of top))
+named_group top group is =
+    let p = no_fault (first_fault (group_checks top)) (group_of top) group is in
+    ap (λ (g : Group). unless (first_or (unnamed g) None) (tables_of g)) (sym p.1)
+    ∙ ap (λ (found : Option LoadFault). unless found (tables_of (group_of top))) (sym (last_check (group_checks top) (unnamed (group_of top)) p.0))
+
+-- a fault of a group, and one of a text, as what refuses the source
+pub refused_tables : {X : Type 0} (source : List ℕ) (tree : Tree) (view : X → List DeviceSpec × List Disk) (result : Result X LoadFault) → SaysTree source tree
+    → Answers Source view result (unless (first_fault (metadata_checks tree)) (tables_of (group_of tree))) → IfErr result (λ fault. fault.kind ≢ Memory → IsRefusedText source fault)
+refused_tables source tree view (Ok x) says answers = tt
+refused_tables source tree view (Err fault) says answers =
+    λ not_memory. OfGroup tree says (one_fault (first_fault (metadata_checks tree)) (tables_of (group_of tree)) fault (answers.1 not_memory))
+
+pub refused_text : (source : List ℕ) (found : TextFault) → IsUtf8 source → (found ≢ texts.Memory → HasFault source found) → (text_fault found).kind ≢ Memory → IsRefusedText source (text_fault found)
+refused_text source found utf8 has not_memory = OfText utf8 found (has (λ is. not_memory (ap (λ (f : TextFault). (text_fault f).kind) is))) refl

@@ -1,0 +1,15 @@
+use Rattle.std.proofs.Common.{◌≡◌, sym, subst}
+use Rattle.lvm_text.specs.Reading.{Describes, HasFault}
+use Rattle.lvm_volume.proofs.MetadataLemmas.{refused_tables, refused_text}
+use Rattle.lvm_volume.proofs.metadata.parse_metadata.Goals as goal
+
+pub returns-in-Ok-clause-refused : goal.returns-in-Ok-clause-refused
+returns-in-Ok-clause-refused c =
+    let text = c.in_ok-text.ensures.text in
+    refused_tables c.args.source.now c.in-Ok.top (λ tables. (tables.0.items, tables.1.items)) c.group_tables.result
+    (record { utf8 = text.1; says = subst (λ bytes. Describes bytes c.in-Ok.top) text.0 c.in-Ok.ensures.accepted }) c.group_tables.ensures
+
+pub returns-in-Err-clause-refused : goal.returns-in-Err-clause-refused
+returns-in-Err-clause-refused c =
+    let text = c.in_ok-text.ensures.text in
+    rw c.text_fault.ensures (refused_text c.args.source.now c.in-Err.fault text.1 (λ other. subst (λ bytes. HasFault bytes c.in-Err.fault) text.0 (c.in-Err.ensures.fault other)))
