@@ -4,3 +4,4 @@ pub mod Rows
 pub mod Stripes
 pub mod There
 pub mod WorkedRows
+pub mod WorkedSnapshots
