@@ -1,4 +1,5 @@
 pub mod LevelLemmas
+pub mod Numbers
 pub mod Ranges
 pub mod Rows
 pub mod Stripes

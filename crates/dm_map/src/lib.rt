@@ -8,9 +8,11 @@ mod levels;
 mod mapper;
 mod piece;
 mod piece_list;
+mod plain_taken;
 mod sink;
 mod stretch;
 mod stripe;
+mod taken;
 mod walk;
 mod walker;
 
@@ -18,4 +20,6 @@ pub use levels::levels_are_enough;
 pub use mapper::{MapFault, Mapper};
 pub use piece::Piece;
 pub use piece_list::PieceList;
+pub use plain_taken::PlainTaken;
 pub use sink::Sink;
+pub use taken::Taken;
