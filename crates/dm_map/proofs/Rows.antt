@@ -67,10 +67,10 @@ pub step_past_end : (stack : Description) (op : Op) (device start len : ℕ) (st
 step_past_end stack op device start len state past = rw past (ap (λ (units : List BlockUnit). keep units state) (units_in_fails len))
 
 -- steps one after the other
-and_then_at : (step : Step) (f h : State → Step) → f step.state ≡ h step.state → and_then step f ≡ and_then step h
+pub and_then_at : (step : Step) (f h : State → Step) → f step.state ≡ h step.state → and_then step f ≡ and_then step h
 and_then_at step f h same = ap (λ (next : Step). record { units = step.units ++ next.units; state = next.state }) same
 
-step_assoc : (step : Step) (f h : State → Step) → and_then (and_then step f) h ≡ and_then step (λ state. and_then (f state) h)
+pub step_assoc : (step : Step) (f h : State → Step) → and_then (and_then step f) h ≡ and_then step (λ state. and_then (f state) h)
 step_assoc step f h = ap (λ (units : List BlockUnit). record { units = units; state = (h (f step.state).state).state }) (append_assoc step.units (f step.state).units (h (f step.state).state).units)
 
 -- a row in two parts

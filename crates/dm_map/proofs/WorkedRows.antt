@@ -18,16 +18,16 @@ use Rattle.dm_map.specs.State.{Taken, State, start_state}
 use Rattle.dm_map.specs.Steps.{keep}
 use Rattle.dm_map.specs.Units.{ReadOf, WriteOf, Zeros, Drops, Fails}
 
-abbrev at : Place
+abbrev pub at : Place
 at = record { part = parts.Source; number = 1 }
 
-abbrev line : (start len : ℕ) → Target → Line
+abbrev pub line : (start len : ℕ) → Target → Line
 line start len target = record { start = start; len = len; target = target; at = at }
 
-abbrev device : (name : ℕ) → Bool → List Line → DeviceSpec
+abbrev pub device : (name : ℕ) → Bool → List Line → DeviceSpec
 device name ro lines = record { name = name ∷ []; ro = ro; lines = lines; at = at }
 
-abbrev disk : (name len : ℕ) → disks.Disk
+abbrev pub disk : (name len : ℕ) → disks.Disk
 disk name len = record { name = name ∷ []; len = len; at = at }
 
 -- a: four sectors of a disk, two of zeros, two that fail; b: stripes over a and another disk; c: a, read-only; d: c

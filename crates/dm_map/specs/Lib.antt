@@ -1,8 +1,10 @@
+pub mod Homes
 pub mod KeptLaws
 pub mod Mapper
 pub mod Mapping
 pub mod PieceList
 pub mod Sink
+pub mod SnapshotWrites
 pub mod Snapshots
 pub mod State
 pub mod Steps

@@ -1,5 +1,5 @@
 -- Where a snapshot's sectors are read (the kernel's admin guide, device-mapper/snapshot, and its exception store).
-use Rattle.std.specs.Prelude.{ℕ, suc, ◌+◌, ◌*◌, ◌/◌, ◌%◌, ◌==◌, List, [], ◌∷◌, Option, Some, None, option_map, if◌then◌else◌}
+use Rattle.std.specs.Prelude.{ℕ, suc, ◌+◌, ◌-◌, ◌*◌, ◌/◌, ◌%◌, ◌==◌, ◌||◌, Bool, List, [], ◌∷◌, Option, Some, None, option_map, if◌then◌else◌}
 use Rattle.dm_stack.specs.Below.{Below, Lies, IsError, Snapshot}
 use Rattle.dm_map.specs.State.{Taken}
 
@@ -11,6 +11,10 @@ number_in chunk (first ∷ rest) = if first == chunk then Some 0 else option_map
 -- the chunk of a store that the taken chunk of a number has: a header and an area of numbers come first, and an area after every 32 * chunk chunks
 abbrev pub place : (chunk number : ℕ) → ℕ
 place chunk number = 2 + number + number / (32 * chunk)
+
+-- a chunk of a store that isn't for data: the header is the first, and each area of numbers comes before the 32 * chunk chunks that it is for
+abbrev pub is_metadata : (chunk at : ℕ) → Bool
+is_metadata chunk at = at == 0 || (at - 1) % (32 * chunk + 1) == 0
 
 -- the sector of a store that has a sector of a chunk of this number
 abbrev pub kept_at : Snapshot → (number sector : ℕ) → ℕ

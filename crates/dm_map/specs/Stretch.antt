@@ -1,9 +1,12 @@
 -- What a stretch is read from.
-use Rattle.std.specs.Prelude.{ℕ}
+use Rattle.std.specs.Prelude.{ℕ, ◌≡◌, ◌≤◌}
 use Rattle.dm_stack.specs.Description.{Description}
 use Rattle.dm_map.specs.declared.stretch.Ground.{Ground}
 use Rattle.dm_map.specs.declared.stretch.Ground.TheVariants as grounds
-use Rattle.dm_map.specs.Units.{BlockUnit, ReadOf, Zeros, Fails, IsOnDisk}
+use Rattle.dm_map.specs.declared.stretch.Stretch.{Stretch}
+use Rattle.dm_map.specs.Steps.{Step, keep}
+use Rattle.dm_map.specs.Units.{BlockUnit, ReadOf, Zeros, Fails, IsOnDisk, units_in}
+use Rattle.dm_map.specs.Walk.{Walking}
 
 -- the read of the first sector
 abbrev pub ground_unit : Ground → BlockUnit
@@ -16,3 +19,11 @@ abbrev pub IsThere : Description → Ground → (len : ℕ) → Type 0
 IsThere stack (grounds.Disk disk start) len = IsOnDisk stack disk start len
 IsThere stack grounds.Zeros len = Unit {0}
 IsThere stack grounds.Fails len = Unit {0}
+
+-- the first sectors of a range of len are read from its ground, which is there; reads gives the step of the first ones
+pub record IsFirst (before after : Walking) (reads : ℕ → Step) (len : ℕ) (stretch : Stretch) : Type 0 where
+  pub some : 1 ≤ stretch.len
+  pub most : stretch.len ≤ len
+  pub read : reads stretch.len ≡ keep (units_in (ground_unit stretch.ground) stretch.len) before.state
+  pub lies : IsThere before.stack stretch.ground stretch.len
+  pub same : after ≡ before

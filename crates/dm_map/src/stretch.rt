@@ -5,13 +5,11 @@
 //! which need the origin's side and the store's side at once. A new target is an arm of
 //! `line_stretch`, as it is one of `map_line`.
 
-ghost use Rattle.std.specs.Prelude.{◌≡◌, ℕ, ◌+◌, ◌-◌, ◌<◌, ◌≤◌, ◌^◌, length};
+ghost use Rattle.std.specs.Prelude.{ℕ, ◌+◌, ◌≤◌, ◌^◌};
 ghost use Rattle.dm_table.specs.declared.request.Op.TheVariants.{Read};
 ghost use Rattle.dm_stack.specs.Below.{IsTargetSound};
 ghost use Rattle.dm_stack.specs.Description.{lower_len};
-ghost use Rattle.dm_map.specs.Steps.{keep};
-ghost use Rattle.dm_map.specs.Stretch.{ground_unit, IsThere};
-ghost use Rattle.dm_map.specs.Units.{units_in};
+ghost use Rattle.dm_map.specs.Stretch.{IsFirst};
 ghost use Rattle.dm_map.specs.Walk.{line_step, range_step, stripes_step, AreInStripes};
 
 use crate::stripe::place_at;
@@ -54,11 +52,7 @@ pub(crate) fn first_stretch(
 ) -> Stretch
     requires some { 1 ≤ len }
     requires inside { sector + len ≤ lower_len walker.old.stack lower }
-    ensures some { 1 ≤ result.len }
-    ensures most { result.len ≤ len }
-    ensures read { range_step walker.old.stack Read levels lower walker.old.state sector result.len ≡ keep (units_in (ground_unit result.ground) result.len) walker.old.state }
-    ensures lies { IsThere walker.old.stack result.ground result.len }
-    ensures same { walker.new ≡ walker.old }
+    ensures { IsFirst walker.old walker.new (range_step walker.old.stack Read levels lower walker.old.state sector) len result }
 {
     match lower {
         Lower::Disk(disk) => Stretch {
@@ -97,11 +91,7 @@ fn line_stretch(
     requires inside { distance + len ≤ line.now.len }
     requires small { line.now.len ≤ 2 ^ 50 }
     requires sound { IsTargetSound walker.old.stack line.now.len line.now.target }
-    ensures some { 1 ≤ result.len }
-    ensures most { result.len ≤ len }
-    ensures read { (device : ℕ) → line_step walker.old.stack Read levels device line.now.target walker.old.state distance result.len ≡ keep (units_in (ground_unit result.ground) result.len) walker.old.state }
-    ensures lies { IsThere walker.old.stack result.ground result.len }
-    ensures same { walker.new ≡ walker.old }
+    ensures { (device : ℕ) → IsFirst walker.old walker.new (line_step walker.old.stack Read levels device line.now.target walker.old.state distance) len result }
 {
     match &line.target {
         FoundTarget::Linear { to, offset } => {
@@ -135,11 +125,7 @@ fn stripes_stretch(
 ) -> Stretch
     requires some { 1 ≤ len }
     requires inside { AreInStripes walker.old.stack chunk columns.now distance len }
-    ensures some { 1 ≤ result.len }
-    ensures most { result.len ≤ len }
-    ensures read { stripes_step walker.old.stack Read levels chunk columns.now walker.old.state distance result.len ≡ keep (units_in (ground_unit result.ground) result.len) walker.old.state }
-    ensures lies { IsThere walker.old.stack result.ground result.len }
-    ensures same { walker.new ≡ walker.old }
+    ensures { IsFirst walker.old walker.new (stripes_step walker.old.stack Read levels chunk columns.now walker.old.state distance) len result }
 {
     let place = place_at(chunk, columns.len() as u64, distance);
     let part = len.min(chunk - place.past);

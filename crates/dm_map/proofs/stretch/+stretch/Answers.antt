@@ -6,7 +6,7 @@ use Rattle.dm_stack.specs.Below.{found_at}
 use Rattle.dm_stack.specs.Description.{Description, lower_len}
 use Rattle.dm_map.specs.declared.stripe.ChunkPlace.{ChunkPlace}
 use Rattle.dm_map.specs.Steps.{Step, keep}
-use Rattle.dm_map.specs.Stretch.{ground_unit}
+use Rattle.dm_map.specs.Stretch.{ground_unit, IsThere}
 use Rattle.dm_map.specs.Units.{units_in}
 use Rattle.dm_map.specs.Walk.{Walking, line_step, range_step, stripes_step, AreInStripes, IsPlace}
 use Rattle.dm_map.proofs.Ranges.{range_deepest, range_disk, range_line, line_errors, line_linear, line_striped, line_zeros, stripes_chunk}
@@ -16,21 +16,28 @@ use Rattle.dm_map.proofs.stretch.+stretch.Goals as goal
 
 -- A disk, and a device
 
-pub first_stretch-returns-in-Disk-clause-read : goal.first_stretch-returns-in-Disk-clause-read
-first_stretch-returns-in-Disk-clause-read t c =
-    let a = c.args in let w = a.walker.now in
-    ap (λ (lower : Lower). range_step w.stack Read a.levels lower w.state a.sector a.len) c.in-Disk.is ∙ range_disk w.stack Read a.levels c.in-Disk.disk a.sector a.len w.state
-
-pub first_stretch-returns-in-Disk-clause-lies : goal.first_stretch-returns-in-Disk-clause-lies
-first_stretch-returns-in-Disk-clause-lies t c =
+pub first_stretch-returns-in-Disk : goal.first_stretch-returns-in-Disk
+first_stretch-returns-in-Disk t c =
     let a = c.args in let w = a.walker.now in
     let inside = subst (λ (lower : Lower). a.sector + a.len ≤ lower_len w.stack lower) c.in-Disk.is c.requires.inside in
-    record { there = disk_there w.stack c.in-Disk.disk a.sector (omega (arith, inside, c.requires.some)); inside = inside }
+    record {
+      some = c.requires.some;
+      most = omega arith;
+      read = ap (λ (lower : Lower). range_step w.stack Read a.levels lower w.state a.sector a.len) c.in-Disk.is ∙ range_disk w.stack Read a.levels c.in-Disk.disk a.sector a.len w.state;
+      lies = record { there = disk_there w.stack c.in-Disk.disk a.sector (omega (arith, inside, c.requires.some)); inside = inside };
+      same = refl;
+    }
 
-pub first_stretch-returns-then-levels-eq0-clause-read : goal.first_stretch-returns-then-levels-eq0-clause-read
-first_stretch-returns-then-levels-eq0-clause-read t c =
+pub first_stretch-returns-then-levels-eq0 : goal.first_stretch-returns-then-levels-eq0
+first_stretch-returns-then-levels-eq0 t c =
     let a = c.args in let w = a.walker.now in
-    ap (λ (lower : Lower). range_step w.stack Read a.levels lower w.state a.sector a.len) c.in-Device.is ∙ range_deepest w.stack Read a.levels c.in-Device.device a.sector a.len w.state c.if-levels-eq0.true
+    record {
+      some = c.requires.some;
+      most = omega arith;
+      read = ap (λ (lower : Lower). range_step w.stack Read a.levels lower w.state a.sector a.len) c.in-Device.is ∙ range_deepest w.stack Read a.levels c.in-Device.device a.sector a.len w.state c.if-levels-eq0.true;
+      lies = tt;
+      same = refl;
+    }
 
 pub first_stretch-look-line-requires-clause-device : goal.first_stretch-look-line-requires-clause-device
 first_stretch-look-line-requires-clause-device t c =
@@ -38,40 +45,70 @@ first_stretch-look-line-requires-clause-device t c =
     let inside = subst (λ (lower : Lower). a.sector + a.len ≤ lower_len w.stack lower) c.in-Device.is c.requires.inside in
     device_there w.stack c.in-Device.device a.sector (omega (arith, inside, c.requires.some))
 
-pub first_stretch-returns-else-levels-eq0-clause-read : goal.first_stretch-returns-else-levels-eq0-clause-read
-first_stretch-returns-else-levels-eq0-clause-read t c =
-    let a = c.args in let w = a.walker.now in let line = c.look-line.result.now in let n = c.line_stretch.result.len in let holds = c.look-line.ensures.holds in
+pub first_stretch-returns-else-levels-eq0 : goal.first_stretch-returns-else-levels-eq0
+first_stretch-returns-else-levels-eq0 t c =
+    let a = c.args in let w = a.walker.now in let line = c.look-line.result.now in let s = c.line_stretch.ensures c.in-Device.device in let n = c.line_stretch.result.len in let holds = c.look-line.ensures.holds in
     let each : (i : ℕ) → i < n → found_at w.stack c.in-Device.device (a.sector + i) ≡ Some line = λ i within.
-    c.look-line.ensures.all (a.sector + i) (omega (arith, holds.from)) (omega (arith, holds.from, holds.before, c.part_in-part.ensures, c.line_stretch.ensures.most, within)) in
+    c.look-line.ensures.all (a.sector + i) (omega (arith, holds.from)) (omega (arith, holds.from, holds.before, c.part_in-part.ensures, s.most, within)) in
     let looked : (look : Walking → Step) → look c.look-line.new.self ≡ look w = λ look. ap look c.look-line.ensures.same in
-    ap (λ (lower : Lower). range_step w.stack Read a.levels lower w.state a.sector n) c.in-Device.is
-    ∙ range_line w.stack Read a.levels (a.levels - 1) c.in-Device.device a.sector n w.state line (omega (arith, c.if-levels-eq0.false)) refl holds.from each
-    ∙ sym (looked (λ v. line_step v.stack Read (a.levels - 1) c.in-Device.device line.target v.state (a.sector - line.start) n)) ∙ c.line_stretch.ensures.read c.in-Device.device
-    ∙ looked (λ v. keep (units_in (ground_unit c.line_stretch.result.ground) n) v.state)
+    record {
+      some = s.some;
+      most = omega (arith, s.most, c.part_in-part.ensures);
+      read = ap (λ (lower : Lower). range_step w.stack Read a.levels lower w.state a.sector n) c.in-Device.is
+          ∙ range_line w.stack Read a.levels (a.levels - 1) c.in-Device.device a.sector n w.state line (omega (arith, c.if-levels-eq0.false)) refl holds.from each
+          ∙ sym (looked (λ v. line_step v.stack Read (a.levels - 1) c.in-Device.device line.target v.state (a.sector - line.start) n)) ∙ s.read
+          ∙ looked (λ v. keep (units_in (ground_unit c.line_stretch.result.ground) n) v.state);
+      lies = subst (λ (v : Walking). IsThere v.stack c.line_stretch.result.ground n) c.look-line.ensures.same s.lies;
+      same = s.same ∙ c.look-line.ensures.same;
+    }
 
 -- A line
 
-pub line_stretch-returns-in-Linear-clause-read : goal.line_stretch-returns-in-Linear-clause-read
-line_stretch-returns-in-Linear-clause-read t c device =
-    let a = c.args in let w = a.walker.now in let n = c.first_stretch.result.len in
-    ap (λ target. line_step w.stack Read a.levels device target w.state a.distance n) c.in-Linear.is ∙ line_linear w.stack Read a.levels device c.in-Linear.to c.in-Linear.offset a.distance n w.state
-    ∙ ap (λ (p : ℕ). range_step w.stack Read a.levels c.in-Linear.to w.state p n) (sym c.sector_at-sector.ensures) ∙ c.first_stretch.ensures.read
+pub line_stretch-returns-in-Linear : goal.line_stretch-returns-in-Linear
+line_stretch-returns-in-Linear t c device =
+    let a = c.args in let w = a.walker.now in let s = c.first_stretch.ensures in let n = c.first_stretch.result.len in
+    record {
+      some = s.some;
+      most = s.most;
+      read = ap (λ target. line_step w.stack Read a.levels device target w.state a.distance n) c.in-Linear.is ∙ line_linear w.stack Read a.levels device c.in-Linear.to c.in-Linear.offset a.distance n w.state
+          ∙ ap (λ (p : ℕ). range_step w.stack Read a.levels c.in-Linear.to w.state p n) (sym c.sector_at-sector.ensures) ∙ s.read;
+      lies = s.lies;
+      same = s.same;
+    }
 
-pub line_stretch-returns-in-Striped-clause-read : goal.line_stretch-returns-in-Striped-clause-read
-line_stretch-returns-in-Striped-clause-read t c device =
-    let a = c.args in let w = a.walker.now in let n = c.stripes_stretch.result.len in
-    ap (λ target. line_step w.stack Read a.levels device target w.state a.distance n) c.in-Striped.is ∙ line_striped w.stack Read a.levels device c.in-Striped.chunk c.in-Striped.columns a.distance n w.state
-    ∙ ap (λ columns. stripes_step w.stack Read a.levels c.in-Striped.chunk columns w.state a.distance n) (sym c.as_slice-columns.ensures) ∙ c.stripes_stretch.ensures.read
+pub line_stretch-returns-in-Striped : goal.line_stretch-returns-in-Striped
+line_stretch-returns-in-Striped t c device =
+    let a = c.args in let w = a.walker.now in let s = c.stripes_stretch.ensures in let n = c.stripes_stretch.result.len in
+    record {
+      some = s.some;
+      most = s.most;
+      read = ap (λ target. line_step w.stack Read a.levels device target w.state a.distance n) c.in-Striped.is ∙ line_striped w.stack Read a.levels device c.in-Striped.chunk c.in-Striped.columns a.distance n w.state
+          ∙ ap (λ columns. stripes_step w.stack Read a.levels c.in-Striped.chunk columns w.state a.distance n) (sym c.as_slice-columns.ensures) ∙ s.read;
+      lies = s.lies;
+      same = s.same;
+    }
 
-pub line_stretch-returns-in-Zero-clause-read : goal.line_stretch-returns-in-Zero-clause-read
-line_stretch-returns-in-Zero-clause-read t c device =
+pub line_stretch-returns-in-Zero : goal.line_stretch-returns-in-Zero
+line_stretch-returns-in-Zero t c device =
     let a = c.args in let w = a.walker.now in
-    ap (λ target. line_step w.stack Read a.levels device target w.state a.distance a.len) c.in-Zero.is ∙ line_zeros w.stack Read a.levels device a.distance a.len w.state
+    record {
+      some = c.requires.some;
+      most = omega arith;
+      read = ap (λ target. line_step w.stack Read a.levels device target w.state a.distance a.len) c.in-Zero.is ∙ line_zeros w.stack Read a.levels device a.distance a.len w.state;
+      lies = tt;
+      same = refl;
+    }
 
-pub line_stretch-returns-in-Error-clause-read : goal.line_stretch-returns-in-Error-clause-read
-line_stretch-returns-in-Error-clause-read t c device =
+pub line_stretch-returns-in-Error : goal.line_stretch-returns-in-Error
+line_stretch-returns-in-Error t c device =
     let a = c.args in let w = a.walker.now in
-    ap (λ target. line_step w.stack Read a.levels device target w.state a.distance a.len) c.in-Error.is ∙ line_errors w.stack Read a.levels device a.distance a.len w.state
+    record {
+      some = c.requires.some;
+      most = omega arith;
+      read = ap (λ target. line_step w.stack Read a.levels device target w.state a.distance a.len) c.in-Error.is ∙ line_errors w.stack Read a.levels device a.distance a.len w.state;
+      lies = tt;
+      same = refl;
+    }
 
 -- Stripes
 
@@ -97,8 +134,14 @@ stripes_stretch-first_stretch-requires t c =
     let there : c.sector_at-sector.result + c.min-part.result ≤ lower_len a.walker.now.stack column.to = omega (arith, inside, c.sector_at-sector.ensures) in
     search rules
 
-pub stripes_stretch-returns-clause-read : goal.stripes_stretch-returns-clause-read
-stripes_stretch-returns-clause-read t c =
-    let a = c.args in let w = a.walker.now in let place = c.place_at-place.result in let column = c.index-columns-place.result in let n = c.first_stretch.result.len in let stripes = c.requires.inside.stripes in
-    stripes_chunk w.stack Read a.levels a.chunk a.distance n a.columns.now w.state column place stripes.some stripes.chunk_some c.place_at-place.ensures (omega (arith, c.min-part.ensures, c.first_stretch.ensures.most)) c.index-columns-place.is
-    ∙ ap (λ (p : ℕ). range_step w.stack Read a.levels column.to w.state p n) (sym c.sector_at-sector.ensures) ∙ c.first_stretch.ensures.read
+pub stripes_stretch-returns : goal.stripes_stretch-returns
+stripes_stretch-returns t c =
+    let a = c.args in let w = a.walker.now in let place = c.place_at-place.result in let column = c.index-columns-place.result in let s = c.first_stretch.ensures in let n = c.first_stretch.result.len in let stripes = c.requires.inside.stripes in
+    record {
+      some = s.some;
+      most = omega (arith, s.most, c.min-part.ensures);
+      read = stripes_chunk w.stack Read a.levels a.chunk a.distance n a.columns.now w.state column place stripes.some stripes.chunk_some c.place_at-place.ensures (omega (arith, c.min-part.ensures, s.most)) c.index-columns-place.is
+          ∙ ap (λ (p : ℕ). range_step w.stack Read a.levels column.to w.state p n) (sym c.sector_at-sector.ensures) ∙ s.read;
+      lies = s.lies;
+      same = s.same;
+    }

@@ -1,0 +1,105 @@
+-- A chunk that is made ready is settled, and stays so: the sectors of a chunk are written as one step.
+use Rattle.std.proofs.Common.{◌≡◌, inl, inr, ℕ, zero, suc, ◌+◌, ◌/◌, ◌<◌, Bool, true, false, cond, not, List, [], ◌∷◌, ◌++◌, Option, Some, None, length, refl, ap, subst, ◌∙◌, arith}
+use Rattle.std.specs.Prelude.{is_some, ◌&&◌}
+use Rattle.std.proofs.lemmas.Bool.{cases_eq, or_parts, or_cases, or_left, or_right, not-false}
+use Rattle.std.proofs.lemmas.List.{get_or-set_same, get_or-set_other}
+use Rattle.dm_stack.specs.Below.{Snapshot}
+use Rattle.dm_stack.specs.Description.{Description}
+use Rattle.dm_map.specs.Snapshots.{number_in}
+use Rattle.dm_map.specs.SnapshotWrites.{put, with_chunk, lost, is_settled, ready, row, unit_kept, write_snapshot, copies, first_of, count_of, has_place, is_readable}
+use Rattle.dm_map.specs.State.{Taken, State, none_taken, taken_at}
+use Rattle.dm_map.specs.Steps.{Step, keep, and_then, steps}
+use Rattle.dm_map.specs.Units.{BlockUnit}
+use Rattle.dm_map.proofs.Numbers.{number_kept, number_new}
+use Rattle.dm_map.proofs.Rows.{and_then_at, step_assoc}
+
+taken_same : (state : State) (device : ℕ) (taken : Taken) → device < length state → taken_at (put state device taken) device ≡ taken
+taken_same state device taken there = get_or-set_same state device taken none_taken there
+
+taken_other : (state : State) (device other : ℕ) (taken : Taken) → (other ≡ device → ⊥) → taken_at (put state device taken) other ≡ taken_at state other
+taken_other state device other taken differ = get_or-set_other state device other taken none_taken differ
+
+-- The three ways to make a chunk ready
+
+pub data Readied (state : State) (device chunk : ℕ) (step : Step) : Type 0 where
+  Settled : is_settled (taken_at state device) chunk ≡ true → step ≡ keep [] state → Readied state device chunk step
+  Took : (taken_at state device).valid ≡ true → number_in chunk (taken_at state device).chunks ≡ None → (units : List BlockUnit) → step ≡ keep units (put state device (with_chunk (taken_at state device) chunk)) → Readied state device chunk step
+  Lost : step ≡ keep [] (put state device (lost (taken_at state device))) → Readied state device chunk step
+
+none_of : (o : Option ℕ) → is_some o ≡ false → o ≡ None
+none_of None e = refl
+none_of (Some i) e = absurd cc
+
+readied_by : (state : State) (device chunk : ℕ) (settled can : Bool) (units : List BlockUnit) → is_settled (taken_at state device) chunk ≡ settled
+    → Readied state device chunk (cond settled (keep [] state) (cond can (keep units (put state device (with_chunk (taken_at state device) chunk))) (keep [] (put state device (lost (taken_at state device))))))
+readied_by state device chunk true can units is = Settled is refl
+readied_by state device chunk false true units is =
+    let parts = or_parts (not (taken_at state device).valid) (is_some (number_in chunk (taken_at state device).chunks)) is in
+    Took (not-false (taken_at state device).valid parts.0) (none_of _ parts.1) units refl
+readied_by state device chunk false false units is = Lost refl
+
+pub readied : (stack : Description) (snapshot : Snapshot) (device chunk : ℕ) (state : State) → Readied state device chunk (ready stack snapshot device chunk state)
+readied stack snapshot device chunk state =
+    let number = length (taken_at state device).chunks in let first = first_of snapshot chunk in let count = count_of stack snapshot device chunk in
+    readied_by state device chunk (is_settled (taken_at state device) chunk) (has_place stack snapshot number && is_readable stack state snapshot first count) (copies stack state snapshot number first count) refl
+
+pub ready_again : (stack : Description) (snapshot : Snapshot) (device chunk : ℕ) (state : State) → is_settled (taken_at state device) chunk ≡ true → ready stack snapshot device chunk state ≡ keep [] state
+ready_again stack snapshot device chunk state settled = rw settled refl
+
+-- Once it was made ready, it is settled
+
+new_settled : (taken : Taken) (chunk : ℕ) → number_in chunk taken.chunks ≡ None → is_settled (with_chunk taken chunk) chunk ≡ true
+new_settled taken chunk fresh = or_right (not taken.valid) _ (rw (number_new chunk taken.chunks fresh) refl)
+
+pub ready_settles : (state : State) (device chunk : ℕ) (step : Step) → device < length state → Readied state device chunk step → is_settled (taken_at step.state device) chunk ≡ true
+ready_settles state device chunk step there (Settled done is) = rw is done
+ready_settles state device chunk step there (Took valid fresh units is) = rw (is, taken_same state device (with_chunk (taken_at state device) chunk) there) (new_settled (taken_at state device) chunk fresh)
+ready_settles state device chunk step there (Lost is) = rw (is, taken_same state device (lost (taken_at state device)) there) refl
+
+-- and whatever is made ready, what was settled stays so
+
+settled_put : (state : State) (device other chunk : ℕ) (taken : Taken) → device < length state → (is_settled (taken_at state device) chunk ≡ true → is_settled taken chunk ≡ true) → is_settled (taken_at state other) chunk ≡ true → is_settled (taken_at (put state device taken) other) chunk ≡ true
+settled_put state device other chunk taken there more settled = elim (cases_eq other device) [
+  | inl same ↦ rw (same, taken_same state device taken there) (more (subst (λ (d : ℕ). is_settled (taken_at state d) chunk ≡ true) same settled))
+  | inr differ ↦ rw (taken_other state device other taken differ) settled
+]
+
+some_kept : (chunk last : ℕ) (chunks : List ℕ) (o : Option ℕ) → number_in chunk chunks ≡ o → is_some o ≡ true → is_some (number_in chunk (chunks ++ last ∷ [])) ≡ true
+some_kept chunk last chunks None is e = absurd cc
+some_kept chunk last chunks (Some i) is e = rw (number_kept chunk chunks (last ∷ []) i is) refl
+
+more_settled : (taken : Taken) (chunk last : ℕ) → is_settled taken chunk ≡ true → is_settled (with_chunk taken last) chunk ≡ true
+more_settled taken chunk last settled = elim (or_cases (not taken.valid) (is_some (number_in chunk taken.chunks)) settled) [
+  | inl off ↦ or_left (not taken.valid) _ off
+  | inr found ↦ or_right (not taken.valid) _ (some_kept chunk last taken.chunks (number_in chunk taken.chunks) refl found)
+]
+
+pub ready_settled : (state : State) (device chunk other settled_chunk : ℕ) (step : Step) → device < length state → Readied state device chunk step → is_settled (taken_at state other) settled_chunk ≡ true → is_settled (taken_at step.state other) settled_chunk ≡ true
+ready_settled state device chunk other c step there (Settled done is) settled = rw is settled
+ready_settled state device chunk other c step there (Took valid fresh units is) settled = rw is (settled_put state device other c (with_chunk (taken_at state device) chunk) there (λ h. more_settled (taken_at state device) c chunk h) settled)
+ready_settled state device chunk other c step there (Lost is) settled = rw is (settled_put state device other c (lost (taken_at state device)) there (λ h. refl) settled)
+
+-- The sectors of a chunk: it is made ready once
+
+settled_part : (stack : Description) (snapshot : Snapshot) (device chunk sector n : ℕ) (state : State) → ready stack snapshot device chunk state ≡ keep [] state → ((i : ℕ) → i < n → (sector + i) / snapshot.chunk ≡ chunk)
+    → steps (write_snapshot stack snapshot device) state sector n ≡ keep (row (unit_kept stack snapshot device state) sector n) state
+settled_part stack snapshot device chunk sector zero state done each = refl
+settled_part stack snapshot device chunk sector (suc n) state done each =
+    let here : sector / snapshot.chunk ≡ chunk = ap (λ (s : ℕ). s / snapshot.chunk) (let e : sector ≡ sector + 0 = omega arith in e) ∙ each 0 (omega arith) in
+    let first : write_snapshot stack snapshot device state sector ≡ keep (unit_kept stack snapshot device state sector ∷ []) state =
+    ap (λ (step : Step). and_then step (λ after. keep (unit_kept stack snapshot device after sector ∷ []) after)) (ap (λ (c : ℕ). ready stack snapshot device c state) here ∙ done) in
+    ap (λ (step : Step). and_then step (λ after. steps (write_snapshot stack snapshot device) after (suc sector) n)) first
+    ∙ ap (λ (rest : Step). record { units = unit_kept stack snapshot device state sector ∷ rest.units; state = rest.state })
+    (settled_part stack snapshot device chunk (suc sector) n state done (λ i within. ap (λ (s : ℕ). s / snapshot.chunk) (let e : suc sector + i ≡ sector + suc i = omega arith in e) ∙ each (suc i) (omega (arith, within))))
+
+pub chunk_part : (stack : Description) (snapshot : Snapshot) (device chunk sector n : ℕ) (state : State) → device < length state → ((i : ℕ) → i < suc n → (sector + i) / snapshot.chunk ≡ chunk)
+    → steps (write_snapshot stack snapshot device) state sector (suc n) ≡ and_then (ready stack snapshot device chunk state) (λ after. keep (row (unit_kept stack snapshot device after) sector (suc n)) after)
+chunk_part stack snapshot device chunk sector n state there each =
+    let here : sector / snapshot.chunk ≡ chunk = ap (λ (s : ℕ). s / snapshot.chunk) (let e : sector ≡ sector + 0 = omega arith in e) ∙ each 0 (omega arith) in
+    let made = ready stack snapshot device chunk state in
+    let again : ready stack snapshot device chunk made.state ≡ keep [] made.state = ready_again stack snapshot device chunk made.state (ready_settles state device chunk made there (readied stack snapshot device chunk state)) in
+    ap (λ (c : ℕ). and_then (and_then (ready stack snapshot device c state) (λ after. keep (unit_kept stack snapshot device after sector ∷ []) after)) (λ after. steps (write_snapshot stack snapshot device) after (suc sector) n)) here
+    ∙ step_assoc made (λ after. keep (unit_kept stack snapshot device after sector ∷ []) after) (λ after. steps (write_snapshot stack snapshot device) after (suc sector) n)
+    ∙ and_then_at made (λ after. and_then (keep (unit_kept stack snapshot device after sector ∷ []) after) (λ later. steps (write_snapshot stack snapshot device) later (suc sector) n)) (λ after. keep (row (unit_kept stack snapshot device after) sector (suc n)) after)
+    (ap (λ (rest : Step). record { units = unit_kept stack snapshot device made.state sector ∷ rest.units; state = rest.state })
+    (settled_part stack snapshot device chunk (suc sector) n made.state again (λ i within. ap (λ (s : ℕ). s / snapshot.chunk) (let e : suc sector + i ≡ sector + suc i = omega arith in e) ∙ each (suc i) (omega (arith, within)))))

@@ -1,0 +1,27 @@
+-- Where a sector of a store lies on a disk.
+use Rattle.std.specs.Prelude.{ℕ, zero, suc}
+use Rattle.dm_stack.specs.declared.graph.TheConstants.{MOST_DEPTH}
+use Rattle.dm_stack.specs.declared.id.Lower.{Lower}
+use Rattle.dm_stack.specs.declared.id.Lower.TheVariants.{Device, Disk}
+use Rattle.dm_stack.specs.Below.{IsError, below}
+use Rattle.dm_stack.specs.Description.{Description}
+use Rattle.dm_map.specs.Mapping.{by_below}
+
+-- a sector of a disk
+pub record Home : Type 0 where
+  pub disk : ℕ
+  pub sector : ℕ
+
+-- what has no home: a store has linear and striped lines alone, down to disks
+abbrev pub nowhere : Home
+nowhere = record { disk = 0; sector = 0 }
+
+unfoldable pub home_to : Description → ℕ → Lower → ℕ → Home
+home_to stack levels (Disk disk) sector = record { disk = disk; sector = sector }
+home_to stack zero (Device device) sector = nowhere
+home_to stack (suc levels) (Device device) sector =
+    by_below (below (λ snapshot place. IsError) stack device sector) nowhere nowhere (λ to lower. home_to stack levels to lower)
+
+-- no stack has more levels
+abbrev pub home : Description → Lower → ℕ → Home
+home stack lower sector = home_to stack MOST_DEPTH lower sector
