@@ -13,11 +13,12 @@ use Rattle.dm_table.proofs.TableDescribed.{again, one_description}
 use Rattle.dm_table.proofs.DiskLemmas.{read_disks-described, read_disks-ok, DescribesDisks-unique}
 use Rattle.dm_table.specs.PartInput.{PartRead, TextOf, Refuses, Unread, part_read}
 use Rattle.dmremap.specs.declared.words.Format.{Format}
-use Rattle.dmremap.specs.declared.words.Format.TheVariants.{Table}
+use Rattle.dmremap.specs.declared.words.Format.TheVariants.{Lvm, Table}
 use Rattle.dm_stack.specs.Description.{Description}
 use Rattle.dm_stack.specs.Soundness.{IsSound, IsRefusedBy}
 use Rattle.dm_stack.proofs.OneFault.{never_both, one_fault as one_refusal}
-use Rattle.dmremap.specs.Load.{Load, RefusedBy, SoundAs, Describes, GivesFault, TextsGive, TablePartsGive, PartsGive}
+use Rattle.lvm_volume.proofs.OneGroup.{never_refused, one_group, one_refusal as one_text_refusal}
+use Rattle.dmremap.specs.Load.{Load, RefusedBy, SoundAs, Describes, DescribesGroupAs, GivesFault, MetadataGives, MetadataPartGives, TextsGive, TablePartsGive, PartsGive}
 use Rattle.dmremap.specs.Whole.{Whole, whole_of, GiveWhole}
 
 -- What two texts describe
@@ -73,8 +74,39 @@ one_of_parts (TextOf source) (TextOf list) a b is_a is_b = one_of_texts source l
 one_of_parts (TextOf source) Unread a b is_a is_b = absurd is_a
 one_of_parts Unread list a b is_a is_b = absurd is_a
 
+-- What a text of metadata gives
+
+one_described_group : (source : List ℕ) (a b : Description) → DescribesGroupAs source a → DescribesGroupAs source b → a ≡ b
+one_described_group source a b is_a is_b =
+    ap (λ (tables : List DeviceSpec × List Disk). described_as tables.0 tables.1) (one_group source (a.devices, a.disks) (b.devices, b.disks) is_a is_b)
+
+one_of_metadata : (source : List ℕ) (a b : Load) → MetadataGives source a → MetadataGives source b → a ≡ b
+one_of_metadata source (RefusedBy f) (RefusedBy g) (inl is_a) (inl is_b) = ap RefusedBy (one_text_refusal source f g is_a is_b)
+one_of_metadata source (RefusedBy f) (RefusedBy g) (inl is_a) (inr is_b) = absurd (never_refused source _ f is_b.1 is_a)
+one_of_metadata source (RefusedBy f) (RefusedBy g) (inr is_a) (inl is_b) = absurd (never_refused source _ g is_a.1 is_b)
+one_of_metadata source (RefusedBy f) (RefusedBy g) (inr is_a) (inr is_b) =
+    let same = one_described_group source is_a.0 is_b.0 is_a.1 is_b.1 in
+    ap RefusedBy (one_refusal is_b.0 f g (subst (λ (description : Description). IsRefusedBy description f) same is_a.2) is_b.2)
+one_of_metadata source (RefusedBy f) (SoundAs b) (inl is_a) is_b = absurd (never_refused source _ f is_b.0 is_a)
+one_of_metadata source (RefusedBy f) (SoundAs b) (inr is_a) is_b =
+    let same = one_described_group source is_a.0 b is_a.1 is_b.0 in
+    absurd (never_both b f is_b.1 (subst (λ (other : Description). IsRefusedBy other f) same is_a.2))
+one_of_metadata source (SoundAs a) (RefusedBy g) is_a (inl is_b) = absurd (never_refused source _ g is_a.0 is_b)
+one_of_metadata source (SoundAs a) (RefusedBy g) is_a (inr is_b) =
+    let same = one_described_group source is_b.0 a is_b.1 is_a.0 in
+    absurd (never_both a g is_a.1 (subst (λ (other : Description). IsRefusedBy other g) same is_b.2))
+one_of_metadata source (SoundAs a) (SoundAs b) is_a is_b = ap SoundAs (one_described_group source a b is_a.0 is_b.0)
+
+one_of_part : (source : PartRead) (a b : Load) → MetadataPartGives source a → MetadataPartGives source b → a ≡ b
+one_of_part (Refuses fault) a b is_a is_b = is_a ∙ sym is_b
+one_of_part (TextOf source) a b is_a is_b = one_of_metadata source a b is_a is_b
+one_of_part Unread a b is_a is_b = absurd is_a
+
+-- What every format gives
+
 pub one_load : (format : Format) (source disks : Delivery) (a b : Load) → PartsGive format source disks a → PartsGive format source disks b → a ≡ b
 one_load Table source disks a b is_a is_b = one_of_parts (part_read Source source) (part_read Disks disks) a b is_a is_b
+one_load Lvm source disks a b is_a is_b = one_of_part (part_read Source source) a b is_a is_b
 
 -- What the run gives
 

@@ -10,7 +10,8 @@ use Rattle.dm_table.specs.DiskList.{DescribesDisks, disk_checks}
 use Rattle.dm_stack.specs.Description.{Description}
 use Rattle.dm_stack.specs.Soundness.{IsSound, IsRefusedBy}
 use Rattle.dmremap.specs.declared.words.Format.{Format}
-use Rattle.dmremap.specs.declared.words.Format.TheVariants.{Table}
+use Rattle.dmremap.specs.declared.words.Format.TheVariants.{Lvm, Table}
+use Rattle.lvm_volume.specs.Metadata.{DescribesGroup, IsRefusedText}
 
 -- what a load gives
 pub data Load : Type 0 where
@@ -44,8 +45,32 @@ TablePartsGive (TextOf source) (TextOf list) load = TextsGive source list load
 TablePartsGive (TextOf source) Unread load = ⊥
 TablePartsGive Unread list load = ⊥
 
+-- ---- a text of LVM2 metadata
+
+-- the text describes a group of these devices and disks, of which nothing is checked yet
+abbrev pub DescribesGroupAs : List ℕ → Description → Type 0
+DescribesGroupAs source description = DescribesGroup source (description.devices, description.disks)
+
+-- the text gives a fault: one of its own, or one of what it describes
+abbrev pub GivesGroupFault : List ℕ → LoadFault → Type 0
+GivesGroupFault source fault =
+    IsRefusedText source fault
+    ⊎ ((description : Description) × DescribesGroupAs source description × IsRefusedBy description fault)
+
+-- what the text gives
+abbrev pub MetadataGives : List ℕ → Load → Type 0
+MetadataGives source (RefusedBy fault) = GivesGroupFault source fault
+MetadataGives source (SoundAs description) = DescribesGroupAs source description × IsSound description
+
+-- what the one part gives: it is refused before its text is looked at where it was not read
+abbrev pub MetadataPartGives : PartRead → Load → Type 0
+MetadataPartGives (Refuses fault) load = load ≡ RefusedBy fault
+MetadataPartGives (TextOf source) load = MetadataGives source load
+MetadataPartGives Unread load = ⊥
+
 -- ---- every format
 
 -- what the source and the disk list give that were delivered: an arm for each format, which takes the parts that it has
 abbrev pub PartsGive : Format → Delivery → Delivery → Load → Type 0
 PartsGive Table source disks load = TablePartsGive (part_read Source source) (part_read Disks disks) load
+PartsGive Lvm source disks load = MetadataPartGives (part_read Source source) load

@@ -15,7 +15,7 @@ use Rattle.clap.specs.declared.error.Error.{Error}
 use Rattle.clap.specs.declared.error.kind.ErrorKind.{ErrorKind}
 use Rattle.clap.specs.declared.error.kind.ErrorKind.TheVariants as kind
 use Rattle.dmremap.specs.declared.words.Format.{Format}
-use Rattle.dmremap.specs.declared.words.Format.TheVariants.{Table}
+use Rattle.dmremap.specs.declared.words.Format.TheVariants.{Lvm, Table}
 use Rattle.dmremap.specs.declared.words.Task.{Task}
 use Rattle.dmremap.specs.declared.words.Task.TheVariants.{Map}
 use Rattle.dmremap.specs.declared.words.Job.{Job}
@@ -26,11 +26,11 @@ use Rattle.dmremap.specs.declared.words.WordsFault.TheVariants.{Words, Disks, Me
 
 -- the words that FORMAT may be
 abbrev pub formats : List Text
-formats = codes "table" ∷ []
+formats = codes "lvm" ∷ codes "table" ∷ []
 
 -- the format that a word names
 abbrev pub format_named : Text → Option Format
-format_named word = if bytes_eq word (codes "table") then Some Table else None
+format_named word = if bytes_eq word (codes "lvm") then Some Lvm else (if bytes_eq word (codes "table") then Some Table else None)
 
 -- clap takes these words and no other for FORMAT
 pub record TakesFormats (parser : ValueParser) : Type 0 where
@@ -94,6 +94,7 @@ task_in line words = option_and_then (λ met. task_of met.0 met.1) (subcommand_o
 
 -- a list of disks goes with texts of this format
 abbrev pub has_disk_list : Format → Bool
+has_disk_list Lvm = false
 has_disk_list Table = true
 
 -- DISKS is there exactly where the format asks for it

@@ -14,12 +14,13 @@ ghost use Rattle.dm_table.specs.LoadFault.{first_fault};
 ghost use Rattle.dm_table.specs.PartInput.{IsReadOn, Refuses, TextOf, part_read};
 ghost use Rattle.dm_table.specs.TableText.{table_checks};
 ghost use Rattle.dmremap.specs.Inputs.{IsReadOnIf, delivery_if};
-ghost use Rattle.dmremap.specs.Load.{Describes, PartsGive, RefusedBy, SoundAs, TablePartsGive, TextsGive};
+ghost use Rattle.dmremap.specs.Load.{Describes, MetadataGives, MetadataPartGives, PartsGive, RefusedBy, SoundAs, TablePartsGive, TextsGive};
 ghost use Rattle.dmremap.specs.Words.{has_disk_list};
 
 use crate::words::Format;
 use dm_stack::Stack;
 use dm_table::{DeviceSpec, Disk, Input, LoadFault, Part, parse_disks, parse_table, read_part};
+use lvm_volume::parse_metadata;
 use std::alloc::Global;
 
 /// What the source and the disk list give.
@@ -42,6 +43,7 @@ pub(crate) fn load<S: Input, D: Input>(
     ensures disks { IsReadOnIf D.handed D.faults D.ends disks.old disks.new }
 {
     match format {
+        Format::Lvm => load_metadata(alloc, source),
         Format::Table => load_table(alloc, source, disks),
     }
 }
@@ -101,4 +103,27 @@ fn parse_texts(
     let devices = parse_table(alloc, source)?;
     let disks = parse_disks(alloc, list)?;
     Ok((devices, disks))
+}
+
+/// What a text of LVM2 metadata gives, which describes its disks too.
+fn load_metadata<S: Input>(alloc: Global, source: &mut S) -> Result<Stack, LoadFault>
+    ensures sound { IfOk result (λ stack. MetadataPartGives
+        (part_read Source (delivery S.handed S.faults S.ends source.old source.new)) (SoundAs stack)) }
+    ensures refused { IfErr result (λ fault. fault.kind ≢ Memory → MetadataPartGives
+        (part_read Source (delivery S.handed S.faults S.ends source.old source.new)) (RefusedBy fault)) }
+    ensures source { IsReadOn S.handed S.faults S.ends source.old source.new }
+{
+    let source = read_part(alloc, Part::Source, source)?;
+    load_group(alloc, &source)
+}
+
+/// What the group of a text of metadata gives.
+fn load_group(alloc: Global, source: &[u8]) -> Result<Stack, LoadFault>
+    ensures sound { IfOk result (λ stack. MetadataGives source.now (SoundAs stack)) }
+    ensures refused { IfErr result (λ fault. fault.kind ≢ Memory → MetadataGives source.now (RefusedBy fault)) }
+{
+    match parse_metadata(alloc, source) {
+        Ok((devices, disks)) => Stack::load(alloc, devices, disks),
+        Err(fault) => Err(fault),
+    }
 }

@@ -26,6 +26,8 @@ use thiserror::Error;
 /// The format of the text of FILE.
 #[derive(Clone, Copy, Debug)]
 pub enum Format {
+    /// The metadata of a volume group of LVM2, as vgcfgbackup(8) writes it.
+    Lvm,
     /// Lines `NAME: START LEN TYPE ARGS`, as the command `table` of dmsetup(8) prints them.
     Table,
 }
@@ -69,7 +71,7 @@ const MAP_ABOUT: &str = "Maps the requests of the standard input to pieces on th
 
 const FORMAT_HELP: &str = "The format of FILE";
 
-const FILE_HELP: &str = "The file of the devices and their tables";
+const FILE_HELP: &str = "The file of the devices and their tables, or of the metadata";
 
 const DISKS_HELP: &str = "The file of the disks and their lengths, for the format table";
 
@@ -78,6 +80,7 @@ Requests come from the standard input. Pieces go to the standard output, message
 error. START, LEN, CHUNK and OFFSET are whole sectors of 512 bytes.
 
 FORMAT is one of
+  lvm    the metadata of a volume group, as vgcfgbackup(8) writes it; DISKS is left out
   table  lines `NAME: START LEN TYPE ARGS`, as dmsetup(8) prints them
 
 Lines
@@ -104,18 +107,20 @@ Exit status
   5  the output could not be written
   6  out of memory
 
-Example
-  dmremap map table stack.table disks.txt < requests.txt";
+Examples
+  dmremap map table stack.table disks.txt < requests.txt
+  dmremap map lvm vg0.backup < requests.txt";
 
 const NOT_TEXT: &str = "invalid UTF-8 was detected in one or more arguments";
 
-const FORMATS: &[&str] = &["table"];
+const FORMATS: &[&str] = &["lvm", "table"];
 
 impl Format {
     fn named(word: &str) -> Option<Format>
         ensures { result ≡ format_named word.now }
     {
         match word {
+            "lvm" => Some(Format::Lvm),
             "table" => Some(Format::Table),
             _ => None,
         }
@@ -126,6 +131,7 @@ impl Format {
         ensures { result ≡ has_disk_list self }
     {
         match self {
+            Format::Lvm => false,
             Format::Table => true,
         }
     }

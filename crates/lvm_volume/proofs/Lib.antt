@@ -10,3 +10,4 @@ pub mod Sound
 pub mod GroupLemmas
 pub mod NamedLemmas
 pub mod MetadataLemmas
+pub mod OneGroup
