@@ -5,6 +5,8 @@
 #![tactic(auto)]
 
 mod check;
+#[cfg(test)]
+mod examples;
 mod extents;
 mod fault;
 mod field;
