@@ -5,8 +5,6 @@
 #![tactic(auto)]
 
 mod check;
-#[cfg(test)]
-mod examples;
 mod extents;
 mod fault;
 mod field;
