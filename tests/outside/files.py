@@ -11,6 +11,35 @@ DISKS = "sda 12\n"
 REQUESTS = "W a 2 3\n"
 ANSWER = "1 W sda 6 3\n"
 
+METADATA = """\
+contents = "Text Format Volume Group"
+version = 1
+vg0 {
+  extent_size = 8192
+  physical_volumes {
+    pv0 {
+      device = "/dev/sda1"
+      dev_size = 1050624
+      pe_start = 2048
+      pe_count = 128
+    }
+  }
+  logical_volumes {
+    lv0 {
+      status = ["READ", "WRITE", "VISIBLE"]
+      segment_count = 1
+      segment1 {
+        start_extent = 0
+        extent_count = 25
+        type = "striped"
+        stripe_count = 1
+        stripes = ["pv0", 0]
+      }
+    }
+  }
+}
+"""
+
 # A path that a careless shell script would take apart or read as something else.
 ODD_PATHS = ["two words", "  spaces around  ", "*", "$HOME", "a;b", "quote'and\"quote", "café",
              "new\nline", "-hyphen", "folder with spaces/a file"]
@@ -21,6 +50,7 @@ def check(tally, program):
     check_refused(tally, program)
     check_unreadable(tally, program)
     check_others(tally, program)
+    check_metadata(tally, program)
 
 
 def check_paths(tally, program):
@@ -88,6 +118,29 @@ def check_others(tally, program):
     for name, words, part in (("FILE", ["/dev/zero", disks], "source"), ("DISKS", [table, "/dev/zero"], "disks")):
         got = program.run(["map", "table", *words], given=REQUESTS)
         tally.same("an endless " + name, got, 1, "", "dmremap: %s: long\n" % part)
+
+
+def check_metadata(tally, program):
+    """Metadata is FILE alone: there is no DISKS."""
+    given = "R vg0-lv0 0 8\nW vg0-lv0 204792 16\nW vg0-lv0 204792 8\n"
+    output = "1 R /dev/sda1 2048 8\n2 error 16\n3 W /dev/sda1 206840 8\n"
+    small = METADATA.replace("pe_count = 128", "pe_count = 24")
+    most = METADATA + "#" * (1048576 - len(METADATA))
+    tally.same("metadata", program.run(["map", "lvm", program.file("vg0", METADATA)], given=given), 0, output)
+    tally.same("metadata as long as it may be", program.run(["map", "lvm", program.file("vg0", most)], given=given),
+               0, output)
+    rows = [
+        ("missing", "read"),
+        (program.room, "read"),
+        ("/dev/zero", "long"),
+        (program.file("longer", most + "#"), "long"),
+        (os.devnull, "field at 1"),
+        (program.file("small", small), "extents at 17"),
+        (program.file("bytes", METADATA.encode() + b"# \xff"), "text at 27"),
+    ]
+    for path, words in rows:
+        got = program.run(["map", "lvm", path], given=given)
+        tally.same("metadata of %s" % path, got, 1, "", "dmremap: source: %s\n" % words)
 
 
 def write_slowly(path, content):

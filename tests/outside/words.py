@@ -12,6 +12,8 @@ REFUSED = [
     ["map", "table"],
     ["nonsense"],
     ["map", "nonsense", "TABLE", "DISKS"],
+    ["map", "lvm"],
+    ["map", "LVM", "TABLE"],
     ["map", "table", "TABLE", "DISKS", "more"],
     ["map", "table", "TABLE", "DISKS", "--nonsense"],
     ["map", "table", "-", "DISKS"],
@@ -37,5 +39,8 @@ def check(tally, program):
     tally.same("no DISKS", program.run(real(["map", "table", "TABLE"])), 2, "", "dmremap: words: disks\n")
     tally.same("no DISKS, before FILE is opened", program.run(["map", "table", "missing"]), 2, "",
                "dmremap: words: disks\n")
+    for files in (["TABLE", "DISKS"], ["missing", "missing"]):
+        tally.same("DISKS beside metadata, %s" % files, program.run(real(["map", "lvm", *files])), 2, "",
+                   "dmremap: words: disks\n")
     tally.same("words after --", program.run(real(["map", "table", "--", "TABLE", "DISKS"]), given="R vol 0 1\n"),
                0, "1 R sda 50 1\n")

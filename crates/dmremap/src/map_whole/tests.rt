@@ -17,6 +17,7 @@ mod fault_texts;
 mod faults;
 mod intervals;
 mod large_parts;
+mod metadata;
 mod part_files;
 mod parts;
 mod printed;

@@ -21,6 +21,18 @@ fn map_table_gives_its_texts(rt: HostRuntime) {
 }
 
 #[test]
+fn map_lvm_gives_its_file(rt: HostRuntime) {
+    let words = ["dmremap", "map", "lvm", "vg0.backup"];
+    let job = read_words(rt.alloc(), words.as_slice()).expect(&rt, "a job");
+    let Task::Map {
+        format,
+        file,
+        disks,
+    } = job.task;
+    assert!(rt; matches!(format, Format::Lvm) && file == "vg0.backup" && disks.is_none());
+}
+
+#[test]
 fn a_hyphen_after_dashes_is_a_file(rt: HostRuntime) {
     let words = ["dmremap", "map", "table", "--", "-", "d"];
     let job = read_words(rt.alloc(), words.as_slice()).expect(&rt, "a job");
@@ -47,11 +59,16 @@ fn texts_of_faults(rt: HostRuntime) {
 }
 
 #[test]
-fn disks_are_asked_for(rt: HostRuntime) {
-    let words = ["dmremap", "map", "table", "a.table"];
-    let (status, text) = refusal(&rt, rt.alloc(), words.as_slice());
-    assert_eq!(rt; text.as_str(), "dmremap: words: disks");
-    assert_eq!(rt; status, 2);
+fn disks_go_with_tables_alone(rt: HostRuntime) {
+    let cases: [&[&str]; 2] = [
+        &["dmremap", "map", "table", "a.table"],
+        &["dmremap", "map", "lvm", "vg0.backup", "a.disks"],
+    ];
+    for words in cases {
+        let (status, text) = refusal(&rt, rt.alloc(), words);
+        assert_eq!(rt; text.as_str(), "dmremap: words: disks");
+        assert_eq!(rt; status, 2);
+    }
 }
 
 #[test]
@@ -61,8 +78,8 @@ fn other_words_are_refused(rt: HostRuntime) {
         (&["dmremap"], "Usage: dmremap <COMMAND>"),
         (&["dmremap", "map"], "<FORMAT> <FILE>"),
         (
-            &["dmremap", "map", "lvm", "a"],
-            "invalid value 'lvm' for '<FORMAT>'",
+            &["dmremap", "map", "lvm2", "a"],
+            "invalid value 'lvm2' for '<FORMAT>'",
         ),
         (
             &["dmremap", "check", "table", "a", "b"],
@@ -115,7 +132,11 @@ fn help_names_the_formats(rt: HostRuntime) {
     ];
     for words in cases {
         let (status, text) = refusal(&rt, rt.alloc(), words);
-        assert!(rt; text.contains("FORMAT is one of\n  table  lines"), "{text}");
+        assert!(rt;
+            text.contains("FORMAT is one of\n  lvm    the metadata")
+                && text.contains("\n  table  lines"),
+            "{text}"
+        );
         assert_eq!(rt; status, 0);
     }
 }
