@@ -10,7 +10,13 @@ PATH = re.compile(r"(?:crates|docs|examples|benches|tests)/[\w./*-]*[\w*]")
 # A file of definitions of a crate, and words that a document says are in files of a name.
 SPECS = re.compile(r"\b(\w+)/specs/([A-Z]\w*)")
 WORDS = re.compile(r"`([A-Z]\w*)` (?:\(((?:`\w+`(?:, )?)+)\)|(`\w+`))")
-RUNS = [("volume.table", "disks.txt", "requests.txt"), ("stack.table", "stack-disks.txt", "stack-requests.txt")]
+
+# The format, the files after it, and the requests of each example.
+RUNS = [
+    ("table", ["volume.table", "disks.txt"], "requests.txt"),
+    ("table", ["stack.table", "stack-disks.txt"], "stack-requests.txt"),
+    ("lvm", ["vg0.backup"], "vg0-requests.txt"),
+]
 
 
 def check(tally, program, top):
@@ -57,10 +63,10 @@ def text_of(path):
 
 def check_examples(tally, program, top):
     readme = text_of(os.path.join(top, "README.md"))
-    for names in RUNS:
-        table, disks, requests = (os.path.join(top, "examples", it) for it in names)
-        with open(requests, "rb") as given:
-            got = program.run(["map", "table", table, disks], stdin=given)
+    examples = os.path.join(top, "examples")
+    for form, files, requests in RUNS:
+        with open(os.path.join(examples, requests), "rb") as given:
+            got = program.run(["map", form] + [os.path.join(examples, it) for it in files], stdin=given)
         shown = "```\n%s```\n" % got.out.decode()
         is_shown = got.status == 0 and got.err == b"" and got.out != b"" and shown in readme
-        tally.holds("the example of " + names[0], is_shown, "the README has not its output, %r" % got.out)
+        tally.holds("the example of " + files[0], is_shown, "the README has not its output, %r" % got.out)
