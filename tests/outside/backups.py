@@ -7,7 +7,7 @@ BACKUP = '''\
 contents = "Text Format Volume Group"
 version = 1
 
-description = "vgcfgbackup -f /tmp/vg0 vg0"
+description = "vgcfgbackup -f vg0.backup vg0"
 
 creation_host = "storage"\t# Linux storage 6.1.0-18-amd64 #1 SMP
 creation_time = 1772533267\t# Tue Mar  3 10:21:07 2026
