@@ -61,11 +61,12 @@ pub(crate) struct Parts {
 impl VolumeGroup {
     /// The volume group that a text of metadata says, from the top of its tree.
     ///
-    /// The checks run over the whole text one after the other, and the first that finds anything gives the fault,
-    /// at its first line: `Field` for a field that is missing or not what it may be, `Limit` for an integer above
-    /// 2^50, also where extents are counted in sectors, `Name` for a physical volume whose disk gets no name,
-    /// `Unknown` for a stripe of no physical volume, `Extents` for physical volumes longer than their device and
-    /// segments that lie wrong or use an extent twice. `Memory` is returned only where a growth was refused.
+    /// The checks run over the whole text one after the other, and the first that finds anything gives the fault, at
+    /// the first place in its order, in which the segments of a volume go by their numbers: `Field` for a field that
+    /// is missing or not what it may be, `Limit` for an integer above 2^50, also where extents are counted in
+    /// sectors, `Name` for a physical volume whose disk gets no name, `Unknown` for a stripe of no physical volume,
+    /// `Extents` for physical volumes longer than their device and segments that lie wrong or use an extent twice.
+    /// `Memory` is returned only where a growth was refused.
     ///
     /// Cost: near-linear in the text. Source: vgcfgbackup(8), lvm.conf(5); the limits are this project's own.
     pub fn read(alloc: Global, top: &Section<'_>) -> Result<VolumeGroup, LoadFault>
