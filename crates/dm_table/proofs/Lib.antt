@@ -16,3 +16,4 @@ pub mod Growth
 pub mod RowFaultLemmas
 pub mod WriteLemmas
 pub mod CanonicalTable
+mod ConciseWorked
