@@ -12,7 +12,7 @@ use Rattle.dm_table.specs.LoadFault.{faults_from, first_fault, unless}
 use Rattle.dm_table.specs.RowFaults.{value_fault, row_fault, read_unless}
 use Rattle.dm_table.specs.LineBody.{is_body_row, is_body, has_body_names}
 use Rattle.dm_table.specs.LineReading.{body_in}
-use Rattle.dm_table.specs.ConciseText.{place_of, lacks, is_ro, entries, bodies_of, body_fields, is_label, is_known, is_named, is_device, has_values, has_names, devices_of, concise_checks}
+use Rattle.dm_table.specs.ConciseText.{place_of, is_ro, entries, body_fields, is_printed, is_label, is_known, is_named, is_device, has_values, has_names, devices_of, concise_checks}
 
 -- of two faults, the one whose check runs first
 abbrev pub worse : Option RowFault → Option RowFault → Option RowFault
@@ -36,9 +36,10 @@ line_in at text = body_in at (body_fields text)
 abbrev pub lines_in : Place → List (List ℕ) → List Line
 lines_in at texts = map (λ text. line_in at text) texts
 
--- what is wrong with a label
-abbrev pub fault_of_label : List ℕ → Option RowFault
-fault_of_label text = row_fault (lacks 10 text && is_label (entries text)) (value_fault (is_known (entries text)) (is_named (entries text)))
+-- what is wrong with entries, which stand on one line or do not
+abbrev pub fault_of_entries : Bool → List (List ℕ) → Option RowFault
+fault_of_entries on_a_line entries =
+    worse (row_fault (on_a_line && is_label entries) (value_fault (is_known entries) (is_named entries))) (fault_of_bodies (drop 4 entries))
 
 -- what is wrong with a device
 abbrev pub fault_of_device : List ℕ → Option RowFault
@@ -51,11 +52,11 @@ device_of n _ = record { name = []; ro = is_ro []; lines = []; at = place_of n }
 
 -- What is read
 
-abbrev pub body_reading : Place → List ℕ → Result Line RowFault
-body_reading at text = read_unless (fault_of_body text) (line_in at text)
-
 abbrev pub bodies_reading : Place → Option RowFault → List (List ℕ) → Result (List Line) RowFault
 bodies_reading at before texts = read_unless (worse before (fault_of_bodies texts)) (lines_in at texts)
+
+abbrev pub entries_reading : ℕ → Bool → List (List ℕ) → Result DeviceSpec RowFault
+entries_reading n on_a_line entries = read_unless (fault_of_entries on_a_line entries) (device_of n entries)
 
 abbrev pub device_reading : ℕ → List ℕ → Result DeviceSpec RowFault
 device_reading n text = read_unless (fault_of_device text) (device_of n (entries text))
@@ -74,13 +75,16 @@ abbrev pub devices_from : ℕ → List (List ℕ) → List DeviceSpec
 devices_from n [] = []
 devices_from n (text ∷ texts) = device_of n (entries text) ∷ devices_from (suc n) texts
 
--- the checks of devices after the first
-abbrev pub device_checks : List (List ℕ) → List (List LoadFault)
-device_checks devices =
-    faults_from Source kinds.Syntax (λ device. not (is_device device)) 1 devices
-    ∷ faults_from Source kinds.Field (λ device. not (has_values device)) 1 devices
-    ∷ faults_from Source kinds.Name (λ device. not (has_names device)) 1 devices
+-- the devices of parts, or the fault of their checks
+abbrev pub part_checks : List (List ℕ) → List (List LoadFault)
+part_checks parts =
+    faults_from Source kinds.Syntax (λ device. not (is_device device)) 1 parts
+    ∷ faults_from Source kinds.Field (λ device. not (has_values device)) 1 parts
+    ∷ faults_from Source kinds.Name (λ device. not (has_names device)) 1 parts
     ∷ []
+
+abbrev pub parts_reading : List (List ℕ) → Result (List DeviceSpec) LoadFault
+parts_reading parts = unless (first_fault (faults_from Source kinds.NotText (λ device. not (is_printed device)) 1 parts ∷ part_checks parts)) (devices_from 1 parts)
 
 -- the devices of a text, or the fault of its checks
 unfoldable pub read_concise : List ℕ → Result (List DeviceSpec) LoadFault

@@ -7,6 +7,8 @@
 #![tactic(auto)]
 
 mod canonical_text;
+mod concise_device;
+mod concise_text;
 mod counted;
 mod device_io;
 mod disk;
@@ -33,6 +35,7 @@ mod text_checks;
 mod writing;
 
 pub use canonical_text::{write_concise, write_table};
+pub use concise_text::parse_concise;
 pub use counted::Counted;
 pub use device_io::{InFault, Input, OutFault, Output};
 pub use disk::Disk;
