@@ -16,6 +16,7 @@ pub mod Growth
 pub mod RowFaultLemmas
 pub mod WriteLemmas
 pub mod CanonicalTable
+pub mod CanonicalConcise
 pub mod ConciseFaults
 pub mod ConciseRows
 pub mod ConciseDescribed
