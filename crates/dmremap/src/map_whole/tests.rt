@@ -12,6 +12,7 @@ use std::process::Abort;
 
 mod bad_requests;
 mod columns;
+mod concise;
 mod counted;
 mod fault_texts;
 mod faults;
