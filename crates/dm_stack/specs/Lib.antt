@@ -4,5 +4,7 @@ pub mod Graph
 pub mod Load
 pub mod Loaded
 pub mod NameIndex
+pub mod Places
 pub mod Soundness
 pub mod Span
+pub mod Store

@@ -223,7 +223,7 @@ impl Stack {
         requires device { device < length self.now.devices }
         requires sector { sector < device_len self.now device }
         ensures line { found_at self.now device sector ≡ Some result.now }
-        ensures holds { HoldsSoundly self.now result.now sector }
+        ensures holds { HoldsSoundly self.now device result.now sector }
         ensures all { (other : ℕ) → result.now.start ≤ other → other < result.now.start + result.now.len → found_at self.now device other ≡ Some result.now }
     {
         match line_of(self.lines(device), sector) {

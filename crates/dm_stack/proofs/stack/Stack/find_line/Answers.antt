@@ -26,7 +26,7 @@ returns-clause-holds c =
     sym (find-found st c.args.device c.args.sector) ∙ ap (find (has_sector c.args.sector)) (sym c.lines.ensures.lines) ∙ sym c.line_of.ensures ∙ ap option_copied c.in-Some.is in
     let is = f.is in
     let same : f.line ≡ c.in-Some.line.now = cc in
-    subst (λ (line : FoundLine). HoldsSoundly st line c.args.sector) same f.soundly
+    subst (λ (line : FoundLine). HoldsSoundly st c.args.device line c.args.sector) same f.soundly
 
 pub returns-clause-all : goal.returns-clause-all
 returns-clause-all c other from before =
