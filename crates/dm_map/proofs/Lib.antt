@@ -3,7 +3,9 @@ pub mod Numbers
 pub mod Ranges
 pub mod Readies
 pub mod Rows
+pub mod Stores
 pub mod Stripes
 pub mod There
+pub mod UnitRows
 pub mod WorkedRows
 pub mod WorkedSnapshots

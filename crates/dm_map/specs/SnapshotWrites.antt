@@ -99,8 +99,11 @@ ready stack snapshot device chunk state =
 
 -- And then the sector is written
 
+abbrev pub write_to : Home → BlockUnit
+write_to to = WriteOf to.disk to.sector
+
 abbrev pub write_numbered : Description → FoundSnapshot → Option ℕ → (sector : ℕ) → BlockUnit
-write_numbered stack snapshot (Some number) sector = WriteOf (home_kept stack snapshot number sector).disk (home_kept stack snapshot number sector).sector
+write_numbered stack snapshot (Some number) sector = write_to (home_kept stack snapshot number sector)
 write_numbered stack snapshot None sector = Fails
 
 abbrev pub unit_kept : Description → FoundSnapshot → (device : ℕ) → State → (sector : ℕ) → BlockUnit
