@@ -4,6 +4,7 @@ pub mod Ranges
 pub mod Readies
 pub mod Rows
 pub mod Stripes
+pub mod TableLemmas
 pub mod There
 pub mod WorkedRows
 pub mod WorkedSnapshots
