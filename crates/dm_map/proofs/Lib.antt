@@ -5,6 +5,7 @@ pub mod Readies
 pub mod Rows
 pub mod Stores
 pub mod Stripes
+pub mod TableLemmas
 pub mod There
 pub mod UnitRows
 pub mod WorkedRows

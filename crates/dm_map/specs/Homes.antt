@@ -5,7 +5,7 @@ use Rattle.dm_stack.specs.declared.id.Lower.{Lower}
 use Rattle.dm_stack.specs.declared.id.Lower.TheVariants.{Device, Disk}
 use Rattle.dm_stack.specs.Below.{IsError, below}
 use Rattle.dm_stack.specs.Description.{Description}
-use Rattle.dm_map.specs.Mapping.{by_below}
+use Rattle.dm_map.specs.Reads.{by_below}
 
 -- a sector of a disk
 pub record Home : Type 0 where

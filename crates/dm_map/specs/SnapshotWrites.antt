@@ -1,4 +1,4 @@
--- What a write of a snapshot's sector does (the kernel's admin guide, device-mapper/snapshot): its chunk is made ready, and then the sector is written. No line is a snapshot as yet.
+-- What a write of a snapshot's sector does (the kernel's admin guide, device-mapper/snapshot): its chunk is made ready, and then the sector is written.
 use Rattle.std.specs.List.{slice_set}
 use Rattle.std.specs.Prelude.{ℕ, zero, suc, ◌+◌, ◌-◌, ◌*◌, ◌/◌, Bool, true, false, ◌&&◌, ◌||◌, not, List, [], ◌∷◌, ◌++◌, length, Option, Some, None, is_some, min, nat_le, if◌then◌else◌}
 use Rattle.dm_stack.specs.declared.graph.TheConstants.{MOST_DEPTH}
@@ -6,7 +6,7 @@ use Rattle.dm_stack.specs.declared.id.Lower.{Lower}
 use Rattle.dm_stack.specs.declared.found.FoundSnapshot.{FoundSnapshot}
 use Rattle.dm_stack.specs.Description.{Description, device_len, lower_len}
 use Rattle.dm_map.specs.Homes.{Home, home}
-use Rattle.dm_map.specs.Mapping.{read_unit}
+use Rattle.dm_map.specs.Reads.{read_unit}
 use Rattle.dm_stack.specs.Places.{place}
 use Rattle.dm_map.specs.Snapshots.{number_in, kept_at}
 use Rattle.dm_map.specs.State.{Taken, State, taken_at}

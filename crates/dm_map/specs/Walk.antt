@@ -10,11 +10,12 @@ use Rattle.dm_stack.specs.Description.{Description, is_ro_at}
 use Rattle.dm_stack.specs.Below.{Below, below_stripes, below_target, column_of, AreStripes}
 use Rattle.dm_map.specs.declared.stripe.ChunkPlace.{ChunkPlace}
 use Rattle.dm_map.specs.Sink.{OfBeginning}
+use Rattle.dm_map.specs.Reads.{by_below, read_unit}
 use Rattle.dm_map.specs.Snapshots.{read_over}
 use Rattle.dm_map.specs.State.{State, taken_at}
 use Rattle.dm_map.specs.Steps.{Step, keep, steps}
 use Rattle.dm_map.specs.Units.{BlockUnit, ReadOf, WriteOf, Zeros, Drops, Fails}
-use Rattle.dm_map.specs.Mapping.{by_below, read_unit, write_step, write_target, sector_step}
+use Rattle.dm_map.specs.Mapping.{write_step, write_target, sector_step}
 
 -- a walk: its stack, and the state that it is in
 pub record Walking : Type 0 where
@@ -38,7 +39,7 @@ range_step stack op levels lower state sector len = steps (sector_step stack op 
 abbrev pub target_step : Description → Op → ℕ → (device : ℕ) → FoundTarget → State → (distance : ℕ) → Step
 target_step stack ops.Read levels device target state distance =
     keep (by_below (below_target (read_over (taken_at state device)) target distance) Zeros Fails (λ to sector. read_unit stack state levels to sector) ∷ []) state
-target_step stack ops.Write levels device target state distance = write_target state device target distance (λ to after sector. write_step stack levels to after sector)
+target_step stack ops.Write levels device target state distance = write_target stack state device target distance (λ to after sector. write_step stack levels to after sector)
 
 -- the step of len sectors of such a line
 abbrev pub line_step : Description → Op → ℕ → (device : ℕ) → FoundTarget → State → (distance len : ℕ) → Step

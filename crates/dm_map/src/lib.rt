@@ -13,6 +13,7 @@ mod plain_taken;
 mod sink;
 mod stretch;
 mod stripe;
+mod tables;
 mod taken;
 mod walk;
 mod walker;

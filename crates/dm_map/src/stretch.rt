@@ -5,17 +5,18 @@
 //! which need the origin's side and the store's side at once. A new target is an arm of
 //! `line_stretch`, as it is one of `map_line`.
 
-ghost use Rattle.std.specs.Prelude.{ℕ, ◌+◌, ◌≤◌, ◌^◌};
+ghost use Rattle.std.specs.Prelude.{◌≡◌, ◌+◌, ◌≤◌, ◌^◌, Some};
 ghost use Rattle.dm_table.specs.declared.request.Op.TheVariants.{Read};
-ghost use Rattle.dm_stack.specs.Below.{IsTargetSound};
+ghost use Rattle.dm_stack.specs.Below.{found_at, IsTargetSound};
 ghost use Rattle.dm_stack.specs.Description.{lower_len};
 ghost use Rattle.dm_map.specs.Stretch.{IsFirst};
 ghost use Rattle.dm_map.specs.Walk.{line_step, range_step, stripes_step, AreInStripes};
 
 use crate::stripe::place_at;
+use crate::taken::Taken;
 use crate::walk::{part_in, sector_at};
 use crate::walker::Walker;
-use dm_stack::{DiskId, FoundColumn, FoundLine, FoundTarget, Lower};
+use dm_stack::{DeviceId, DiskId, FoundColumn, FoundLine, FoundTarget, Lower};
 
 #[cfg(test)]
 mod tests;
@@ -43,8 +44,8 @@ pub(crate) struct Stretch {
 /// It has at least one sector and at most those of the range. It ends where a line or a chunk of
 /// stripes on its way down ends, at the latest.
 #[cycle(stretch)]
-pub(crate) fn first_stretch(
-    walker: &mut Walker<'_>,
+pub(crate) fn first_stretch<T: Taken>(
+    walker: &mut Walker<'_, T>,
     levels: u32,
     lower: Lower,
     sector: u64,
@@ -72,17 +73,18 @@ pub(crate) fn first_stretch(
             let line = walker.look(device, sector);
             let distance = sector - line.start;
             let part = part_in(line, distance, len);
-            line_stretch(walker, levels - 1, line, distance, part)
+            line_stretch(walker, levels - 1, device, line, distance, part)
         }
     }
 }
 
-/// The first stretch of sectors of a line at a distance from its start, through at most this many
-/// levels of devices below it. Which device has the line plays no part as yet.
+/// The first stretch of sectors of a line of this device at a distance from its start, through at
+/// most this many levels of devices below it.
 #[cycle(stretch)]
-fn line_stretch(
-    walker: &mut Walker<'_>,
+fn line_stretch<T: Taken>(
+    walker: &mut Walker<'_, T>,
     levels: u32,
+    device: DeviceId,
     line: &FoundLine,
     distance: u64,
     len: u64,
@@ -90,8 +92,9 @@ fn line_stretch(
     requires some { 1 ≤ len }
     requires inside { distance + len ≤ line.now.len }
     requires small { line.now.len ≤ 2 ^ 50 }
-    requires sound { IsTargetSound walker.old.stack line.now.len line.now.target }
-    ensures { (device : ℕ) → IsFirst walker.old walker.new (line_step walker.old.stack Read levels device line.now.target walker.old.state distance) len result }
+    requires found { found_at walker.old.stack device line.now.start ≡ Some line.now }
+    requires sound { IsTargetSound walker.old.stack device line.now.start line.now.len line.now.target }
+    ensures { IsFirst walker.old walker.new (line_step walker.old.stack Read levels device line.now.target walker.old.state distance) len result }
 {
     match &line.target {
         FoundTarget::Linear { to, offset } => {
@@ -110,13 +113,14 @@ fn line_stretch(
             ground: Ground::Fails,
             len,
         },
+        FoundTarget::Snapshot(_) => unreachable!(),
     }
 }
 
 /// The first stretch of sectors of a striped line at a distance from its start.
 #[cycle(stretch)]
-fn stripes_stretch(
-    walker: &mut Walker<'_>,
+fn stripes_stretch<T: Taken>(
+    walker: &mut Walker<'_, T>,
     levels: u32,
     chunk: u64,
     columns: &[FoundColumn],

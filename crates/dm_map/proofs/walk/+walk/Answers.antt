@@ -49,7 +49,7 @@ map_device-look-line-requires-clause-device g t c =
 
 -- what a line is asked for is the next part of the device's range
 line_part : (stack before : Description) (state : State) (op : Op) (levels fewer device sector at done n : ℕ) (line : FoundLine) → before ≡ stack → levels ≡ suc fewer → refuses stack op device ≡ false → at ≡ sector + done
-    → HoldsSoundly before line at → n ≤ line.len - (at - line.start) → ((other : ℕ) → line.start ≤ other → other < line.start + line.len → found_at before device other ≡ Some line)
+    → HoldsSoundly before device line at → n ≤ line.len - (at - line.start) → ((other : ℕ) → line.start ≤ other → other < line.start + line.len → found_at before device other ≡ Some line)
     → line_step before op fewer device line.target state (at - line.start) n ≡ range_step stack op levels (Device device) state (sector + done) n
 line_part stack before state op levels fewer device sector at done n line before_is more passes place holds most all =
     let each : (i : ℕ) → i < n → found_at stack device (at + i) ≡ Some line = λ i within.
@@ -66,7 +66,7 @@ map_device-returns-in_err-map_line g t c =
     let looked : (look : Walking → Step) → look c.look-line.new.self ≡ look l.walker = λ look. ap look c.look-line.ensures.same in
     let step : line_step c.look-line.new.self.stack a.op (a.levels - 1) a.device line.target c.look-line.new.self.state (l.at - line.start) n ≡ range_step w.stack a.op a.levels (Device a.device) l.walker.state (a.sector + done) n =
     looked (λ v. line_step v.stack a.op (a.levels - 1) a.device line.target v.state (l.at - line.start) n) ∙ part in
-    let walk = c.in_err-map_line.ensures a.device in
+    let walk = c.in_err-map_line.ensures in
     walked_cut g.S.Sink.took g.S.Sink.left g.S.Sink.stack g.S.Sink.room g.S.Sink.faults c.from_residual.result a.sink.now c.map_line.new.sink w c.map_line.new.walker (range_step w.stack a.op a.levels (Device a.device) w.state a.sector a.len) a.len c.from_residual.ensures.0
     (left_on g.S.Sink.took g.S.Sink.left g.met.S.Sink.took_then_left a.sink.now l.sink c.map_line.new.sink (sector_step w.stack a.op a.levels (Device a.device)) w.state l.walker.state a.sector done n a.len
     (omega (arith, c.part_in-part.ensures, l.invariant.within)) l.invariant.state l.invariant.taken (rw step at walk.left))
@@ -81,7 +81,7 @@ map_device-loop-left-preserved g t c =
     let looked : (look : Walking → Step) → look c.look-line.new.self ≡ look l.walker = λ look. ap look c.look-line.ensures.same in
     let step : line_step c.look-line.new.self.stack a.op (a.levels - 1) a.device line.target c.look-line.new.self.state (l.at - line.start) n ≡ range_step w.stack a.op a.levels (Device a.device) l.walker.state (a.sector + done) n =
     looked (λ v. line_step v.stack a.op (a.levels - 1) a.device line.target v.state (l.at - line.start) n) ∙ part in
-    let walk = c.in_ok-map_line.ensures a.device in
+    let walk = c.in_ok-map_line.ensures in
     let on : done + n ≡ a.len - (l.left - n) = omega (arith, c.part_in-part.ensures, l.invariant.within) in
     let row = sector_step w.stack a.op a.levels (Device a.device) in
     let taken = took_on g.S.Sink.took g.met.S.Sink.took_then_took a.sink.now l.sink c.map_line.new.sink row w.state l.walker.state a.sector done n l.invariant.state
@@ -114,19 +114,19 @@ errors_step : (w : Walking) (op : Op) (levels device distance len : ℕ) (target
 errors_step w op levels device distance len target is = sym (line_errors w.stack op levels device distance len w.state) ∙ ap (λ t. line_step w.stack op levels device t w.state distance len) (sym is)
 
 pub map_line-returns-in-Linear : goal.map_line-returns-in-Linear
-map_line-returns-in-Linear g t c device =
-    let a = c.args in let walk = c.map_range in
+map_line-returns-in-Linear g t c =
+    let a = c.args in let device = a.device in let walk = c.map_range in
     walked_as g.S.Sink.took g.S.Sink.left g.S.Sink.stack g.S.Sink.room g.S.Sink.faults walk.result a.sink.now walk.new.sink a.walker.now walk.new.walker _ _ a.len (linear_step a.walker.now a.op a.levels device a.distance a.len a.line.now.target c.in-Linear.to c.in-Linear.offset c.sector_at-sector.result c.in-Linear.is c.sector_at-sector.ensures) walk.ensures
 
 pub map_line-returns-in-Zero : goal.map_line-returns-in-Zero
-map_line-returns-in-Zero g t c device =
-    let a = c.args in let p = c.piece in
+map_line-returns-in-Zero g t c =
+    let a = c.args in let device = a.device in let p = c.piece in
     walked_piece g.S.Sink.took g.S.Sink.left g.S.Sink.stack g.S.Sink.room g.S.Sink.faults p.result a.sink.now p.new.self a.walker.now _ _ a.len a.len (zeros_step a.walker.now a.op a.levels device a.distance a.len a.line.now.target _ c.in-Zero.is c.zero_piece.ensures.units) (omega arith)
     p.ensures.took p.ensures.left p.ensures.faults p.ensures.stack (rw c.zero_piece.ensures.diskless at p.ensures.room)
 
 pub map_line-returns-in-Error : goal.map_line-returns-in-Error
-map_line-returns-in-Error g t c device =
-    let a = c.args in let p = c.piece-in-Error in
+map_line-returns-in-Error g t c =
+    let a = c.args in let device = a.device in let p = c.piece-in-Error in
     walked_piece g.S.Sink.took g.S.Sink.left g.S.Sink.stack g.S.Sink.room g.S.Sink.faults p.result a.sink.now p.new.self a.walker.now _ _ a.len a.len (errors_step a.walker.now a.op a.levels device a.distance a.len a.line.now.target c.in-Error.is) (omega arith)
     p.ensures.took p.ensures.left p.ensures.faults p.ensures.stack p.ensures.room
 
