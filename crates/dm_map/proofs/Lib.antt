@@ -1,3 +1,4 @@
+pub mod ChunkCopies
 pub mod LevelLemmas
 pub mod Numbers
 pub mod Ranges

@@ -10,21 +10,27 @@ use Rattle.dm_table.specs.declared.table.Target.TheVariants as targets
 use Rattle.dm_stack.specs.declared.found.FoundLine.{FoundLine}
 use Rattle.dm_stack.specs.declared.found.FoundColumn.{FoundColumn}
 use Rattle.dm_stack.specs.declared.found.FoundSnapshot.{FoundSnapshot}
+use Rattle.dm_stack.specs.declared.graph.TheConstants.{MOST_DEPTH}
 use Rattle.dm_stack.specs.declared.id.Lower.{Lower}
 use Rattle.dm_stack.specs.declared.id.Lower.TheVariants.{Device, Disk}
 use Rattle.dm_stack.specs.Below.{Below, Lies, IsError, below, below_line, below_target, below_column, column_of, in_column, found_at, found_columns, found_line, found_target, holds, line_of, AreStripes, HoldsSoundly, IsTargetSound}
 use Rattle.dm_stack.specs.Description.{Description, device_len, is_ro_at, lines_at, lower_len, lower_of}
 use Rattle.dm_stack.specs.Soundness.{IsSound}
 use Rattle.dm_stack.specs.Span.{column_span, spans, target_spans}
-use Rattle.dm_stack.specs.Store.{is_plain, is_store_to}
+use Rattle.dm_stack.specs.Store.{is_plain, is_store_to, IsStore}
 use Rattle.dm_stack.proofs.SoundLines.{found, sector_found, there}
-use Rattle.dm_map.specs.Homes.{Home, home_to, nowhere}
-use Rattle.dm_map.specs.Mapping.{by_below, read_unit}
+use Rattle.dm_map.specs.declared.stretch.Ground.{Ground}
+use Rattle.dm_map.specs.declared.stretch.Ground.TheVariants as grounds
+use Rattle.dm_map.specs.Homes.{Home, home, home_to, nowhere}
+use Rattle.dm_map.specs.Reads.{by_below, read_unit}
+use Rattle.dm_map.specs.SnapshotWrites.{read, row}
 use Rattle.dm_map.specs.Snapshots.{read_over}
 use Rattle.dm_map.specs.State.{State, taken_at}
-use Rattle.dm_map.specs.Units.{BlockUnit, ReadOf, Zeros, Fails}
+use Rattle.dm_map.specs.Stretch.{ground_unit}
+use Rattle.dm_map.specs.Units.{BlockUnit, ReadOf, Zeros, Fails, units_in}
 use Rattle.dm_map.proofs.Stripes.{at_place, in_column_room}
 use Rattle.dm_map.proofs.There.{device_there}
+use Rattle.dm_map.proofs.UnitRows.{row_same}
 
 -- What lies below a sector of a store
 
@@ -119,3 +125,20 @@ store_read stack state (suc levels) (Device device) sector sound store inside =
     ap (λ (low : Below). by_below low Zeros Fails (λ to s. read_unit stack state levels to s)) (b.is (read_over (taken_at state device)))
     ∙ store_read stack state levels b.to b.at sound b.store b.inside
     ∙ sym (ap (λ (low : Below). read_home (by_below low nowhere nowhere (λ to s. home_to stack levels to s))) (b.is (λ snapshot place. IsError)))
+
+-- so the reads of sectors in a row are those of their homes
+pub store_row : (stack : Description) (state : State) (store : Lower) (sector n : ℕ) → IsSound stack → IsStore stack store → sector + n ≤ lower_len stack store
+    → row (λ s. ReadOf (home stack store s).disk (home stack store s).sector) sector n ≡ row (read stack state store) sector n
+store_row stack state store sector n sound is inside =
+    row_same (λ s. ReadOf (home stack store s).disk (home stack store s).sector) (read stack state store) sector sector n
+    (λ i within. sym (store_read stack state MOST_DEPTH store (sector + i) sound is (omega (arith, inside, within))))
+
+-- a row of reads of a store goes on from a sector of a disk
+pub not_on_disk : (stack : Description) (state : State) (store : Lower) (sector n : ℕ) (ground : Ground) → IsSound stack → IsStore stack store → sector + n ≤ lower_len stack store → 1 ≤ n → row (read stack state store) sector n ≡ units_in (ground_unit ground) n
+    → ((disk start : ℕ) → ground ≡ grounds.Disk disk start → ⊥) → ⊥
+not_on_disk stack state store sector zero ground sound is inside some reads other = omega (arith, some)
+not_on_disk stack state store sector (suc n) (grounds.Disk disk start) sound is inside some reads other = other disk start refl
+not_on_disk stack state store sector (suc n) grounds.Zeros sound is inside some reads other =
+    let at = store_read stack state MOST_DEPTH store sector sound is (omega (arith, inside)) in absurd cc
+not_on_disk stack state store sector (suc n) grounds.Fails sound is inside some reads other =
+    let at = store_read stack state MOST_DEPTH store sector sound is (omega (arith, inside)) in absurd cc
