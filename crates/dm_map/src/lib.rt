@@ -10,6 +10,7 @@ mod piece;
 mod piece_list;
 mod places;
 mod plain_taken;
+mod ready;
 mod sink;
 mod stretch;
 mod stripe;

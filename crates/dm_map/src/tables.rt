@@ -15,7 +15,10 @@ use std::alloc::{AllocError, Global};
 /// # Errors
 ///
 /// `AllocError` where it is out of memory.
-pub(crate) fn empty_tables<T: Taken>(alloc: Global, looker: &Looker<'_>) -> Result<Vec<T>, AllocError>
+pub(crate) fn empty_tables<T: Taken>(
+    alloc: Global,
+    looker: &Looker<'_>,
+) -> Result<Vec<T>, AllocError>
     ensures tables { IfOk result (λ tables. AreTables T.places looker.now.stack tables.items) }
     ensures state { IfOk result (λ tables. state_of T.chunks T.valid tables.items ≡ start_state looker.now.stack) }
 {

@@ -7,6 +7,7 @@
 ghost use Rattle.std.specs.Prelude.{◌≡◌, ℕ, ◌+◌, ◌<◌, ◌≤◌, ◌^◌, true, not, None, Some, IfSome, length};
 ghost use Rattle.dm_stack.specs.Below.{HoldsSoundly, found_at};
 ghost use Rattle.dm_stack.specs.Description.{device_len, disk_len, is_ro_at};
+ghost use Rattle.dm_stack.specs.Soundness.{IsSound};
 ghost use Rattle.dm_map.specs.SnapshotWrites.{lost, put, with_chunk};
 ghost use Rattle.dm_map.specs.Snapshots.{number_in};
 ghost use Rattle.dm_map.specs.State.{taken_at};
@@ -86,6 +87,14 @@ impl<'s, T: Taken> Walker<'s, T> {
         ensures { result ≡ is_ro_at self.now.stack device }
     {
         self.looker.is_ro(device)
+    }
+
+    /// A walker's stack is sound. It does nothing: its contract is what is asked of it.
+    #[inline(always)]
+    pub(crate) fn is_sound(&self)
+        ensures { IsSound self.now.stack }
+    {
+        self.looker.depth();
     }
 
     /// Whether a snapshot is still valid.

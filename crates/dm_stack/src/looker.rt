@@ -7,6 +7,7 @@ ghost use Rattle.std.specs.Prelude.{◌≡◌, ℕ, ◌+◌, ◌<◌, ◌≤◌,
 ghost use Rattle.dm_stack.specs.Below.{HoldsSoundly, found_at};
 ghost use Rattle.dm_stack.specs.Description.{device_len, disk_len, is_ro_at};
 ghost use Rattle.dm_stack.specs.Loaded.{next_count, stack_depth};
+ghost use Rattle.dm_stack.specs.Soundness.{IsSound};
 
 use crate::found::Found;
 use crate::id::{DeviceId, DiskId};
@@ -100,7 +101,9 @@ impl<'s> Looker<'s> {
 
     /// The greatest depth of a device of the stack, 0 without devices.
     pub fn depth(&self) -> u32
-        ensures { result ≡ stack_depth self.now.stack }
+        ensures depth { result ≡ stack_depth self.now.stack }
+        // A stack is sound by its type.
+        ensures sound { IsSound self.now.stack }
     {
         self.stack.depth()
     }

@@ -65,7 +65,9 @@ fn a_stretch_is_the_first_piece_of_a_read(rt: HostRuntime) {
         let mut walker = Walker::new(looker, tables);
         let stretch = first_stretch(&mut walker, MOST_DEPTH, Lower::Device(device), start, len);
         assert_eq!(&rt; stretch.len, want, "{line}");
-        let mut mapper: Mapper<'_, PlainTaken> = Mapper::new(alloc, stack.looker()).expect(&rt, "a mapper");
+        let mut mapper: Mapper<'_, PlainTaken> = Mapper::new(alloc, stack.looker()).expect(
+            &rt, "a mapper",
+        );
         let mut list = PieceList::new(alloc, &stack);
         mapper
             .request(&request, device, &mut list)
