@@ -9,6 +9,7 @@ pub mod NameLemmas
 pub mod OneFault
 pub mod Passes
 pub mod PathLemmas
+pub mod PlaceLemmas
 pub mod PlacedLemmas
 pub mod RoundLemmas
 pub mod SameLine

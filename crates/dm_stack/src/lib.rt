@@ -21,6 +21,7 @@ mod ranges;
 mod resolve;
 mod span;
 mod stack;
+mod store_places;
 mod stripes;
 
 pub use found::{Found, FoundColumn, FoundColumns, FoundLine, FoundSnapshot, FoundTarget, Listed};
@@ -28,3 +29,4 @@ pub use graph::MOST_DEPTH;
 pub use id::{DeviceId, DiskId, Lower};
 pub use looker::Looker;
 pub use stack::Stack;
+pub use store_places::places;
