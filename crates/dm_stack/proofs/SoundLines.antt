@@ -121,7 +121,7 @@ stripes_sound stack len chunk columns good inside =
     }
 
 target_sound : (stack : Description) (id : ℕ) (line : Line) (target : Target) → has_bad_stripes line target ≡ false → list_any (is_past stack) (target_spans line.len target) ≡ false → IsTargetSound stack id line.start line.len (found_target stack target)
-target_sound stack id line (targets.Linear to offset) good inside = ltb-false _ _ (or_parts (is_past stack (record { to = to; offset = offset; len = line.len; read_only = false })) false inside).0
+target_sound stack id line (targets.Linear to offset) good inside = ltb-false _ _ (or_parts (is_past stack (record { to = to; offset = offset; len = Some line.len; read_only = false })) false inside).0
 target_sound stack id line (targets.Striped chunk columns) good inside = stripes_sound stack line.len chunk columns good inside
 target_sound stack id line targets.Zero good inside = tt
 target_sound stack id line targets.Error good inside = tt

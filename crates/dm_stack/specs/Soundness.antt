@@ -1,5 +1,5 @@
 -- The checks of a load, over the devices and the disks that it is handed.
-use Rattle.std.specs.Prelude.{◌≡◌, ℕ, suc, ◌+◌, ◌/◌, ◌%◌, ◌≤◌, ◌<◌, Bool, true, false, not, ◌||◌, ◌==◌, List, [], ◌∷◌, ◌++◌, Some, None, drop, filter, length, map, is_none, nat_lt, if◌then◌else◌}
+use Rattle.std.specs.Prelude.{◌≡◌, ℕ, suc, ◌+◌, ◌/◌, ◌%◌, ◌≤◌, ◌<◌, Bool, true, false, not, ◌||◌, ◌==◌, List, [], ◌∷◌, ◌++◌, Option, Some, None, drop, filter, length, map, is_none, nat_lt, if◌then◌else◌}
 use Rattle.std.specs.List.{All, flat_map, list_any}
 use Rattle.dm_table.specs.declared.table.DevRef.{DevRef}
 use Rattle.dm_table.specs.declared.table.DevRef.TheVariants as refs
@@ -141,10 +141,15 @@ has_bad_stripes line _ = false
 abbrev pub stripe : Description → List LoadFault
 stripe stack = line_faults Stripe (λ line. has_bad_stripes line line.target) stack
 
--- a line that passes the end of what it names
-abbrev pub is_past : Description → Span → Bool
-is_past stack span = nat_lt (lower_len stack (lower_of stack span.to)) (span.offset + span.len)
+-- a range that passes an end; what is named whole does not
+abbrev pub passes : (end offset : ℕ) → (len : Option ℕ) → Bool
+passes end offset (Some len) = nat_lt end (offset + len)
+passes end offset None = false
 
+abbrev pub is_past : Description → Span → Bool
+is_past stack span = passes (lower_len stack (lower_of stack span.to)) span.offset span.len
+
+-- a line that passes the end of what it names
 abbrev pub passes_end : Description → Line → Bool
 passes_end stack line = list_any (is_past stack) (spans line)
 

@@ -15,7 +15,8 @@ use std::marker::Model;
 pub(crate) struct Span<'a> {
     pub to: &'a DevRef,
     pub offset: u64,
-    pub len: u64,
+    /// How many sectors; all of what is named where it is not said.
+    pub len: Option<u64>,
     /// Whether the line only reads these sectors.
     pub read_only: bool,
 }
@@ -68,7 +69,7 @@ fn span_at(line: &Line, index: usize) -> Option<Span<'_>>
         Target::Linear { to, offset } if index == 0 => Some(Span {
             to,
             offset: *offset,
-            len: line.len,
+            len: Some(line.len),
             read_only: false,
         }),
         Target::Striped { columns, .. } => column_span(line.len, columns.as_slice(), index),
@@ -85,7 +86,7 @@ fn column_span(len: u64, columns: &[Column], index: usize) -> Option<Span<'_>>
     Some(Span {
         to: &column.to,
         offset: column.offset,
-        len: len / columns.len() as u64,
+        len: Some(len / columns.len() as u64),
         read_only: false,
     })
 }
