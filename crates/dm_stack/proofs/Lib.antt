@@ -16,4 +16,5 @@ pub mod SameLine
 pub mod SearchLemmas
 pub mod SoundLines
 pub mod SpanLemmas
+pub mod StoreLemmas
 pub mod WithBefore

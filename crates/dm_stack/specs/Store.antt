@@ -1,12 +1,14 @@
 -- What the store of a snapshot may be: a disk, or what linear and striped lines of writable devices make of disks.
-use Rattle.std.specs.Prelude.{◌≡◌, ℕ, zero, suc, ◌&&◌, Bool, true, false, not}
-use Rattle.std.specs.List.{list_all}
+use Rattle.std.specs.Prelude.{◌≡◌, ℕ, zero, suc, ◌&&◌, Bool, true, false, not, List, [], ◌∷◌, ◌++◌, length, map, if◌then◌else◌}
+use Rattle.std.specs.List.{list_all, range_with_len}
+use Rattle.dm_table.specs.declared.table.Line.{Line}
 use Rattle.dm_table.specs.declared.table.Target.{Target}
 use Rattle.dm_table.specs.declared.table.Target.TheVariants as targets
 use Rattle.dm_stack.specs.declared.graph.TheConstants.{MOST_DEPTH}
 use Rattle.dm_stack.specs.declared.id.Lower.{Lower}
 use Rattle.dm_stack.specs.declared.id.Lower.TheVariants.{Device, Disk}
-use Rattle.dm_stack.specs.Description.{Description, is_ro_at, lines_at, lower_of}
+use Rattle.dm_stack.specs.Description.{Description, is_ro_at, lines_at, links, lower_of}
+use Rattle.dm_stack.specs.Graph.{links_of}
 use Rattle.dm_stack.specs.Span.{spans}
 
 -- each sector of the line is one of what it names
@@ -26,3 +28,19 @@ is_store_to stack (suc levels) (Device device) =
 -- no stack has more levels
 abbrev pub IsStore : Description → Lower → Type 0
 IsStore stack lower = is_store_to stack MOST_DEPTH lower ≡ true
+
+-- Stores by their depths: a device that no store may be made of is let name itself, so that the depth of it and of all above it is too great
+
+-- a writable device of linear and striped lines
+abbrev pub may_store : (ro : Bool) → List Line → Bool
+may_store ro lines = not ro && list_all (λ line. is_plain line.target) lines
+
+-- what a device names, and itself where no store may be made of it
+abbrev pub store_links_of : (may : Bool) → (device : ℕ) → List ℕ → List ℕ
+store_links_of may device links = links ++ (if may then [] else device ∷ [])
+
+abbrev pub store_links_at : Description → ℕ → List ℕ
+store_links_at stack device = store_links_of (may_store (is_ro_at stack device) (lines_at stack device)) device (links_of (links stack) device)
+
+abbrev pub store_links : Description → List (List ℕ)
+store_links stack = map (store_links_at stack) (range_with_len 0 (length stack.devices))

@@ -22,6 +22,7 @@ mod resolve;
 mod span;
 mod stack;
 mod store_places;
+mod stores;
 mod stripes;
 
 pub use found::{Found, FoundColumn, FoundColumns, FoundLine, FoundSnapshot, FoundTarget, Listed};

@@ -1,0 +1,166 @@
+-- A device is a store exactly where its depth is within the limit, once those that no store may be made of name themselves.
+use Rattle.std.proofs.Common.{◌≡◌, ℕ, zero, suc, ◌+◌, ◌<◌, ◌≤◌, Bool, true, false, cond, not, nat_le, List, [], ◌∷◌, ◌++◌, arith, inl, inr, ◌⊎◌, refl, sym, ap, subst, ◌∙◌, get_or, length, map, max}
+use Rattle.std.specs.Prelude.{◌&&◌, slice_get}
+use Rattle.std.specs.List.{Contains, flat_map, list_all, range_with_len}
+use Rattle.std.proofs.lemmas.Bool.{cases_lt}
+use Rattle.std.proofs.lemmas.List.{append-nil, get_or_past, length-map}
+use Rattle.std.proofs.lemmas.List.Elements.{Contains-append_cases}
+use Rattle.std.proofs.lemmas.Option.{slice_get_past}
+use Rattle.std.proofs.lemmas.List.Folds.{list_all-append}
+use Rattle.std.proofs.lemmas.List.FromFn.{get_or-map-range_with_len, length-map-range_with_len}
+use Rattle.dm_table.specs.declared.table.DevRef.{DevRef}
+use Rattle.dm_table.specs.declared.table.DevRef.TheVariants as refs
+use Rattle.dm_table.specs.declared.table.DeviceSpec.{DeviceSpec}
+use Rattle.dm_table.specs.declared.table.Line.{Line}
+use Rattle.dm_stack.specs.declared.id.Lower.TheVariants.{Device, Disk}
+use Rattle.dm_stack.specs.Description.{Description, device_links, is_ro_at, line_links, lines_at, lines_or_none, links, lower_of, ref_link}
+use Rattle.dm_stack.specs.Graph.{IsClosed, depth_to, greatest, links_of}
+use Rattle.dm_stack.specs.Span.{Span, spans}
+use Rattle.dm_stack.specs.Store.{is_plain, is_store_to, may_store, store_links, store_links_at, store_links_of}
+
+-- Tests of all elements
+
+all_flat : {X Y : Type 0} (p : Y → Bool) (f : X → List Y) (xs : List X) → list_all p (flat_map f xs) ≡ list_all (λ x. list_all p (f x)) xs
+all_flat p f [] = refl
+all_flat p f (x ∷ xs) = list_all-append p (f x) (flat_map f xs) ∙ ap (λ (rest : Bool). list_all p (f x) && rest) (all_flat p f xs)
+
+both_swapped : (a b c d : Bool) → ((a && b) && (c && d)) ≡ ((a && c) && (b && d))
+both_swapped true true c d = refl
+both_swapped true false true d = refl
+both_swapped true false false d = refl
+both_swapped false b c d = refl
+
+all_both : {X : Type 0} (p q : X → Bool) (xs : List X) → list_all (λ x. p x && q x) xs ≡ (list_all p xs && list_all q xs)
+all_both p q [] = refl
+all_both p q (x ∷ xs) = ap (λ (rest : Bool). (p x && q x) && rest) (all_both p q xs) ∙ both_swapped (p x) (q x) (list_all p xs) (list_all q xs)
+
+all_same : {X : Type 0} (p q : X → Bool) (xs : List X) → ((x : X) → p x ≡ q x) → list_all p xs ≡ list_all q xs
+all_same p q [] same = refl
+all_same p q (x ∷ xs) same = let here = same x in let rest = all_same p q xs same in rw (here, rest) refl
+
+-- What a device names is a store, by its links
+
+and-true : (b : Bool) → (b && true) ≡ b
+and-true true = refl
+and-true false = refl
+
+-- a device is a store through these levels
+abbrev pub is_store_device : Description → ℕ → ℕ → Bool
+is_store_device stack levels device = is_store_to stack levels (Device device)
+
+ref_store : (stack : Description) (levels : ℕ) (to : DevRef) → list_all (is_store_device stack levels) (ref_link stack to) ≡ is_store_to stack levels (lower_of stack to)
+unfolding is_store_to
+ref_store stack levels (refs.Device name) = and-true _
+ref_store stack levels (refs.Disk name) = refl
+
+line_store : (stack : Description) (levels : ℕ) (line : Line) → list_all (is_store_device stack levels) (line_links stack line) ≡ list_all (λ span. is_store_to stack levels (lower_of stack span.to)) (spans line)
+line_store stack levels line =
+    all_flat (is_store_device stack levels) (λ (span : Span). ref_link stack span.to) (spans line)
+    ∙ all_same (λ (span : Span). list_all (is_store_device stack levels) (ref_link stack span.to)) (λ span. is_store_to stack levels (lower_of stack span.to)) (spans line) (λ span. ref_store stack levels span.to)
+
+named_lines : (stack : Description) (devices : List DeviceSpec) (device : ℕ) → get_or (map (device_links stack) devices) device [] ≡ flat_map (line_links stack) (lines_or_none (slice_get devices device))
+named_lines stack [] device = refl
+named_lines stack (first ∷ devices) zero = refl
+named_lines stack (first ∷ devices) (suc device) = named_lines stack devices device
+
+and_assoc : (a b c : Bool) → (a && (b && c)) ≡ ((a && b) && c)
+and_assoc true b c = refl
+and_assoc false b c = refl
+
+store_step : (stack : Description) (levels device : ℕ) → is_store_device stack (suc levels) device ≡ (may_store (is_ro_at stack device) (lines_at stack device) && list_all (is_store_device stack levels) (links_of (links stack) device))
+unfolding is_store_to
+store_step stack levels device =
+    let lines = lines_at stack device in
+    let named = named_lines stack stack.devices device in
+    ap (λ (all : Bool). not (is_ro_at stack device) && all)
+    (all_both (λ line. is_plain line.target) (λ line. list_all (λ span. is_store_to stack levels (lower_of stack span.to)) (spans line)) lines
+    ∙ ap (λ (all : Bool). list_all (λ line. is_plain line.target) lines && all)
+    (all_same (λ line. list_all (λ span. is_store_to stack levels (lower_of stack span.to)) (spans line)) (λ line. list_all (is_store_device stack levels) (line_links stack line)) lines (λ line. sym (line_store stack levels line))
+    ∙ sym (all_flat (is_store_device stack levels) (line_links stack) lines) ∙ ap (λ (ids : List ℕ). list_all (is_store_device stack levels) ids) (sym named)))
+    ∙ and_assoc (not (is_ro_at stack device)) (list_all (λ line. is_plain line.target) lines) _
+
+-- Depths within a limit
+
+max_within : (a b n : ℕ) → nat_le (max a b) n ≡ (nat_le a n && nat_le b n)
+max_within a b n = grind arith
+
+greatest_within : (f : ℕ → ℕ) (xs : List ℕ) (n : ℕ) → nat_le (greatest (map f xs)) n ≡ list_all (λ x. nat_le (f x) n) xs
+greatest_within f [] n = refl
+greatest_within f (x ∷ xs) n = max_within (f x) (greatest (map f xs)) n ∙ ap (λ (rest : Bool). nat_le (f x) n && rest) (greatest_within f xs n)
+
+depth_within : (g : List (List ℕ)) (n device : ℕ) → nat_le (depth_to g (suc (suc n)) device) (suc n) ≡ list_all (λ e. nat_le (depth_to g (suc n) e) n) (links_of g device)
+unfolding depth_to
+depth_within g n device = greatest_within (λ e. depth_to g (suc n) e) (links_of g device) n
+
+depth_first : (g : List (List ℕ)) (device : ℕ) → nat_le (depth_to g 1 device) 0 ≡ false
+unfolding depth_to
+depth_first g device = refl
+
+-- The links of stores
+
+-- a device that names itself where it may not be in a store
+marked : (p : ℕ → Bool) (device : ℕ) (ids : List ℕ) (may : Bool) → (may ≡ false → p device ≡ false) → list_all p (ids ++ cond may [] (device ∷ [])) ≡ (may && list_all p ids)
+marked p device ids true barred = ap (λ (all : List ℕ). list_all p all) (append-nil ids)
+marked p device ids false barred =
+    list_all-append p ids (device ∷ []) ∙ ap (λ (b : Bool). list_all p ids && (b && true)) (barred refl) ∙ and_no (list_all p ids)
+  where
+    and_no : (b : Bool) → (b && false) ≡ false
+    and_no true = refl
+    and_no false = refl
+
+barred_at : (stack : Description) (levels device : ℕ) → may_store (is_ro_at stack device) (lines_at stack device) ≡ false → is_store_device stack levels device ≡ false
+unfolding is_store_to
+barred_at stack zero device barred = refl
+barred_at stack (suc levels) device barred = store_step stack levels device ∙ ap (λ (may : Bool). may && list_all (is_store_device stack levels) (links_of (links stack) device)) barred
+
+links_there : (stack : Description) (device : ℕ) → device < length stack.devices → links_of (store_links stack) device ≡ store_links_at stack device
+links_there stack device within = get_or-map-range_with_len (store_links_at stack) 0 (length stack.devices) device device [] within (omega arith)
+
+links_past : (stack : Description) (device : ℕ) → length stack.devices ≤ device → links_of (store_links stack) device ≡ []
+links_past stack device past = get_or_past (store_links stack) device [] (omega (arith, past, length-map-range_with_len (store_links_at stack) 0 (length stack.devices)))
+
+-- where a device names itself, it is no store at any level
+all_marked : (stack : Description) (levels device : ℕ) → list_all (is_store_device stack levels) (links_of (store_links stack) device) ≡ (may_store (is_ro_at stack device) (lines_at stack device) && list_all (is_store_device stack levels) (links_of (links stack) device))
+all_marked stack levels device = by_place (cases_lt device (length stack.devices))
+  where
+    by_place : (device < length stack.devices) ⊎ (length stack.devices ≤ device) → list_all (is_store_device stack levels) (links_of (store_links stack) device) ≡ (may_store (is_ro_at stack device) (lines_at stack device) && list_all (is_store_device stack levels) (links_of (links stack) device))
+    by_place (inl within) =
+        ap (λ (ids : List ℕ). list_all (is_store_device stack levels) ids) (links_there stack device within)
+        ∙ marked (is_store_device stack levels) device (links_of (links stack) device) (may_store (is_ro_at stack device) (lines_at stack device)) (barred_at stack levels device)
+    by_place (inr past) =
+        let none = slice_get_past stack.devices device past in
+        let named = named_lines stack stack.devices device in
+        ap (λ (ids : List ℕ). list_all (is_store_device stack levels) ids) (links_past stack device past) ∙ rw (none, named) refl
+
+pub store_depth : (stack : Description) (levels device : ℕ) → nat_le (depth_to (store_links stack) (suc levels) device) levels ≡ is_store_device stack levels device
+unfolding is_store_to
+store_depth stack zero device = depth_first (store_links stack) device
+store_depth stack (suc levels) device =
+    depth_within (store_links stack) levels device
+    ∙ all_same (λ e. nat_le (depth_to (store_links stack) (suc levels) e) levels) (is_store_device stack levels) (links_of (store_links stack) device) (store_depth stack levels)
+    ∙ all_marked stack levels device ∙ sym (store_step stack levels device)
+
+-- What is named is there
+
+closed_marked : (d e n : ℕ) (may : Bool) (ids : List ℕ) → d < n → ((e : ℕ) → Contains ids e → e < n) → Contains (store_links_of may d ids) e → e < n
+closed_marked d e n may ids within inside named = by_part (Contains-append_cases ids (cond may [] (d ∷ [])) e named)
+  where
+    itself : (b : Bool) → Contains (cond b [] (d ∷ [])) e → e < n
+    itself true (k, below, is) = absurd (omega (arith, below))
+    itself false (zero, below, is) = omega (arith, is, within)
+    itself false (suc k, below, is) = absurd (omega (arith, below))
+    by_part : Contains ids e ⊎ Contains (cond may [] (d ∷ [])) e → e < n
+    by_part (inl earlier) = inside e earlier
+    by_part (inr last) = itself may last
+
+pub closed_stores : (stack : Description) → IsClosed (links stack) → IsClosed (store_links stack)
+closed_stores stack closed d e named = by_place (cases_lt d (length stack.devices))
+  where
+    count : length (store_links stack) ≡ length stack.devices
+    count = length-map-range_with_len (store_links_at stack) 0 (length stack.devices)
+    by_place : (d < length stack.devices) ⊎ (length stack.devices ≤ d) → e < length (store_links stack)
+    by_place (inl within) =
+        let here = subst (λ (ids : List ℕ). Contains ids e) (links_there stack d within) named in
+        let below = closed_marked d e (length stack.devices) _ (links_of (links stack) d) within (λ other is. let inside = closed d other is in omega (arith, inside, length-map stack.devices (device_links stack))) here in
+        omega (arith, below, count)
+    by_place (inr past) = let here = subst (λ (ids : List ℕ). Contains ids e) (links_past stack d past) named in absurd (omega (arith, here.1))
