@@ -1,3 +1,5 @@
+pub mod ChunkLemmas
+pub mod CrowdLemmas
 pub mod DepthLemmas
 pub mod DepthRule
 pub mod DepthTests
@@ -14,6 +16,7 @@ pub mod PlacedLemmas
 pub mod RoundLemmas
 pub mod SameLine
 pub mod SearchLemmas
+pub mod SnapshotIds
 pub mod SoundLines
 pub mod SpanLemmas
 pub mod StoreLemmas

@@ -1,5 +1,5 @@
 -- What a line names below, and where.
-use Rattle.std.specs.Prelude.{ℕ, ◌/◌, Bool, false, List, [], ◌∷◌, Option, Some, length, map}
+use Rattle.std.specs.Prelude.{ℕ, ◌/◌, Bool, true, false, List, [], ◌∷◌, Option, Some, None, length, map}
 use Rattle.dm_table.specs.declared.table.DevRef.{DevRef}
 use Rattle.dm_table.specs.declared.table.Column.{Column}
 use Rattle.dm_table.specs.declared.table.Target.{Target}
@@ -17,12 +17,17 @@ pub record Span : Type 0 where
 abbrev pub column_span : ℕ → Column → Span
 column_span len column = record { to = column.to; offset = column.offset; len = Some len; read_only = false }
 
--- what a line of this length and target names: the whole of the line, or a share for each column
+-- all of a device or a disk
+abbrev pub whole_span : DevRef → (read_only : Bool) → Span
+whole_span to read_only = record { to = to; offset = 0; len = None; read_only = read_only }
+
+-- what a line of this length and target names: the whole of the line, a share for each column, or all of a store and of an origin
 abbrev pub target_spans : ℕ → Target → List Span
 target_spans len (targets.Linear to offset) = record { to = to; offset = offset; len = Some len; read_only = false } ∷ []
 target_spans len (targets.Striped chunk columns) = map (column_span (len / length columns)) columns
 target_spans len targets.Zero = []
 target_spans len targets.Error = []
+target_spans len (targets.Snapshot origin store chunk) = whole_span store false ∷ whole_span origin true ∷ []
 
 abbrev pub spans : Line → List Span
 spans line = target_spans line.len line.target

@@ -1,6 +1,6 @@
 -- What the store of a snapshot may be: a disk, or what linear and striped lines of writable devices make of disks.
-use Rattle.std.specs.Prelude.{◌≡◌, ℕ, zero, suc, ◌&&◌, Bool, true, false, not, List, [], ◌∷◌, ◌++◌, length, map, if◌then◌else◌}
-use Rattle.std.specs.List.{list_all, range_with_len}
+use Rattle.std.specs.Prelude.{◌≡◌, ℕ, zero, suc, ◌&&◌, Bool, true, false, not, List, [], ◌∷◌, ◌++◌, length, map, nat_le, if◌then◌else◌}
+use Rattle.std.specs.List.{list_all, range_with_len, slice_index_or}
 use Rattle.dm_table.specs.declared.table.Line.{Line}
 use Rattle.dm_table.specs.declared.table.Target.{Target}
 use Rattle.dm_table.specs.declared.table.Target.TheVariants as targets
@@ -17,6 +17,7 @@ is_plain (targets.Linear to offset) = true
 is_plain (targets.Striped chunk columns) = true
 is_plain targets.Zero = false
 is_plain targets.Error = false
+is_plain (targets.Snapshot origin store chunk) = false
 
 -- a store, through at most this many levels of devices
 unfoldable pub is_store_to : Description → ℕ → Lower → Bool
@@ -44,3 +45,12 @@ store_links_at stack device = store_links_of (may_store (is_ro_at stack device) 
 
 abbrev pub store_links : Description → List (List ℕ)
 store_links stack = map (store_links_at stack) (range_with_len 0 (length stack.devices))
+
+-- what is within the limit by these depths
+abbrev pub is_shallow : List ℕ → Lower → Bool
+is_shallow depths (Device device) = nat_le (slice_index_or depths device 0) MOST_DEPTH
+is_shallow depths (Disk disk) = true
+
+abbrev pub has_deep_store : Description → List ℕ → Target → Bool
+has_deep_store stack depths (targets.Snapshot origin store chunk) = not (is_shallow depths (lower_of stack store))
+has_deep_store stack depths _ = false

@@ -19,6 +19,7 @@ mod names;
 mod placed;
 mod ranges;
 mod resolve;
+mod snapshots;
 mod span;
 mod stack;
 mod store_places;

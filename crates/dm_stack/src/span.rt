@@ -5,7 +5,7 @@
 
 ghost use Rattle.std.specs.Prelude.{◌≡◌, ◌+◌, ◌/◌, ◌<◌, ◌^◌, IfSome, drop, length, map, slice_get};
 ghost use Rattle.std.specs.Iterator.{YieldsFirst, item_count};
-ghost use Rattle.dm_stack.specs.Span.{column_span, spans};
+ghost use Rattle.dm_stack.specs.Span.{column_span, spans, whole_span};
 
 use dm_table::{Column, DevRef, Line, Target};
 use std::marker::Model;
@@ -73,7 +73,21 @@ fn span_at(line: &Line, index: usize) -> Option<Span<'_>>
             read_only: false,
         }),
         Target::Striped { columns, .. } => column_span(line.len, columns.as_slice(), index),
+        Target::Snapshot { store, .. } if index == 0 => Some(whole_span(store, false)),
+        Target::Snapshot { origin, .. } if index == 1 => Some(whole_span(origin, true)),
         _ => None,
+    }
+}
+
+/// All of what is named.
+fn whole_span(to: &DevRef, read_only: bool) -> Span<'_>
+    ensures { result ≡ whole_span to.now read_only }
+{
+    Span {
+        to,
+        offset: 0,
+        len: None,
+        read_only,
     }
 }
 

@@ -4,14 +4,19 @@
 //! rounds that find depths find this for all devices at once: among the links here each device of
 //! another kind names itself, so that it and all above it are too deep, as what reaches a ring is.
 
-ghost use Rattle.std.specs.Prelude.{◌≡◌, IfOk};
+ghost use Rattle.std.specs.Prelude.{◌≡◌, IfOk, None};
+ghost use Rattle.std.specs.List.{list_all};
+ghost use Rattle.dm_table.specs.LoadFault.{first_or};
 ghost use Rattle.dm_stack.specs.Description.{links};
 ghost use Rattle.dm_stack.specs.Graph.{IsClosed, depths_to, links_in};
-ghost use Rattle.dm_stack.specs.Store.{is_plain, may_store, store_links, store_links_of};
+ghost use Rattle.dm_stack.specs.Soundness.{store};
+ghost use Rattle.dm_stack.specs.Store.{has_deep_store, is_plain, is_shallow, may_store, store_links, store_links_of};
 
-use crate::graph::depths;
+use crate::graph::{MOST_DEPTH, depths};
+use crate::id::Lower;
 use crate::indexed::Indexed;
-use dm_table::{DeviceSpec, Target};
+use crate::placed::first_line;
+use dm_table::{DeviceSpec, Line, LoadFault, LoadKind, Target};
 use std::alloc::{AllocError, Global};
 
 /// The depth of each device as a part of a store: above `MOST_DEPTH` where it may not be one.
@@ -60,7 +65,13 @@ fn store_links_of(may: bool, id: usize, links: &Vec<usize>) -> Result<Vec<usize>
 fn may_store(device: &DeviceSpec) -> bool
     ensures { result ≡ may_store device.now.ro device.now.lines }
 {
-    !device.ro && device.lines.as_slice().iter().all(|line| is_plain(&line.target))
+    !device.ro && are_plain(device.lines.as_slice())
+}
+
+fn are_plain(lines: &[Line]) -> bool
+    ensures { result ≡ list_all (λ line. is_plain line.target) lines.now }
+{
+    lines.iter().all(|line| is_plain(&line.target))
 }
 
 fn is_plain(target: &Target) -> bool
@@ -68,6 +79,39 @@ fn is_plain(target: &Target) -> bool
 {
     match target {
         Target::Linear { .. } | Target::Striped { .. } => true,
-        Target::Zero | Target::Error => false,
+        Target::Zero | Target::Error | Target::Snapshot { .. } => false,
+    }
+}
+
+/// The first snapshot whose store may not be one, by the depths that `store_depths` returns.
+///
+/// Cost: a walk over the lines.
+pub(crate) fn bad_stores(stack: &Indexed, depths: &[u32]) -> Option<LoadFault>
+    requires { depths.now ≡ depths_to (store_links stack.now) 33 }
+    ensures { result ≡ first_or (store stack.now) None }
+{
+    first_line(LoadKind::Store, stack.devices(), |line| {
+        has_deep_store(stack, depths, &line.target)
+    })
+}
+
+fn has_deep_store(stack: &Indexed, depths: &[u32], target: &Target) -> bool
+    ensures { result ≡ has_deep_store stack.now depths.now target.now }
+{
+    match target {
+        Target::Snapshot { store, .. } => !is_shallow(depths, stack.lower_of(store)),
+        _ => false,
+    }
+}
+
+fn is_shallow(depths: &[u32], lower: Lower) -> bool
+    ensures { result ≡ is_shallow depths.now lower }
+{
+    match lower {
+        Lower::Device(id) => match depths.get(id.index()) {
+            Some(depth) => *depth <= MOST_DEPTH,
+            None => true,
+        },
+        Lower::Disk(_) => true,
     }
 }
