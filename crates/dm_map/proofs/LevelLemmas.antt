@@ -22,7 +22,8 @@ use Rattle.dm_stack.specs.declared.found.FoundLine.{FoundLine}
 use Rattle.dm_stack.specs.Description.{Description, is_ro_at, lower_of, ref_link, line_links, device_links, links, lines_or_none}
 use Rattle.dm_stack.specs.Span.{Span, column_span, target_spans}
 use Rattle.dm_stack.specs.Graph.{links_of, greatest, depth_to}
-use Rattle.dm_stack.specs.Below.{Below, Lies, IsZero, IsError, below, Snapshot, below_line, below_target, below_column, column_of, in_column, found_line, found_target, found_columns, found_at, holds, line_of}
+use Rattle.dm_stack.specs.declared.found.FoundSnapshot.{FoundSnapshot}
+use Rattle.dm_stack.specs.Below.{Below, Lies, IsZero, IsError, below, below_line, below_target, below_column, column_of, in_column, found_line, found_target, found_columns, found_at, holds, line_of}
 use Rattle.dm_stack.specs.Soundness.{IsSound, faults_at, depth_of}
 use Rattle.dm_stack.proofs.Passes.{all_parts, passes_after}
 use Rattle.dm_stack.proofs.SoundLines.{found}
@@ -63,7 +64,7 @@ unfolding OnBelow
 on_column P columns i sector None each e = tt
 on_column P columns i sector (Some column) each e = at_place (λ c. OnLower P c.to) columns i column each e
 
-on_target : (over : Snapshot → ℕ → Below) (stack : Description) (P : ℕ → Type 0) (len : ℕ) (target : Target) (distance : ℕ) → AllByRecursion P (span_links stack (target_spans len target)) → OnBelow P (below_target over (found_target stack target) distance)
+on_target : (over : FoundSnapshot → ℕ → Below) (stack : Description) (P : ℕ → Type 0) (len : ℕ) (target : Target) (distance : ℕ) → AllByRecursion P (span_links stack (target_spans len target)) → OnBelow P (below_target over (found_target stack target) distance)
 unfolding OnBelow
 on_target over stack P len (targets.Linear to offset) distance each = on_ref stack P to (all_parts P (ref_link stack to) [] each).0
 on_target over stack P len (targets.Striped chunk columns) distance each =
@@ -77,13 +78,13 @@ on_lines stack P (line ∷ lines) each =
     let parts = all_parts P (line_links stack line) (flat_map (line_links stack) lines) each in
     (parts.0, on_lines stack P lines parts.1)
 
-on_line : (over : Snapshot → ℕ → Below) (stack : Description) (P : ℕ → Type 0) (lines : List Line) (sector : ℕ) (line : Option Line) → AllByRecursion (λ l. AllByRecursion P (line_links stack l)) lines → line_of lines sector ≡ line → OnBelow P (below_line over (option_map (found_line stack) line) sector)
+on_line : (over : FoundSnapshot → ℕ → Below) (stack : Description) (P : ℕ → Type 0) (lines : List Line) (sector : ℕ) (line : Option Line) → AllByRecursion (λ l. AllByRecursion P (line_links stack l)) lines → line_of lines sector ≡ line → OnBelow P (below_line over (option_map (found_line stack) line) sector)
 unfolding OnBelow
 on_line over stack P lines sector None each e = tt
 on_line over stack P lines sector (Some line) each e =
     on_target over stack P line.len line.target (sector - line.start) (found (λ l. AllByRecursion P (line_links stack l)) (holds sector) lines line each e).1
 
-on_device : (over : Snapshot → ℕ → Below) (stack : Description) (P : ℕ → Type 0) (device sector : ℕ) (spec : Option DeviceSpec) → slice_get stack.devices device ≡ spec → AllByRecursion P (links_of (links stack) device) → OnBelow P (below_line over (option_map (found_line stack) (line_of (lines_or_none spec) sector)) sector)
+on_device : (over : FoundSnapshot → ℕ → Below) (stack : Description) (P : ℕ → Type 0) (device sector : ℕ) (spec : Option DeviceSpec) → slice_get stack.devices device ≡ spec → AllByRecursion P (links_of (links stack) device) → OnBelow P (below_line over (option_map (found_line stack) (line_of (lines_or_none spec) sector)) sector)
 unfolding OnBelow
 on_device over stack P device sector None e each = tt
 on_device over stack P device sector (Some spec) e each =
@@ -91,7 +92,7 @@ on_device over stack P device sector (Some spec) e each =
     let named : links_of (links stack) device ≡ device_links stack spec = get_or_from_slice_get (links stack) device (device_links stack spec) [] is in
     on_line over stack P spec.lines sector (line_of spec.lines sector) (on_lines stack P spec.lines (subst (AllByRecursion P) named each)) refl
 
-on_below : (over : Snapshot → ℕ → Below) (stack : Description) (P : ℕ → Type 0) (device sector : ℕ) → AllByRecursion P (links_of (links stack) device) → OnBelow P (below over stack device sector)
+on_below : (over : FoundSnapshot → ℕ → Below) (stack : Description) (P : ℕ → Type 0) (device sector : ℕ) → AllByRecursion P (links_of (links stack) device) → OnBelow P (below over stack device sector)
 on_below over stack P device sector each = on_device over stack P device sector (slice_get stack.devices device) refl each
 
 -- What a device names is less deep

@@ -2,7 +2,7 @@
 use Rattle.std.proofs.Common.{◌≡◌, ℕ, true, false, List, [], ◌∷◌, refl}
 use Rattle.dm_table.specs.declared.table.DevRef.TheVariants as refs
 use Rattle.dm_table.specs.declared.table.Target.TheVariants as targets
-use Rattle.dm_stack.specs.Below.{Snapshot}
+use Rattle.dm_stack.specs.declared.found.FoundSnapshot.{FoundSnapshot}
 use Rattle.dm_stack.specs.Description.{Description}
 use Rattle.dm_stack.specs.declared.id.Lower.{Lower}
 use Rattle.dm_stack.specs.declared.id.Lower.TheVariants.{Device, Disk}
@@ -24,7 +24,7 @@ sample len = record {
   disks = disk 48 len ∷ disk 49 32 ∷ disk 50 16 ∷ [];
 }
 
-abbrev over : (origin store : Lower) → Snapshot
+abbrev over : (origin store : Lower) → FoundSnapshot
 over origin store = record { origin = origin; store = store; chunk = 8 }
 
 abbrev start : State

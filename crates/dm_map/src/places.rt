@@ -4,7 +4,7 @@
 //! data comes another area. Taken chunks are kept between them, each in a place of its own.
 
 ghost use Rattle.std.specs.Prelude.{◌≡◌, ℕ, ◌<◌, false};
-ghost use Rattle.dm_map.specs.Snapshots.{is_metadata, place};
+ghost use Rattle.dm_stack.specs.Places.{is_metadata, place};
 
 /// Taken chunks of different numbers have different places in their store, in rising order, and
 /// none of them is in the header or in an area of chunk numbers. It does nothing: its contract is

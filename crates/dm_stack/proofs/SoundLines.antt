@@ -111,11 +111,11 @@ stripes_sound stack len chunk columns good inside =
       inside = columns_inside stack (len / length columns) columns inside;
     }
 
-target_sound : (stack : Description) (line : Line) (target : Target) → has_bad_stripes line target ≡ false → list_any (is_past stack) (target_spans line.len target) ≡ false → IsTargetSound stack line.len (found_target stack target)
-target_sound stack line (targets.Linear to offset) good inside = ltb-false _ _ (or_parts (is_past stack (record { to = to; offset = offset; len = line.len; read_only = false })) false inside).0
-target_sound stack line (targets.Striped chunk columns) good inside = stripes_sound stack line.len chunk columns good inside
-target_sound stack line targets.Zero good inside = tt
-target_sound stack line targets.Error good inside = tt
+target_sound : (stack : Description) (id : ℕ) (line : Line) (target : Target) → has_bad_stripes line target ≡ false → list_any (is_past stack) (target_spans line.len target) ≡ false → IsTargetSound stack id line.start line.len (found_target stack target)
+target_sound stack id line (targets.Linear to offset) good inside = ltb-false _ _ (or_parts (is_past stack (record { to = to; offset = offset; len = line.len; read_only = false })) false inside).0
+target_sound stack id line (targets.Striped chunk columns) good inside = stripes_sound stack line.len chunk columns good inside
+target_sound stack id line targets.Zero good inside = tt
+target_sound stack id line targets.Error good inside = tt
 
 -- The line of a sector of a sound stack
 
@@ -169,7 +169,7 @@ lines_there stack id device at = ap lines_or_none at
 pub record IsFound (stack : Description) (id sector : ℕ) : Type 0 where
   pub line : FoundLine
   pub is : found_at stack id sector ≡ Some line
-  pub soundly : HoldsSoundly stack line sector
+  pub soundly : HoldsSoundly stack id line sector
 
 pub sector_found : (stack : Description) (id sector : ℕ) → IsSound stack → id < length stack.devices → sector < device_len stack id → IsFound stack id sector
 sector_found stack id sector sound within inside =
@@ -188,7 +188,7 @@ sector_found stack id sector sound within inside =
         from = leb-true _ _ parts.0;
         before = ltb-true _ _ parts.1;
         small = line_small h.line a.1;
-        target = target_sound stack h.line h.line.target b.1 c.1;
+        target = target_sound stack id h.line h.line.target b.1 c.1;
       };
     }
 

@@ -5,5 +5,7 @@ pub mod LineSearch
 pub mod Load
 pub mod Loaded
 pub mod NameIndex
+pub mod Places
 pub mod Soundness
 pub mod Span
+pub mod Store

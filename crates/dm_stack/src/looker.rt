@@ -53,7 +53,7 @@ impl<'s> Looker<'s> {
         requires device { device < length self.old.stack.devices }
         requires sector { sector < device_len self.old.stack device }
         ensures line { found_at self.old.stack device sector ≡ Some result.now }
-        ensures holds { HoldsSoundly self.old.stack result.now sector }
+        ensures holds { HoldsSoundly self.old.stack device result.now sector }
         ensures all { (other : ℕ) → result.now.start ≤ other → other < result.now.start + result.now.len → found_at self.old.stack device other ≡ Some result.now }
         ensures stack { self.new.stack ≡ self.old.stack }
         ensures counted { self.new.searches ≡ next_count self.old.searches }

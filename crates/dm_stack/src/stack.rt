@@ -226,7 +226,7 @@ impl Stack {
         requires device { device < length self.now.devices }
         requires sector { sector < device_len self.now device }
         ensures line { found_at self.now device sector ≡ Some result.0.now }
-        ensures holds { HoldsSoundly self.now result.0.now sector }
+        ensures holds { HoldsSoundly self.now device result.0.now sector }
         ensures all { (other : ℕ) → result.0.now.start ≤ other → other < result.0.now.start + result.0.now.len → found_at self.now device other ≡ Some result.0.now }
         ensures few { result.1 ≤ binary_digits (length (lines_at self.now device)) }
     {

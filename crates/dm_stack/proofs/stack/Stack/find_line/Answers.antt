@@ -31,7 +31,7 @@ returns c =
     let same : f.line ≡ c.index-lines-index.result = let known = f.is in cc in
     record {
       line = is;
-      holds = subst (λ (line : FoundLine). HoldsSoundly st line c.args.sector) same f.soundly;
+      holds = subst (λ (line : FoundLine). HoldsSoundly st c.args.device line c.args.sector) same f.soundly;
       all = λ other from before. same_found st c.args.device c.args.sector other c.index-lines-index.result sound c.requires.device is from before;
       few = subst (λ (n : ℕ). c.search-index.result.1 ≤ binary_digits n) (ap length lines ∙ length-map (lines_at st c.args.device) _) c.search-index.ensures.few;
     }
