@@ -32,6 +32,7 @@ found_target stack (targets.Linear to offset) = found.Linear (lower_of stack to)
 found_target stack (targets.Striped chunk columns) = found.Striped chunk (found_columns stack columns)
 found_target stack targets.Zero = found.Zero
 found_target stack targets.Error = found.Error
+found_target stack (targets.Snapshot origin store chunk) = found.Snapshot (record { origin = lower_of stack origin; store = lower_of stack store; chunk = chunk })
 
 abbrev pub found_line : Description → Line → FoundLine
 found_line stack line = record { start = line.start; len = line.len; target = found_target stack line.target }
@@ -72,9 +73,6 @@ below_line over None sector = IsError
 -- the lines of a device, with ids for names
 abbrev pub found_lines : Description → ℕ → List FoundLine
 found_lines stack device = map (found_line stack) (lines_at stack device)
-
-abbrev pub has_sector : ℕ → FoundLine → Bool
-has_sector sector line = nat_le line.start sector && nat_lt sector (line.start + line.len)
 
 -- the line of a sector of a device, with ids for names
 abbrev pub found_at : Description → ℕ → ℕ → Option FoundLine
