@@ -116,4 +116,8 @@ impl<'s, W: Output> Handler for RequestMapper<'_, 's, W> {
             Err(OutFault) => Err(NotMapped::Output),
         }
     }
+
+    fn before_read(&mut self) {
+        self.join.hand_on();
+    }
 }
