@@ -12,12 +12,11 @@ mod map_whole;
 mod part_file;
 mod words;
 
-use dm_table::Counted;
+use dm_table::{Counted, Gathered};
 use map_whole::map_whole;
 use part_file::PartFile;
 use std::fs::File;
 use std::io;
-use std::io::BufWriter;
 use std::process::ExitCode;
 use words::{Format, Task, WordsFault, not_text, read_words};
 
@@ -65,9 +64,6 @@ fn map_files(
     requires unflagged { status ≡ false }
     requires disks { is_some disks ≡ has_disk_list format }
 {
-    let Ok(output) = BufWriter::new(rt.alloc(), rt.stdout()) else {
-        return Err(WordsFault::Memory);
-    };
     let mut disks = match disks {
         Some(path) => Some(Counted::new(PartFile::new(File::open(rt, path)))),
         None => None,
@@ -79,7 +75,7 @@ fn map_files(
         &mut Counted::new(PartFile::new(File::open(rt, file))),
         &mut disks,
         &mut Counted::new(rt.stdin()),
-        &mut Counted::new(output),
+        &mut Gathered::new(Counted::new(rt.stdout())),
         &mut Counted::new(rt.stderr()),
     ))
 }

@@ -15,6 +15,7 @@ mod columns;
 mod counted;
 mod fault_texts;
 mod faults;
+mod gathered;
 mod intervals;
 mod large_parts;
 mod metadata;
