@@ -24,6 +24,7 @@ mod parts;
 mod printed;
 mod refused_loads;
 mod rows;
+mod snapshots;
 mod stacks;
 
 /// More than any stream of a case has, but for the large parts.
