@@ -61,7 +61,7 @@ held_here : (line : Line) (lines : List Line) (sector : ℕ) (b : Bool) → hold
 held_here line lines sector true is later = record { line = line; is = rw is refl }
 held_here line lines sector false is later = let rest = later refl in record { line = rest.line; is = rw is rest.is }
 
-holds_from : (line : Line) (sector : ℕ) → line.start ≤ sector → sector < line.start + line.len → holds sector line ≡ true
+pub holds_from : (line : Line) (sector : ℕ) → line.start ≤ sector → sector < line.start + line.len → holds sector line ≡ true
 holds_from line sector from before = rw (le-leb line.start sector from, lt-ltb sector (line.start + line.len) before) refl
 
 passed : (line : Line) (sector : ℕ) → line.start ≤ sector → holds sector line ≡ false → line.start + line.len ≤ sector
