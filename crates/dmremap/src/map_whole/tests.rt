@@ -23,6 +23,7 @@ mod parts;
 mod printed;
 mod refused_loads;
 mod rows;
+mod snapshot_loads;
 mod stacks;
 
 /// More than any stream of a case has, but for the large parts.
