@@ -6,6 +6,7 @@ pub mod DepthTests
 pub mod FirstFaults
 pub mod HandedOn
 pub mod LayoutLemmas
+pub mod LineSearchLemmas
 pub mod LoadLemmas
 pub mod NameLemmas
 pub mod OneFault

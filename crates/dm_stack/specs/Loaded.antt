@@ -68,10 +68,11 @@ pub record IsLoaded (stack : Description) (devices disks : List (List ℕ)) (by_
   pub depth : deepest ≡ stack_depth stack
   pub snapshots : over ≡ snapshots stack
 
--- a looker: its stack, and the count of its searches
+-- a looker: its stack, and the counts of its searches and of their comparisons of a start with a sector
 pub record Looking : Type 0 where
   pub stack : Description
   pub searches : ℕ
+  pub comparisons : ℕ
 
 -- one search more, up to the greatest count
 abbrev pub next_count : ℕ → ℕ
