@@ -24,6 +24,7 @@ mod parts;
 mod printed;
 mod refused_loads;
 mod rows;
+mod snapshot_loads;
 mod snapshots;
 mod stacks;
 
