@@ -1,12 +1,12 @@
 -- A chunk that is made ready is settled, and stays so: the sectors of a chunk are written as one step.
 use Rattle.std.proofs.Common.{◌≡◌, inl, inr, ℕ, zero, suc, ◌+◌, ◌/◌, ◌<◌, Bool, true, false, cond, not, List, [], ◌∷◌, ◌++◌, Option, Some, None, length, refl, ap, subst, ◌∙◌, arith}
-use Rattle.std.specs.Prelude.{is_some, ◌&&◌}
+use Rattle.std.specs.Prelude.{is_some}
 use Rattle.std.proofs.lemmas.Bool.{cases_eq, or_parts, or_cases, or_left, or_right, not-false}
 use Rattle.std.proofs.lemmas.List.{get_or-set_same, get_or-set_other}
 use Rattle.dm_stack.specs.declared.found.FoundSnapshot.{FoundSnapshot}
 use Rattle.dm_stack.specs.Description.{Description}
 use Rattle.dm_map.specs.Snapshots.{number_in}
-use Rattle.dm_map.specs.SnapshotWrites.{put, with_chunk, lost, is_settled, ready, row, unit_kept, write_snapshot, copies, first_of, count_of, has_place, is_readable}
+use Rattle.dm_map.specs.SnapshotWrites.{put, with_chunk, lost, is_settled, ready, row, unit_kept, write_snapshot, copies, first_of, count_of, can_take}
 use Rattle.dm_map.specs.State.{Taken, State, none_taken, taken_at}
 use Rattle.dm_map.specs.Steps.{Step, keep, and_then, steps}
 use Rattle.dm_map.specs.Units.{BlockUnit}
@@ -41,7 +41,7 @@ readied_by state device chunk false false units is = Lost refl
 pub readied : (stack : Description) (snapshot : FoundSnapshot) (device chunk : ℕ) (state : State) → Readied state device chunk (ready stack snapshot device chunk state)
 readied stack snapshot device chunk state =
     let number = length (taken_at state device).chunks in let first = first_of snapshot chunk in let count = count_of stack snapshot device chunk in
-    readied_by state device chunk (is_settled (taken_at state device) chunk) (has_place stack snapshot number && is_readable stack state snapshot first count) (copies stack state snapshot number first count) refl
+    readied_by state device chunk (is_settled (taken_at state device) chunk) (can_take stack state snapshot device first count) (copies stack state snapshot number first count) refl
 
 pub ready_again : (stack : Description) (snapshot : FoundSnapshot) (device chunk : ℕ) (state : State) → is_settled (taken_at state device) chunk ≡ true → ready stack snapshot device chunk state ≡ keep [] state
 ready_again stack snapshot device chunk state settled = rw settled refl

@@ -13,7 +13,8 @@ use Rattle.dm_stack.specs.declared.found.FoundSnapshot.{FoundSnapshot}
 use Rattle.dm_stack.specs.Below.{Lies, IsError}
 use Rattle.dm_stack.specs.Description.{Description}
 use Rattle.dm_stack.specs.declared.id.Lower.TheVariants.{Disk}
-use Rattle.dm_map.specs.Mapping.{read_unit, write_step, request_step}
+use Rattle.dm_map.specs.Reads.{read_unit}
+use Rattle.dm_map.specs.Mapping.{write_step, request_step}
 use Rattle.dm_stack.specs.Places.{place}
 use Rattle.dm_map.specs.Snapshots.{read_over}
 use Rattle.dm_map.specs.State.{Taken, State, start_state}

@@ -7,7 +7,7 @@ use Rattle.dm_stack.specs.Description.{Description}
 use Rattle.dm_stack.specs.declared.id.Lower.{Lower}
 use Rattle.dm_stack.specs.declared.id.Lower.TheVariants.{Device, Disk}
 use Rattle.dm_map.specs.Homes.{home_to}
-use Rattle.dm_map.specs.Mapping.{read_unit}
+use Rattle.dm_map.specs.Reads.{read_unit}
 use Rattle.dm_map.specs.SnapshotWrites.{write_snapshot}
 use Rattle.dm_map.specs.State.{State, none_taken}
 use Rattle.dm_map.specs.Steps.{keep, steps}

@@ -6,8 +6,9 @@
 ghost use Rattle.std.specs.Prelude.{◌≡◌, ℕ, ◌+◌, ◌<◌, ◌≤◌, ◌^◌, Some, length};
 ghost use Rattle.dm_stack.specs.Below.{HoldsSoundly, found_at};
 ghost use Rattle.dm_stack.specs.Description.{device_len, disk_len, is_ro_at, lines_at};
+ghost use Rattle.dm_stack.specs.Loaded.{next_count, snapshots, stack_depth, AreSnapshots};
+ghost use Rattle.dm_stack.specs.Soundness.{IsSound};
 ghost use Rattle.dm_stack.specs.LineSearch.{binary_digits};
-ghost use Rattle.dm_stack.specs.Loaded.{next_count, stack_depth};
 
 use crate::found::Found;
 use crate::id::{DeviceId, DiskId};
@@ -117,9 +118,19 @@ impl<'s> Looker<'s> {
         self.stack.is_ro(device)
     }
 
+    /// The devices of the stack that are snapshots, in their order.
+    pub fn snapshots(&self) -> &[DeviceId]
+        ensures ids { result.now ≡ snapshots self.now.stack }
+        ensures all { AreSnapshots self.now.stack result.now }
+    {
+        self.stack.snapshots()
+    }
+
     /// The greatest depth of a device of the stack, 0 without devices.
     pub fn depth(&self) -> u32
-        ensures { result ≡ stack_depth self.now.stack }
+        ensures depth { result ≡ stack_depth self.now.stack }
+        // A stack is sound by its type.
+        ensures sound { IsSound self.now.stack }
     {
         self.stack.depth()
     }
