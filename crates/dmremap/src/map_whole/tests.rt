@@ -16,6 +16,7 @@ mod concise;
 mod counted;
 mod fault_texts;
 mod faults;
+mod gathered;
 mod intervals;
 mod large_parts;
 mod metadata;
@@ -24,6 +25,8 @@ mod parts;
 mod printed;
 mod refused_loads;
 mod rows;
+mod snapshot_loads;
+mod snapshots;
 mod stacks;
 
 /// More than any stream of a case has, but for the large parts.

@@ -7,7 +7,7 @@ use super::*;
 use std::test::Fail;
 
 /// Asserts that two texts are refused with a message, of which only its own words are given.
-fn check_refused<'a>(
+pub(super) fn check_refused<'a>(
     rt: &impl Abort,
     alloc: Global,
     source: &'a str,
