@@ -81,13 +81,12 @@ fn put_piece(block: &mut [u8], at: usize, range: &KeptRange, stack: &Stack, piec
     ensures text { take result block.new ≡ take at block.old ++ unit_text stack.now (first_unit piece.now) (piece_len piece.now) ++ 10 ∷ [] }
 {
     match *piece {
-        Piece::Read { disk, start, len } | Piece::Write { disk, start, len } => {
-            let word = if matches!(*piece, Piece::Read { .. }) {
-                b"R "
-            } else {
-                b"W "
-            };
-            let at = put_named(block, at, word, stack, disk);
+        Piece::Read { disk, start, len } => {
+            let at = put_named(block, at, b"R ", stack, disk);
+            range.put_into(block, at, start, len)
+        }
+        Piece::Write { disk, start, len } => {
+            let at = put_named(block, at, b"W ", stack, disk);
             range.put_into(block, at, start, len)
         }
         Piece::Zero { len } => put_counted(block, at, b"zero ", len),
