@@ -285,9 +285,20 @@ fn many_keys(rt: HostRuntime) -> Result<(), Fail> {
     Ok(())
 }
 
+static MESSAGES: [(TextFault, &str); 6] = [
+    (TextFault::Token(1), "line 1: no token"),
+    (TextFault::Syntax(2), "line 2: wrong syntax"),
+    (TextFault::KeyTwice(3), "line 3: a key for the second time"),
+    (TextFault::Deep(17), "line 17: sections too deep"),
+    (TextFault::Number(5), "line 5: an integer out of range"),
+    (TextFault::Memory, "out of memory"),
+];
+
 #[test]
 fn messages(rt: HostRuntime) -> Result<(), Fail> {
-    let text = TextFault::Deep(17).to_string(rt.alloc())?;
-    assert_eq!(rt; text.as_str(), "line 17: sections too deep");
+    for &(fault, wanted) in &MESSAGES {
+        let text = fault.to_string(rt.alloc())?;
+        assert_eq!(rt; text.as_str(), wanted);
+    }
     Ok(())
 }
