@@ -3,8 +3,8 @@
 //! What is wanted is written down from the rules, and never taken from a run. A new case is a row.
 
 ghost use Rattle.std.specs.Prelude.{◌<◌, ◌≡◌, is_some, true};
-ghost use Rattle.dmremap.specs.OtherWhole.{is_other};
-ghost use Rattle.dmremap.specs.Words.{has_disk_list, words_of};
+ghost use Rattle.dmremap.specs.OtherWhole.{has_list, has_source, is_other};
+ghost use Rattle.dmremap.specs.Words.{words_of};
 
 use super::*;
 use dm_table::{ShortIn, ShortOut};
@@ -19,19 +19,23 @@ const WRITE_MESSAGE: &str = "dmremap: output: write\n";
 type Ran = (u8, ShortOut, ShortOut);
 
 /// Runs a job over these texts, of which it is given those that it loads. Requests would fail.
-fn run(alloc: Global, task: Task<'_>, texts: (&str, &str), streams: (ShortOut, ShortOut)) -> Ran
+fn run(
+    alloc: Global,
+    task: Task<'_>,
+    source: &str,
+    disks: &str,
+    mut output: ShortOut,
+    mut messages: ShortOut,
+) -> Ran
     requires { is_other (words_of task) ≡ true }
 {
     let job = Job {
         task,
         status: false,
     };
-    let (mut source, mut disks) = match task.files() {
-        Some(files) => inputs(files.format, texts),
-        None => (None, None),
-    };
+    let mut source = source_of(task, source);
+    let mut disks = disks_of(task, disks);
     let mut requests = ShortIn::failing("R a 0 1\n".as_bytes(), 1, 0);
-    let (mut output, mut messages) = streams;
     let status = other_whole(
         alloc,
         &job,
@@ -44,30 +48,37 @@ fn run(alloc: Global, task: Task<'_>, texts: (&str, &str), streams: (ShortOut, S
     (status, output, messages)
 }
 
-/// The source, and the disk list where the format has one.
-fn inputs<'a>(
-    format: Format,
-    texts: (&'a str, &'a str),
-) -> (Option<ShortIn<'a>>, Option<ShortIn<'a>>)
-    ensures source { is_some result.0 ≡ true }
-    ensures disks { is_some result.1 ≡ has_disk_list format }
+/// The source, for a task that loads one.
+fn source_of<'a>(task: Task<'_>, text: &'a str) -> Option<ShortIn<'a>>
+    ensures { is_some result ≡ has_source (words_of task.entry) }
 {
-    let disks = if format.has_disk_list() {
-        Some(ShortIn::new(texts.1.as_bytes(), 1))
-    } else {
-        None
-    };
-    (Some(ShortIn::new(texts.0.as_bytes(), PLENTY)), disks)
+    match task {
+        Task::Map(_) | Task::Print(_, _) => Some(ShortIn::new(text.as_bytes(), PLENTY)),
+        Task::Name { .. } | Task::SplitName(_) => None,
+    }
 }
 
-/// An output and a message stream that never fail, and take at most `step` bytes a write.
-fn streams(rt: &impl Abort, alloc: Global, step: usize) -> (ShortOut, ShortOut)
+/// The disk list, for a task whose format has one.
+fn disks_of<'a>(task: Task<'_>, text: &'a str) -> Option<ShortIn<'a>>
+    ensures { is_some result ≡ has_list (words_of task.entry) }
+{
+    match task {
+        Task::Map(files) | Task::Print(_, files) => {
+            if files.format.has_disk_list() {
+                Some(ShortIn::new(text.as_bytes(), 1))
+            } else {
+                None
+            }
+        }
+        Task::Name { .. } | Task::SplitName(_) => None,
+    }
+}
+
+/// An output or a message stream that never fails, and takes at most `step` bytes a write.
+fn stream(rt: &impl Abort, alloc: Global, step: usize) -> ShortOut
     requires { 0 < step }
 {
-    (
-        ShortOut::new(alloc, step, PLENTY).expect(rt, "an output"),
-        ShortOut::new(alloc, step, PLENTY).expect(rt, "a message stream"),
-    )
+    ShortOut::new(alloc, step, PLENTY).expect(rt, "a stream")
 }
 
 fn printing(form: Form, format: Format) -> Task<'static>
@@ -111,7 +122,8 @@ fn tables(rt: HostRuntime) {
         for (form, text) in [(Form::Table, table), (Form::Concise, concise)] {
             for step in [1, 7] {
                 let task = printing(form, Format::Table);
-                let ran = run(alloc, task, (source, disks), streams(&rt, alloc, step));
+                let (output, messages) = (stream(&rt, alloc, step), stream(&rt, alloc, step));
+                let ran = run(alloc, task, source, disks, output, messages);
                 check(&rt, ran, text, 0);
             }
         }
@@ -151,7 +163,8 @@ fn a_read_only_volume(rt: HostRuntime) {
     let alloc = rt.alloc();
     for (form, text) in READ_ONLY {
         let task = printing(form, Format::Lvm);
-        let ran = run(alloc, task, (GROUP, ""), streams(&rt, alloc, PLENTY));
+        let (output, messages) = (stream(&rt, alloc, 1), stream(&rt, alloc, 1));
+        let ran = run(alloc, task, GROUP, "", output, messages);
         check(&rt, ran, text, 0);
     }
 }
@@ -173,7 +186,8 @@ fn refused_loads(rt: HostRuntime) {
     for (source, disks, message) in REFUSED {
         for form in [Form::Table, Form::Concise] {
             let task = printing(form, Format::Table);
-            let ran = run(alloc, task, (source, disks), streams(&rt, alloc, 1));
+            let (output, messages) = (stream(&rt, alloc, 1), stream(&rt, alloc, 1));
+            let ran = run(alloc, task, source, disks, output, messages);
             check(&rt, ran, message, 1);
         }
     }
@@ -193,7 +207,8 @@ fn built_names(rt: HostRuntime) {
     let alloc = rt.alloc();
     for (vg, lv, layer, text, status) in BUILT {
         let task = Task::Name { vg, lv, layer };
-        let ran = run(alloc, task, ("", ""), streams(&rt, alloc, 1));
+        let (output, messages) = (stream(&rt, alloc, 1), stream(&rt, alloc, 1));
+        let ran = run(alloc, task, "", "", output, messages);
         check(&rt, ran, text, status);
     }
 }
@@ -213,7 +228,8 @@ fn parts_of_names(rt: HostRuntime) {
     let alloc = rt.alloc();
     for (name, text, status) in SPLIT {
         let task = Task::SplitName(name);
-        let ran = run(alloc, task, ("", ""), streams(&rt, alloc, 1));
+        let (output, messages) = (stream(&rt, alloc, 1), stream(&rt, alloc, 1));
+        let ran = run(alloc, task, "", "", output, messages);
         check(&rt, ran, text, status);
     }
 }
@@ -232,10 +248,9 @@ fn the_output_fails_after_each_byte(rt: HostRuntime) {
     for (source, disks, text, _) in TABLES {
         let text = text.as_bytes();
         for count in 0..text.len() {
-            let (_, messages) = streams(&rt, alloc, PLENTY);
             let output = ShortOut::new(alloc, 3, count).expect(&rt, "an output");
             let task = printing(Form::Table, Format::Table);
-            let ran = run(alloc, task, (source, disks), (output, messages));
+            let ran = run(alloc, task, source, disks, output, stream(&rt, alloc, 1));
             check_failed(&rt, ran, &text[..count]);
         }
     }
@@ -245,10 +260,9 @@ fn the_output_fails_after_each_byte(rt: HostRuntime) {
 fn the_flush_fails(rt: HostRuntime) {
     let alloc = rt.alloc();
     for (form, text) in READ_ONLY {
-        let (_, messages) = streams(&rt, alloc, PLENTY);
         let output = ShortOut::failing_flush(alloc, 1, PLENTY).expect(&rt, "an output");
         let task = printing(form, Format::Lvm);
-        let ran = run(alloc, task, (GROUP, ""), (output, messages));
+        let ran = run(alloc, task, GROUP, "", output, stream(&rt, alloc, 1));
         check_failed(&rt, ran, text.as_bytes());
     }
 }
@@ -258,9 +272,9 @@ fn the_message_stream_fails(rt: HostRuntime) {
     let alloc = rt.alloc();
     let message = "dmremap: name: split\n".as_bytes();
     for count in 0..message.len() {
-        let (output, _) = streams(&rt, alloc, 1);
         let messages = ShortOut::new(alloc, 1, count).expect(&rt, "a message stream");
-        let (status, _, told) = run(alloc, Task::SplitName("a"), ("", ""), (output, messages));
+        let task = Task::SplitName("a");
+        let (status, _, told) = run(alloc, task, "", "", stream(&rt, alloc, 1), messages);
         assert_eq!(&rt; told.as_slice(), &message[..count]);
         assert_eq!(&rt; status, 1);
     }
