@@ -19,10 +19,13 @@ use Rattle.dm_stack.specs.declared.id.Lower.TheVariants.{Device, Disk}
 use Rattle.dm_stack.specs.declared.graph.TheConstants.{MOST_DEPTH}
 use Rattle.dm_stack.specs.declared.found.FoundColumn.{FoundColumn}
 use Rattle.dm_stack.specs.declared.found.FoundLine.{FoundLine}
+use Rattle.dm_stack.specs.declared.found.FoundTarget.{FoundTarget}
+use Rattle.dm_stack.specs.declared.found.FoundTarget.TheVariants as founds
 use Rattle.dm_stack.specs.Description.{Description, is_ro_at, lower_of, ref_link, line_links, device_links, links, lines_or_none}
 use Rattle.dm_stack.specs.Span.{Span, column_span, target_spans}
 use Rattle.dm_stack.specs.Graph.{links_of, greatest, depth_to}
-use Rattle.dm_stack.specs.Below.{Below, Lies, IsZero, IsError, below, Snapshot, below_line, below_target, below_column, column_of, in_column, found_line, found_target, found_columns, found_at, holds, line_of}
+use Rattle.dm_stack.specs.declared.found.FoundSnapshot.{FoundSnapshot}
+use Rattle.dm_stack.specs.Below.{Below, Lies, IsZero, IsError, below, below_line, below_stripes, below_target, below_column, column_of, in_column, found_line, found_target, found_columns, found_at, holds, line_of}
 use Rattle.dm_stack.specs.Soundness.{IsSound, faults_at, depth_of}
 use Rattle.dm_stack.proofs.Passes.{all_parts, passes_after}
 use Rattle.dm_stack.proofs.SoundLines.{found}
@@ -30,7 +33,8 @@ use Rattle.dm_map.specs.Units.{BlockUnit, Zeros, Drops, Fails}
 use Rattle.dm_map.specs.Snapshots.{read_over}
 use Rattle.dm_map.specs.State.{State, taken_at}
 use Rattle.dm_map.specs.Steps.{Step, keep}
-use Rattle.dm_map.specs.Mapping.{by_below, read_below, read_unit, write_line, write_step, IsFreeOfLevels}
+use Rattle.dm_map.specs.Reads.{by_below, read_below, read_unit}
+use Rattle.dm_map.specs.Mapping.{write_line, write_target, write_step, IsFreeOfLevels}
 use Rattle.dm_map.proofs.Stripes.{at_place}
 
 -- What lies below a device is among what it names
@@ -63,7 +67,7 @@ unfolding OnBelow
 on_column P columns i sector None each e = tt
 on_column P columns i sector (Some column) each e = at_place (λ c. OnLower P c.to) columns i column each e
 
-on_target : (over : Snapshot → ℕ → Below) (stack : Description) (P : ℕ → Type 0) (len : ℕ) (target : Target) (distance : ℕ) → AllByRecursion P (span_links stack (target_spans len target)) → OnBelow P (below_target over (found_target stack target) distance)
+on_target : (over : FoundSnapshot → ℕ → Below) (stack : Description) (P : ℕ → Type 0) (len : ℕ) (target : Target) (distance : ℕ) → AllByRecursion P (span_links stack (target_spans len target)) → OnBelow P (below_target over (found_target stack target) distance)
 unfolding OnBelow
 on_target over stack P len (targets.Linear to offset) distance each = on_ref stack P to (all_parts P (ref_link stack to) [] each).0
 on_target over stack P len (targets.Striped chunk columns) distance each =
@@ -77,13 +81,13 @@ on_lines stack P (line ∷ lines) each =
     let parts = all_parts P (line_links stack line) (flat_map (line_links stack) lines) each in
     (parts.0, on_lines stack P lines parts.1)
 
-on_line : (over : Snapshot → ℕ → Below) (stack : Description) (P : ℕ → Type 0) (lines : List Line) (sector : ℕ) (line : Option Line) → AllByRecursion (λ l. AllByRecursion P (line_links stack l)) lines → line_of lines sector ≡ line → OnBelow P (below_line over (option_map (found_line stack) line) sector)
+on_line : (over : FoundSnapshot → ℕ → Below) (stack : Description) (P : ℕ → Type 0) (lines : List Line) (sector : ℕ) (line : Option Line) → AllByRecursion (λ l. AllByRecursion P (line_links stack l)) lines → line_of lines sector ≡ line → OnBelow P (below_line over (option_map (found_line stack) line) sector)
 unfolding OnBelow
 on_line over stack P lines sector None each e = tt
 on_line over stack P lines sector (Some line) each e =
     on_target over stack P line.len line.target (sector - line.start) (found (λ l. AllByRecursion P (line_links stack l)) (holds sector) lines line each e).1
 
-on_device : (over : Snapshot → ℕ → Below) (stack : Description) (P : ℕ → Type 0) (device sector : ℕ) (spec : Option DeviceSpec) → slice_get stack.devices device ≡ spec → AllByRecursion P (links_of (links stack) device) → OnBelow P (below_line over (option_map (found_line stack) (line_of (lines_or_none spec) sector)) sector)
+on_device : (over : FoundSnapshot → ℕ → Below) (stack : Description) (P : ℕ → Type 0) (device sector : ℕ) (spec : Option DeviceSpec) → slice_get stack.devices device ≡ spec → AllByRecursion P (links_of (links stack) device) → OnBelow P (below_line over (option_map (found_line stack) (line_of (lines_or_none spec) sector)) sector)
 unfolding OnBelow
 on_device over stack P device sector None e each = tt
 on_device over stack P device sector (Some spec) e each =
@@ -91,7 +95,7 @@ on_device over stack P device sector (Some spec) e each =
     let named : links_of (links stack) device ≡ device_links stack spec = get_or_from_slice_get (links stack) device (device_links stack spec) [] is in
     on_line over stack P spec.lines sector (line_of spec.lines sector) (on_lines stack P spec.lines (subst (AllByRecursion P) named each)) refl
 
-on_below : (over : Snapshot → ℕ → Below) (stack : Description) (P : ℕ → Type 0) (device sector : ℕ) → AllByRecursion P (links_of (links stack) device) → OnBelow P (below over stack device sector)
+on_below : (over : FoundSnapshot → ℕ → Below) (stack : Description) (P : ℕ → Type 0) (device sector : ℕ) → AllByRecursion P (links_of (links stack) device) → OnBelow P (below over stack device sector)
 on_below over stack P device sector each = on_device over stack P device sector (slice_get stack.devices device) refl each
 
 -- What a device names is less deep
@@ -134,12 +138,20 @@ same_read stack state (suc n) (suc j) (suc k) (Device device) sector h =
     same_below (IsShallow (links stack) n j k) (read_below stack state device sector) Zeros Fails (λ to s. read_unit stack state j to s) (λ to s. read_unit stack state k to s)
     (on_below (read_over (taken_at state device)) stack (IsShallow (links stack) n j k) device sector (named_shallow (links stack) n j k device h)) (λ to s on. same_read stack state n j k to s on)
 
-same_line : (P : ℕ → Type 0) (state : State) (device : ℕ) (line : Option FoundLine) (sector : ℕ) (f h : Lower → State → ℕ → Step) → OnBelow P (below_line (read_over (taken_at state device)) line sector) → ((to : Lower) (s : ℕ) → OnLower P to → f to state s ≡ h to state s)
-    → write_line state device line sector f ≡ write_line state device line sector h
+same_target : (P : ℕ → Type 0) (stack : Description) (state : State) (device : ℕ) (target : FoundTarget) (distance : ℕ) (f h : Lower → State → ℕ → Step) → OnBelow P (below_target (read_over (taken_at state device)) target distance) → ((to : Lower) (s : ℕ) → OnLower P to → f to state s ≡ h to state s)
+    → write_target stack state device target distance f ≡ write_target stack state device target distance h
 unfolding OnBelow
-same_line P state device None sector f h on same = refl
-same_line P state device (Some line) sector f h on same =
-    same_below P (below_target (read_over (taken_at state device)) line.target (sector - line.start)) (keep (Drops ∷ []) state) (keep (Fails ∷ []) state) (λ to s. f to state s) (λ to s. h to state s) on same
+same_target P stack state device (founds.Linear to offset) distance f h on same = same to (offset + distance) on
+same_target P stack state device (founds.Striped chunk columns) distance f h on same = same_below P (below_stripes chunk columns distance) (keep (Drops ∷ []) state) (keep (Fails ∷ []) state) (λ to s. f to state s) (λ to s. h to state s) on same
+same_target P stack state device founds.Zero distance f h on same = refl
+same_target P stack state device founds.Error distance f h on same = refl
+same_target P stack state device (founds.Snapshot snapshot) distance f h on same = refl
+
+same_line : (P : ℕ → Type 0) (stack : Description) (state : State) (device : ℕ) (line : Option FoundLine) (sector : ℕ) (f h : Lower → State → ℕ → Step) → OnBelow P (below_line (read_over (taken_at state device)) line sector) → ((to : Lower) (s : ℕ) → OnLower P to → f to state s ≡ h to state s)
+    → write_line stack state device line sector f ≡ write_line stack state device line sector h
+unfolding OnBelow
+same_line P stack state device None sector f h on same = refl
+same_line P stack state device (Some line) sector f h on same = same_target P stack state device line.target (sector - line.start) f h on same
 
 same_write : (stack : Description) (n j k : ℕ) (lower : Lower) (state : State) (sector : ℕ) → OnLower (IsShallow (links stack) n j k) lower → write_step stack j lower state sector ≡ write_step stack k lower state sector
 unfolding OnLower write_step
@@ -149,7 +161,7 @@ same_write stack (suc n) zero k (Device device) state sector h = absurd (some_le
 same_write stack (suc n) (suc j) zero (Device device) state sector h = absurd (some_level (links stack) n j device h.second)
 same_write stack (suc n) (suc j) (suc k) (Device device) state sector h =
     ap (λ (step : Step). cond (is_ro_at stack device) (keep (Fails ∷ []) state) step)
-    (same_line (IsShallow (links stack) n j k) state device (found_at stack device sector) sector (λ to after s. write_step stack j to after s) (λ to after s. write_step stack k to after s)
+    (same_line (IsShallow (links stack) n j k) stack state device (found_at stack device sector) sector (λ to after s. write_step stack j to after s) (λ to after s. write_step stack k to after s)
     (on_below (read_over (taken_at state device)) stack (IsShallow (links stack) n j k) device sector (named_shallow (links stack) n j k device h)) (λ to s on. same_write stack n j k to state s on))
 
 -- A sound stack is nowhere too deep

@@ -1,9 +1,14 @@
+pub mod ChunkCopies
+pub mod Chunks
 pub mod LevelLemmas
 pub mod Numbers
 pub mod Ranges
 pub mod Readies
 pub mod Rows
+pub mod Stores
 pub mod Stripes
+pub mod TableLemmas
 pub mod There
+pub mod UnitRows
 pub mod WorkedRows
 pub mod WorkedSnapshots

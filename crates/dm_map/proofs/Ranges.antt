@@ -13,7 +13,8 @@ use Rattle.dm_map.specs.declared.stripe.ChunkPlace.{ChunkPlace}
 use Rattle.dm_map.specs.State.{State}
 use Rattle.dm_map.specs.Steps.{Step, keep}
 use Rattle.dm_map.specs.Units.{ReadOf, WriteOf, Zeros, Fails, next_unit, units_in}
-use Rattle.dm_map.specs.Mapping.{by_below, sector_step, read_unit, write_step}
+use Rattle.dm_map.specs.Reads.{by_below, read_unit}
+use Rattle.dm_map.specs.Mapping.{sector_step, write_step}
 use Rattle.dm_map.specs.Walk.{disk_unit, zero_unit, below_step, refuses, range_step, target_step, line_step, stripes_step, IsPlace}
 use Rattle.dm_map.proofs.Rows.{steps_same, steps_still}
 use Rattle.dm_map.proofs.Stripes.{below_chunk}

@@ -1,12 +1,12 @@
 -- A chunk that is made ready is settled, and stays so: the sectors of a chunk are written as one step.
 use Rattle.std.proofs.Common.{◌≡◌, inl, inr, ℕ, zero, suc, ◌+◌, ◌/◌, ◌<◌, Bool, true, false, cond, not, List, [], ◌∷◌, ◌++◌, Option, Some, None, length, refl, ap, subst, ◌∙◌, arith}
-use Rattle.std.specs.Prelude.{is_some, ◌&&◌}
+use Rattle.std.specs.Prelude.{is_some}
 use Rattle.std.proofs.lemmas.Bool.{cases_eq, or_parts, or_cases, or_left, or_right, not-false}
 use Rattle.std.proofs.lemmas.List.{get_or-set_same, get_or-set_other}
-use Rattle.dm_stack.specs.Below.{Snapshot}
+use Rattle.dm_stack.specs.declared.found.FoundSnapshot.{FoundSnapshot}
 use Rattle.dm_stack.specs.Description.{Description}
 use Rattle.dm_map.specs.Snapshots.{number_in}
-use Rattle.dm_map.specs.SnapshotWrites.{put, with_chunk, lost, is_settled, ready, row, unit_kept, write_snapshot, copies, first_of, count_of, has_place, is_readable}
+use Rattle.dm_map.specs.SnapshotWrites.{put, with_chunk, lost, is_settled, ready, row, unit_kept, write_snapshot, copies, first_of, count_of, can_take}
 use Rattle.dm_map.specs.State.{Taken, State, none_taken, taken_at}
 use Rattle.dm_map.specs.Steps.{Step, keep, and_then, steps}
 use Rattle.dm_map.specs.Units.{BlockUnit}
@@ -38,12 +38,12 @@ readied_by state device chunk false true units is =
     Took (not-false (taken_at state device).valid parts.0) (none_of _ parts.1) units refl
 readied_by state device chunk false false units is = Lost refl
 
-pub readied : (stack : Description) (snapshot : Snapshot) (device chunk : ℕ) (state : State) → Readied state device chunk (ready stack snapshot device chunk state)
+pub readied : (stack : Description) (snapshot : FoundSnapshot) (device chunk : ℕ) (state : State) → Readied state device chunk (ready stack snapshot device chunk state)
 readied stack snapshot device chunk state =
     let number = length (taken_at state device).chunks in let first = first_of snapshot chunk in let count = count_of stack snapshot device chunk in
-    readied_by state device chunk (is_settled (taken_at state device) chunk) (has_place stack snapshot number && is_readable stack state snapshot first count) (copies stack state snapshot number first count) refl
+    readied_by state device chunk (is_settled (taken_at state device) chunk) (can_take stack state snapshot device first count) (copies stack state snapshot number first count) refl
 
-pub ready_again : (stack : Description) (snapshot : Snapshot) (device chunk : ℕ) (state : State) → is_settled (taken_at state device) chunk ≡ true → ready stack snapshot device chunk state ≡ keep [] state
+pub ready_again : (stack : Description) (snapshot : FoundSnapshot) (device chunk : ℕ) (state : State) → is_settled (taken_at state device) chunk ≡ true → ready stack snapshot device chunk state ≡ keep [] state
 ready_again stack snapshot device chunk state settled = rw settled refl
 
 -- Once it was made ready, it is settled
@@ -81,7 +81,7 @@ ready_settled state device chunk other c step there (Lost is) settled = rw is (s
 
 -- The sectors of a chunk: it is made ready once
 
-settled_part : (stack : Description) (snapshot : Snapshot) (device chunk sector n : ℕ) (state : State) → ready stack snapshot device chunk state ≡ keep [] state → ((i : ℕ) → i < n → (sector + i) / snapshot.chunk ≡ chunk)
+settled_part : (stack : Description) (snapshot : FoundSnapshot) (device chunk sector n : ℕ) (state : State) → ready stack snapshot device chunk state ≡ keep [] state → ((i : ℕ) → i < n → (sector + i) / snapshot.chunk ≡ chunk)
     → steps (write_snapshot stack snapshot device) state sector n ≡ keep (row (unit_kept stack snapshot device state) sector n) state
 settled_part stack snapshot device chunk sector zero state done each = refl
 settled_part stack snapshot device chunk sector (suc n) state done each =
@@ -92,7 +92,7 @@ settled_part stack snapshot device chunk sector (suc n) state done each =
     ∙ ap (λ (rest : Step). record { units = unit_kept stack snapshot device state sector ∷ rest.units; state = rest.state })
     (settled_part stack snapshot device chunk (suc sector) n state done (λ i within. ap (λ (s : ℕ). s / snapshot.chunk) (let e : suc sector + i ≡ sector + suc i = omega arith in e) ∙ each (suc i) (omega (arith, within))))
 
-pub chunk_part : (stack : Description) (snapshot : Snapshot) (device chunk sector n : ℕ) (state : State) → device < length state → ((i : ℕ) → i < suc n → (sector + i) / snapshot.chunk ≡ chunk)
+pub chunk_part : (stack : Description) (snapshot : FoundSnapshot) (device chunk sector n : ℕ) (state : State) → device < length state → ((i : ℕ) → i < suc n → (sector + i) / snapshot.chunk ≡ chunk)
     → steps (write_snapshot stack snapshot device) state sector (suc n) ≡ and_then (ready stack snapshot device chunk state) (λ after. keep (row (unit_kept stack snapshot device after) sector (suc n)) after)
 chunk_part stack snapshot device chunk sector n state there each =
     let here : sector / snapshot.chunk ≡ chunk = ap (λ (s : ℕ). s / snapshot.chunk) (let e : sector ≡ sector + 0 = omega arith in e) ∙ each 0 (omega arith) in

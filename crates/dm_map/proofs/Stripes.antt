@@ -12,7 +12,7 @@ use Rattle.dm_map.specs.declared.stripe.ChunkPlace.{ChunkPlace}
 use Rattle.dm_map.specs.Walk.{AreInStripes, IsPlace}
 
 -- what is left of a chunk lies in its column's share of the line
-in_column_room : (chunk count column_len chunks len distance : ℕ) → 0 < chunk → 0 < count → len ≡ count * column_len → column_len ≡ chunks * chunk → distance < len
+pub in_column_room : (chunk count column_len chunks len distance : ℕ) → 0 < chunk → 0 < count → len ≡ count * column_len → column_len ≡ chunks * chunk → distance < len
     → in_column chunk count distance + (chunk - distance % chunk) ≤ column_len
 in_column_room chunk count column_len chunks len distance chunk_some count_some shares whole inside =
     let product : len ≡ chunks * count * chunk = rw (shares, whole) (omega arith) in
@@ -22,11 +22,11 @@ in_column_room chunk count column_len chunks len distance chunk_some count_some 
     rw whole (omega (arith, room, left))
 
 -- the sectors of a chunk go on in one column
-record IsInChunk (chunk distance i : ℕ) : Type 0 where
-  number : (distance + i) / chunk ≡ distance / chunk
-  place : (distance + i) % chunk ≡ distance % chunk + i
+pub record IsInChunk (chunk distance i : ℕ) : Type 0 where
+  pub number : (distance + i) / chunk ≡ distance / chunk
+  pub place : (distance + i) % chunk ≡ distance % chunk + i
 
-in_chunk : (chunk distance i : ℕ) → 0 < chunk → i < chunk - distance % chunk → IsInChunk chunk distance i
+pub in_chunk : (chunk distance i : ℕ) → 0 < chunk → i < chunk - distance % chunk → IsInChunk chunk distance i
 in_chunk chunk distance i some within =
     let whole : distance / chunk * chunk + distance % chunk ≡ distance = div-add-mod' distance chunk in
     let at : distance + i ≡ distance / chunk * chunk + (distance % chunk + i) = omega (arith, whole) in

@@ -1,8 +1,14 @@
 -- What has a sector is there.
-use Rattle.std.proofs.Common.{◌≡◌, ℕ, ◌<◌, inl, inr, length, ap, arith}
+use Rattle.std.proofs.Common.{◌≡◌, ℕ, ◌^◌, ◌<◌, ◌≤◌, inl, inr, Option, Some, None, length, ap, refl, arith}
+use Rattle.std.specs.Prelude.{slice_get}
 use Rattle.std.proofs.lemmas.Bool.{cases_lt}
 use Rattle.std.proofs.lemmas.Option.{slice_get_past}
-use Rattle.dm_stack.specs.Description.{Description, device_len, disk_len, len_or_none, lines_or_none, end_of}
+use Rattle.dm_table.specs.declared.disk.Disk.{Disk}
+use Rattle.dm_stack.specs.declared.id.Lower.{Lower}
+use Rattle.dm_stack.specs.declared.id.Lower.TheVariants as lowers
+use Rattle.dm_stack.specs.Description.{Description, device_len, disk_len, lower_len, len_or_none, lines_or_none, end_of}
+use Rattle.dm_stack.specs.Soundness.{IsSound}
+use Rattle.dm_stack.proofs.SoundLines.{device_small, disk_small}
 
 -- a device that has a sector is one of the stack
 pub device_there : (stack : Description) (device sector : ℕ) → sector < device_len stack device → device < length stack.devices
@@ -19,3 +25,16 @@ disk_there stack disk sector inside =
       | inl there ↦ there
       | inr past ↦ absurd (let none : disk_len stack disk ≡ 0 = ap len_or_none (slice_get_past stack.disks disk past) in omega arith)
     ]
+
+-- nothing is longer than a line may be
+
+disk_within : (stack : Description) (id : ℕ) (disk : Option Disk) → IsSound stack → slice_get stack.disks id ≡ disk → len_or_none disk ≤ 2 ^ 50
+disk_within stack id None sound at = omega arith
+disk_within stack id (Some disk) sound at = disk_small stack id disk sound at
+
+pub lower_small : (stack : Description) (lower : Lower) → IsSound stack → lower_len stack lower ≤ 2 ^ 50
+lower_small stack (lowers.Device device) sound = elim (cases_lt device (length stack.devices)) [
+  | inl there ↦ device_small stack device sound there
+  | inr past ↦ let none : device_len stack device ≡ 0 = ap (λ o. end_of (lines_or_none o)) (slice_get_past stack.devices device past) in omega arith
+]
+lower_small stack (lowers.Disk disk) sound = disk_within stack disk (slice_get stack.disks disk) sound refl

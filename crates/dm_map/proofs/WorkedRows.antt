@@ -9,11 +9,14 @@ use Rattle.dm_table.specs.declared.table.DeviceSpec.{DeviceSpec}
 use Rattle.dm_table.specs.declared.table.Line.{Line}
 use Rattle.dm_table.specs.declared.table.Target.{Target}
 use Rattle.dm_table.specs.declared.table.Target.TheVariants as targets
-use Rattle.dm_stack.specs.Below.{Lies, IsError, Snapshot}
+use Rattle.dm_stack.specs.declared.found.FoundSnapshot.{FoundSnapshot}
+use Rattle.dm_stack.specs.Below.{Lies, IsError}
 use Rattle.dm_stack.specs.Description.{Description}
 use Rattle.dm_stack.specs.declared.id.Lower.TheVariants.{Disk}
-use Rattle.dm_map.specs.Mapping.{read_unit, write_step, request_step}
-use Rattle.dm_map.specs.Snapshots.{place, read_over}
+use Rattle.dm_map.specs.Reads.{read_unit}
+use Rattle.dm_map.specs.Mapping.{write_step, request_step}
+use Rattle.dm_stack.specs.Places.{place}
+use Rattle.dm_map.specs.Snapshots.{read_over}
 use Rattle.dm_map.specs.State.{Taken, State, start_state}
 use Rattle.dm_map.specs.Steps.{keep}
 use Rattle.dm_map.specs.Units.{ReadOf, WriteOf, Zeros, Drops, Fails}
@@ -69,7 +72,7 @@ past_the_end = refl
 
 -- A snapshot of disk 0 with its store on disk 1: chunk 3 was taken first, and then chunk 1
 
-abbrev snapshot : Snapshot
+abbrev snapshot : FoundSnapshot
 snapshot = record { origin = Disk 0; store = Disk 1; chunk = 4 }
 
 abbrev taken : Taken

@@ -2,12 +2,12 @@
 use Rattle.std.proofs.Common.{◌≡◌, ℕ, true, false, List, [], ◌∷◌, refl}
 use Rattle.dm_table.specs.declared.table.DevRef.TheVariants as refs
 use Rattle.dm_table.specs.declared.table.Target.TheVariants as targets
-use Rattle.dm_stack.specs.Below.{Snapshot}
+use Rattle.dm_stack.specs.declared.found.FoundSnapshot.{FoundSnapshot}
 use Rattle.dm_stack.specs.Description.{Description}
 use Rattle.dm_stack.specs.declared.id.Lower.{Lower}
 use Rattle.dm_stack.specs.declared.id.Lower.TheVariants.{Device, Disk}
 use Rattle.dm_map.specs.Homes.{home_to}
-use Rattle.dm_map.specs.Mapping.{read_unit}
+use Rattle.dm_map.specs.Reads.{read_unit}
 use Rattle.dm_map.specs.SnapshotWrites.{write_snapshot}
 use Rattle.dm_map.specs.State.{State, none_taken}
 use Rattle.dm_map.specs.Steps.{keep, steps}
@@ -24,7 +24,7 @@ sample len = record {
   disks = disk 48 len ∷ disk 49 32 ∷ disk 50 16 ∷ [];
 }
 
-abbrev over : (origin store : Lower) → Snapshot
+abbrev over : (origin store : Lower) → FoundSnapshot
 over origin store = record { origin = origin; store = store; chunk = 8 }
 
 abbrev start : State

@@ -1,11 +1,13 @@
 -- Where a sector of a store lies on a disk.
-use Rattle.std.specs.Prelude.{ℕ, zero, suc}
+use Rattle.std.specs.Prelude.{◌≡◌, ℕ, zero, suc, ◌+◌, ◌<◌, ◌≤◌}
 use Rattle.dm_stack.specs.declared.graph.TheConstants.{MOST_DEPTH}
 use Rattle.dm_stack.specs.declared.id.Lower.{Lower}
 use Rattle.dm_stack.specs.declared.id.Lower.TheVariants.{Device, Disk}
 use Rattle.dm_stack.specs.Below.{IsError, below}
 use Rattle.dm_stack.specs.Description.{Description}
-use Rattle.dm_map.specs.Mapping.{by_below}
+use Rattle.dm_map.specs.declared.ready.HomeStretch.{HomeStretch}
+use Rattle.dm_map.specs.Reads.{by_below}
+use Rattle.dm_map.specs.Units.{IsOnDisk}
 
 -- a sector of a disk
 pub record Home : Type 0 where
@@ -25,3 +27,14 @@ home_to stack (suc levels) (Device device) sector =
 -- no stack has more levels
 abbrev pub home : Description → Lower → ℕ → Home
 home stack lower sector = home_to stack MOST_DEPTH lower sector
+
+-- the homes of len sectors go on from one
+abbrev pub GoOn : (homes : ℕ → Home) → (sector disk start len : ℕ) → Type 0
+GoOn homes sector disk start len = (i : ℕ) → i < len → homes (sector + i) ≡ record { disk = disk; sector = start + i }
+
+-- the first sectors of a range of len of a store lie in a row on a disk, which has them
+pub record IsFirstHomes (stack : Description) (store : Lower) (sector len : ℕ) (first : HomeStretch) : Type 0 where
+  pub some : 1 ≤ first.len
+  pub most : first.len ≤ len
+  pub homes : GoOn (home stack store) sector first.disk first.start first.len
+  pub lies : IsOnDisk stack first.disk first.start first.len

@@ -3,11 +3,13 @@ pub mod KeptLaws
 pub mod Mapper
 pub mod Mapping
 pub mod PieceList
+pub mod Reads
 pub mod Sink
 pub mod SnapshotWrites
 pub mod Snapshots
 pub mod State
 pub mod Steps
 pub mod Stretch
+pub mod Tables
 pub mod Units
 pub mod Walk

@@ -1,4 +1,4 @@
--- What becomes of each sector of a request (the kernel's admin guide, device-mapper/linear, striped and zero).
+-- What becomes of each sector of a request (the kernel's admin guide, device-mapper/linear, striped, zero and snapshot).
 use Rattle.std.specs.Prelude.{ℕ, zero, suc, ◌+◌, ◌-◌, ◌≡◌, ◌≤◌, ◌<◌, [], ◌∷◌, Option, Some, None, length, nat_lt, replicate, if◌then◌else◌}
 use Rattle.dm_table.specs.declared.request.Op.{Op}
 use Rattle.dm_table.specs.declared.request.Op.TheVariants as ops
@@ -6,40 +6,28 @@ use Rattle.dm_stack.specs.declared.id.Lower.{Lower}
 use Rattle.dm_stack.specs.declared.id.Lower.TheVariants.{Device, Disk}
 use Rattle.dm_stack.specs.declared.found.FoundLine.{FoundLine}
 use Rattle.dm_stack.specs.declared.found.FoundTarget.{FoundTarget}
+use Rattle.dm_stack.specs.declared.found.FoundTarget.TheVariants as found
 use Rattle.dm_stack.specs.declared.graph.TheConstants.{MOST_DEPTH}
 use Rattle.dm_stack.specs.Description.{Description, device_len, is_ro_at}
-use Rattle.dm_stack.specs.Below.{Below, Lies, IsZero, IsError, below, below_target, found_at}
+use Rattle.dm_stack.specs.Below.{below_stripes, found_at}
 use Rattle.dm_stack.specs.Soundness.{depth_of}
-use Rattle.dm_map.specs.Snapshots.{read_over}
-use Rattle.dm_map.specs.State.{State, taken_at}
+use Rattle.dm_map.specs.Reads.{by_below, read_unit}
+use Rattle.dm_map.specs.SnapshotWrites.{write_snapshot}
+use Rattle.dm_map.specs.State.{State}
 use Rattle.dm_map.specs.Steps.{Step, keep, steps}
-use Rattle.dm_map.specs.Units.{BlockUnit, ReadOf, WriteOf, Zeros, Drops, Fails}
-
--- what a sector becomes by what lies below it: that of the lower sector, or something of its own
-abbrev pub by_below : {X : Type 0} → Below → (zeros fails : X) → (Lower → ℕ → X) → X
-by_below (Lies to sector) zeros fails next = next to sector
-by_below IsZero zeros fails next = zeros
-by_below IsError zeros fails next = fails
-
--- what lies below a sector of a device, where it is read in this state
-abbrev pub read_below : Description → State → (device sector : ℕ) → Below
-read_below stack state device sector = below (read_over (taken_at state device)) stack device sector
-
--- the read of a sector, through at most this many levels of devices
-unfoldable pub read_unit : Description → State → ℕ → Lower → ℕ → BlockUnit
-read_unit stack state levels (Disk disk) sector = ReadOf disk sector
-read_unit stack state zero (Device device) sector = Fails
-read_unit stack state (suc levels) (Device device) sector =
-    by_below (read_below stack state device sector) Zeros Fails (λ to lower. read_unit stack state levels to lower)
+use Rattle.dm_map.specs.Units.{WriteOf, Drops, Fails}
 
 -- the write of a sector at a distance from the start of a line of this target, by that of a lower one: zeros throw it away
-abbrev pub write_target : State → (device : ℕ) → FoundTarget → (distance : ℕ) → (Lower → State → ℕ → Step) → Step
-write_target state device target distance next =
-    by_below (below_target (read_over (taken_at state device)) target distance) (keep (Drops ∷ []) state) (keep (Fails ∷ []) state) (λ to sector. next to state sector)
+abbrev pub write_target : Description → State → (device : ℕ) → FoundTarget → (distance : ℕ) → (Lower → State → ℕ → Step) → Step
+write_target stack state device (found.Linear to offset) distance next = next to state (offset + distance)
+write_target stack state device (found.Striped chunk columns) distance next = by_below (below_stripes chunk columns distance) (keep (Drops ∷ []) state) (keep (Fails ∷ []) state) (λ to sector. next to state sector)
+write_target stack state device found.Zero distance next = keep (Drops ∷ []) state
+write_target stack state device found.Error distance next = keep (Fails ∷ []) state
+write_target stack state device (found.Snapshot snapshot) distance next = write_snapshot stack snapshot device state distance
 
-abbrev pub write_line : State → (device : ℕ) → Option FoundLine → (sector : ℕ) → (Lower → State → ℕ → Step) → Step
-write_line state device (Some line) sector next = write_target state device line.target (sector - line.start) next
-write_line state device None sector next = keep (Fails ∷ []) state
+abbrev pub write_line : Description → State → (device : ℕ) → Option FoundLine → (sector : ℕ) → (Lower → State → ℕ → Step) → Step
+write_line stack state device (Some line) sector next = write_target stack state device line.target (sector - line.start) next
+write_line stack state device None sector next = keep (Fails ∷ []) state
 
 -- the write of a sector, through at most this many levels of devices: a read-only device fails it, whatever its line says
 unfoldable pub write_step : Description → ℕ → Lower → State → ℕ → Step
@@ -47,7 +35,7 @@ write_step stack levels (Disk disk) state sector = keep (WriteOf disk sector ∷
 write_step stack zero (Device device) state sector = keep (Fails ∷ []) state
 write_step stack (suc levels) (Device device) state sector =
     if is_ro_at stack device then keep (Fails ∷ []) state
-    else write_line state device (found_at stack device sector) sector (λ to after lower. write_step stack levels to after lower)
+    else write_line stack state device (found_at stack device sector) sector (λ to after lower. write_step stack levels to after lower)
 
 -- the step of a sector, for either operation: a read changes nothing
 abbrev pub sector_step : Description → Op → ℕ → Lower → State → ℕ → Step

@@ -1,13 +1,14 @@
--- What a write of a snapshot's sector does (the kernel's admin guide, device-mapper/snapshot): its chunk is made ready, and then the sector is written. No line is a snapshot as yet.
+-- What a write of a snapshot's sector does (the kernel's admin guide, device-mapper/snapshot): its chunk is made ready, and then the sector is written.
 use Rattle.std.specs.List.{slice_set}
 use Rattle.std.specs.Prelude.{ℕ, zero, suc, ◌+◌, ◌-◌, ◌*◌, ◌/◌, Bool, true, false, ◌&&◌, ◌||◌, not, List, [], ◌∷◌, ◌++◌, length, Option, Some, None, is_some, min, nat_le, if◌then◌else◌}
 use Rattle.dm_stack.specs.declared.graph.TheConstants.{MOST_DEPTH}
 use Rattle.dm_stack.specs.declared.id.Lower.{Lower}
-use Rattle.dm_stack.specs.Below.{Snapshot}
+use Rattle.dm_stack.specs.declared.found.FoundSnapshot.{FoundSnapshot}
 use Rattle.dm_stack.specs.Description.{Description, device_len, lower_len}
 use Rattle.dm_map.specs.Homes.{Home, home}
-use Rattle.dm_map.specs.Mapping.{read_unit}
-use Rattle.dm_map.specs.Snapshots.{number_in, place, kept_at}
+use Rattle.dm_map.specs.Reads.{read_unit}
+use Rattle.dm_stack.specs.Places.{place}
+use Rattle.dm_map.specs.Snapshots.{number_in, kept_at}
 use Rattle.dm_map.specs.State.{Taken, State, taken_at}
 use Rattle.dm_map.specs.Steps.{Step, keep, and_then}
 use Rattle.dm_map.specs.Units.{BlockUnit, ReadOf, WriteOf, Zeros, Drops, Fails, CopyOf, FillOf}
@@ -25,10 +26,10 @@ lost taken = record { chunks = taken.chunks; valid = false }
 
 -- The sectors of a chunk, as far as the snapshot goes
 
-abbrev pub first_of : Snapshot → (chunk : ℕ) → ℕ
+abbrev pub first_of : FoundSnapshot → (chunk : ℕ) → ℕ
 first_of snapshot chunk = chunk * snapshot.chunk
 
-abbrev pub count_of : Description → Snapshot → (device chunk : ℕ) → ℕ
+abbrev pub count_of : Description → FoundSnapshot → (device chunk : ℕ) → ℕ
 count_of stack snapshot device chunk = min snapshot.chunk (device_len stack device - first_of snapshot chunk)
 
 -- what f gives for len sectors in a row
@@ -56,12 +57,12 @@ any_error [] = false
 any_error (unit ∷ units) = is_error unit || any_error units
 
 -- its store has a place for the taken chunk of this number
-abbrev pub has_place : Description → Snapshot → (number : ℕ) → Bool
+abbrev pub has_place : Description → FoundSnapshot → (number : ℕ) → Bool
 has_place stack snapshot number = nat_le ((place snapshot.chunk number + 1) * snapshot.chunk) (lower_len stack snapshot.store)
 
--- and the origin reads without an error
-abbrev pub is_readable : Description → State → Snapshot → (sector len : ℕ) → Bool
-is_readable stack state snapshot sector len = not (any_error (row (read stack state snapshot.origin) sector len))
+-- no sector reads as an error
+abbrev pub reads_all : Description → State → Lower → (sector len : ℕ) → Bool
+reads_all stack state lower sector len = not (any_error (row (read stack state lower) sector len))
 
 -- The copies of a chunk
 
@@ -75,10 +76,10 @@ copy_to Fails to = FillOf to.disk to.sector
 copy_to (CopyOf disk sector other other_sector) to = FillOf to.disk to.sector
 copy_to (FillOf disk sector) to = FillOf to.disk to.sector
 
-abbrev pub home_kept : Description → Snapshot → (number sector : ℕ) → Home
+abbrev pub home_kept : Description → FoundSnapshot → (number sector : ℕ) → Home
 home_kept stack snapshot number sector = home stack snapshot.store (kept_at snapshot number sector)
 
-abbrev pub copies : Description → State → Snapshot → (number sector len : ℕ) → List BlockUnit
+abbrev pub copies : Description → State → FoundSnapshot → (number sector len : ℕ) → List BlockUnit
 copies stack state snapshot number sector len = row (λ s. copy_to (read stack state snapshot.origin s) (home_kept stack snapshot number s)) sector len
 
 -- A chunk is made ready
@@ -87,26 +88,37 @@ copies stack state snapshot number sector len = row (λ s. copy_to (read stack s
 abbrev pub is_settled : Taken → (chunk : ℕ) → Bool
 is_settled taken chunk = not taken.valid || is_some (number_in chunk taken.chunks)
 
+-- a chunk of these sectors can be taken: the store has a place for one more, and the origin has them
+abbrev pub can_take : Description → State → FoundSnapshot → (device sector len : ℕ) → Bool
+can_take stack state snapshot device sector len = has_place stack snapshot (length (taken_at state device).chunks) && reads_all stack state snapshot.origin sector len
+
 -- it is copied and taken, where it can be; else the snapshot is lost
-abbrev pub ready : Description → Snapshot → (device chunk : ℕ) → State → Step
+abbrev pub ready : Description → FoundSnapshot → (device chunk : ℕ) → State → Step
 ready stack snapshot device chunk state =
     let taken = taken_at state device in
     if is_settled taken chunk then keep [] state
-    else (if has_place stack snapshot (length taken.chunks) && is_readable stack state snapshot (first_of snapshot chunk) (count_of stack snapshot device chunk)
+    else (if can_take stack state snapshot device (first_of snapshot chunk) (count_of stack snapshot device chunk)
     then keep (copies stack state snapshot (length taken.chunks) (first_of snapshot chunk) (count_of stack snapshot device chunk)) (put state device (with_chunk taken chunk))
     else keep [] (put state device (lost taken)))
 
 -- And then the sector is written
 
-abbrev pub write_numbered : Description → Snapshot → Option ℕ → (sector : ℕ) → BlockUnit
-write_numbered stack snapshot (Some number) sector = WriteOf (home_kept stack snapshot number sector).disk (home_kept stack snapshot number sector).sector
+abbrev pub write_to : Home → BlockUnit
+write_to to = WriteOf to.disk to.sector
+
+-- writes of sectors of a store in a row
+abbrev pub store_writes : Description → Lower → (sector len : ℕ) → List BlockUnit
+store_writes stack store sector len = row (λ s. write_to (home stack store s)) sector len
+
+abbrev pub write_numbered : Description → FoundSnapshot → Option ℕ → (sector : ℕ) → BlockUnit
+write_numbered stack snapshot (Some number) sector = write_to (home_kept stack snapshot number sector)
 write_numbered stack snapshot None sector = Fails
 
-abbrev pub unit_kept : Description → Snapshot → (device : ℕ) → State → (sector : ℕ) → BlockUnit
+abbrev pub unit_kept : Description → FoundSnapshot → (device : ℕ) → State → (sector : ℕ) → BlockUnit
 unit_kept stack snapshot device state sector =
     let taken = taken_at state device in
     if taken.valid then write_numbered stack snapshot (number_in (sector / snapshot.chunk) taken.chunks) sector else Fails
 
-abbrev pub write_snapshot : Description → Snapshot → (device : ℕ) → State → (sector : ℕ) → Step
+abbrev pub write_snapshot : Description → FoundSnapshot → (device : ℕ) → State → (sector : ℕ) → Step
 write_snapshot stack snapshot device state sector =
     and_then (ready stack snapshot device (sector / snapshot.chunk) state) (λ after. keep (unit_kept stack snapshot device after sector ∷ []) after)

@@ -4,15 +4,18 @@
 //! `Sink` in pieces.
 #![tactic(auto)]
 
+mod chunk;
 mod levels;
 mod mapper;
 mod piece;
 mod piece_list;
 mod places;
 mod plain_taken;
+mod ready;
 mod sink;
 mod stretch;
 mod stripe;
+mod tables;
 mod taken;
 mod walk;
 mod walker;

@@ -16,6 +16,8 @@ ghost use Rattle.dm_map.specs.Walk.{range_step, IsReady, IsWalked};
 
 use crate::piece::Piece;
 use crate::sink::Sink;
+use crate::tables::empty_tables;
+use crate::taken::Taken;
 use crate::walk::map_range;
 use crate::walker::Walker;
 use dm_stack::{DeviceId, Looker, Lower, MOST_DEPTH};
@@ -40,12 +42,12 @@ pub enum MapFault<F> {
 /// Maps requests through the stack of its looker, one after the other. A clause sees its stack, the
 /// state that its requests left, and whether one of its sinks failed.
 #[derive(Drop)]
-pub struct Mapper<'s> {
-    walker: Walker<'s>,
+pub struct Mapper<'s, T: Taken> {
+    walker: Walker<'s, T>,
     stopped: bool,
 }
 
-impl<'s> Model for Mapper<'s> {
+impl<'s, T: Taken> Model for Mapper<'s, T> {
     ghost use Rattle.dm_map.specs.Mapper.{Mapping};
 
     ghost Value = { Mapping };
@@ -53,19 +55,20 @@ impl<'s> Model for Mapper<'s> {
     ghost view = { λ mapper. record { stack = mapper.walker.stack; state = mapper.walker.state; stopped = mapper.stopped } };
 }
 
-impl<'s> Mapper<'s> {
+impl<'s, T: Taken> Mapper<'s, T> {
     /// A mapper of the looker's stack, in the state at the start, and not stopped.
     ///
     /// # Errors
     ///
-    /// `AllocError` where it is out of memory for its state. As yet there is none to keep.
-    pub fn new(_alloc: Global, looker: Looker<'s>) -> Result<Mapper<'s>, AllocError>
+    /// `AllocError` where it is out of memory for its state.
+    pub fn new(alloc: Global, looker: Looker<'s>) -> Result<Mapper<'s, T>, AllocError>
         ensures stack { IfOk result (λ mapper. mapper.stack ≡ looker.entry.stack) }
         ensures state { IfOk result (λ mapper. mapper.state ≡ start_state looker.entry.stack) }
         ensures going { IfOk result (λ mapper. mapper.stopped ≡ false) }
     {
+        let tables = empty_tables(alloc, &looker)?;
         Ok(Mapper {
-            walker: Walker::new(looker),
+            walker: Walker::new(looker, tables),
             stopped: false,
         })
     }

@@ -1,21 +1,24 @@
 //! Stretches: where the first sectors of a range are read, and how many continue like that.
 //!
 //! The walk hands pieces to a sink; this goes down the same way and returns one piece of a read, with
-//! no sink and no loop over sectors, at the cost of one look-up for each level. It will serve copies,
-//! which need the origin's side and the store's side at once. A new target is an arm of
+//! no sink and no loop over sectors, at the cost of one look-up for each level. It serves copies, which
+//! need the origin's side and the store's side at once. A new target is an arm of
 //! `line_stretch`, as it is one of `map_line`.
 
-ghost use Rattle.std.specs.Prelude.{ℕ, ◌+◌, ◌≤◌, ◌^◌};
+ghost use Rattle.std.specs.Prelude.{◌≡◌, ◌+◌, ◌≤◌, ◌^◌, Some};
 ghost use Rattle.dm_table.specs.declared.request.Op.TheVariants.{Read};
-ghost use Rattle.dm_stack.specs.Below.{IsTargetSound};
+ghost use Rattle.dm_stack.specs.declared.found.FoundTarget.TheVariants.{Snapshot};
+ghost use Rattle.dm_stack.specs.Below.{found_at, IsTargetSound};
 ghost use Rattle.dm_stack.specs.Description.{lower_len};
 ghost use Rattle.dm_map.specs.Stretch.{IsFirst};
-ghost use Rattle.dm_map.specs.Walk.{line_step, range_step, stripes_step, AreInStripes};
+ghost use Rattle.dm_map.specs.Walk.{line_step, range_step, stripes_step, AreInSnapshot, AreInStripes};
 
+use crate::chunk::{part_of_chunk, read_place};
 use crate::stripe::place_at;
+use crate::taken::Taken;
 use crate::walk::{part_in, sector_at};
 use crate::walker::Walker;
-use dm_stack::{DiskId, FoundColumn, FoundLine, FoundTarget, Lower};
+use dm_stack::{DeviceId, DiskId, FoundColumn, FoundLine, FoundSnapshot, FoundTarget, Lower};
 
 #[cfg(test)]
 mod tests;
@@ -40,11 +43,11 @@ pub(crate) struct Stretch {
 
 /// The first stretch of a range of a device or a disk, through at most this many levels of devices.
 ///
-/// It has at least one sector and at most those of the range. It ends where a line or a chunk of
-/// stripes on its way down ends, at the latest.
+/// It has at least one sector and at most those of the range. It ends where a line or a chunk on its
+/// way down ends, of stripes or of a snapshot, at the latest.
 #[cycle(stretch)]
-pub(crate) fn first_stretch(
-    walker: &mut Walker<'_>,
+pub(crate) fn first_stretch<T: Taken>(
+    walker: &mut Walker<'_, T>,
     levels: u32,
     lower: Lower,
     sector: u64,
@@ -72,17 +75,18 @@ pub(crate) fn first_stretch(
             let line = walker.look(device, sector);
             let distance = sector - line.start;
             let part = part_in(line, distance, len);
-            line_stretch(walker, levels - 1, line, distance, part)
+            line_stretch(walker, levels - 1, device, line, distance, part)
         }
     }
 }
 
-/// The first stretch of sectors of a line at a distance from its start, through at most this many
-/// levels of devices below it. Which device has the line plays no part as yet.
+/// The first stretch of sectors of a line of this device at a distance from its start, through at
+/// most this many levels of devices below it.
 #[cycle(stretch)]
-fn line_stretch(
-    walker: &mut Walker<'_>,
+fn line_stretch<T: Taken>(
+    walker: &mut Walker<'_, T>,
     levels: u32,
+    device: DeviceId,
     line: &FoundLine,
     distance: u64,
     len: u64,
@@ -90,8 +94,9 @@ fn line_stretch(
     requires some { 1 ≤ len }
     requires inside { distance + len ≤ line.now.len }
     requires small { line.now.len ≤ 2 ^ 50 }
-    requires sound { IsTargetSound walker.old.stack line.now.len line.now.target }
-    ensures { (device : ℕ) → IsFirst walker.old walker.new (line_step walker.old.stack Read levels device line.now.target walker.old.state distance) len result }
+    requires found { found_at walker.old.stack device line.now.start ≡ Some line.now }
+    requires sound { IsTargetSound walker.old.stack device line.now.start line.now.len line.now.target }
+    ensures { IsFirst walker.old walker.new (line_step walker.old.stack Read levels device line.now.target walker.old.state distance) len result }
 {
     match &line.target {
         FoundTarget::Linear { to, offset } => {
@@ -110,13 +115,16 @@ fn line_stretch(
             ground: Ground::Fails,
             len,
         },
+        FoundTarget::Snapshot(snapshot) => {
+            snapshot_stretch(walker, levels, device, snapshot, distance, len)
+        }
     }
 }
 
 /// The first stretch of sectors of a striped line at a distance from its start.
 #[cycle(stretch)]
-fn stripes_stretch(
-    walker: &mut Walker<'_>,
+fn stripes_stretch<T: Taken>(
+    walker: &mut Walker<'_, T>,
     levels: u32,
     chunk: u64,
     columns: &[FoundColumn],
@@ -137,4 +145,28 @@ fn stripes_stretch(
         place.chunk_start + place.past,
     );
     first_stretch(walker, levels, column.to, sector, part)
+}
+
+/// The first stretch of sectors of a snapshot, as its chunks are in this state.
+#[cycle(stretch)]
+fn snapshot_stretch<T: Taken>(
+    walker: &mut Walker<'_, T>,
+    levels: u32,
+    device: DeviceId,
+    snapshot: &FoundSnapshot,
+    sector: u64,
+    len: u64,
+) -> Stretch
+    requires some { 1 ≤ len }
+    requires inside { AreInSnapshot walker.old.stack device snapshot.now sector len }
+    ensures { IsFirst walker.old walker.new (line_step walker.old.stack Read levels device (Snapshot snapshot.now) walker.old.state sector) len result }
+{
+    let part = part_of_chunk(snapshot.chunk, sector, len);
+    match read_place(walker, device, snapshot, sector, part) {
+        Some(place) => first_stretch(walker, levels, place.to, place.sector, part),
+        None => Stretch {
+            ground: Ground::Fails,
+            len: part,
+        },
+    }
 }

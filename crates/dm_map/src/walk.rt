@@ -1,22 +1,28 @@
 //! The walk down a stack: hands the units of consecutive sectors to a sink.
 //!
-//! A range goes down as one step: it is cut where a line or a chunk of stripes ends, and nowhere
-//! else, and each line that it passes is looked up once. A new target is an arm of `map_line`, with
-//! a loop of its own where it cuts, and an arm of `below_target`; one with a state is an arm of
-//! `write_target` as well. Each function says which units it hands over and which state it leaves.
+//! A range goes down as one step: it is cut where a line or a chunk ends, of stripes or of a
+//! snapshot, and nowhere else, and each line that it passes is looked up once. A new target is an arm
+//! of `map_line`, with a loop of its own where it cuts, and one of `below_target` and `write_target`.
+//! Each function says which units it hands over and which state it leaves.
 
-ghost use Rattle.std.specs.Prelude.{◌≡◌, ℕ, ◌+◌, ◌-◌, ◌<◌, ◌≤◌, ◌^◌, length, min};
-ghost use Rattle.dm_stack.specs.Below.{IsTargetSound};
+ghost use Rattle.std.specs.Prelude.{◌≡◌, ℕ, ◌+◌, ◌-◌, ◌<◌, ◌≤◌, ◌^◌, Some, length, min};
+ghost use Rattle.dm_stack.specs.Below.{found_at, IsTargetSound};
 ghost use Rattle.dm_stack.specs.Description.{Description, device_len, lower_len};
+ghost use Rattle.dm_stack.specs.declared.found.FoundTarget.TheVariants.{Snapshot};
 ghost use Rattle.dm_stack.specs.declared.id.Lower.TheVariants.{Device};
+ghost use Rattle.dm_map.specs.SnapshotWrites.{write_snapshot};
+ghost use Rattle.dm_map.specs.Steps.{steps};
 ghost use Rattle.dm_map.specs.Units.{diskless_len, piece_len, units_in, units_of, IsOnDisk, IsOnDisks};
-ghost use Rattle.dm_map.specs.Walk.{disk_unit, zero_unit, refuses, range_step, line_step, stripes_step, AreInStripes, IsReady, IsWalked};
+ghost use Rattle.dm_map.specs.Walk.{disk_unit, zero_unit, refuses, range_step, line_step, stripes_step, AreInChunk, AreInSnapshot, AreInStripes, IsReady, IsWalked};
 
+use crate::chunk::{part_of_chunk, read_place};
 use crate::piece::Piece;
+use crate::ready::{make_ready, write_store};
 use crate::sink::Sink;
 use crate::stripe::{next_chunk, place_at};
+use crate::taken::Taken;
 use crate::walker::Walker;
-use dm_stack::{DeviceId, DiskId, FoundColumn, FoundLine, FoundTarget, Lower};
+use dm_stack::{DeviceId, DiskId, FoundColumn, FoundLine, FoundSnapshot, FoundTarget, Lower};
 use dm_table::Op;
 
 /// Hands over the units of sectors of a device or a disk, through at most this many levels of
@@ -27,8 +33,8 @@ use dm_table::Op;
 /// of stripes do, costs no call.
 #[cycle(walk)]
 #[inline(always)]
-pub(crate) fn map_range<S: Sink>(
-    walker: &mut Walker<'_>,
+pub(crate) fn map_range<S: Sink, T: Taken>(
+    walker: &mut Walker<'_, T>,
     op: Op,
     levels: u32,
     lower: Lower,
@@ -50,8 +56,8 @@ pub(crate) fn map_range<S: Sink>(
 /// Hands over the units of sectors of a device, line by line. A read-only device fails a write of
 /// all of them.
 #[cycle(walk)]
-fn map_device<S: Sink>(
-    walker: &mut Walker<'_>,
+fn map_device<S: Sink, T: Taken>(
+    walker: &mut Walker<'_, T>,
     op: Op,
     levels: u32,
     device: DeviceId,
@@ -73,20 +79,21 @@ fn map_device<S: Sink>(
         let line = walker.look(device, at);
         let distance = at - line.start;
         let part = part_in(line, distance, left);
-        map_line(walker, op, levels - 1, line, distance, part, sink)?;
+        map_line(walker, op, levels - 1, device, line, distance, part, sink)?;
         at += part;
         left -= part;
     }
     Ok(())
 }
 
-/// Hands over the units of sectors of a line at a distance from its start, through at most this
-/// many levels of devices below it. Which device has the line plays no part as yet.
+/// Hands over the units of sectors of a line of this device at a distance from its start, through at
+/// most this many levels of devices below it.
 #[cycle(walk)]
-fn map_line<S: Sink>(
-    walker: &mut Walker<'_>,
+fn map_line<S: Sink, T: Taken>(
+    walker: &mut Walker<'_, T>,
     op: Op,
     levels: u32,
+    device: DeviceId,
     line: &FoundLine,
     distance: u64,
     len: u64,
@@ -95,9 +102,10 @@ fn map_line<S: Sink>(
     requires some { 1 ≤ len }
     requires inside { distance + len ≤ line.now.len }
     requires small { line.now.len ≤ 2 ^ 50 }
-    requires sound { IsTargetSound walker.old.stack line.now.len line.now.target }
+    requires found { found_at walker.old.stack device line.now.start ≡ Some line.now }
+    requires sound { IsTargetSound walker.old.stack device line.now.start line.now.len line.now.target }
     requires sink { IsReady S.stack S.room sink.old walker.old.stack len }
-    ensures { (device : ℕ) → IsWalked S.took S.left S.stack S.room S.faults result sink.old sink.new walker.old walker.new (line_step walker.old.stack op levels device line.now.target walker.old.state distance len) len }
+    ensures { IsWalked S.took S.left S.stack S.room S.faults result sink.old sink.new walker.old walker.new (line_step walker.old.stack op levels device line.now.target walker.old.state distance len) len }
 {
     match &line.target {
         FoundTarget::Linear { to, offset } => {
@@ -110,13 +118,16 @@ fn map_line<S: Sink>(
         }
         FoundTarget::Zero => sink.piece(zero_piece(op, len)),
         FoundTarget::Error => sink.piece(Piece::Error { len }),
+        FoundTarget::Snapshot(snapshot) => {
+            map_snapshot(walker, op, levels, device, snapshot, distance, len, sink)
+        }
     }
 }
 
 /// Hands over the units of sectors of a striped line at a distance from its start, chunk by chunk.
 #[cycle(walk)]
-fn map_stripes<S: Sink>(
-    walker: &mut Walker<'_>,
+fn map_stripes<S: Sink, T: Taken>(
+    walker: &mut Walker<'_, T>,
     op: Op,
     levels: u32,
     chunk: u64,
@@ -148,8 +159,87 @@ fn map_stripes<S: Sink>(
     Ok(())
 }
 
+/// Hands over the units of sectors of a snapshot, chunk by chunk, through at most this many levels of
+/// devices below it.
+#[cycle(walk)]
+fn map_snapshot<S: Sink, T: Taken>(
+    walker: &mut Walker<'_, T>,
+    op: Op,
+    levels: u32,
+    device: DeviceId,
+    snapshot: &FoundSnapshot,
+    sector: u64,
+    len: u64,
+    sink: &mut S,
+) -> Result<(), S::Fault>
+    requires inside { AreInSnapshot walker.old.stack device snapshot.now sector len }
+    requires small { sector + len ≤ 2 ^ 50 }
+    requires sink { IsReady S.stack S.room sink.old walker.old.stack len }
+    ensures { IsWalked S.took S.left S.stack S.room S.faults result sink.old sink.new walker.old walker.new (line_step walker.old.stack op levels device (Snapshot snapshot.now) walker.old.state sector len) len }
+{
+    let mut from = sector;
+    let mut left = len;
+    while left > 0 {
+        let part = part_of_chunk(snapshot.chunk, from, left);
+        map_chunk(walker, op, levels, device, snapshot, from, part, sink)?;
+        from += part;
+        left -= part;
+    }
+    Ok(())
+}
+
+/// Hands over the units of sectors of one chunk of a snapshot. All of them are errors if the snapshot
+/// is lost.
+#[cycle(walk)]
+fn map_chunk<S: Sink, T: Taken>(
+    walker: &mut Walker<'_, T>,
+    op: Op,
+    levels: u32,
+    device: DeviceId,
+    snapshot: &FoundSnapshot,
+    sector: u64,
+    len: u64,
+    sink: &mut S,
+) -> Result<(), S::Fault>
+    requires some { 1 ≤ len }
+    requires chunk { AreInChunk walker.old.stack device snapshot.now sector len }
+    requires sink { IsReady S.stack S.room sink.old walker.old.stack len }
+    ensures { IsWalked S.took S.left S.stack S.room S.faults result sink.old sink.new walker.old walker.new (line_step walker.old.stack op levels device (Snapshot snapshot.now) walker.old.state sector len) len }
+{
+    match op {
+        Op::Write => write_chunk(walker, device, snapshot, sector, len, sink),
+        Op::Read => match read_place(walker, device, snapshot, sector, len) {
+            Some(place) => map_range(walker, op, levels, place.to, place.sector, len, sink),
+            None => sink.piece(Piece::Error { len }),
+        },
+    }
+}
+
+/// Hands over the units of writes to sectors of one chunk of a snapshot: the chunk is made ready, and
+/// then they are written where they are read from then on.
+fn write_chunk<S: Sink, T: Taken>(
+    walker: &mut Walker<'_, T>,
+    device: DeviceId,
+    snapshot: &FoundSnapshot,
+    sector: u64,
+    len: u64,
+    sink: &mut S,
+) -> Result<(), S::Fault>
+    requires some { 1 ≤ len }
+    requires chunk { AreInChunk walker.old.stack device snapshot.now sector len }
+    requires sink { IsReady S.stack S.room sink.old walker.old.stack len }
+    ensures { IsWalked S.took S.left S.stack S.room S.faults result sink.old sink.new walker.old walker.new (steps (write_snapshot walker.old.stack snapshot.now device) walker.old.state sector len) len }
+{
+    let chunk = sector / snapshot.chunk;
+    make_ready(walker, device, snapshot, chunk, sink)?;
+    match read_place(walker, device, snapshot, sector, len) {
+        Some(place) => write_store(walker, &place.to, place.sector, len, sink),
+        None => sink.piece(Piece::Error { len }),
+    }
+}
+
 /// Whether a device refuses the operation as a whole: a write, where it is read-only.
-fn refuses(walker: &Walker<'_>, op: Op, device: DeviceId) -> bool
+fn refuses<T: Taken>(walker: &Walker<'_, T>, op: Op, device: DeviceId) -> bool
     requires { device < length walker.now.stack.devices }
     ensures { result ≡ refuses walker.now.stack op device }
 {
@@ -165,7 +255,12 @@ pub(crate) fn part_in(line: &FoundLine, distance: u64, most: u64) -> u64
 }
 
 /// The sector at a distance from an offset into a device or a disk, where it is there.
-pub(crate) fn sector_at(walker: &Walker<'_>, to: Lower, offset: u64, distance: u64) -> u64
+pub(crate) fn sector_at<T: Taken>(
+    walker: &Walker<'_, T>,
+    to: Lower,
+    offset: u64,
+    distance: u64,
+) -> u64
     requires { offset + distance < lower_len walker.now.stack to }
     ensures { result ≡ offset + distance }
 {

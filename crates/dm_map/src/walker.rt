@@ -1,39 +1,48 @@
 //! Walkers: what a walk down a stack goes by.
 //!
 //! A walk looks up lines, lengths and read-only flags of the stack, and reads and changes the state
-//! that earlier requests left. A target with a state keeps it here, by the id of its device. No
-//! target has one as yet, so the state is always the one at the start.
+//! that earlier requests left. The state is a table of taken chunks for each device, by its id; the
+//! table of a device that is no snapshot has no place and stays empty.
 
-ghost use Rattle.std.specs.Prelude.{◌≡◌, ℕ, ◌+◌, ◌<◌, ◌≤◌, ◌^◌, Some, length};
+ghost use Rattle.std.specs.Prelude.{◌≡◌, ℕ, ◌+◌, ◌<◌, ◌≤◌, ◌^◌, true, not, None, Some, IfSome, length};
 ghost use Rattle.dm_stack.specs.Below.{HoldsSoundly, found_at};
 ghost use Rattle.dm_stack.specs.Description.{device_len, disk_len, is_ro_at};
-ghost use Rattle.dm_map.specs.State.{start_state};
+ghost use Rattle.dm_stack.specs.Soundness.{IsSound};
+ghost use Rattle.dm_map.specs.SnapshotWrites.{lost, put, with_chunk};
+ghost use Rattle.dm_map.specs.Snapshots.{number_in};
+ghost use Rattle.dm_map.specs.State.{taken_at};
+ghost use Rattle.dm_map.specs.Tables.{AreTables, has_room, state_of};
 
+use crate::taken::Taken;
 use dm_stack::{DeviceId, DiskId, Found, Looker};
 use std::marker::Model;
 
 /// A stack, seen through its looker, and the state of its devices.
 #[derive(Drop)]
-pub(crate) struct Walker<'s> {
+pub(crate) struct Walker<'s, T: Taken> {
     looker: Looker<'s>,
+    tables: Vec<T>,
 }
 
-impl<'s> Model for Walker<'s> {
-    ghost use Rattle.dm_map.specs.State.{start_state};
+impl<'s, T: Taken> Model for Walker<'s, T> {
+    ghost use Rattle.dm_map.specs.Tables.{AreTables, state_of};
     ghost use Rattle.dm_map.specs.Walk.{Walking};
 
     ghost Value = { Walking };
 
-    ghost view = { λ walker. record { stack = walker.looker.stack; state = start_state walker.looker.stack } };
+    ghost view = { λ walker. record { stack = walker.looker.stack; state = state_of T.chunks T.valid walker.tables.items } };
+
+    ghost invariant = { λ walker. AreTables T.places walker.looker.stack walker.tables.items };
 }
 
-impl<'s> Walker<'s> {
-    /// A walker of the looker's stack, in the state at the start.
-    pub(crate) fn new(looker: Looker<'s>) -> Walker<'s>
+impl<'s, T: Taken> Walker<'s, T> {
+    /// A walker of the looker's stack, in the state of these tables.
+    pub(crate) fn new(looker: Looker<'s>, tables: Vec<T>) -> Walker<'s, T>
+        requires { AreTables T.places looker.stack tables.items }
         ensures stack { result.stack ≡ looker.entry.stack }
-        ensures state { result.state ≡ start_state looker.entry.stack }
+        ensures state { result.state ≡ state_of T.chunks T.valid tables.items }
     {
-        Walker { looker }
+        Walker { looker, tables }
     }
 
     /// The line that holds a sector of a device.
@@ -42,7 +51,7 @@ impl<'s> Walker<'s> {
         requires device { device < length self.old.stack.devices }
         requires sector { sector < device_len self.old.stack device }
         ensures line { found_at self.old.stack device sector ≡ Some result.now }
-        ensures holds { HoldsSoundly self.old.stack result.now sector }
+        ensures holds { HoldsSoundly self.old.stack device result.now sector }
         ensures all { (other : ℕ) → result.now.start ≤ other → other < result.now.start + result.now.len → found_at self.old.stack device other ≡ Some result.now }
         ensures same { self.new ≡ self.old }
     {
@@ -78,5 +87,74 @@ impl<'s> Walker<'s> {
         ensures { result ≡ is_ro_at self.now.stack device }
     {
         self.looker.is_ro(device)
+    }
+
+    /// A walker's stack is sound. It does nothing: its contract is what is asked of it.
+    #[inline(always)]
+    pub(crate) fn is_sound(&self)
+        ensures { IsSound self.now.stack }
+    {
+        self.looker.depth();
+    }
+
+    /// Whether a snapshot is still valid.
+    pub(crate) fn is_valid(&self, device: DeviceId) -> bool
+        requires { device < length self.now.stack.devices }
+        ensures valid { result ≡ (taken_at self.now.state device).valid }
+        ensures there { device < length self.now.state }
+    {
+        let table = &self.tables[device.index()];
+        table.is_valid()
+    }
+
+    /// The number of a chunk among those that a snapshot took, from 0; its store has a place for it.
+    pub(crate) fn find(&self, device: DeviceId, chunk: u64) -> Option<usize>
+        requires { device < length self.now.stack.devices }
+        ensures number { result ≡ number_in chunk (taken_at self.now.state device).chunks }
+        ensures room { IfSome result (λ number. has_room self.now.stack device number ≡ true) }
+    {
+        let table = &self.tables[device.index()];
+        table.find(chunk)
+    }
+
+    /// How many chunks a snapshot took.
+    pub(crate) fn count(&self, device: DeviceId) -> usize
+        requires { device < length self.now.stack.devices }
+        ensures { result ≡ length (taken_at self.now.state device).chunks }
+    {
+        let table = &self.tables[device.index()];
+        table.count()
+    }
+
+    /// Whether the store of a snapshot has no place for one more chunk.
+    pub(crate) fn is_full(&self, device: DeviceId) -> bool
+        requires { device < length self.now.stack.devices }
+        ensures { result ≡ not (has_room self.now.stack device (length (taken_at self.now.state device).chunks)) }
+    {
+        let table = &self.tables[device.index()];
+        table.is_full()
+    }
+
+    /// Takes a chunk of a valid snapshot, which it did not take, where its store has a place for it.
+    pub(crate) fn take(&mut self, device: DeviceId, chunk: u64)
+        requires device { device < length self.old.stack.devices }
+        requires valid { (taken_at self.old.state device).valid ≡ true }
+        requires room { has_room self.old.stack device (length (taken_at self.old.state device).chunks) ≡ true }
+        requires fresh { number_in chunk (taken_at self.old.state device).chunks ≡ None }
+        ensures stack { self.new.stack ≡ self.old.stack }
+        ensures state { self.new.state ≡ put self.old.state device (with_chunk (taken_at self.old.state device) chunk) }
+    {
+        let table = &mut self.tables[device.index()];
+        table.take(chunk);
+    }
+
+    /// Makes a snapshot invalid, for good.
+    pub(crate) fn invalidate(&mut self, device: DeviceId)
+        requires device { device < length self.old.stack.devices }
+        ensures stack { self.new.stack ≡ self.old.stack }
+        ensures state { self.new.state ≡ put self.old.state device (lost (taken_at self.old.state device)) }
+    {
+        let table = &mut self.tables[device.index()];
+        table.invalidate();
     }
 }

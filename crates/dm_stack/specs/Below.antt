@@ -7,11 +7,13 @@ use Rattle.dm_table.specs.declared.table.Target.TheVariants as targets
 use Rattle.dm_table.specs.declared.table.Line.{Line}
 use Rattle.dm_stack.specs.declared.id.Lower.{Lower}
 use Rattle.dm_stack.specs.declared.found.FoundColumn.{FoundColumn}
+use Rattle.dm_stack.specs.declared.found.FoundSnapshot.{FoundSnapshot}
 use Rattle.dm_stack.specs.declared.found.FoundTarget.{FoundTarget}
 use Rattle.dm_stack.specs.declared.found.FoundTarget.TheVariants as found
 use Rattle.dm_stack.specs.declared.found.FoundLine.{FoundLine}
-use Rattle.dm_stack.specs.declared.limits.TheConstants.{MOST_CHUNK, MOST_LENGTH, MOST_STRIPES}
-use Rattle.dm_stack.specs.Description.{Description, lower_of, lower_len, lines_at}
+use Rattle.dm_stack.specs.declared.limits.TheConstants.{MOST_CHUNK, MOST_LENGTH, MOST_SNAPSHOT_CHUNK, MOST_STRIPES}
+use Rattle.dm_stack.specs.Description.{Description, device_len, lower_of, lower_len, lines_at}
+use Rattle.dm_stack.specs.Store.{IsStore}
 
 -- a line has the sectors from its start to before its end
 abbrev pub holds : ℕ → Line → Bool
@@ -30,6 +32,7 @@ found_target stack (targets.Linear to offset) = found.Linear (lower_of stack to)
 found_target stack (targets.Striped chunk columns) = found.Striped chunk (found_columns stack columns)
 found_target stack targets.Zero = found.Zero
 found_target stack targets.Error = found.Error
+found_target stack (targets.Snapshot origin store chunk) = found.Snapshot (record { origin = lower_of stack origin; store = lower_of stack store; chunk = chunk })
 
 abbrev pub found_line : Description → Line → FoundLine
 found_line stack line = record { start = line.start; len = line.len; target = found_target stack line.target }
@@ -55,20 +58,15 @@ abbrev pub below_stripes : (chunk : ℕ) → List FoundColumn → ℕ → Below
 below_stripes chunk columns distance =
     below_column (slice_get columns (column_of chunk (length columns) distance)) (in_column chunk (length columns) distance)
 
--- a snapshot: what it is of, where chunks are kept, and the sectors of a chunk; no line is one as yet
-pub record Snapshot : Type 0 where
-  pub origin : Lower
-  pub store : Lower
-  pub chunk : ℕ
-
--- what lies below a sector at a distance from the start of a line of this target; over says it for the sectors of a snapshot, since it changes with what was written
-abbrev pub below_target : (over : Snapshot → ℕ → Below) → FoundTarget → ℕ → Below
+-- what lies below a sector at a distance from the start of a line of this target; over says it for the sectors of a snapshot, whose line starts at 0, since it changes with what was written
+abbrev pub below_target : (over : FoundSnapshot → ℕ → Below) → FoundTarget → ℕ → Below
 below_target over (found.Linear to offset) distance = Lies to (offset + distance)
 below_target over (found.Striped chunk columns) distance = below_stripes chunk columns distance
 below_target over found.Zero distance = IsZero
 below_target over found.Error distance = IsError
+below_target over (found.Snapshot snapshot) distance = over snapshot distance
 
-abbrev pub below_line : (over : Snapshot → ℕ → Below) → Option FoundLine → ℕ → Below
+abbrev pub below_line : (over : FoundSnapshot → ℕ → Below) → Option FoundLine → ℕ → Below
 below_line over (Some line) sector = below_target over line.target (sector - line.start)
 below_line over None sector = IsError
 
@@ -76,18 +74,15 @@ below_line over None sector = IsError
 abbrev pub found_lines : Description → ℕ → List FoundLine
 found_lines stack device = map (found_line stack) (lines_at stack device)
 
-abbrev pub has_sector : ℕ → FoundLine → Bool
-has_sector sector line = nat_le line.start sector && nat_lt sector (line.start + line.len)
-
 -- the line of a sector of a device, with ids for names
 abbrev pub found_at : Description → ℕ → ℕ → Option FoundLine
 found_at stack device sector = option_map (found_line stack) (line_of (lines_at stack device) sector)
 
 -- what lies below a sector of a device
-abbrev pub below : (over : Snapshot → ℕ → Below) → Description → ℕ → ℕ → Below
+abbrev pub below : (over : FoundSnapshot → ℕ → Below) → Description → ℕ → ℕ → Below
 below over stack device sector = below_line over (found_at stack device sector) sector
 
--- A line of a sound stack, that holds a sector
+-- A line of a device of a sound stack, that holds a sector
 
 -- len sectors of what is named, from an offset on, are there
 abbrev pub LiesIn : Description → Lower → ℕ → ℕ → Type 0
@@ -105,14 +100,24 @@ pub record AreStripes (stack : Description) (len chunk : ℕ) (columns : List Fo
   pub whole : column_len ≡ chunks * chunk
   pub inside : AllByRecursion (λ column. LiesIn stack column.to column.offset column_len) columns
 
-abbrev pub IsTargetSound : Description → ℕ → FoundTarget → Type 0
-IsTargetSound stack len (found.Linear to offset) = LiesIn stack to offset len
-IsTargetSound stack len (found.Striped chunk columns) = AreStripes stack len chunk columns
-IsTargetSound stack len found.Zero = Unit {0}
-IsTargetSound stack len found.Error = Unit {0}
+-- a snapshot is the whole of a device as long as its origin, with a chunk within its limit and a store that can keep chunks
+pub record IsSnapshotSound (stack : Description) (device start len : ℕ) (snapshot : FoundSnapshot) : Type 0 where
+  pub chunk_some : 0 < snapshot.chunk
+  pub chunk_small : snapshot.chunk ≤ MOST_SNAPSHOT_CHUNK
+  pub from : start ≡ 0
+  pub whole : len ≡ device_len stack device
+  pub origin : lower_len stack snapshot.origin ≡ len
+  pub store : IsStore stack snapshot.store
 
-pub record HoldsSoundly (stack : Description) (line : FoundLine) (sector : ℕ) : Type 0 where
+abbrev pub IsTargetSound : Description → (device start len : ℕ) → FoundTarget → Type 0
+IsTargetSound stack device start len (found.Linear to offset) = LiesIn stack to offset len
+IsTargetSound stack device start len (found.Striped chunk columns) = AreStripes stack len chunk columns
+IsTargetSound stack device start len found.Zero = Unit {0}
+IsTargetSound stack device start len found.Error = Unit {0}
+IsTargetSound stack device start len (found.Snapshot snapshot) = IsSnapshotSound stack device start len snapshot
+
+pub record HoldsSoundly (stack : Description) (device : ℕ) (line : FoundLine) (sector : ℕ) : Type 0 where
   pub from : line.start ≤ sector
   pub before : sector < line.start + line.len
   pub small : line.start + line.len ≤ MOST_LENGTH
-  pub target : IsTargetSound stack line.len line.target
+  pub target : IsTargetSound stack device line.start line.len line.target

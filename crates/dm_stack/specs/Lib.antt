@@ -1,8 +1,11 @@
 pub mod Below
 pub mod Description
 pub mod Graph
+pub mod LineSearch
 pub mod Load
 pub mod Loaded
 pub mod NameIndex
+pub mod Places
 pub mod Soundness
 pub mod Span
+pub mod Store

@@ -30,6 +30,17 @@ pub enum FoundTarget {
     Zero,
     /// Every request fails.
     Error,
+    /// The line of a snapshot, alone in its table.
+    Snapshot(FoundSnapshot),
+}
+
+/// A snapshot: what it is of, where the chunks are kept that are written, and how long a chunk is.
+#[derive(Clone, Copy, Debug, Drop)]
+pub struct FoundSnapshot {
+    pub origin: Lower,
+    pub store: Lower,
+    /// In sectors, from 1 to 1,024.
+    pub chunk: u64,
 }
 
 /// A column of a striped line: what it names, and the first sector there.

@@ -3,14 +3,15 @@
 //! The invariant carries the soundness, so nothing above asks for it again: a value is made only
 //! through the checks of a load. Names are looked up there; afterwards everything goes by ids.
 
-ghost use Rattle.std.specs.Prelude.{◌≡◌, ◌≢◌, ℕ, ◌+◌, ◌<◌, ◌≤◌, ◌^◌, IfErr, IfOk, IsTrue, OnOk, Some, None, find, length, option_copied, position, slice_get};
+ghost use Rattle.std.specs.Prelude.{◌≡◌, ◌≢◌, ℕ, ◌+◌, ◌<◌, ◌≤◌, ◌^◌, IfErr, IfOk, IsTrue, OnOk, Some, length, position, slice_get};
 ghost use Rattle.dm_table.specs.Name.{is_disk_name};
-ghost use Rattle.dm_stack.specs.Below.{HoldsSoundly, found_at, found_lines, has_sector};
-ghost use Rattle.dm_stack.specs.Description.{Description, device_len, disk_len, is_ro_at, is_same, name_at, disk_name_at};
-ghost use Rattle.dm_stack.specs.Loaded.{IsDeeperByOne, stack_depth};
+ghost use Rattle.dm_stack.specs.Below.{HoldsSoundly, found_at, found_lines};
+ghost use Rattle.dm_stack.specs.Description.{Description, device_len, disk_len, is_ro_at, is_same, name_at, disk_name_at, lines_at};
+ghost use Rattle.dm_stack.specs.Loaded.{IsDeeperByOne, snapshots, stack_depth, AreSnapshots};
+ghost use Rattle.dm_stack.specs.LineSearch.{binary_digits};
 ghost use Rattle.dm_stack.specs.Soundness.{IsRefusedBy, IsSound};
 ghost use Rattle.dm_stack.specs.declared.graph.TheConstants.{MOST_DEPTH};
-ghost use Rattle.dm_stack.specs.declared.limits.TheConstants.{MOST_CHUNK, MOST_DEVICES, MOST_DISKS, MOST_LENGTH, MOST_LINES, MOST_STRIPES};
+ghost use Rattle.dm_stack.specs.declared.limits.TheConstants.{MOST_CHUNK, MOST_DEVICES, MOST_DISKS, MOST_LENGTH, MOST_LINES, MOST_PLACES, MOST_SNAPSHOT_CHUNK, MOST_STRIPES};
 ghost use Rattle.dm_table.specs.LoadFault.{IsMemoryFault};
 ghost use Rattle.dm_table.specs.declared.load_fault.LoadFault.{LoadFault};
 ghost use Rattle.dm_table.specs.declared.load_fault.LoadKind.TheVariants.{Memory};
@@ -19,6 +20,7 @@ ghost use Rattle.dm_table.specs.declared.place.Part.TheVariants.{Source};
 use crate::found::{Found, FoundLine, FoundTable};
 use crate::id::{DeviceId, DiskId};
 use crate::layout::end_of;
+use crate::line_search::search;
 use crate::load::check;
 use crate::looker::Looker;
 use crate::name_index::NameIndex;
@@ -35,6 +37,7 @@ pub struct Stack {
     disk_names: NameIndex,
     tables: Vec<FoundTable>,
     depth: u32,
+    snapshots: Vec<DeviceId>,
 }
 
 impl Model for Stack {
@@ -45,7 +48,7 @@ impl Model for Stack {
 
     ghost view = { λ stack. record { devices = stack.devices.items; disks = stack.disks.items } };
 
-    ghost invariant = { λ stack. IsLoaded (record { devices = stack.devices.items; disks = stack.disks.items }) stack.device_names stack.disk_names stack.tables.items stack.depth };
+    ghost invariant = { λ stack. IsLoaded (record { devices = stack.devices.items; disks = stack.disks.items }) stack.device_names stack.disk_names stack.tables.items stack.depth stack.snapshots.items };
 }
 
 impl Stack {
@@ -70,6 +73,12 @@ impl Stack {
     ///    above 2^32 - 1, or a length that is no multiple of the columns, or whose share of each
     ///    column is none of the chunk.
     /// 10. `Range`: a line that passes the end of what it names.
+    /// 11. `Snapshot`: a snapshot that is not the only line of its table, whose chunk is no power of
+    ///     two from 1 to 1,024, or that is not as long as its origin.
+    /// 12. `Store`: a snapshot whose store is neither a disk nor a writable device of linear and
+    ///     striped lines that names nothing but disks and such devices, down to disks.
+    /// 13. `Limit`: the snapshot with whose store all stores have more than 4,194,304 places for
+    ///     chunks together.
     ///
     /// A check goes over the devices in their order, and over the lines of each; disks come after
     /// them. `Memory`, with the number 0, means that memory was refused; it says nothing of the lists.
@@ -91,7 +100,8 @@ impl Stack {
         ensures never { (stack : Description) (found : LoadFault) → IsSound stack → IsRefusedBy stack found → ⊥ }
         // The figures of the limits.
         ensures limits { (MOST_DEVICES ≡ 1024) × (MOST_DISKS ≡ 1024) × (MOST_LINES ≡ 65536) × (MOST_DEPTH ≡ 32)
-            × (MOST_LENGTH ≡ 2 ^ 50) × (MOST_STRIPES ≡ 128) × (MOST_CHUNK + 1 ≡ 2 ^ 32) }
+            × (MOST_LENGTH ≡ 2 ^ 50) × (MOST_STRIPES ≡ 128) × (MOST_CHUNK + 1 ≡ 2 ^ 32)
+            × (MOST_SNAPSHOT_CHUNK ≡ 1024) × (MOST_PLACES ≡ 4194304) }
     {
         let checked = check(alloc, &devices, &disks)?;
         Ok(Stack {
@@ -101,6 +111,7 @@ impl Stack {
             disk_names: checked.names.disks,
             tables: checked.tables,
             depth: checked.depth,
+            snapshots: checked.snapshots,
         })
     }
 
@@ -167,6 +178,15 @@ impl Stack {
         self.depth
     }
 
+    /// The devices that are snapshots, in their order: each has a snapshot's line, alone in its table,
+    /// and no other device has one at its first sector.
+    pub fn snapshots(&self) -> &[DeviceId]
+        ensures ids { result.now ≡ snapshots self.now }
+        ensures all { AreSnapshots self.now result.now }
+    {
+        self.snapshots.as_slice()
+    }
+
     /// Whether a device of the stack is read-only.
     pub fn is_ro(&self, device: DeviceId) -> bool
         requires { device < length self.now.devices }
@@ -192,10 +212,11 @@ impl Stack {
         self.disks[disk.index()].name.as_str()
     }
 
-    /// A looker of this stack, with no search counted.
+    /// A looker of this stack, with no search and no comparison counted.
     pub fn looker(&self) -> Looker<'_>
         ensures stack { result.stack ≡ self.now }
         ensures searches { result.searches ≡ 0 }
+        ensures comparisons { result.comparisons ≡ 0 }
     {
         Looker::new(self)
     }
@@ -218,24 +239,17 @@ impl Stack {
         self.tables[device.index()].as_slice()
     }
 
-    /// The line of a sector. This is the one place where a line is found.
-    pub(crate) fn find_line(&self, device: DeviceId, sector: u64) -> Found<'_>
+    /// The line of a sector, and how many starts of lines were compared with it.
+    pub(crate) fn find_line(&self, device: DeviceId, sector: u64) -> (Found<'_>, u64)
         requires device { device < length self.now.devices }
         requires sector { sector < device_len self.now device }
-        ensures line { found_at self.now device sector ≡ Some result.now }
-        ensures holds { HoldsSoundly self.now result.now sector }
-        ensures all { (other : ℕ) → result.now.start ≤ other → other < result.now.start + result.now.len → found_at self.now device other ≡ Some result.now }
+        ensures line { found_at self.now device sector ≡ Some result.0.now }
+        ensures holds { HoldsSoundly self.now device result.0.now sector }
+        ensures all { (other : ℕ) → result.0.now.start ≤ other → other < result.0.now.start + result.0.now.len → found_at self.now device other ≡ Some result.0.now }
+        ensures few { result.1 ≤ binary_digits (length (lines_at self.now device)) }
     {
-        match line_of(self.lines(device), sector) {
-            Some(line) => line,
-            None => unreachable!(),
-        }
+        let lines = self.lines(device);
+        let (index, comparisons) = search(lines, sector);
+        (&lines[index], comparisons)
     }
-}
-
-/// The first line that holds a sector.
-fn line_of(lines: &[FoundLine], sector: u64) -> Option<&FoundLine>
-    ensures { option_copied result ≡ find (has_sector sector) lines.now }
-{
-    lines.iter().find(|line| line.start <= sector && sector - line.start < line.len)
 }

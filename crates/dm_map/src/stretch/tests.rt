@@ -7,6 +7,8 @@ use super::*;
 use crate::mapper::Mapper;
 use crate::piece::Piece;
 use crate::piece_list::PieceList;
+use crate::plain_taken::PlainTaken;
+use crate::tables::empty_tables;
 use dm_stack::{MOST_DEPTH, Stack};
 use dm_table::{parse_disks, parse_request, parse_table};
 use std::alloc::Global;
@@ -58,10 +60,14 @@ fn a_stretch_is_the_first_piece_of_a_read(rt: HostRuntime) {
         let (start, len) = (request.start, request.len);
         let end = stack.len(device);
         assert!(&rt; start < end && len <= end - start, "inside");
-        let mut walker = Walker::new(stack.looker());
+        let looker = stack.looker();
+        let tables: Vec<PlainTaken> = empty_tables(alloc, &looker).expect(&rt, "tables");
+        let mut walker = Walker::new(looker, tables);
         let stretch = first_stretch(&mut walker, MOST_DEPTH, Lower::Device(device), start, len);
         assert_eq!(&rt; stretch.len, want, "{line}");
-        let mut mapper = Mapper::new(alloc, stack.looker()).expect(&rt, "a mapper");
+        let mut mapper: Mapper<'_, PlainTaken> = Mapper::new(alloc, stack.looker()).expect(
+            &rt, "a mapper",
+        );
         let mut list = PieceList::new(alloc, &stack);
         mapper
             .request(&request, device, &mut list)

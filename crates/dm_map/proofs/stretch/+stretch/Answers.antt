@@ -10,6 +10,7 @@ use Rattle.dm_map.specs.Stretch.{ground_unit, IsThere}
 use Rattle.dm_map.specs.Units.{units_in}
 use Rattle.dm_map.specs.Walk.{Walking, line_step, range_step, stripes_step, AreInStripes, IsPlace}
 use Rattle.dm_map.proofs.Ranges.{range_deepest, range_disk, range_line, line_errors, line_linear, line_striped, line_zeros, stripes_chunk}
+use Rattle.dm_map.proofs.Chunks.{chunk_read, in_one_chunk, in_snapshot, lost_read}
 use Rattle.dm_map.proofs.Stripes.{column_inside}
 use Rattle.dm_map.proofs.There.{device_there, disk_there}
 use Rattle.dm_map.proofs.stretch.+stretch.Goals as goal
@@ -17,7 +18,7 @@ use Rattle.dm_map.proofs.stretch.+stretch.Goals as goal
 -- A disk, and a device
 
 pub first_stretch-returns-in-Disk : goal.first_stretch-returns-in-Disk
-first_stretch-returns-in-Disk t c =
+first_stretch-returns-in-Disk g t c =
     let a = c.args in let w = a.walker.now in
     let inside = subst (λ (lower : Lower). a.sector + a.len ≤ lower_len w.stack lower) c.in-Disk.is c.requires.inside in
     record {
@@ -29,7 +30,7 @@ first_stretch-returns-in-Disk t c =
     }
 
 pub first_stretch-returns-then-levels-eq0 : goal.first_stretch-returns-then-levels-eq0
-first_stretch-returns-then-levels-eq0 t c =
+first_stretch-returns-then-levels-eq0 g t c =
     let a = c.args in let w = a.walker.now in
     record {
       some = c.requires.some;
@@ -40,14 +41,14 @@ first_stretch-returns-then-levels-eq0 t c =
     }
 
 pub first_stretch-look-line-requires-clause-device : goal.first_stretch-look-line-requires-clause-device
-first_stretch-look-line-requires-clause-device t c =
+first_stretch-look-line-requires-clause-device g t c =
     let a = c.args in let w = a.walker.now in
     let inside = subst (λ (lower : Lower). a.sector + a.len ≤ lower_len w.stack lower) c.in-Device.is c.requires.inside in
     device_there w.stack c.in-Device.device a.sector (omega (arith, inside, c.requires.some))
 
 pub first_stretch-returns-else-levels-eq0 : goal.first_stretch-returns-else-levels-eq0
-first_stretch-returns-else-levels-eq0 t c =
-    let a = c.args in let w = a.walker.now in let line = c.look-line.result.now in let s = c.line_stretch.ensures c.in-Device.device in let n = c.line_stretch.result.len in let holds = c.look-line.ensures.holds in
+first_stretch-returns-else-levels-eq0 g t c =
+    let a = c.args in let w = a.walker.now in let line = c.look-line.result.now in let s = c.line_stretch.ensures in let n = c.line_stretch.result.len in let holds = c.look-line.ensures.holds in
     let each : (i : ℕ) → i < n → found_at w.stack c.in-Device.device (a.sector + i) ≡ Some line = λ i within.
     c.look-line.ensures.all (a.sector + i) (omega (arith, holds.from)) (omega (arith, holds.from, holds.before, c.part_in-part.ensures, s.most, within)) in
     let looked : (look : Walking → Step) → look c.look-line.new.self ≡ look w = λ look. ap look c.look-line.ensures.same in
@@ -65,8 +66,8 @@ first_stretch-returns-else-levels-eq0 t c =
 -- A line
 
 pub line_stretch-returns-in-Linear : goal.line_stretch-returns-in-Linear
-line_stretch-returns-in-Linear t c device =
-    let a = c.args in let w = a.walker.now in let s = c.first_stretch.ensures in let n = c.first_stretch.result.len in
+line_stretch-returns-in-Linear g t c =
+    let a = c.args in let device = a.device in let w = a.walker.now in let s = c.first_stretch.ensures in let n = c.first_stretch.result.len in
     record {
       some = s.some;
       most = s.most;
@@ -77,8 +78,8 @@ line_stretch-returns-in-Linear t c device =
     }
 
 pub line_stretch-returns-in-Striped : goal.line_stretch-returns-in-Striped
-line_stretch-returns-in-Striped t c device =
-    let a = c.args in let w = a.walker.now in let s = c.stripes_stretch.ensures in let n = c.stripes_stretch.result.len in
+line_stretch-returns-in-Striped g t c =
+    let a = c.args in let device = a.device in let w = a.walker.now in let s = c.stripes_stretch.ensures in let n = c.stripes_stretch.result.len in
     record {
       some = s.some;
       most = s.most;
@@ -89,8 +90,8 @@ line_stretch-returns-in-Striped t c device =
     }
 
 pub line_stretch-returns-in-Zero : goal.line_stretch-returns-in-Zero
-line_stretch-returns-in-Zero t c device =
-    let a = c.args in let w = a.walker.now in
+line_stretch-returns-in-Zero g t c =
+    let a = c.args in let device = a.device in let w = a.walker.now in
     record {
       some = c.requires.some;
       most = omega arith;
@@ -100,8 +101,8 @@ line_stretch-returns-in-Zero t c device =
     }
 
 pub line_stretch-returns-in-Error : goal.line_stretch-returns-in-Error
-line_stretch-returns-in-Error t c device =
-    let a = c.args in let w = a.walker.now in
+line_stretch-returns-in-Error g t c =
+    let a = c.args in let device = a.device in let w = a.walker.now in
     record {
       some = c.requires.some;
       most = omega arith;
@@ -120,14 +121,14 @@ part_inside stack chunk distance len n columns column place lies some at most is
     column_inside stack chunk distance len 0 n columns column place lies (omega (arith, some)) (subst (λ (d : ℕ). IsPlace chunk (length columns) d place) here at) most is
 
 pub stripes_stretch-sector_at-sector-requires : goal.stripes_stretch-sector_at-sector-requires
-stripes_stretch-sector_at-sector-requires t c =
+stripes_stretch-sector_at-sector-requires g t c =
     let a = c.args in let place = c.place_at-place.result in let column = c.index-columns-place.result in
     let inside = part_inside a.walker.now.stack a.chunk a.distance a.len c.min-part.result a.columns.now column place c.requires.inside c.requires.some c.place_at-place.ensures (omega (arith, c.min-part.ensures)) c.index-columns-place.is in
     let some : 1 ≤ c.min-part.result = omega (arith, c.min-part.ensures, c.requires.some, c.place_at-place.ensures.past, c.requires.inside.stripes.chunk_some) in
     omega (arith, inside, some)
 
 pub stripes_stretch-first_stretch-requires : goal.stripes_stretch-first_stretch-requires
-stripes_stretch-first_stretch-requires t c =
+stripes_stretch-first_stretch-requires g t c =
     let a = c.args in let place = c.place_at-place.result in let column = c.index-columns-place.result in
     let inside = part_inside a.walker.now.stack a.chunk a.distance a.len c.min-part.result a.columns.now column place c.requires.inside c.requires.some c.place_at-place.ensures (omega (arith, c.min-part.ensures)) c.index-columns-place.is in
     let some : 1 ≤ c.min-part.result = omega (arith, c.min-part.ensures, c.requires.some, c.place_at-place.ensures.past, c.requires.inside.stripes.chunk_some) in
@@ -135,7 +136,7 @@ stripes_stretch-first_stretch-requires t c =
     search rules
 
 pub stripes_stretch-returns : goal.stripes_stretch-returns
-stripes_stretch-returns t c =
+stripes_stretch-returns g t c =
     let a = c.args in let w = a.walker.now in let place = c.place_at-place.result in let column = c.index-columns-place.result in let s = c.first_stretch.ensures in let n = c.first_stretch.result.len in let stripes = c.requires.inside.stripes in
     record {
       some = s.some;
@@ -144,4 +145,59 @@ stripes_stretch-returns t c =
           ∙ ap (λ (p : ℕ). range_step w.stack Read a.levels column.to w.state p n) (sym c.sector_at-sector.ensures) ∙ s.read;
       lies = s.lies;
       same = s.same;
+    }
+
+-- A snapshot
+
+pub line_stretch-snapshot_stretch-requires : goal.line_stretch-snapshot_stretch-requires
+line_stretch-snapshot_stretch-requires g t c =
+    let a = c.args in
+    let inside = in_snapshot a.walker.now.stack a.device a.distance a.len a.line.now c.in-Snapshot.snapshot c.requires.found c.in-Snapshot.is c.requires.sound c.requires.inside in
+    search rules
+
+pub line_stretch-returns-in-Snapshot : goal.line_stretch-returns-in-Snapshot
+line_stretch-returns-in-Snapshot g t c =
+    let a = c.args in let device = a.device in let w = a.walker.now in let s = c.snapshot_stretch.ensures in let n = c.snapshot_stretch.result.len in
+    record {
+      some = s.some;
+      most = s.most;
+      read = ap (λ target. line_step w.stack Read a.levels device target w.state a.distance n) c.in-Snapshot.is ∙ s.read;
+      lies = s.lies;
+      same = s.same;
+    }
+
+pub snapshot_stretch-read_place-requires : goal.snapshot_stretch-read_place-requires
+snapshot_stretch-read_place-requires g t c =
+    let a = c.args in let part = c.part_of_chunk-part.ensures in
+    let whole : a.sector + a.len ≡ a.sector + a.len = refl in
+    let chunk = in_one_chunk a.walker.now.stack a.walker.now.stack a.device a.sector a.len a.sector a.len c.part_of_chunk-part.result a.snapshot.now c.requires.inside refl whole part in
+    record { some = omega (arith, part, c.requires.some, c.requires.inside.sound.chunk_some); chunk = chunk }
+
+pub snapshot_stretch-first_stretch-requires : goal.snapshot_stretch-first_stretch-requires
+snapshot_stretch-first_stretch-requires g t c =
+    let a = c.args in let part = c.part_of_chunk-part.ensures in let at = c.in-Some.ensures.place in
+    let some : 1 ≤ c.part_of_chunk-part.result = omega (arith, part, c.requires.some, c.requires.inside.sound.chunk_some) in
+    let inside = at.inside in
+    search rules
+
+pub snapshot_stretch-returns-in-Some : goal.snapshot_stretch-returns-in-Some
+snapshot_stretch-returns-in-Some g t c =
+    let a = c.args in let w = a.walker.now in let s = c.first_stretch.ensures in let n = c.first_stretch.result.len in
+    record {
+      some = s.some;
+      most = omega (arith, s.most, c.part_of_chunk-part.ensures);
+      read = chunk_read w.stack a.levels a.device a.sector n c.part_of_chunk-part.result a.snapshot.now w.state c.in-Some.place c.in-Some.ensures.place s.most ∙ s.read;
+      lies = s.lies;
+      same = s.same;
+    }
+
+pub snapshot_stretch-returns-in-None : goal.snapshot_stretch-returns-in-None
+snapshot_stretch-returns-in-None g t c =
+    let a = c.args in let w = a.walker.now in let part = c.part_of_chunk-part.ensures in
+    record {
+      some = omega (arith, part, c.requires.some, c.requires.inside.sound.chunk_some);
+      most = omega (arith, part);
+      read = lost_read w.stack a.levels a.device a.sector c.part_of_chunk-part.result a.snapshot.now w.state c.in-None.ensures.lost;
+      lies = tt;
+      same = refl;
     }

@@ -1,0 +1,19 @@
+use Rattle.std.proofs.Common.{◌≡◌, ◌+◌, ◌-◌, ◌≤◌}
+use Rattle.dm_map.specs.Snapshots.{kept_at}
+use Rattle.dm_map.specs.SnapshotWrites.{copies}
+use Rattle.dm_map.proofs.ready.copy_chunk.Given as goal
+
+abbrev pub invariant-loop-left : goal.invariant-loop-left
+invariant-loop-left g l = record {
+  taken : g.S.Sink.took l.fn.sink (copies l.fn.walker.stack l.fn.walker.state l.snapshot l.number l.sector (l.len - l.left)) l.sink;
+  within : l.left ≤ l.len;
+  from : l.from + l.left ≡ l.sector + l.len;
+  to : l.to + l.left ≡ kept_at l.snapshot l.number l.sector + l.len;
+  same : l.walker ≡ l.fn.walker;
+  stack : g.S.Sink.stack l.sink ≡ g.S.Sink.stack l.fn.sink;
+  room : g.S.Sink.room l.fn.sink ≤ g.S.Sink.room l.sink;
+  faults : g.S.Sink.faults l.sink ≡ g.S.Sink.faults l.fn.sink;
+}
+
+abbrev pub decreases-loop-left : goal.decreases-loop-left
+decreases-loop-left g l = l.left

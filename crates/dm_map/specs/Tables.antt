@@ -1,0 +1,42 @@
+-- Tables of taken chunks, one for each device of a stack, as a state.
+use Rattle.std.specs.Prelude.{ℕ, ◌≡◌, Bool, false, List, Option, Some, None, length, map, nat_lt, slice_get}
+use Rattle.dm_stack.specs.declared.found.FoundLine.{FoundLine}
+use Rattle.dm_stack.specs.declared.found.FoundSnapshot.{FoundSnapshot}
+use Rattle.dm_stack.specs.declared.found.FoundTarget.{FoundTarget}
+use Rattle.dm_stack.specs.declared.found.FoundTarget.TheVariants as found
+use Rattle.dm_stack.specs.Description.{Description}
+use Rattle.dm_stack.specs.Below.{found_at}
+use Rattle.dm_map.specs.SnapshotWrites.{has_place}
+use Rattle.dm_map.specs.State.{State}
+
+-- the state that tables have
+abbrev pub state_of : {T : Type 0} → (T → List ℕ) → (T → Bool) → List T → State
+state_of chunks valid tables = map (λ table. record { chunks = chunks table; valid = valid table }) tables
+
+-- the snapshot that a device is, by its line at sector 0
+abbrev pub snapshot_of : FoundTarget → Option FoundSnapshot
+snapshot_of (found.Linear to offset) = None
+snapshot_of (found.Striped chunk columns) = None
+snapshot_of found.Zero = None
+snapshot_of found.Error = None
+snapshot_of (found.Snapshot snapshot) = Some snapshot
+
+abbrev pub snapshot_in : Option FoundLine → Option FoundSnapshot
+snapshot_in (Some line) = snapshot_of line.target
+snapshot_in None = None
+
+abbrev pub snapshot_at : Description → (device : ℕ) → Option FoundSnapshot
+snapshot_at stack device = snapshot_in (found_at stack device 0)
+
+-- its store has a place for the taken chunk of this number; a device that is no snapshot has none
+abbrev pub room_of : Description → Option FoundSnapshot → (number : ℕ) → Bool
+room_of stack (Some snapshot) number = has_place stack snapshot number
+room_of stack None number = false
+
+abbrev pub has_room : Description → (device number : ℕ) → Bool
+has_room stack device number = room_of stack (snapshot_at stack device) number
+
+-- the tables of a stack: one for each device, with the places that its store has
+pub record AreTables {T : Type 0} (places : T → ℕ) (stack : Description) (tables : List T) : Type 0 where
+  pub count : length tables ≡ length stack.devices
+  pub room : (device number : ℕ) (table : T) → slice_get tables device ≡ Some table → nat_lt number (places table) ≡ has_room stack device number
