@@ -18,3 +18,7 @@ pub mod RowFaultLemmas
 pub mod WriteLemmas
 pub mod BlockLemmas
 pub mod CanonicalTable
+pub mod ConciseFaults
+pub mod ConciseRows
+pub mod ConciseDescribed
+mod ConciseWorked

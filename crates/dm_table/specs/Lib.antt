@@ -11,6 +11,8 @@ pub mod LineBody
 pub mod LineReading
 pub mod TableText
 pub mod TableReading
+pub mod ConciseText
+pub mod ConciseReading
 pub mod RequestLine
 pub mod DeviceIo
 pub mod ShortIo

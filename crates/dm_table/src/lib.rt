@@ -8,6 +8,8 @@
 
 mod block;
 mod canonical_text;
+mod concise_device;
+mod concise_text;
 mod counted;
 mod device_io;
 mod disk;
@@ -37,6 +39,7 @@ mod writing;
 
 pub use block::{put_bytes, put_digits, put_room};
 pub use canonical_text::{write_concise, write_table};
+pub use concise_text::parse_concise;
 pub use counted::Counted;
 pub use device_io::{InFault, Input, OutFault, Output};
 pub use disk::Disk;
