@@ -18,6 +18,7 @@ pub mod RowFaultLemmas
 pub mod WriteLemmas
 pub mod BlockLemmas
 pub mod CanonicalTable
+pub mod CanonicalConcise
 pub mod ConciseFaults
 pub mod ConciseRows
 pub mod ConciseDescribed

@@ -2,7 +2,7 @@
 use Rattle.std.proofs.Common.{take, Ok}
 use Rattle.dm_table.specs.CanonicalText.{Wrote, table_text}
 use Rattle.dm_table.specs.declared.device_io.OutFault.{OutFault}
-use Rattle.dm_table.proofs.canonical_text.write_table.Given as goal
+use Rattle.dm_table.proofs.canonical_text.write_every_line.Given as goal
 
 abbrev pub invariant-loop-device : goal.invariant-loop-device
 invariant-loop-device g l =
