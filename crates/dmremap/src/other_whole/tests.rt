@@ -103,25 +103,55 @@ fn check(rt: &impl Abort, ran: Ran, text: &str, status: u8) {
     assert_eq!(rt; got, status, "the status, {text}");
 }
 
-/// Tables with the disks below, and what is printed in both forms.
-static TABLES: [(&str, &str, &str, &str); 3] = [
-    ("", "", "", "\n"),
-    ("a: 0 8 error \n", "", "a: 0 8 error\n", "a,,,rw,0 8 error\n"),
+/// Tables in a format with the disks below, and what is printed in both forms.
+static TABLES: [(Format, &str, &str, &str, &str); 8] = [
+    (Format::Table, "", "", "", "\n"),
     (
+        Format::Table,
+        "a: 0 8 error \n",
+        "",
+        "a: 0 8 error\n",
+        "a,,,rw,0 8 error\n",
+    ),
+    (
+        Format::Table,
         "b: 0 9 zero\nb: 9 8 linear sda 1\na: 0 16 striped 2 4 /dev/mapper/b 9 sda 0\n",
         "sda 9\n",
         "b: 0 9 zero\nb: 9 8 linear sda 1\na: 0 16 striped 2 4 /dev/mapper/b 9 sda 0\n",
         "b,,,rw,0 9 zero,9 8 linear sda 1;a,,,rw,0 16 striped 2 4 /dev/mapper/b 9 sda 0\n",
+    ),
+    (Format::Concise, "", "", "", "\n"),
+    (Format::Concise, "\n", "", "", "\n"),
+    (
+        Format::Concise,
+        "a,,,,0 8 zero;b,,,,0 8 zero, 8 8 error\n",
+        "",
+        "a: 0 8 zero\nb: 0 8 zero\nb: 8 8 error\n",
+        "a,,,rw,0 8 zero;b,,,rw,0 8 zero,8 8 error\n",
+    ),
+    (
+        Format::Concise,
+        "a,,,,0 8 zero ;b,,,,0 8 error ",
+        "",
+        "a: 0 8 zero\nb: 0 8 error\n",
+        "a,,,rw,0 8 zero;b,,,rw,0 8 error\n",
+    ),
+    (
+        Format::Concise,
+        "a,LVM-x,3,ro,0 8 linear sda 0;b,,,,0 8 linear /dev/mapper/a 0\n",
+        "sda 8\n",
+        "a: 0 8 linear sda 0\nb: 0 8 linear /dev/mapper/a 0\n",
+        "a,,,ro,0 8 linear sda 0;b,,,rw,0 8 linear /dev/mapper/a 0\n",
     ),
 ];
 
 #[test]
 fn tables(rt: HostRuntime) {
     let alloc = rt.alloc();
-    for (source, disks, table, concise) in TABLES {
+    for &(format, source, disks, table, concise) in &TABLES {
         for (form, text) in [(Form::Table, table), (Form::Concise, concise)] {
             for step in [1, 7] {
-                let task = printing(form, Format::Table);
+                let task = printing(form, format);
                 let (output, messages) = (stream(&rt, alloc, step), stream(&rt, alloc, step));
                 let ran = run(alloc, task, source, disks, output, messages);
                 check(&rt, ran, text, 0);
@@ -161,7 +191,7 @@ static READ_ONLY: [(Form, &str); 2] = [
 #[test]
 fn a_read_only_volume(rt: HostRuntime) {
     let alloc = rt.alloc();
-    for (form, text) in READ_ONLY {
+    for &(form, text) in &READ_ONLY {
         let task = printing(form, Format::Lvm);
         let (output, messages) = (stream(&rt, alloc, 1), stream(&rt, alloc, 1));
         let ran = run(alloc, task, GROUP, "", output, messages);
@@ -169,23 +199,50 @@ fn a_read_only_volume(rt: HostRuntime) {
     }
 }
 
-/// Tables and disks, and why they are refused.
-static REFUSED: [(&str, &str, &str); 3] = [
-    ("a", "b", "dmremap: source: syntax at 1\n"),
-    ("a: 0 8 zero\n", "b", "dmremap: disks: syntax at 1\n"),
+/// A device with a uuid of 129 bytes.
+const LONG_UUID: &str = "a,uuuuuuuuuuuuuuuuuuuuuuuuuuuuuuuuuuuuuuuuuuuuuuuuuuuuuuuuuuuuuuuuuuuuuuuuuuuuuuuuuuuuuuuuuuuuuuuuuuuuuuuuuuuuuuuuuuuuuuuuuuuuuuuuu,,,0 8 zero";
+
+/// Tables in a format and disks, and why they are refused.
+static REFUSED: [(Format, &str, &str, &str); 6] = [
+    (Format::Table, "a", "b", "dmremap: source: syntax at 1\n"),
     (
+        Format::Table,
+        "a: 0 8 zero\n",
+        "b",
+        "dmremap: disks: syntax at 1\n",
+    ),
+    (
+        Format::Table,
         "a: 0 8 zero\nb: 0 8 linear sda 1\n",
         "sda 8\n",
         "dmremap: source: range at 2\n",
+    ),
+    (
+        Format::Concise,
+        "a,,,xx,0 8 zero\n",
+        "b",
+        "dmremap: source: field at 1\n",
+    ),
+    (
+        Format::Concise,
+        "a,,,,0 8 zero;",
+        "b",
+        "dmremap: source: syntax at 2\n",
+    ),
+    (
+        Format::Concise,
+        LONG_UUID,
+        "b",
+        "dmremap: source: name at 1\n",
     ),
 ];
 
 #[test]
 fn refused_loads(rt: HostRuntime) {
     let alloc = rt.alloc();
-    for (source, disks, message) in REFUSED {
+    for &(format, source, disks, message) in &REFUSED {
         for form in [Form::Table, Form::Concise] {
-            let task = printing(form, Format::Table);
+            let task = printing(form, format);
             let (output, messages) = (stream(&rt, alloc, 1), stream(&rt, alloc, 1));
             let ran = run(alloc, task, source, disks, output, messages);
             check(&rt, ran, message, 1);
@@ -205,7 +262,7 @@ static BUILT: [(&str, &str, Option<&str>, &str, u8); 5] = [
 #[test]
 fn built_names(rt: HostRuntime) {
     let alloc = rt.alloc();
-    for (vg, lv, layer, text, status) in BUILT {
+    for &(vg, lv, layer, text, status) in &BUILT {
         let task = Task::Name { vg, lv, layer };
         let (output, messages) = (stream(&rt, alloc, 1), stream(&rt, alloc, 1));
         let ran = run(alloc, task, "", "", output, messages);
@@ -226,7 +283,7 @@ static SPLIT: [(&str, &str, u8); 6] = [
 #[test]
 fn parts_of_names(rt: HostRuntime) {
     let alloc = rt.alloc();
-    for (name, text, status) in SPLIT {
+    for &(name, text, status) in &SPLIT {
         let task = Task::SplitName(name);
         let (output, messages) = (stream(&rt, alloc, 1), stream(&rt, alloc, 1));
         let ran = run(alloc, task, "", "", output, messages);
@@ -245,11 +302,11 @@ fn check_failed(rt: &impl Abort, ran: Ran, printed: &[u8]) {
 #[test]
 fn the_output_fails_after_each_byte(rt: HostRuntime) {
     let alloc = rt.alloc();
-    for (source, disks, text, _) in TABLES {
+    for &(format, source, disks, text, _) in &TABLES {
         let text = text.as_bytes();
         for count in 0..text.len() {
             let output = ShortOut::new(alloc, 3, count).expect(&rt, "an output");
-            let task = printing(Form::Table, Format::Table);
+            let task = printing(Form::Table, format);
             let ran = run(alloc, task, source, disks, output, stream(&rt, alloc, 1));
             check_failed(&rt, ran, &text[..count]);
         }
@@ -259,7 +316,7 @@ fn the_output_fails_after_each_byte(rt: HostRuntime) {
 #[test]
 fn the_flush_fails(rt: HostRuntime) {
     let alloc = rt.alloc();
-    for (form, text) in READ_ONLY {
+    for &(form, text) in &READ_ONLY {
         let output = ShortOut::failing_flush(alloc, 1, PLENTY).expect(&rt, "an output");
         let task = printing(form, Format::Lvm);
         let ran = run(alloc, task, GROUP, "", output, stream(&rt, alloc, 1));
