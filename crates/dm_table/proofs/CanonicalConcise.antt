@@ -5,7 +5,6 @@ use Rattle.std.specs.List.{join_with_byte}
 use Rattle.dm_table.specs.declared.table.Line.{Line}
 use Rattle.dm_table.specs.declared.table.DeviceSpec.{DeviceSpec}
 use Rattle.dm_table.specs.declared.place.Place.{Place}
-use Rattle.dm_table.specs.Name.{is_device_name}
 use Rattle.dm_table.specs.LineBody.{body_text}
 use Rattle.dm_table.specs.ConciseText.{place_of, is_ro, is_flags, SaysLines, SaysDevice, SaysDevices, DescribesConcise}
 use Rattle.dm_table.specs.CanonicalText.{flag_text, concise_device, concise_text, lines_at, as_concise}

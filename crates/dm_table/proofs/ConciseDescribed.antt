@@ -1,16 +1,16 @@
 -- A text of the concise form in which no check finds anything describes the devices that are read from it, and one that describes devices is read as them.
-use Rattle.std.proofs.Common.{◌≡◌, ◌⊎◌, inl, inr, ℕ, suc, ◌<◌, ◌≤◌, Bool, true, false, not, eqb, List, [], ◌∷◌, ◌++◌, length, take, get_or, ◌-◌, Result, Some, None, Ok, Err, refl, sym, ap, subst, ◌∙◌, arith}
+use Rattle.std.proofs.Common.{◌≡◌, ◌⊎◌, inl, inr, ℕ, suc, ◌≤◌, Bool, true, false, not, eqb, List, [], ◌∷◌, ◌++◌, length, take, get_or, ◌-◌, Some, None, Ok, Err, refl, sym, ap, subst, ◌∙◌, arith}
 use Rattle.std.specs.List.{list_all, join_with_byte, AllByRecursion}
-use Rattle.std.proofs.lemmas.Bool.{and_parts, cases_Bool, not-true, not-false, not_from_true, eqb-true, eq-eqb}
+use Rattle.std.proofs.lemmas.Bool.{and_parts, cases_Bool, not-true, not-false, not_from_true, eqb-true}
 use Rattle.std.proofs.lemmas.List.{length-append}
 use Rattle.dm_table.specs.declared.table.DeviceSpec.{DeviceSpec}
 use Rattle.dm_table.specs.declared.place.Part.TheVariants.{Source}
 use Rattle.dm_table.specs.declared.load_fault.LoadKind.TheVariants.{NotText, Syntax, Field, Name}
 use Rattle.dm_table.specs.declared.load_fault.LoadFault.{LoadFault}
 use Rattle.dm_table.specs.Fields.{parts_at, front, back}
-use Rattle.dm_table.specs.LoadFault.{first_fault, faults_from, unless}
-use Rattle.dm_table.specs.ConciseText.{SaysDevices, DescribesConcise, lacks, without_newline, parts_of, devices_of, entries, is_printed, is_device, has_values, has_names, concise_checks}
-use Rattle.dm_table.specs.ConciseReading.{device_of, devices_from, parts_reading, read_concise}
+use Rattle.dm_table.specs.LoadFault.{first_fault, faults_from}
+use Rattle.dm_table.specs.ConciseText.{SaysDevices, DescribesConcise, lacks, without_newline, parts_of, devices_of, is_printed, is_device, has_values, has_names, concise_checks}
+use Rattle.dm_table.specs.ConciseReading.{devices_from, parts_reading, read_concise}
 use Rattle.dm_table.proofs.ByteLemmas.{All-list_all, list_all-weaker}
 use Rattle.dm_table.proofs.FaultLemmas.{first_fault-none, first_fault-all, faults_from-nil, faults_from-good, unless-ok, unless-err}
 use Rattle.dm_table.proofs.FieldLemmas.{IsClearOf, join-parts_at, parts_at-join, front-push, back-push}

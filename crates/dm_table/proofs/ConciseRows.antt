@@ -1,21 +1,20 @@
 -- The text of a body in the concise form and its fields, and the text of a device and its entries.
-use Rattle.std.proofs.Common.{◌≡◌, ◌⊎◌, inl, inr, ℕ, suc, ◌+◌, ◌^◌, ◌<◌, ◌≤◌, Bool, true, false, not, eqb, nat_le, nat_lt, nat_eq, ◌&&◌, ◌||◌, List, [], ◌∷◌, ◌++◌, length, drop, refl, sym, ap, ◌∙◌, append_assoc, arith}
-use Rattle.std.specs.Prelude.{codes, decimal, is_some}
+use Rattle.std.proofs.Common.{◌≡◌, ◌⊎◌, inl, inr, ℕ, ◌≤◌, Bool, true, false, not, eqb, nat_le, nat_lt, ◌&&◌, ◌||◌, List, [], ◌∷◌, ◌++◌, length, drop, refl, sym, ap, ◌∙◌, arith}
+use Rattle.std.specs.Prelude.{codes, decimal}
 use Rattle.std.specs.List.{list_all, join_with_byte, AllByRecursion}
-use Rattle.std.specs.Cmp.Lexicographic.{pointwise}
-use Rattle.std.proofs.lemmas.Bool.{and_parts, and_from, cases_Bool, eqb-true, lt-ltb, not_from_false}
+use Rattle.std.proofs.lemmas.Bool.{and_parts, and_from, cases_Bool, eqb-true}
 use Rattle.std.proofs.lemmas.Bool.Decides.{nat_tests}
 use Rattle.std.proofs.lemmas.List.{length-append}
 use Rattle.dm_table.specs.declared.table.Line.{Line}
 use Rattle.dm_table.specs.declared.table.DeviceSpec.{DeviceSpec}
 use Rattle.dm_table.specs.declared.place.Place.{Place}
 use Rattle.dm_table.specs.Name.{is_device_byte, is_device_name}
-use Rattle.dm_table.specs.Number.{number_of, number_in}
-use Rattle.dm_table.specs.Fields.{fields, parts_at}
+use Rattle.dm_table.specs.Number.{number_in}
+use Rattle.dm_table.specs.Fields.{fields}
 use Rattle.dm_table.specs.LineBody.{body_text, IsBody, is_body_row, is_body, has_body_names}
 use Rattle.dm_table.specs.LineReading.{body_in}
 use Rattle.dm_table.specs.TableText.{without_last_space, row_of}
-use Rattle.dm_table.specs.ConciseText.{is_uuid, is_minor, is_ro, is_flags, place_of, WritesBody, SaysLines, SaysDevice, lacks, entries, without_first_space, body_fields, bodies_of, is_printed, is_label, is_known, is_named, is_device, has_values, has_names}
+use Rattle.dm_table.specs.ConciseText.{is_uuid, is_minor, is_ro, is_flags, place_of, WritesBody, SaysLines, SaysDevice, lacks, entries, without_first_space, body_fields, is_label, is_known, is_named, is_device, has_values, has_names}
 use Rattle.dm_table.specs.ConciseReading.{lines_in, device_of}
 use Rattle.dm_table.proofs.ByteLemmas.{All-list_all, list_all-weaker, list_all-both}
 use Rattle.dm_table.proofs.FieldLemmas.{IsClearOf, parts_at-join, join-parts_at}

@@ -1,6 +1,7 @@
 -- Rows worked by hand, against which the definitions of the concise form are checked.
 use Rattle.std.proofs.Common.{◌≡◌, ℕ, true, false, List, [], ◌∷◌, Ok, Err, refl}
 use Rattle.std.specs.Prelude.{codes}
+use Rattle.std.specs.List.{AllByRecursion}
 use Rattle.dm_table.specs.declared.table.DevRef.TheVariants as refs
 use Rattle.dm_table.specs.declared.table.DeviceSpec.{DeviceSpec}
 use Rattle.dm_table.specs.declared.table.Line.{Line}
@@ -20,10 +21,6 @@ line n start len target = record { start = start; len = len; target = target; at
 -- what a text is read as
 abbrev Gives : List ℕ → List DeviceSpec → Type 0
 Gives text devices = read_concise text ≡ Ok devices
-
--- the fault of a text
-abbrev IsRefused : List ℕ → LoadKind → ℕ → Type 0
-IsRefused text kind n = read_concise text ≡ Err (fault_at Source kind n)
 
 nothing : Gives [] []
 unfolding read_concise
@@ -49,44 +46,27 @@ snapshot : Gives (codes "s,LVM-1,7,rw,0 20 snapshot base /dev/mapper/c P 8")
 unfolding read_concise number_of
 snapshot = refl
 
-flags : IsRefused (codes "a,,,xx,0 8 zero") kinds.Field 1
-unfolding read_concise number_of
-flags = refl
+-- a text, the kind of its fault, and the number of the device
+record Refusal : Type 0 where
+  pub text : List ℕ
+  pub kind : LoadKind
+  pub number : ℕ
 
-end : IsRefused (codes "a,,,,0 8 zero;") kinds.Syntax 2
-unfolding read_concise number_of
-end = refl
+-- flags, lines and spaces, newlines, and each check before the next
+abbrev refusals : List Refusal
+refusals =
+    record { text = codes "a,,,xx,0 8 zero"; kind = kinds.Field; number = 1 }
+    ∷ record { text = codes "a,,,,0 8 zero;"; kind = kinds.Syntax; number = 2 }
+    ∷ record { text = codes "a,,,"; kind = kinds.Syntax; number = 1 }
+    ∷ record { text = codes "a ,,,,0 8 zero"; kind = kinds.Syntax; number = 1 }
+    ∷ record { text = codes "a,,,,  0 8 zero"; kind = kinds.Syntax; number = 1 }
+    ∷ record { text = codes "a,,,,0 8 zero;b,,,,\n0 8 zero"; kind = kinds.Syntax; number = 2 }
+    ∷ record { text = codes "a,,,,0 8 zero\n\n"; kind = kinds.Syntax; number = 1 }
+    ∷ record { text = codes ",,,,0 8 zero"; kind = kinds.Name; number = 1 }
+    ∷ record { text = codes ",,,,0 8 zero;b,,x,,0 8 zero"; kind = kinds.Field; number = 2 }
+    ∷ record { text = codes ",,,,0 8 zero;b,,x,,0 8 zero;c,,,,0 8 \t"; kind = kinds.NotText; number = 3 }
+    ∷ []
 
-no_line : IsRefused (codes "a,,,") kinds.Syntax 1
+are_refused : AllByRecursion (λ row. read_concise row.text ≡ Err (fault_at Source row.kind row.number)) refusals
 unfolding read_concise number_of
-no_line = refl
-
-spaced_name : IsRefused (codes "a ,,,,0 8 zero") kinds.Syntax 1
-unfolding read_concise number_of
-spaced_name = refl
-
-two_spaces : IsRefused (codes "a,,,,  0 8 zero") kinds.Syntax 1
-unfolding read_concise number_of
-two_spaces = refl
-
--- a newline before the end, and two at the end
-broken : IsRefused (codes "a,,,,0 8 zero;b,,,,\n0 8 zero") kinds.Syntax 2
-unfolding read_concise number_of
-broken = refl
-
-two_newlines : IsRefused (codes "a,,,,0 8 zero\n\n") kinds.Syntax 1
-unfolding read_concise number_of
-two_newlines = refl
-
--- each check before the next: a name in the first device, a field in the second, a byte that is no text in the third
-no_name : IsRefused (codes ",,,,0 8 zero") kinds.Name 1
-unfolding read_concise number_of
-no_name = refl
-
-field_first : IsRefused (codes ",,,,0 8 zero;b,,x,,0 8 zero") kinds.Field 2
-unfolding read_concise number_of
-field_first = refl
-
-text_first : IsRefused (codes ",,,,0 8 zero;b,,x,,0 8 zero;c,,,,0 8 \t") kinds.NotText 3
-unfolding read_concise number_of
-text_first = refl
+are_refused = (refl, (refl, (refl, (refl, (refl, (refl, (refl, (refl, (refl, (refl, tt))))))))))

@@ -37,9 +37,42 @@ pub fn put_room<const ROOM: usize>(
 }
 
 /// Puts bytes at a place of a block, and returns where they end.
-#[tactic(auto, using(crate::proofs::BlockLemmas::bytes_front))]
+///
+/// Most names of disks are short. A copy of a known length takes a few instructions, and one of any
+/// length is a call.
 #[inline(always)]
 pub fn put_bytes(block: &mut [u8], at: usize, bytes: &[u8]) -> usize
+    requires { at + length bytes.now ≤ length block.old }
+    ensures end { result ≡ at + length bytes.now }
+    ensures text { take result block.new ≡ take at block.old ++ bytes.now }
+{
+    match bytes.len() {
+        2 => put_known::<2>(block, at, bytes),
+        3 => put_known::<3>(block, at, bytes),
+        4 => put_known::<4>(block, at, bytes),
+        5 => put_known::<5>(block, at, bytes),
+        6 => put_known::<6>(block, at, bytes),
+        7 => put_known::<7>(block, at, bytes),
+        8 => put_known::<8>(block, at, bytes),
+        _ => put_any(block, at, bytes),
+    }
+}
+
+/// Puts bytes of a known length.
+#[inline(always)]
+fn put_known<const LEN: usize>(block: &mut [u8], at: usize, bytes: &[u8]) -> usize
+    requires known { length bytes.now ≡ LEN }
+    requires within { at + length bytes.now ≤ length block.old }
+    ensures end { result ≡ at + length bytes.now }
+    ensures text { take result block.new ≡ take at block.old ++ bytes.now }
+{
+    put_any(block, at, &bytes[..LEN])
+}
+
+/// Puts bytes of any length.
+#[tactic(auto, using(crate::proofs::BlockLemmas::bytes_front))]
+#[inline(always)]
+fn put_any(block: &mut [u8], at: usize, bytes: &[u8]) -> usize
     requires { at + length bytes.now ≤ length block.old }
     ensures end { result ≡ at + length bytes.now }
     ensures text { take result block.new ≡ take at block.old ++ bytes.now }

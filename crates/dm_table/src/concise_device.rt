@@ -4,11 +4,11 @@
 //! A device is cut and read once. Its label and each of its bodies may have a fault; the device's is
 //! the one whose check runs first. Bodies are read by `line_body`, which knows nothing of labels.
 
-ghost use Rattle.std.specs.Prelude.{◌≡◌, ◌&&◌, ◌++◌, ◌∷◌, [], None, OnOk, IfOk, drop};
+ghost use Rattle.std.specs.Prelude.{◌≡◌, ◌&&◌, ◌++◌, ◌∷◌, [], None, OnOk, IfOk};
 ghost use Rattle.dm_table.specs.Fields.{texts};
 ghost use Rattle.dm_table.specs.RowFaults.{Reads, value_fault, row_fault};
-ghost use Rattle.dm_table.specs.ConciseText.{place_of, lacks, is_uuid, is_minor, is_ro, is_flags, body_fields, without_first_space, is_label, is_known, is_named};
-ghost use Rattle.dm_table.specs.ConciseReading.{worse, fault_of_body, line_in, fault_of_entries, bodies_reading, entries_reading, device_reading};
+ghost use Rattle.dm_table.specs.ConciseText.{lacks, is_uuid, is_minor, is_ro, is_flags, without_first_space, is_label, is_known, is_named};
+ghost use Rattle.dm_table.specs.ConciseReading.{worse, fault_of_body, line_in, bodies_reading, entries_reading, device_reading};
 
 use crate::fields::cut_into;
 use crate::line_body::{is_body_row, read_body};

@@ -17,6 +17,7 @@ use crate::request::{MOST_SECTORS, Op, Request, RequestFault};
 use memchr::memchr;
 
 /// What follows the space after the first `len` bytes of a text.
+#[inline(always)]
 fn after_space<'a>(text: &'a [u8], len: usize) -> Option<&'a [u8]>
     requires { len ≤ length text.now }
     ensures cut { IfSome result (λ rest. text.now ≡ take len text.now ++ 32 ∷ rest.now) }
@@ -29,6 +30,7 @@ fn after_space<'a>(text: &'a [u8], len: usize) -> Option<&'a [u8]>
 }
 
 /// The operation that a letter names.
+#[inline(always)]
 fn op_of(letter: u8) -> Option<Op>
     ensures named { IfSome result (λ op. letter ≡ op_text op) }
     ensures other { IfNone result ((op : Op) → letter ≢ op_text op) }
@@ -41,6 +43,7 @@ fn op_of(letter: u8) -> Option<Op>
 }
 
 /// The operation that a line begins with, and what follows its space.
+#[inline(always)]
 fn first_op<'a>(line: &'a [u8]) -> Option<(Op, &'a [u8])>
     ensures cut { IfSome result (λ cut. fields line.now ≡ (op_text cut.0 ∷ []) ∷ fields cut.1.now) }
     ensures text { IfSome result (λ cut. line.now ≡ op_text cut.0 ∷ 32 ∷ cut.1.now) }
@@ -55,6 +58,7 @@ fn first_op<'a>(line: &'a [u8]) -> Option<(Op, &'a [u8])>
 }
 
 /// The device name in the first field of a text, and what follows its space.
+#[inline(always)]
 fn first_name<'a>(text: &'a [u8]) -> Option<(&'a str, &'a [u8])>
     ensures cut { IfSome result (λ cut. fields text.now ≡ cut.0.now ∷ fields cut.1.now) }
     ensures text { IfSome result (λ cut. text.now ≡ cut.0.now ++ 32 ∷ cut.1.now) }
@@ -67,6 +71,7 @@ fn first_name<'a>(text: &'a [u8]) -> Option<(&'a str, &'a [u8])>
 }
 
 /// The number in the first field of a text, and what follows its space.
+#[inline(always)]
 fn first_number<'a>(text: &'a [u8]) -> Option<(u64, &'a [u8])>
     ensures cut { IfSome result (λ cut. (field : List ℕ) × (fields text.now ≡ field ∷ fields cut.1.now) × (number_of field ≡ Some cut.0)) }
     ensures text { IfSome result (λ cut. (field : List ℕ) × (text.now ≡ field ++ 32 ∷ cut.1.now) × (number_of field ≡ Some cut.0)) }
@@ -78,6 +83,7 @@ fn first_number<'a>(text: &'a [u8]) -> Option<(u64, &'a [u8])>
 }
 
 /// The operation and the device that a line begins with, and what follows the device's space.
+#[inline(always)]
 fn head<'a>(line: &'a [u8]) -> Option<(Op, &'a str, &'a [u8])>
     ensures cut { IfSome result (λ cut. fields line.now ≡ (op_text cut.0 ∷ []) ∷ cut.1.now ∷ fields cut.2.now) }
     ensures text { IfSome result (λ cut. line.now ≡ op_text cut.0 ∷ 32 ∷ (cut.1.now ++ 32 ∷ cut.2.now)) }
@@ -190,7 +196,7 @@ pub fn front_request<'a>(text: &'a [u8], number: u64) -> Option<(Request<'a>, us
     let (op, device, rest) = head(text)?;
     let (start, rest) = first_number(rest)?;
     let (len, digits) = last_number(rest)?;
-    if len == 0 || len > MOST_SECTORS {
+    if len < 1 || MOST_SECTORS < len {
         return None;
     }
     let request = Request {

@@ -12,6 +12,7 @@ use std::process::Abort;
 
 mod bad_requests;
 mod columns;
+mod concise;
 mod counted;
 mod fault_texts;
 mod faults;
@@ -24,6 +25,7 @@ mod parts;
 mod printed;
 mod refused_loads;
 mod rows;
+mod snapshot_loads;
 mod snapshots;
 mod stacks;
 

@@ -1,7 +1,7 @@
 use Rattle.std.proofs.Common.{◌-◌, length, take, drop}
 use Rattle.dm_table.specs.Fields.{texts}
 use Rattle.std.proofs.lemmas.Result.{err_from_is_err_and}
-use Rattle.dm_table.proofs.ConciseFaults.{few_entries, entries_fault, entries_named, entries_read}
+use Rattle.dm_table.proofs.ConciseFaults.{few_entries, entries_fault, entries_named}
 use Rattle.dm_table.proofs.concise_device.read_entries.Goals as goal
 
 pub returns-in_default : goal.returns-in_default

@@ -7,7 +7,7 @@ use super::*;
 use dm_table::{parse_table, write_concise, write_table};
 
 /// What is written of each target, of a name with colons, of several devices and of none.
-const TEXTS: [(&str, &str); 4] = [
+const TEXTS: [(&str, &str); 5] = [
     ("", "\n"),
     ("a: 0 8 error\n", "a,,,rw,0 8 error\n"),
     (
@@ -17,6 +17,10 @@ const TEXTS: [(&str, &str); 4] = [
     (
         "s: 0 16 striped 2 8 sda 0 /dev/sdb 9999999999999999999\n",
         "s,,,rw,0 16 striped 2 8 sda 0 /dev/sdb 9999999999999999999\n",
+    ),
+    (
+        "s: 0 20 snapshot base /dev/mapper/c P 8\n",
+        "s,,,rw,0 20 snapshot base /dev/mapper/c P 8\n",
     ),
 ];
 

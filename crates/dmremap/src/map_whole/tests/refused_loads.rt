@@ -7,7 +7,7 @@ use super::*;
 use std::test::Fail;
 
 /// Asserts that two texts are refused with a message, of which only its own words are given.
-fn check_refused<'a>(
+pub(super) fn check_refused<'a>(
     rt: &impl Abort,
     alloc: Global,
     source: &'a str,
@@ -55,6 +55,16 @@ fn table_texts(rt: HostRuntime) -> Result<(), Fail> {
         ("a: 0 -8 error\n", "source: field at 1"),
         ("a: 10000000000000000000 8 error\n", "source: field at 1"),
         ("a: 0 8 error\na: 8 8 linea sda 0\n", "source: field at 2"),
+        ("a: 0 8 snapshot sda sdb N 8\n", "source: field at 1"),
+        ("a: 0 8 snapshot sda sdb PO 8\n", "source: field at 1"),
+        ("a: 0 8 snapshot sda sdb P\n", "source: field at 1"),
+        ("a: 0 8 snapshot sda sdb P 8 0\n", "source: field at 1"),
+        ("a: 0 8 snapshot sda sdb P 08\n", "source: field at 1"),
+        ("a: 0 8 snapshot sd,a sdb P 8\n", "source: name at 1"),
+        (
+            "a: 0 8 snapshot sda /dev/mapper/ P 8\n",
+            "source: name at 1",
+        ),
         ("a: 0 8 error 0\n", "source: field at 1"),
         ("a: 0 8 linear\n", "source: field at 1"),
         ("a: 0 8 linear sda\n", "source: field at 1"),

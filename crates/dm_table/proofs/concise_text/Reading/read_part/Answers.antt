@@ -1,6 +1,4 @@
-use Rattle.std.proofs.Common.{refl}
-use Rattle.dm_table.proofs.TableLines.{on_ok}
-use Rattle.dm_table.proofs.ConciseFaults.{read_faultless, read_faulty}
+use Rattle.dm_table.proofs.ConciseFaults.{read_faulty}
 use Rattle.dm_table.proofs.concise_text.Reading.read_part.Goals as goal
 
 pub returns-in-Err : goal.returns-in-Err
