@@ -148,7 +148,7 @@ def check_groups(tally, program):
 
 def check_concise(tally, program):
     for text, disks, printed, refused in CONCISE:
-        files = ["concise", program.file("tables", text), program.file("disks", disks)]
+        files = ["concise", program.file("concise", text), program.file("disks", disks)]
         message = "dmremap: source: %s\n" % refused if refused else ""
         status = 1 if refused else 0
         for form, wanted in zip(("table", "concise"), printed):
@@ -158,7 +158,7 @@ def check_concise(tally, program):
             tally.same("map of the concise text " + text[:40], program.run(["map"] + files), 1, "", message)
     text, disks = CONCISE[0][:2]
     for end in (text, text[:-1]):
-        files = ["concise", program.file("tables", end), program.file("disks", disks)]
+        files = ["concise", program.file("concise", end), program.file("disks", disks)]
         got = program.run(["map"] + files, given="W b 0 8\nR b 0 8\n")
         tally.same("requests over concise text", got, 0, "1 error 8\n2 R sda 0 8\n")
         tally.same("no DISKS for concise text", program.run(["map"] + files[:2]), 2, "", "dmremap: words: disks\n")
