@@ -22,7 +22,7 @@ mod printed;
 mod refused_loads;
 mod rows;
 
-/// More than any stream of a case has.
+/// More than the output of any case has. A stream moves so much a call where a case says nothing else.
 const PLENTY: usize = 4096;
 
 /// What a run is given, and what must come of it.
