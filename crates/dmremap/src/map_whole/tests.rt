@@ -26,7 +26,7 @@ mod rows;
 mod snapshot_loads;
 mod snapshots;
 
-/// More than any stream of a case has.
+/// More than the output of any case has. A stream moves so much a call where a case says nothing else.
 const PLENTY: usize = 4096;
 
 /// What a run is given, and what must come of it.
