@@ -23,6 +23,28 @@ GROUP = [
                 "vg0-archive--2025,,,ro,0 8192 linear /dev/sdb1 83968\n"),
 ]
 
+# Concise text with its disks, and what both commands print of it or tell.
+CONCISE = [
+    ("a,,,ro,0 8 linear sda 0;b,,,,0 8 linear /dev/mapper/a 0\n", "sda 8\n",
+     ("a: 0 8 linear sda 0\nb: 0 8 linear /dev/mapper/a 0\n",
+      "a,,,ro,0 8 linear sda 0;b,,,rw,0 8 linear /dev/mapper/a 0\n"), ""),
+    ("a,,,,0 8 zero;b,,,,0 8 zero, 8 8 error\n", "",
+     ("a: 0 8 zero\nb: 0 8 zero\nb: 8 8 error\n", "a,,,rw,0 8 zero;b,,,rw,0 8 zero,8 8 error\n"), ""),
+    ("a,LVM-abc,3,rw, 0 8 zero ", "", ("a: 0 8 zero\n", "a,,,rw,0 8 zero\n"), ""),
+    ("", "", ("", "\n"), ""),
+    ("\n", "", ("", "\n"), ""),
+    ("a,,,xx,0 8 zero\n", "", ("", ""), "field at 1"),
+    ("a,,,,0 8 zero;", "", ("", ""), "syntax at 2"),
+    ("a,,,,0 8 zero;\n", "", ("", ""), "syntax at 2"),
+    ("a,,, ,0 8 zero", "", ("", ""), "syntax at 1"),
+    ("a,,,,0 8 zero\n;b,,,,0 8 zero", "", ("", ""), "syntax at 1"),
+    ("a,%s,,,0 8 zero\n" % ("u" * 129), "", ("", ""), "name at 1"),
+    ("a,,,,0 8 zero;\xe9,,,,0 8 zero", "", ("", ""), "text at 2"),
+    ("a,,,,0 8 zero;a,,,,0 8 zero", "", ("", ""), "twice at 2"),
+    (";" * 1048576, "", ("", ""), "syntax at 1"),
+    (";" * 1048577, "", ("", ""), "long"),
+]
+
 # A group of one volume, line by line, and a second volume in place of its line 24.
 ONE = '''\
 contents = "Text Format Volume Group"
@@ -106,6 +128,7 @@ def check(tally, program):
         for form, text in printed:
             tally.same("%s of %s" % (form, given[0]), program.run([form] + given, given="bad\n"), 0, text)
     check_groups(tally, program)
+    check_concise(tally, program)
     for words, text, word in NAMES:
         message = "dmremap: name: %s\n" % word if word else ""
         tally.same(" ".join(words), program.run(words), 1 if word else 0, text, message)
@@ -121,6 +144,24 @@ def check_groups(tally, program):
         path = program.file("backup", "".join(lines))
         message = "dmremap: source: %s\n" % refused if refused else ""
         tally.same("table of " + name, program.run(["table", "lvm", path]), 1 if refused else 0, text, message)
+
+
+def check_concise(tally, program):
+    for text, disks, printed, refused in CONCISE:
+        files = ["concise", program.file("concise", text), program.file("disks", disks)]
+        message = "dmremap: source: %s\n" % refused if refused else ""
+        status = 1 if refused else 0
+        for form, wanted in zip(("table", "concise"), printed):
+            name = "%s of the concise text %s" % (form, text[:40])
+            tally.same(name, program.run([form] + files), status, wanted, message)
+        if refused:
+            tally.same("map of the concise text " + text[:40], program.run(["map"] + files), 1, "", message)
+    text, disks = CONCISE[0][:2]
+    for end in (text, text[:-1]):
+        files = ["concise", program.file("concise", end), program.file("disks", disks)]
+        got = program.run(["map"] + files, given="W b 0 8\nR b 0 8\n")
+        tally.same("requests over concise text", got, 0, "1 error 8\n2 R sda 0 8\n")
+        tally.same("no DISKS for concise text", program.run(["map"] + files[:2]), 2, "", "dmremap: words: disks\n")
 
 
 def check_streams(tally, program, words):

@@ -1,7 +1,9 @@
 -- What a command that prints says of its output, its message and its status.
-use Rattle.std.proofs.Common.{◌≡◌, ◌≢◌, ◌∙◌, inl, inr, ℕ, ◌+◌, ◌<◌, ◌≤◌, List, [], ◌++◌, Ok, refl, sym, ap, subst, arith}
+use Rattle.std.proofs.Common.{◌≡◌, ◌≢◌, ◌∙◌, inl, inr, ℕ, ◌+◌, ◌<◌, ◌≤◌, List, [], ◌∷◌, ◌++◌, Ok, refl, sym, ap, subst, arith}
 use Rattle.dm_table.specs.declared.load_fault.LoadKind.TheVariants as kinds
+use Rattle.std.proofs.lemmas.List.{append-nil}
 use Rattle.dm_table.specs.DeviceIo.{Delivery}
+use Rattle.dm_table.specs.WriteAll.{IsCutShort}
 use Rattle.dm_table.specs.LoadMessage.{load_message, memory_message}
 use Rattle.lvm_volume.specs.declared.fault.NameFault.{NameFault}
 use Rattle.lvm_volume.specs.declared.fault.NameFault.TheVariants as names
@@ -9,9 +11,10 @@ use Rattle.lvm_volume.specs.Names.{NameParts, built, spaced}
 use Rattle.lvm_volume.proofs.Splits.{one_split}
 use Rattle.dmremap.specs.declared.other_whole.Printing.{Printing}
 use Rattle.dmremap.specs.declared.other_whole.Printing.TheVariants as printing
-use Rattle.dmremap.specs.OtherWhole.{FailedPrint, FilesSay, GiveOther, IsPrinted, IsRefusal, IsTextPrinted, Prints, Refuses, Said, SplitSays, TaskSays, devices_said, line, name_said, name_status, printing_message, printing_status, whole_said, written_as}
+use Rattle.dmremap.specs.OtherWhole.{FilesSay, GiveOther, IsPrinted, IsRefusal, IsTextPrinted, Prints, Refuses, Said, SplitSays, TaskSays, devices_said, line, name_said, name_status, printing_message, printing_status, whole_said, written_as}
 use Rattle.dmremap.specs.declared.words.Form.{Form}
 use Rattle.dmremap.specs.declared.words.Format.{Format}
+use Rattle.dmremap.specs.Exit.{FailedOutput}
 use Rattle.dmremap.specs.Load.{PartsGive, SoundAs}
 use Rattle.dmremap.specs.Whole.{Whole}
 use Rattle.dm_stack.specs.Description.{Description}
@@ -26,6 +29,14 @@ says_printed Says text output old new printing.WriteFault says failed = (text, s
 says_printed Says text output old new (printing.Unloaded fault) says is = absurd is
 says_printed Says text output old new (printing.Unnamed fault) says is = absurd is
 says_printed Says text output old new printing.Unsplit says is = absurd is
+
+-- a write that failed left something to write
+pub failed_write : (text written : List ℕ) (old new : ℕ) → new ≡ old → IsCutShort text written → FailedOutput text written old new
+failed_write text written old new same cut = record { beginning = (cut.0 ∷ cut.1, cut.2); left = λ _. cut; failed_flush = λ less. absurd (omega (arith, same, less)) }
+
+-- before a flush that failed all was written
+pub failed_flush : (text written : List ℕ) (old new : ℕ) → new ≡ old + 1 → text ≡ written → FailedOutput text written old new
+failed_flush text written old new more is = record { beginning = ([], is ∙ sym (append-nil written)); left = λ same. absurd (omega (arith, more, same)); failed_flush = λ _. is }
 
 -- the same text, said in another way
 pub text_printed : (a b output : List ℕ) (old new : ℕ) (ended : Printing) → a ≡ b → IsTextPrinted a output old new ended → IsTextPrinted b output old new ended
@@ -76,7 +87,7 @@ other_at asked source disks output old new ended status is printed five six =
 
 -- a failed output comes of a text to print, of which it took a beginning
 pub failed_at : (asked : TaskWords) (source disks : Delivery) (output : List ℕ) (old new : ℕ) (ended : Printing) → IsPrinted (TaskSays asked source disks) output old new ended
-    → printing_status ended ≡ 5 → (text : List ℕ) × TaskSays asked source disks (Prints text) × FailedPrint text output old new
+    → printing_status ended ≡ 5 → (text : List ℕ) × TaskSays asked source disks (Prints text) × FailedOutput text output old new
 failed_at asked source disks output old new printing.Done is five = absurd (omega arith)
 failed_at asked source disks output old new printing.WriteFault is five = is
 failed_at asked source disks output old new (printing.Unloaded fault) is five = absurd (no_write_fault fault.kind five)

@@ -6,7 +6,6 @@ use Rattle.dm_table.specs.declared.table.DeviceSpec.{DeviceSpec}
 use Rattle.dm_table.specs.CanonicalText.{concise_text, table_text}
 use Rattle.dm_table.specs.DeviceIo.{Delivery, since}
 use Rattle.dm_table.specs.LoadMessage.{load_message}
-use Rattle.dm_table.specs.WriteAll.{IsBeginning}
 use Rattle.dm_stack.specs.Description.{Description}
 use Rattle.dm_stream.specs.Messages.{write_message}
 use Rattle.lvm_volume.specs.declared.fault.NameFault.{NameFault}
@@ -18,6 +17,7 @@ use Rattle.dmremap.specs.declared.other_whole.Printing.TheVariants as printing
 use Rattle.dmremap.specs.declared.words.Form.{Form}
 use Rattle.dmremap.specs.declared.words.Form.TheVariants as forms
 use Rattle.dmremap.specs.declared.words.Format.{Format}
+use Rattle.dmremap.specs.Exit.{FailedOutput}
 use Rattle.dmremap.specs.Load.{Load, PartsGive, RefusedBy, SoundAs}
 use Rattle.dmremap.specs.Status.{load_status}
 use Rattle.dmremap.specs.Whole.{Whole}
@@ -116,11 +116,6 @@ printing_message printing.Unsplit = split_message
 printing_message printing.Done = []
 printing_message printing.WriteFault = write_message
 
--- what an output took that failed: a beginning of the text, and all of it where the flush failed
-pub record FailedPrint (text written : List ℕ) (flushes_old flushes_new : ℕ) : Type 0 where
-  pub beginning : IsBeginning text written
-  pub failed_flush : flushes_old < flushes_new → text ≡ written
-
 -- nothing was printed, and the message says why, unless memory ran out
 abbrev pub IsRefusal : (Said → Type 0) → List ℕ → Printing → Type 0
 IsRefusal Says output ended = (output ≡ []) × (printing_status ended ≢ 6 → Says (Refuses (printing_message ended)))
@@ -131,12 +126,12 @@ IsPrinted Says output old new (printing.Unloaded fault) = IsRefusal Says output 
 IsPrinted Says output old new (printing.Unnamed fault) = IsRefusal Says output (printing.Unnamed fault)
 IsPrinted Says output old new printing.Unsplit = IsRefusal Says output printing.Unsplit
 IsPrinted Says output old new printing.Done = Says (Prints output)
-IsPrinted Says output old new printing.WriteFault = (text : List ℕ) × Says (Prints text) × FailedPrint text output old new
+IsPrinted Says output old new printing.WriteFault = (text : List ℕ) × Says (Prints text) × FailedOutput text output old new
 
 -- this text was printed, or a beginning of it
 abbrev pub IsTextPrinted : List ℕ → List ℕ → (flushes_old flushes_new : ℕ) → Printing → Type 0
 IsTextPrinted text output old new printing.Done = text ≡ output
-IsTextPrinted text output old new printing.WriteFault = FailedPrint text output old new
+IsTextPrinted text output old new printing.WriteFault = FailedOutput text output old new
 IsTextPrinted text output old new _ = ⊥
 
 -- one flush, after which nothing waits; none where nothing was printed; at most one where the output failed

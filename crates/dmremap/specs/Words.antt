@@ -19,7 +19,7 @@ use Rattle.clap.specs.declared.error.kind.ErrorKind.TheVariants as kind
 use Rattle.dmremap.specs.declared.words.Form.{Form}
 use Rattle.dmremap.specs.declared.words.Form.TheVariants as forms
 use Rattle.dmremap.specs.declared.words.Format.{Format}
-use Rattle.dmremap.specs.declared.words.Format.TheVariants.{Lvm, Table}
+use Rattle.dmremap.specs.declared.words.Format.TheVariants.{Concise, Lvm, Table}
 use Rattle.dmremap.specs.declared.words.Files.{Files}
 use Rattle.dmremap.specs.declared.words.Task.{Task}
 use Rattle.dmremap.specs.declared.words.Task.TheVariants as task
@@ -32,11 +32,13 @@ use Rattle.dmremap.specs.declared.words.WordsFault.TheVariants.{Words, Disks, Me
 
 -- the words that FORMAT may be
 abbrev pub formats : List Text
-formats = codes "lvm" ∷ codes "table" ∷ []
+formats = codes "lvm" ∷ codes "concise" ∷ codes "table" ∷ []
 
 -- the format that a word names
 abbrev pub format_named : Text → Option Format
-format_named word = if bytes_eq word (codes "lvm") then Some Lvm else (if bytes_eq word (codes "table") then Some Table else None)
+format_named word = if bytes_eq word (codes "lvm") then Some Lvm
+    else (if bytes_eq word (codes "concise") then Some Concise
+    else (if bytes_eq word (codes "table") then Some Table else None))
 
 -- clap takes these words and no other for FORMAT
 pub record TakesFormats (parser : ValueParser) : Type 0 where
@@ -163,6 +165,7 @@ files_of (split_words name) = None
 -- a list of disks goes with texts of this format
 abbrev pub has_disk_list : Format → Bool
 has_disk_list Lvm = false
+has_disk_list Concise = true
 has_disk_list Table = true
 
 -- DISKS is there exactly where the format asks for it

@@ -40,8 +40,8 @@ fn answer(rt: &HostRuntime) -> Result<u8, WordsFault> {
         .collect(rt.alloc())?;
     let job = read_words(rt.alloc(), words.as_slice())?;
     match job.task {
-        Task::Map(files) => map_files(rt, files, job.status),
-        _ => print_job(rt, &job),
+        Task::Map(files) => Ok(map_files(rt, files, job.status)),
+        _ => Ok(print_job(rt, &job)),
     }
 }
 
@@ -55,7 +55,7 @@ fn arguments_of(rt: &HostRuntime) -> Result<Vec<String>, WordsFault> {
 }
 
 /// Maps the requests of the standard input through the tables of files.
-fn map_files(rt: &HostRuntime, files: Files<'_>, status: bool) -> Result<u8, WordsFault>
+fn map_files(rt: &HostRuntime, files: Files<'_>, status: bool) -> u8
     requires unflagged { status ≡ false }
     requires disks { has_its_disks (file_words files) ≡ true }
 {
@@ -63,7 +63,7 @@ fn map_files(rt: &HostRuntime, files: Files<'_>, status: bool) -> Result<u8, Wor
         Some(path) => Some(open(rt, path)),
         None => None,
     };
-    Ok(map_whole(
+    map_whole(
         rt.alloc(),
         files.format,
         status,
@@ -72,11 +72,11 @@ fn map_files(rt: &HostRuntime, files: Files<'_>, status: bool) -> Result<u8, Wor
         &mut Counted::new(rt.stdin()),
         &mut Gathered::new(Counted::new(rt.stdout())),
         &mut Counted::new(rt.stderr()),
-    ))
+    )
 }
 
 /// Does a job that maps no requests.
-fn print_job(rt: &HostRuntime, job: &Job<'_>) -> Result<u8, WordsFault>
+fn print_job(rt: &HostRuntime, job: &Job<'_>) -> u8
     requires other { is_other (words_of job.now.task) ≡ true }
     requires disks { task_has_its_disks (words_of job.now.task) ≡ true }
 {
@@ -84,7 +84,7 @@ fn print_job(rt: &HostRuntime, job: &Job<'_>) -> Result<u8, WordsFault>
         Some(files) => open_files(rt, files),
         None => (None, None),
     };
-    Ok(other_whole(
+    other_whole(
         rt.alloc(),
         job,
         &mut source,
@@ -92,7 +92,7 @@ fn print_job(rt: &HostRuntime, job: &Job<'_>) -> Result<u8, WordsFault>
         &mut Counted::new(rt.stdin()),
         &mut Gathered::new(Counted::new(rt.stdout())),
         &mut Counted::new(rt.stderr()),
-    ))
+    )
 }
 
 fn open(rt: &HostRuntime, path: &str) -> Counted<PartFile<File>> {

@@ -10,10 +10,10 @@ ghost use Rattle.dm_table.specs.declared.load_fault.LoadKind.TheVariants.{Memory
 ghost use Rattle.dm_table.specs.LoadMessage.{memory_message};
 ghost use Rattle.dm_stream.specs.Messages.{IsTold, write_message};
 ghost use Rattle.lvm_volume.specs.Names.{built};
-ghost use Rattle.dmremap.specs.Exit.{MessageWritten};
+ghost use Rattle.dmremap.specs.Exit.{FailedOutput, MessageWritten};
 ghost use Rattle.dmremap.specs.Load.{PartsGive, RefusedBy, SoundAs};
 ghost use Rattle.dmremap.specs.Inputs.{IsReadOnIf, IsUnchanged, delivery_if};
-ghost use Rattle.dmremap.specs.OtherWhole.{FailedPrint, FilesSay, GiveOther, IsPrinted, IsTextPrinted, OutputPrinted, Prints, SplitSays, TaskSays, has_list, has_source, is_other, line, name_said, printing_message, printing_status, written_as};
+ghost use Rattle.dmremap.specs.OtherWhole.{FilesSay, GiveOther, IsPrinted, IsTextPrinted, OutputPrinted, Prints, SplitSays, TaskSays, has_list, has_source, is_other, line, name_said, printing_message, printing_status, written_as};
 ghost use Rattle.dmremap.specs.Whole.{Whole};
 ghost use Rattle.dmremap.specs.Words.{TaskWords, file_words, has_disk_list, words_of};
 
@@ -82,11 +82,12 @@ pub fn other_whole<S: Input, D: Input, Q: Input, W: Output, M: Output>(
 
     // The output failed in the call: that takes precedence over all else.
     ensures write_fault { W.faults output.old < W.faults output.new ↔ (result ≡ 5) }
-    // Then a beginning of the text was written, and all of it where the flush failed.
+    // Then a beginning of the text was written: something was left to write where no flush was asked, and nothing where the
+    // flush failed. So an empty output asks nothing of it but a flush.
     ensures beginning { result ≡ 5 → (text : List ℕ) × TaskSays (words_of job.now.task)
         (delivery_if S.handed S.faults S.ends source.old source.new)
         (delivery_if D.handed D.faults D.ends disks.old disks.new) (Prints text)
-        × FailedPrint text (since (W.written output.old) (W.written output.new)) (W.flushes output.old) (W.flushes output.new) }
+        × FailedOutput text (since (W.written output.old) (W.written output.new)) (W.flushes output.old) (W.flushes output.new) }
     ensures write_message { result ≡ 5 → IsTold write_message
         (since (M.written messages.old) (M.written messages.new)) (M.faults messages.old) (M.faults messages.new) }
 
@@ -269,6 +270,7 @@ fn write_line<W: Output>(text: &[u8], output: &mut W) -> Result<(), OutFault>
 }
 
 /// Ends the printing of a text: flushes the output, unless a write to it failed.
+#[tactic(auto, using(crate::proofs::PrintLemmas::failed_write, crate::proofs::PrintLemmas::failed_flush))]
 fn close<W: Output>(written: Result<(), OutFault>, output: &mut W) -> Printing
     ensures { (start : W) (text : List ℕ) → Wrote W.written W.waiting W.faults W.flushes start output.old written text
         → IsTextPrinted text (since (W.written start) (W.written output.new)) (W.flushes start) (W.flushes output.new) result

@@ -30,11 +30,13 @@ use thiserror::Error;
 pub enum Format {
     /// The metadata of a volume group of LVM2, as vgcfgbackup(8) writes it.
     Lvm,
+    /// All devices in one line, as the command `table --concise` of dmsetup(8) prints them.
+    Concise,
     /// Lines `NAME: START LEN TYPE ARGS`, as the command `table` of dmsetup(8) prints them.
     Table,
 }
 
-/// A form that devices are printed in.
+/// A form of the text of some devices.
 #[derive(Clone, Copy, Debug)]
 pub enum Form {
     /// Lines `NAME: START LEN TYPE ARGS`.
@@ -111,14 +113,17 @@ Requests come from the standard input. Pieces go to the standard output, message
 error. START, LEN, CHUNK and OFFSET are whole sectors of 512 bytes.
 
 FORMAT is one of
-  lvm    the metadata of a volume group, as vgcfgbackup(8) writes it; DISKS is left out
-  table  lines `NAME: START LEN TYPE ARGS`, as dmsetup(8) prints them
+  lvm      the metadata of a volume group, as vgcfgbackup(8) writes it; DISKS is left out
+  concise  devices `NAME,UUID,MINOR,FLAGS,START LEN TYPE ARGS,..` with `;` between them, as
+           `dmsetup table --concise` prints them
+  table    lines `NAME: START LEN TYPE ARGS`, as dmsetup(8) prints them
 
 Lines
   FILE      NAME: START LEN linear DEV OFFSET
             NAME: START LEN striped COLUMNS CHUNK DEV OFFSET DEV OFFSET ..
             NAME: START LEN zero
             NAME: START LEN error
+            NAME: START LEN snapshot ORIGIN STORE P CHUNK
   DISKS     DISK LEN
   requests  R NAME START LEN      a read
             W NAME START LEN      a write
@@ -127,7 +132,10 @@ Lines
             N zero LEN            sectors that read as zeros
             N drop LEN            sectors whose writes are thrown away
             N error LEN           sectors that fail
-DEV is a disk, or /dev/mapper/NAME for a device of FILE. A request has 1 to 1048576 sectors.
+            N copy DISK START LEN DISK2 START2
+                                  sectors of an origin that go to a store first
+            N fill LEN DISK START zeros of an origin that go to a store first
+DEV, ORIGIN and STORE are a disk, or /dev/mapper/NAME for a device of FILE. A request has 1 to 1048576 sectors.
 
 Exit status
   0  all requests were answered
@@ -207,7 +215,7 @@ const FORMAT_HELP: &str = "The format of FILE";
 
 const FILE_HELP: &str = "The file of the devices and their tables, or of the metadata";
 
-const DISKS_HELP: &str = "The file of the disks and their lengths, for the format table";
+const DISKS_HELP: &str = "The file of the disks and their lengths, for the formats concise and table";
 
 const VG_HELP: &str = "The volume group";
 
@@ -219,7 +227,7 @@ const NAME_HELP: &str = "A name as `dmsetup ls` shows it";
 
 const NOT_TEXT: &str = "invalid UTF-8 was detected in one or more arguments";
 
-const FORMATS: &[&str] = &["lvm", "table"];
+const FORMATS: &[&str] = &["lvm", "concise", "table"];
 
 impl Format {
     fn named(word: &str) -> Option<Format>
@@ -227,6 +235,7 @@ impl Format {
     {
         match word {
             "lvm" => Some(Format::Lvm),
+            "concise" => Some(Format::Concise),
             "table" => Some(Format::Table),
             _ => None,
         }
@@ -238,7 +247,7 @@ impl Format {
     {
         match self {
             Format::Lvm => false,
-            Format::Table => true,
+            Format::Concise | Format::Table => true,
         }
     }
 }

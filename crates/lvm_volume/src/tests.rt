@@ -7,23 +7,26 @@ const PART_OF_63: &str = "abcdefghijklmnopqrstuvwxyzabcdefghijklmnopqrstuvwxyz01
 
 const PART_OF_64: &str = "abcdefghijklmnopqrstuvwxyzabcdefghijklmnopqrstuvwxyz012345678901";
 
+/// A group, a volume and a layer, and the name that is built of them.
+static BUILT: [(&str, &str, Option<&str>, Result<&str, NameFault>); 13] = [
+    ("a-", "b", None, Ok("a---b")),
+    ("vg0", "lv-1", None, Ok("vg0-lv--1")),
+    ("vg", "lv", Some("real"), Ok("vg-lv-real")),
+    ("A.b+c_d", "9--", Some("x-"), Ok("A.b+c_d-9-----x--")),
+    ("a", "-b", None, Err(NameFault::HyphenFirst)),
+    ("a", "", None, Err(NameFault::Empty)),
+    ("a/b", "-b", None, Err(NameFault::Letter)),
+    ("", "b/", None, Err(NameFault::Empty)),
+    ("a", "b", Some("_tdata"), Err(NameFault::Letter)),
+    ("a", "_b", None, Ok("a-_b")),
+    ("a", "é", None, Err(NameFault::Letter)),
+    (PART_OF_64, PART_OF_63, None, Err(NameFault::Long)),
+    (PART_OF_64, "-", None, Err(NameFault::HyphenFirst)),
+];
+
 #[test]
 fn built(rt: HostRuntime) -> Result<(), Fail> {
-    for (vg, lv, layer, name) in [
-        ("a-", "b", None, Ok("a---b")),
-        ("vg0", "lv-1", None, Ok("vg0-lv--1")),
-        ("vg", "lv", Some("real"), Ok("vg-lv-real")),
-        ("A.b+c_d", "9--", Some("x-"), Ok("A.b+c_d-9-----x--")),
-        ("a", "-b", None, Err(NameFault::HyphenFirst)),
-        ("a", "", None, Err(NameFault::Empty)),
-        ("a/b", "-b", None, Err(NameFault::Letter)),
-        ("", "b/", None, Err(NameFault::Empty)),
-        ("a", "b", Some("_tdata"), Err(NameFault::Letter)),
-        ("a", "_b", None, Ok("a-_b")),
-        ("a", "é", None, Err(NameFault::Letter)),
-        (PART_OF_64, PART_OF_63, None, Err(NameFault::Long)),
-        (PART_OF_64, "-", None, Err(NameFault::HyphenFirst)),
-    ] {
+    for &(vg, lv, layer, name) in &BUILT {
         match (build_name(rt.alloc(), vg, lv, layer), name) {
             (Ok(built), Ok(name)) => assert_eq!(rt; built.as_str(), name),
             (Err(fault), Err(wanted)) => assert_eq!(rt; fault, wanted),
@@ -35,21 +38,24 @@ fn built(rt: HostRuntime) -> Result<(), Fail> {
     Ok(())
 }
 
+/// A name, and its parts if it has some.
+static SPLIT: [(&str, Option<&str>); 11] = [
+    ("a---b", Some("a- b")),
+    ("a-b--c-d", Some("a b-c d")),
+    ("a-----b", Some("a-- b")),
+    ("vg0-lv0", Some("vg0 lv0")),
+    ("a--b", None),
+    ("a-b-c-d", None),
+    ("a-b-_c", None),
+    ("a-", None),
+    ("-a-b", None),
+    ("a-b/c", None),
+    ("", None),
+];
+
 #[test]
 fn split(rt: HostRuntime) -> Result<(), Fail> {
-    for (name, wanted) in [
-        ("a---b", Some("a- b")),
-        ("a-b--c-d", Some("a b-c d")),
-        ("a-----b", Some("a-- b")),
-        ("vg0-lv0", Some("vg0 lv0")),
-        ("a--b", None),
-        ("a-b-c-d", None),
-        ("a-b-_c", None),
-        ("a-", None),
-        ("-a-b", None),
-        ("a-b/c", None),
-        ("", None),
-    ] {
+    for &(name, wanted) in &SPLIT {
         let parts = spaced_parts(rt.alloc(), name)?;
         assert_eq!(rt;
             parts.as_ref().map(|parts| parts.as_str()),
@@ -60,9 +66,12 @@ fn split(rt: HostRuntime) -> Result<(), Fail> {
     Ok(())
 }
 
+/// A part of a name, and what it says.
+static UNDOUBLED: [(&str, &str); 4] = [("", ""), ("a---b", "a--b"), ("----", "--"), ("é--", "é-")];
+
 #[test]
 fn undoubled(rt: HostRuntime) -> Result<(), Fail> {
-    for (text, wanted) in [("", ""), ("a---b", "a--b"), ("----", "--"), ("é--", "é-")] {
+    for &(text, wanted) in &UNDOUBLED {
         assert_eq!(rt; undouble(rt.alloc(), text)?.as_str(), wanted);
     }
     Ok(())
@@ -78,18 +87,37 @@ fn slices(rt: HostRuntime) -> Result<(), Fail> {
     Ok(())
 }
 
+/// A fault, its text, and the message of the program.
+static MESSAGES: [(NameFault, &str, &[u8]); 5] = [
+    (
+        NameFault::Letter,
+        "a letter that no part of a name has",
+        b"dmremap: name: letter\n",
+    ),
+    (
+        NameFault::HyphenFirst,
+        "a part begins with a hyphen",
+        b"dmremap: name: hyphen\n",
+    ),
+    (
+        NameFault::Empty,
+        "an empty part",
+        b"dmremap: name: empty\n",
+    ),
+    (
+        NameFault::Long,
+        "more than 127 bytes",
+        b"dmremap: name: long\n",
+    ),
+    (NameFault::Memory, "out of memory", b"dmremap: memory\n"),
+];
+
 #[test]
 fn messages(rt: HostRuntime) -> Result<(), Fail> {
-    let text = NameFault::Long.to_string(rt.alloc())?;
-    assert_eq!(rt; text.as_str(), "more than 127 bytes");
-    for (fault, message) in [
-        (NameFault::Letter, "dmremap: name: letter\n"),
-        (NameFault::HyphenFirst, "dmremap: name: hyphen\n"),
-        (NameFault::Empty, "dmremap: name: empty\n"),
-        (NameFault::Long, "dmremap: name: long\n"),
-        (NameFault::Memory, "dmremap: memory\n"),
-    ] {
-        assert_eq!(rt; fault.message(), message.as_bytes());
+    for &(fault, wanted, message) in &MESSAGES {
+        let text = fault.to_string(rt.alloc())?;
+        assert_eq!(rt; text.as_str(), wanted);
+        assert_eq!(rt; fault.message(), message);
     }
     Ok(())
 }

@@ -3,8 +3,8 @@
 //! What is wanted is written down from the rules, and never taken from a run. A new case is a row.
 
 ghost use Rattle.std.specs.Prelude.{◌<◌, ◌≡◌, is_some, true};
-ghost use Rattle.dmremap.specs.OtherWhole.{is_other};
-ghost use Rattle.dmremap.specs.Words.{has_disk_list, words_of};
+ghost use Rattle.dmremap.specs.OtherWhole.{has_list, has_source, is_other};
+ghost use Rattle.dmremap.specs.Words.{words_of};
 
 use super::*;
 use dm_table::{ShortIn, ShortOut};
@@ -19,19 +19,23 @@ const WRITE_MESSAGE: &str = "dmremap: output: write\n";
 type Ran = (u8, ShortOut, ShortOut);
 
 /// Runs a job over these texts, of which it is given those that it loads. Requests would fail.
-fn run(alloc: Global, task: Task<'_>, texts: (&str, &str), streams: (ShortOut, ShortOut)) -> Ran
+fn run(
+    alloc: Global,
+    task: Task<'_>,
+    source: &str,
+    disks: &str,
+    mut output: ShortOut,
+    mut messages: ShortOut,
+) -> Ran
     requires { is_other (words_of task) ≡ true }
 {
     let job = Job {
         task,
         status: false,
     };
-    let (mut source, mut disks) = match task.files() {
-        Some(files) => inputs(files.format, texts),
-        None => (None, None),
-    };
+    let mut source = source_of(task, source);
+    let mut disks = disks_of(task, disks);
     let mut requests = ShortIn::failing("R a 0 1\n".as_bytes(), 1, 0);
-    let (mut output, mut messages) = streams;
     let status = other_whole(
         alloc,
         &job,
@@ -44,30 +48,37 @@ fn run(alloc: Global, task: Task<'_>, texts: (&str, &str), streams: (ShortOut, S
     (status, output, messages)
 }
 
-/// The source, and the disk list where the format has one.
-fn inputs<'a>(
-    format: Format,
-    texts: (&'a str, &'a str),
-) -> (Option<ShortIn<'a>>, Option<ShortIn<'a>>)
-    ensures source { is_some result.0 ≡ true }
-    ensures disks { is_some result.1 ≡ has_disk_list format }
+/// The source, for a task that loads one.
+fn source_of<'a>(task: Task<'_>, text: &'a str) -> Option<ShortIn<'a>>
+    ensures { is_some result ≡ has_source (words_of task.entry) }
 {
-    let disks = if format.has_disk_list() {
-        Some(ShortIn::new(texts.1.as_bytes(), 1))
-    } else {
-        None
-    };
-    (Some(ShortIn::new(texts.0.as_bytes(), PLENTY)), disks)
+    match task {
+        Task::Map(_) | Task::Print(_, _) => Some(ShortIn::new(text.as_bytes(), PLENTY)),
+        Task::Name { .. } | Task::SplitName(_) => None,
+    }
 }
 
-/// An output and a message stream that never fail, and take at most `step` bytes a write.
-fn streams(rt: &impl Abort, alloc: Global, step: usize) -> (ShortOut, ShortOut)
+/// The disk list, for a task whose format has one.
+fn disks_of<'a>(task: Task<'_>, text: &'a str) -> Option<ShortIn<'a>>
+    ensures { is_some result ≡ has_list (words_of task.entry) }
+{
+    match task {
+        Task::Map(files) | Task::Print(_, files) => {
+            if files.format.has_disk_list() {
+                Some(ShortIn::new(text.as_bytes(), 1))
+            } else {
+                None
+            }
+        }
+        Task::Name { .. } | Task::SplitName(_) => None,
+    }
+}
+
+/// An output or a message stream that never fails, and takes at most `step` bytes a write.
+fn stream(rt: &impl Abort, alloc: Global, step: usize) -> ShortOut
     requires { 0 < step }
 {
-    (
-        ShortOut::new(alloc, step, PLENTY).expect(rt, "an output"),
-        ShortOut::new(alloc, step, PLENTY).expect(rt, "a message stream"),
-    )
+    ShortOut::new(alloc, step, PLENTY).expect(rt, "a stream")
 }
 
 fn printing(form: Form, format: Format) -> Task<'static>
@@ -92,26 +103,57 @@ fn check(rt: &impl Abort, ran: Ran, text: &str, status: u8) {
     assert_eq!(rt; got, status, "the status, {text}");
 }
 
-/// Tables with the disks below, and what is printed in both forms.
-static TABLES: [(&str, &str, &str, &str); 3] = [
-    ("", "", "", "\n"),
-    ("a: 0 8 error \n", "", "a: 0 8 error\n", "a,,,rw,0 8 error\n"),
+/// Tables in a format with the disks below, and what is printed in both forms.
+static TABLES: [(Format, &str, &str, &str, &str); 8] = [
+    (Format::Table, "", "", "", "\n"),
     (
+        Format::Table,
+        "a: 0 8 error \n",
+        "",
+        "a: 0 8 error\n",
+        "a,,,rw,0 8 error\n",
+    ),
+    (
+        Format::Table,
         "b: 0 9 zero\nb: 9 8 linear sda 1\na: 0 16 striped 2 4 /dev/mapper/b 9 sda 0\n",
         "sda 9\n",
         "b: 0 9 zero\nb: 9 8 linear sda 1\na: 0 16 striped 2 4 /dev/mapper/b 9 sda 0\n",
         "b,,,rw,0 9 zero,9 8 linear sda 1;a,,,rw,0 16 striped 2 4 /dev/mapper/b 9 sda 0\n",
+    ),
+    (Format::Concise, "", "", "", "\n"),
+    (Format::Concise, "\n", "", "", "\n"),
+    (
+        Format::Concise,
+        "a,,,,0 8 zero;b,,,,0 8 zero, 8 8 error\n",
+        "",
+        "a: 0 8 zero\nb: 0 8 zero\nb: 8 8 error\n",
+        "a,,,rw,0 8 zero;b,,,rw,0 8 zero,8 8 error\n",
+    ),
+    (
+        Format::Concise,
+        "a,,,,0 8 zero ;b,,,,0 8 error ",
+        "",
+        "a: 0 8 zero\nb: 0 8 error\n",
+        "a,,,rw,0 8 zero;b,,,rw,0 8 error\n",
+    ),
+    (
+        Format::Concise,
+        "a,LVM-x,3,ro,0 8 linear sda 0;b,,,,0 8 linear /dev/mapper/a 0\n",
+        "sda 8\n",
+        "a: 0 8 linear sda 0\nb: 0 8 linear /dev/mapper/a 0\n",
+        "a,,,ro,0 8 linear sda 0;b,,,rw,0 8 linear /dev/mapper/a 0\n",
     ),
 ];
 
 #[test]
 fn tables(rt: HostRuntime) {
     let alloc = rt.alloc();
-    for (source, disks, table, concise) in TABLES {
+    for &(format, source, disks, table, concise) in &TABLES {
         for (form, text) in [(Form::Table, table), (Form::Concise, concise)] {
             for step in [1, 7] {
-                let task = printing(form, Format::Table);
-                let ran = run(alloc, task, (source, disks), streams(&rt, alloc, step));
+                let task = printing(form, format);
+                let (output, messages) = (stream(&rt, alloc, step), stream(&rt, alloc, step));
+                let ran = run(alloc, task, source, disks, output, messages);
                 check(&rt, ran, text, 0);
             }
         }
@@ -149,31 +191,60 @@ static READ_ONLY: [(Form, &str); 2] = [
 #[test]
 fn a_read_only_volume(rt: HostRuntime) {
     let alloc = rt.alloc();
-    for (form, text) in READ_ONLY {
+    for &(form, text) in &READ_ONLY {
         let task = printing(form, Format::Lvm);
-        let ran = run(alloc, task, (GROUP, ""), streams(&rt, alloc, PLENTY));
+        let (output, messages) = (stream(&rt, alloc, 1), stream(&rt, alloc, 1));
+        let ran = run(alloc, task, GROUP, "", output, messages);
         check(&rt, ran, text, 0);
     }
 }
 
-/// Tables and disks, and why they are refused.
-static REFUSED: [(&str, &str, &str); 3] = [
-    ("a", "b", "dmremap: source: syntax at 1\n"),
-    ("a: 0 8 zero\n", "b", "dmremap: disks: syntax at 1\n"),
+/// A device with a uuid of 129 bytes.
+const LONG_UUID: &str = "a,uuuuuuuuuuuuuuuuuuuuuuuuuuuuuuuuuuuuuuuuuuuuuuuuuuuuuuuuuuuuuuuuuuuuuuuuuuuuuuuuuuuuuuuuuuuuuuuuuuuuuuuuuuuuuuuuuuuuuuuuuuuuuuuuu,,,0 8 zero";
+
+/// Tables in a format and disks, and why they are refused.
+static REFUSED: [(Format, &str, &str, &str); 6] = [
+    (Format::Table, "a", "b", "dmremap: source: syntax at 1\n"),
     (
+        Format::Table,
+        "a: 0 8 zero\n",
+        "b",
+        "dmremap: disks: syntax at 1\n",
+    ),
+    (
+        Format::Table,
         "a: 0 8 zero\nb: 0 8 linear sda 1\n",
         "sda 8\n",
         "dmremap: source: range at 2\n",
+    ),
+    (
+        Format::Concise,
+        "a,,,xx,0 8 zero\n",
+        "b",
+        "dmremap: source: field at 1\n",
+    ),
+    (
+        Format::Concise,
+        "a,,,,0 8 zero;",
+        "b",
+        "dmremap: source: syntax at 2\n",
+    ),
+    (
+        Format::Concise,
+        LONG_UUID,
+        "b",
+        "dmremap: source: name at 1\n",
     ),
 ];
 
 #[test]
 fn refused_loads(rt: HostRuntime) {
     let alloc = rt.alloc();
-    for (source, disks, message) in REFUSED {
+    for &(format, source, disks, message) in &REFUSED {
         for form in [Form::Table, Form::Concise] {
-            let task = printing(form, Format::Table);
-            let ran = run(alloc, task, (source, disks), streams(&rt, alloc, 1));
+            let task = printing(form, format);
+            let (output, messages) = (stream(&rt, alloc, 1), stream(&rt, alloc, 1));
+            let ran = run(alloc, task, source, disks, output, messages);
             check(&rt, ran, message, 1);
         }
     }
@@ -191,9 +262,10 @@ static BUILT: [(&str, &str, Option<&str>, &str, u8); 5] = [
 #[test]
 fn built_names(rt: HostRuntime) {
     let alloc = rt.alloc();
-    for (vg, lv, layer, text, status) in BUILT {
+    for &(vg, lv, layer, text, status) in &BUILT {
         let task = Task::Name { vg, lv, layer };
-        let ran = run(alloc, task, ("", ""), streams(&rt, alloc, 1));
+        let (output, messages) = (stream(&rt, alloc, 1), stream(&rt, alloc, 1));
+        let ran = run(alloc, task, "", "", output, messages);
         check(&rt, ran, text, status);
     }
 }
@@ -211,9 +283,10 @@ static SPLIT: [(&str, &str, u8); 6] = [
 #[test]
 fn parts_of_names(rt: HostRuntime) {
     let alloc = rt.alloc();
-    for (name, text, status) in SPLIT {
+    for &(name, text, status) in &SPLIT {
         let task = Task::SplitName(name);
-        let ran = run(alloc, task, ("", ""), streams(&rt, alloc, 1));
+        let (output, messages) = (stream(&rt, alloc, 1), stream(&rt, alloc, 1));
+        let ran = run(alloc, task, "", "", output, messages);
         check(&rt, ran, text, status);
     }
 }
@@ -229,13 +302,12 @@ fn check_failed(rt: &impl Abort, ran: Ran, printed: &[u8]) {
 #[test]
 fn the_output_fails_after_each_byte(rt: HostRuntime) {
     let alloc = rt.alloc();
-    for (source, disks, text, _) in TABLES {
+    for &(format, source, disks, text, _) in &TABLES {
         let text = text.as_bytes();
         for count in 0..text.len() {
-            let (_, messages) = streams(&rt, alloc, PLENTY);
             let output = ShortOut::new(alloc, 3, count).expect(&rt, "an output");
-            let task = printing(Form::Table, Format::Table);
-            let ran = run(alloc, task, (source, disks), (output, messages));
+            let task = printing(Form::Table, format);
+            let ran = run(alloc, task, source, disks, output, stream(&rt, alloc, 1));
             check_failed(&rt, ran, &text[..count]);
         }
     }
@@ -244,11 +316,10 @@ fn the_output_fails_after_each_byte(rt: HostRuntime) {
 #[test]
 fn the_flush_fails(rt: HostRuntime) {
     let alloc = rt.alloc();
-    for (form, text) in READ_ONLY {
-        let (_, messages) = streams(&rt, alloc, PLENTY);
+    for &(form, text) in &READ_ONLY {
         let output = ShortOut::failing_flush(alloc, 1, PLENTY).expect(&rt, "an output");
         let task = printing(form, Format::Lvm);
-        let ran = run(alloc, task, (GROUP, ""), (output, messages));
+        let ran = run(alloc, task, GROUP, "", output, stream(&rt, alloc, 1));
         check_failed(&rt, ran, text.as_bytes());
     }
 }
@@ -258,9 +329,9 @@ fn the_message_stream_fails(rt: HostRuntime) {
     let alloc = rt.alloc();
     let message = "dmremap: name: split\n".as_bytes();
     for count in 0..message.len() {
-        let (output, _) = streams(&rt, alloc, 1);
         let messages = ShortOut::new(alloc, 1, count).expect(&rt, "a message stream");
-        let (status, _, told) = run(alloc, Task::SplitName("a"), ("", ""), (output, messages));
+        let task = Task::SplitName("a");
+        let (status, _, told) = run(alloc, task, "", "", stream(&rt, alloc, 1), messages);
         assert_eq!(&rt; told.as_slice(), &message[..count]);
         assert_eq!(&rt; status, 1);
     }

@@ -14,12 +14,17 @@ const TABLE: &str = r#"Files { format: Table, file: "a.table", disks: Some("a.di
 const BACKUP: &str = r#"Files { format: Lvm, file: "vg0.backup", disks: None }"#;
 
 /// Words, how the task that they ask for begins, and its texts.
-static TASKS: [(&[&str], &str, &str); 9] = [
+static TASKS: [(&[&str], &str, &str); 10] = [
     (&["dmremap", "map", "table", "a.table", "a.disks"], "Map(", TABLE),
     (&["dmremap", "map", "table", "--", "a.table", "a.disks"], "Map(", TABLE),
     (&["dmremap", "map", "lvm", "vg0.backup"], "Map(", BACKUP),
     (&["dmremap", "table", "lvm", "vg0.backup"], "Print(Table, ", BACKUP),
     (&["dmremap", "concise", "table", "a.table", "a.disks"], "Print(Concise, ", TABLE),
+    (
+        &["dmremap", "map", "concise", "f", "d"],
+        "Map(",
+        r#"Files { format: Concise, file: "f", disks: Some("d") }"#,
+    ),
     (
         &["dmremap", "map", "table", "--", "-", "d"],
         "Map(",
@@ -41,7 +46,7 @@ static TASKS: [(&[&str], &str, &str); 9] = [
 #[test]
 fn tasks(rt: HostRuntime) {
     let alloc = rt.alloc();
-    for (words, task, texts) in TASKS {
+    for &(words, task, texts) in &TASKS {
         let job = read_words(alloc, words).expect(&rt, "a job");
         let shown = format!(in alloc; "{:?}", job.task).expect(&rt, "a text");
         assert!(&rt; shown.starts_with(task) && shown.contains(texts), "{shown}");
@@ -69,10 +74,11 @@ fn texts_of_faults(rt: HostRuntime) {
 
 #[test]
 fn disks_go_with_tables_alone(rt: HostRuntime) {
-    let cases: [&[&str]; 4] = [
+    let cases: [&[&str]; 5] = [
         &["dmremap", "map", "table", "a.table"],
         &["dmremap", "map", "lvm", "vg0.backup", "a.disks"],
         &["dmremap", "table", "table", "a.table"],
+        &["dmremap", "map", "concise", "a.concise"],
         &["dmremap", "concise", "lvm", "vg0.backup", "a.disks"],
     ];
     for words in cases {
@@ -145,7 +151,7 @@ static REFUSED: [(&[&str], &str); 18] = [
 
 #[test]
 fn other_words_are_refused(rt: HostRuntime) {
-    for (words, told) in REFUSED {
+    for &(words, told) in &REFUSED {
         let (status, text) = refusal(&rt, rt.alloc(), words);
         assert!(rt; text.contains(told), "{text}");
         assert_eq!(rt; status, 2);
@@ -157,7 +163,7 @@ static HELP: [(&[&str], &str, &str); 9] = [
         (&["dmremap", "--help"], "Usage: dmremap <COMMAND>", "  splitname  Prints"),
         (&["dmremap", "-h"], "Usage: dmremap <COMMAND>", "  concise    Checks"),
         (&["dmremap", "help"], "Usage: dmremap <COMMAND>", "  6  out of memory"),
-        (&["dmremap", "help", "map"], "map <FORMAT> <FILE> [DISKS]", "FORMAT is one of\n  lvm"),
+        (&["dmremap", "help", "map"], "map <FORMAT> <FILE> [DISKS]", "FORMAT is one of\n  lvm      the"),
         (&["dmremap", "map", "--help"], "map <FORMAT> <FILE> [DISKS]", "dmremap map table"),
         (&["dmremap", "table", "-h"], "table <FORMAT> <FILE> [DISKS]", "dmremap table lvm"),
         (&["dmremap", "concise", "-h"], "concise <FORMAT> <FILE> [DISKS]", "dmremap concise lvm"),
@@ -167,7 +173,7 @@ static HELP: [(&[&str], &str, &str); 9] = [
 
 #[test]
 fn help_of_each_command(rt: HostRuntime) {
-    for (words, usage, told) in HELP {
+    for &(words, usage, told) in &HELP {
         let (status, text) = refusal(&rt, rt.alloc(), words);
         assert!(rt; text.contains(usage) && text.contains(told), "{text}");
         assert!(rt; text.contains("Exit status\n  0  "), "{text}");

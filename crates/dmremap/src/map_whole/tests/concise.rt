@@ -7,7 +7,7 @@ use super::*;
 use dm_table::{LoadKind, parse_concise, write_concise, write_table};
 
 /// Flags and their absence, spaces around lines, an end with a newline and without, and no devices.
-const TEXTS: [(&str, &str, &str); 8] = [
+static TEXTS: [(&str, &str, &str); 8] = [
     ("", "", "\n"),
     ("\n", "", "\n"),
     (
@@ -45,7 +45,7 @@ const TEXTS: [(&str, &str, &str); 8] = [
 #[test]
 fn texts(rt: HostRuntime) {
     let alloc = rt.alloc();
-    for (text, table, concise) in TEXTS {
+    for &(text, table, concise) in &TEXTS {
         let devices = parse_concise(alloc, text.as_bytes()).expect(&rt, "devices");
         for (index, device) in devices.iter().enumerate() {
             let number = index as u64 + 1;
@@ -64,7 +64,7 @@ fn texts(rt: HostRuntime) {
 }
 
 /// Each check alone, and each before the next.
-const REFUSED: [(&str, LoadKind, u64); 36] = [
+static REFUSED: [(&str, LoadKind, u64); 36] = [
     ("a,,,,0 8 \tzero", LoadKind::NotText, 1),
     ("a,,,,0 8 zero;\u{e9},,,,0 8 zero", LoadKind::NotText, 2),
     (";", LoadKind::Syntax, 1),
@@ -114,7 +114,7 @@ const REFUSED: [(&str, LoadKind, u64); 36] = [
 #[test]
 fn refused(rt: HostRuntime) {
     let alloc = rt.alloc();
-    for (text, kind, number) in REFUSED {
+    for &(text, kind, number) in &REFUSED {
         let fault = parse_concise(alloc, text.as_bytes()).expect_err(&rt, "a fault");
         assert_eq!(&rt; fault.kind, kind, "{text}");
         assert_eq!(&rt; fault.at.number, number, "{text}");

@@ -10,13 +10,14 @@ use std::cell::Cell;
 #[test]
 fn passes_on_once(rt: HostRuntime) {
     for (script, handed_on, flushed, succeeds) in [
-        ([Step::Moves(5), Step::Moves(0), Step::Fails, Step::Fails], 1, 2, true),
-        ([Step::Moves(3), Step::Moves(2), Step::Moves(0), Step::Fails], 2, 3, true),
+        ([Step::Moves(5), Step::Moves(0), Step::Fails], 1, 2, true),
+        ([Step::Moves(5), Step::Fails, Step::Moves(0)], 1, 2, false),
+        ([Step::Moves(3), Step::Moves(2), Step::Moves(0)], 2, 3, true),
         // What could not be handed on stays gathered, and is no fault yet.
-        ([Step::Moves(3), Step::Fails, Step::Moves(2), Step::Moves(0)], 2, 4, true),
-        ([Step::Moves(3), Step::Fails, Step::Moves(1), Step::Fails], 2, 4, false),
-        ([Step::Moves(3), Step::Moves(0), Step::Moves(2), Step::Fails], 2, 4, false),
-        ([Step::Fails, Step::Fails, Step::Moves(5), Step::Moves(0)], 1, 2, false),
+        ([Step::Moves(3), Step::Fails, Step::Moves(2)], 2, 4, true),
+        ([Step::Moves(3), Step::Moves(0), Step::Moves(2)], 2, 4, true),
+        ([Step::Moves(3), Step::Fails, Step::Moves(1)], 2, 4, false),
+        ([Step::Fails, Step::Fails, Step::Moves(5)], 1, 2, false),
     ] {
         let calls = Cell::new(0);
         let mut output = Gathered::new(Counted::new(Fake {
