@@ -75,7 +75,7 @@ fn a_stack(rt: HostRuntime) {
     let mut looker = stack.looker();
     let line = looker.look(b, 7);
     assert_eq!(&rt; (line.start, line.len), (0, 8));
-    assert_eq!(&rt; looker.searches(), 1);
+    assert_eq!(&rt; (looker.searches(), looker.comparisons()), (1, 0));
     assert_eq!(&rt; looker.depth(), 2);
 }
 
