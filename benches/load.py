@@ -49,11 +49,21 @@ def row(devices):
     return "".join(lines) + f"d{devices - 1}: 0 8 linear s 0\n"
 
 
+def snapshots(devices):
+    text = ["d0: 0 8 linear s 0\n"]
+    for number in range(1, 31):
+        text.append(f"d{number}: 0 8 linear /dev/mapper/d{number - 1} 0\n")
+    for number in range(31, devices):
+        text.append(f"d{number}: 0 8 snapshot /dev/mapper/d30 /dev/mapper/d{number % 31} P 1\n")
+    return "".join(text)
+
+
 SHAPES = [
     ("one device of 65,536 lines of zeros", one_device, 65536, 0),
     ("one device of 40,000 lines on a disk", linear_lines, 40000, 0),
     ("1,024 devices in 32 chains of 32", chains, 1024, 0),
     ("32 levels of 128 columns on the level below", levels, 128, 0),
+    ("993 snapshots over an origin and stores up to 31 deep", snapshots, 1024, 0),
     ("a ring of 1,024 devices (refused)", ring, 1024, 1),
     ("a row of 1,024 devices (refused)", row, 1024, 1),
 ]

@@ -27,11 +27,12 @@ class Tally:
         print("FAILED %s: %s" % (name, why), flush=True)
 
     def holds(self, name, is_so, why):
-        """Counts a case that is more than a comparison of outcomes."""
+        """Counts a case that is more than a comparison of outcomes, and says whether it holds."""
         if is_so:
             self.passed += 1
         else:
             self.fail(name, why)
+        return is_so
 
     def same(self, name, got, status=0, out="", err=""):
         """Counts a case: the status, and the bytes of both streams."""

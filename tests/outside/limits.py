@@ -30,12 +30,24 @@ def check_counts(tally, program):
     tally.same("1,024 disks", got, 0, "1 R s1023 0 1\n")
     tally.same("1,025 disks", program.map("", disks + "t 1\n"), 1, "", "dmremap: disks: limit at 1025\n")
     tally.same("65,536 lines", program.map(lines, "", "R a 0 65536\n"), 0, "1 zero 65536\n")
+    got = program.map(lines, "sda 150\n", "R a 65528 8\nW a 65535 2\n")
+    tally.same("the last of 65,536 lines", got, 0, "1 zero 8\n2 error 2\n")
     got = program.map(lines + ZERO_LINE % LINES, "")
     tally.same("65,537 lines", got, 1, "", "dmremap: source: limit at 65537\n")
     got = program.map("a: 0 128 striped 128 1%s\n" % columns, disks, "R a 0 128\n")
     tally.same("128 columns", got, 0, each)
     got = program.map("a: 0 129 striped 129 1%s s128 0\n" % columns, disks)
     tally.same("129 columns", got, 1, "", "dmremap: source: stripe at 1\n")
+    # Columns of which each goes on where the one before it ends, so that the device is one piece of the disk.
+    for count in (1, 64, 65, 128):
+        columns = "".join(" sda %d" % (8 * it) for it in range(count))
+        got = program.map("a: 0 %d striped %d 8%s\n" % (8 * count, count, columns), "sda 1024\n",
+                          "R a 0 %d\n" % (8 * count))
+        tally.same("%d columns side by side" % count, got, 0, "1 R sda 0 %d\n" % (8 * count))
+    zeros = "".join("d%d: 0 8 zero\n" % it for it in range(1, 1026))
+    got = program.map(zeros[:zeros.index("d1025")], "sda 150\n", "R d1024 0 8\n")
+    tally.same("1,024 devices of zeros", got, 0, "1 zero 8\n")
+    tally.same("1,025 devices of zeros", program.map(zeros, "sda 150\n"), 1, "", "dmremap: source: limit at 1025\n")
     most = 1 << 50
     got = program.map("a: 0 %d linear sda 0\n" % most, "sda %d\n" % most, "W a %d 1\n" % (most - 1))
     tally.same("2^50 sectors", got, 0, "1 W sda %d 1\n" % (most - 1))
@@ -51,6 +63,21 @@ def check_sizes(tally, program):
     table = "".join(padded)
     tally.holds("a table of 1 MiB", len(table) == BYTES, "this module made %d bytes" % len(table))
     tally.same("1 MiB of lines", program.map(table, "", "R a 65535 1\n"), 0, "1 zero 1\n")
+    # The last of many lines is on a disk whose name fills the table up to the limit, and one byte past it.
+    errors = "".join("a: %d 1 error\n" % it for it in range(62330))
+    for letters, status, output, message in ((55, 0, "1 R %s 0 1\n2 error 1\n", ""),
+                                             (56, 1, "", "dmremap: source: long\n")):
+        name = "s" * letters
+        table = errors + "a: 62330 1 linear %s 0\n" % name
+        tally.holds("a table of 1 MiB on a disk", len(table) == BYTES + letters - 55, "it has %d bytes" % len(table))
+        got = program.map(table, name + " 1\n", "R a 62330 1\nR a 62331 1\n")
+        tally.same("a table of %d bytes" % len(table), got, status, output and output % name, message)
+    # A list of this size has more disks than are allowed, so a later check refuses it.
+    for letters, message in ((253, "disks: limit at 1025"), (254, "disks: long")):
+        disks = ("s" * 253 + " 1\n") * 4095 + "s" * letters + " 1\n"
+        tally.holds("a list of 1 MiB", len(disks) == BYTES + letters - 253, "it has %d bytes" % len(disks))
+        got = program.map("a: 0 100 linear sda 50\n", disks, "R a 0 100\n")
+        tally.same("a list of %d bytes" % len(disks), got, 1, "", "dmremap: %s\n" % message)
     for size, message in ((BYTES, "source: text at 1"), (BYTES + 1, "source: long"), (3 * BYTES, "source: long")):
         got = program.map("\t" * size, "")
         tally.same("%d bytes as FILE" % size, got, 1, "", "dmremap: %s\n" % message)

@@ -21,6 +21,8 @@ BAD = [
     ("R a 0 0\n", "length"),
     ("W a 0 1048577\n", "length"),
     ("R b 0 1\n", "unknown"),
+    ("R %s 0 1\n" % ("a" * 127), "unknown"),
+    ("R %s 0 1\n" % ("a" * 128), "form"),
     ("R sda 0 1\n", "unknown"),
     ("R a 0 1" + "0" * 4089 + "\n", "number"),
     ("R" * 4096 + "\n", "form"),

@@ -19,14 +19,14 @@ use Rattle.dm_stack.proofs.Passes.{all_parts, append_none, faults_by_none}
 
 -- Ends within the limit
 
-line_within : (line : Line) → is_large line ≡ false → line.start + line.len ≤ 2 ^ 50
+pub line_within : (line : Line) → is_large line ≡ false → line.start + line.len ≤ 2 ^ 50
 line_within line large =
     let a = or_parts (nat_lt (2 ^ 50) line.start) (nat_lt (2 ^ 50) line.len || (nat_lt (2 ^ 50) (line.start + line.len) || list_any is_far (spans line))) large in
     let b = or_parts (nat_lt (2 ^ 50) line.len) (nat_lt (2 ^ 50) (line.start + line.len) || list_any is_far (spans line)) a.1 in
     let c = or_parts (nat_lt (2 ^ 50) (line.start + line.len)) (list_any is_far (spans line)) b.1 in
     ltb-false _ _ c.0
 
-lines_within : (lines : List Line) → AllByRecursion (λ line. is_large line ≡ false) lines → AllByRecursion (λ line. line.start + line.len ≤ 2 ^ 50) lines
+pub lines_within : (lines : List Line) → AllByRecursion (λ line. is_large line ≡ false) lines → AllByRecursion (λ line. line.start + line.len ≤ 2 ^ 50) lines
 lines_within [] small = tt
 lines_within (line ∷ lines) small = (line_within line small.0, lines_within lines small.1)
 

@@ -18,6 +18,7 @@ pub mod RoundLemmas
 pub mod SameLine
 pub mod SearchLemmas
 pub mod SnapshotIds
+pub mod SnapshotRule
 pub mod SoundLines
 pub mod SpanLemmas
 pub mod StoreLemmas

@@ -19,7 +19,8 @@ use Rattle.dm_stack.specs.Loaded.{stack_depth}
 use Rattle.dm_stack.specs.Soundness.{HasNoCycle, IsFirstCycle, IsRefusedBy, Late, OnCycle, all_lines, checks_after, checks_before, depth_of, empty, is_unknown, is_unknown_ref, misplaced, too_large, too_many, twice, unknown}
 use Rattle.dm_stack.specs.Span.{Span, spans}
 use Rattle.dm_stack.proofs.HandedOn.{all_append}
-use Rattle.dm_stack.proofs.Passes.{all_parts, faults_by_none, first_none}
+use Rattle.dm_table.proofs.FaultLemmas.{first_or-none}
+use Rattle.dm_stack.proofs.Passes.{all_parts, faults_by_none}
 
 -- Checks in a row
 
@@ -44,11 +45,11 @@ pub sizes_stopped : (stack : Description) (at : LoadFault) → first_fault (too_
 sizes_stopped stack at e = two_stopped (too_many stack) (too_large stack) _ at e
 
 pub small_passed : (stack : Description) → first_fault (too_many stack ∷ too_large stack ∷ []) ≡ None → too_large stack ≡ []
-small_passed stack e = (first_none (too_large stack) None (first_none (too_many stack) _ e).1).0
+small_passed stack e = (first_or-none (too_large stack) None (first_or-none (too_many stack) _ e).1).0
 
 pub known_passed : (stack : Description) → first_fault (checks_before stack) ≡ None → first_or (unknown stack) None ≡ None
 known_passed stack e =
-    (first_none (misplaced stack) _ (first_none (empty stack) _ (first_none (twice stack) _ (first_none (too_large stack) _ (first_none (too_many stack) _ e).1).1).1).1).1
+    (first_or-none (misplaced stack) _ (first_or-none (empty stack) _ (first_or-none (twice stack) _ (first_or-none (too_large stack) _ (first_or-none (too_many stack) _ e).1).1).1).1).1
 
 -- What is named is there
 
@@ -92,7 +93,7 @@ at_or P (x ∷ xs) (suc i) other each last = at_or P xs i other each.1 last
 
 pub closed_links : (stack : Description) → first_or (unknown stack) None ≡ None → IsClosed (links stack)
 closed_links stack e =
-    let known = faults_by_none Unknown (λ line. line.at) (is_unknown stack) (all_lines stack.devices) (first_none (unknown stack) None e).0 in
+    let known = faults_by_none Unknown (λ line. line.at) (is_unknown stack) (all_lines stack.devices) (first_or-none (unknown stack) None e).0 in
     let there = devices_there stack stack.devices known in
     λ d named is.
     let inside : AreThere stack (links_of (links stack) d) = at_or (AreThere stack) (links stack) d [] there tt in

@@ -1,11 +1,12 @@
 -- What it says that a check finds nothing.
-use Rattle.std.proofs.Common.{◌≡◌, Bool, true, false, cond, List, [], ◌∷◌, ◌++◌, Option, None, map, refl}
+use Rattle.std.proofs.Common.{◌≡◌, Bool, true, false, cond, List, [], ◌∷◌, ◌++◌, None, map, refl}
 use Rattle.std.specs.Prelude.{filter}
 use Rattle.std.specs.List.{AllByRecursion}
 use Rattle.dm_table.specs.declared.place.Place.{Place}
 use Rattle.dm_table.specs.declared.load_fault.LoadKind.{LoadKind}
 use Rattle.dm_table.specs.declared.load_fault.LoadFault.{LoadFault}
-use Rattle.dm_table.specs.LoadFault.{faults_by, first_or, first_fault}
+use Rattle.dm_table.specs.LoadFault.{faults_by, first_fault}
+use Rattle.dm_table.proofs.FaultLemmas.{first_fault-none}
 use Rattle.dm_stack.specs.Description.{Description}
 use Rattle.dm_stack.specs.Soundness.{too_many, too_large, twice, empty, misplaced, unknown, deep, stripe, range, snapshot, store, crowded, checks_before, checks_after}
 
@@ -40,10 +41,6 @@ filter_none f bad (x ∷ xs) e =
     let parts = cond_left f x (filter bad xs) (bad x) e in
     (parts.0, filter_none f bad xs parts.1)
 
-pub first_none : (check : List LoadFault) (later : Option LoadFault) → first_or check later ≡ None → (check ≡ []) × (later ≡ None)
-first_none [] later e = (refl, e)
-first_none (fault ∷ faults) later e = absurd cc
-
 -- each check before the one for cycles finds nothing
 pub record PassesBefore (stack : Description) : Type 0 where
   pub few : too_many stack ≡ []
@@ -64,20 +61,10 @@ pub record PassesAfter (stack : Description) : Type 0 where
 
 pub passes_before : (stack : Description) → first_fault (checks_before stack) ≡ None → PassesBefore stack
 passes_before stack e =
-    let a = first_none (too_many stack) _ e in
-    let b = first_none (too_large stack) _ a.1 in
-    let c = first_none (twice stack) _ b.1 in
-    let d = first_none (empty stack) _ c.1 in
-    let f = first_none (misplaced stack) _ d.1 in
-    let g = first_none (unknown stack) _ f.1 in
-    record { few = a.0; small = b.0; apart = c.0; filled = d.0; placed = f.0; known = g.0 }
+    let none = first_fault-none (checks_before stack) e in
+    record { few = none.0; small = none.1.0; apart = none.1.1.0; filled = none.1.1.1.0; placed = none.1.1.1.1.0; known = none.1.1.1.1.1.0 }
 
 pub passes_after : (stack : Description) → first_fault (checks_after stack) ≡ None → PassesAfter stack
 passes_after stack e =
-    let a = first_none (deep stack) _ e in
-    let b = first_none (stripe stack) _ a.1 in
-    let c = first_none (range stack) _ b.1 in
-    let d = first_none (snapshot stack) _ c.1 in
-    let f = first_none (store stack) _ d.1 in
-    let g = first_none (crowded stack) _ f.1 in
-    record { shallow = a.0; divided = b.0; inside = c.0; fitting = d.0; stored = f.0; roomy = g.0 }
+    let none = first_fault-none (checks_after stack) e in
+    record { shallow = none.0; divided = none.1.0; inside = none.1.1.0; fitting = none.1.1.1.0; stored = none.1.1.1.1.0; roomy = none.1.1.1.1.1.0 }

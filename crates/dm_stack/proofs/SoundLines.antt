@@ -19,6 +19,7 @@ use Rattle.dm_stack.specs.Description.{Description, lines_at, lines_or_none, end
 use Rattle.dm_stack.specs.Below.{holds, line_of, found_line, found_columns, found_target, found_at, LiesIn, AreStripes, IsSnapshotSound, IsTargetSound, HoldsSoundly}
 use Rattle.dm_stack.specs.Soundness.{all_lines, is_large, is_far, without_lines, empty_in, misplaced_in, is_bad_chunk, is_bad_snapshot, is_bad_stripe, has_bad_store, has_bad_stripes, is_past, passes_end, snapshot_in, HaveSmallEnds, IsSound}
 use Rattle.dm_stack.specs.Span.{column_span, spans, target_spans}
+use Rattle.dm_stack.proofs.HandedOn.{line_within, lines_within}
 use Rattle.dm_stack.proofs.LayoutLemmas.{AreInRow, in_row}
 use Rattle.dm_stack.proofs.ChunkLemmas.{chunk_within}
 use Rattle.dm_stack.proofs.Passes.{append_none, all_parts, faults_by_none, passes_before, passes_after}
@@ -144,13 +145,6 @@ target_sound stack id lines line (targets.Snapshot origin store chunk) whole goo
 
 -- The line of a sector of a sound stack
 
-line_small : (line : Line) → is_large line ≡ false → line.start + line.len ≤ 2 ^ 50
-line_small line large =
-    let a = or_parts (nat_lt (2 ^ 50) line.start) (nat_lt (2 ^ 50) line.len || (nat_lt (2 ^ 50) (line.start + line.len) || list_any is_far (spans line))) large in
-    let b = or_parts (nat_lt (2 ^ 50) line.len) (nat_lt (2 ^ 50) (line.start + line.len) || list_any is_far (spans line)) a.1 in
-    let c = or_parts (nat_lt (2 ^ 50) (line.start + line.len)) (list_any is_far (spans line)) b.1 in
-    ltb-false _ _ c.0
-
 -- what the checks say of the lines of a device
 pub record IsDeviceSound (stack : Description) (device : DeviceSpec) : Type 0 where
   pub small : AllByRecursion (λ line. is_large line ≡ false) device.lines
@@ -235,7 +229,7 @@ sector_found stack id sector sound within inside =
       soundly = record {
         from = leb-true _ _ parts.0;
         before = ltb-true _ _ parts.1;
-        small = line_small h.line a.1;
+        small = line_within h.line a.1;
         target = target_sound stack id (length d.it.lines) h.line h.line.target (whole_line stack id (holds sector) d.it.lines h.line lines s.placed h.is) b.1 c.1 f.1 g.1;
       };
     }
@@ -248,7 +242,7 @@ end_some line (next ∷ lines) filled = end_some next lines filled.1
 
 end_small : (lines : List Line) → AllByRecursion (λ line. is_large line ≡ false) lines → end_of lines ≤ 2 ^ 50
 end_small [] small = omega arith
-end_small (line ∷ []) small = line_small line small.0
+end_small (line ∷ []) small = line_within line small.0
 end_small (line ∷ next ∷ lines) small = end_small (next ∷ lines) small.1
 
 filled_lines : (device : DeviceSpec) (lines : List Line) → without_lines device lines ≡ [] → AllByRecursion (λ line. (line.len == 0) ≡ false) lines → 0 < end_of lines
@@ -286,8 +280,4 @@ disk_small stack id disk sound at =
     ltb-false _ _ (got (λ d. nat_lt (2 ^ 50) d.len ≡ false) stack.disks id disk (faults_by_none Limit (λ d. d.at) (λ d. nat_lt (2 ^ 50) d.len) stack.disks (append_none _ _ p.small).1) at)
 
 pub small_ends : (lines : List Line) → AllByRecursion (λ line. is_large line ≡ false) lines → HaveSmallEnds lines
-small_ends lines small = All-from_recursion (λ line. line.start + line.len ≤ 2 ^ 50) lines (ends lines small)
-  where
-    ends : (lines : List Line) → AllByRecursion (λ line. is_large line ≡ false) lines → AllByRecursion (λ line. line.start + line.len ≤ 2 ^ 50) lines
-    ends [] small = tt
-    ends (line ∷ lines) small = (line_small line small.0, ends lines small.1)
+small_ends lines small = All-from_recursion (λ line. line.start + line.len ≤ 2 ^ 50) lines (lines_within lines small)

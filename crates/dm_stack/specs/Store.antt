@@ -15,9 +15,7 @@ use Rattle.dm_stack.specs.Span.{spans}
 abbrev pub is_plain : Target → Bool
 is_plain (targets.Linear to offset) = true
 is_plain (targets.Striped chunk columns) = true
-is_plain targets.Zero = false
-is_plain targets.Error = false
-is_plain (targets.Snapshot origin store chunk) = false
+is_plain _ = false
 
 -- a store, through at most this many levels of devices
 unfoldable pub is_store_to : Description → ℕ → Lower → Bool

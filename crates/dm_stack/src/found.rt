@@ -3,10 +3,8 @@
 //! A load looks each name up, so that mapping never compares texts. A new target is a variant here,
 //! arms in `specs/Below.antt`, and one in `resolve`, which makes these lines.
 
-ghost use Rattle.std.specs.Prelude.{◌≡◌};
-
 use crate::id::Lower;
-use std::marker::Model;
+use dm_table::Listed;
 
 /// The line of a sector.
 pub type Found<'s> = &'s FoundLine;
@@ -55,33 +53,3 @@ pub type FoundColumns = Listed<FoundColumn>;
 
 /// The lines of a device.
 pub(crate) type FoundTable = Listed<FoundLine>;
-
-/// Values in their order. A clause sees them as a list.
-#[derive(Debug, Drop)]
-pub struct Listed<T> {
-    items: Vec<T>,
-}
-
-impl<T> Model for Listed<T> {
-    ghost use Rattle.std.specs.Prelude.{List};
-
-    ghost Value = { List T };
-
-    ghost view = { λ listed. listed.items.items };
-}
-
-impl<T> Listed<T> {
-    /// These values, with no memory taken.
-    pub(crate) fn from_vec(items: Vec<T>) -> Listed<T>
-        ensures { result ≡ items.items }
-    {
-        Listed { items }
-    }
-
-    /// The values in their order.
-    pub fn as_slice(&self) -> &[T]
-        ensures { result.now ≡ self.now }
-    {
-        self.items.as_slice()
-    }
-}

@@ -27,7 +27,7 @@ mod store_places;
 mod stores;
 mod stripes;
 
-pub use found::{Found, FoundColumn, FoundColumns, FoundLine, FoundSnapshot, FoundTarget, Listed};
+pub use found::{Found, FoundColumn, FoundColumns, FoundLine, FoundSnapshot, FoundTarget};
 pub use graph::MOST_DEPTH;
 pub use id::{DeviceId, DiskId, Lower};
 pub use looker::Looker;

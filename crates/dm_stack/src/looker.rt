@@ -6,7 +6,7 @@
 ghost use Rattle.std.specs.Prelude.{◌≡◌, ℕ, ◌+◌, ◌<◌, ◌≤◌, ◌^◌, Some, length};
 ghost use Rattle.dm_stack.specs.Below.{HoldsSoundly, found_at};
 ghost use Rattle.dm_stack.specs.Description.{device_len, disk_len, is_ro_at, lines_at};
-ghost use Rattle.dm_stack.specs.Loaded.{next_count, snapshots, stack_depth};
+ghost use Rattle.dm_stack.specs.Loaded.{next_count, snapshots, stack_depth, AreSnapshots};
 ghost use Rattle.dm_stack.specs.Soundness.{IsSound};
 ghost use Rattle.dm_stack.specs.LineSearch.{binary_digits};
 
@@ -120,7 +120,8 @@ impl<'s> Looker<'s> {
 
     /// The devices of the stack that are snapshots, in their order.
     pub fn snapshots(&self) -> &[DeviceId]
-        ensures { result.now ≡ snapshots self.now.stack }
+        ensures ids { result.now ≡ snapshots self.now.stack }
+        ensures all { AreSnapshots self.now.stack result.now }
     {
         self.stack.snapshots()
     }

@@ -7,7 +7,7 @@ ghost use Rattle.std.specs.Prelude.{◌≡◌, ◌≢◌, ℕ, ◌+◌, ◌<◌,
 ghost use Rattle.dm_table.specs.Name.{is_disk_name};
 ghost use Rattle.dm_stack.specs.Below.{HoldsSoundly, found_at, found_lines};
 ghost use Rattle.dm_stack.specs.Description.{Description, device_len, disk_len, is_ro_at, is_same, name_at, disk_name_at, lines_at};
-ghost use Rattle.dm_stack.specs.Loaded.{IsDeeperByOne, snapshots, stack_depth};
+ghost use Rattle.dm_stack.specs.Loaded.{IsDeeperByOne, snapshots, stack_depth, AreSnapshots};
 ghost use Rattle.dm_stack.specs.LineSearch.{binary_digits};
 ghost use Rattle.dm_stack.specs.Soundness.{IsRefusedBy, IsSound};
 ghost use Rattle.dm_stack.specs.declared.graph.TheConstants.{MOST_DEPTH};
@@ -178,9 +178,11 @@ impl Stack {
         self.depth
     }
 
-    /// The devices that are snapshots, in their order: each has a snapshot's line, alone in its table.
+    /// The devices that are snapshots, in their order: each has a snapshot's line, alone in its table,
+    /// and no other device has one at its first sector.
     pub fn snapshots(&self) -> &[DeviceId]
-        ensures { result.now ≡ snapshots self.now }
+        ensures ids { result.now ≡ snapshots self.now }
+        ensures all { AreSnapshots self.now result.now }
     {
         self.snapshots.as_slice()
     }

@@ -79,7 +79,7 @@ fn is_plain(target: &Target) -> bool
 {
     match target {
         Target::Linear { .. } | Target::Striped { .. } => true,
-        Target::Zero | Target::Error | Target::Snapshot { .. } => false,
+        _ => false,
     }
 }
 

@@ -172,6 +172,9 @@ pub fn run<'s, T: Taken, R: Input, W: Output, E: Output>(
     // The message of the ending, or a beginning of it if its stream failed.
     ensures told { IsTold (ending_message result) (since (E.written messages.old) (E.written messages.new)) (E.faults messages.old) (E.faults messages.new) }
     ensures unflushed { E.flushes messages.new ≡ E.flushes messages.old }
+    // Nothing is told after a message that failed.
+    ensures tells_grow { E.faults messages.old ≤ E.faults messages.new }
+    ensures tells_once { E.faults messages.new ≤ E.faults messages.old + 1 }
     // Each input and output only moves on from where it was.
     ensures reads { R.handed requests.new
         ≡ R.handed requests.old ++ since (R.handed requests.old) (R.handed requests.new) }

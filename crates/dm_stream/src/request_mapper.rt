@@ -123,4 +123,8 @@ impl<'s, T: Taken, W: Output> Handler for RequestMapper<'_, 's, T, W> {
             Err(OutFault) => Err(NotMapped::Output),
         }
     }
+
+    fn before_read(&mut self) {
+        self.join.hand_on();
+    }
 }

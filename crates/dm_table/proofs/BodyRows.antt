@@ -55,9 +55,12 @@ target_joined before start len (Snapshot origin store chunk) = simp append_assoc
 pub body_joined : (before : List ℕ) (line : Line) → join_with_byte 32 (before ∷ body_fields line) ≡ before ++ 32 ∷ body_text line
 body_joined before line = target_joined before (decimal line.start) (decimal line.len) line.target ∙ simp append_assoc
 
+pub body_alone : (line : Line) → join_with_byte 32 (body_fields line) ≡ body_text line
+body_alone line = ap (drop 1) (body_joined [] line)
+
 -- From fields that the tests pass to the body
 
-number_spelled : (field : List ℕ) → is_some (number_of field) ≡ true → Spells field (number_in field)
+pub number_spelled : (field : List ℕ) → is_some (number_of field) ≡ true → Spells field (number_in field)
 number_spelled field e = Spells-number_of field (number_in field) (Some-is_some (number_of field) e)
 
 starts_with_mapper : (text : List ℕ) → names_device text ≡ true → text ≡ mapper ++ drop (length mapper) text
@@ -225,9 +228,9 @@ body_said at (start ∷ len ∷ target) l h =
 
 -- From a body to its fields
 
--- a byte of a field: text, and no space
+-- a byte of a field: text, and no space, comma or semicolon
 abbrev pub is_ink : ℕ → Bool
-is_ink b = nat_le 33 b && nat_le b 126
+is_ink b = is_disk_byte b
 
 -- a field that is there
 abbrev pub IsInked : List ℕ → Type 0
@@ -242,11 +245,8 @@ ink_clear field h = All-list_all is_ink (λ b. eqb b 32 ≡ false) ink_space fie
 pub ink_text : (b : ℕ) → is_ink b ≡ true → (nat_le 32 b && nat_le b 126) ≡ true
 ink_text b h = grind (arith, nat_tests)
 
-device_ink : (b : ℕ) → is_device_byte b ≡ true → is_ink b ≡ true
+pub device_ink : (b : ℕ) → is_device_byte b ≡ true → is_ink b ≡ true
 device_ink b h = grind (arith, nat_tests)
-
-disk_ink : (b : ℕ) → is_disk_byte b ≡ true → is_ink b ≡ true
-disk_ink b h = grind (arith, nat_tests)
 
 digit_ink : (b : ℕ) → is_ascii_digit b ≡ true → is_ink b ≡ true
 digit_ink b h = grind (arith, nat_tests)
@@ -254,12 +254,12 @@ digit_ink b h = grind (arith, nat_tests)
 pub name_inked : (name : List ℕ) → is_device_name name ≡ true → IsInked name
 name_inked name h = let a = device_name_parts name h in (a.some, list_all-weaker is_device_byte is_ink device_ink name a.bytes)
 
-number_inked : (n : ℕ) → n < 10 ^ 19 → IsInked (decimal n)
+pub number_inked : (n : ℕ) → n < 10 ^ 19 → IsInked (decimal n)
 number_inked n h = (lt-ltb _ _ (decimal_some n h), list_all-weaker is_ascii_digit is_ink digit_ink (decimal n) (decimal_digits n h))
 
 dev_inked : (to : DevRef) → IsDevRef to → IsInked (dev_text to)
 dev_inked (Device name) h = (lt-ltb 0 (length (mapper ++ name)) (omega (arith, length-append mapper name)), (name_inked name h).1)
-dev_inked (Disk name) h = let a = disk_name_parts name h in (a.some, list_all-weaker is_disk_byte is_ink disk_ink name a.bytes)
+dev_inked (Disk name) h = let a = disk_name_parts name h in (a.some, a.bytes)
 
 columns_inked : (columns : List Column) → AllByRecursion IsColumn columns → AllByRecursion IsInked (flat_map column_fields columns)
 columns_inked [] h = tt

@@ -1,20 +1,21 @@
 -- What no check finds fault with describes its disks, and what describes disks no check finds fault with.
-use Rattle.std.proofs.Common.{◌≡◌, ℕ, Bool, suc, ◌+◌, ◌^◌, ◌<◌, true, false, nat_le, not, ◌&&◌, List, [], ◌∷◌, ◌++◌, length, map, get_or, drop, Some, None, Result, Ok, Err, Vec, refl, sym, ap, subst, ◌∙◌}
-use Rattle.std.specs.Prelude.{decimal, is_none}
-use Rattle.std.specs.Global.{Global}
+use Rattle.std.proofs.Common.{◌≡◌, ◌≢◌, ℕ, Bool, suc, ◌+◌, ◌^◌, ◌<◌, true, false, nat_le, not, ◌&&◌, List, [], ◌∷◌, ◌++◌, length, map, Option, Some, None, Ok, Err, refl, sym, ap, subst, ◌∙◌}
+use Rattle.std.specs.Prelude.{decimal, is_some}
 use Rattle.std.specs.List.{flat_map, join_with_byte, AllByRecursion}
 use Rattle.std.proofs.lemmas.Bool.{and_from, not-false, not_from_true, lt-ltb}
-use Rattle.std.proofs.lemmas.List.{drop_more}
 use Rattle.dm_table.specs.declared.disk.Disk.{Disk}
 use Rattle.dm_table.specs.declared.place.Part.TheVariants.{Disks}
-use Rattle.dm_table.specs.declared.load_fault.LoadKind.TheVariants.{NotText, Syntax, Field, Name}
+use Rattle.dm_table.specs.declared.load_fault.LoadKind.TheVariants.{NotText, Syntax, Field, Name, Memory}
 use Rattle.dm_table.specs.declared.load_fault.LoadFault.{LoadFault}
+use Rattle.dm_table.specs.declared.row_faults.RowFault.TheVariants as rows
 use Rattle.dm_table.specs.Number.{number_of}
 use Rattle.dm_table.specs.Name.{is_disk_name}
-use Rattle.dm_table.specs.Fields.{texts, row_texts, parts_at, lines_of, rest_of, lines_and_rest, fields}
+use Rattle.dm_table.specs.Fields.{texts, parts_at, lines_of, rest_of, lines_and_rest, fields}
 use Rattle.dm_table.specs.LoadFault.{first_or, first_fault, faults_from, unless, is_text, not_text, unended}
-use Rattle.dm_table.specs.DiskList.{disk_line, AreListed, DescribesDisks, is_pair, first, second, bad_syntax, bad_field, bad_name, disk_checks, disk_of, disks_from, read_disks}
-use Rattle.dm_table.proofs.NumberLemmas.{Spells-number_of, number_of-decimal, decimal_digits, decimal_some, Some-not_none}
+use Rattle.dm_table.specs.DiskList.{disk_line, AreListed, DescribesDisks, is_pair, has_sectors, has_name, second, bad_syntax, bad_field, bad_name, disk_checks, disk_fault, disk_of, disk_reading, disks_from, disks_read, read_disk_rows, read_disks}
+use Rattle.dm_table.specs.RowFaults.{no_faults, noted_rows, noted_rest, first_noted}
+use Rattle.dm_table.proofs.RowFaultLemmas.{noted_none, noted_refused}
+use Rattle.dm_table.proofs.NumberLemmas.{Spells-number_of, number_of-decimal, decimal_digits, decimal_some, Some-is_some}
 use Rattle.dm_table.proofs.ByteLemmas.{list_all-both, disk_name_parts, is_text-clear, is_text-digits, is_text-disk_name, digits-clear, disk_name-clear}
 use Rattle.dm_table.proofs.FieldLemmas.{IsClearOf, parts_at-first, parts_at-clear, join-parts_at, lines_of-whole, parts_at-lines, lines_of-lines, rest_of-lines}
 use Rattle.dm_table.proofs.FaultLemmas.{first_or-none, first_fault-all, faults_from-nil, faults_from-good, append-nil_both, unended-nil, unless-ok, unless-err, unless-passed}
@@ -29,27 +30,18 @@ abbrev no_pair : List (List ℕ) → Bool
 no_pair row = not (is_pair row)
 
 abbrev no_number : List (List ℕ) → Bool
-no_number row = is_none (number_of (second row))
+no_number row = not (has_sectors row)
 
-abbrev pub no_name : List (List ℕ) → Bool
-no_name row = not (is_disk_name (first row))
-
--- the row at an index has a disk's name, where no name from there on is bad
-pub name_at : (rows : List (Vec (Bor (List ℕ)) Global)) (i n : ℕ) (row : Vec (Bor (List ℕ)) Global) (row_slices : List (Bor (List ℕ))) → i < length rows → row ≡ get_or rows i row → row_slices ≡ row.items
-    → faults_from Disks Name no_name n (row_texts (drop i rows)) ≡ [] → is_disk_name (first (texts row_slices)) ≡ true
-name_at rows i n row row_slices below is_row is_slices none =
-    let here : faults_from Disks Name no_name n (row_texts (get_or rows i row ∷ drop (i + 1) rows)) ≡ [] =
-    ap (λ (left : List (Vec (Bor (List ℕ)) Global)). faults_from Disks Name no_name n (row_texts left)) (sym (drop_more rows i row below)) ∙ none in
-    let good = (faults_from-nil Disks Name no_name n (row_texts (get_or rows i row ∷ drop (i + 1) rows)) here).0 in
-    rw (is_slices, is_row) (not-false _ good)
+abbrev no_name : List (List ℕ) → Bool
+no_name row = not (has_name row)
 
 -- From rows to disks
 
 -- a row in order is the line of its disk
-row_line : (n : ℕ) (row : List (List ℕ)) → is_pair row ≡ true → is_none (number_of (second row)) ≡ false → join_with_byte 32 row ≡ disk_line (disk_of n row)
+row_line : (n : ℕ) (row : List (List ℕ)) → is_pair row ≡ true → has_sectors row ≡ true → join_with_byte 32 row ≡ disk_line (disk_of n row)
 row_line n [] pair some = absurd cc
 row_line n (name ∷ []) pair some = absurd cc
-row_line n (name ∷ sectors ∷ []) pair some = ap (λ (text : List ℕ). name ++ 32 ∷ text) (Spells-number_of sectors _ (Some-not_none (number_of sectors) some)).digits
+row_line n (name ∷ sectors ∷ []) pair some = ap (λ (text : List ℕ). name ++ 32 ∷ text) (Spells-number_of sectors _ (Some-is_some (number_of sectors) some)).digits
 row_line n (name ∷ sectors ∷ more ∷ others) pair some = absurd cc
 
 -- lines in order are the lines of their disks
@@ -57,13 +49,13 @@ lines_spell : (n : ℕ) (lines : List (List ℕ)) → AllByRecursion (λ row. no
     → flat_map (λ line. line ++ 10 ∷ []) lines ≡ flat_map (λ disk. disk_line disk ++ 10 ∷ []) (disks_from n (map fields lines))
 lines_spell n [] pairs numbers = refl
 lines_spell n (line ∷ lines) pairs numbers =
-    let here : line ≡ disk_line (disk_of n (fields line)) = sym (join-parts_at 32 line) ∙ row_line n (fields line) (not-false _ pairs.0) numbers.0 in
+    let here : line ≡ disk_line (disk_of n (fields line)) = sym (join-parts_at 32 line) ∙ row_line n (fields line) (not-false _ pairs.0) (not-false _ numbers.0) in
     rw (← here, lines_spell (suc n) lines pairs.1 numbers.1) refl
 
 rows_listed : (n : ℕ) (rows : List (List (List ℕ))) → AllByRecursion (λ row. no_number row ≡ false) rows → AllByRecursion (λ row. no_name row ≡ false) rows → AreListed n (disks_from n rows)
 rows_listed n [] numbers names = tt
 rows_listed n (row ∷ rows) numbers names = (
-  record { name = not-false _ names.0; len = (Spells-number_of (second row) _ (Some-not_none (number_of (second row)) numbers.0)).short; at = refl },
+  record { name = not-false _ names.0; len = (Spells-number_of (second row) _ (Some-is_some (number_of (second row)) (not-false _ numbers.0))).short; at = refl },
   rows_listed (suc n) rows numbers.1 names.1,
 )
 
@@ -128,7 +120,7 @@ pairs_pass (disk ∷ disks) h =
 
 numbers_pass : (disks : List Disk) → AreNamed disks → AllByRecursion (λ row. no_number row ≡ false) (map disk_row disks)
 numbers_pass [] h = tt
-numbers_pass (disk ∷ disks) h = (ap is_none (number_of-decimal disk.len h.0.1), numbers_pass disks h.1)
+numbers_pass (disk ∷ disks) h = (not_from_true _ (ap is_some (number_of-decimal disk.len h.0.1)), numbers_pass disks h.1)
 
 names_pass : (disks : List Disk) → AreNamed disks → AllByRecursion (λ row. no_name row ≡ false) (map disk_row disks)
 names_pass [] h = tt
@@ -191,14 +183,33 @@ read_disks-err text fault h = unless-err (first_fault (disk_checks text)) (disks
 pub DescribesDisks-unique : (text : List ℕ) (a b : List Disk) → DescribesDisks text a → DescribesDisks text b → a ≡ b
 DescribesDisks-unique text a b is_a is_b = sym (read_as text a is_a).rows ∙ (read_as text b is_b).rows
 
-abbrev reading_of : List (List (List ℕ)) → List ℕ → Result (List Disk) LoadFault
-reading_of rows rest = unless (first_fault (bad_syntax rows rest ∷ bad_field rows ∷ bad_name rows ∷ [])) (disks_from 1 rows)
-
 -- a text whose bytes are all text is read by its rows and its rest
-pub read_disks-rows : (text : List ℕ) (lines : List (List ℕ)) (rest : List ℕ) (rows : List (List (List ℕ))) → unless (first_or (not_text Disks text) None) (lines_and_rest text) ≡ Ok (lines, rest) → rows ≡ map fields lines
-    → read_disks text ≡ unless (first_fault (bad_syntax rows rest ∷ bad_field rows ∷ bad_name rows ∷ [])) (disks_from 1 rows)
+pub read_disks-rows : (text : List ℕ) (lines : List (List ℕ)) (rest : List ℕ) → unless (first_or (not_text Disks text) None) (lines_and_rest text) ≡ Ok (lines, rest) → read_disks text ≡ read_disk_rows (map fields lines) rest
 unfolding read_disks
-read_disks-rows text lines rest rows passed is_rows =
+read_disks-rows text lines rest passed =
     let own = map fields (lines_of text) in
     let a = unless-passed (not_text Disks text) (first_fault (bad_syntax own (rest_of text) ∷ bad_field own ∷ bad_name own ∷ [])) (lines_and_rest text) (lines, rest) (disks_from 1 own) passed in
-    a.1 ∙ ap (λ (cut : List (List ℕ) × List ℕ). reading_of (map fields cut.0) cut.1) a.0 ∙ ap (λ (r : List (List (List ℕ))). reading_of r rest) (sym is_rows)
+    a.1 ∙ ap (λ (cut : List (List ℕ) × List ℕ). read_disk_rows (map fields cut.0) cut.1) a.0
+
+-- Row by row
+
+abbrev kept_faults : List (List (List ℕ)) → List ℕ → Option LoadFault
+kept_faults rows rest = first_noted (noted_rest Disks (noted_rows Disks disk_fault no_faults 1 rows) (length rows + 1) rest)
+
+-- where no row has a fault, each says its disk
+each_read : (n : ℕ) (rows : List (List (List ℕ))) → AllByRecursion (λ row. disk_fault row ≡ None) rows → disks_read n rows ≡ disks_from n rows
+each_read n [] h = refl
+each_read n (row ∷ rows) h = rw (h.0, each_read (suc n) rows h.1) refl
+
+pub disk_rows_refused : (rows : List (List (List ℕ))) (rest : List ℕ) (fault : LoadFault) → kept_faults rows rest ≡ Some fault → (fault.kind ≢ Memory) × (read_disk_rows rows rest ≡ Err fault)
+disk_rows_refused rows rest fault h = let a = noted_refused Disks is_pair has_sectors has_name rows rest fault h in (a.0, rw a.1 refl)
+
+pub disk_rows_taken : (rows : List (List (List ℕ))) (rest : List ℕ) → kept_faults rows rest ≡ None → read_disk_rows rows rest ≡ Ok (disks_read 1 rows)
+disk_rows_taken rows rest h = let a = noted_none Disks is_pair has_sectors has_name rows rest h in rw (a.0, each_read 1 rows a.1) refl
+
+-- a row of another number of fields says no disk
+pub not_pair : (n : ℕ) (row : List (Bor (List ℕ))) → length row ≢ 2 → disk_reading n (texts row) ≡ Err rows.Syntax
+not_pair n [] other = refl
+not_pair n (a ∷ []) other = refl
+not_pair n (a ∷ b ∷ []) other = absurd (other refl)
+not_pair n (a ∷ b ∷ c ∷ more) other = refl

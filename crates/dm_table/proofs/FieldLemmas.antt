@@ -29,6 +29,12 @@ parts_at-clear c text clear = slice_split_none (λ b. eqb b c) text clear
 pub join-parts_at : (c : ℕ) (text : List ℕ) → join_with_byte c (parts_at c text) ≡ text
 join-parts_at c text = join_with_byte-slice_split c text
 
+-- and parts without a c are those of the text that they make
+pub parts_at-join : (c : ℕ) (part : List ℕ) (parts : List (List ℕ)) → AllByRecursion (IsClearOf c) (part ∷ parts) → parts_at c (join_with_byte c (part ∷ parts)) ≡ part ∷ parts
+parts_at-join c part [] clear = parts_at-clear c part clear.0
+parts_at-join c part (next ∷ parts) clear =
+    parts_at-first c part (join_with_byte c (next ∷ parts)) clear.0 ∙ ap (λ (more : List (List ℕ)). part ∷ more) (parts_at-join c next parts clear.1)
+
 -- nothing before the first c is a c
 clear_before : (c : ℕ) (text : List ℕ) (n : ℕ) → n ≤ length text → Nowhere (Passes (is_byte c) text) 0 n → IsClearOf c (take n text)
 clear_before c text n le none = λ k d below.

@@ -1,6 +1,6 @@
 -- A text spells a number exactly where the number is read off it.
 use Rattle.std.proofs.Common.{◌≡◌, ◌≢◌, ℕ, ◌+◌, ◌-◌, ◌*◌, ◌^◌, ◌<◌, ◌≤◌, inl, inr, Bool, true, false, cond, eqb, nat_le, not, ◌||◌, List, Option, Some, None, length, get_or, take, take_all, refl, sym, ap, subst, ◌∙◌, arith, rules}
-use Rattle.std.specs.Prelude.{decimal, is_some, is_none, unwrap_or}
+use Rattle.std.specs.Prelude.{decimal, is_some, unwrap_or}
 use Rattle.std.specs.Char.{digit_value, is_ascii_digit}
 use Rattle.std.specs.Int.{IsInRange}
 use Rattle.std.specs.List.{list_all, prefix_len}
@@ -39,6 +39,11 @@ pub front_below : (text : List ℕ) (i : ℕ) → list_all is_ascii_digit (take 
 front_below text i digits short =
     let few : length (take i text) ≤ 19 = grind (arith, common_steps) in
     digits_value_short numerals (take i text) 19 digits few
+
+-- the value of such a front and one more digit
+pub next_below : (text : List ℕ) (i : ℕ) → list_all is_ascii_digit (take i text) ≡ true → is_ascii_digit (get_or text i 0) ≡ true → i < length text → i + 1 ≤ 19
+    → digits_value 10 (take i text) * 10 + (get_or text i 0 - 48) < 10 ^ 19
+next_below text i digits digit below short = rw (value_more text i digit below) (front_below text (i + 1) (digits_more text i digits digit below) short)
 
 -- what the test of a number says
 record IsNumeral (text : List ℕ) : Type 0 where
@@ -106,10 +111,6 @@ pub decimal_some : (n : ℕ) → n < 10 ^ 19 → 0 < length (decimal n)
 decimal_some n short = decimal_nonempty n (omega arith)
 
 -- the number, where there is one
-pub Some-not_none : (o : Option ℕ) → is_none o ≡ false → o ≡ Some (unwrap_or o 0)
-Some-not_none None e = absurd cc
-Some-not_none (Some n) e = refl
-
 pub Some-is_some : (o : Option ℕ) → is_some o ≡ true → o ≡ Some (unwrap_or o 0)
 Some-is_some None e = absurd cc
 Some-is_some (Some n) e = refl

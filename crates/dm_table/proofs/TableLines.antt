@@ -1,27 +1,24 @@
 -- Lines of table text added one after the other: the devices are those of all of them, where no row has a fault.
-use Rattle.std.proofs.Common.{◌≡◌, ◌≢◌, OnOk, inl, inr, ℕ, suc, ◌+◌, Bool, true, false, not, nat_eq, List, [], ◌∷◌, ◌++◌, length, Option, Some, None, Result, Ok, Err, refl, sym, ap, ◌∙◌, append_assoc}
+use Rattle.std.proofs.Common.{◌≡◌, ◌≢◌, OnOk, inl, inr, ℕ, suc, ◌+◌, Bool, true, false, nat_eq, List, [], ◌∷◌, ◌++◌, length, Option, Some, None, Result, Ok, Err, refl, sym, ap, ◌∙◌, append_assoc}
 use Rattle.std.specs.Cmp.Lexicographic.{pointwise}
 use Rattle.std.specs.List.{AllByRecursion}
-use Rattle.std.proofs.lemmas.Bool.{and_parts, cases_Bool, not-false}
+use Rattle.std.proofs.lemmas.Bool.{and_parts, cases_Bool}
 use Rattle.std.proofs.lemmas.List.{append-nil}
 use Rattle.dm_table.specs.declared.table.DeviceSpec.{DeviceSpec}
 use Rattle.dm_table.specs.declared.place.Part.TheVariants.{Source}
-use Rattle.dm_table.specs.declared.load_fault.LoadKind.TheVariants.{Syntax, Field, Name, Memory}
+use Rattle.dm_table.specs.declared.load_fault.LoadKind.TheVariants.{Memory}
 use Rattle.dm_table.specs.declared.load_fault.LoadFault.{LoadFault}
 use Rattle.dm_table.specs.declared.row_faults.RowFault.{RowFault}
 use Rattle.dm_table.specs.declared.row_faults.RowFault.TheVariants as rows
-use Rattle.dm_table.specs.declared.row_faults.FirstFaults.{FirstFaults}
 use Rattle.std.specs.declared.alloc.AllocError.{AllocError}
 use Rattle.dm_table.specs.Name.{is_device_name}
-use Rattle.dm_table.specs.LoadFault.{first_fault, faults_from, unended, unless}
-use Rattle.dm_table.specs.RowFaults.{value_fault, row_fault, no_faults, noted, noted_at, noted_rows, noted_rest, first_noted}
+use Rattle.dm_table.specs.RowFaults.{value_fault, row_fault, no_faults, noted_rows, noted_rest, first_noted}
 use Rattle.dm_table.specs.LineBody.{has_body_names}
 use Rattle.dm_table.specs.TableText.{NamedLine, name_in, is_row, is_line, has_names}
-use Rattle.dm_table.specs.TableReading.{named_in, named_from, alone, join_line, joined, add_line, fault_of_row, row_reading, with_reading, with_rows, devices_from, bad_syntax, bad_field, bad_name, read_rows}
-use Rattle.dm_table.proofs.FaultLemmas.{first_fault-none, faults_from-nil, append-nil_both, faults_from-text, text-append, unended-text, first_fault-text}
-use Rattle.dm_table.proofs.RowFaultLemmas.{noted_checks}
+use Rattle.dm_table.specs.TableReading.{named_in, named_from, alone, join_line, joined, add_line, fault_of_row, row_reading, with_reading, with_rows, read_rows}
+use Rattle.dm_table.proofs.RowFaultLemmas.{noted_none, noted_refused}
 use Rattle.dm_table.proofs.TableGroups.{same_name, is_same_name, other_name, is_other_name}
-use Rattle.dm_table.proofs.TargetRows.{read_value, read_none}
+use Rattle.dm_table.proofs.TargetRows.{read_value}
 
 -- A line after devices
 
@@ -78,45 +75,15 @@ with_read ns n [] h = ap joined (sym (append-nil ns))
 with_read ns n (row ∷ rows) h =
     rw (h.0, joined_more ns (named_in n row)) (with_read (ns ++ named_in n row ∷ []) (suc n) rows h.1 ∙ ap joined (append_assoc ns (named_in n row ∷ []) (named_from (suc n) rows)))
 
-are_read : (rows : List (List (List ℕ))) → AllByRecursion (λ row. not (is_row row) ≡ false) rows → AllByRecursion (λ row. not (is_line row) ≡ false) rows → AllByRecursion (λ row. not (has_names row) ≡ false) rows → AreRead rows
-are_read [] r l h = tt
-are_read (row ∷ rows) r l h = (rw (not-false _ r.0, not-false _ l.0, not-false _ h.0) refl, are_read rows r.1 l.1 h.1)
-
--- no fault in any row, and no rest
-rows_read : (rows : List (List (List ℕ))) (rest : List ℕ) → first_fault (bad_syntax rows rest ∷ bad_field rows ∷ bad_name rows ∷ []) ≡ None → AreRead rows
-rows_read rows rest h =
-    let none = first_fault-none (bad_syntax rows rest ∷ bad_field rows ∷ bad_name rows ∷ []) h in
-    let s = append-nil_both (faults_from Source Syntax (λ row. not (is_row row)) 1 rows) _ none.0 in
-    are_read rows
-    (faults_from-nil Source Syntax (λ row. not (is_row row)) 1 rows s.0)
-    (faults_from-nil Source Field (λ row. not (is_line row)) 1 rows none.1.0)
-    (faults_from-nil Source Name (λ row. not (has_names row)) 1 rows none.1.1.0)
+abbrev kept_faults : List (List (List ℕ)) → List ℕ → Option LoadFault
+kept_faults rows rest = first_noted (noted_rest Source (noted_rows Source fault_of_row no_faults 1 rows) (length rows + 1) rest)
 
 -- what is read row by row is what the checks and the rows give
-pub rows_reading : (rows : List (List (List ℕ))) (rest : List ℕ)
-    → unless (first_noted (noted_rest Source (noted_rows Source fault_of_row no_faults 1 rows) (length rows + 1) rest)) (with_rows [] 1 rows) ≡ read_rows rows rest
-rows_reading rows rest =
-    rw (noted_checks Source is_row is_line has_names rows rest) (by_fault (first_fault (bad_syntax rows rest ∷ bad_field rows ∷ bad_name rows ∷ [])) refl)
-  where
-    by_fault : (found : Option LoadFault) → first_fault (bad_syntax rows rest ∷ bad_field rows ∷ bad_name rows ∷ []) ≡ found → unless found (with_rows [] 1 rows) ≡ unless found (devices_from 1 rows)
-    by_fault (Some fault) e = refl
-    by_fault None e = ap Ok (with_read [] 1 rows (rows_read rows rest e))
+pub rows_refused : (rows : List (List (List ℕ))) (rest : List ℕ) (fault : LoadFault) → kept_faults rows rest ≡ Some fault → (fault.kind ≢ Memory) × (read_rows rows rest ≡ Err fault)
+rows_refused rows rest fault h = let a = noted_refused Source is_row is_line has_names rows rest fault h in (a.0, rw a.1 refl)
 
-abbrev checks : List (List (List ℕ)) → List ℕ → List (List LoadFault)
-checks rows rest = bad_syntax rows rest ∷ bad_field rows ∷ bad_name rows ∷ []
-
-pub rows_refused : (rows : List (List (List ℕ))) (rest : List ℕ) (fault : LoadFault) → first_noted (noted_rest Source (noted_rows Source fault_of_row no_faults 1 rows) (length rows + 1) rest) ≡ Some fault
-    → (fault.kind ≢ Memory) × (read_rows rows rest ≡ Err fault)
-rows_refused rows rest fault h =
-    let found : first_fault (checks rows rest) ≡ Some fault = sym (noted_checks Source is_row is_line has_names rows rest) ∙ h in
-    let syntax = text-append (faults_from Source Syntax (λ row. not (is_row row)) 1 rows) (unended Source (length rows + 1) rest) (faults_from-text Source Syntax (λ row. not (is_row row)) 1 rows (λ e. cc)) (unended-text Source (length rows + 1) rest) in
-    let field = faults_from-text Source Field (λ row. not (is_line row)) 1 rows (λ e. cc) in
-    let name = faults_from-text Source Name (λ row. not (has_names row)) 1 rows (λ e. cc) in
-    (first_fault-text (checks rows rest) fault (syntax, (field, (name, tt))) found, rw found refl)
-
-pub rows_taken : (rows : List (List (List ℕ))) (rest : List ℕ) → first_noted (noted_rest Source (noted_rows Source fault_of_row no_faults 1 rows) (length rows + 1) rest) ≡ None
-    → read_rows rows rest ≡ Ok (with_rows [] 1 rows)
-rows_taken rows rest h = sym (rows_reading rows rest) ∙ rw h refl
+pub rows_taken : (rows : List (List (List ℕ))) (rest : List ℕ) → kept_faults rows rest ≡ None → read_rows rows rest ≡ Ok (with_rows [] 1 rows)
+rows_taken rows rest h = let a = noted_none Source is_row is_line has_names rows rest h in rw a.0 (ap Ok (sym (with_read [] 1 rows a.1)))
 
 -- a row that is read has no fault, and its name is one of a device
 names_true : (is_row is_line has_names : Bool) → row_fault is_row (value_fault is_line has_names) ≡ None → has_names ≡ true
@@ -129,12 +96,10 @@ pub read_faultless : (n : ℕ) (row : List (List ℕ)) (named : NamedLine) → r
 read_faultless n row named h = (read_value (fault_of_row row) (named_in n row) named h).0
 
 -- and one that has a fault is noted, where memory is left
-pub read_faulty : (r : Result (Unit {0}) AllocError) (n : ℕ) (row : List (List ℕ)) (devices : List DeviceSpec) (old new : FirstFaults) (fault : RowFault) → OnOk r (new ≡ noted Source old n fault) → OnOk r (fault ≢ rows.Memory)
-    → (fault ≢ rows.Memory → row_reading n row ≡ Err fault) → OnOk r (devices ≡ with_reading devices (row_reading n row)) × OnOk r (new ≡ noted_at Source old n (fault_of_row row))
-read_faulty (Ok x) n row devices old new fault is text reading =
-    let faulty : row_reading n row ≡ Err fault = reading text in
-    (rw faulty refl, is ∙ ap (noted_at Source old n) (sym (read_none (fault_of_row row) (named_in n row) fault faulty)))
-read_faulty (Err e) n row devices old new fault is text reading = (tt, tt)
+pub read_faulty : (r : Result (Unit {0}) AllocError) (n : ℕ) (row : List (List ℕ)) (devices : List DeviceSpec) (fault : RowFault) → OnOk r (fault ≢ rows.Memory)
+    → (fault ≢ rows.Memory → row_reading n row ≡ Err fault) → OnOk r (devices ≡ with_reading devices (row_reading n row))
+read_faulty (Ok x) n row devices fault text reading = let faulty : row_reading n row ≡ Err fault = reading text in rw faulty refl
+read_faulty (Err e) n row devices fault text reading = tt
 
 -- a fact is one at a success
 pub on_ok : {T E : Type 0} (r : Result T E) (P : Type 0) → P → OnOk r P

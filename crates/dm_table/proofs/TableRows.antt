@@ -29,7 +29,7 @@ line_joined named = body_joined (label_for named) named.line ∙ simp append_ass
 
 -- The last field, where a space ends the line
 
-space_cases : (fs : List (List ℕ)) → (without_last_space fs ≡ fs) ⊎ (without_last_space fs ++ [] ∷ [] ≡ fs)
+pub space_cases : (fs : List (List ℕ)) → (without_last_space fs ≡ fs) ⊎ (without_last_space fs ++ [] ∷ [] ≡ fs)
 space_cases [] = inl refl
 space_cases ([] ∷ []) = inr refl
 space_cases ((b ∷ bs) ∷ []) = inl refl
@@ -38,12 +38,12 @@ space_cases (f ∷ g ∷ fs) = elim (space_cases (g ∷ fs)) [
   | inr e ↦ inr (ap (λ (rest : List (List ℕ)). f ∷ rest) e)
 ]
 
-space_dropped : (fs : List (List ℕ)) → without_last_space (fs ++ [] ∷ []) ≡ fs
+pub space_dropped : (fs : List (List ℕ)) → without_last_space (fs ++ [] ∷ []) ≡ fs
 space_dropped [] = refl
 space_dropped (f ∷ []) = refl
 space_dropped (f ∷ g ∷ fs) = ap (λ (rest : List (List ℕ)). f ∷ rest) (space_dropped (g ∷ fs))
 
-space_joined : (f : List ℕ) (fs : List (List ℕ)) → join_with_byte 32 (f ∷ fs ++ [] ∷ []) ≡ join_with_byte 32 (f ∷ fs) ++ 32 ∷ []
+pub space_joined : (f : List ℕ) (fs : List (List ℕ)) → join_with_byte 32 (f ∷ fs ++ [] ∷ []) ≡ join_with_byte 32 (f ∷ fs) ++ 32 ∷ []
 space_joined f [] = refl
 space_joined f (g ∷ fs) = rw (space_joined g fs) (sym (append_assoc f (32 ∷ join_with_byte 32 (g ∷ fs)) (32 ∷ [])))
 
@@ -104,30 +104,30 @@ row_inked : (n : ℕ) (named : NamedLine) → IsSaid n named → AllByRecursion 
 row_inked n named h = (label_inked named.name h.name, body_inked named.line h.body)
 
 -- fields that are there, and at most one last empty one, are those of the line that they make
-fields_joined : (f : List ℕ) (fs : List (List ℕ)) → AllByRecursion (λ g. list_all is_ink g ≡ true) (f ∷ fs) → fields (join_with_byte 32 (f ∷ fs)) ≡ f ∷ fs
+pub fields_joined : (f : List ℕ) (fs : List (List ℕ)) → AllByRecursion (λ g. list_all is_ink g ≡ true) (f ∷ fs) → fields (join_with_byte 32 (f ∷ fs)) ≡ f ∷ fs
 fields_joined f [] h = parts_at-clear 32 f (ink_clear f h.0)
 fields_joined f (g ∷ fs) h =
     parts_at-first 32 f (join_with_byte 32 (g ∷ fs)) (ink_clear f h.0)
     ∙ ap (λ (rest : List (List ℕ)). f ∷ rest) (fields_joined g fs h.1)
 
-inks : (fs : List (List ℕ)) → AllByRecursion IsInked fs → AllByRecursion (λ g. list_all is_ink g ≡ true) fs
+pub inks : (fs : List (List ℕ)) → AllByRecursion IsInked fs → AllByRecursion (λ g. list_all is_ink g ≡ true) fs
 inks [] h = tt
 inks (f ∷ fs) h = (h.0.1, inks fs h.1)
 
-inks_and_space : (fs : List (List ℕ)) → AllByRecursion IsInked fs → AllByRecursion (λ g. list_all is_ink g ≡ true) (fs ++ [] ∷ [])
+pub inks_and_space : (fs : List (List ℕ)) → AllByRecursion IsInked fs → AllByRecursion (λ g. list_all is_ink g ≡ true) (fs ++ [] ∷ [])
 inks_and_space [] h = (refl, tt)
 inks_and_space (f ∷ fs) h = (h.0.1, inks_and_space fs h.1)
 
-no_space : (fs : List (List ℕ)) → AllByRecursion IsInked fs → without_last_space fs ≡ fs
+pub no_space : (fs : List (List ℕ)) → AllByRecursion IsInked fs → without_last_space fs ≡ fs
 no_space [] h = refl
 no_space ([] ∷ []) h = absurd (let e : false ≡ true = h.0.0 in cc)
 no_space ((b ∷ bs) ∷ []) h = refl
 no_space (f ∷ g ∷ fs) h = ap (λ (rest : List (List ℕ)). f ∷ rest) (no_space (g ∷ fs) h.1)
 
-row_kept : (f : List ℕ) (fs : List (List ℕ)) → AllByRecursion IsInked (f ∷ fs) → row_of (join_with_byte 32 (f ∷ fs)) ≡ f ∷ fs
+pub row_kept : (f : List ℕ) (fs : List (List ℕ)) → AllByRecursion IsInked (f ∷ fs) → row_of (join_with_byte 32 (f ∷ fs)) ≡ f ∷ fs
 row_kept f fs h = ap without_last_space (fields_joined f fs (inks (f ∷ fs) h)) ∙ no_space (f ∷ fs) h
 
-row_kept_spaced : (f : List ℕ) (fs : List (List ℕ)) → AllByRecursion IsInked (f ∷ fs) → row_of (join_with_byte 32 (f ∷ fs) ++ 32 ∷ []) ≡ f ∷ fs
+pub row_kept_spaced : (f : List ℕ) (fs : List (List ℕ)) → AllByRecursion IsInked (f ∷ fs) → row_of (join_with_byte 32 (f ∷ fs) ++ 32 ∷ []) ≡ f ∷ fs
 row_kept_spaced f fs h =
     ap row_of (sym (space_joined f fs)) ∙ ap without_last_space (fields_joined f (fs ++ [] ∷ []) (inks_and_space (f ∷ fs) h)) ∙ space_dropped (f ∷ fs)
 

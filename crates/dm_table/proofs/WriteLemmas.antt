@@ -4,7 +4,9 @@ use Rattle.std.specs.List.{flat_map, join_with_byte}
 use Rattle.std.proofs.Math.Seq.{take-add}
 use Rattle.std.proofs.lemmas.Grind.{flat_map-append}
 use Rattle.std.proofs.lemmas.List.{drop_more, append-nil, take_rest}
+use Rattle.std.specs.Prelude.{OnErr}
 use Rattle.dm_table.specs.DeviceIo.{since}
+use Rattle.dm_table.specs.WriteAll.{IsBeginning, IsCutShort}
 use Rattle.dm_table.specs.CanonicalText.{Wrote}
 use Rattle.dm_table.proofs.Growth.{since_more, grows_more}
 
@@ -14,7 +16,7 @@ pub wrote_stop : {X E : Type 0} (written waiting : X → List ℕ) (faults flush
 wrote_stop written waiting faults flushes old new fault first rest text is h = record {
   appends = h.appends;
   ok = tt;
-  err = (h.err.0 ++ rest, is ∙ ap (λ (t : List ℕ). t ++ rest) h.err.1 ∙ append_assoc (since (written old) (written new)) h.err.0 rest);
+  left = (h.left.0, h.left.1 ++ rest, is ∙ ap (λ (t : List ℕ). t ++ rest) h.left.2 ∙ append_assoc (since (written old) (written new)) (h.left.0 ∷ h.left.1) rest);
   waits = h.waits;
   failed = h.failed;
   flushed = h.flushed;
@@ -32,7 +34,7 @@ wrote_then written waiting faults flushes old mid new (Ok done) first next text 
     record {
       appends = grows_more (written old) (written mid) (written new) a.appends b.appends;
       ok = more ∙ ap (λ (t : List ℕ). t ++ since (written mid) (written new)) a.ok ∙ ap (λ (t : List ℕ). first ++ t) b.ok ∙ sym is;
-      err = tt;
+      left = tt;
       waits = waits_more written waiting old mid new a.waits b.waits more;
       failed = b.failed ∙ add-zero _ ∙ a.failed;
       flushed = b.flushed ∙ a.flushed;
@@ -42,7 +44,7 @@ wrote_then written waiting faults flushes old mid new (Err fault) first next tex
     record {
       appends = grows_more (written old) (written mid) (written new) a.appends b.appends;
       ok = tt;
-      err = (b.err.0, is ∙ ap (λ (t : List ℕ). first ++ t) b.err.1 ∙ sym (append_assoc first (since (written mid) (written new)) b.err.0) ∙ ap (λ (t : List ℕ). t ++ b.err.0) (sym (more ∙ ap (λ (t : List ℕ). t ++ since (written mid) (written new)) a.ok)));
+      left = (b.left.0, b.left.1, is ∙ ap (λ (t : List ℕ). first ++ t) b.left.2 ∙ sym (append_assoc first (since (written mid) (written new)) (b.left.0 ∷ b.left.1)) ∙ ap (λ (t : List ℕ). t ++ b.left.0 ∷ b.left.1) (sym (more ∙ ap (λ (t : List ℕ). t ++ since (written mid) (written new)) a.ok)));
       waits = waits_more written waiting old mid new a.waits b.waits more;
       failed = b.failed ∙ ap (λ n. n + 1) (a.failed ∙ add-zero _);
       flushed = b.flushed ∙ a.flushed;
@@ -83,3 +85,8 @@ joined_first byte f x (y ∷ xs) = ap (λ (rest : List ℕ). f x ++ (byte ∷ re
 pub joined_slice : {X : Type 0} (byte : ℕ) (f : X → List ℕ) (xs : List X) (x : X) → 1 ≤ length xs → x ≡ get_or xs 0 x → join_with_byte byte (map f xs) ≡ f x ++ flat_map (λ y. byte ∷ f y) (take (length xs - 1) (drop 1 xs))
 joined_slice byte f [] x h is = absurd (omega arith)
 joined_slice byte f (y ∷ ys) x h is = rw (take_rest (y ∷ ys) 1, is) (joined_first byte f y ys)
+
+-- a text that is cut short begins so
+pub cut_beginning : {T E : Type 0} (result : Result T E) (text front : List ℕ) → OnErr result (IsCutShort text front) → OnErr result (IsBeginning text front)
+cut_beginning (Ok x) text front h = tt
+cut_beginning (Err e) text front h = (h.0 ∷ h.1, h.2)

@@ -3,11 +3,13 @@ use Rattle.std.specs.Prelude.{◌≡◌, ℕ, suc, Bool, false, length, List, []
 use Rattle.std.specs.List.{flat_map, join_with_byte}
 use Rattle.dm_table.specs.declared.table.Line.{Line}
 use Rattle.dm_table.specs.declared.table.DeviceSpec.{DeviceSpec}
+use Rattle.dm_table.specs.declared.place.Place.{Place}
 use Rattle.dm_table.specs.declared.place.Part.TheVariants.{Source}
 use Rattle.dm_table.specs.DeviceIo.{fault_of, since}
 use Rattle.dm_table.specs.LineBody.{body_text}
 use Rattle.dm_table.specs.TableText.{line_text}
-use Rattle.dm_table.specs.WriteAll.{IsBeginning}
+use Rattle.dm_table.specs.ConciseText.{place_of}
+use Rattle.dm_table.specs.WriteAll.{IsCutShort}
 
 -- the lines of a device, each with its name and a newline
 abbrev pub lines_text : List ℕ → List Line → List ℕ
@@ -43,12 +45,25 @@ as_table n (device ∷ devices) =
     record { name = device.name; ro = false; lines = placed_lines n device.lines; at = record { part = Source; number = n } }
     ∷ as_table (n + length device.lines) devices
 
--- What calls of an output did that write a text: all of it, or a beginning of it and a fault
+-- What concise text says of devices
+
+-- lines at a place
+abbrev pub lines_at : Place → List Line → List Line
+lines_at at [] = []
+lines_at at (line ∷ lines) = record line { at = at } ∷ lines_at at lines
+
+-- devices that are numbered from n on, as places of theirs and of their lines
+abbrev pub as_concise : ℕ → List DeviceSpec → List DeviceSpec
+as_concise n [] = []
+as_concise n (device ∷ devices) =
+    record { name = device.name; ro = device.ro; lines = lines_at (place_of n) device.lines; at = place_of n } ∷ as_concise (suc n) devices
+
+-- What calls of an output did that write a text: all of it, or, at a fault, a beginning of it that lacks a byte
 
 pub record Wrote {X E : Type 0} (written waiting : X → List ℕ) (faults flushes : X → ℕ) (old new : X) (result : Result (Unit {0}) E) (text : List ℕ) : Type 0 where
   pub appends : written new ≡ written old ++ since (written old) (written new)
   pub ok : OnOk result (since (written old) (written new) ≡ text)
-  pub err : OnErr result (IsBeginning text (since (written old) (written new)))
+  pub left : OnErr result (IsCutShort text (since (written old) (written new)))
   pub waits : waiting new ≡ waiting old ++ since (written old) (written new)
   pub failed : faults new ≡ faults old + fault_of result
   pub flushed : flushes new ≡ flushes old

@@ -1,5 +1,5 @@
 -- Disk lists: a line NAME SECTORS for each disk.
-use Rattle.std.specs.Prelude.{◌≡◌, ℕ, suc, ◌+◌, ◌^◌, ◌<◌, Bool, true, false, not, ◌&&◌, List, [], ◌∷◌, ◌++◌, length, nat_lt, decimal, is_none, unwrap_or, map, Result}
+use Rattle.std.specs.Prelude.{◌≡◌, ℕ, suc, ◌+◌, ◌^◌, ◌<◌, Bool, true, false, not, ◌&&◌, List, [], ◌∷◌, ◌++◌, length, nat_lt, decimal, is_some, unwrap_or, map, Option, Result, Ok, Err}
 use Rattle.std.specs.List.{flat_map}
 use Rattle.dm_table.specs.declared.disk.Disk.{Disk}
 use Rattle.dm_table.specs.declared.place.Part.TheVariants.{Disks}
@@ -8,6 +8,8 @@ use Rattle.dm_table.specs.declared.load_fault.LoadFault.{LoadFault}
 use Rattle.dm_table.specs.Name.{is_disk_name}
 use Rattle.dm_table.specs.Number.{number_of}
 use Rattle.dm_table.specs.Fields.{fields, lines_of, rest_of}
+use Rattle.dm_table.specs.declared.row_faults.RowFault.{RowFault}
+use Rattle.dm_table.specs.RowFaults.{read_unless, row_fault, value_fault}
 use Rattle.dm_table.specs.LoadFault.{faults_from, first_fault, not_text, unended, unless}
 
 -- What a list says
@@ -51,13 +53,20 @@ second _ = []
 abbrev pub bad_syntax : List (List (List ℕ)) → List ℕ → List LoadFault
 bad_syntax rows rest = faults_from Disks Syntax (λ row. not (is_pair row)) 1 rows ++ unended Disks (length rows + 1) rest
 
+-- sectors that are a number, and a name of a disk
+abbrev pub has_sectors : List (List ℕ) → Bool
+has_sectors row = is_some (number_of (second row))
+
+abbrev pub has_name : List (List ℕ) → Bool
+has_name row = is_disk_name (first row)
+
 -- sectors that are no number
 abbrev pub bad_field : List (List (List ℕ)) → List LoadFault
-bad_field rows = faults_from Disks Field (λ row. is_none (number_of (second row))) 1 rows
+bad_field rows = faults_from Disks Field (λ row. not (has_sectors row)) 1 rows
 
 -- a name that is none of a disk
 abbrev pub bad_name : List (List (List ℕ)) → List LoadFault
-bad_name rows = faults_from Disks Name (λ row. not (is_disk_name (first row))) 1 rows
+bad_name rows = faults_from Disks Name (λ row. not (has_name row)) 1 rows
 
 -- the checks of a list, in their order
 abbrev pub disk_checks : List ℕ → List (List LoadFault)
@@ -74,6 +83,26 @@ disk_of n row = record { name = first row; len = unwrap_or (number_of (second ro
 abbrev pub disks_from : ℕ → List (List (List ℕ)) → List Disk
 disks_from n [] = []
 disks_from n (row ∷ rows) = disk_of n row ∷ disks_from (suc n) rows
+
+-- what is wrong with a row, what it says, and the disk where it says one
+abbrev pub disk_fault : List (List ℕ) → Option RowFault
+disk_fault row = row_fault (is_pair row) (value_fault (has_sectors row) (has_name row))
+
+abbrev pub disk_reading : ℕ → List (List ℕ) → Result Disk RowFault
+disk_reading n row = read_unless (disk_fault row) (disk_of n row)
+
+abbrev pub disk_in : Result Disk RowFault → List Disk
+disk_in (Ok disk) = disk ∷ []
+disk_in (Err fault) = []
+
+-- the disks of the rows that say one, numbered from n
+abbrev pub disks_read : ℕ → List (List (List ℕ)) → List Disk
+disks_read n [] = []
+disks_read n (row ∷ rows) = disk_in (disk_reading n row) ++ disks_read (suc n) rows
+
+-- the disks of rows, or the fault of their checks
+abbrev pub read_disk_rows : List (List (List ℕ)) → List ℕ → Result (List Disk) LoadFault
+read_disk_rows rows rest = unless (first_fault (bad_syntax rows rest ∷ bad_field rows ∷ bad_name rows ∷ [])) (disks_from 1 rows)
 
 -- the disks of a text, or the fault of its checks
 unfoldable pub read_disks : List ℕ → Result (List Disk) LoadFault

@@ -1,17 +1,12 @@
 -- Texts cut at a byte: lines at newlines, fields at spaces.
 use Rattle.std.specs.Prelude.{ℕ, ◌==◌, List, [], ◌∷◌, map}
 use Rattle.std.specs.List.{slice_split}
-use Rattle.std.specs.Global.{Vec}
 use Rattle.dm_table.specs.declared.fields.Lines.{Lines}
 use denote.Ref.{Bor}
 
 -- what slices point to
 abbrev pub texts : List (Bor (List ℕ)) → List (List ℕ)
 texts = map (λ slice. slice.now)
-
--- the fields that rows of slices point to
-abbrev pub row_texts : List (Vec (Bor (List ℕ))) → List (List (List ℕ))
-row_texts = map (λ row. texts row.items)
 
 -- the parts of a text between the bytes that are c: always one more than there are such bytes
 abbrev pub parts_at : ℕ → List ℕ → List (List ℕ)

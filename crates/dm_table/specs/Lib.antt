@@ -2,6 +2,7 @@ pub mod Number
 pub mod PartInput
 pub mod Name
 pub mod Fields
+pub mod Gathered
 pub mod LoadFault
 pub mod LoadMessage
 pub mod DiskList
@@ -10,6 +11,8 @@ pub mod LineBody
 pub mod LineReading
 pub mod TableText
 pub mod TableReading
+pub mod ConciseText
+pub mod ConciseReading
 pub mod RequestLine
 pub mod DeviceIo
 pub mod ShortIo

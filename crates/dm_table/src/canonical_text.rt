@@ -8,11 +8,12 @@
 ghost use Rattle.std.specs.Prelude.{◌≡◌, ℕ, List, ◌+◌, ◌∷◌, ◌++◌, OnOk, OnErr, decimal, map};
 ghost use Rattle.std.specs.List.{flat_map, join_with_byte};
 ghost use Rattle.dm_table.specs.DeviceIo.{since, fault_of};
-ghost use Rattle.dm_table.specs.WriteAll.{IsBeginning};
+ghost use Rattle.dm_table.specs.WriteAll.{IsBeginning, IsCutShort};
 ghost use Rattle.dm_table.specs.LineBody.{dev_text, column_text, target_text, body_text};
 ghost use Rattle.dm_table.specs.TableText.{line_text, DescribesTable};
+ghost use Rattle.dm_table.specs.ConciseText.{DescribesConcise};
 ghost use Rattle.dm_table.specs.declared.table.DeviceSpec.{DeviceSpec};
-ghost use Rattle.dm_table.specs.CanonicalText.{Wrote, as_table, lines_text, table_text, flag_text, concise_device, concise_text};
+ghost use Rattle.dm_table.specs.CanonicalText.{Wrote, as_table, lines_text, table_text, flag_text, concise_device, concise_text, as_concise};
 
 use crate::device_io::{OutFault, Output};
 use crate::number_text::{MOST_DIGITS, put_number};
@@ -157,10 +158,19 @@ pub fn write_table<W: Output>(devices: &[DeviceSpec], writer: &mut W) -> Result<
         ≡ W.written writer.old ++ since (W.written writer.old) (W.written writer.new) }
     ensures ok { OnOk result (since (W.written writer.old) (W.written writer.new) ≡ table_text devices.now) }
     ensures err { OnErr result (IsBeginning (table_text devices.now) (since (W.written writer.old) (W.written writer.new))) }
+    // A write fails only where something is left to write.
+    ensures left { OnErr result (IsCutShort (table_text devices.now) (since (W.written writer.old) (W.written writer.new))) }
     ensures waiting { W.waiting writer.new
         ≡ W.waiting writer.old ++ since (W.written writer.old) (W.written writer.new) }
     ensures faults { W.faults writer.new ≡ W.faults writer.old + fault_of result }
     ensures flushes { W.flushes writer.new ≡ W.flushes writer.old }
+{
+    write_every_line(writer, devices)
+}
+
+/// Writes the lines of each device as table text.
+fn write_every_line<W: Output>(writer: &mut W, devices: &[DeviceSpec]) -> Result<(), OutFault>
+    ensures { Wrote W.written W.waiting W.faults W.flushes writer.old writer.new result (table_text devices.now) }
 {
     for device in devices {
         write_lines(
@@ -249,14 +259,27 @@ fn write_devices<W: Output>(writer: &mut W, devices: &[DeviceSpec]) -> Result<()
 /// After a fault a beginning of the text is written, and nothing is tried again. Takes no memory, and
 /// makes a few writes for each line.
 pub fn write_concise<W: Output>(devices: &[DeviceSpec], writer: &mut W) -> Result<(), OutFault>
+    // Where some concise text says the devices, places aside, the text written says them.
+    ensures reads_back { (text : List ℕ) (said : List DeviceSpec) → DescribesConcise text said
+        → as_concise 1 said ≡ as_concise 1 devices.now
+        → DescribesConcise (concise_text devices.now) (as_concise 1 devices.now) }
     ensures appends { W.written writer.new
         ≡ W.written writer.old ++ since (W.written writer.old) (W.written writer.new) }
     ensures ok { OnOk result (since (W.written writer.old) (W.written writer.new) ≡ concise_text devices.now) }
     ensures err { OnErr result (IsBeginning (concise_text devices.now) (since (W.written writer.old) (W.written writer.new))) }
+    // A write fails only where something is left to write.
+    ensures left { OnErr result (IsCutShort (concise_text devices.now) (since (W.written writer.old) (W.written writer.new))) }
     ensures waiting { W.waiting writer.new
         ≡ W.waiting writer.old ++ since (W.written writer.old) (W.written writer.new) }
     ensures faults { W.faults writer.new ≡ W.faults writer.old + fault_of result }
     ensures flushes { W.flushes writer.new ≡ W.flushes writer.old }
+{
+    write_ended(writer, devices)
+}
+
+/// Writes devices with semicolons between them, and a newline at the end.
+fn write_ended<W: Output>(writer: &mut W, devices: &[DeviceSpec]) -> Result<(), OutFault>
+    ensures { Wrote W.written W.waiting W.faults W.flushes writer.old writer.new result (concise_text devices.now) }
 {
     write_devices(&mut *writer, devices)?;
     write(writer, b"\n")

@@ -1,25 +1,26 @@
 //! Disk lists: a line `NAME SECTORS` for each disk.
 //!
-//! The text is cut into rows of fields once; each check is a pass over the rows, in the order of
-//! the definitions, and the disks are made only where no check found anything. A new column is a
-//! field of `Disk`, its text in `disk_line`, and a check in `disk_checks`, in `specs/DiskList.antt`.
+//! The lines are read one after the other, each once, and what is wrong with them is kept until the
+//! end, as in table text. A new column is a field of `Disk`, its text in `disk_line`, and a check in
+//! `disk_checks`, in `specs/DiskList.antt`.
 
-ghost use Rattle.std.specs.Prelude.{◌≡◌, ◌≢◌, List, [], ◌∷◌, None, Some, Ok, IsTrue, IfOk, IfErr, OnOk, IfSome};
+ghost use Rattle.std.specs.Prelude.{◌≡◌, ◌≢◌, List, ◌++◌, None, Some, Ok, IfOk, IfErr, OnOk, map};
 ghost use Rattle.dm_table.specs.declared.disk.Disk.{Disk};
 ghost use Rattle.dm_table.specs.declared.place.Part.TheVariants.{Disks};
 ghost use Rattle.dm_table.specs.declared.load_fault.LoadKind.TheVariants.{Memory};
-ghost use Rattle.dm_table.specs.Name.{is_disk_name};
-ghost use Rattle.dm_table.specs.Fields.{texts, row_texts};
-ghost use Rattle.dm_table.specs.LoadFault.{Answers, IsMemoryFault, first_or, first_fault, unless};
-ghost use Rattle.dm_table.specs.DiskList.{DescribesDisks, is_pair, first, second, bad_syntax, bad_field, bad_name, disk_checks, disk_of, disks_from, read_disks};
+ghost use Rattle.dm_table.specs.Fields.{fields, texts};
+ghost use Rattle.dm_table.specs.LoadFault.{Answers, IsMemoryFault, first_fault};
+ghost use Rattle.dm_table.specs.RowFaults.{Reads, no_faults, noted_at, noted_rows};
+ghost use Rattle.dm_table.specs.DiskList.{DescribesDisks, disk_checks, disk_fault, disk_in, disk_reading, disks_read, read_disk_rows, read_disks};
 
 use crate::disk::Disk;
 use crate::disk_name::{DiskName, is_disk_name};
-use crate::fields::cut_fields;
-use crate::load_fault::{LoadFault, LoadKind};
-use crate::number::number;
+use crate::fields::cut_into;
+use crate::load_fault::LoadFault;
+use crate::number;
 use crate::place::{Part, Place};
-use crate::text_checks::{text_lines, unended};
+use crate::row_faults::{FirstFaults, RowFault};
+use crate::text_checks::text_lines;
 use std::alloc::{AllocError, Global};
 
 /// The disks of a disk list, in its order.
@@ -33,7 +34,7 @@ use std::alloc::{AllocError, Global};
 /// fields or that no newline ends, `Field` for a length that is no number, `Name` for a name that
 /// is none of a disk. `Memory`, of number 0, comes wherever an allocation was refused.
 ///
-/// The time is linear in the text: one pass a check.
+/// The time is linear in the text.
 pub fn parse_disks(alloc: Global, text: &[u8]) -> Result<Vec<Disk>, LoadFault>
     // What is accepted describes these disks.
     ensures accepted { IfOk result (λ disks. DescribesDisks text.now disks.items) }
@@ -56,115 +57,92 @@ fn read(alloc: Global, text: &[u8]) -> Result<Vec<Disk>, LoadFault>
     ensures { Answers Disks (λ v. v.items) result (read_disks text.now) }
 {
     let cut = text_lines(alloc, Part::Disks, text)?;
-    let rows = cut_fields(alloc, &cut.lines).map_err(|_| LoadFault::memory(Part::Disks))?;
-    read_rows(alloc, &rows, cut.rest)
+    read_lines(alloc, &cut.lines, cut.rest)
 }
 
-fn read_rows(alloc: Global, rows: &[Vec<&[u8]>], rest: &[u8]) -> Result<Vec<Disk>, LoadFault>
-    ensures { let rows = row_texts rows.now in Answers Disks (λ v. v.items) result (unless (first_fault (bad_syntax rows rest.now ∷ bad_field rows ∷ bad_name rows ∷ [])) (disks_from 1 rows)) }
+fn read_lines(alloc: Global, lines: &[&[u8]], rest: &[u8]) -> Result<Vec<Disk>, LoadFault>
+    ensures { Answers Disks (λ v. v.items) result (read_disk_rows (map fields (texts lines.now)) rest.now) }
 {
-    if let Some(fault) = bad_syntax(rows, rest) {
-        return Err(fault);
+    let mut reading = match read_rows(alloc, lines) {
+        Ok(reading) => reading,
+        Err(_) => return Err(LoadFault::memory(Part::Disks)),
+    };
+    reading
+        .faults
+        .note_rest(Part::Disks, lines.len() as u64 + 1, rest);
+    match reading.faults.first() {
+        Some(fault) => Err(fault),
+        None => Ok(reading.disks),
     }
-    if let Some(fault) = bad_field(rows) {
-        return Err(fault);
-    }
-    if let Some(fault) = bad_name(rows) {
-        return Err(fault);
-    }
-    disks_of(alloc, rows).map_err(|_| LoadFault::memory(Part::Disks))
 }
 
-/// The first line that is not two fields, or else what no newline ends.
-fn bad_syntax(rows: &[Vec<&[u8]>], rest: &[u8]) -> Option<LoadFault>
-    ensures value { result ≡ first_or (bad_syntax (row_texts rows.now) rest.now) None }
-    ensures kind { IfSome result (λ fault. fault.kind ≢ Memory) }
+/// What was read of the lines so far. Of disks with faults beside them nothing comes.
+#[derive(Drop)]
+struct Reading {
+    disks: Vec<Disk>,
+    faults: FirstFaults,
+}
+
+/// Reads each line, with one list of fields for all of them.
+fn read_rows(alloc: Global, lines: &[&[u8]]) -> Result<Reading, AllocError>
+    ensures disks { IfOk result (λ reading. reading.disks.items ≡ disks_read 1 (map fields (texts lines.now))) }
+    ensures faults { IfOk result (λ reading. reading.faults
+        ≡ noted_rows Disks disk_fault no_faults 1 (map fields (texts lines.now))) }
 {
-    for (index, row) in rows.iter().enumerate() {
-        if !is_pair(row) {
-            return Some(LoadFault::at_index(Part::Disks, LoadKind::Syntax, index));
+    let mut reading = Reading {
+        disks: Vec::new(alloc),
+        faults: FirstFaults::new(),
+    };
+    let mut fields = Vec::new(alloc);
+    for (index, line) in lines.iter().enumerate() {
+        cut_into(&mut fields, b' ', *line)?;
+        reading.read_row(alloc, &fields, index as u64 + 1)?;
+    }
+    Ok(reading)
+}
+
+impl Reading {
+    /// Reads the row that is line `number` of the text.
+    fn read_row(&mut self, alloc: Global, row: &[&[u8]], number: u64) -> Result<(), AllocError>
+        ensures disks { OnOk result (self.new.disks.items
+            ≡ self.old.disks.items ++ disk_in (disk_reading number (texts row.now))) }
+        ensures faults { OnOk result (self.new.faults
+            ≡ noted_at Disks self.old.faults number (disk_fault (texts row.now))) }
+    {
+        match read_disk(alloc, row, number) {
+            Ok(disk) => {
+                self.disks.push(disk)?;
+                Ok(())
+            }
+            Err(fault) => self.faults.note(Part::Disks, number, fault),
         }
     }
-    unended(Part::Disks, rows.len() as u64 + 1, rest)
 }
 
-/// The first line whose sectors are no number.
-fn bad_field(rows: &[Vec<&[u8]>]) -> Option<LoadFault>
-    ensures value { result ≡ first_or (bad_field (row_texts rows.now)) None }
-    ensures kind { IfSome result (λ fault. fault.kind ≢ Memory) }
+/// The disk that a row says, which is line `number` of a text. Of its faults, `Syntax` takes
+/// precedence over `Field`, and that over `Name`.
+fn read_disk(alloc: Global, row: &[&[u8]], number: u64) -> Result<Disk, RowFault>
+    ensures { Reads (λ disk. disk) result (disk_reading number (texts row.now)) }
 {
-    for (index, row) in rows.iter().enumerate() {
-        if number(second(row)).is_none() {
-            return Some(LoadFault::at_index(Part::Disks, LoadKind::Field, index));
-        }
+    let [name, sectors] = row else {
+        return Err(RowFault::Syntax);
+    };
+    if name.is_empty() || sectors.is_empty() {
+        return Err(RowFault::Syntax);
     }
-    None
-}
-
-/// The first line whose name is none of a disk.
-fn bad_name(rows: &[Vec<&[u8]>]) -> Option<LoadFault>
-    ensures value { result ≡ first_or (bad_name (row_texts rows.now)) None }
-    ensures kind { IfSome result (λ fault. fault.kind ≢ Memory) }
-{
-    for (index, row) in rows.iter().enumerate() {
-        if !is_disk_name(first(row)) {
-            return Some(LoadFault::at_index(Part::Disks, LoadKind::Name, index));
-        }
+    let Some(len) = number::number(*sectors) else {
+        return Err(RowFault::Field);
+    };
+    if !is_disk_name(*name) {
+        return Err(RowFault::Name);
     }
-    None
-}
-
-fn is_pair(row: &[&[u8]]) -> bool
-    ensures { result ≡ is_pair (texts row.now) }
-{
-    match row {
-        [name, sectors] => !name.is_empty() && !sectors.is_empty(),
-        _ => false,
-    }
-}
-
-fn first<'a>(row: &[&'a [u8]]) -> &'a [u8]
-    ensures { result.now ≡ first (texts row.now) }
-{
-    match row {
-        [name, ..] => *name,
-        [] => b"",
-    }
-}
-
-fn second<'a>(row: &[&'a [u8]]) -> &'a [u8]
-    ensures { result.now ≡ second (texts row.now) }
-{
-    match row {
-        [_, sectors, ..] => *sectors,
-        _ => b"",
-    }
-}
-
-/// The disks of rows whose names are names of disks. Fails only where memory runs out.
-fn disks_of(alloc: Global, rows: &[Vec<&[u8]>]) -> Result<Vec<Disk>, AllocError>
-    requires { bad_name (row_texts rows.now) ≡ [] }
-    ensures { IfOk result (λ disks. disks.items ≡ disks_from 1 (row_texts rows.now)) }
-{
-    let mut disks = Vec::new(alloc);
-    for (index, row) in rows.iter().enumerate() {
-        disks.push(disk_of(alloc, index as u64 + 1, row)?)?;
-    }
-    Ok(disks)
-}
-
-fn disk_of(alloc: Global, line: u64, row: &[&[u8]]) -> Result<Disk, AllocError>
-    requires { IsTrue (is_disk_name (first (texts row.now))) }
-    ensures { IfOk result (λ disk. disk ≡ disk_of line (texts row.now)) }
-{
-    let name = DiskName::of_bytes(alloc, first(row))?;
-    let len = number(second(row)).unwrap_or(0);
+    let at = Place {
+        part: Part::Disks,
+        number,
+    };
     Ok(Disk {
-        name,
+        name: DiskName::of_bytes(alloc, *name)?,
         len,
-        at: Place {
-            part: Part::Disks,
-            number: line,
-        },
+        at,
     })
 }

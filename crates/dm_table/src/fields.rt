@@ -3,8 +3,8 @@
 //! A text is cut once, and all checks look at its parts; the parts borrow the text. A form that
 //! cuts at another byte calls `cut` too.
 
-ghost use Rattle.std.specs.Prelude.{◌≡◌, [], map, IfOk, OnOk};
-ghost use Rattle.dm_table.specs.Fields.{texts, row_texts, parts_at, front, back, fields};
+ghost use Rattle.std.specs.Prelude.{◌≡◌, [], IfOk, OnOk};
+ghost use Rattle.dm_table.specs.Fields.{texts, parts_at, front, back};
 
 use memchr::memchr;
 use std::alloc::{AllocError, Global};
@@ -51,18 +51,4 @@ pub(crate) fn without_rest<'a>(mut parts: Vec<&'a [u8]>) -> Lines<'a>
 {
     let rest = parts.pop().unwrap_or(b"");
     Lines { lines: parts, rest }
-}
-
-/// The fields of each line. One pass over the lines.
-pub(crate) fn cut_fields<'a>(
-    alloc: Global,
-    lines: &[&'a [u8]],
-) -> Result<Vec<Vec<&'a [u8]>>, AllocError>
-    ensures { IfOk result (λ v. row_texts v.items ≡ map fields (texts lines.now)) }
-{
-    let mut rows = Vec::new(alloc);
-    for line in lines {
-        rows.push(cut(alloc, b' ', *line)?)?;
-    }
-    Ok(rows)
 }

@@ -6,15 +6,20 @@
 //! The words are those of dmsetup(8) and of the kernel's admin-guide/device-mapper documents.
 #![tactic(auto)]
 
+mod block;
 mod canonical_text;
+mod concise_device;
+mod concise_text;
 mod counted;
 mod device_io;
 mod disk;
 mod disk_list;
 mod disk_name;
 mod fields;
+mod gathered;
 mod history;
 mod line_body;
+mod listed;
 mod load_fault;
 mod load_message;
 mod name;
@@ -29,16 +34,21 @@ mod short_io;
 mod table;
 mod table_row;
 mod table_text;
+mod text;
 mod text_checks;
 mod writing;
 
+pub use block::{put_bytes, put_digits, put_room};
 pub use canonical_text::{write_concise, write_table};
+pub use concise_text::parse_concise;
 pub use counted::Counted;
 pub use device_io::{InFault, Input, OutFault, Output};
 pub use disk::Disk;
 pub use disk_list::parse_disks;
 pub use disk_name::DiskName;
+pub use gathered::Gathered;
 pub use history::Tally;
+pub use listed::Listed;
 pub use load_fault::{LoadFault, LoadKind};
 pub use load_message::LoadMessage;
 pub use name::{CheckFault, Name};
@@ -46,8 +56,9 @@ pub use number_text::{MOST_DIGITS, put, put_number};
 pub use part_input::{MOST_PART_BYTES, read_part};
 pub use place::{Part, Place};
 pub use request::{MOST_SECTORS, Op, Request, RequestFault};
-pub use request_line::parse_request;
+pub use request_line::{front_request, parse_request};
 pub use short_io::{ShortIn, ShortOut};
 pub use table::{Column, Columns, DevRef, DeviceSpec, Line, Table, Target};
 pub use table_text::parse_table;
+pub use text::{TEXT_ROOM, Text};
 pub use writing::write_all;

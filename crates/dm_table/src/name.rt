@@ -4,7 +4,7 @@
 //! this project's profile of what dmsetup(8) takes; change them in `specs/Name.antt` first.
 
 ghost use Rattle.std.specs.Prelude.{◌≡◌, ◌↔◌, Some, Err, true, false, IsTrue, IfOk, OnOk, IfSome, IfNone, take};
-ghost use Rattle.std.specs.List.{prefix_len};
+ghost use Rattle.std.specs.List.{list_all, prefix_len};
 ghost use Rattle.std.specs.Str.{IsAscii};
 ghost use Rattle.std.specs.String.{string_bytes};
 ghost use Rattle.dm_table.specs.Name.{is_device_byte, is_device_name};
@@ -128,6 +128,13 @@ pub(crate) fn leading_name(text: &[u8]) -> Option<usize>
     } else {
         None
     }
+}
+
+/// Whether a device's name may have each of the bytes.
+pub(crate) fn are_device_bytes(bytes: &[u8]) -> bool
+    ensures { result ≡ list_all is_device_byte bytes.now }
+{
+    bytes.iter().all(|byte| is_device_byte(*byte))
 }
 
 /// How many bytes stand before a text's first byte that no device name has.

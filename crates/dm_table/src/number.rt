@@ -22,6 +22,7 @@ pub(crate) fn number(text: &[u8]) -> Option<u64>
 
 /// The number that the digits before a text's first other byte spell, and how many these digits
 /// are. `None` where they spell none. It is below 10^19 and so below 2^64.
+#[inline(always)]
 pub(crate) fn leading(text: &[u8]) -> Option<(u64, usize)>
     ensures len { IfSome result (λ read. read.1 ≡ prefix_len is_ascii_digit text.now) }
     ensures number { IfSome result (λ read. number_of (take read.1 text.now) ≡ Some read.0) }

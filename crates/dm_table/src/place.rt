@@ -23,7 +23,8 @@ impl fmt::Display for Part {
     }
 }
 
-/// A place of a part: the number of a line, from 1, or 0 for the part as a whole.
+/// A place of a part: the number of a line, from 1, which in the concise form is that of a device, or
+/// 0 for the part as a whole.
 #[derive(Clone, Copy, Debug, PartialEq, Eq)]
 pub struct Place {
     pub part: Part,

@@ -4,12 +4,10 @@
 //! sectors to a target. A new target is a variant of `Target` here, an arm in `line_body` and one in
 //! `canonical_text`, and a definition of its text and its meaning.
 
-ghost use Rattle.std.specs.Prelude.{◌≡◌};
-
 use crate::disk_name::DiskName;
+use crate::listed::Listed;
 use crate::name::Name;
 use crate::place::Place;
-use std::marker::Model;
 
 /// What a line names: a device of the stack, or a listed disk.
 #[derive(Debug, Drop)]
@@ -25,43 +23,8 @@ pub struct Column {
     pub offset: u64,
 }
 
-/// The columns of a striped line, in the order of the text. A clause sees them as a list.
-#[derive(Debug, Drop)]
-pub struct Columns {
-    columns: Vec<Column>,
-}
-
-impl Model for Columns {
-    ghost use Rattle.std.specs.Prelude.{List};
-    ghost use Rattle.dm_table.specs.declared.table.Column.{Column};
-
-    ghost Value = { List Column };
-
-    ghost view = { λ row. row.columns.items };
-}
-
-impl Columns {
-    /// The columns as one value, with no memory taken.
-    pub fn from_vec(columns: Vec<Column>) -> Columns
-        ensures { result ≡ columns.items }
-    {
-        Columns { columns }
-    }
-
-    /// The columns, with no memory taken.
-    pub fn into_vec(self) -> Vec<Column>
-        ensures { result.items ≡ self }
-    {
-        self.columns
-    }
-
-    /// The columns in their order.
-    pub fn as_slice(&self) -> &[Column]
-        ensures { result.now ≡ self.now }
-    {
-        self.columns.as_slice()
-    }
-}
+/// The columns of a striped line, in the order of the text.
+pub type Columns = Listed<Column>;
 
 /// What becomes of a line's sectors. Offsets and chunks are in sectors.
 #[derive(Debug, Drop)]
@@ -99,43 +62,8 @@ pub struct Line {
     pub at: Place,
 }
 
-/// The lines of a device, in the order of the text. A clause sees them as a list.
-#[derive(Debug, Drop)]
-pub struct Table {
-    lines: Vec<Line>,
-}
-
-impl Model for Table {
-    ghost use Rattle.std.specs.Prelude.{List};
-    ghost use Rattle.dm_table.specs.declared.table.Line.{Line};
-
-    ghost Value = { List Line };
-
-    ghost view = { λ table. table.lines.items };
-}
-
-impl Table {
-    /// The lines as a table, with no memory taken.
-    pub fn from_vec(lines: Vec<Line>) -> Table
-        ensures { result ≡ lines.items }
-    {
-        Table { lines }
-    }
-
-    /// The lines, with no memory taken.
-    pub fn into_vec(self) -> Vec<Line>
-        ensures { result.items ≡ self }
-    {
-        self.lines
-    }
-
-    /// The lines in their order.
-    pub fn as_slice(&self) -> &[Line]
-        ensures { result.now ≡ self.now }
-    {
-        self.lines.as_slice()
-    }
-}
+/// The lines of a device, in the order of the text.
+pub type Table = Listed<Line>;
 
 /// A device: its name, whether it is read-only, its table, and the place of its description.
 #[derive(Debug, Drop)]

@@ -1,16 +1,16 @@
-//! The checks that all texts of lines share: bytes that are no text, and a missing last newline.
+//! The check that all texts of lines share and that runs first: bytes that are no text.
 //!
-//! A check is one pass that returns its first fault. The readers run their checks in the order of
-//! the definitions, so a check that is moved or added here is moved or added in `specs/` first.
+//! What it finds comes before what is wrong with a row, so a text is cut and checked before its rows
+//! are read.
 
 ghost use Rattle.std.specs.Prelude.{◌≡◌, ◌≢◌, None, not, IfSome};
 ghost use Rattle.dm_table.specs.declared.load_fault.LoadKind.TheVariants.{NotText, Memory};
 ghost use Rattle.dm_table.specs.Fields.{texts, cut_text, lines_and_rest};
-ghost use Rattle.dm_table.specs.LoadFault.{Answers, unless, first_or, faults_from, is_text, not_text, unended};
+ghost use Rattle.dm_table.specs.LoadFault.{Answers, unless, first_or, faults_from, is_text, not_text};
 
 use crate::fields::{Lines, cut, without_rest};
 use crate::load_fault::{LoadFault, LoadKind};
-use crate::place::{Part, Place};
+use crate::place::Part;
 use std::alloc::Global;
 
 /// The lines of a text and what stands after its last newline, unless a byte of it is no text.
@@ -46,18 +46,4 @@ fn is_text(line: &[u8]) -> bool
     ensures { result ≡ is_text line.now }
 {
     line.iter().all(|byte| 32 <= *byte && *byte <= 126)
-}
-
-/// What stands after the last newline, if anything: then a newline is missing on this line.
-pub(crate) fn unended(part: Part, number: u64, rest: &[u8]) -> Option<LoadFault>
-    ensures value { result ≡ first_or (unended part number rest.now) None }
-    ensures kind { IfSome result (λ fault. fault.kind ≢ Memory) }
-{
-    if rest.is_empty() {
-        return None;
-    }
-    Some(LoadFault {
-        kind: LoadKind::Syntax,
-        at: Place { part, number },
-    })
 }

@@ -1,3 +1,5 @@
 mod CommandLine
 pub mod ExitLemmas
+pub mod LoadLemmas
 pub mod OneWhole
+pub mod PrintLemmas

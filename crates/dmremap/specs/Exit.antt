@@ -74,16 +74,19 @@ pub record RequestsRead {X : Type 0} (handed : X → List ℕ) (faults ends : X 
   pub no_fault : exit_status exit ≡ 0 → faults new ≤ faults old
   pub unasked : OnRefused exit (IsUnchanged handed faults ends old new)
 
--- the output only grew, failed at most once, and was flushed at the end
+-- the output only grew, failed at most once, and was flushed at the end; where the flush failed, all of it still waits
 pub record OutputWritten {X : Type 0} (written waiting : X → List ℕ) (faults flushes : X → ℕ) (exit : Exit) (old new : X) : Type 0 where
   pub appends : written new ≡ written old ++ since (written old) (written new)
   pub write_fault : faults old < faults new ↔ (exit_status exit ≡ 5)
   pub grows : faults old ≤ faults new
   pub fails_once : faults new ≤ faults old + 1
   pub flushes_so : IsFlushed exit (waiting new) (flushes old) (flushes new)
+  pub still_waiting : faults old < faults new → flushes old < flushes new → waiting new ≡ waiting old ++ since (written old) (written new)
 
--- a message was written, or a beginning of it where its stream failed, and nothing was flushed
+-- a message was written, or a beginning of it where its stream failed, which it did at most once; nothing was flushed
 pub record MessageWritten {X : Type 0} (written : X → List ℕ) (faults flushes : X → ℕ) (message : List ℕ) (old new : X) : Type 0 where
   pub appends : written new ≡ written old ++ since (written old) (written new)
   pub told : IsTold message (since (written old) (written new)) (faults old) (faults new)
   pub unflushed : flushes new ≡ flushes old
+  pub grows : faults old ≤ faults new
+  pub fails_once : faults new ≤ faults old + 1

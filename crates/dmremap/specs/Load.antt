@@ -9,8 +9,12 @@ use Rattle.dm_table.specs.TableText.{DescribesTable, table_checks}
 use Rattle.dm_table.specs.DiskList.{DescribesDisks, disk_checks}
 use Rattle.dm_stack.specs.Description.{Description}
 use Rattle.dm_stack.specs.Soundness.{IsSound, IsRefusedBy}
+use Rattle.dm_table.specs.declared.table.DeviceSpec.{DeviceSpec}
+use Rattle.dm_table.specs.ConciseText.{DescribesConcise, concise_checks}
+use Rattle.dmremap.specs.declared.words.Form.{Form}
+use Rattle.dmremap.specs.declared.words.Form.TheVariants as forms
 use Rattle.dmremap.specs.declared.words.Format.{Format}
-use Rattle.dmremap.specs.declared.words.Format.TheVariants.{Lvm, Table}
+use Rattle.dmremap.specs.declared.words.Format.TheVariants.{Concise, Lvm, Table}
 use Rattle.lvm_volume.specs.Metadata.{DescribesGroup, IsRefusedText}
 
 -- what a load gives
@@ -18,32 +22,42 @@ pub data Load : Type 0 where
   RefusedBy : LoadFault → Load
   SoundAs : Description → Load
 
--- ---- table text and a disk list
+-- ---- a text of devices in a form, and a disk list
+
+-- the text describes these devices
+abbrev pub DescribesDevices : Form → List ℕ → List DeviceSpec → Type 0
+DescribesDevices forms.Table text devices = DescribesTable text devices
+DescribesDevices forms.Concise text devices = DescribesConcise text devices
+
+-- the checks of the text by itself
+abbrev pub device_checks : Form → List ℕ → List (List LoadFault)
+device_checks forms.Table text = table_checks text
+device_checks forms.Concise text = concise_checks text
 
 -- the texts describe this, of which nothing is checked yet
-pub record Describes (source list : List ℕ) (description : Description) : Type 0 where
-  pub table : DescribesTable source description.devices
+pub record Describes (form : Form) (source list : List ℕ) (description : Description) : Type 0 where
+  pub devices : DescribesDevices form source description.devices
   pub disks : DescribesDisks list description.disks
 
 -- the texts give a fault: one of their own, the source's first, or one of what they describe
-abbrev pub GivesFault : List ℕ → List ℕ → LoadFault → Type 0
-GivesFault source list fault =
-    (first_fault (table_checks source ++ disk_checks list) ≡ Some fault)
-    ⊎ ((description : Description) × Describes source list description × IsRefusedBy description fault)
+abbrev pub GivesFault : Form → List ℕ → List ℕ → LoadFault → Type 0
+GivesFault form source list fault =
+    (first_fault (device_checks form source ++ disk_checks list) ≡ Some fault)
+    ⊎ ((description : Description) × Describes form source list description × IsRefusedBy description fault)
 
 -- what the two texts give
-abbrev pub TextsGive : List ℕ → List ℕ → Load → Type 0
-TextsGive source list (RefusedBy fault) = GivesFault source list fault
-TextsGive source list (SoundAs description) =
-    Describes source list description × IsSound description
+abbrev pub TextsGive : Form → List ℕ → List ℕ → Load → Type 0
+TextsGive form source list (RefusedBy fault) = GivesFault form source list fault
+TextsGive form source list (SoundAs description) =
+    Describes form source list description × IsSound description
 
 -- what the two parts give: one that was not read is refused before any text is looked at
-abbrev pub TablePartsGive : PartRead → PartRead → Load → Type 0
-TablePartsGive (Refuses fault) list load = load ≡ RefusedBy fault
-TablePartsGive (TextOf source) (Refuses fault) load = load ≡ RefusedBy fault
-TablePartsGive (TextOf source) (TextOf list) load = TextsGive source list load
-TablePartsGive (TextOf source) Unread load = ⊥
-TablePartsGive Unread list load = ⊥
+abbrev pub TextPartsGive : Form → PartRead → PartRead → Load → Type 0
+TextPartsGive form (Refuses fault) list load = load ≡ RefusedBy fault
+TextPartsGive form (TextOf source) (Refuses fault) load = load ≡ RefusedBy fault
+TextPartsGive form (TextOf source) (TextOf list) load = TextsGive form source list load
+TextPartsGive form (TextOf source) Unread load = ⊥
+TextPartsGive form Unread list load = ⊥
 
 -- ---- a text of LVM2 metadata
 
@@ -72,5 +86,6 @@ MetadataPartGives Unread load = ⊥
 
 -- what the source and the disk list give that were delivered: an arm for each format, which takes the parts that it has
 abbrev pub PartsGive : Format → Delivery → Delivery → Load → Type 0
-PartsGive Table source disks load = TablePartsGive (part_read Source source) (part_read Disks disks) load
+PartsGive Table source disks load = TextPartsGive forms.Table (part_read Source source) (part_read Disks disks) load
+PartsGive Concise source disks load = TextPartsGive forms.Concise (part_read Source source) (part_read Disks disks) load
 PartsGive Lvm source disks load = MetadataPartGives (part_read Source source) load

@@ -5,21 +5,20 @@
 //! over what they describe. A new format is an arm of `load` here and of `PartsGive` in
 //! `specs/Load.antt`, and takes the parts that it has.
 
-ghost use Rattle.std.specs.Prelude.{◌≡◌, ◌≢◌, ◌++◌, IfOk, IfErr, IsSome, Some, is_some};
+ghost use Rattle.std.specs.Prelude.{◌≡◌, ◌≢◌, ◌++◌, IfOk, IfErr, IsSome, None, OnOk, Some, is_some};
 ghost use Rattle.dm_table.specs.DeviceIo.{delivery};
 ghost use Rattle.dm_table.specs.declared.place.Part.TheVariants.{Disks, Source};
 ghost use Rattle.dm_table.specs.declared.load_fault.LoadKind.TheVariants.{Memory};
 ghost use Rattle.dm_table.specs.DiskList.{disk_checks};
 ghost use Rattle.dm_table.specs.LoadFault.{first_fault};
 ghost use Rattle.dm_table.specs.PartInput.{IsReadOn, Refuses, TextOf, part_read};
-ghost use Rattle.dm_table.specs.TableText.{table_checks};
 ghost use Rattle.dmremap.specs.Inputs.{IsReadOnIf, delivery_if};
-ghost use Rattle.dmremap.specs.Load.{Describes, MetadataGives, MetadataPartGives, PartsGive, RefusedBy, SoundAs, TablePartsGive, TextsGive};
+ghost use Rattle.dmremap.specs.Load.{Describes, DescribesDevices, device_checks, MetadataGives, MetadataPartGives, PartsGive, RefusedBy, SoundAs, TextPartsGive, TextsGive};
 ghost use Rattle.dmremap.specs.Words.{has_disk_list};
 
-use crate::words::Format;
+use crate::words::{Form, Format};
 use dm_stack::Stack;
-use dm_table::{DeviceSpec, Disk, Input, LoadFault, Part, parse_disks, parse_table, read_part};
+use dm_table::{DeviceSpec, Disk, Input, LoadFault, Part, parse_concise, parse_disks, parse_table, read_part};
 use lvm_volume::parse_metadata;
 use std::alloc::Global;
 
@@ -44,21 +43,23 @@ pub(crate) fn load<S: Input, D: Input>(
 {
     match format {
         Format::Lvm => load_metadata(alloc, source),
-        Format::Table => load_table(alloc, source, disks),
+        Format::Concise => load_tables(alloc, Form::Concise, source, disks),
+        Format::Table => load_tables(alloc, Form::Table, source, disks),
     }
 }
 
-/// What a table text and a disk list give.
-fn load_table<S: Input, D: Input>(
+/// What a text of devices in a form and a disk list give.
+fn load_tables<S: Input, D: Input>(
     alloc: Global,
+    form: Form,
     source: &mut S,
     disks: &mut Option<D>,
 ) -> Result<Stack, LoadFault>
     requires { IsSome disks.old }
-    ensures sound { IfOk result (λ stack. TablePartsGive
+    ensures sound { IfOk result (λ stack. TextPartsGive form
         (part_read Source (delivery S.handed S.faults S.ends source.old source.new))
         (part_read Disks (delivery_if D.handed D.faults D.ends disks.old disks.new)) (SoundAs stack)) }
-    ensures refused { IfErr result (λ fault. fault.kind ≢ Memory → TablePartsGive
+    ensures refused { IfErr result (λ fault. fault.kind ≢ Memory → TextPartsGive form
         (part_read Source (delivery S.handed S.faults S.ends source.old source.new))
         (part_read Disks (delivery_if D.handed D.faults D.ends disks.old disks.new)) (RefusedBy fault)) }
     ensures source { IsReadOn S.handed S.faults S.ends source.old source.new }
@@ -66,7 +67,7 @@ fn load_table<S: Input, D: Input>(
 {
     let source = read_part(alloc, Part::Source, source)?;
     let disks = read_disks(alloc, disks)?;
-    load_texts(alloc, &source, &disks)
+    load_texts(alloc, form, &source, &disks)
 }
 
 /// The text of a disk list that is there.
@@ -83,26 +84,40 @@ fn read_disks<D: Input>(alloc: Global, disks: &mut Option<D>) -> Result<Vec<u8>,
 }
 
 /// What two texts give.
-fn load_texts(alloc: Global, source: &[u8], list: &[u8]) -> Result<Stack, LoadFault>
-    ensures sound { IfOk result (λ stack. TextsGive source.now list.now (SoundAs stack)) }
-    ensures refused { IfErr result (λ fault. fault.kind ≢ Memory → TextsGive source.now list.now (RefusedBy fault)) }
+fn load_texts(alloc: Global, form: Form, source: &[u8], list: &[u8]) -> Result<Stack, LoadFault>
+    ensures sound { IfOk result (λ stack. TextsGive form source.now list.now (SoundAs stack)) }
+    ensures refused { IfErr result (λ fault. fault.kind ≢ Memory → TextsGive form source.now list.now (RefusedBy fault)) }
 {
-    let (devices, disks) = parse_texts(alloc, source, list)?;
+    let (devices, disks) = parse_texts(alloc, form, source, list)?;
     Stack::load(alloc, devices, disks)
 }
 
 /// What two texts describe, or the first fault of the source's, and else of the disk list's.
+#[tactic(auto, using(crate::proofs::LoadLemmas::first_before, crate::proofs::LoadLemmas::first_after))]
 fn parse_texts(
     alloc: Global,
+    form: Form,
     source: &[u8],
     list: &[u8],
 ) -> Result<(Vec<DeviceSpec>, Vec<Disk>), LoadFault>
-    ensures described { IfOk result (λ said. Describes source.now list.now (record { devices = said.0.items; disks = said.1.items })) }
-    ensures refused { IfErr result (λ fault. fault.kind ≢ Memory → first_fault (table_checks source.now ++ disk_checks list.now) ≡ Some fault) }
+    ensures described { IfOk result (λ said. Describes form source.now list.now (record { devices = said.0.items; disks = said.1.items })) }
+    ensures refused { IfErr result (λ fault. fault.kind ≢ Memory → first_fault (device_checks form source.now ++ disk_checks list.now) ≡ Some fault) }
 {
-    let devices = parse_table(alloc, source)?;
+    let devices = parse_devices(alloc, form, source)?;
     let disks = parse_disks(alloc, list)?;
     Ok((devices, disks))
+}
+
+/// What a text of devices in a form describes, or the first fault of it.
+fn parse_devices(alloc: Global, form: Form, text: &[u8]) -> Result<Vec<DeviceSpec>, LoadFault>
+    ensures described { IfOk result (λ devices. DescribesDevices form text.now devices.items) }
+    ensures sound { OnOk result (first_fault (device_checks form text.now) ≡ None) }
+    ensures refused { IfErr result (λ fault. fault.kind ≢ Memory → first_fault (device_checks form text.now) ≡ Some fault) }
+{
+    match form {
+        Form::Table => parse_table(alloc, text),
+        Form::Concise => parse_concise(alloc, text),
+    }
 }
 
 /// What a text of LVM2 metadata gives, which describes its disks too.

@@ -130,11 +130,16 @@ pub fn map_whole<S: Input, D: Input, Q: Input, W: Output, M: Output>(
     ensures refused { result ≡ 1 → W.flushes output.new ≡ W.flushes output.old }
     ensures unloaded { result ≡ 6 → W.flushes output.new ≡ W.flushes output.old }
     ensures once { W.flushes output.new ≤ W.flushes output.old + 1 }
+    // Where the flush failed, all that was written still waits.
+    ensures still_waiting { result ≡ 5 → W.flushes output.old < W.flushes output.new
+        → W.waiting output.new ≡ W.waiting output.old ++ since (W.written output.old) (W.written output.new) }
     ensures unflushed { M.flushes messages.new ≡ M.flushes messages.old }
 
-    // Nothing is tried again after a write that failed.
+    // Nothing is tried again after a write that failed, of the output or of a message.
     ensures grows { W.faults output.old ≤ W.faults output.new }
     ensures fails_once { W.faults output.new ≤ W.faults output.old + 1 }
+    ensures tells_grow { M.faults messages.old ≤ M.faults messages.new }
+    ensures tells_once { M.faults messages.new ≤ M.faults messages.old + 1 }
 
     // The figures of the limits.
     ensures limits { (MOST_PART_BYTES ≡ 1048576) × (MOST_LINE_BYTES ≡ 4096) × (MOST_REQUESTS ≡ 1000000000000)

@@ -29,25 +29,22 @@ done = (0, at.Key)
 scalar_next : (t : Token) (s : Scalar) (next : State) → scalar_of t ≡ Some s → scalar_then t next ≡ Some next
 scalar_next t s next e = ap (λ (o : Option Scalar). cond (is_some o) (Some next) None) e
 
+-- a place where a word or a text stands is left as a scalar leaves it
+scalar_step : (p : Place) (d : ℕ) (next : State) → ((w : List ℕ) → step d p (Word w) ≡ scalar_then (Word w) next) → ((w : List ℕ) → step d p (Text w) ≡ Some next) → (t : Token) (s : Scalar) → scalar_of t ≡ Some s → step d p t ≡ Some next
+scalar_step p d next word text (Word w) s e = word w ∙ scalar_next (Word w) s next e
+scalar_step p d next word text (Text w) s e = text w
+scalar_step p d next word text Open s e = absurd cc
+scalar_step p d next word text Close s e = absurd cc
+scalar_step p d next word text ListOpen s e = absurd cc
+scalar_step p d next word text ListClose s e = absurd cc
+scalar_step p d next word text Equals s e = absurd cc
+scalar_step p d next word text Comma s e = absurd cc
+
 content_step : (d : ℕ) (t : Token) (s : Scalar) → scalar_of t ≡ Some s → step d at.Content t ≡ Some (d, at.Key)
-content_step d (Word w) s e = scalar_next (Word w) s (d, at.Key) e
-content_step d (Text w) s e = refl
-content_step d Open s e = absurd cc
-content_step d Close s e = absurd cc
-content_step d ListOpen s e = absurd cc
-content_step d ListClose s e = absurd cc
-content_step d Equals s e = absurd cc
-content_step d Comma s e = absurd cc
+content_step d = scalar_step at.Content d (d, at.Key) (λ w. refl) (λ w. refl)
 
 first_step : (d : ℕ) (t : Token) (s : Scalar) → scalar_of t ≡ Some s → step d at.First t ≡ Some (d, at.After)
-first_step d (Word w) s e = scalar_next (Word w) s (d, at.After) e
-first_step d (Text w) s e = refl
-first_step d Open s e = absurd cc
-first_step d Close s e = absurd cc
-first_step d ListOpen s e = absurd cc
-first_step d ListClose s e = absurd cc
-first_step d Equals s e = absurd cc
-first_step d Comma s e = absurd cc
+first_step d = scalar_step at.First d (d, at.After) (λ w. refl) (λ w. refl)
 
 then_run : (d : ℕ) (p : Place) (t : Placed) (a : List Placed) (s : State) → step d p t.0 ≡ Some s → run d p (t ∷ a) ≡ run s.0 s.1 a
 then_run d p t a s e = ap (option_and_then (λ x. run x.0 x.1 a)) e

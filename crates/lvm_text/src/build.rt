@@ -67,28 +67,19 @@ fn scalar_of(token: Token<'_>) -> Option<Scalar<'_>>
 fn is_comma(token: Token<'_>) -> bool
     ensures { result ≡ is_comma (token_view token.entry) }
 {
-    match token {
-        Token::Comma => true,
-        _ => false,
-    }
+    matches!(token, Token::Comma)
 }
 
 fn is_open(token: Token<'_>) -> bool
     ensures { result ≡ is_open (token_view token.entry) }
 {
-    match token {
-        Token::Open => true,
-        _ => false,
-    }
+    matches!(token, Token::Open)
 }
 
 fn is_list_open(token: Token<'_>) -> bool
     ensures { result ≡ is_list_open (token_view token.entry) }
 {
-    match token {
-        Token::ListOpen => true,
-        _ => false,
-    }
+    matches!(token, Token::ListOpen)
 }
 
 /// The place after a comma, if there is one here.

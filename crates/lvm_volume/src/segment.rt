@@ -15,9 +15,9 @@ ghost use Rattle.lvm_volume.specs.Group.{segment_of, stripes_in, target_of};
 use crate::fits::is_striped;
 use crate::places::Places;
 use crate::value::{items_at, number_at, text_at};
+use dm_table::Listed;
 use lvm_text::{Scalar, Section};
 use std::alloc::{AllocError, Global};
-use std::marker::Model;
 
 /// A stripe: the place of its physical volume among those of the group, or their number where it names none of them,
 /// and the first extent.
@@ -27,34 +27,8 @@ pub(crate) struct Stripe {
     pub extent: u64,
 }
 
-/// The stripes of a segment, in order. A clause sees them as a list.
-#[derive(Debug, Drop)]
-pub(crate) struct Stripes {
-    stripes: Vec<Stripe>,
-}
-
-impl Model for Stripes {
-    ghost use Rattle.std.specs.Prelude.{List};
-    ghost use Rattle.lvm_volume.specs.declared.segment.Stripe.{Stripe};
-
-    ghost Value = { List Stripe };
-
-    ghost view = { λ row. row.stripes.items };
-}
-
-impl Stripes {
-    pub(crate) fn from_vec(stripes: Vec<Stripe>) -> Stripes
-        ensures { result ≡ stripes.items }
-    {
-        Stripes { stripes }
-    }
-
-    pub(crate) fn as_slice(&self) -> &[Stripe]
-        ensures { result.now ≡ self.now }
-    {
-        self.stripes.as_slice()
-    }
-}
+/// The stripes of a segment, in order.
+pub(crate) type Stripes = Listed<Stripe>;
 
 /// What becomes of a segment's extents. A chunk is in sectors.
 #[derive(Debug, Drop)]
@@ -73,34 +47,8 @@ pub(crate) struct Segment {
     pub line: u64,
 }
 
-/// The segments of a volume, from 1 on. A clause sees them as a list.
-#[derive(Debug, Drop)]
-pub(crate) struct Segments {
-    segments: Vec<Segment>,
-}
-
-impl Model for Segments {
-    ghost use Rattle.std.specs.Prelude.{List};
-    ghost use Rattle.lvm_volume.specs.declared.segment.Segment.{Segment};
-
-    ghost Value = { List Segment };
-
-    ghost view = { λ row. row.segments.items };
-}
-
-impl Segments {
-    pub(crate) fn from_vec(segments: Vec<Segment>) -> Segments
-        ensures { result ≡ segments.items }
-    {
-        Segments { segments }
-    }
-
-    pub(crate) fn as_slice(&self) -> &[Segment]
-        ensures { result.now ≡ self.now }
-    {
-        self.segments.as_slice()
-    }
-}
+/// The segments of a volume, from 1 on.
+pub(crate) type Segments = Listed<Segment>;
 
 /// The stripes that a list says, pair by pair. One pass, with a look-up for each.
 fn stripes_of(

@@ -1,7 +1,9 @@
 //! The whole way over inputs and outputs in memory: the exact output, message and status.
 //!
 //! What is wanted is written down from the rules, and never taken from a run. A new case is a row
-//! of a table; a stream that fails or goes short is put in place of the one in `Streams`.
+//! of a table; how its streams go short or fail stands in its `Streams`. Tables are `static`, since
+//! rows of an array in a function are proved one by one. Texts that have to be built, and metadata,
+//! are tested from outside, on the built program.
 
 ghost use Rattle.std.specs.Prelude.{◌<◌};
 
@@ -11,145 +13,119 @@ use std::alloc::AllocError;
 use std::process::Abort;
 
 mod bad_requests;
-mod columns;
+mod concise;
 mod counted;
 mod fault_texts;
 mod faults;
-mod intervals;
-mod large_parts;
-mod metadata;
+mod gathered;
 mod part_files;
 mod parts;
 mod printed;
 mod refused_loads;
 mod rows;
-mod stacks;
+mod snapshot_loads;
+mod snapshots;
 
-/// More than any stream of a case has, but for the large parts.
+/// More than any stream of a case has.
 const PLENTY: usize = 4096;
 
-/// What a run is given, and what must come of it where no stream fails.
+/// What a run is given, and what must come of it.
 #[derive(Clone, Copy)]
 struct Case<'a> {
     name: &'a str,
     source: &'a str,
     disks: &'a str,
-    requests: &'a str,
-    output: &'a str,
-    message: &'a str,
+    requests: &'a [u8],
+    output: &'a [u8],
+    message: &'a [u8],
     status: u8,
+    streams: Streams,
 }
+
+/// How the streams of a run behave: they move at most `step` bytes a call, and one that has a number
+/// here fails after this many bytes.
+#[derive(Clone, Copy)]
+struct Streams {
+    step: usize,
+    source: Option<usize>,
+    disks: Option<usize>,
+    requests: Option<usize>,
+    output: Option<usize>,
+    messages: Option<usize>,
+    flush_fails: bool,
+}
+
+/// Streams that never fail, nor go short.
+const STEADY: Streams = Streams {
+    step: PLENTY,
+    source: None,
+    disks: None,
+    requests: None,
+    output: None,
+    messages: None,
+    flush_fails: false,
+};
 
 /// One linear device on a part of a disk.
 const VOLUME: Case<'static> = Case {
     name: "a volume",
     source: "a: 0 100 linear sda 50\n",
     disks: "sda 150\n",
-    requests: "R a 0 100\n",
-    output: "1 R sda 50 100\n",
-    message: "",
+    requests: b"R a 0 100\n",
+    output: b"1 R sda 50 100\n",
+    message: b"",
     status: 0,
+    streams: STEADY,
 };
 
-/// What must come of a run.
-#[derive(Clone, Copy)]
-struct Answer<'a> {
-    output: &'a [u8],
-    message: &'a [u8],
-    status: u8,
-}
-
-/// A load that is refused by a message.
-fn refusal(message: &str) -> Answer<'_> {
-    Answer {
-        output: "".as_bytes(),
-        message: message.as_bytes(),
-        status: 1,
+/// An input of some bytes, which fails after a number of them if there is one.
+fn input(bytes: &[u8], step: usize, fails_after: Option<usize>) -> ShortIn<'_>
+    requires { 0 < step }
+{
+    match fails_after {
+        Some(count) => ShortIn::failing(bytes, step, count.min(bytes.len())),
+        None => ShortIn::new(bytes, step),
     }
 }
 
-/// The streams of a run.
-#[derive(Drop)]
-struct Streams<'a> {
-    source: ShortIn<'a>,
-    disks: ShortIn<'a>,
-    requests: ShortIn<'a>,
-    output: ShortOut,
-    messages: ShortOut,
-}
-
-impl<'a> Case<'a> {
-    fn answer(&self) -> Answer<'a> {
-        Answer {
-            output: self.output.as_bytes(),
-            message: self.message.as_bytes(),
-            status: self.status,
-        }
-    }
-
-    /// Streams that never fail, and move at most `step` bytes a call.
-    fn streams(&self, rt: &impl Abort, alloc: Global, step: usize) -> Streams<'a>
-        requires { 0 < step }
-    {
-        Streams {
-            source: ShortIn::new(self.source.as_bytes(), step),
-            disks: ShortIn::new(self.disks.as_bytes(), step),
-            requests: ShortIn::new(self.requests.as_bytes(), step),
-            output: ShortOut::new(alloc, step, PLENTY).expect(rt, "an output"),
-            messages: ShortOut::new(alloc, step, PLENTY).expect(rt, "a message stream"),
-        }
-    }
-}
-
-/// A text of a number of letters between two others.
-fn around_letters(
+/// An output, which fails after a number of bytes if there is one, and whose flushes may fail.
+fn output(
+    rt: &impl Abort,
     alloc: Global,
-    before: &str,
-    letters: usize,
-    after: &str,
-) -> Result<String, AllocError> {
-    let mut text = String::from_str(alloc, before)?;
-    for _ in 0..letters {
+    step: usize,
+    fails_after: Option<usize>,
+    flush_fails: bool,
+) -> ShortOut
+    requires { 0 < step }
+{
+    let room = fails_after.unwrap_or(PLENTY);
+    let made = if flush_fails {
+        ShortOut::failing_flush(alloc, step, room)
+    } else {
+        ShortOut::new(alloc, step, room)
+    };
+    made.expect(rt, "an output")
+}
+
+/// A number of letters, and a text after them.
+fn letters(alloc: Global, count: usize, end: &str) -> Result<String, AllocError> {
+    let mut text = String::new(alloc);
+    for _ in 0..count {
         text.push('a')?;
     }
-    text.push_str(after)?;
+    text.push_str(end)?;
     Ok(text)
 }
 
-/// Runs a case whole, and asserts what it must give.
+/// Runs a case, and asserts what it must give.
 fn check(rt: &impl Abort, alloc: Global, case: &Case<'_>) {
-    let streams = case.streams(rt, alloc, PLENTY);
-    check_streams(rt, alloc, case.name, streams, &case.answer());
-}
-
-/// Runs some streams, and asserts what they must give.
-fn check_streams(
-    rt: &impl Abort,
-    alloc: Global,
-    name: &str,
-    streams: Streams<'_>,
-    answer: &Answer<'_>,
-) {
-    let (status, output, messages) = run_streams(alloc, streams);
-    assert_eq!(rt; output.as_slice(), answer.output, "the output of {name}");
-    assert_eq!(rt;
-        messages.as_slice(),
-        answer.message,
-        "the message of {name}"
-    );
-    assert_eq!(rt; status, answer.status, "the status of {name}");
-}
-
-/// Runs some streams, and gives the status, the output and the messages.
-fn run_streams(alloc: Global, streams: Streams<'_>) -> (u8, ShortOut, ShortOut) {
-    let Streams {
-        mut source,
-        disks,
-        mut requests,
-        mut output,
-        mut messages,
-    } = streams;
-    let mut disks = Some(disks);
+    let streams = case.streams;
+    let step = streams.step.max(1);
+    let mut source = input(case.source.as_bytes(), step, streams.source);
+    let mut disks = Some(input(case.disks.as_bytes(), step, streams.disks));
+    let mut requests = input(case.requests, step, streams.requests);
+    let mut written = output(rt, alloc, step, streams.output, streams.flush_fails);
+    let mut messages = output(rt, alloc, step, streams.messages, false);
     let status = map_whole(
         alloc,
         Format::Table,
@@ -157,8 +133,26 @@ fn run_streams(alloc: Global, streams: Streams<'_>) -> (u8, ShortOut, ShortOut) 
         &mut source,
         &mut disks,
         &mut requests,
-        &mut output,
+        &mut written,
         &mut messages,
     );
-    (status, output, messages)
+    check_answer(rt, case, status, written.as_slice(), messages.as_slice());
+}
+
+/// Runs a case over streams that move a byte a call, and over ones that do not go short.
+fn check_steps(rt: &impl Abort, alloc: Global, case: &Case<'_>) {
+    for step in [1, PLENTY] {
+        let streams = Streams {
+            step,
+            ..case.streams
+        };
+        check(rt, alloc, &Case { streams, ..*case });
+    }
+}
+
+/// Asserts that what came of a case is what was wanted.
+fn check_answer(rt: &impl Abort, case: &Case<'_>, status: u8, output: &[u8], messages: &[u8]) {
+    assert!(rt; output == case.output, "the output of {}", case.name);
+    assert!(rt; messages == case.message, "the message of {}", case.name);
+    assert_eq!(rt; status, case.status, "the status of {}", case.name);
 }

@@ -1,12 +1,9 @@
-use Rattle.std.proofs.Common.{[], ◌∷◌, map, refl}
-use Rattle.std.specs.List.{join_with_byte}
-use Rattle.std.proofs.lemmas.Result.{err_from_is_err_and}
-use Rattle.dm_table.specs.CanonicalText.{concise_device}
-use Rattle.dm_table.proofs.WriteLemmas.{stopped}
+use Rattle.dm_table.proofs.CanonicalConcise.{concise_reads_back}
+use Rattle.dm_table.proofs.WriteLemmas.{cut_beginning}
 use Rattle.dm_table.proofs.canonical_text.write_concise.Goals as goal
 
-pub returns-in_err-write_devices-clause-err : goal.returns-in_err-write_devices-clause-err
-returns-in_err-write_devices-clause-err g c =
-    let p = err_from_is_err_and c.from_residual.result c.from_residual.ensures.1 in
-    let whole = stopped (join_with_byte 59 (map concise_device c.args.devices.now)) (10 ∷ []) refl c.in_err-write_devices.ensures in
-    rw p.1 whole.err
+pub returns-clause-reads_back : goal.returns-clause-reads_back
+returns-clause-reads_back g c = λ text said describes same. concise_reads_back text said c.args.devices.now describes same
+
+pub returns-clause-err : goal.returns-clause-err
+returns-clause-err g c = cut_beginning _ _ _ c.write_ended.ensures.left

@@ -1,10 +1,10 @@
 -- At most 19 digits are read, and they are below 10^19.
-use Rattle.std.proofs.Common.{◌≡◌, ◌<◌, ◌+◌, true, get_or, take, length, sym, ap, inl, inr, ◌≢◌, ◌∙◌, arith}
+use Rattle.std.proofs.Common.{◌≡◌, ◌<◌, true, get_or, take, length, sym, ap, inl, inr, ◌≢◌, ◌∙◌, arith}
 use Rattle.std.specs.Char.{is_ascii_digit}
 use Rattle.std.specs.List.{prefix_len}
 use Rattle.std.proofs.lemmas.List.Sums.{prefix_len-drop_yes, prefix_len-drop_no, prefix_len-drop_all}
 use Rattle.std.proofs.lemmas.List.Folds.{length-prefix_len}
-use Rattle.dm_table.proofs.NumberLemmas.{value_more, digits_more, front_below, number_of-long, number_of-empty, number_of-zero, number_of-digits}
+use Rattle.dm_table.proofs.NumberLemmas.{value_more, digits_more, next_below, number_of-long, number_of-empty, number_of-zero, number_of-digits}
 use Rattle.std.proofs.lemmas.List.{length-take-le}
 use Rattle.std.proofs.Common.{Some}
 use Rattle.std.proofs.lemmas.Grind.{elements}
@@ -18,21 +18,18 @@ returns-then-len-eq19-clause-other c =
     let more = prefix_len-drop_yes is_ascii_digit text c.loop-len.len 0 c.loop-len-test.true digit in
     number_of-long _ (omega (arith, length-prefix_len is_ascii_digit text, more, c.loop-len.invariant.left))
 
+-- the value of the digits so far and one more fits
 pub overflow_mul-value : goal.overflow_mul-value
 overflow_mul-value c =
-    let text = c.args.text.now in
-    let digit : is_ascii_digit (get_or text c.loop-len.len 0) ≡ true = sym c.is_ascii_digit.ensures.value ∙ c.if-is_ascii_digit.true in
-    let next = value_more text c.loop-len.len digit c.loop-len-test.true in
-    let below = front_below text (c.loop-len.len + 1) (digits_more text c.loop-len.len c.loop-len.invariant.digits digit c.loop-len-test.true) (omega arith) in
-    omega (arith, next, below, c.loop-len.invariant.sum)
+    let digit = sym c.is_ascii_digit.ensures.value ∙ c.if-is_ascii_digit.true in
+    let next = next_below c.args.text.now c.loop-len.len c.loop-len.invariant.digits digit c.loop-len-test.true (omega arith) in
+    omega (arith, next, c.loop-len.invariant.sum)
 
 pub overflow_add-value : goal.overflow_add-value
 overflow_add-value c =
-    let text = c.args.text.now in
-    let digit : is_ascii_digit (get_or text c.loop-len.len 0) ≡ true = sym c.is_ascii_digit.ensures.value ∙ c.if-is_ascii_digit.true in
-    let next = value_more text c.loop-len.len digit c.loop-len-test.true in
-    let below = front_below text (c.loop-len.len + 1) (digits_more text c.loop-len.len c.loop-len.invariant.digits digit c.loop-len-test.true) (omega arith) in
-    omega (arith, next, below, c.loop-len.invariant.sum, c.from.ensures)
+    let digit = sym c.is_ascii_digit.ensures.value ∙ c.if-is_ascii_digit.true in
+    let next = next_below c.args.text.now c.loop-len.len c.loop-len.invariant.digits digit c.loop-len-test.true (omega arith) in
+    omega (arith, next, c.loop-len.invariant.sum, c.from.ensures)
 
 pub loop-len-preserved : goal.loop-len-preserved
 loop-len-preserved c =

@@ -1,61 +1,65 @@
 //! Requests that are bad: the word for each, and what was answered before.
 //!
 //! The questions about a line are asked in a fixed order, so a row with several mistakes shows which
-//! comes first. Lines of the greatest length are built here, since a form has no room for one.
+//! comes first. Lines of the greatest length are built here, since a row has no room for one.
 
 ghost use Rattle.std.specs.Prelude.{◌<◌};
 
 use super::*;
 use std::test::Fail;
 
+const READ_MESSAGE: &[u8] = b"dmremap: requests: read\n";
+
 /// A line and the rest of a line without its newline.
 const LINE_AND_REST: Case<'static> = Case {
     name: "a line and a rest",
-    requests: "R a 0 1\nR a 1 1",
-    output: "1 R sda 50 1\n",
-    message: "dmremap: request 2: unended\n",
+    requests: b"R a 0 1\nR a 1 1",
+    output: b"1 R sda 50 1\n",
+    message: b"dmremap: request 2: unended\n",
     status: 3,
     ..VOLUME
 };
 
+/// A first line, and the word for it.
+static WORDS: [(&[u8], &str); 26] = [
+    (b"R a 0 0\n", "length"),
+    (b"R a 01 1\n", "number"),
+    (b"R a 0\n", "form"),
+    (b"R b 0 1\n", "unknown"),
+    (b"\n", "form"),
+    (b" R a 0 1\n", "form"),
+    (b"R a 0 1 \n", "form"),
+    (b"R  a 0 1\n", "form"),
+    (b"R a 0 1 1\n", "form"),
+    (b"r a 0 1\n", "form"),
+    (b"RW a 0 1\n", "form"),
+    (b"R\ta 0 1\n", "form"),
+    (b"R /dev/mapper/a 0 1\n", "form"),
+    (b"R a 0 1\r\n", "number"),
+    (b"R a -1 1\n", "number"),
+    (b"R a 0 10000000000000000000\n", "number"),
+    (b"R a 0 9999999999999999999\n", "length"),
+    (b"R a 0 1048577\n", "length"),
+    (b"X a x 0\n", "form"),
+    (b"R a, x 0\n", "form"),
+    (b"R a x 0\n", "number"),
+    (b"R b x 0\n", "number"),
+    (b"R b 0 0\n", "length"),
+    (b"R b 0 1048577\n", "length"),
+    (b"R a 0 1", "unended"),
+    (b"x", "unended"),
+];
+
 #[test]
 fn words(rt: HostRuntime) -> Result<(), Fail> {
     let alloc = rt.alloc();
-    let cases = [
-        ("R a 0 0\n", "length"),
-        ("R a 01 1\n", "number"),
-        ("R a 0\n", "form"),
-        ("R b 0 1\n", "unknown"),
-        ("\n", "form"),
-        (" R a 0 1\n", "form"),
-        ("R a 0 1 \n", "form"),
-        ("R  a 0 1\n", "form"),
-        ("R a 0 1 1\n", "form"),
-        ("r a 0 1\n", "form"),
-        ("RW a 0 1\n", "form"),
-        ("R\ta 0 1\n", "form"),
-        ("R /dev/mapper/a 0 1\n", "form"),
-        ("R a 0 1\r\n", "number"),
-        ("R a -1 1\n", "number"),
-        ("R a 0 10000000000000000000\n", "number"),
-        ("R a 0 9999999999999999999\n", "length"),
-        ("R a 0 1048577\n", "length"),
-        ("X a x 0\n", "form"),
-        ("R a, x 0\n", "form"),
-        ("R a x 0\n", "number"),
-        ("R b x 0\n", "number"),
-        ("R b 0 0\n", "length"),
-        ("R b 0 1048577\n", "length"),
-        ("R a 0 1", "unended"),
-        ("x", "unended"),
-    ];
-    for (requests, word) in cases {
+    for &(requests, word) in &WORDS {
         let message = format!(in alloc; "dmremap: request 1: {word}\n")?;
         let case = Case {
-            name: requests,
+            name: word,
             requests,
-            output: "",
-            message: message.as_str(),
+            output: b"",
+            message: message.as_bytes(),
             status: 3,
             ..VOLUME
         };
@@ -65,163 +69,101 @@ fn words(rt: HostRuntime) -> Result<(), Fail> {
 }
 
 #[test]
-fn the_first_bad_line_ends_the_run(rt: HostRuntime) {
-    let cases = [
-        Case {
-            name: "after answers",
-            requests: "R a 0 1\nW a 1 2\nR a 0 0\nR a 2 1\nx\n",
-            output: "1 R sda 50 1\n2 W sda 51 2\n",
-            message: "dmremap: request 3: length\n",
-            status: 3,
-            ..VOLUME
-        },
-        Case {
-            name: "before a rest",
-            requests: "R b 0 1\nR a",
-            output: "",
-            message: "dmremap: request 1: unknown\n",
-            status: 3,
-            ..VOLUME
-        },
-        Case {
-            name: "without a device",
-            source: "",
-            disks: "",
-            requests: "R a 0 1\n",
-            output: "",
-            message: "dmremap: request 1: unknown\n",
-            status: 3,
-        },
-    ];
-    for case in &cases {
-        check(&rt, rt.alloc(), case);
-    }
-}
-
-#[test]
 fn the_cutting_of_reads_shows_nowhere(rt: HostRuntime) {
-    let alloc = rt.alloc();
-    for step in 1..17 {
-        let streams = LINE_AND_REST.streams(&rt, alloc, step);
-        check_streams(
-            &rt,
-            alloc,
-            LINE_AND_REST.name,
-            streams,
-            &LINE_AND_REST.answer(),
-        );
-        let streams = VOLUME.streams(&rt, alloc, step);
-        check_streams(&rt, alloc, VOLUME.name, streams, &VOLUME.answer());
+    for case in [LINE_AND_REST, VOLUME] {
+        for step in 1..17 {
+            let streams = Streams { step, ..STEADY };
+            check(&rt, rt.alloc(), &Case { streams, ..case });
+        }
     }
 }
 
-/// What the first `count` bytes of the line and the rest give, up to a clean end.
-fn answer_to_beginning(count: usize) -> Answer<'static> {
-    let (output, message, status) = match count {
-        0 => ("", "", 0),
-        1..=7 => ("", "dmremap: request 1: unended\n", 3),
-        8 => ("1 R sda 50 1\n", "", 0),
-        _ => ("1 R sda 50 1\n", "dmremap: request 2: unended\n", 3),
+/// A beginning of the line and the rest, up to a clean end.
+fn ending(requests: &'static [u8]) -> Case<'static> {
+    let (output, message, status): (&[u8], &[u8], u8) = match requests.len() {
+        0 => (b"", b"", 0),
+        1..=7 => (b"", b"dmremap: request 1: unended\n", 3),
+        8 => (b"1 R sda 50 1\n", b"", 0),
+        _ => (b"1 R sda 50 1\n", b"dmremap: request 2: unended\n", 3),
     };
-    Answer {
-        output: output.as_bytes(),
-        message: message.as_bytes(),
+    Case {
+        requests,
+        output,
+        message,
         status,
+        ..LINE_AND_REST
+    }
+}
+
+/// The same where reads fail after them.
+fn failing(case: Case<'static>) -> Case<'static> {
+    Case {
+        message: READ_MESSAGE,
+        status: 4,
+        streams: Streams {
+            requests: Some(case.requests.len()),
+            ..STEADY
+        },
+        ..case
     }
 }
 
 #[test]
 fn an_end_or_a_fault_after_each_byte(rt: HostRuntime) {
-    let alloc = rt.alloc();
-    let requests = LINE_AND_REST.requests.as_bytes();
-    for count in 0..requests.len() + 1 {
-        let at_end = answer_to_beginning(count);
-        let at_fault = Answer {
-            output: at_end.output,
-            message: "dmremap: requests: read\n".as_bytes(),
-            status: 4,
-        };
-        for step in [1, PLENTY] {
-            let mut streams = LINE_AND_REST.streams(&rt, alloc, step);
-            streams.requests = ShortIn::new(&requests[..count], step);
-            check_streams(&rt, alloc, "a clean end", streams, &at_end);
-            let mut streams = LINE_AND_REST.streams(&rt, alloc, step);
-            streams.requests = ShortIn::failing(requests, step, count);
-            check_streams(&rt, alloc, "a read fault", streams, &at_fault);
-        }
+    for count in 0..LINE_AND_REST.requests.len() + 1 {
+        let case = ending(&LINE_AND_REST.requests[..count]);
+        check_steps(&rt, rt.alloc(), &case);
+        check_steps(&rt, rt.alloc(), &failing(case));
     }
 }
 
-#[test]
-fn a_bad_line_takes_precedence_over_a_read_fault(rt: HostRuntime) {
-    let alloc = rt.alloc();
-    let requests = "R a 0 1\nR a 0 0\nR a".as_bytes();
-    let answer = Answer {
-        output: "1 R sda 50 1\n".as_bytes(),
-        message: "dmremap: request 2: length\n".as_bytes(),
-        status: 3,
-    };
-    let mut streams = VOLUME.streams(&rt, alloc, PLENTY);
-    streams.requests = ShortIn::failing(requests, PLENTY, requests.len());
-    check_streams(&rt, alloc, "a bad line", streams, &answer);
+/// What a line of some letters gives: their number, whether there is a newline, whether reads fail
+/// after it, and the message and the status.
+static LONG_LINES: [(usize, &str, bool, &[u8], u8); 8] = [
+    (4096, "\n", false, b"dmremap: request 1: form\n", 3),
+    (4097, "\n", false, b"dmremap: request 1: long\n", 3),
+    (4096, "", false, b"dmremap: request 1: unended\n", 3),
+    (4097, "", false, b"dmremap: request 1: long\n", 3),
+    (4096, "\n", true, b"dmremap: request 1: form\n", 3),
+    (4097, "\n", true, b"dmremap: request 1: long\n", 3),
+    (4096, "", true, READ_MESSAGE, 4),
+    (4097, "", true, b"dmremap: request 1: long\n", 3),
+];
+
+/// Runs a line over reads of several sizes, and asserts what it must give.
+fn check_line<'a>(
+    rt: &impl Abort,
+    alloc: Global,
+    line: &'a [u8],
+    fails: bool,
+    message: &'a [u8],
+    status: u8,
+) {
+    for step in [1, 4096, 4097, 65536] {
+        let streams = Streams {
+            step,
+            requests: if fails { Some(line.len()) } else { None },
+            ..STEADY
+        };
+        let case = Case {
+            name: "a long line",
+            requests: line,
+            output: b"",
+            message,
+            status,
+            streams,
+            ..VOLUME
+        };
+        check(rt, alloc, &case);
+    }
 }
 
 #[test]
 fn lines_of_the_greatest_length(rt: HostRuntime) -> Result<(), Fail> {
     let alloc = rt.alloc();
-    let form = ("dmremap: request 1: form\n", 3);
-    let long = ("dmremap: request 1: long\n", 3);
-    let unended = ("dmremap: request 1: unended\n", 3);
-    let read = ("dmremap: requests: read\n", 4);
-    // The bytes before the newline, whether there is one, and whether reads fail after them.
-    let cases = [
-        (4096, true, false, form),
-        (4097, true, false, long),
-        (4096, false, false, unended),
-        (4097, false, false, long),
-        (4096, true, true, form),
-        (4097, true, true, long),
-        (4096, false, true, read),
-        (4097, false, true, long),
-    ];
-    for (bytes, ends, fails, (message, status)) in cases {
-        let line = around_letters(alloc, "", bytes, if ends { "\n" } else { "" })?;
-        let line = line.as_bytes();
-        for step in [1, 4096, 4097, 65536] {
-            let mut streams = VOLUME.streams(&rt, alloc, PLENTY);
-            streams.requests = if fails {
-                ShortIn::failing(line, step, line.len())
-            } else {
-                ShortIn::new(line, step)
-            };
-            let answer = Answer {
-                output: "".as_bytes(),
-                message: message.as_bytes(),
-                status,
-            };
-            check_streams(&rt, alloc, "a long line", streams, &answer);
-        }
-    }
-    Ok(())
-}
-
-#[test]
-fn device_names_of_the_greatest_length(rt: HostRuntime) -> Result<(), Fail> {
-    let alloc = rt.alloc();
-    for (letters, message) in [
-        (127, "dmremap: request 1: unknown\n"),
-        (128, "dmremap: request 1: form\n"),
-    ] {
-        let requests = around_letters(alloc, "R ", letters, " 0 1\n")?;
-        let case = Case {
-            name: "a long name",
-            requests: requests.as_str(),
-            output: "",
-            message,
-            status: 3,
-            ..VOLUME
-        };
-        check(&rt, alloc, &case);
+    for &(count, end, fails, message, status) in &LONG_LINES {
+        let line = letters(alloc, count, end)?;
+        check_line(&rt, alloc, line.as_bytes(), fails, message, status);
     }
     Ok(())
 }

@@ -56,41 +56,39 @@ impl<'a> Write for Fake<'a> {
     }
 }
 
+/// What a read does, and what comes of it; and the same of a write.
+static CALLS: [(Step, Option<usize>, Option<usize>); 4] = [
+    (Step::Moves(4), Some(4), Some(4)),
+    (Step::Moves(1), Some(1), Some(1)),
+    (Step::Moves(0), Some(0), None),
+    (Step::Fails, None, None),
+];
+
 #[test]
 fn reads(rt: HostRuntime) {
-    for (step, want) in [
-        (Step::Moves(4), Some(4)),
-        (Step::Moves(1), Some(1)),
-        (Step::Moves(0), Some(0)),
-        (Step::Fails, None),
-    ] {
+    for (step, want, _) in &CALLS {
         let calls = Cell::new(0);
-        let script = [step, Step::Moves(4)];
+        let script = [*step, Step::Moves(4)];
         let mut input = Counted::new(Fake {
             script: &script,
             calls: &calls,
         });
-        assert!(rt; input.read(&mut [0; 4]).ok() == want, "a read of {want:?}");
+        assert!(rt; input.read(&mut [0; 4]).ok() == *want, "a read of {want:?}");
         assert_eq!(rt; calls.get(), 1, "calls at a read of {want:?}");
     }
 }
 
 #[test]
 fn writes(rt: HostRuntime) {
-    for (step, want) in [
-        (Step::Moves(4), Some(4)),
-        (Step::Moves(1), Some(1)),
-        (Step::Moves(0), None),
-        (Step::Fails, None),
-    ] {
+    for (step, _, want) in &CALLS {
         let calls = Cell::new(0);
-        let script = [step, Step::Moves(4)];
+        let script = [*step, Step::Moves(4)];
         let mut output = Counted::new(Fake {
             script: &script,
             calls: &calls,
         });
         assert!(rt;
-            output.write(&[1, 2, 3, 4]).ok() == want,
+            output.write(&[1, 2, 3, 4]).ok() == *want,
             "a write of {want:?}"
         );
         assert_eq!(rt; calls.get(), 1, "calls at a write of {want:?}");

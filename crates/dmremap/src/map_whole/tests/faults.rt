@@ -8,221 +8,263 @@ ghost use Rattle.std.specs.Prelude.{◌<◌};
 use super::*;
 use std::test::Fail;
 
-const WRITE_MESSAGE: &str = "dmremap: output: write\n";
+const WRITE_MESSAGE: &[u8] = b"dmremap: output: write\n";
+
+/// A load that is refused.
+const REFUSED: Case<'static> = Case {
+    name: "a refused load",
+    disks: "sda 149\n",
+    output: b"",
+    message: b"dmremap: source: range at 1\n",
+    status: 1,
+    ..VOLUME
+};
+
+/// A request that is answered, and a bad one after it.
+const BAD_REQUEST: Case<'static> = Case {
+    name: "a bad request",
+    requests: b"R a 0 1\nR a 0 0\n",
+    output: b"1 R sda 50 1\n",
+    message: b"dmremap: request 2: length\n",
+    status: 3,
+    ..VOLUME
+};
+
+const NO_REQUESTS: Case<'static> = Case {
+    name: "no requests",
+    requests: b"",
+    output: b"",
+    ..VOLUME
+};
+
+/// An output whose flushes fail.
+const FAILING_FLUSH: Streams = Streams {
+    flush_fails: true,
+    ..STEADY
+};
+
+/// Which of several faults is reported, and what is not asked of an output.
+static FAULTS: [Case<'static>; 7] = [
+    Case {
+        name: "a flush that fails",
+        message: WRITE_MESSAGE,
+        status: 5,
+        streams: FAILING_FLUSH,
+        ..VOLUME
+    },
+    Case {
+        name: "a flush that fails after no requests",
+        message: WRITE_MESSAGE,
+        status: 5,
+        streams: FAILING_FLUSH,
+        ..NO_REQUESTS
+    },
+    Case {
+        name: "a flush that fails takes precedence over a bad line",
+        requests: b"R a 0 1\nR b 0 1\n",
+        message: WRITE_MESSAGE,
+        status: 5,
+        streams: FAILING_FLUSH,
+        ..BAD_REQUEST
+    },
+    Case {
+        name: "a flush that fails takes precedence over a read fault",
+        requests: b"R a 0 1\n",
+        message: WRITE_MESSAGE,
+        status: 5,
+        streams: Streams {
+            requests: Some(8),
+            ..FAILING_FLUSH
+        },
+        ..BAD_REQUEST
+    },
+    Case {
+        name: "a bad line takes precedence over a read fault",
+        requests: b"R a 0 1\nR a 0 0\nR a",
+        streams: Streams {
+            requests: Some(19),
+            ..STEADY
+        },
+        ..BAD_REQUEST
+    },
+    // Without output no write can fail, and a refused load does not flush.
+    Case {
+        streams: Streams {
+            output: Some(0),
+            ..STEADY
+        },
+        ..NO_REQUESTS
+    },
+    Case {
+        streams: Streams {
+            output: Some(0),
+            ..FAILING_FLUSH
+        },
+        ..REFUSED
+    },
+];
+
+#[test]
+fn one_fault_takes_precedence(rt: HostRuntime) {
+    for case in &FAULTS {
+        check_steps(&rt, rt.alloc(), case);
+    }
+}
 
 #[test]
 fn the_source_fails_after_each_byte(rt: HostRuntime) {
-    let alloc = rt.alloc();
-    let source = VOLUME.source.as_bytes();
-    let answer = refusal("dmremap: source: read\n");
-    for count in 0..source.len() + 1 {
-        for step in [1, PLENTY] {
-            let mut streams = VOLUME.streams(&rt, alloc, step);
-            streams.source = ShortIn::failing(source, step, count);
-            check_streams(&rt, alloc, "a source that fails", streams, &answer);
-        }
+    for count in 0..VOLUME.source.len() + 1 {
+        let case = Case {
+            name: "a source that fails",
+            message: b"dmremap: source: read\n",
+            streams: Streams {
+                source: Some(count),
+                ..STEADY
+            },
+            ..REFUSED
+        };
+        check_steps(&rt, rt.alloc(), &case);
     }
 }
 
 #[test]
 fn the_disk_list_fails_after_each_byte(rt: HostRuntime) {
-    let alloc = rt.alloc();
-    let disks = VOLUME.disks.as_bytes();
-    let answer = refusal("dmremap: disks: read\n");
-    for count in 0..disks.len() + 1 {
-        for step in [1, PLENTY] {
-            let mut streams = VOLUME.streams(&rt, alloc, step);
-            streams.disks = ShortIn::failing(disks, step, count);
-            check_streams(&rt, alloc, "a disk list that fails", streams, &answer);
-        }
+    for count in 0..VOLUME.disks.len() + 1 {
+        let case = Case {
+            name: "a disk list that fails",
+            disks: VOLUME.disks,
+            message: b"dmremap: disks: read\n",
+            streams: Streams {
+                disks: Some(count),
+                ..STEADY
+            },
+            ..REFUSED
+        };
+        check_steps(&rt, rt.alloc(), &case);
     }
 }
 
-/// An input of a text that ends or fails after it.
-fn input<'a>(text: &'a str, fails: bool) -> ShortIn<'a> {
-    let bytes = text.as_bytes();
-    if fails {
-        ShortIn::failing(bytes, PLENTY, bytes.len())
-    } else {
-        ShortIn::new(bytes, PLENTY)
-    }
+/// The letters of a source and of a disk list, each with whether it fails after them, and the
+/// message. A letter alone is a fault of syntax, and 1,048,577 are too long.
+static PARTS: [(usize, bool, usize, bool, &[u8]); 10] = [
+    (1, false, 0, true, b"dmremap: disks: read\n"),
+    (1, false, 1_048_577, false, b"dmremap: disks: long\n"),
+    (1, false, 1_048_577, true, b"dmremap: disks: long\n"),
+    (1, false, 1_048_576, true, b"dmremap: disks: read\n"),
+    (
+        1,
+        false,
+        1_048_576,
+        false,
+        b"dmremap: source: syntax at 1\n",
+    ),
+    (
+        1_048_576,
+        false,
+        1,
+        false,
+        b"dmremap: source: syntax at 1\n",
+    ),
+    (1_048_576, true, 1_048_577, true, b"dmremap: source: read\n"),
+    (1_048_577, true, 0, true, b"dmremap: source: long\n"),
+    (1_048_577, false, 0, true, b"dmremap: source: long\n"),
+    (0, true, 0, true, b"dmremap: source: read\n"),
+];
+
+/// After how many bytes a text fails, if it does.
+fn end_of(text: &str, fails: bool) -> Option<usize> {
+    if fails { Some(text.len()) } else { None }
+}
+
+/// Asserts what two parts give of which each may fail after its bytes.
+fn check_parts<'a>(
+    rt: &impl Abort,
+    alloc: Global,
+    source: &'a str,
+    disks: &'a str,
+    fails: (bool, bool),
+    message: &'a [u8],
+) {
+    let case = Case {
+        name: "two parts",
+        source,
+        disks,
+        message,
+        streams: Streams {
+            source: end_of(source, fails.0),
+            disks: end_of(disks, fails.1),
+            ..STEADY
+        },
+        ..REFUSED
+    };
+    check(rt, alloc, &case);
 }
 
 #[test]
 fn parts_are_read_before_any_text(rt: HostRuntime) -> Result<(), Fail> {
     let alloc = rt.alloc();
-    let bad = "x";
-    let full = around_letters(alloc, "", 1_048_576, "")?;
-    let long = around_letters(alloc, "", 1_048_577, "")?;
-    let full = full.as_str();
-    let long = long.as_str();
-    // The source and the disk list, each with whether it fails after its bytes.
-    let cases = [
-        ((bad, false), ("", true), "dmremap: disks: read\n"),
-        ((bad, false), (long, false), "dmremap: disks: long\n"),
-        ((bad, false), (long, true), "dmremap: disks: long\n"),
-        ((bad, false), (full, true), "dmremap: disks: read\n"),
-        (
-            (bad, false),
-            (full, false),
-            "dmremap: source: syntax at 1\n",
-        ),
-        (
-            (full, false),
-            (bad, false),
-            "dmremap: source: syntax at 1\n",
-        ),
-        ((full, true), (long, true), "dmremap: source: read\n"),
-        ((long, true), ("", true), "dmremap: source: long\n"),
-        ((long, false), ("", true), "dmremap: source: long\n"),
-        (("", true), ("", true), "dmremap: source: read\n"),
-    ];
-    for ((source, source_fails), (disks, disks_fail), message) in cases {
-        let mut streams = VOLUME.streams(&rt, alloc, PLENTY);
-        streams.source = input(source, source_fails);
-        streams.disks = input(disks, disks_fail);
-        check_streams(&rt, alloc, message, streams, &refusal(message));
+    for &(source, source_fails, disks, disks_fail, message) in &PARTS {
+        let source = letters(alloc, source, "")?;
+        let disks = letters(alloc, disks, "")?;
+        let fails = (source_fails, disks_fail);
+        check_parts(&rt, alloc, source.as_str(), disks.as_str(), fails, message);
     }
     Ok(())
 }
 
 #[test]
 fn the_output_fails_after_each_byte(rt: HostRuntime) {
-    let alloc = rt.alloc();
-    let output = VOLUME.output.as_bytes();
-    for count in 0..output.len() + 1 {
-        let fails = count < output.len();
-        let answer = Answer {
-            output: &output[..count],
-            message: if fails { WRITE_MESSAGE } else { "" }.as_bytes(),
-            status: if fails { 5 } else { 0 },
-        };
-        for step in [1, PLENTY] {
-            let mut streams = VOLUME.streams(&rt, alloc, PLENTY);
-            streams.output = ShortOut::new(alloc, step, count).expect(&rt, "an output");
-            check_streams(&rt, alloc, "an output that fails", streams, &answer);
-        }
-    }
-}
-
-#[test]
-fn a_flush_that_fails_takes_precedence(rt: HostRuntime) {
-    let alloc = rt.alloc();
-    let cases = [
-        VOLUME,
-        Case {
-            name: "no requests",
-            requests: "",
-            output: "",
-            ..VOLUME
-        },
-        Case {
-            name: "a bad line",
-            requests: "R a 0 1\nR b 0 1\n",
-            output: "1 R sda 50 1\n",
-            ..VOLUME
-        },
-    ];
-    for case in &cases {
-        let answer = Answer {
-            message: WRITE_MESSAGE.as_bytes(),
+    for count in 0..VOLUME.output.len() {
+        let case = Case {
+            name: "an output that fails",
+            output: &VOLUME.output[..count],
+            message: WRITE_MESSAGE,
             status: 5,
-            ..case.answer()
+            streams: Streams {
+                output: Some(count),
+                ..STEADY
+            },
+            ..VOLUME
         };
-        let mut streams = case.streams(&rt, alloc, PLENTY);
-        streams.output = ShortOut::failing_flush(alloc, PLENTY, PLENTY).expect(&rt, "an output");
-        check_streams(&rt, alloc, case.name, streams, &answer);
+        check_steps(&rt, rt.alloc(), &case);
     }
+    let streams = Streams {
+        output: Some(VOLUME.output.len()),
+        ..STEADY
+    };
+    check_steps(&rt, rt.alloc(), &Case { streams, ..VOLUME });
 }
 
-#[test]
-fn a_flush_fails_after_a_read_fault(rt: HostRuntime) {
-    let alloc = rt.alloc();
-    let answer = Answer {
-        output: "1 R sda 50 1\n".as_bytes(),
-        message: WRITE_MESSAGE.as_bytes(),
+/// A message for each way in which a run ends with one.
+static TOLD: [Case<'static>; 3] = [
+    REFUSED,
+    BAD_REQUEST,
+    Case {
+        name: "an output that fails too",
+        output: b"1 R ",
+        message: WRITE_MESSAGE,
         status: 5,
-    };
-    let mut streams = VOLUME.streams(&rt, alloc, PLENTY);
-    streams.requests = input("R a 0 1\n", true);
-    streams.output = ShortOut::failing_flush(alloc, PLENTY, PLENTY).expect(&rt, "an output");
-    check_streams(&rt, alloc, "a read fault", streams, &answer);
-}
-
-#[test]
-fn an_output_that_is_not_written_to_is_not_asked(rt: HostRuntime) {
-    let alloc = rt.alloc();
-    // Without output no write can fail, and a refused load does not flush.
-    let case = Case {
-        requests: "",
-        output: "",
+        streams: Streams {
+            output: Some(4),
+            ..STEADY
+        },
         ..VOLUME
-    };
-    let mut streams = case.streams(&rt, alloc, PLENTY);
-    streams.output = ShortOut::new(alloc, 1, 0).expect(&rt, "an output");
-    check_streams(&rt, alloc, "no requests", streams, &case.answer());
-    let case = Case {
-        disks: "sda 149\n",
-        output: "",
-        message: "dmremap: source: range at 1\n",
-        status: 1,
-        ..VOLUME
-    };
-    let mut streams = case.streams(&rt, alloc, PLENTY);
-    streams.output = ShortOut::failing_flush(alloc, 1, 0).expect(&rt, "an output");
-    check_streams(&rt, alloc, "a refused load", streams, &case.answer());
-}
+    },
+];
 
 #[test]
 fn messages_fail_after_each_byte(rt: HostRuntime) {
-    let alloc = rt.alloc();
-    let cases = [
-        Case {
-            name: "a refused load",
-            disks: "sda 149\n",
-            output: "",
-            message: "dmremap: source: range at 1\n",
-            status: 1,
-            ..VOLUME
-        },
-        Case {
-            name: "a bad request",
-            requests: "R a 0 1\nR a 0 0\n",
-            output: "1 R sda 50 1\n",
-            message: "dmremap: request 2: length\n",
-            status: 3,
-            ..VOLUME
-        },
-    ];
-    for case in &cases {
-        let message = case.message.as_bytes();
-        for count in 0..message.len() + 1 {
-            for step in [1, PLENTY] {
-                let answer = Answer {
-                    message: &message[..count],
-                    ..case.answer()
-                };
-                let mut streams = case.streams(&rt, alloc, PLENTY);
-                streams.messages = ShortOut::new(alloc, step, count).expect(&rt, "messages");
-                check_streams(&rt, alloc, case.name, streams, &answer);
-            }
+    for case in &TOLD {
+        for count in 0..case.message.len() + 1 {
+            let cut = Case {
+                message: &case.message[..count],
+                streams: Streams {
+                    messages: Some(count),
+                    ..case.streams
+                },
+                ..*case
+            };
+            check_steps(&rt, rt.alloc(), &cut);
         }
-    }
-}
-
-#[test]
-fn output_and_messages_both_fail(rt: HostRuntime) {
-    let alloc = rt.alloc();
-    let message = WRITE_MESSAGE.as_bytes();
-    for count in 0..message.len() + 1 {
-        let answer = Answer {
-            output: "1 R ".as_bytes(),
-            message: &message[..count],
-            status: 5,
-        };
-        let mut streams = VOLUME.streams(&rt, alloc, PLENTY);
-        streams.output = ShortOut::new(alloc, 1, 4).expect(&rt, "an output");
-        streams.messages = ShortOut::new(alloc, 1, count).expect(&rt, "messages");
-        check_streams(&rt, alloc, "both fail", streams, &answer);
     }
 }

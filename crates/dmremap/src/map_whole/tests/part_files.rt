@@ -3,6 +3,7 @@
 use super::counted::{Fake, Step};
 use crate::part_file::PartFile;
 use dm_table::{Counted, LoadKind, Part, read_part};
+use std::alloc::Global;
 use std::cell::Cell;
 use std::fs::File;
 
@@ -17,9 +18,17 @@ fn a_file_that_cannot_be_read(rt: HostRuntime) {
     }
 }
 
+/// How many bytes reading a part gives whose file does what a script says.
+fn part_len(alloc: Global, script: &[Step], calls: &Cell<usize>) -> Option<usize> {
+    let file = Fake { script, calls };
+    let mut input = Counted::new(PartFile::new(Ok(file)));
+    let text = read_part(alloc, Part::Source, &mut input).ok()?;
+    Some(text.len())
+}
+
 #[test]
 fn nothing_is_asked_after_an_end_or_a_fault(rt: HostRuntime) {
-    // What each read of a file gives, what reading the part gives, and after how many reads.
+    // What each read of a file gives, how many bytes reading the part gives, and after how many reads.
     for (script, bytes, reads) in [
         ([Step::Moves(0), Step::Moves(4), Step::Fails], Some(0), 1),
         ([Step::Moves(4), Step::Moves(0), Step::Moves(4)], Some(4), 2),
@@ -28,16 +37,8 @@ fn nothing_is_asked_after_an_end_or_a_fault(rt: HostRuntime) {
         ([Step::Moves(4), Step::Fails, Step::Moves(0)], None, 2),
     ] {
         let calls = Cell::new(0);
-        let file = Fake {
-            script: &script,
-            calls: &calls,
-        };
-        let mut input = Counted::new(PartFile::new(Ok(file)));
-        let text = read_part(rt.alloc(), Part::Source, &mut input).ok();
-        assert!(rt;
-            text.map(|text| text.len()) == bytes,
-            "bytes after {reads} reads"
-        );
+        let read = part_len(rt.alloc(), &script, &calls);
+        assert!(rt; read == bytes, "bytes after {reads} reads");
         assert_eq!(rt; calls.get(), reads, "reads");
     }
 }

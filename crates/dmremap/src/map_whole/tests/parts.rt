@@ -13,24 +13,38 @@ use dm_stack::{DiskId, FoundTarget, Lower, Stack};
 use dm_stream::{Ending, Join, run};
 use dm_table::{CheckFault, DiskName, Name, parse_disks, parse_table};
 
+/// A text, and whether it is the name of a device, and of a disk.
+static NAMES: [(&str, bool, bool); 7] = [
+    ("a.1:x", true, true),
+    ("/dev/sda", false, true),
+    ("", false, false),
+    ("a b", false, false),
+    ("a,b", false, false),
+    ("/dev/mapper/a", false, false),
+    ("\u{e9}", false, false),
+];
+
+/// Asserts whether a text is the name of a device.
+fn check_name(rt: &impl Abort, alloc: Global, text: &str, is_name: bool) {
+    match Name::new(alloc, text) {
+        Ok(name) => assert!(rt; is_name && name.as_str() == text, "{text:?}"),
+        Err(fault) => assert!(rt; !is_name && matches!(fault, CheckFault::Form), "{text:?}"),
+    }
+}
+
+/// Asserts whether a text is the name of a disk.
+fn check_disk_name(rt: &impl Abort, alloc: Global, text: &str, is_name: bool) {
+    match DiskName::new(alloc, text) {
+        Ok(name) => assert!(rt; is_name && name.as_str() == text, "{text:?}"),
+        Err(fault) => assert!(rt; !is_name && matches!(fault, CheckFault::Form), "{text:?}"),
+    }
+}
+
 #[test]
 fn names(rt: HostRuntime) {
-    let alloc = rt.alloc();
-    let name = Name::new(alloc, "a.1:x").expect(&rt, "a name of a device");
-    assert_eq!(&rt; name.as_str(), "a.1:x");
-    let name = DiskName::new(alloc, "/dev/sda").expect(&rt, "a name of a disk");
-    assert_eq!(&rt; name.as_str(), "/dev/sda");
-    for text in ["", "a b", "/dev/sda", "\u{e9}"] {
-        assert!(&rt;
-            matches!(Name::new(alloc, text), Err(CheckFault::Form)),
-            "{text:?}"
-        );
-    }
-    for text in ["", "a b", "a,b", "/dev/mapper/a", "\u{e9}"] {
-        assert!(&rt;
-            matches!(DiskName::new(alloc, text), Err(CheckFault::Form)),
-            "{text:?}"
-        );
+    for &(text, is_name, is_disk_name) in &NAMES {
+        check_name(&rt, rt.alloc(), text, is_name);
+        check_disk_name(&rt, rt.alloc(), text, is_disk_name);
     }
 }
 
@@ -65,28 +79,31 @@ fn a_stack(rt: HostRuntime) {
     assert_eq!(&rt; looker.depth(), 2);
 }
 
-#[test]
-fn a_read_only_device(rt: HostRuntime) {
-    let alloc = rt.alloc();
-    let stack = stack_of(&rt, alloc, TWO_DEVICES, true);
-    let mut mapper = Mapper::<PlainTaken>::new(alloc, stack.looker()).expect(&rt, "a mapper");
-    let mut requests = ShortIn::new("W b 0 8\nR b 0 8\nW a 1 1\n".as_bytes(), PLENTY);
-    let mut output = ShortOut::new(alloc, PLENTY, PLENTY).expect(&rt, "an output");
-    let mut messages = ShortOut::new(alloc, PLENTY, PLENTY).expect(&rt, "messages");
+/// Runs requests to a stack, and asserts what is written.
+fn check_run(rt: &impl Abort, alloc: Global, stack: &Stack, requests: &[u8], want: &[u8]) {
+    let mut mapper = Mapper::<PlainTaken>::new(alloc, stack.looker()).expect(rt, "a mapper");
+    let mut requests = input(requests, PLENTY, None);
+    let mut written = output(rt, alloc, PLENTY, None, false);
+    let mut messages = output(rt, alloc, PLENTY, None, false);
     let ending = run(
-        &stack,
+        stack,
         &mut mapper,
         &mut requests,
-        &mut output,
+        &mut written,
         &mut messages,
         false,
     );
-    assert_eq!(&rt; ending, Ending::Done);
-    assert_eq!(&rt;
-        output.as_slice(),
-        "1 error 8\n2 R sda 0 8\n3 error 1\n".as_bytes()
-    );
-    assert_eq!(&rt; messages.as_slice(), "".as_bytes());
+    assert_eq!(rt; ending, Ending::Done);
+    assert_eq!(rt; written.as_slice(), want);
+    assert!(rt; messages.as_slice().is_empty());
+}
+
+#[test]
+fn a_read_only_device(rt: HostRuntime) {
+    let stack = stack_of(&rt, rt.alloc(), TWO_DEVICES, true);
+    let requests = b"W b 0 8\nR b 0 8\nW a 1 1\n";
+    let want = b"1 error 8\n2 R sda 0 8\n3 error 1\n";
+    check_run(&rt, rt.alloc(), &stack, requests, want);
 }
 
 /// The disk, of 64 sectors, that the first line of a device lies on.

@@ -7,16 +7,12 @@ use Rattle.lvm_text.specs.declared.syntax.Place.TheVariants.{Key}
 use Rattle.lvm_text.proofs.Trees.{tree_accepted, tree_fault}
 use Rattle.lvm_text.proofs.reading.read.Goals as goal
 
-pub returns-clause-accepted : goal.returns-clause-accepted
-returns-clause-accepted c =
-    tree_accepted c.args.text.now (views c.deref-2.result.now) c.tree_of.result
-    (subst (λ (ts : List Placed). Spells c.args.text.now (views ts)) (sym c.deref-2.ensures.value) c.in_ok-tokens.ensures)
-    (subst (λ (ts : List Placed). run 0 Key (views ts) ≡ Some (0, Key)) (c.deref.ensures.value ∙ sym c.deref-2.ensures.value) c.in_default.ensures)
-    c.tree_of.ensures
-
-pub returns-clause-fault : goal.returns-clause-fault
-returns-clause-fault c =
-    tree_fault c.args.text.now (views c.deref-2.result.now) c.tree_of.result
-    (subst (λ (ts : List Placed). Spells c.args.text.now (views ts)) (sym c.deref-2.ensures.value) c.in_ok-tokens.ensures)
-    (subst (λ (ts : List Placed). run 0 Key (views ts) ≡ Some (0, Key)) (c.deref.ensures.value ∙ sym c.deref-2.ensures.value) c.in_default.ensures)
-    c.tree_of.ensures
+pub returns : goal.returns
+returns c =
+    let tokens = views c.deref-2.result.now in
+    let spelled = subst (λ (ts : List Placed). Spells c.args.text.now (views ts)) (sym c.deref-2.ensures.value) c.in_ok-tokens.ensures in
+    let ran = subst (λ (ts : List Placed). run 0 Key (views ts) ≡ Some (0, Key)) (c.deref.ensures.value ∙ sym c.deref-2.ensures.value) c.in_default.ensures in
+    record {
+      accepted = tree_accepted c.args.text.now tokens c.tree_of.result spelled ran c.tree_of.ensures;
+      fault = tree_fault c.args.text.now tokens c.tree_of.result spelled ran c.tree_of.ensures;
+    }

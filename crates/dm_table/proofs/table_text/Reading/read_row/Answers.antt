@@ -1,6 +1,8 @@
 use Rattle.std.proofs.Common.{refl}
 use Rattle.dm_table.specs.Fields.{texts}
-use Rattle.dm_table.specs.TableReading.{named_of}
+use Rattle.dm_table.specs.declared.place.Part.TheVariants.{Source}
+use Rattle.dm_table.specs.TableReading.{fault_of_row, named_in, named_of}
+use Rattle.dm_table.proofs.RowFaultLemmas.{noted_faulty}
 use Rattle.dm_table.proofs.TableLines.{read_named, read_faultless, read_faulty, on_ok}
 use Rattle.dm_table.proofs.table_text.Reading.read_row.Goals as goal
 
@@ -12,5 +14,8 @@ returns-in-Ok-clause-faults c = rw (read_faultless c.args.number (texts c.args.r
 
 pub returns-in-Err : goal.returns-in-Err
 returns-in-Err c =
-    let a = read_faulty c.note.result c.args.number (texts c.args.row.now) c.args.self.now.devices.items c.args.self.now.faults c.note.new.self c.in-Err.fault c.note.ensures.noted c.note.ensures.text c.in-Err.ensures in
-    record { devices = a.0; faults = a.1 }
+    let row = texts c.args.row.now in
+    record {
+      devices = read_faulty c.note.result c.args.number row c.args.self.now.devices.items c.in-Err.fault c.note.ensures.text c.in-Err.ensures;
+      faults = noted_faulty c.note.result Source c.args.number (fault_of_row row) (named_in c.args.number row) c.args.self.now.faults c.note.new.self c.in-Err.fault c.note.ensures.noted c.note.ensures.text c.in-Err.ensures;
+    }

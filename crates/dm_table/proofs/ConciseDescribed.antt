@@ -1,0 +1,190 @@
+-- A text of the concise form in which no check finds anything describes the devices that are read from it, and one that describes devices is read as them.
+use Rattle.std.proofs.Common.{◌≡◌, ◌⊎◌, inl, inr, ℕ, suc, ◌≤◌, Bool, true, false, not, eqb, List, [], ◌∷◌, ◌++◌, length, take, get_or, ◌-◌, Some, None, Ok, Err, refl, sym, ap, subst, ◌∙◌, arith}
+use Rattle.std.specs.List.{list_all, join_with_byte, AllByRecursion}
+use Rattle.std.proofs.lemmas.Bool.{and_parts, cases_Bool, not-true, not-false, not_from_true, eqb-true}
+use Rattle.std.proofs.lemmas.List.{length-append}
+use Rattle.dm_table.specs.declared.table.DeviceSpec.{DeviceSpec}
+use Rattle.dm_table.specs.declared.place.Part.TheVariants.{Source}
+use Rattle.dm_table.specs.declared.load_fault.LoadKind.TheVariants.{NotText, Syntax, Field, Name}
+use Rattle.dm_table.specs.declared.load_fault.LoadFault.{LoadFault}
+use Rattle.dm_table.specs.Fields.{parts_at, front, back}
+use Rattle.dm_table.specs.LoadFault.{first_fault, faults_from}
+use Rattle.dm_table.specs.ConciseText.{SaysDevices, DescribesConcise, lacks, without_newline, parts_of, devices_of, is_printed, is_device, has_values, has_names, concise_checks}
+use Rattle.dm_table.specs.ConciseReading.{devices_from, parts_reading, read_concise}
+use Rattle.dm_table.proofs.ByteLemmas.{All-list_all, list_all-weaker}
+use Rattle.dm_table.proofs.FaultLemmas.{first_fault-none, first_fault-all, faults_from-nil, faults_from-good, unless-ok, unless-err}
+use Rattle.dm_table.proofs.FieldLemmas.{IsClearOf, join-parts_at, parts_at-join, front-push, back-push}
+use Rattle.dm_table.proofs.TableFields.{take-front, get_or-back}
+use Rattle.dm_table.proofs.ConciseRows.{is_entry_byte, entry_semicolon, entry_newline, entry_printed, join_passes, device_said, device_bytes, device_some, device_again}
+
+-- The newline at the end
+
+last_split : (text : List ℕ) → eqb (back 0 text) 10 ≡ true → front text ++ 10 ∷ [] ≡ text
+last_split [] h = absurd cc
+last_split (b ∷ []) h = ap (λ (x : ℕ). x ∷ []) (sym (eqb-true b 10 h))
+last_split (b ∷ c ∷ text) h = ap (λ (rest : List ℕ). b ∷ rest) (last_split (c ∷ text) h)
+
+newline_cases : (text : List ℕ) → (text ≡ without_newline text) ⊎ (text ≡ without_newline text ++ 10 ∷ [])
+newline_cases text = elim (cases_Bool (eqb (back 0 text) 10)) [
+  | inl e ↦ inr (rw e (sym (last_split text e)))
+  | inr e ↦ inl (rw e refl)
+]
+
+last_other : (text : List ℕ) → lacks 10 text ≡ true → eqb (back 0 text) 10 ≡ false
+last_other [] h = refl
+last_other (b ∷ []) h = not-true _ (and_parts (not (eqb b 10)) true h).0
+last_other (b ∷ c ∷ text) h = last_other (c ∷ text) (and_parts (not (eqb b 10)) (lacks 10 (c ∷ text)) h).1
+
+newline_none : (text : List ℕ) → lacks 10 text ≡ true → without_newline text ≡ text
+newline_none text h = rw (last_other text h) refl
+
+newline_dropped : (text : List ℕ) → without_newline (text ++ 10 ∷ []) ≡ text
+newline_dropped text = rw (back-push 0 text 10) (front-push text 10)
+
+-- the code's way to it
+pub newline_cut : (text : List ℕ) → 1 ≤ length text → eqb (get_or text (length text - 1) 0) 10 ≡ true → take (length text - 1) text ≡ without_newline text
+newline_cut text some e = rw (rw (get_or-back 0 0 text some) at e) (take-front text)
+
+pub newline_missing : (text : List ℕ) → 1 ≤ length text → eqb (get_or text (length text - 1) 0) 10 ≡ false → text ≡ without_newline text
+newline_missing text some e = rw (rw (get_or-back 0 0 text some) at e) refl
+
+-- Parts
+
+parts_joined : (text : List ℕ) → join_with_byte 59 (parts_of text) ≡ text
+parts_joined [] = refl
+parts_joined (b ∷ text) = join-parts_at 59 (b ∷ text)
+
+parts_some : (text : List ℕ) → 1 ≤ length text → parts_of text ≡ parts_at 59 text
+parts_some [] h = absurd (omega arith)
+parts_some (b ∷ text) h = refl
+
+-- what a text describes in which no check finds anything
+
+abbrev AllPass : (List ℕ → Bool) → List (List ℕ) → Type 0
+AllPass test texts = AllByRecursion (λ text. not (test text) ≡ false) texts
+
+devices_said : (n : ℕ) (texts : List (List ℕ)) → AllPass is_device texts → AllPass has_values texts → AllPass has_names texts → SaysDevices n texts (devices_from n texts)
+devices_said n [] r l h = tt
+devices_said n (text ∷ texts) r l h = (device_said n text (not-false _ r.0) (not-false _ l.0) (not-false _ h.0), devices_said (suc n) texts r.1 l.1 h.1)
+
+pub described : (text : List ℕ) → first_fault (concise_checks text) ≡ None → DescribesConcise text (devices_from 1 (devices_of text))
+described text h =
+    let parts = devices_of text in
+    let none = first_fault-none (concise_checks text) h in
+    let whole = parts_joined (without_newline text) in
+    record {
+      parts = parts;
+      spelled = elim (newline_cases text) [
+        | inl e ↦ inl (e ∙ sym whole)
+        | inr e ↦ inr (e ∙ ap (λ (t : List ℕ). t ++ 10 ∷ []) (sym whole))
+      ];
+      said = devices_said 1 parts
+          (faults_from-nil Source Syntax (λ device. not (is_device device)) 1 parts none.1.0)
+          (faults_from-nil Source Field (λ device. not (has_values device)) 1 parts none.1.1.0)
+          (faults_from-nil Source Name (λ device. not (has_names device)) 1 parts none.1.1.1.0);
+    }
+
+-- and what is found in a text that describes devices
+
+record AreRead (n : ℕ) (texts : List (List ℕ)) (devices : List DeviceSpec) : Type 0 where
+  pub bytes : AllByRecursion (λ text. list_all is_entry_byte text ≡ true) texts
+  pub printed : AllPass is_printed texts
+  pub rows : AllPass is_device texts
+  pub values : AllPass has_values texts
+  pub names : AllPass has_names texts
+  pub again : devices_from n texts ≡ devices
+
+are_read : (n : ℕ) (texts : List (List ℕ)) (devices : List DeviceSpec) → SaysDevices n texts devices → AreRead n texts devices
+are_read n [] [] s = record { bytes = tt; printed = tt; rows = tt; values = tt; names = tt; again = refl }
+are_read n [] (device ∷ devices) s = absurd s
+are_read n (text ∷ texts) [] s = absurd s
+are_read n (text ∷ texts) (device ∷ devices) s =
+    let more = are_read (suc n) texts devices s.1 in
+    let own = device_again n text device s.0 in
+    let bytes = device_bytes n text device s.0 in
+    record {
+      bytes = (bytes, more.bytes);
+      printed = (not_from_true _ (list_all-weaker is_entry_byte _ entry_printed text bytes), more.printed);
+      rows = (not_from_true _ own.row, more.rows);
+      values = (not_from_true _ own.values, more.values);
+      names = (not_from_true _ own.names, more.names);
+      again = rw (own.again, more.again) refl;
+    }
+
+without_semicolons : (texts : List (List ℕ)) → AllByRecursion (λ text. list_all is_entry_byte text ≡ true) texts → AllByRecursion (IsClearOf 59) texts
+without_semicolons [] h = tt
+without_semicolons (text ∷ texts) h = (All-list_all is_entry_byte (λ b. eqb b 59 ≡ false) entry_semicolon text h.0, without_semicolons texts h.1)
+
+without_newlines : (texts : List (List ℕ)) → AllByRecursion (λ text. list_all is_entry_byte text ≡ true) texts → AllByRecursion (λ text. lacks 10 text ≡ true) texts
+without_newlines [] h = tt
+without_newlines (text ∷ texts) h = (list_all-weaker is_entry_byte (λ b. not (eqb b 10)) entry_newline text h.0, without_newlines texts h.1)
+
+joined_lacks : (texts : List (List ℕ)) → AllByRecursion (λ text. lacks 10 text ≡ true) texts → lacks 10 (join_with_byte 59 texts) ≡ true
+joined_lacks [] h = refl
+joined_lacks (text ∷ texts) h = join_passes (λ b. not (eqb b 10)) 59 text texts refl h
+
+join_some : (text : List ℕ) (texts : List (List ℕ)) → 1 ≤ length text → 1 ≤ length (join_with_byte 59 (text ∷ texts))
+join_some text [] h = h
+join_some text (next ∷ texts) h = omega (arith, h, length-append text (59 ∷ join_with_byte 59 (next ∷ texts)))
+
+parts_again : (n : ℕ) (texts : List (List ℕ)) (devices : List DeviceSpec) → SaysDevices n texts devices → AllByRecursion (IsClearOf 59) texts → parts_of (join_with_byte 59 texts) ≡ texts
+parts_again n [] devices s clear = refl
+parts_again n (text ∷ texts) [] s clear = absurd s
+parts_again n (text ∷ texts) (device ∷ devices) s clear =
+    parts_some (join_with_byte 59 (text ∷ texts)) (join_some text texts (device_some n text device s.0)) ∙ parts_at-join 59 text texts clear
+
+abbrev checks_of : List (List ℕ) → List (List LoadFault)
+checks_of parts =
+    faults_from Source NotText (λ device. not (is_printed device)) 1 parts
+    ∷ faults_from Source Syntax (λ device. not (is_device device)) 1 parts
+    ∷ faults_from Source Field (λ device. not (has_values device)) 1 parts
+    ∷ faults_from Source Name (λ device. not (has_names device)) 1 parts
+    ∷ []
+
+again : (text : List ℕ) (ds : List DeviceSpec) → DescribesConcise text ds → (first_fault (concise_checks text) ≡ None) × (devices_from 1 (devices_of text) ≡ ds)
+again text ds d =
+    let read = are_read 1 d.parts ds d.said in
+    let whole = join_with_byte 59 d.parts in
+    let lines = joined_lacks d.parts (without_newlines d.parts read.bytes) in
+    let bare : without_newline text ≡ whole = elim d.spelled [
+      | inl e ↦ ap without_newline e ∙ newline_none whole lines
+      | inr e ↦ ap without_newline e ∙ newline_dropped whole
+    ] in
+    let parts : devices_of text ≡ d.parts = ap parts_of bare ∙ parts_again 1 d.parts ds d.said (without_semicolons d.parts read.bytes) in
+    let none : first_fault (checks_of d.parts) ≡ None =
+    first_fault-all (checks_of d.parts) (
+      faults_from-good Source NotText (λ device. not (is_printed device)) 1 d.parts read.printed,
+      (
+        faults_from-good Source Syntax (λ device. not (is_device device)) 1 d.parts read.rows,
+        (
+          faults_from-good Source Field (λ device. not (has_values device)) 1 d.parts read.values,
+          (faults_from-good Source Name (λ device. not (has_names device)) 1 d.parts read.names, tt),
+        ),
+      ),
+    ) in
+    (rw parts none, ap (devices_from 1) parts ∙ read.again)
+
+-- a text describes no other devices
+pub one_description : (text : List ℕ) (a b : List DeviceSpec) → DescribesConcise text a → DescribesConcise text b → a ≡ b
+one_description text a b d e = sym (again text a d).1 ∙ (again text b e).1
+
+-- How a text is read
+
+pub read_if_described : (text : List ℕ) (ds : List DeviceSpec) → DescribesConcise text ds → read_concise text ≡ Ok ds
+unfolding read_concise
+read_if_described text ds d = let a = again text ds d in rw (a.0, a.1) refl
+
+pub described_if_read : (text : List ℕ) (ds : List DeviceSpec) → read_concise text ≡ Ok ds → (first_fault (concise_checks text) ≡ None) × DescribesConcise text ds
+unfolding read_concise
+described_if_read text ds h =
+    let a = unless-ok (first_fault (concise_checks text)) (devices_from 1 (devices_of text)) ds h in
+    (a.0, subst (λ (x : List DeviceSpec). DescribesConcise text x) a.1 (described text a.0))
+
+pub fault_if_refused : (text : List ℕ) (f : LoadFault) → read_concise text ≡ Err f → first_fault (concise_checks text) ≡ Some f
+unfolding read_concise
+fault_if_refused text f h = unless-err (first_fault (concise_checks text)) (devices_from 1 (devices_of text)) f h
+
+-- a text is read by its parts
+pub read_concise-parts : (text bare : List ℕ) (parts : List (List ℕ)) → bare ≡ without_newline text → parts ≡ parts_of bare → parts_reading parts ≡ read_concise text
+unfolding read_concise
+read_concise-parts text bare parts is cut = rw (cut, is) refl

@@ -1,0 +1,267 @@
+-- What is wrong with the parts of a device of the concise form, and with the device.
+use Rattle.std.proofs.Common.{◌≡◌, ◌≢◌, OnOk, ℕ, suc, ◌+◌, ◌-◌, ◌<◌, ◌≤◌, Bool, true, false, not, ◌&&◌, List, [], ◌∷◌, ◌++◌, length, take, drop, get_or, Option, Some, None, Result, Ok, Err, refl, sym, ap, subst, ◌∙◌, append_assoc, arith}
+use Rattle.std.specs.Prelude.{slice_index_or}
+use Rattle.std.specs.List.{list_all, AllByRecursion}
+use Rattle.std.specs.declared.alloc.AllocError.{AllocError}
+use Rattle.std.proofs.lemmas.Bool.{and_parts, not-false}
+use Rattle.std.proofs.lemmas.List.{take_rest, append-nil, drop_more, drop_all}
+use denote.Ref.{Bor}
+use Rattle.dm_table.specs.declared.table.Line.{Line}
+use Rattle.dm_table.specs.declared.table.DeviceSpec.{DeviceSpec}
+use Rattle.dm_table.specs.declared.place.Place.{Place}
+use Rattle.dm_table.specs.declared.place.Part.TheVariants.{Source}
+use Rattle.dm_table.specs.declared.load_fault.LoadKind.TheVariants as kinds
+use Rattle.dm_table.specs.declared.load_fault.LoadFault.{LoadFault}
+use Rattle.dm_table.specs.declared.row_faults.RowFault.{RowFault}
+use Rattle.dm_table.specs.declared.row_faults.RowFault.TheVariants.{Syntax, Field, Name, Memory}
+use Rattle.dm_table.specs.declared.row_faults.FirstFaults.{FirstFaults}
+use Rattle.dm_table.specs.Fields.{texts}
+use Rattle.dm_table.specs.Name.{is_device_name}
+use Rattle.dm_table.specs.LoadFault.{faults_from, first_or, first_fault, unless}
+use Rattle.dm_table.specs.RowFaults.{value_fault, row_fault, read_unless, Reads, no_faults, noted, noted_at, noted_rows, first_noted}
+use Rattle.dm_table.specs.LineBody.{is_body_row, is_body, has_body_names}
+use Rattle.dm_table.specs.ConciseText.{place_of, lacks, is_uuid, is_ro, entries, body_fields, is_printed, is_label, is_known, is_named, is_device, has_values, has_names}
+use Rattle.dm_table.specs.ConciseReading.{worse, fault_of_body, fault_of_bodies, fault_of_entries, fault_of_device, line_in, lines_in, device_of, entries_reading, device_reading, bodies_reading, with_reading, with_devices, devices_from, part_checks, parts_reading}
+use Rattle.dm_table.proofs.FaultLemmas.{first_or-passed, first_fault-none, faults_from-nil, faults_from-text, first_fault-text}
+use Rattle.dm_table.proofs.RowFaultLemmas.{noted_checks}
+use Rattle.dm_table.proofs.TargetRows.{read_fault, read_none, read_value, and_false}
+
+-- The worse of two
+
+pub worse-none : (fault : Option RowFault) → worse fault None ≡ fault
+worse-none None = refl
+worse-none (Some Syntax) = refl
+worse-none (Some Field) = refl
+worse-none (Some Name) = refl
+worse-none (Some Memory) = refl
+
+pub worse-more : (a b c : Option RowFault) → b ≢ Some Memory → worse (worse a b) c ≡ worse a (worse b c)
+worse-more None b c h = refl
+worse-more (Some Syntax) b c h = refl
+worse-more (Some Memory) b c h = refl
+worse-more (Some Field) None c h = refl
+worse-more (Some Field) (Some Syntax) c h = refl
+worse-more (Some Field) (Some Field) None h = refl
+worse-more (Some Field) (Some Field) (Some Syntax) h = refl
+worse-more (Some Field) (Some Field) (Some Field) h = refl
+worse-more (Some Field) (Some Field) (Some Name) h = refl
+worse-more (Some Field) (Some Field) (Some Memory) h = refl
+worse-more (Some Field) (Some Name) None h = refl
+worse-more (Some Field) (Some Name) (Some Syntax) h = refl
+worse-more (Some Field) (Some Name) (Some Field) h = refl
+worse-more (Some Field) (Some Name) (Some Name) h = refl
+worse-more (Some Field) (Some Name) (Some Memory) h = refl
+worse-more (Some Field) (Some Memory) c h = absurd (h refl)
+worse-more (Some Name) None c h = refl
+worse-more (Some Name) (Some Syntax) c h = refl
+worse-more (Some Name) (Some Field) None h = refl
+worse-more (Some Name) (Some Field) (Some Syntax) h = refl
+worse-more (Some Name) (Some Field) (Some Field) h = refl
+worse-more (Some Name) (Some Field) (Some Name) h = refl
+worse-more (Some Name) (Some Field) (Some Memory) h = refl
+worse-more (Some Name) (Some Name) None h = refl
+worse-more (Some Name) (Some Name) (Some Syntax) h = refl
+worse-more (Some Name) (Some Name) (Some Field) h = refl
+worse-more (Some Name) (Some Name) (Some Name) h = refl
+worse-more (Some Name) (Some Name) (Some Memory) h = refl
+worse-more (Some Name) (Some Memory) c h = refl
+
+never_memory : (row known named : Bool) → row_fault row (value_fault known named) ≢ Some Memory
+never_memory true true true e = absurd cc
+never_memory true true false e = absurd cc
+never_memory true false named e = absurd cc
+never_memory false known named e = absurd cc
+
+-- neither is there where their worse is not
+pub worse-clear : (a b : Option RowFault) → worse a b ≡ None → (a ≡ None) × (b ≡ None)
+worse-clear None b h = (refl, h)
+worse-clear (Some Syntax) b h = absurd cc
+worse-clear (Some Memory) b h = absurd cc
+worse-clear (Some Field) None h = absurd cc
+worse-clear (Some Field) (Some Syntax) h = absurd cc
+worse-clear (Some Field) (Some Field) h = absurd cc
+worse-clear (Some Field) (Some Name) h = absurd cc
+worse-clear (Some Field) (Some Memory) h = absurd cc
+worse-clear (Some Name) None h = absurd cc
+worse-clear (Some Name) (Some other) h = absurd cc
+
+-- the tests of two parts are those of both together
+worse_rows : (r1 l1 h1 r2 l2 h2 : Bool) → worse (row_fault r1 (value_fault l1 h1)) (row_fault r2 (value_fault l2 h2)) ≡ row_fault (r1 && r2) (value_fault (l1 && l2) (h1 && h2))
+worse_rows false l1 h1 r2 l2 h2 = refl
+worse_rows true false h1 false l2 h2 = refl
+worse_rows true true true false l2 h2 = refl
+worse_rows true true false false l2 h2 = refl
+worse_rows true false h1 true false h2 = refl
+worse_rows true false h1 true true true = refl
+worse_rows true false h1 true true false = refl
+worse_rows true true true true l2 h2 = refl
+worse_rows true true false true false h2 = refl
+worse_rows true true false true true true = refl
+worse_rows true true false true true false = refl
+
+bodies_fault : (bodies : List (List ℕ)) → fault_of_bodies bodies
+    ≡ row_fault (list_all (λ body. is_body_row (body_fields body)) bodies) (value_fault (list_all (λ body. is_body (body_fields body)) bodies) (list_all (λ body. has_body_names (body_fields body)) bodies))
+bodies_fault [] = refl
+bodies_fault (body ∷ bodies) =
+    rw (bodies_fault bodies) (worse_rows (is_body_row (body_fields body)) (is_body (body_fields body)) (has_body_names (body_fields body)) _ _ _)
+
+device_fault : (text : List ℕ) → fault_of_entries (lacks 10 text) (entries text) ≡ fault_of_device text
+device_fault text =
+    rw (bodies_fault (drop 4 (entries text))) (worse_rows (lacks 10 text && is_label (entries text)) (is_known (entries text)) (is_named (entries text)) _ _ _)
+
+-- What is read of entries is what is read of the device
+pub device_read : (r : Result DeviceSpec RowFault) (n : ℕ) (text : List ℕ) (es : List (List ℕ)) (on_a_line : Bool) → on_a_line ≡ lacks 10 text → es ≡ entries text
+    → Reads (λ device. device) r (entries_reading n on_a_line es) → Reads (λ device. device) r (device_reading n text)
+device_read r n text es on_a_line line cut h =
+    let same : entries_reading n on_a_line es ≡ device_reading n text =
+    rw (line, cut) (ap (λ (fault : Option RowFault). read_unless fault (device_of n (entries text))) (device_fault text)) in
+    subst (λ (x : Result DeviceSpec RowFault). Reads (λ device. device) r x) same h
+
+-- Entries in hand
+
+pub few_entries : (n : ℕ) (on_a_line : Bool) (es : List (Bor (List ℕ))) → length es < 4 → entries_reading n on_a_line (texts es) ≡ Err Syntax
+few_entries n on_a_line [] h = rw (and_false on_a_line) refl
+few_entries n on_a_line (a ∷ []) h = rw (and_false on_a_line) refl
+few_entries n on_a_line (a ∷ b ∷ []) h = rw (and_false on_a_line) refl
+few_entries n on_a_line (a ∷ b ∷ c ∷ []) h = rw (and_false on_a_line) refl
+few_entries n on_a_line (a ∷ b ∷ c ∷ d ∷ es) h = absurd (omega arith)
+
+-- what is wrong with the label of entries
+abbrev pub label_of : Bool → List (List ℕ) → Option RowFault
+label_of on_a_line es = row_fault (on_a_line && is_label es) (value_fault (is_known es) (is_named es))
+
+pub entries_fault : (n : ℕ) (on_a_line : Bool) (es : List (Bor (List ℕ))) (fault : RowFault) (label : Option RowFault) → 4 ≤ length es → label ≡ label_of on_a_line (texts es)
+    → bodies_reading (place_of n) label (texts (take (length es - 4) (drop 4 es))) ≡ Err fault → entries_reading n on_a_line (texts es) ≡ Err fault
+entries_fault n on_a_line [] fault label h is r = absurd (omega arith)
+entries_fault n on_a_line (a ∷ []) fault label h is r = absurd (omega arith)
+entries_fault n on_a_line (a ∷ b ∷ []) fault label h is r = absurd (omega arith)
+entries_fault n on_a_line (a ∷ b ∷ c ∷ []) fault label h is r = absurd (omega arith)
+entries_fault n on_a_line (a ∷ b ∷ c ∷ d ∷ es) fault label h is r =
+    read_fault (worse (label_of on_a_line (texts (a ∷ b ∷ c ∷ d ∷ es))) (fault_of_bodies (texts es))) (lines_in (place_of n) (texts es)) (device_of n (texts (a ∷ b ∷ c ∷ d ∷ es))) fault
+    (rw (take_rest (a ∷ b ∷ c ∷ d ∷ es) 4, is) at r)
+
+pub entries_read : (n : ℕ) (on_a_line : Bool) (es : List (Bor (List ℕ))) (k e : Bor (List ℕ)) (lines : List Line) (label : Option RowFault) → 4 ≤ length es → label ≡ label_of on_a_line (texts es)
+    → bodies_reading (place_of n) label (texts (take (length es - 4) (drop 4 es))) ≡ Ok lines
+    → entries_reading n on_a_line (texts es) ≡ Ok (record { name = (slice_index_or es 0 k).now; ro = is_ro (slice_index_or es 3 e).now; lines = lines; at = place_of n })
+entries_read n on_a_line [] k e lines label h is r = absurd (omega arith)
+entries_read n on_a_line (a ∷ []) k e lines label h is r = absurd (omega arith)
+entries_read n on_a_line (a ∷ b ∷ []) k e lines label h is r = absurd (omega arith)
+entries_read n on_a_line (a ∷ b ∷ c ∷ []) k e lines label h is r = absurd (omega arith)
+entries_read n on_a_line (a ∷ b ∷ c ∷ d ∷ es) k e lines label h is r =
+    let v = read_value (worse (label_of on_a_line (texts (a ∷ b ∷ c ∷ d ∷ es))) (fault_of_bodies (texts es))) (lines_in (place_of n) (texts es)) lines (rw (take_rest (a ∷ b ∷ c ∷ d ∷ es) 4, is) at r) in
+    rw (v.0, v.1) refl
+
+names_true : (row known named : Bool) → row_fault row (value_fault known named) ≡ None → named ≡ true
+names_true true true true h = refl
+names_true true true false h = absurd cc
+names_true true false named h = absurd cc
+names_true false known named h = absurd cc
+
+-- the first entry is a name where lines are read
+pub entries_named : (n : ℕ) (on_a_line : Bool) (es : List (Bor (List ℕ))) (k : Bor (List ℕ)) (bodies : List (List ℕ)) (lines : List Line) (label : Option RowFault) → 4 ≤ length es → label ≡ label_of on_a_line (texts es)
+    → bodies_reading (place_of n) label bodies ≡ Ok lines → is_device_name (slice_index_or es 0 k).now ≡ true
+entries_named n on_a_line [] k bodies lines label h is r = absurd (omega arith)
+entries_named n on_a_line (a ∷ []) k bodies lines label h is r = absurd (omega arith)
+entries_named n on_a_line (a ∷ b ∷ es) k bodies lines label h is r =
+    let v = read_value (worse label (fault_of_bodies bodies)) (lines_in (place_of n) bodies) lines r in
+    let clear = (worse-clear label (fault_of_bodies bodies) v.0).0 in
+    let named = names_true (on_a_line && is_label (texts (a ∷ b ∷ es))) (is_known (texts (a ∷ b ∷ es))) (is_named (texts (a ∷ b ∷ es))) (sym is ∙ clear) in
+    (and_parts (is_device_name a.now) (is_uuid b.now) named).0
+
+-- Devices one after the other
+
+abbrev AreRead : List (List ℕ) → Type 0
+AreRead = AllByRecursion (λ text. fault_of_device text ≡ None)
+
+with_read : (ds : List DeviceSpec) (n : ℕ) (parts : List (List ℕ)) → AreRead parts → with_devices ds n parts ≡ ds ++ devices_from n parts
+with_read ds n [] h = sym (append-nil ds)
+with_read ds n (text ∷ parts) h =
+    rw h.0 (with_read (ds ++ device_of n (entries text) ∷ []) (suc n) parts h.1 ∙ append_assoc ds (device_of n (entries text) ∷ []) (devices_from (suc n) parts))
+
+are_read : (parts : List (List ℕ)) → AllByRecursion (λ text. not (is_device text) ≡ false) parts → AllByRecursion (λ text. not (has_values text) ≡ false) parts → AllByRecursion (λ text. not (has_names text) ≡ false) parts → AreRead parts
+are_read [] r l h = tt
+are_read (text ∷ parts) r l h = (rw (not-false _ r.0, not-false _ l.0, not-false _ h.0) refl, are_read parts r.1 l.1 h.1)
+
+parts_clear : (parts : List (List ℕ)) → first_fault (part_checks parts) ≡ None → AreRead parts
+parts_clear parts h =
+    let none = first_fault-none (part_checks parts) h in
+    are_read parts
+    (faults_from-nil Source kinds.Syntax (λ text. not (is_device text)) 1 parts none.0)
+    (faults_from-nil Source kinds.Field (λ text. not (has_values text)) 1 parts none.1.0)
+    (faults_from-nil Source kinds.Name (λ text. not (has_names text)) 1 parts none.1.1.0)
+
+-- the faults that were noted are those of the checks
+noted_parts : (parts : List (List ℕ)) → first_noted (noted_rows Source fault_of_device no_faults 1 parts) ≡ first_fault (part_checks parts)
+noted_parts parts =
+    noted_checks Source is_device has_values has_names parts []
+    ∙ ap (λ (syntax : List LoadFault). first_fault (syntax ∷ drop 1 (part_checks parts))) (append-nil (faults_from Source kinds.Syntax (λ text. not (is_device text)) 1 parts))
+
+-- where all bytes are text, these checks are all that is left
+pub parts_after : (parts : List (List ℕ)) → None ≡ first_or (faults_from Source kinds.NotText (λ text. not (is_printed text)) 1 parts) None
+    → parts_reading parts ≡ unless (first_fault (part_checks parts)) (devices_from 1 parts)
+parts_after parts none =
+    ap (λ (found : Option LoadFault). unless found (devices_from 1 parts)) (first_or-passed (faults_from Source kinds.NotText (λ text. not (is_printed text)) 1 parts) (first_fault (part_checks parts)) (sym none))
+
+pub parts_refused : (parts : List (List ℕ)) (fault : LoadFault) → first_noted (noted_rows Source fault_of_device no_faults 1 parts) ≡ Some fault
+    → (fault.kind ≢ kinds.Memory) × (unless (first_fault (part_checks parts)) (devices_from 1 parts) ≡ Err fault)
+parts_refused parts fault h =
+    let found : first_fault (part_checks parts) ≡ Some fault = sym (noted_parts parts) ∙ h in
+    let syntax = faults_from-text Source kinds.Syntax (λ text. not (is_device text)) 1 parts (λ e. cc) in
+    let field = faults_from-text Source kinds.Field (λ text. not (has_values text)) 1 parts (λ e. cc) in
+    let name = faults_from-text Source kinds.Name (λ text. not (has_names text)) 1 parts (λ e. cc) in
+    (first_fault-text (part_checks parts) fault (syntax, (field, (name, tt))) found, rw found refl)
+
+pub parts_taken : (parts : List (List ℕ)) → first_noted (noted_rows Source fault_of_device no_faults 1 parts) ≡ None
+    → unless (first_fault (part_checks parts)) (devices_from 1 parts) ≡ Ok (with_devices [] 1 parts)
+parts_taken parts h =
+    let clear : first_fault (part_checks parts) ≡ None = sym (noted_parts parts) ∙ h in
+    rw clear (ap Ok (sym (with_read [] 1 parts (parts_clear parts clear))))
+
+-- a device that is read has no fault, and one that is not has it noted, where memory is left
+pub read_faultless : (n : ℕ) (text : List ℕ) (device : DeviceSpec) → device_reading n text ≡ Ok device → fault_of_device text ≡ None
+read_faultless n text device h = (read_value (fault_of_device text) (device_of n (entries text)) device h).0
+
+pub read_faulty : (r : Result (Unit {0}) AllocError) (n : ℕ) (text : List ℕ) (devices : List DeviceSpec) (old new : FirstFaults) (fault : RowFault) → OnOk r (new ≡ noted Source old n fault) → OnOk r (fault ≢ Memory)
+    → (fault ≢ Memory → device_reading n text ≡ Err fault) → OnOk r (devices ≡ with_reading devices (device_reading n text)) × OnOk r (new ≡ noted_at Source old n (fault_of_device text))
+read_faulty (Ok x) n text devices old new fault is other reading =
+    let faulty : device_reading n text ≡ Err fault = reading other in
+    (rw faulty refl, is ∙ ap (noted_at Source old n) (sym (read_none (fault_of_device text) (device_of n (entries text)) fault faulty)))
+read_faulty (Err e) n text devices old new fault is other reading = (tt, tt)
+
+-- Bodies one after the other
+
+-- one body further
+pub record IsBodyFurther (bodies : List (Bor (List ℕ))) (i : ℕ) (at : Place) (label fault found : Option RowFault) (old new : List Line) : Type 0 where
+  pub known : worse (worse fault found) (fault_of_bodies (texts (drop (i + 1) bodies))) ≡ worse label (fault_of_bodies (texts bodies))
+  pub made : worse fault found ≡ None → new ++ lines_in at (texts (drop (i + 1) bodies)) ≡ lines_in at (texts bodies)
+
+pub body_further : (bodies : List (Bor (List ℕ))) (i : ℕ) (d : Bor (List ℕ)) (at : Place) (label fault found : Option RowFault) (old new : List Line)
+    → i < length bodies → found ≡ fault_of_body (get_or bodies i d).now → (fault_of_body (get_or bodies i d).now ≡ None → new ≡ old ++ line_in at (get_or bodies i d).now ∷ [])
+    → worse fault (fault_of_bodies (texts (drop i bodies))) ≡ worse label (fault_of_bodies (texts bodies))
+    → (fault ≡ None → old ++ lines_in at (texts (drop i bodies)) ≡ lines_in at (texts bodies)) → IsBodyFurther bodies i at label fault found old new
+body_further bodies i d at label fault found old new below is added known made =
+    let body = get_or bodies i d in
+    let next : drop i bodies ≡ body ∷ drop (i + 1) bodies = drop_more bodies i d below in
+    let fields = body_fields body.now in
+    let text : found ≢ Some Memory = λ e. never_memory (is_body_row fields) (is_body fields) (has_body_names fields) (sym is ∙ e) in
+    record {
+      known = worse-more fault found _ text ∙ ap (λ (x : Option RowFault). worse fault (worse x (fault_of_bodies (texts (drop (i + 1) bodies))))) is ∙ (rw next at known);
+      made = λ clear.
+          let both = worse-clear fault found clear in
+          rw (added (sym is ∙ both.1)) (append_assoc old (line_in at body.now ∷ []) (lines_in at (texts (drop (i + 1) bodies))) ∙ (rw next at (made both.0)));
+    }
+
+-- no body left
+pub bodies_refused : (bodies : List (Bor (List ℕ))) (i : ℕ) (at : Place) (label : Option RowFault) (fault : RowFault) → length bodies ≤ i
+    → worse (Some fault) (fault_of_bodies (texts (drop i bodies))) ≡ worse label (fault_of_bodies (texts bodies)) → bodies_reading at label (texts bodies) ≡ Err fault
+bodies_refused bodies i at label fault past known =
+    let found : worse label (fault_of_bodies (texts bodies)) ≡ Some fault = sym (rw (drop_all i bodies past) at known) ∙ worse-none (Some fault) in
+    rw found refl
+
+pub bodies_taken : (bodies : List (Bor (List ℕ))) (i : ℕ) (at : Place) (label : Option RowFault) (lines : List Line) → length bodies ≤ i
+    → worse None (fault_of_bodies (texts (drop i bodies))) ≡ worse label (fault_of_bodies (texts bodies)) → lines ++ lines_in at (texts (drop i bodies)) ≡ lines_in at (texts bodies)
+    → bodies_reading at label (texts bodies) ≡ Ok lines
+bodies_taken bodies i at label lines past known made =
+    let found : worse label (fault_of_bodies (texts bodies)) ≡ None = sym (rw (drop_all i bodies past) at known) in
+    let all : lines_in at (texts bodies) ≡ lines = sym (rw (drop_all i bodies past) at made) ∙ append-nil lines in
+    rw (found, all) refl

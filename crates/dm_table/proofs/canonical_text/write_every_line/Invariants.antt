@@ -1,0 +1,9 @@
+-- the text of the items so far is written, and nothing failed
+use Rattle.std.proofs.Common.{take, Ok}
+use Rattle.dm_table.specs.CanonicalText.{Wrote, table_text}
+use Rattle.dm_table.specs.declared.device_io.OutFault.{OutFault}
+use Rattle.dm_table.proofs.canonical_text.write_every_line.Given as goal
+
+abbrev pub invariant-loop-device : goal.invariant-loop-device
+invariant-loop-device g l =
+    Wrote {E = OutFault} g.W.Output.written g.W.Output.waiting g.W.Output.faults g.W.Output.flushes l.fn.writer l.writer (Ok tt) (table_text (take l.device-index l.devices))

@@ -1,0 +1,91 @@
+-- How a device of the concise form is read, for the functions that the public call stands on.
+use Rattle.std.specs.Prelude.{ℕ, suc, Bool, not, ◌&&◌, List, [], ◌∷◌, ◌++◌, map, drop, Option, Some, None, Result, Ok, Err}
+use Rattle.dm_table.specs.declared.table.Line.{Line}
+use Rattle.dm_table.specs.declared.table.DeviceSpec.{DeviceSpec}
+use Rattle.dm_table.specs.declared.place.Place.{Place}
+use Rattle.dm_table.specs.declared.place.Part.TheVariants.{Source}
+use Rattle.dm_table.specs.declared.load_fault.LoadKind.TheVariants as kinds
+use Rattle.dm_table.specs.declared.load_fault.LoadFault.{LoadFault}
+use Rattle.dm_table.specs.declared.row_faults.RowFault.{RowFault}
+use Rattle.dm_table.specs.declared.row_faults.RowFault.TheVariants.{Syntax, Field, Name}
+use Rattle.dm_table.specs.LoadFault.{faults_from, first_fault, unless}
+use Rattle.dm_table.specs.RowFaults.{value_fault, row_fault, read_unless}
+use Rattle.dm_table.specs.LineBody.{is_body_row, is_body, has_body_names}
+use Rattle.dm_table.specs.LineReading.{body_in}
+use Rattle.dm_table.specs.ConciseText.{place_of, is_ro, entries, body_fields, is_printed, is_label, is_known, is_named, is_device, has_values, has_names, devices_of, concise_checks}
+
+-- of two faults, the one whose check runs first
+abbrev pub worse : Option RowFault → Option RowFault → Option RowFault
+worse None other = other
+worse (Some Field) (Some Syntax) = Some Syntax
+worse (Some Name) (Some other) = Some other
+worse (Some fault) other = Some fault
+
+-- what is wrong with a body, and with bodies
+abbrev pub fault_of_body : List ℕ → Option RowFault
+fault_of_body text = let fields = body_fields text in row_fault (is_body_row fields) (value_fault (is_body fields) (has_body_names fields))
+
+abbrev pub fault_of_bodies : List (List ℕ) → Option RowFault
+fault_of_bodies [] = None
+fault_of_bodies (text ∷ texts) = worse (fault_of_body text) (fault_of_bodies texts)
+
+-- the line of a body, and those of bodies
+abbrev pub line_in : Place → List ℕ → Line
+line_in at text = body_in at (body_fields text)
+
+abbrev pub lines_in : Place → List (List ℕ) → List Line
+lines_in at texts = map (λ text. line_in at text) texts
+
+-- what is wrong with entries, which stand on one line or do not
+abbrev pub fault_of_entries : Bool → List (List ℕ) → Option RowFault
+fault_of_entries on_a_line entries =
+    worse (row_fault (on_a_line && is_label entries) (value_fault (is_known entries) (is_named entries))) (fault_of_bodies (drop 4 entries))
+
+-- what is wrong with a device
+abbrev pub fault_of_device : List ℕ → Option RowFault
+fault_of_device text = row_fault (is_device text) (value_fault (has_values text) (has_names text))
+
+-- the device of entries, as number n
+abbrev pub device_of : ℕ → List (List ℕ) → DeviceSpec
+device_of n (name ∷ uuid ∷ minor ∷ flags ∷ bodies) = record { name = name; ro = is_ro flags; lines = lines_in (place_of n) bodies; at = place_of n }
+device_of n _ = record { name = []; ro = is_ro []; lines = []; at = place_of n }
+
+-- What is read
+
+abbrev pub bodies_reading : Place → Option RowFault → List (List ℕ) → Result (List Line) RowFault
+bodies_reading at before texts = read_unless (worse before (fault_of_bodies texts)) (lines_in at texts)
+
+abbrev pub entries_reading : ℕ → Bool → List (List ℕ) → Result DeviceSpec RowFault
+entries_reading n on_a_line entries = read_unless (fault_of_entries on_a_line entries) (device_of n entries)
+
+abbrev pub device_reading : ℕ → List ℕ → Result DeviceSpec RowFault
+device_reading n text = read_unless (fault_of_device text) (device_of n (entries text))
+
+-- devices after one more was read, and after all were, numbered from n
+abbrev pub with_reading : List DeviceSpec → Result DeviceSpec RowFault → List DeviceSpec
+with_reading devices (Ok device) = devices ++ device ∷ []
+with_reading devices (Err fault) = devices
+
+abbrev pub with_devices : List DeviceSpec → ℕ → List (List ℕ) → List DeviceSpec
+with_devices devices n [] = devices
+with_devices devices n (text ∷ texts) = with_devices (with_reading devices (device_reading n text)) (suc n) texts
+
+-- the devices of texts, numbered from n
+abbrev pub devices_from : ℕ → List (List ℕ) → List DeviceSpec
+devices_from n [] = []
+devices_from n (text ∷ texts) = device_of n (entries text) ∷ devices_from (suc n) texts
+
+-- the devices of parts, or the fault of their checks
+abbrev pub part_checks : List (List ℕ) → List (List LoadFault)
+part_checks parts =
+    faults_from Source kinds.Syntax (λ device. not (is_device device)) 1 parts
+    ∷ faults_from Source kinds.Field (λ device. not (has_values device)) 1 parts
+    ∷ faults_from Source kinds.Name (λ device. not (has_names device)) 1 parts
+    ∷ []
+
+abbrev pub parts_reading : List (List ℕ) → Result (List DeviceSpec) LoadFault
+parts_reading parts = unless (first_fault (faults_from Source kinds.NotText (λ device. not (is_printed device)) 1 parts ∷ part_checks parts)) (devices_from 1 parts)
+
+-- the devices of a text, or the fault of its checks
+unfoldable pub read_concise : List ℕ → Result (List DeviceSpec) LoadFault
+read_concise text = unless (first_fault (concise_checks text)) (devices_from 1 (devices_of text))

@@ -1,0 +1,173 @@
+//! The concise form of tables: devices with semicolons between them, each with its flags and its
+//! lines, as dmsetup(8) has it.
+//!
+//! The devices are read one after the other, each once, and what is wrong with them is kept until the
+//! end, where the checks take precedence in the order of the definitions. What a device says is read
+//! by `concise_device`; a new target type belongs in `line_body`.
+
+ghost use Rattle.std.specs.Prelude.{◌≡◌, ◌≢◌, List, [], None, Some, Ok, IfOk, IfErr, IfSome, OnOk, not};
+ghost use Rattle.dm_table.specs.declared.place.Part.TheVariants.{Source};
+ghost use Rattle.dm_table.specs.declared.load_fault.LoadKind.TheVariants.{Memory, NotText};
+ghost use Rattle.dm_table.specs.declared.table.DeviceSpec.{DeviceSpec};
+ghost use Rattle.dm_table.specs.Fields.{texts};
+ghost use Rattle.dm_table.specs.LoadFault.{Answers, IsMemoryFault, faults_from, first_or, first_fault};
+ghost use Rattle.dm_table.specs.RowFaults.{no_faults, noted_at, noted_rows};
+ghost use Rattle.dm_table.specs.ConciseText.{DescribesConcise, without_newline, parts_of, is_printed, concise_checks};
+ghost use Rattle.dm_table.specs.ConciseReading.{fault_of_device, device_reading, with_reading, with_devices, parts_reading, read_concise};
+
+use crate::concise_device::read_device;
+use crate::fields::cut;
+use crate::load_fault::{LoadFault, LoadKind};
+use crate::place::Part;
+use crate::row_faults::FirstFaults;
+use crate::table::DeviceSpec;
+use std::alloc::{AllocError, Global};
+
+/// The devices of a text in the concise form, in its order: `NAME,UUID,MINOR,FLAGS` and the lines of
+/// the device, with commas between all of them, and semicolons between devices. The uuid, the minor
+/// number and the flags may be empty; the first two are checked and then dropped, and a device is
+/// read-only where its flags are `ro`. A line is `START LEN TYPE ARGS`, as in table text, and may
+/// have a space before it and one after it. A newline may end the text. The place of a device, and
+/// of its lines, is its number, from 1. The form is that of dmsetup(8), without its escapes.
+///
+/// Else the fault of the first of these checks that finds anything, at its first device, counted by
+/// the semicolons before it: `NotText`, a byte other than 0x20 to 0x7E and a newline; `Syntax`, fewer
+/// than five entries, a space in the first four, a newline before the end, or a line with fewer than
+/// three fields or more than single spaces between them; `Field`, a number that is none, flags other
+/// than `ro` and `rw`, an unknown target type or wrong arguments; `Name`, no name of a device or a
+/// disk, or no uuid, which has up to 128 of the bytes of a device's name. Or `Memory`, of number 0,
+/// where an allocation was refused. The time is linear in the text.
+pub fn parse_concise(alloc: Global, text: &[u8]) -> Result<Vec<DeviceSpec>, LoadFault>
+    // What is accepted describes these devices.
+    ensures accepted { IfOk result (λ v. DescribesConcise text.now v.items) }
+    // What describes devices is read as them, unless memory runs out.
+    ensures only { (devices : List DeviceSpec) → DescribesConcise text.now devices
+        → Answers Source (λ v. v.items) result (Ok devices) }
+    // A text describes no two lists of devices.
+    ensures unique { (a b : List DeviceSpec) → DescribesConcise text.now a → DescribesConcise text.now b
+        → a ≡ b }
+
+    // A refusal is the first fault of the first check that finds any.
+    ensures sound { OnOk result (first_fault (concise_checks text.now) ≡ None) }
+    ensures fault { IfErr result (λ f. f.kind ≢ Memory
+        → first_fault (concise_checks text.now) ≡ Some f) }
+    ensures memory { IfErr result (λ f. f.kind ≡ Memory → IsMemoryFault Source f) }
+{
+    read(alloc, text)
+}
+
+fn read(alloc: Global, text: &[u8]) -> Result<Vec<DeviceSpec>, LoadFault>
+    ensures { Answers Source (λ v. v.items) result (read_concise text.now) }
+{
+    match parts_of(alloc, without_newline(text)) {
+        Ok(parts) => read_parts(alloc, &parts),
+        Err(_) => Err(LoadFault::memory(Part::Source)),
+    }
+}
+
+/// The text without the newline at its end.
+fn without_newline(text: &[u8]) -> &[u8]
+    ensures { result.now ≡ without_newline text.now }
+{
+    match text {
+        [before @ .., last] => { if *last == b'\n' { before } else { text } }
+        [] => text,
+    }
+}
+
+/// The parts of a text between semicolons. An empty text has none.
+fn parts_of(alloc: Global, text: &[u8]) -> Result<Vec<&[u8]>, AllocError>
+    ensures { IfOk result (λ parts. texts parts.items ≡ parts_of text.now) }
+{
+    if text.is_empty() {
+        return Ok(Vec::new(alloc));
+    }
+    cut(alloc, b';', text)
+}
+
+fn read_parts(alloc: Global, parts: &[&[u8]]) -> Result<Vec<DeviceSpec>, LoadFault>
+    ensures { Answers Source (λ v. v.items) result (parts_reading (texts parts.now)) }
+{
+    if let Some(fault) = not_text(parts) {
+        return Err(fault);
+    }
+    let reading = match read_devices(alloc, parts) {
+        Ok(reading) => reading,
+        Err(_) => return Err(LoadFault::memory(Part::Source)),
+    };
+    match reading.faults.first() {
+        Some(fault) => Err(fault),
+        None => Ok(reading.devices),
+    }
+}
+
+/// The first part with a byte that is neither a newline nor one from 0x20 to 0x7E.
+fn not_text(parts: &[&[u8]]) -> Option<LoadFault>
+    ensures value { result ≡ first_or (faults_from Source NotText (λ part. not (is_printed part)) 1 (texts parts.now)) None }
+    ensures kind { IfSome result (λ fault. fault.kind ≢ Memory) }
+{
+    for (index, part) in parts.iter().enumerate() {
+        if !is_printed(*part) {
+            return Some(LoadFault::at_index(Part::Source, LoadKind::NotText, index));
+        }
+    }
+    None
+}
+
+fn is_printed(text: &[u8]) -> bool
+    ensures { result ≡ is_printed text.now }
+{
+    text.iter()
+        .all(|byte| *byte == 10 || (32 <= *byte && *byte <= 126))
+}
+
+/// What was read of the devices so far. Of devices with faults beside them nothing comes.
+#[derive(Drop)]
+struct Reading {
+    devices: Vec<DeviceSpec>,
+    faults: FirstFaults,
+}
+
+/// Reads each device, with two lists of slices for all of them.
+fn read_devices(alloc: Global, parts: &[&[u8]]) -> Result<Reading, AllocError>
+    ensures devices { IfOk result (λ reading. reading.devices.items
+        ≡ with_devices [] 1 (texts parts.now)) }
+    ensures faults { IfOk result (λ reading. reading.faults
+        ≡ noted_rows Source fault_of_device no_faults 1 (texts parts.now)) }
+{
+    let mut reading = Reading {
+        devices: Vec::new(alloc),
+        faults: FirstFaults::new(),
+    };
+    let mut entries = Vec::new(alloc);
+    let mut fields = Vec::new(alloc);
+    for (index, part) in parts.iter().enumerate() {
+        reading.read_part(alloc, &mut entries, &mut fields, *part, index as u64 + 1)?;
+    }
+    Ok(reading)
+}
+
+impl Reading {
+    /// Reads the part that is device `number` of the text.
+    fn read_part<'a>(
+        &mut self,
+        alloc: Global,
+        entries: &mut Vec<&'a [u8]>,
+        fields: &mut Vec<&'a [u8]>,
+        part: &'a [u8],
+        number: u64,
+    ) -> Result<(), AllocError>
+        ensures devices { OnOk result (self.new.devices.items
+            ≡ with_reading self.old.devices.items (device_reading number part.now)) }
+        ensures faults { OnOk result (self.new.faults
+            ≡ noted_at Source self.old.faults number (fault_of_device part.now)) }
+    {
+        match read_device(alloc, entries, fields, part, number) {
+            Ok(device) => {
+                self.devices.push(device)?;
+                Ok(())
+            }
+            Err(fault) => self.faults.note(Part::Source, number, fault),
+        }
+    }
+}

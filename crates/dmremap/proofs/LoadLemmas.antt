@@ -1,0 +1,16 @@
+-- The first fault of checks that run before others.
+use Rattle.std.proofs.Common.{◌≡◌, List, [], ◌∷◌, ◌++◌, Some, None}
+use Rattle.dm_table.specs.declared.load_fault.LoadFault.{LoadFault}
+use Rattle.dm_table.specs.LoadFault.{first_fault}
+
+-- a fault of the first checks
+pub first_before : (checks more : List (List LoadFault)) (fault : LoadFault) → first_fault checks ≡ Some fault → first_fault (checks ++ more) ≡ Some fault
+first_before [] more fault e = absurd cc
+first_before ([] ∷ checks) more fault e = first_before checks more fault e
+first_before ((found ∷ founds) ∷ checks) more fault e = e
+
+-- a fault of the others, where the first find none
+pub first_after : (checks more : List (List LoadFault)) (fault : LoadFault) → first_fault checks ≡ None → first_fault more ≡ Some fault → first_fault (checks ++ more) ≡ Some fault
+first_after [] more fault none e = e
+first_after ([] ∷ checks) more fault none e = first_after checks more fault none e
+first_after ((found ∷ founds) ∷ checks) more fault none e = absurd cc
