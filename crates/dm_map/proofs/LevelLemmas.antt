@@ -71,15 +71,15 @@ on_column P columns i sector (Some column) each e = at_place (λ c. OnLower P c.
 GoesOn : (over : FoundSnapshot → ℕ → Below) (P : ℕ → Type 0) → Type 0
 GoesOn over P = (snapshot : FoundSnapshot) (sector : ℕ) → OnLower P snapshot.store → OnLower P snapshot.origin → OnBelow P (over snapshot sector)
 
+over_by : (P : ℕ → Type 0) (snapshot : FoundSnapshot) (sector : ℕ) (valid : Bool) (number : Option ℕ) → OnLower P snapshot.store → OnLower P snapshot.origin → OnBelow P (cond valid (read_numbered snapshot number sector) IsError)
+unfolding OnBelow
+over_by P snapshot sector false number store origin = tt
+over_by P snapshot sector true None store origin = origin
+over_by P snapshot sector true (Some number) store origin = store
+
 over_read : (P : ℕ → Type 0) (taken : Taken) → GoesOn (read_over taken) P
 unfolding GoesOn
 over_read P taken snapshot sector store origin = over_by P snapshot sector taken.valid (number_in (sector / snapshot.chunk) taken.chunks) store origin
-  where
-    over_by : (P : ℕ → Type 0) (snapshot : FoundSnapshot) (sector : ℕ) (valid : Bool) (number : Option ℕ) → OnLower P snapshot.store → OnLower P snapshot.origin → OnBelow P (cond valid (read_numbered snapshot number sector) IsError)
-    unfolding OnBelow
-    over_by P snapshot sector false number store origin = tt
-    over_by P snapshot sector true None store origin = origin
-    over_by P snapshot sector true (Some number) store origin = store
 
 on_target : (over : FoundSnapshot → ℕ → Below) (stack : Description) (P : ℕ → Type 0) (len : ℕ) (target : Target) (distance : ℕ) → GoesOn over P → AllByRecursion P (span_links stack (target_spans len target)) → OnBelow P (below_target over (found_target stack target) distance)
 unfolding OnBelow GoesOn

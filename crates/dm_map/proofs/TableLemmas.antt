@@ -2,8 +2,8 @@
 use Rattle.std.proofs.Common.{◌≡◌, ◌↔◌, ℕ, zero, suc, ◌+◌, ◌*◌, ◌<◌, ◌≤◌, Bool, true, false, cond, not, List, [], ◌∷◌, ◌++◌, Option, Some, None, length, get_or, set, drop, drop-cons, replicate, nat_eq, nat_lt, refl, sym, ap, subst, ◌∙◌, inl, inr, arith}
 use Rattle.std.specs.Prelude.{◌==◌, filter, find, is_none, option_map, slice_get, IfSome}
 use Rattle.std.specs.List.{AllByRecursion, list_any, position_or_len, range_with_len}
-use Rattle.std.proofs.lemmas.Bool.{cases_eq, eq-eqb, leb-true, le-leb, ne_eqb, lt-ltb, le-ltb, ltb_from_iff, or_left, or_parts, or_right}
-use Rattle.std.proofs.lemmas.List.{get_or-replicate, replicate-append-replicate, set-get_or}
+use Rattle.std.proofs.lemmas.Bool.{cases_eq, eq-eqb, leb-true, le-leb, ne_eqb, lt-ltb, le-ltb, ltb-true, ltb_from_iff, or_left, or_parts, or_right}
+use Rattle.std.proofs.lemmas.List.{get_or-replicate, length-set, replicate-append-replicate, set-get_or}
 use Rattle.std.proofs.lemmas.Option.{slice_get_read, slice_get_within}
 use Rattle.dm_table.specs.declared.load_fault.LoadKind.TheVariants.{Unknown}
 use Rattle.dm_table.specs.declared.table.DevRef.{DevRef}
@@ -25,7 +25,7 @@ use Rattle.dm_stack.specs.Span.{target_spans, whole_span}
 use Rattle.dm_stack.proofs.Passes.{faults_by_none, passes_before}
 use Rattle.dm_stack.proofs.SoundLines.{device_some, disk_some, found, of_device, there}
 use Rattle.dm_map.specs.Snapshots.{number_in}
-use Rattle.dm_map.specs.SnapshotWrites.{lost, put}
+use Rattle.dm_map.specs.SnapshotWrites.{lost, put, with_chunk}
 use Rattle.dm_map.specs.State.{State, Taken, none_taken, taken_at}
 use Rattle.dm_map.specs.Tables.{AreTables, has_room, room_of, snapshot_in, snapshot_of, state_of}
 
@@ -51,6 +51,36 @@ number_within chunk (first ∷ rest) number is = number_after (first == chunk) (
     number_after true later len number within is = let first : 0 ≡ number = cc in omega (arith, first)
     number_after false None len number within is = absurd cc
     number_after false (Some n) len number within is = let next : suc n ≡ number = cc in omega (arith, within n refl, next)
+
+pub each_set : {T : Type 0} (P : ℕ → T → Type 0) (tables : List T) (device : ℕ) (new : T) → ((other : ℕ) (table : T) → (other ≡ device → ⊥) → slice_get tables other ≡ Some table → P other table) → P device new
+    → (other : ℕ) (table : T) → slice_get (set tables device new) other ≡ Some table → P other table
+each_set P [] device new each last other table is = absurd cc
+each_set P (first ∷ rest) zero new each last zero table is = let same : new ≡ table = cc in subst (P 0) same last
+each_set P (first ∷ rest) zero new each last (suc other) table is = each (suc other) table (λ e. absurd (omega (arith, e))) is
+each_set P (first ∷ rest) (suc device) new each last zero table is = each zero table (λ e. absurd (omega (arith, e))) is
+each_set P (first ∷ rest) (suc device) new each last (suc other) table is =
+    each_set (λ d t. P (suc d) t) rest device new (λ o t differ found. each (suc o) t (λ e. differ (omega (arith, e))) found) last other table is
+
+pub took_put : {T : Type 0} (chunks : T → List ℕ) (valid : T → Bool) (tables : List T) (device index chunk : ℕ) (table new : T) → index ≡ device → slice_get tables device ≡ Some table → (taken_at (state_of chunks valid tables) device).valid ≡ true → chunks new ≡ chunks table ++ chunk ∷ [] → valid new ≡ true
+    → state_of chunks valid (set tables index new) ≡ put (state_of chunks valid tables) device (with_chunk (taken_at (state_of chunks valid tables) device) chunk)
+took_put chunks valid tables device index chunk table new same got good more on =
+    let kept = state_at chunks valid tables device table got in
+    let before : valid table ≡ true = ap (λ (taken : Taken). taken.valid) (sym kept) ∙ good in
+    rw same (state_set chunks valid tables device new ∙ rw (kept, more, on, before) refl)
+
+pub take_room : {T : Type 0} (chunks : T → List ℕ) (valid : T → Bool) (places : T → ℕ) (stack : Description) (tables : List T) (device : ℕ) (table : T) → AreTables places stack tables → slice_get tables device ≡ Some table
+    → has_room stack device (length (taken_at (state_of chunks valid tables) device).chunks) ≡ true → length (chunks table) < places table
+take_room chunks valid places stack tables device table are got room =
+    let kept = state_at chunks valid tables device table got in
+    ltb-true _ _ (are.room device (length (chunks table)) table got ∙ ap (λ (taken : Taken). has_room stack device (length taken.chunks)) (sym kept) ∙ room)
+
+pub tables_set : {T : Type 0} (places : T → ℕ) (stack : Description) (tables : List T) (device index : ℕ) (table new : T) → AreTables places stack tables → index ≡ device → slice_get tables device ≡ Some table → places new ≡ places table → AreTables places stack (set tables index new)
+tables_set places stack tables device index table new are same got kept = record {
+  count = length-set tables index new ∙ are.count;
+  room = λ other number t at.
+      each_set (λ o u. nat_lt number (places u) ≡ has_room stack o number) tables index new (λ o u differ found. are.room o number u found)
+      (rw same (ap (λ (n : ℕ). nat_lt number n) kept ∙ are.room device number table got)) other t at;
+}
 
 -- A list of tables that grows
 
@@ -95,15 +125,6 @@ pub lost_put : {T : Type 0} (chunks : T → List ℕ) (valid : T → Bool) (tabl
     → state_of chunks valid (set tables index new) ≡ put (state_of chunks valid tables) device (lost (taken_at (state_of chunks valid tables) device))
 lost_put chunks valid tables device index table new same got kept off =
     rw same (state_set chunks valid tables device new ∙ rw (state_at chunks valid tables device table got, kept, off) refl)
-
-pub each_set : {T : Type 0} (P : ℕ → T → Type 0) (tables : List T) (device : ℕ) (new : T) → ((other : ℕ) (table : T) → (other ≡ device → ⊥) → slice_get tables other ≡ Some table → P other table) → P device new
-    → (other : ℕ) (table : T) → slice_get (set tables device new) other ≡ Some table → P other table
-each_set P [] device new each last other table is = absurd cc
-each_set P (first ∷ rest) zero new each last zero table is = let same : new ≡ table = cc in subst (P 0) same last
-each_set P (first ∷ rest) zero new each last (suc other) table is = each (suc other) table (λ e. absurd (omega (arith, e))) is
-each_set P (first ∷ rest) (suc device) new each last zero table is = each zero table (λ e. absurd (omega (arith, e))) is
-each_set P (first ∷ rest) (suc device) new each last (suc other) table is =
-    each_set (λ d t. P (suc d) t) rest device new (λ o t differ found. each (suc o) t (λ e. differ (omega (arith, e))) found) last other table is
 
 -- nothing is taken in a new table
 pub state_new : {T : Type 0} (chunks : T → List ℕ) (valid : T → Bool) (tables : List T) (device count : ℕ) (new : T) → device < count → state_of chunks valid tables ≡ replicate count none_taken → chunks new ≡ [] → valid new ≡ true → state_of chunks valid (set tables device new) ≡ replicate count none_taken
