@@ -1,5 +1,5 @@
 -- What the checks hand on: ends within the limit, and faults that don't mean that memory ran out.
-use Rattle.std.proofs.Common.{◌≡◌, ◌≢◌, ℕ, suc, ◌+◌, ◌^◌, ◌≤◌, Bool, true, false, cond, List, [], ◌∷◌, ◌++◌, Option, Some, None, ◌∙◌, ap, drop, inl, inr, map}
+use Rattle.std.proofs.Common.{◌≡◌, ◌≢◌, ℕ, suc, ◌+◌, ◌^◌, ◌≤◌, Bool, true, false, cond, List, [], ◌∷◌, ◌++◌, Option, Some, None, ◌∙◌, ap, drop, inl, inr, length, map}
 use Rattle.std.specs.Prelude.{◌==◌, filter, nat_lt, ◌||◌}
 use Rattle.std.specs.List.{All, AllByRecursion, flat_map, list_any}
 use Rattle.std.proofs.lemmas.Bool.{or_parts, ltb-false}
@@ -8,12 +8,12 @@ use Rattle.dm_table.specs.declared.place.Place.{Place}
 use Rattle.dm_table.specs.declared.table.Line.{Line}
 use Rattle.dm_table.specs.declared.table.DeviceSpec.{DeviceSpec}
 use Rattle.dm_table.specs.declared.load_fault.LoadKind.{LoadKind}
-use Rattle.dm_table.specs.declared.load_fault.LoadKind.TheVariants.{Limit, Twice, Empty, Gap, Overlap, Unknown, Deep, Stripe, Range, Memory}
+use Rattle.dm_table.specs.declared.load_fault.LoadKind.TheVariants.{Limit, Twice, Empty, Gap, Overlap, Unknown, Deep, Stripe, Range, Snapshot, Store, Memory}
 use Rattle.dm_table.specs.declared.load_fault.LoadFault.{LoadFault}
 use Rattle.dm_table.specs.LoadFault.{fault, faults_by, first_or, first_fault}
 use Rattle.dm_stack.specs.Description.{Description, end_of}
 use Rattle.dm_stack.specs.Load.{IsLateFault}
-use Rattle.dm_stack.specs.Soundness.{HaveSmallEnds, WithBefore, all_lines, checks_after, checks_before, deep, depth_of, empty, empty_in, faults_at, has_bad_stripes, is_far, is_large, is_misplaced, is_repeated, is_unknown, misplaced, misplaced_in, misplaced_kind, passes_end, past, range, stripe, too_large, too_many, twice, twice_in, unknown, with_before, without_lines}
+use Rattle.dm_stack.specs.Soundness.{HaveSmallEnds, WithBefore, all_lines, checks_after, checks_before, crowded, deep, depth_of, empty, empty_in, faults_at, has_bad_store, has_bad_stripes, is_crowded, is_far, is_large, is_misplaced, is_repeated, is_unknown, misplaced, misplaced_in, misplaced_kind, passes_end, past, range, snapshot, snapshot_in, is_bad_snapshot, store, stripe, too_large, too_many, twice, twice_in, unknown, with_before, without_lines}
 use Rattle.dm_stack.specs.Span.{spans}
 use Rattle.dm_stack.proofs.Passes.{all_parts, append_none, faults_by_none}
 
@@ -121,7 +121,11 @@ pub after_not_memory : (stack : Description) (at : LoadFault) → first_fault (c
 after_not_memory stack at e =
     first_not_memory (deep stack) _ at (at_not_memory Deep (λ id. nat_lt 32 (depth_of stack id)) 0 stack.devices (λ e. cc))
     (first_not_memory (stripe stack) _ at (by_not_memory Stripe (λ line. line.at) (λ line. has_bad_stripes line line.target) (all_lines stack.devices) (λ e. cc))
-    (first_not_memory (range stack) None at (by_not_memory Range (λ line. line.at) (passes_end stack) (all_lines stack.devices) (λ e. cc)) (λ none. absurd cc))) e
+    (first_not_memory (range stack) _ at (by_not_memory Range (λ line. line.at) (passes_end stack) (all_lines stack.devices) (λ e. cc))
+    (first_not_memory (snapshot stack) _ at
+    (all_each IsNotMemory (λ device. snapshot_in stack device.lines) stack.devices (λ device. by_not_memory Snapshot (λ line. line.at) (λ line. is_bad_snapshot stack (length device.lines) line.len line.target) device.lines (λ e. cc)))
+    (first_not_memory (store stack) _ at (by_not_memory Store (λ line. line.at) (λ line. has_bad_store stack line.target) (all_lines stack.devices) (λ e. cc))
+    (first_not_memory (crowded stack) None at (by_not_memory Limit (λ line. line.it.at) (is_crowded stack) (with_before (all_lines stack.devices)) (λ e. cc)) (λ none. absurd cc)))))) e
 
 -- a fault of the check for cycles, or of one after it
 pub late_not_memory : (stack : Description) (at : LoadFault) → IsLateFault stack at → IsNotMemory at

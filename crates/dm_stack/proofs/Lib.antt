@@ -1,3 +1,5 @@
+pub mod ChunkLemmas
+pub mod CrowdLemmas
 pub mod DepthLemmas
 pub mod DepthRule
 pub mod DepthTests
@@ -9,10 +11,13 @@ pub mod NameLemmas
 pub mod OneFault
 pub mod Passes
 pub mod PathLemmas
+pub mod PlaceLemmas
 pub mod PlacedLemmas
 pub mod RoundLemmas
 pub mod SameLine
 pub mod SearchLemmas
+pub mod SnapshotIds
 pub mod SoundLines
 pub mod SpanLemmas
+pub mod StoreLemmas
 pub mod WithBefore

@@ -7,7 +7,7 @@ use Rattle.dm_table.specs.declared.load_fault.LoadKind.{LoadKind}
 use Rattle.dm_table.specs.declared.load_fault.LoadFault.{LoadFault}
 use Rattle.dm_table.specs.LoadFault.{faults_by, first_or, first_fault}
 use Rattle.dm_stack.specs.Description.{Description}
-use Rattle.dm_stack.specs.Soundness.{too_many, too_large, twice, empty, misplaced, unknown, deep, stripe, range, checks_before, checks_after}
+use Rattle.dm_stack.specs.Soundness.{too_many, too_large, twice, empty, misplaced, unknown, deep, stripe, range, snapshot, store, crowded, checks_before, checks_after}
 
 pub append_none : {X : Type 0} (xs ys : List X) → xs ++ ys ≡ [] → (xs ≡ []) × (ys ≡ [])
 append_none [] ys e = (refl, e)
@@ -58,6 +58,9 @@ pub record PassesAfter (stack : Description) : Type 0 where
   pub shallow : deep stack ≡ []
   pub divided : stripe stack ≡ []
   pub inside : range stack ≡ []
+  pub fitting : snapshot stack ≡ []
+  pub stored : store stack ≡ []
+  pub roomy : crowded stack ≡ []
 
 pub passes_before : (stack : Description) → first_fault (checks_before stack) ≡ None → PassesBefore stack
 passes_before stack e =
@@ -74,4 +77,7 @@ passes_after stack e =
     let a = first_none (deep stack) _ e in
     let b = first_none (stripe stack) _ a.1 in
     let c = first_none (range stack) _ b.1 in
-    record { shallow = a.0; divided = b.0; inside = c.0 }
+    let d = first_none (snapshot stack) _ c.1 in
+    let f = first_none (store stack) _ d.1 in
+    let g = first_none (crowded stack) _ f.1 in
+    record { shallow = a.0; divided = b.0; inside = c.0; fitting = d.0; stored = f.0; roomy = g.0 }

@@ -10,7 +10,7 @@ use Rattle.dm_table.specs.LoadFault.{fault, faults_by, first_or}
 use Rattle.dm_stack.specs.Soundness.{all_lines}
 use Rattle.dm_stack.proofs.FirstFaults.{by_append, first_append, first_passed, first_stopped}
 
-next_of : {X : Type 0} (xs : List X) (i : ℕ) (x : X) → i < length xs → x ≡ get_or xs i x → drop i xs ≡ x ∷ drop (i + 1) xs
+pub next_of : {X : Type 0} (xs : List X) (i : ℕ) (x : X) → i < length xs → x ≡ get_or xs i x → drop i xs ≡ x ∷ drop (i + 1) xs
 next_of {X} xs i x within is = drop_more xs i x within ∙ ap (λ (y : X). y ∷ drop (i + 1) xs) (sym is)
 
 pub bad_here : {X : Type 0} (kind : LoadKind) (place : X → Place) (test : X → Bool) (xs : List X) (i : ℕ) (x : X) → i < length xs → x ≡ get_or xs i x → true ≡ test x → first_or (faults_by kind place test (drop i xs)) None ≡ Some (fault kind (place x))

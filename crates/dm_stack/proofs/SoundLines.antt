@@ -1,5 +1,5 @@
 -- What a sound stack says of its devices, of its disks, and of the line of a sector.
-use Rattle.std.proofs.Common.{◌≡◌, ℕ, zero, suc, ◌+◌, ◌*◌, ◌^◌, ◌<◌, ◌≤◌, Bool, true, false, cond, nat_lt, nat_le, List, [], ◌∷◌, length, map, Option, Some, refl, sym, ap, subst, ◌∙◌, arith}
+use Rattle.std.proofs.Common.{◌≡◌, ℕ, zero, suc, ◌+◌, ◌*◌, ◌^◌, ◌<◌, ◌≤◌, Bool, true, false, cond, nat_lt, nat_le, List, [], ◌∷◌, length, map, Option, Some, None, refl, sym, ap, subst, ◌∙◌, arith}
 use Rattle.std.specs.Prelude.{◌/◌, ◌%◌, ◌==◌, ◌||◌, ◌&&◌, not, find, position, slice_get, option_map}
 use Rattle.std.specs.List.{AllByRecursion, flat_map, list_any, position_or_len}
 use Rattle.std.proofs.lemmas.Bool.{and_parts, or_parts, leb-true, le-leb, ltb-true, ltb-false, lt-ltb, eqb-true, not-false}
@@ -7,18 +7,20 @@ use Rattle.std.proofs.lemmas.List.{length-map}
 use Rattle.std.proofs.lemmas.List.Elements.{All-from_recursion}
 use Rattle.std.proofs.Math.Nat.{div-add-mod, mul_comm}
 use Rattle.dm_table.specs.declared.table.Column.{Column}
+use Rattle.dm_table.specs.declared.table.DevRef.{DevRef}
 use Rattle.dm_table.specs.declared.table.Target.{Target}
 use Rattle.dm_table.specs.declared.table.Target.TheVariants as targets
 use Rattle.dm_table.specs.declared.table.Line.{Line}
 use Rattle.dm_table.specs.declared.table.DeviceSpec.{DeviceSpec}
 use Rattle.dm_table.specs.declared.disk.Disk.{Disk}
-use Rattle.dm_table.specs.declared.load_fault.LoadKind.TheVariants.{Limit, Empty, Stripe, Range}
+use Rattle.dm_table.specs.declared.load_fault.LoadKind.TheVariants.{Limit, Empty, Stripe, Range, Snapshot, Store}
 use Rattle.dm_stack.specs.declared.found.FoundLine.{FoundLine}
-use Rattle.dm_stack.specs.Description.{Description, lines_at, lines_or_none, end_of, device_len}
-use Rattle.dm_stack.specs.Below.{holds, line_of, found_line, found_lines, found_columns, found_target, found_at, has_sector, LiesIn, AreStripes, IsTargetSound, HoldsSoundly}
-use Rattle.dm_stack.specs.Soundness.{all_lines, is_large, is_far, without_lines, empty_in, misplaced_in, is_bad_stripe, has_bad_stripes, is_past, passes_end, HaveSmallEnds, IsSound}
+use Rattle.dm_stack.specs.Description.{Description, lines_at, lines_or_none, end_of, device_len, lower_len, lower_of}
+use Rattle.dm_stack.specs.Below.{holds, line_of, found_line, found_lines, found_columns, found_target, found_at, has_sector, LiesIn, AreStripes, IsSnapshotSound, IsTargetSound, HoldsSoundly}
+use Rattle.dm_stack.specs.Soundness.{all_lines, is_large, is_far, without_lines, empty_in, misplaced_in, is_bad_chunk, is_bad_snapshot, is_bad_stripe, has_bad_store, has_bad_stripes, is_past, passes_end, snapshot_in, HaveSmallEnds, IsSound}
 use Rattle.dm_stack.specs.Span.{column_span, spans, target_spans}
 use Rattle.dm_stack.proofs.LayoutLemmas.{AreInRow, in_row}
+use Rattle.dm_stack.proofs.ChunkLemmas.{chunk_within}
 use Rattle.dm_stack.proofs.Passes.{append_none, all_parts, faults_by_none, passes_before, passes_after}
 
 -- A search in a list, and in what its elements become
@@ -120,11 +122,34 @@ stripes_sound stack len chunk columns good inside =
       inside = columns_inside stack (len / length columns) columns inside;
     }
 
-target_sound : (stack : Description) (id : ℕ) (line : Line) (target : Target) → has_bad_stripes line target ≡ false → list_any (is_past stack) (target_spans line.len target) ≡ false → IsTargetSound stack id line.start line.len (found_target stack target)
-target_sound stack id line (targets.Linear to offset) good inside = ltb-false _ _ (or_parts (is_past stack (record { to = to; offset = offset; len = line.len; read_only = false })) false inside).0
-target_sound stack id line (targets.Striped chunk columns) good inside = stripes_sound stack line.len chunk columns good inside
-target_sound stack id line targets.Zero good inside = tt
-target_sound stack id line targets.Error good inside = tt
+-- a line that is the whole of its device
+pub record IsWhole (stack : Description) (id : ℕ) (line : Line) : Type 0 where
+  pub from : line.start ≡ 0
+  pub len : line.len ≡ device_len stack id
+
+snapshot_sound : (stack : Description) (id lines : ℕ) (line : Line) (origin store : DevRef) (chunk : ℕ) → (lines ≡ 1 → IsWhole stack id line) → is_bad_snapshot stack lines line.len (targets.Snapshot origin store chunk) ≡ false → has_bad_store stack (targets.Snapshot origin store chunk) ≡ false
+    → IsSnapshotSound stack id line.start line.len (record { origin = lower_of stack origin; store = lower_of stack store; chunk = chunk })
+snapshot_sound stack id lines line origin store chunk whole good stored =
+    let a = or_parts (not (lines == 1)) (is_bad_chunk chunk || not (line.len == lower_len stack (lower_of stack origin))) good in
+    let b = or_parts (is_bad_chunk chunk) (not (line.len == lower_len stack (lower_of stack origin))) a.1 in
+    let limits = chunk_within chunk b.0 in
+    let alone = whole (eqb-true _ _ (not-false _ a.0)) in
+    record {
+      chunk_some = limits.0;
+      chunk_small = limits.1;
+      from = alone.from;
+      whole = alone.len;
+      origin = sym (eqb-true _ _ (not-false _ b.1));
+      store = not-false _ stored;
+    }
+
+target_sound : (stack : Description) (id lines : ℕ) (line : Line) (target : Target) → (lines ≡ 1 → IsWhole stack id line) → has_bad_stripes line target ≡ false → list_any (is_past stack) (target_spans line.len target) ≡ false → is_bad_snapshot stack lines line.len target ≡ false → has_bad_store stack target ≡ false
+    → IsTargetSound stack id line.start line.len (found_target stack target)
+target_sound stack id lines line (targets.Linear to offset) whole good inside fitting stored = ltb-false _ _ (or_parts (is_past stack (record { to = to; offset = offset; len = Some line.len; read_only = false })) false inside).0
+target_sound stack id lines line (targets.Striped chunk columns) whole good inside fitting stored = stripes_sound stack line.len chunk columns good inside
+target_sound stack id lines line targets.Zero whole good inside fitting stored = tt
+target_sound stack id lines line targets.Error whole good inside fitting stored = tt
+target_sound stack id lines line (targets.Snapshot origin store chunk) whole good inside fitting stored = snapshot_sound stack id lines line origin store chunk whole fitting stored
 
 -- The line of a sector of a sound stack
 
@@ -140,6 +165,8 @@ pub record IsDeviceSound (stack : Description) (device : DeviceSpec) : Type 0 wh
   pub small : AllByRecursion (λ line. is_large line ≡ false) device.lines
   pub striped : AllByRecursion (λ line. has_bad_stripes line line.target ≡ false) device.lines
   pub inside : AllByRecursion (λ line. passes_end stack line ≡ false) device.lines
+  pub fitting : AllByRecursion (λ line. is_bad_snapshot stack (length device.lines) line.len line.target ≡ false) device.lines
+  pub stored : AllByRecursion (λ line. has_bad_store stack line.target ≡ false) device.lines
   pub filled : empty_in device ≡ []
   pub placed : AreInRow 0 device.lines
 
@@ -157,6 +184,8 @@ device_sound stack id device sound at =
       small = of_device (λ line. is_large line ≡ false) stack.devices id device (faults_by_none Limit (λ line. line.at) is_large (all_lines stack.devices) (append_none _ _ p.small).0) at;
       striped = of_device (λ line. has_bad_stripes line line.target ≡ false) stack.devices id device (faults_by_none Stripe (λ line. line.at) (λ line. has_bad_stripes line line.target) (all_lines stack.devices) q.divided) at;
       inside = of_device (λ line. passes_end stack line ≡ false) stack.devices id device (faults_by_none Range (λ line. line.at) (passes_end stack) (all_lines stack.devices) q.inside) at;
+      fitting = faults_by_none Snapshot (λ line. line.at) (λ line. is_bad_snapshot stack (length device.lines) line.len line.target) device.lines (part_of (λ d. snapshot_in stack d.lines) stack.devices id device q.fitting at);
+      stored = of_device (λ line. has_bad_store stack line.target ≡ false) stack.devices id device (faults_by_none Store (λ line. line.at) (λ line. has_bad_store stack line.target) (all_lines stack.devices) q.stored) at;
       filled = part_of empty_in stack.devices id device (append_none _ _ p.filled).0 at;
       placed = in_row device.lines (part_of (λ d. misplaced_in d.lines) stack.devices id device p.placed at);
     }
@@ -174,6 +203,23 @@ there (x ∷ xs) (suc id) within = let rest = there xs id (omega (arith, within)
 pub lines_there : (stack : Description) (id : ℕ) (device : DeviceSpec) → slice_get stack.devices id ≡ Some device → lines_at stack id ≡ device.lines
 lines_there stack id device at = ap lines_or_none at
 
+-- the only line of a device is all of it
+alone_by : (first line : Line) (b : Bool) → cond b (Some first) None ≡ Some line → first ∷ [] ≡ line ∷ []
+alone_by first line true e = let same : first ≡ line = cc in ap (λ (l : Line). l ∷ []) same
+alone_by first line false e = absurd cc
+
+alone : (test : Line → Bool) (lines : List Line) (line : Line) → find test lines ≡ Some line → length lines ≡ 1 → lines ≡ line ∷ []
+alone test [] line e one = absurd (omega (arith, one))
+alone test (first ∷ []) line e one = alone_by first line (test first) e
+alone test (first ∷ next ∷ lines) line e one = absurd (omega (arith, one))
+
+whole_line : (stack : Description) (id : ℕ) (test : Line → Bool) (lines : List Line) (line : Line) → lines_at stack id ≡ lines → AreInRow 0 lines → find test lines ≡ Some line → length lines ≡ 1 → IsWhole stack id line
+whole_line stack id test lines line are row e one =
+    let only = alone test lines line e one in
+    let start = (subst (AreInRow 0) only row).0 in
+    let end : device_len stack id ≡ line.start + line.len = ap end_of (are ∙ only) in
+    record { from = start; len = omega (arith, start, end) }
+
 -- the line that a search finds is that of the sector, and sound
 pub record IsFound (stack : Description) (id sector : ℕ) : Type 0 where
   pub line : FoundLine
@@ -189,6 +235,8 @@ sector_found stack id sector sound within inside =
     let a = found (λ line. is_large line ≡ false) (holds sector) d.it.lines h.line s.small h.is in
     let b = found (λ line. has_bad_stripes line line.target ≡ false) (holds sector) d.it.lines h.line s.striped h.is in
     let c = found (λ line. passes_end stack line ≡ false) (holds sector) d.it.lines h.line s.inside h.is in
+    let f = found (λ line. is_bad_snapshot stack (length d.it.lines) line.len line.target ≡ false) (holds sector) d.it.lines h.line s.fitting h.is in
+    let g = found (λ line. has_bad_store stack line.target ≡ false) (holds sector) d.it.lines h.line s.stored h.is in
     let parts = and_parts (nat_le h.line.start sector) (nat_lt sector (h.line.start + h.line.len)) a.0 in
     record {
       line = found_line stack h.line;
@@ -197,7 +245,7 @@ sector_found stack id sector sound within inside =
         from = leb-true _ _ parts.0;
         before = ltb-true _ _ parts.1;
         small = line_small h.line a.1;
-        target = target_sound stack id h.line h.line.target b.1 c.1;
+        target = target_sound stack id (length d.it.lines) h.line h.line.target (whole_line stack id (holds sector) d.it.lines h.line lines s.placed h.is) b.1 c.1 f.1 g.1;
       };
     }
 

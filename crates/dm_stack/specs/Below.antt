@@ -32,6 +32,7 @@ found_target stack (targets.Linear to offset) = found.Linear (lower_of stack to)
 found_target stack (targets.Striped chunk columns) = found.Striped chunk (found_columns stack columns)
 found_target stack targets.Zero = found.Zero
 found_target stack targets.Error = found.Error
+found_target stack (targets.Snapshot origin store chunk) = found.Snapshot (record { origin = lower_of stack origin; store = lower_of stack store; chunk = chunk })
 
 abbrev pub found_line : Description → Line → FoundLine
 found_line stack line = record { start = line.start; len = line.len; target = found_target stack line.target }

@@ -1,7 +1,10 @@
 -- What a stack keeps beside its description, and what a looker is.
-use Rattle.std.specs.Prelude.{◌≡◌, ℕ, suc, ◌^◌, ◌<◌, List, length, map, nat_lt, if◌then◌else◌}
-use Rattle.std.specs.List.{flat_map, range_with_len}
+use Rattle.std.specs.Prelude.{◌≡◌, ℕ, suc, ◌^◌, ◌<◌, Bool, true, false, List, filter, length, map, nat_lt, if◌then◌else◌}
+use Rattle.std.specs.List.{flat_map, list_any, range_with_len}
 use Rattle.dm_table.specs.declared.table.DeviceSpec.{DeviceSpec}
+use Rattle.dm_table.specs.declared.table.Line.{Line}
+use Rattle.dm_table.specs.declared.table.Target.{Target}
+use Rattle.dm_table.specs.declared.table.Target.TheVariants as targets
 use Rattle.dm_stack.specs.declared.found.FoundLine.{FoundLine}
 use Rattle.dm_stack.specs.declared.id.Lower.{Lower}
 use Rattle.dm_stack.specs.declared.id.Lower.TheVariants as lowers
@@ -31,13 +34,26 @@ lower_depth stack (lowers.Disk disk) = 0
 abbrev pub IsDeeperByOne : Description → Type 0
 IsDeeperByOne stack = (device : ℕ) → device < length stack.devices → depth_of stack device ≡ suc (greatest (map (lower_depth stack) (named_at stack device)))
 
--- a sound description, with its names, its lines by ids and its depth
-pub record IsLoaded (stack : Description) (devices disks : List (List ℕ)) (by_ids : List (List FoundLine)) (deepest : ℕ) : Type 0 where
+-- a device that has a snapshot's line
+abbrev pub is_snapshot : Target → Bool
+is_snapshot (targets.Snapshot origin store chunk) = true
+is_snapshot _ = false
+
+abbrev pub has_snapshot : List Line → Bool
+has_snapshot lines = list_any (λ line. is_snapshot line.target) lines
+
+-- the snapshots: those devices, in their order
+abbrev pub snapshots : Description → List ℕ
+snapshots stack = filter (λ device. has_snapshot (lines_at stack device)) (range_with_len 0 (length stack.devices))
+
+-- a sound description, with its names, its lines by ids, its depth and its snapshots
+pub record IsLoaded (stack : Description) (devices disks : List (List ℕ)) (by_ids : List (List FoundLine)) (deepest : ℕ) (over : List ℕ) : Type 0 where
   pub sound : IsSound stack
   pub device_names : devices ≡ map (λ device. device.name) stack.devices
   pub disk_names : disks ≡ map (λ disk. disk.name) stack.disks
   pub tables : by_ids ≡ map (found_table stack) stack.devices
   pub depth : deepest ≡ stack_depth stack
+  pub snapshots : over ≡ snapshots stack
 
 -- a looker: its stack, and the count of its searches
 pub record Looking : Type 0 where

@@ -1,5 +1,5 @@
 -- Where a store keeps the chunks that a snapshot took, and for how many it has places (the exception store of the kernel's admin guide, device-mapper/snapshot).
-use Rattle.std.specs.Prelude.{ℕ, ◌+◌, ◌-◌, ◌*◌, ◌/◌, ◌%◌, ◌==◌, ◌||◌, Bool, min}
+use Rattle.std.specs.Prelude.{ℕ, ◌+◌, ◌-◌, ◌*◌, ◌/◌, ◌%◌, ◌==◌, ◌||◌, Bool}
 
 -- the chunk of a store that the taken chunk of a number has: a header and an area of numbers come first, and an area after every 32 * chunk chunks
 abbrev pub place : (chunk number : ℕ) → ℕ
@@ -9,9 +9,10 @@ place chunk number = 2 + number + number / (32 * chunk)
 abbrev pub is_metadata : (chunk at : ℕ) → Bool
 is_metadata chunk at = at == 0 || (at - 1) % (32 * chunk + 1) == 0
 
--- how many of these chunks end within a store of a length; rest are its chunks after the header and the first area, most what one area is for
+-- all of these chunks but each one after this many others
 abbrev pub places_in : (most rest : ℕ) → ℕ
-places_in most rest = rest / (most + 1) * most + min (rest % (most + 1)) most
+places_in most rest = rest - rest / (most + 1)
 
+-- how many of these chunks end within a store of a length: of its chunks after the header and the first area, all but each one after 32 * chunk others, which is an area
 abbrev pub places : (chunk store_len : ℕ) → ℕ
 places chunk store_len = places_in (32 * chunk) (store_len / chunk - 2)

@@ -1,6 +1,7 @@
 -- The checks of a load, over the devices and the disks that it is handed.
-use Rattle.std.specs.Prelude.{◌≡◌, ℕ, suc, ◌+◌, ◌/◌, ◌%◌, ◌≤◌, ◌<◌, Bool, true, false, not, ◌||◌, ◌==◌, List, [], ◌∷◌, ◌++◌, Some, None, drop, filter, length, map, is_none, nat_lt, if◌then◌else◌}
-use Rattle.std.specs.List.{All, flat_map, list_any}
+use Rattle.std.specs.Prelude.{◌≡◌, ℕ, suc, ◌+◌, ◌/◌, ◌%◌, ◌≤◌, ◌<◌, Bool, true, false, not, ◌||◌, ◌==◌, List, [], ◌∷◌, ◌++◌, Option, Some, None, drop, filter, length, map, is_none, nat_lt, if◌then◌else◌}
+use Rattle.std.specs.Int.{is_power_of_two}
+use Rattle.std.specs.List.{All, flat_map, list_any, sum_by}
 use Rattle.dm_table.specs.declared.table.DevRef.{DevRef}
 use Rattle.dm_table.specs.declared.table.DevRef.TheVariants as refs
 use Rattle.dm_table.specs.declared.table.Target.{Target}
@@ -9,14 +10,16 @@ use Rattle.dm_table.specs.declared.table.Line.{Line}
 use Rattle.dm_table.specs.declared.table.DeviceSpec.{DeviceSpec}
 use Rattle.dm_table.specs.declared.place.Place.{Place}
 use Rattle.dm_table.specs.declared.load_fault.LoadKind.{LoadKind}
-use Rattle.dm_table.specs.declared.load_fault.LoadKind.TheVariants.{Limit, Twice, Empty, Gap, Overlap, Unknown, Cycle, Deep, Stripe, Range}
+use Rattle.dm_table.specs.declared.load_fault.LoadKind.TheVariants.{Limit, Twice, Empty, Gap, Overlap, Unknown, Cycle, Deep, Stripe, Range, Snapshot, Store}
 use Rattle.dm_table.specs.declared.load_fault.LoadFault.{LoadFault}
 use Rattle.dm_table.specs.LoadFault.{fault, faults_by, first_fault}
 use Rattle.dm_stack.specs.Description.{Description, is_same, device_named, disk_named, end_of, lower_of, lower_len, links}
 use Rattle.dm_stack.specs.Span.{Span, spans}
 use Rattle.dm_stack.specs.Graph.{Reaches, depth_to}
+use Rattle.dm_stack.specs.Places.{places}
+use Rattle.dm_stack.specs.Store.{is_store_to}
 use Rattle.dm_stack.specs.declared.graph.TheConstants.{MOST_DEPTH}
-use Rattle.dm_stack.specs.declared.limits.TheConstants.{MOST_DEVICES, MOST_DISKS, MOST_LINES, MOST_LENGTH, MOST_STRIPES, MOST_CHUNK}
+use Rattle.dm_stack.specs.declared.limits.TheConstants.{MOST_DEVICES, MOST_DISKS, MOST_LINES, MOST_LENGTH, MOST_STRIPES, MOST_CHUNK, MOST_SNAPSHOT_CHUNK, MOST_PLACES}
 
 -- the lines of all devices
 abbrev pub all_lines : List DeviceSpec → List Line
@@ -141,22 +144,71 @@ has_bad_stripes line _ = false
 abbrev pub stripe : Description → List LoadFault
 stripe stack = line_faults Stripe (λ line. has_bad_stripes line line.target) stack
 
--- a line that passes the end of what it names
-abbrev pub is_past : Description → Span → Bool
-is_past stack span = nat_lt (lower_len stack (lower_of stack span.to)) (span.offset + span.len)
+-- a range that passes an end; what is named whole does not
+abbrev pub passes : (end offset : ℕ) → (len : Option ℕ) → Bool
+passes end offset (Some len) = nat_lt end (offset + len)
+passes end offset None = false
 
+abbrev pub is_past : Description → Span → Bool
+is_past stack span = passes (lower_len stack (lower_of stack span.to)) span.offset span.len
+
+-- a line that passes the end of what it names
 abbrev pub passes_end : Description → Line → Bool
 passes_end stack line = list_any (is_past stack) (spans line)
 
 abbrev pub range : Description → List LoadFault
 range stack = line_faults Range (passes_end stack) stack
 
+-- a chunk of a snapshot that is no power of two within its limit
+abbrev pub is_bad_chunk : ℕ → Bool
+is_bad_chunk chunk = nat_lt MOST_SNAPSHOT_CHUNK chunk || not (is_power_of_two chunk)
+
+-- a snapshot that isn't the only line of its table, has a bad chunk, or is not as long as its origin
+abbrev pub is_bad_snapshot : Description → (lines len : ℕ) → Target → Bool
+is_bad_snapshot stack lines len (targets.Snapshot origin store chunk) =
+    not (lines == 1) || (is_bad_chunk chunk || not (len == lower_len stack (lower_of stack origin)))
+is_bad_snapshot stack lines len _ = false
+
+abbrev pub snapshot_in : Description → List Line → List LoadFault
+snapshot_in stack lines = faults_by Snapshot (λ line. line.at) (λ line. is_bad_snapshot stack (length lines) line.len line.target) lines
+
+abbrev pub snapshot : Description → List LoadFault
+snapshot stack = flat_map (λ device. snapshot_in stack device.lines) stack.devices
+
+-- a chunk within its limits
+abbrev pub HasGoodChunk : Target → Type 0
+HasGoodChunk (targets.Snapshot origin store chunk) = (0 < chunk) × (chunk ≤ MOST_SNAPSHOT_CHUNK)
+HasGoodChunk _ = Unit {0}
+
+abbrev pub HaveGoodChunks : List Line → Type 0
+HaveGoodChunks lines = All (λ line. HasGoodChunk line.target) lines
+
+-- the places for chunks that a line's store has: only a snapshot has one
+abbrev pub target_places : Description → Target → ℕ
+target_places stack (targets.Snapshot origin store chunk) = places chunk (lower_len stack (lower_of stack store))
+target_places stack _ = 0
+
+-- a snapshot whose store is none
+abbrev pub has_bad_store : Description → Target → Bool
+has_bad_store stack (targets.Snapshot origin store chunk) = not (is_store_to stack MOST_DEPTH (lower_of stack store))
+has_bad_store stack _ = false
+
+abbrev pub store : Description → List LoadFault
+store stack = line_faults Store (λ line. has_bad_store stack line.target) stack
+
+-- a line up to which all stores have too many places together; the first is a snapshot
+abbrev pub is_crowded : Description → WithBefore Line → Bool
+is_crowded stack line = nat_lt MOST_PLACES (sum_by (λ other. target_places stack other.target) line.before + target_places stack line.it.target)
+
+abbrev pub crowded : Description → List LoadFault
+crowded stack = faults_by Limit (λ line. line.it.at) (is_crowded stack) (with_before (all_lines stack.devices))
+
 -- the checks of a load before the one for cycles, and those after it, in their order
 abbrev pub checks_before : Description → List (List LoadFault)
 checks_before stack = too_many stack ∷ too_large stack ∷ twice stack ∷ empty stack ∷ misplaced stack ∷ unknown stack ∷ []
 
 abbrev pub checks_after : Description → List (List LoadFault)
-checks_after stack = deep stack ∷ stripe stack ∷ range stack ∷ []
+checks_after stack = deep stack ∷ stripe stack ∷ range stack ∷ snapshot stack ∷ store stack ∷ crowded stack ∷ []
 
 -- a device is on a cycle that reaches itself by what devices name
 abbrev pub IsOnCycle : Description → ℕ → Type 0

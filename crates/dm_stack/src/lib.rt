@@ -19,8 +19,11 @@ mod names;
 mod placed;
 mod ranges;
 mod resolve;
+mod snapshots;
 mod span;
 mod stack;
+mod store_places;
+mod stores;
 mod stripes;
 
 pub use found::{Found, FoundColumn, FoundColumns, FoundLine, FoundSnapshot, FoundTarget, Listed};
@@ -28,3 +31,4 @@ pub use graph::MOST_DEPTH;
 pub use id::{DeviceId, DiskId, Lower};
 pub use looker::Looker;
 pub use stack::Stack;
+pub use store_places::places;

@@ -34,6 +34,9 @@ pub const MOST_CHUNK: u64 = (1 << 32) - 1;
 /// The most sectors of a chunk of a snapshot.
 pub const MOST_SNAPSHOT_CHUNK: u64 = 1024;
 
+/// The most places for chunks of all stores together.
+pub const MOST_PLACES: u64 = 4_194_304;
+
 /// The first device, or else disk, or else line, above the count that is allowed.
 ///
 /// Cost: a walk over the devices.

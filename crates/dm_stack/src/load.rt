@@ -11,11 +11,13 @@ ghost use Rattle.dm_stack.specs.Description.{links};
 ghost use Rattle.dm_stack.specs.Graph.{IsClosed, depths_to};
 ghost use Rattle.dm_stack.specs.Load.{IsLateResult, IsFirstRing, IsLateFault, HasNoLateFault};
 ghost use Rattle.dm_stack.specs.Loaded.{IsLoaded, stack_depth};
-ghost use Rattle.dm_stack.specs.Soundness.{IsRefusedBy, checks_after, checks_before, empty, misplaced, too_large, too_many, unknown};
+ghost use Rattle.dm_stack.specs.Soundness.{IsRefusedBy, checks_after, checks_before, crowded, empty, misplaced, snapshot, store, too_large, too_many, unknown};
+ghost use Rattle.dm_stack.specs.Store.{store_links};
 
 use crate::depth::{deep, deepest};
 use crate::found::FoundTable;
 use crate::graph::{depths, first_cycle};
+use crate::id::DeviceId;
 use crate::indexed::Indexed;
 use crate::layout::{empty, misplaced};
 use crate::limits::{too_large, too_many};
@@ -23,6 +25,9 @@ use crate::links::links;
 use crate::names::{Names, index_names};
 use crate::ranges::range;
 use crate::resolve::{tables, unknown};
+use crate::snapshots::{bad_snapshots, snapshots};
+use crate::store_places::crowded;
+use crate::stores::{bad_stores, store_depths};
 use crate::stripes::bad_stripes;
 use dm_table::{DeviceSpec, Disk, LoadFault, LoadKind, Part};
 use std::alloc::{AllocError, Global};
@@ -33,12 +38,14 @@ pub(crate) struct Checked {
     pub names: Names,
     pub tables: Vec<FoundTable>,
     pub depth: u32,
+    pub snapshots: Vec<DeviceId>,
 }
 
-/// The depth of each device, and the first that reaches itself.
+/// The depth of each device, also as a part of a store, and the first that reaches itself.
 #[derive(Drop)]
 struct Graph {
     depths: Vec<u32>,
+    store_depths: Vec<u32>,
     cycle: Option<usize>,
 }
 
@@ -51,7 +58,7 @@ pub(crate) fn check(
     devices: &[DeviceSpec],
     disks: &[Disk],
 ) -> Result<Checked, LoadFault>
-    ensures loaded { IfOk result (λ checked. IsLoaded (record { devices = devices.now; disks = disks.now }) checked.names.devices checked.names.disks checked.tables.items checked.depth) }
+    ensures loaded { IfOk result (λ checked. IsLoaded (record { devices = devices.now; disks = disks.now }) checked.names.devices checked.names.disks checked.tables.items checked.depth checked.snapshots.items) }
     ensures fault { IfErr result (λ fault. fault.kind ≢ Memory → IsRefusedBy (record { devices = devices.now; disks = disks.now }) fault) }
     ensures memory { IfErr result (λ fault. fault.kind ≡ Memory → IsMemoryFault Source fault) }
 {
@@ -61,10 +68,14 @@ pub(crate) fn check(
     let Ok(tables) = tables(alloc, &stack) else {
         return Err(LoadFault::memory(Part::Source));
     };
+    let Ok(snapshots) = snapshots(alloc, devices) else {
+        return Err(LoadFault::memory(Part::Source));
+    };
     Ok(Checked {
         names,
         tables,
         depth,
+        snapshots,
     })
 }
 
@@ -131,17 +142,24 @@ fn check_links(alloc: Global, stack: &Indexed) -> Result<u32, LoadFault>
 fn follow(alloc: Global, stack: &Indexed) -> Result<Graph, AllocError>
     requires { IsClosed (links stack.now) }
     ensures depths { IfOk result (λ graph. graph.depths.items ≡ depths_to (links stack.now) 33) }
+    ensures stores { IfOk result (λ graph. graph.store_depths.items ≡ depths_to (store_links stack.now) 33) }
     ensures cycle { IfOk result (λ graph. IsFirstRing (links stack.now) graph.cycle) }
 {
     let links = links(alloc, stack)?;
     let depths = depths(alloc, &links)?;
     let cycle = first_cycle(alloc, &links, &depths)?;
-    Ok(Graph { depths, cycle })
+    let store_depths = store_depths(alloc, stack, &links)?;
+    Ok(Graph {
+        depths,
+        store_depths,
+        cycle,
+    })
 }
 
 /// The check for cycles and those after it, where it is known how deep each device is.
 fn check_depths(stack: &Indexed, graph: &Graph) -> Option<LoadFault>
     requires depths { graph.now.depths.items ≡ depths_to (links stack.now) 33 }
+    requires stores { graph.now.store_depths.items ≡ depths_to (store_links stack.now) 33 }
     requires cycle { IsFirstRing (links stack.now) graph.now.cycle }
     ensures { IsLateResult stack.now result }
 {
@@ -151,12 +169,13 @@ fn check_depths(stack: &Indexed, graph: &Graph) -> Option<LoadFault>
             at: stack.devices()[device].at,
         });
     }
-    check_shape(stack, &graph.depths)
+    check_shape(stack, &graph.depths, &graph.store_depths)
 }
 
 /// The checks after the one for cycles.
-fn check_shape(stack: &Indexed, depths: &[u32]) -> Option<LoadFault>
-    requires { depths.now ≡ depths_to (links stack.now) 33 }
+fn check_shape(stack: &Indexed, depths: &[u32], store_depths: &[u32]) -> Option<LoadFault>
+    requires depths { depths.now ≡ depths_to (links stack.now) 33 }
+    requires stores { store_depths.now ≡ depths_to (store_links stack.now) 33 }
     ensures { result ≡ first_fault (checks_after stack.now) }
 {
     if let Some(fault) = deep(stack.devices(), depths) {
@@ -165,5 +184,22 @@ fn check_shape(stack: &Indexed, depths: &[u32]) -> Option<LoadFault>
     if let Some(fault) = bad_stripes(stack.devices()) {
         return Some(fault);
     }
-    range(stack)
+    if let Some(fault) = range(stack) {
+        return Some(fault);
+    }
+    check_snapshots(stack, store_depths)
+}
+
+/// The checks of snapshots and their stores.
+fn check_snapshots(stack: &Indexed, store_depths: &[u32]) -> Option<LoadFault>
+    requires { store_depths.now ≡ depths_to (store_links stack.now) 33 }
+    ensures { result ≡ first_fault (snapshot stack.now ∷ store stack.now ∷ crowded stack.now ∷ []) }
+{
+    if let Some(fault) = bad_snapshots(stack) {
+        return Some(fault);
+    }
+    if let Some(fault) = bad_stores(stack, store_depths) {
+        return Some(fault);
+    }
+    crowded(stack)
 }

@@ -6,7 +6,7 @@
 ghost use Rattle.std.specs.Prelude.{◌≡◌, ℕ, ◌+◌, ◌<◌, ◌≤◌, ◌^◌, Some, length};
 ghost use Rattle.dm_stack.specs.Below.{HoldsSoundly, found_at};
 ghost use Rattle.dm_stack.specs.Description.{device_len, disk_len, is_ro_at};
-ghost use Rattle.dm_stack.specs.Loaded.{next_count, stack_depth};
+ghost use Rattle.dm_stack.specs.Loaded.{next_count, snapshots, stack_depth};
 ghost use Rattle.dm_stack.specs.Soundness.{IsSound};
 
 use crate::found::Found;
@@ -97,6 +97,13 @@ impl<'s> Looker<'s> {
         ensures { result ≡ is_ro_at self.now.stack device }
     {
         self.stack.is_ro(device)
+    }
+
+    /// The devices of the stack that are snapshots, in their order.
+    pub fn snapshots(&self) -> &[DeviceId]
+        ensures { result.now ≡ snapshots self.now.stack }
+    {
+        self.stack.snapshots()
     }
 
     /// The greatest depth of a device of the stack, 0 without devices.

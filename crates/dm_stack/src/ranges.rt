@@ -5,11 +5,11 @@
 
 ghost use Rattle.std.specs.Prelude.{◌≡◌, None};
 ghost use Rattle.dm_table.specs.LoadFault.{first_or};
-ghost use Rattle.dm_stack.specs.Soundness.{passes_end, range};
+ghost use Rattle.dm_stack.specs.Soundness.{is_past, passes_end, range};
 
 use crate::indexed::Indexed;
 use crate::placed::first_line;
-use crate::span::Spans;
+use crate::span::{Span, Spans};
 use dm_table::{Line, LoadFault, LoadKind};
 
 /// The first line that passes the end of what it names.
@@ -26,8 +26,15 @@ pub(crate) fn range(stack: &Indexed) -> Option<LoadFault>
 fn passes_end(stack: &Indexed, line: &Line) -> bool
     ensures { result ≡ passes_end stack.now line.now }
 {
-    Spans::of(line).any(|span| {
-        let end = stack.len_of(span.to);
-        end < span.offset || end - span.offset < span.len
-    })
+    Spans::of(line).any(|span| is_past(stack, &span))
+}
+
+fn is_past(stack: &Indexed, span: &Span<'_>) -> bool
+    ensures { result ≡ is_past stack.now span.now }
+{
+    let end = stack.len_of(span.to);
+    match span.len {
+        Some(len) => end < span.offset || end - span.offset < len,
+        None => false,
+    }
 }

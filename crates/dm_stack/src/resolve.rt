@@ -9,7 +9,7 @@ ghost use Rattle.dm_stack.specs.Below.{found_columns, found_line, found_target};
 ghost use Rattle.dm_stack.specs.Loaded.{found_table};
 ghost use Rattle.dm_stack.specs.Soundness.{is_unknown, unknown};
 
-use crate::found::{FoundColumn, FoundColumns, FoundLine, FoundTable, FoundTarget};
+use crate::found::{FoundColumn, FoundColumns, FoundLine, FoundSnapshot, FoundTable, FoundTarget};
 use crate::indexed::Indexed;
 use crate::placed::first_line;
 use crate::span::Spans;
@@ -75,6 +75,15 @@ fn target(alloc: Global, stack: &Indexed, target: &Target) -> Result<FoundTarget
         }),
         Target::Zero => Ok(FoundTarget::Zero),
         Target::Error => Ok(FoundTarget::Error),
+        Target::Snapshot {
+            origin,
+            store,
+            chunk,
+        } => Ok(FoundTarget::Snapshot(FoundSnapshot {
+            origin: stack.lower_of(origin),
+            store: stack.lower_of(store),
+            chunk: *chunk,
+        })),
     }
 }
 

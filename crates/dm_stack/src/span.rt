@@ -5,7 +5,7 @@
 
 ghost use Rattle.std.specs.Prelude.{◌≡◌, ◌+◌, ◌/◌, ◌<◌, ◌^◌, IfSome, drop, length, map, slice_get};
 ghost use Rattle.std.specs.Iterator.{YieldsFirst, item_count};
-ghost use Rattle.dm_stack.specs.Span.{column_span, spans};
+ghost use Rattle.dm_stack.specs.Span.{column_span, spans, whole_span};
 
 use dm_table::{Column, DevRef, Line, Target};
 use std::marker::Model;
@@ -15,7 +15,8 @@ use std::marker::Model;
 pub(crate) struct Span<'a> {
     pub to: &'a DevRef,
     pub offset: u64,
-    pub len: u64,
+    /// How many sectors; all of what is named where it is not said.
+    pub len: Option<u64>,
     /// Whether the line only reads these sectors.
     pub read_only: bool,
 }
@@ -68,11 +69,25 @@ fn span_at(line: &Line, index: usize) -> Option<Span<'_>>
         Target::Linear { to, offset } if index == 0 => Some(Span {
             to,
             offset: *offset,
-            len: line.len,
+            len: Some(line.len),
             read_only: false,
         }),
         Target::Striped { columns, .. } => column_span(line.len, columns.as_slice(), index),
+        Target::Snapshot { store, .. } if index == 0 => Some(whole_span(store, false)),
+        Target::Snapshot { origin, .. } if index == 1 => Some(whole_span(origin, true)),
         _ => None,
+    }
+}
+
+/// All of what is named.
+fn whole_span(to: &DevRef, read_only: bool) -> Span<'_>
+    ensures { result ≡ whole_span to.now read_only }
+{
+    Span {
+        to,
+        offset: 0,
+        len: None,
+        read_only,
     }
 }
 
@@ -85,7 +100,7 @@ fn column_span(len: u64, columns: &[Column], index: usize) -> Option<Span<'_>>
     Some(Span {
         to: &column.to,
         offset: column.offset,
-        len: len / columns.len() as u64,
+        len: Some(len / columns.len() as u64),
         read_only: false,
     })
 }

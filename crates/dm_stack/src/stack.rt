@@ -7,10 +7,10 @@ ghost use Rattle.std.specs.Prelude.{◌≡◌, ◌≢◌, ℕ, ◌+◌, ◌<◌,
 ghost use Rattle.dm_table.specs.Name.{is_disk_name};
 ghost use Rattle.dm_stack.specs.Below.{HoldsSoundly, found_at, found_lines, has_sector};
 ghost use Rattle.dm_stack.specs.Description.{Description, device_len, disk_len, is_ro_at, is_same, name_at, disk_name_at};
-ghost use Rattle.dm_stack.specs.Loaded.{IsDeeperByOne, stack_depth};
+ghost use Rattle.dm_stack.specs.Loaded.{IsDeeperByOne, snapshots, stack_depth};
 ghost use Rattle.dm_stack.specs.Soundness.{IsRefusedBy, IsSound};
 ghost use Rattle.dm_stack.specs.declared.graph.TheConstants.{MOST_DEPTH};
-ghost use Rattle.dm_stack.specs.declared.limits.TheConstants.{MOST_CHUNK, MOST_DEVICES, MOST_DISKS, MOST_LENGTH, MOST_LINES, MOST_STRIPES};
+ghost use Rattle.dm_stack.specs.declared.limits.TheConstants.{MOST_CHUNK, MOST_DEVICES, MOST_DISKS, MOST_LENGTH, MOST_LINES, MOST_PLACES, MOST_SNAPSHOT_CHUNK, MOST_STRIPES};
 ghost use Rattle.dm_table.specs.LoadFault.{IsMemoryFault};
 ghost use Rattle.dm_table.specs.declared.load_fault.LoadFault.{LoadFault};
 ghost use Rattle.dm_table.specs.declared.load_fault.LoadKind.TheVariants.{Memory};
@@ -35,6 +35,7 @@ pub struct Stack {
     disk_names: NameIndex,
     tables: Vec<FoundTable>,
     depth: u32,
+    snapshots: Vec<DeviceId>,
 }
 
 impl Model for Stack {
@@ -45,7 +46,7 @@ impl Model for Stack {
 
     ghost view = { λ stack. record { devices = stack.devices.items; disks = stack.disks.items } };
 
-    ghost invariant = { λ stack. IsLoaded (record { devices = stack.devices.items; disks = stack.disks.items }) stack.device_names stack.disk_names stack.tables.items stack.depth };
+    ghost invariant = { λ stack. IsLoaded (record { devices = stack.devices.items; disks = stack.disks.items }) stack.device_names stack.disk_names stack.tables.items stack.depth stack.snapshots.items };
 }
 
 impl Stack {
@@ -70,6 +71,12 @@ impl Stack {
     ///    above 2^32 - 1, or a length that is no multiple of the columns, or whose share of each
     ///    column is none of the chunk.
     /// 10. `Range`: a line that passes the end of what it names.
+    /// 11. `Snapshot`: a snapshot that is not the only line of its table, whose chunk is no power of
+    ///     two from 1 to 1,024, or that is not as long as its origin.
+    /// 12. `Store`: a snapshot whose store is neither a disk nor a writable device of linear and
+    ///     striped lines that names nothing but disks and such devices, down to disks.
+    /// 13. `Limit`: the snapshot with whose store all stores have more than 4,194,304 places for
+    ///     chunks together.
     ///
     /// A check goes over the devices in their order, and over the lines of each; disks come after
     /// them. `Memory`, with the number 0, means that memory was refused; it says nothing of the lists.
@@ -91,7 +98,8 @@ impl Stack {
         ensures never { (stack : Description) (found : LoadFault) → IsSound stack → IsRefusedBy stack found → ⊥ }
         // The figures of the limits.
         ensures limits { (MOST_DEVICES ≡ 1024) × (MOST_DISKS ≡ 1024) × (MOST_LINES ≡ 65536) × (MOST_DEPTH ≡ 32)
-            × (MOST_LENGTH ≡ 2 ^ 50) × (MOST_STRIPES ≡ 128) × (MOST_CHUNK + 1 ≡ 2 ^ 32) }
+            × (MOST_LENGTH ≡ 2 ^ 50) × (MOST_STRIPES ≡ 128) × (MOST_CHUNK + 1 ≡ 2 ^ 32)
+            × (MOST_SNAPSHOT_CHUNK ≡ 1024) × (MOST_PLACES ≡ 4194304) }
     {
         let checked = check(alloc, &devices, &disks)?;
         Ok(Stack {
@@ -101,6 +109,7 @@ impl Stack {
             disk_names: checked.names.disks,
             tables: checked.tables,
             depth: checked.depth,
+            snapshots: checked.snapshots,
         })
     }
 
@@ -165,6 +174,13 @@ impl Stack {
         ensures rule { IsDeeperByOne self.now }
     {
         self.depth
+    }
+
+    /// The devices that are snapshots, in their order: each has a snapshot's line, alone in its table.
+    pub fn snapshots(&self) -> &[DeviceId]
+        ensures { result.now ≡ snapshots self.now }
+    {
+        self.snapshots.as_slice()
     }
 
     /// Whether a device of the stack is read-only.

@@ -12,13 +12,13 @@ use Rattle.dm_table.specs.declared.table.DevRef.{DevRef}
 use Rattle.dm_table.specs.declared.table.DevRef.TheVariants.{Device, Disk}
 use Rattle.dm_table.specs.declared.table.Column.{Column}
 use Rattle.dm_table.specs.declared.table.Target.{Target}
-use Rattle.dm_table.specs.declared.table.Target.TheVariants.{Linear, Striped, Zero, Error}
+use Rattle.dm_table.specs.declared.table.Target.TheVariants.{Linear, Striped, Zero, Error, Snapshot}
 use Rattle.dm_table.specs.declared.table.Line.{Line}
 use Rattle.dm_table.specs.declared.place.Place.{Place}
 use Rattle.dm_table.specs.Name.{is_device_byte, is_device_name, is_disk_byte, is_disk_name, names_device, mapper}
 use Rattle.dm_table.specs.Number.{Spells, number_of, number_in}
-use Rattle.dm_table.specs.LineBody.{dev_text, column_text, target_text, body_text, IsDevRef, IsColumn, IsTarget, IsBody, is_body_row, is_linear, are_columns, is_half, is_striped, is_target, is_body, is_dev, are_devs, has_devs, has_body_names}
-use Rattle.dm_table.specs.LineReading.{dev_in, columns_in, linear_in, striped_in, target_in, body_in}
+use Rattle.dm_table.specs.LineBody.{dev_text, column_text, target_text, body_text, IsDevRef, IsColumn, IsTarget, IsBody, is_body_row, is_linear, are_columns, is_half, is_striped, is_snapshot, is_target, is_body, is_dev, are_devs, are_both_devs, has_devs, has_body_names}
+use Rattle.dm_table.specs.LineReading.{dev_in, columns_in, linear_in, striped_in, snapshot_in, target_in, body_in}
 use Rattle.dm_table.proofs.NumberLemmas.{Spells-number_of, number_of-decimal, decimal_digits, decimal_some, Some-is_some}
 use Rattle.dm_table.proofs.ByteLemmas.{All-list_all, list_all-weaker, device_name_parts, disk_name_parts}
 use Rattle.dm_table.proofs.FieldLemmas.{IsClearOf}
@@ -35,6 +35,7 @@ target_fields (Linear to offset) = codes "linear" ∷ dev_text to ∷ decimal of
 target_fields (Striped chunk columns) = codes "striped" ∷ decimal (length columns) ∷ decimal chunk ∷ flat_map column_fields columns
 target_fields Zero = codes "zero" ∷ []
 target_fields Error = codes "error" ∷ []
+target_fields (Snapshot origin store chunk) = codes "snapshot" ∷ dev_text origin ∷ dev_text store ∷ codes "P" ∷ decimal chunk ∷ []
 
 abbrev pub body_fields : Line → List (List ℕ)
 body_fields line = decimal line.start ∷ decimal line.len ∷ target_fields line.target
@@ -49,6 +50,7 @@ target_joined before start len (Linear to offset) = simp append_assoc
 target_joined before start len (Striped chunk columns) = rw (columns_text (decimal chunk) columns) (simp append_assoc)
 target_joined before start len Zero = simp append_assoc
 target_joined before start len Error = simp append_assoc
+target_joined before start len (Snapshot origin store chunk) = simp append_assoc
 
 pub body_joined : (before : List ℕ) (line : Line) → join_with_byte 32 (before ∷ body_fields line) ≡ before ++ 32 ∷ body_text line
 body_joined before line = target_joined before (decimal line.start) (decimal line.len) line.target ∙ simp append_assoc
@@ -111,6 +113,16 @@ striped_row (count ∷ chunk ∷ columns) h =
     let b = and_parts (is_some (number_of chunk)) (are_columns columns) a.1 in
     rw ((count_row count columns a.0 b.1).0, ← (number_spelled chunk b.0).digits, columns_row columns b.1) refl
 
+snapshot_row : (fs : List (List ℕ)) → is_snapshot fs ≡ true → target_fields (snapshot_in fs) ≡ codes "snapshot" ∷ fs
+snapshot_row [] h = absurd cc
+snapshot_row (origin ∷ []) h = absurd cc
+snapshot_row (origin ∷ store ∷ []) h = absurd cc
+snapshot_row (origin ∷ store ∷ flag ∷ []) h = absurd cc
+snapshot_row (origin ∷ store ∷ flag ∷ chunk ∷ []) h =
+    let a = and_parts (pointwise nat_eq flag (codes "P")) (is_some (number_of chunk)) h in
+    rw (dev_spelled origin, dev_spelled store, same_name flag (codes "P") a.0, ← (number_spelled chunk a.1).digits) refl
+snapshot_row (origin ∷ store ∷ flag ∷ chunk ∷ more ∷ rest) h = absurd cc
+
 -- the words of types that take no arguments
 abbrev is_alone : List ℕ → List (List ℕ) → Bool
 is_alone type arguments = (pointwise nat_eq type (codes "zero") || pointwise nat_eq type (codes "error")) && eqb (length arguments) 0
@@ -133,7 +145,10 @@ target_row (type ∷ arguments) h = elim (cases_Bool (pointwise nat_eq type (cod
   | inl e ↦ rw e (linear_row arguments (rw e at h) ∙ ap (λ (t : List ℕ). t ∷ arguments) (sym (same_name type (codes "linear") e)))
   | inr e ↦ elim (cases_Bool (pointwise nat_eq type (codes "striped"))) [
     | inl s ↦ rw (e, s) (striped_row arguments (rw (e, s) at h) ∙ ap (λ (t : List ℕ). t ∷ arguments) (sym (same_name type (codes "striped") s)))
-    | inr s ↦ rw (e, s) (alone_row type arguments (rw (e, s) at h))
+    | inr s ↦ elim (cases_Bool (pointwise nat_eq type (codes "snapshot"))) [
+      | inl p ↦ rw (e, s, p) (snapshot_row arguments (rw (e, s, p) at h) ∙ ap (λ (t : List ℕ). t ∷ arguments) (sym (same_name type (codes "snapshot") p)))
+      | inr p ↦ rw (e, s, p) (alone_row type arguments (rw (e, s, p) at h))
+    ]
   ]
 ]
 
@@ -168,6 +183,17 @@ striped_said (count ∷ chunk ∷ columns) h d =
     let b = and_parts (is_some (number_of chunk)) (are_columns columns) a.1 in
     ((count_row count columns a.0 b.1).1, (number_spelled chunk b.0).short, columns_said columns b.1 d)
 
+snapshot_said : (fs : List (List ℕ)) → is_snapshot fs ≡ true → are_both_devs fs ≡ true → IsTarget (snapshot_in fs)
+snapshot_said [] h d = absurd cc
+snapshot_said (origin ∷ []) h d = absurd cc
+snapshot_said (origin ∷ store ∷ []) h d = absurd cc
+snapshot_said (origin ∷ store ∷ flag ∷ []) h d = absurd cc
+snapshot_said (origin ∷ store ∷ flag ∷ chunk ∷ []) h d =
+    let a = and_parts (is_dev origin) (is_dev store) d in
+    let b = and_parts (pointwise nat_eq flag (codes "P")) (is_some (number_of chunk)) h in
+    (dev_said origin a.0, dev_said store a.1, (number_spelled chunk b.1).short)
+snapshot_said (origin ∷ store ∷ flag ∷ chunk ∷ more ∷ rest) h d = absurd cc
+
 alone_said : (zero : Bool) → IsTarget (if zero then Zero else Error)
 alone_said true = tt
 alone_said false = tt
@@ -178,7 +204,10 @@ target_said (type ∷ arguments) h d = elim (cases_Bool (pointwise nat_eq type (
   | inl e ↦ rw e (linear_said arguments (rw e at h) (sym (linear_devs type arguments (same_name type (codes "linear") e)) ∙ d))
   | inr e ↦ elim (cases_Bool (pointwise nat_eq type (codes "striped"))) [
     | inl s ↦ rw (e, s) (striped_said arguments (rw (e, s) at h) (rw s at d))
-    | inr s ↦ rw (e, s) (alone_said (pointwise nat_eq type (codes "zero")))
+    | inr s ↦ elim (cases_Bool (pointwise nat_eq type (codes "snapshot"))) [
+      | inl p ↦ rw (e, s, p) (snapshot_said arguments (rw (e, s, p) at h) (rw (s, p) at d))
+      | inr p ↦ rw (e, s, p) (alone_said (pointwise nat_eq type (codes "zero")))
+    ]
   ]
 ]
 
@@ -241,6 +270,7 @@ target_inked (Linear to offset) h = ((refl, refl), (dev_inked to h.0, (number_in
 target_inked (Striped chunk columns) h = ((refl, refl), (number_inked (length columns) h.0, (number_inked chunk h.1, columns_inked columns h.2)))
 target_inked Zero h = ((refl, refl), tt)
 target_inked Error h = ((refl, refl), tt)
+target_inked (Snapshot origin store chunk) h = ((refl, refl), (dev_inked origin h.0, (dev_inked store h.1, ((refl, refl), (number_inked chunk h.2, tt)))))
 
 pub body_inked : (line : Line) → IsBody line → AllByRecursion IsInked (body_fields line)
 body_inked line h = (number_inked line.start h.start, (number_inked line.len h.len, target_inked line.target h.target))
@@ -260,6 +290,7 @@ row_ok start len (Linear to offset) h = and_from _ _ refl (filled (start ∷ len
 row_ok start len (Striped chunk columns) h = and_from _ _ (le_three (length (start ∷ len ∷ target_fields (Striped chunk columns))) (omega arith)) (filled (start ∷ len ∷ target_fields (Striped chunk columns)) h)
 row_ok start len Zero h = and_from _ _ refl (filled (start ∷ len ∷ target_fields Zero) h)
 row_ok start len Error h = and_from _ _ refl (filled (start ∷ len ∷ target_fields Error) h)
+row_ok start len (Snapshot origin store chunk) h = and_from _ _ refl (filled (start ∷ len ∷ target_fields (Snapshot origin store chunk)) h)
 
 pub body_row_passes : (line : Line) → IsBody line → is_body_row (body_fields line) ≡ true
 body_row_passes line h = row_ok (decimal line.start) (decimal line.len) line.target (body_inked line h)
@@ -288,6 +319,7 @@ target_passes (Linear to offset) h = number_passes offset h.1
 target_passes (Striped chunk columns) h = and_from _ _ (count_passes columns h.0) (and_from _ _ (number_passes chunk h.1) (columns_pass columns h.2))
 target_passes Zero h = refl
 target_passes Error h = refl
+target_passes (Snapshot origin store chunk) h = number_passes chunk h.2
 
 pub body_passes : (line : Line) → IsBody line → is_body (body_fields line) ≡ true
 body_passes line h = and_from _ _ (number_passes line.start h.start) (and_from _ _ (number_passes line.len h.len) (target_passes line.target h.target))
@@ -309,6 +341,7 @@ devs_ok (Linear to offset) t = and_from _ _ (dev_passes to t.0) refl
 devs_ok (Striped chunk columns) t = devs_pass columns t.2
 devs_ok Zero t = refl
 devs_ok Error t = refl
+devs_ok (Snapshot origin store chunk) t = and_from _ _ (dev_passes origin t.0) (dev_passes store t.1)
 
 pub body_names_pass : (line : Line) → IsBody line → has_body_names (body_fields line) ≡ true
 body_names_pass line h = devs_ok line.target h.target
@@ -322,6 +355,7 @@ target_again (Linear to offset) h = rw (dev_again to h.0, number_is offset h.1) 
 target_again (Striped chunk columns) h = rw (number_is chunk h.1, columns_again columns h.2) refl
 target_again Zero h = refl
 target_again Error h = refl
+target_again (Snapshot origin store chunk) h = rw (dev_again origin h.0, dev_again store h.1, number_is chunk h.2) refl
 
 -- and are read as that line
 pub line_again : (at : Place) (line : Line) → IsBody line → line.at ≡ at → body_in at (body_fields line) ≡ line

@@ -7,15 +7,16 @@ use Rattle.std.proofs.lemmas.List.{take_rest, length-map}
 use denote.Ref.{Bor}
 use Rattle.dm_table.specs.declared.table.Column.{Column}
 use Rattle.dm_table.specs.declared.table.DevRef.{DevRef}
-use Rattle.dm_table.specs.declared.table.Target.TheVariants.{Linear, Striped}
+use Rattle.dm_table.specs.declared.table.Target.{Target}
+use Rattle.dm_table.specs.declared.table.Target.TheVariants.{Linear, Striped, Snapshot}
 use Rattle.dm_table.specs.declared.place.Place.{Place}
 use Rattle.dm_table.specs.declared.row_faults.RowFault.{RowFault}
 use Rattle.dm_table.specs.declared.row_faults.RowFault.TheVariants.{Field, Name, Memory}
 use Rattle.dm_table.specs.Number.{number_of}
 use Rattle.dm_table.specs.Fields.{texts}
-use Rattle.dm_table.specs.LineBody.{are_columns, is_half, is_dev, are_devs, has_devs}
+use Rattle.dm_table.specs.LineBody.{are_columns, is_half, is_dev, are_devs, are_both_devs, has_devs}
 use Rattle.dm_table.specs.RowFaults.{value_fault, read_unless}
-use Rattle.dm_table.specs.LineReading.{dev_in, columns_in, dev_reading, columns_reading, fault_before, linear_reading, striped_reading, target_reading, body_reading}
+use Rattle.dm_table.specs.LineReading.{dev_in, columns_in, dev_reading, columns_reading, fault_before, linear_reading, striped_reading, snapshot_reading, target_reading, body_reading}
 use Rattle.dm_table.proofs.TableGroups.{same_name}
 
 -- What is read of a value
@@ -161,7 +162,53 @@ striped_read (f ∷ g ∷ fs) d e chunk columns h c n r =
     let a = read_value (value_fault (are_columns (texts fs)) (are_devs (texts fs))) (columns_in (texts fs)) columns (rw (take_rest (f ∷ g ∷ fs) 2) at r) in
     rw (half, n, a.0, a.1) refl
 
--- the word linear is not the word striped
+-- what is read of four fields
+of_four : (fs : List (Bor (List ℕ))) (d e g k : Bor (List ℕ)) (reading : Result Target RowFault) → length fs ≡ 4
+    → snapshot_reading ((slice_index_or fs 0 d).now ∷ (slice_index_or fs 1 e).now ∷ (slice_index_or fs 2 g).now ∷ (slice_index_or fs 3 k).now ∷ []) ≡ reading
+    → snapshot_reading (texts fs) ≡ reading
+of_four [] d e g k reading h is = absurd (omega arith)
+of_four (a ∷ []) d e g k reading h is = absurd (omega arith)
+of_four (a ∷ b ∷ []) d e g k reading h is = absurd (omega arith)
+of_four (a ∷ b ∷ c ∷ []) d e g k reading h is = absurd (omega arith)
+of_four (a ∷ b ∷ c ∷ f ∷ []) d e g k reading h is = is
+of_four (a ∷ b ∷ c ∷ f ∷ x ∷ fs) d e g k reading h is = absurd (omega arith)
+
+pub snapshot_none : (fs : List (Bor (List ℕ))) → length fs ≢ 4 → snapshot_reading (texts fs) ≡ Err Field
+snapshot_none [] h = refl
+snapshot_none (a ∷ []) h = refl
+snapshot_none (a ∷ b ∷ []) h = refl
+snapshot_none (a ∷ b ∷ c ∷ []) h = refl
+snapshot_none (a ∷ b ∷ c ∷ f ∷ []) h = absurd (h refl)
+snapshot_none (a ∷ b ∷ c ∷ f ∷ x ∷ fs) h = refl
+
+pub snapshot_flag : (fs : List (Bor (List ℕ))) (g : Bor (List ℕ)) → length fs ≡ 4 → pointwise nat_eq (slice_index_or fs 2 g).now (codes "P") ≡ false → snapshot_reading (texts fs) ≡ Err Field
+snapshot_flag fs g four p = of_four fs g g g g (Err Field) four (rw p refl)
+
+pub snapshot_chunk : (fs : List (Bor (List ℕ))) (g k : Bor (List ℕ)) → length fs ≡ 4 → pointwise nat_eq (slice_index_or fs 2 g).now (codes "P") ≡ true → number_of (slice_index_or fs 3 k).now ≡ None
+    → snapshot_reading (texts fs) ≡ Err Field
+snapshot_chunk fs g k four p n = of_four fs g g g k (Err Field) four (rw (p, n) refl)
+
+pub snapshot_origin : (fs : List (Bor (List ℕ))) (d g k : Bor (List ℕ)) (chunk : ℕ) (fault : RowFault) → length fs ≡ 4 → pointwise nat_eq (slice_index_or fs 2 g).now (codes "P") ≡ true
+    → number_of (slice_index_or fs 3 k).now ≡ Some chunk → dev_reading (slice_index_or fs 0 d).now ≡ Err fault → snapshot_reading (texts fs) ≡ Err fault
+snapshot_origin fs d g k chunk fault four p n o =
+    let a = dev_unnamed (slice_index_or fs 0 d).now fault o in
+    of_four fs d d g k (Err fault) four (rw (p, n, a.0, a.1) refl)
+
+pub snapshot_store : (fs : List (Bor (List ℕ))) (d e g k : Bor (List ℕ)) (chunk : ℕ) (origin : DevRef) (fault : RowFault) → length fs ≡ 4 → pointwise nat_eq (slice_index_or fs 2 g).now (codes "P") ≡ true
+    → number_of (slice_index_or fs 3 k).now ≡ Some chunk → dev_reading (slice_index_or fs 0 d).now ≡ Ok origin → dev_reading (slice_index_or fs 1 e).now ≡ Err fault → snapshot_reading (texts fs) ≡ Err fault
+snapshot_store fs d e g k chunk origin fault four p n o s =
+    let a = dev_parts (slice_index_or fs 0 d).now origin o in
+    let b = dev_unnamed (slice_index_or fs 1 e).now fault s in
+    of_four fs d e g k (Err fault) four (rw (p, n, a.0, b.0, b.1) refl)
+
+pub snapshot_read : (fs : List (Bor (List ℕ))) (d e g k : Bor (List ℕ)) (chunk : ℕ) (origin store : DevRef) → length fs ≡ 4 → pointwise nat_eq (slice_index_or fs 2 g).now (codes "P") ≡ true
+    → number_of (slice_index_or fs 3 k).now ≡ Some chunk → dev_reading (slice_index_or fs 0 d).now ≡ Ok origin → dev_reading (slice_index_or fs 1 e).now ≡ Ok store → snapshot_reading (texts fs) ≡ Ok (Snapshot origin store chunk)
+snapshot_read fs d e g k chunk origin store four p n o s =
+    let a = dev_parts (slice_index_or fs 0 d).now origin o in
+    let b = dev_parts (slice_index_or fs 1 e).now store s in
+    of_four fs d e g k (Ok (Snapshot origin store chunk)) four (rw (p, n, a.0, b.0, a.1, b.1) refl)
+
+-- the words linear, striped and snapshot differ
 pub linear_devs : (type : List ℕ) (arguments : List (List ℕ)) → type ≡ codes "linear" → has_devs (type ∷ arguments) ≡ are_devs arguments
 linear_devs type arguments is = rw is refl
 
@@ -173,14 +220,6 @@ target_linear (f ∷ fs) d h is = rw (take_rest (f ∷ fs) 1, is, linear_devs f.
 pub and_false : (b : Bool) → (b && false) ≡ false
 and_false true = refl
 and_false false = refl
-
-pub target_more : (fs : List (Bor (List ℕ))) (d : Bor (List ℕ)) → 1 ≤ length fs → pointwise nat_eq (slice_index_or fs 0 d).now (codes "linear") ≡ false → pointwise nat_eq (slice_index_or fs 0 d).now (codes "striped") ≡ false
-    → eqb (length (take (length fs - 1) (drop 1 fs))) 0 ≡ false → target_reading (texts fs) ≡ Err Field
-target_more [] d h l s some = absurd (omega arith)
-target_more (f ∷ []) d h l s some = absurd cc
-target_more (f ∷ g ∷ fs) d h l s some =
-    let long : eqb (length (texts (g ∷ fs))) 0 ≡ false = ne_eqb _ _ (λ e. omega arith) in
-    rw (l, s, long, and_false _) refl
 
 pub body_none : (at : Place) (fs : List (Bor (List ℕ))) → length fs < 2 → body_reading at (texts fs) ≡ Err Field
 body_none at [] h = refl

@@ -6,7 +6,7 @@ use Rattle.dm_table.specs.declared.table.DevRef.{DevRef}
 use Rattle.dm_table.specs.declared.table.DevRef.TheVariants.{Device, Disk}
 use Rattle.dm_table.specs.declared.table.Column.{Column}
 use Rattle.dm_table.specs.declared.table.Target.{Target}
-use Rattle.dm_table.specs.declared.table.Target.TheVariants.{Linear, Striped, Zero, Error}
+use Rattle.dm_table.specs.declared.table.Target.TheVariants.{Linear, Striped, Zero, Error, Snapshot}
 use Rattle.dm_table.specs.declared.table.Line.{Line}
 use Rattle.dm_table.specs.Name.{is_device_name, is_disk_name, names_device, mapper}
 use Rattle.dm_table.specs.Number.{number_of, number_in}
@@ -28,6 +28,7 @@ target_text (Linear to offset) = codes "linear " ++ dev_text to ++ 32 ∷ decima
 target_text (Striped chunk columns) = codes "striped " ++ decimal (length columns) ++ 32 ∷ decimal chunk ++ flat_map column_text columns
 target_text Zero = codes "zero"
 target_text Error = codes "error"
+target_text (Snapshot origin store chunk) = codes "snapshot " ++ dev_text origin ++ 32 ∷ dev_text store ++ codes " P " ++ decimal chunk
 
 -- how the body of a line is written
 abbrev pub body_text : Line → List ℕ
@@ -48,6 +49,7 @@ IsTarget (Linear to offset) = IsDevRef to × (offset < 10 ^ 19)
 IsTarget (Striped chunk columns) = (length columns < 10 ^ 19) × (chunk < 10 ^ 19) × AllByRecursion IsColumn columns
 IsTarget Zero = Unit {0}
 IsTarget Error = Unit {0}
+IsTarget (Snapshot origin store chunk) = IsDevRef origin × IsDevRef store × (chunk < 10 ^ 19)
 
 -- a text may say this body
 pub record IsBody (line : Line) : Type 0 where
@@ -81,13 +83,19 @@ abbrev pub is_striped : List (List ℕ) → Bool
 is_striped (count ∷ chunk ∷ columns) = is_half count (length columns) && (is_some (number_of chunk) && are_columns columns)
 is_striped _ = false
 
+-- two texts, the flag of a store that keeps what it took, and a number
+abbrev pub is_snapshot : List (List ℕ) → Bool
+is_snapshot (origin ∷ store ∷ flag ∷ chunk ∷ []) = pointwise nat_eq flag (codes "P") && is_some (number_of chunk)
+is_snapshot _ = false
+
 -- a known target type with as many arguments as it takes, its numbers among them
 abbrev pub is_target : List (List ℕ) → Bool
 is_target [] = false
 is_target (type ∷ arguments) =
     if pointwise nat_eq type (codes "linear") then is_linear arguments
     else (if pointwise nat_eq type (codes "striped") then is_striped arguments
-    else (pointwise nat_eq type (codes "zero") || pointwise nat_eq type (codes "error")) && length arguments == 0)
+    else (if pointwise nat_eq type (codes "snapshot") then is_snapshot arguments
+    else (pointwise nat_eq type (codes "zero") || pointwise nat_eq type (codes "error")) && length arguments == 0))
 
 -- a start, a length and a target
 abbrev pub is_body : List (List ℕ) → Bool
@@ -103,10 +111,18 @@ abbrev pub are_devs : List (List ℕ) → Bool
 are_devs (to ∷ offset ∷ more) = is_dev to && are_devs more
 are_devs _ = true
 
+-- the first two fields are such texts
+abbrev pub are_both_devs : List (List ℕ) → Bool
+are_both_devs (origin ∷ store ∷ more) = is_dev origin && is_dev store
+are_both_devs _ = true
+
 -- the arguments of a type that are to name something do so
 abbrev pub has_devs : List (List ℕ) → Bool
 has_devs [] = true
-has_devs (type ∷ arguments) = if pointwise nat_eq type (codes "striped") then are_devs (drop 2 arguments) else are_devs arguments
+has_devs (type ∷ arguments) =
+    if pointwise nat_eq type (codes "striped") then are_devs (drop 2 arguments)
+    else (if pointwise nat_eq type (codes "snapshot") then are_both_devs arguments
+    else are_devs arguments)
 
 -- those of a body do so
 abbrev pub has_body_names : List (List ℕ) → Bool

@@ -5,14 +5,14 @@ use Rattle.dm_table.specs.declared.table.DevRef.{DevRef}
 use Rattle.dm_table.specs.declared.table.DevRef.TheVariants.{Device, Disk}
 use Rattle.dm_table.specs.declared.table.Column.{Column}
 use Rattle.dm_table.specs.declared.table.Target.{Target}
-use Rattle.dm_table.specs.declared.table.Target.TheVariants.{Linear, Striped, Zero, Error}
+use Rattle.dm_table.specs.declared.table.Target.TheVariants.{Linear, Striped, Zero, Error, Snapshot}
 use Rattle.dm_table.specs.declared.table.Line.{Line}
 use Rattle.dm_table.specs.declared.place.Place.{Place}
 use Rattle.dm_table.specs.declared.row_faults.RowFault.{RowFault}
 use Rattle.dm_table.specs.declared.row_faults.RowFault.TheVariants.{Syntax, Field, Name, Memory}
 use Rattle.dm_table.specs.Name.{names_device, mapper}
 use Rattle.dm_table.specs.Number.{number_in}
-use Rattle.dm_table.specs.LineBody.{is_linear, are_columns, is_striped, is_target, is_dev, are_devs, has_devs, is_body, has_body_names}
+use Rattle.dm_table.specs.LineBody.{is_linear, are_columns, is_striped, is_snapshot, is_target, is_dev, are_devs, are_both_devs, has_devs, is_body, has_body_names}
 use Rattle.dm_table.specs.RowFaults.{value_fault, read_unless}
 
 -- what a text names
@@ -34,13 +34,19 @@ abbrev pub striped_in : List (List ℕ) → Target
 striped_in (count ∷ chunk ∷ columns) = Striped (number_in chunk) (columns_in columns)
 striped_in _ = Error
 
+-- the arguments of a snapshot's line as its target
+abbrev pub snapshot_in : List (List ℕ) → Target
+snapshot_in (origin ∷ store ∷ flag ∷ chunk ∷ []) = Snapshot (dev_in origin) (dev_in store) (number_in chunk)
+snapshot_in _ = Error
+
 -- the target of a type and its arguments
 abbrev pub target_in : List (List ℕ) → Target
 target_in [] = Error
 target_in (type ∷ arguments) =
     if pointwise nat_eq type (codes "linear") then linear_in arguments
     else (if pointwise nat_eq type (codes "striped") then striped_in arguments
-    else (if pointwise nat_eq type (codes "zero") then Zero else Error))
+    else (if pointwise nat_eq type (codes "snapshot") then snapshot_in arguments
+    else (if pointwise nat_eq type (codes "zero") then Zero else Error)))
 
 -- the line of a body's fields, at a place
 abbrev pub body_in : Place → List (List ℕ) → Line
@@ -67,6 +73,9 @@ linear_reading arguments = read_unless (value_fault (is_linear arguments) (are_d
 
 abbrev pub striped_reading : List (List ℕ) → Result Target RowFault
 striped_reading arguments = read_unless (value_fault (is_striped arguments) (are_devs (drop 2 arguments))) (striped_in arguments)
+
+abbrev pub snapshot_reading : List (List ℕ) → Result Target RowFault
+snapshot_reading arguments = read_unless (value_fault (is_snapshot arguments) (are_both_devs arguments)) (snapshot_in arguments)
 
 abbrev pub target_reading : List (List ℕ) → Result Target RowFault
 target_reading target = read_unless (value_fault (is_target target) (has_devs target)) (target_in target)

@@ -27,19 +27,21 @@ fn write<W: Output>(writer: &mut W, bytes: &[u8]) -> Result<(), OutFault>
     write_all(writer, bytes)
 }
 
-/// Writes a number in decimal digits.
-fn write_number<W: Output>(writer: &mut W, number: u64) -> Result<(), OutFault>
-    ensures { Wrote W.written W.waiting W.faults W.flushes writer.old writer.new result (decimal number) }
+/// Writes a number in decimal digits, after what comes before it.
+fn write_number<W: Output>(writer: &mut W, before: &[u8], number: u64) -> Result<(), OutFault>
+    ensures { Wrote W.written W.waiting W.faults W.flushes writer.old writer.new result (before.now ++ decimal number) }
 {
     let mut text = ArrayVec::<u8, MOST_DIGITS>::new();
     put_number(&mut text, number);
+    write(&mut *writer, before)?;
     write(writer, text.as_slice())
 }
 
-/// Writes the name of a lower device.
-fn write_dev<W: Output>(writer: &mut W, dev: &DevRef) -> Result<(), OutFault>
-    ensures { Wrote W.written W.waiting W.faults W.flushes writer.old writer.new result (dev_text dev.now) }
+/// Writes the name of a lower device, after what comes before it.
+fn write_dev<W: Output>(writer: &mut W, before: &[u8], dev: &DevRef) -> Result<(), OutFault>
+    ensures { Wrote W.written W.waiting W.faults W.flushes writer.old writer.new result (before.now ++ dev_text dev.now) }
 {
+    write(&mut *writer, before)?;
     match dev {
         DevRef::Device(name) => {
             write(&mut *writer, b"/dev/mapper/")?;
@@ -58,10 +60,8 @@ fn write_extent<W: Output>(
 ) -> Result<(), OutFault>
     ensures { Wrote W.written W.waiting W.faults W.flushes writer.old writer.new result (before.now ++ dev_text to.now ++ 32 ∷ decimal offset) }
 {
-    write(&mut *writer, before)?;
-    write_dev(&mut *writer, to)?;
-    write(&mut *writer, b" ")?;
-    write_number(writer, offset)
+    write_dev(&mut *writer, before, to)?;
+    write_number(writer, b" ", offset)
 }
 
 fn write_columns<W: Output>(writer: &mut W, columns: &[Column]) -> Result<(), OutFault>
@@ -82,10 +82,21 @@ fn write_numbers<W: Output>(
 ) -> Result<(), OutFault>
     ensures { Wrote W.written W.waiting W.faults W.flushes writer.old writer.new result (before.now ++ decimal first ++ 32 ∷ decimal second) }
 {
-    write(&mut *writer, before)?;
-    write_number(&mut *writer, first)?;
-    write(&mut *writer, b" ")?;
-    write_number(writer, second)
+    write_number(&mut *writer, before, first)?;
+    write_number(writer, b" ", second)
+}
+
+/// Writes two lower devices with a space between them, after what comes before them.
+fn write_devs<W: Output>(
+    writer: &mut W,
+    before: &[u8],
+    first: &DevRef,
+    second: &DevRef,
+) -> Result<(), OutFault>
+    ensures { Wrote W.written W.waiting W.faults W.flushes writer.old writer.new result (before.now ++ dev_text first.now ++ 32 ∷ dev_text second.now) }
+{
+    write_dev(&mut *writer, before, first)?;
+    write_dev(writer, b" ", second)
 }
 
 fn write_target<W: Output>(writer: &mut W, target: &Target) -> Result<(), OutFault>
@@ -100,6 +111,14 @@ fn write_target<W: Output>(writer: &mut W, target: &Target) -> Result<(), OutFau
         }
         Target::Zero => write(writer, b"zero"),
         Target::Error => write(writer, b"error"),
+        Target::Snapshot {
+            origin,
+            store,
+            chunk,
+        } => {
+            write_devs(&mut *writer, b"snapshot ", origin, store)?;
+            write_number(writer, b" P ", *chunk)
+        }
     }
 }
 

@@ -10,7 +10,7 @@ ghost use Rattle.std.specs.List.{list_all};
 ghost use Rattle.dm_table.specs.Fields.{texts};
 ghost use Rattle.dm_table.specs.Name.{names_device, mapper};
 ghost use Rattle.dm_table.specs.LineBody.{is_body_row, are_columns, is_half, is_dev};
-ghost use Rattle.dm_table.specs.LineReading.{dev_reading, columns_reading, fault_before, linear_reading, striped_reading, target_reading, body_reading};
+ghost use Rattle.dm_table.specs.LineReading.{dev_reading, columns_reading, fault_before, linear_reading, striped_reading, snapshot_reading, target_reading, body_reading};
 ghost use Rattle.dm_table.specs.RowFaults.{Reads};
 
 use crate::disk_name::{DiskName, is_disk_name};
@@ -73,6 +73,8 @@ fn read_target(alloc: Global, target: &[&[u8]]) -> Result<Target, RowFault>
         read_linear(alloc, arguments)
     } else if *kind == b"striped".as_slice() {
         read_striped(alloc, arguments)
+    } else if *kind == b"snapshot".as_slice() {
+        read_snapshot(alloc, arguments)
     } else if !arguments.is_empty() {
         Err(RowFault::Field)
     } else if *kind == b"zero".as_slice() {
@@ -111,6 +113,28 @@ fn read_striped(alloc: Global, arguments: &[&[u8]]) -> Result<Target, RowFault>
     };
     let columns = read_columns(alloc, columns)?;
     Ok(Target::Striped { chunk, columns })
+}
+
+/// A snapshot's origin and store, and the sectors of a chunk. Of the kinds of stores there is one, `P`.
+fn read_snapshot(alloc: Global, arguments: &[&[u8]]) -> Result<Target, RowFault>
+    ensures { Reads (λ target. target) result (snapshot_reading (texts arguments.now)) }
+{
+    let [origin, store, flag, chunk] = arguments else {
+        return Err(RowFault::Field);
+    };
+    if *flag != b"P".as_slice() {
+        return Err(RowFault::Field);
+    }
+    let Some(chunk) = number(*chunk) else {
+        return Err(RowFault::Field);
+    };
+    let origin = read_dev(alloc, *origin)?;
+    let store = read_dev(alloc, *store)?;
+    Ok(Target::Snapshot {
+        origin,
+        store,
+        chunk,
+    })
 }
 
 /// Whether the field is a number, and half of the other one: nothing is doubled, so nothing wraps.

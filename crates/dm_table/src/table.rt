@@ -67,14 +67,27 @@ impl Columns {
 #[derive(Debug, Drop)]
 pub enum Target {
     /// They are those of a lower device, from an offset on.
-    Linear { to: DevRef, offset: u64 },
+    Linear {
+        to: DevRef,
+        offset: u64,
+    },
     /// They go to the columns in turn, `chunk` of them at a time: the first chunk is the first of
     /// the first column. A text may give a chunk of 0 or no columns; that is for the load to refuse.
-    Striped { chunk: u64, columns: Columns },
+    Striped {
+        chunk: u64,
+        columns: Columns,
+    },
     /// Reads give zeros, and writes are dropped.
     Zero,
     /// Every request fails.
     Error,
+    /// They are a copy of the origin's, made `chunk` sectors at a time into the store before a first
+    /// write. A text may give any chunk; that is for the load to refuse.
+    Snapshot {
+        origin: DevRef,
+        store: DevRef,
+        chunk: u64,
+    },
 }
 
 /// A line of a table: `len` sectors from `start` on, and the place that describes it.

@@ -1,3 +1,5 @@
+use Rattle.std.proofs.Common.{ap, ◌∙◌}
+use Rattle.dm_stack.specs.Graph.{links_in}
 use Rattle.dm_stack.proofs.LoadLemmas.{first_ring}
 use Rattle.dm_stack.proofs.load.follow.Goals as goal
 
@@ -11,3 +13,6 @@ pub returns-clause-cycle : goal.returns-clause-cycle
 returns-clause-cycle c =
     let ring = c.in_ok-cycle.ensures in
     rw (← c.in_ok-links.ensures, ← c.deref-2.ensures.value) (first_ring c.deref-2.result.now c.in_ok-cycle.cycle ring.found ring.first ring.none)
+
+pub store_depths-requires-clause-named : goal.store_depths-requires-clause-named
+store_depths-requires-clause-named c = ap links_in c.deref-4.ensures.value ∙ c.in_ok-links.ensures

@@ -1,24 +1,14 @@
-use Rattle.std.proofs.Common.{◌∷◌, ◌++◌, [], refl, append_assoc}
+use Rattle.std.proofs.Common.{◌∷◌, ◌++◌, append_assoc}
 use Rattle.std.specs.Prelude.{decimal}
 use Rattle.std.proofs.lemmas.Result.{err_from_is_err_and}
 use Rattle.dm_table.proofs.WriteLemmas.{stopped, and_then}
 use Rattle.dm_table.proofs.canonical_text.write_numbers.Goals as goal
 
-pub returns-in_err-write : goal.returns-in_err-write
-returns-in_err-write g c =
-    let p = err_from_is_err_and c.from_residual.result c.from_residual.ensures.1 in
-    rw (p.1, p.2) (stopped c.args.before.now ((decimal c.args.first) ++ 32 ∷ decimal c.args.second) (simp append_assoc) c.in_err-write.ensures)
-
 pub returns-in_err-write_number : goal.returns-in_err-write_number
 returns-in_err-write_number g c =
-    let p = err_from_is_err_and c.from_residual-in_err-write_number.result c.from_residual-in_err-write_number.ensures.1 in
-    rw (p.1, p.2) (and_then c.args.before.now ((decimal c.args.first) ++ 32 ∷ decimal c.args.second) (simp append_assoc) c.in_ok-write.ensures (stopped (decimal c.args.first) (32 ∷ decimal c.args.second) refl c.in_err-write_number.ensures))
-
-pub returns-in_err-write-2 : goal.returns-in_err-write-2
-returns-in_err-write-2 g c =
-    let p = err_from_is_err_and c.from_residual-in_err-write-2.result c.from_residual-in_err-write-2.ensures.1 in
-    rw (p.1, p.2) (and_then c.args.before.now ((decimal c.args.first) ++ 32 ∷ decimal c.args.second) (simp append_assoc) c.in_ok-write.ensures (and_then (decimal c.args.first) (32 ∷ decimal c.args.second) refl c.in_ok-write_number.ensures (stopped (32 ∷ []) (decimal c.args.second) refl c.in_err-write-2.ensures)))
+    let p = err_from_is_err_and c.from_residual.result c.from_residual.ensures.1 in
+    rw (p.1, p.2) (stopped (c.args.before.now ++ decimal c.args.first) (32 ∷ decimal c.args.second) (simp append_assoc) c.in_err-write_number.ensures)
 
 pub returns : goal.returns
 returns g c =
-    and_then c.args.before.now ((decimal c.args.first) ++ 32 ∷ decimal c.args.second) (simp append_assoc) c.in_ok-write.ensures (and_then (decimal c.args.first) (32 ∷ decimal c.args.second) refl c.in_ok-write_number.ensures (and_then (32 ∷ []) (decimal c.args.second) refl c.in_ok-write-2.ensures c.write_number-2.ensures))
+    and_then (c.args.before.now ++ decimal c.args.first) (32 ∷ decimal c.args.second) (simp append_assoc) c.in_ok-write_number.ensures c.write_number-2.ensures

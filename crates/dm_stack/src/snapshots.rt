@@ -1,0 +1,89 @@
+//! Snapshots: whether each fits its table and its origin, and which devices are snapshots.
+//!
+//! A snapshot is a whole device: its line stands alone in its table and is as long as the origin.
+//! Mapping relies on it, and divides by the chunk, so that no rule here may be let go.
+
+ghost use Rattle.std.specs.Prelude.{◌≡◌, ◌∷◌, ◌++◌, [], IfOk, None, OnOk, if◌then◌else◌};
+ghost use Rattle.dm_table.specs.LoadFault.{first_or};
+ghost use Rattle.dm_stack.specs.Loaded.{has_snapshot, snapshots};
+ghost use Rattle.dm_stack.specs.Soundness.{is_bad_chunk, is_bad_snapshot, snapshot, snapshot_in};
+
+use crate::id::DeviceId;
+use crate::indexed::Indexed;
+use crate::limits::MOST_SNAPSHOT_CHUNK;
+use crate::placed::first_bad;
+use dm_table::{DeviceSpec, Line, LoadFault, LoadKind, Target};
+use std::alloc::{AllocError, Global};
+
+/// The first snapshot that is not the only line of its table, whose chunk is no power of two from 1
+/// to 1,024 sectors, or that is not as long as its origin.
+///
+/// Cost: a walk over the lines.
+pub(crate) fn bad_snapshots(stack: &Indexed) -> Option<LoadFault>
+    ensures { result ≡ first_or (snapshot stack.now) None }
+{
+    for device in stack.devices() {
+        if let Some(fault) = snapshot_in(stack, device.lines.as_slice()) {
+            return Some(fault);
+        }
+    }
+    None
+}
+
+fn snapshot_in(stack: &Indexed, lines: &[Line]) -> Option<LoadFault>
+    ensures { result ≡ first_or (snapshot_in stack.now lines.now) None }
+{
+    let count = lines.len();
+    first_bad(LoadKind::Snapshot, lines, |line| {
+        is_bad_snapshot(stack, count, line.len, &line.target)
+    })
+}
+
+fn is_bad_snapshot(stack: &Indexed, lines: usize, len: u64, target: &Target) -> bool
+    ensures { result ≡ is_bad_snapshot stack.now lines len target.now }
+{
+    match target {
+        Target::Snapshot { origin, chunk, .. } => {
+            lines != 1 || is_bad_chunk(*chunk) || len != stack.len_of(origin)
+        }
+        _ => false,
+    }
+}
+
+/// Whether a chunk is no power of two from 1 to 1,024.
+fn is_bad_chunk(chunk: u64) -> bool
+    ensures { result ≡ is_bad_chunk chunk }
+{
+    MOST_SNAPSHOT_CHUNK < chunk || !chunk.is_power_of_two()
+}
+
+/// The devices that are snapshots, in their order.
+///
+/// Fails only when out of memory. Cost: a walk over the lines, with memory for an id a snapshot.
+pub(crate) fn snapshots(alloc: Global, devices: &[DeviceSpec]) -> Result<Vec<DeviceId>, AllocError>
+    ensures { IfOk result (λ ids. ids.items ≡ snapshots (record { devices = devices.now; disks = [] })) }
+{
+    let mut ids = Vec::new(alloc);
+    for (id, device) in devices.iter().enumerate() {
+        add_snapshot(&mut ids, id, device.lines.as_slice())?;
+    }
+    Ok(ids)
+}
+
+/// Adds the id of a device that has a snapshot's line.
+fn add_snapshot(ids: &mut Vec<DeviceId>, id: usize, lines: &[Line]) -> Result<(), AllocError>
+    ensures { OnOk result (ids.new.items ≡ ids.old.items ++ (if has_snapshot lines.now then id ∷ [] else [])) }
+{
+    if has_snapshot(lines) {
+        ids.push(DeviceId::new(id))?;
+    }
+    Ok(())
+}
+
+fn has_snapshot(lines: &[Line]) -> bool
+    ensures { result ≡ has_snapshot lines.now }
+{
+    lines
+        .iter()
+        .any(|line| matches!(line.target, Target::Snapshot { .. }))
+}
