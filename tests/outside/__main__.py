@@ -24,6 +24,7 @@ import files
 import launcher
 import limits
 import loads
+import printing
 import request_lines
 import streams
 import words
@@ -43,7 +44,7 @@ def main():
         # As root the cases of unreadable files run as nobody, who has to come to the program.
         os.chmod(room, 0o755)
         program = Program(shutil.copy(built, os.path.join(room, "dmremap")), room)
-        for part in (words, files, loads, backups, request_lines, streams, limits):
+        for part in (words, files, loads, backups, printing, request_lines, streams, limits):
             part.check(tally, program)
         launcher.check(tally, program, TOP, built == BUILT)
         documents.check(tally, program, TOP)

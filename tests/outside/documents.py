@@ -11,11 +11,15 @@ PATH = re.compile(r"(?:crates|docs|examples|benches|tests)/[\w./*-]*[\w*]")
 SPECS = re.compile(r"\b(\w+)/specs/([A-Z]\w*)")
 WORDS = re.compile(r"`([A-Z]\w*)` (?:\(((?:`\w+`(?:, )?)+)\)|(`\w+`))")
 
-# The format, the files after it, and the requests of each example.
+# The words of each example, of which those with a dot are files, and its requests.
 RUNS = [
-    ("table", ["volume.table", "disks.txt"], "requests.txt"),
-    ("table", ["stack.table", "stack-disks.txt"], "stack-requests.txt"),
-    ("lvm", ["vg0.backup"], "vg0-requests.txt"),
+    ("map table volume.table disks.txt", "requests.txt"),
+    ("map table stack.table stack-disks.txt", "stack-requests.txt"),
+    ("map lvm vg0.backup", "vg0-requests.txt"),
+    ("table lvm vg0.backup", None),
+    ("concise lvm vg0.backup", None),
+    ("name vg0 lv-1", None),
+    ("splitname vg0-lv--1", None),
 ]
 
 
@@ -64,9 +68,10 @@ def text_of(path):
 def check_examples(tally, program, top):
     readme = text_of(os.path.join(top, "README.md"))
     examples = os.path.join(top, "examples")
-    for form, files, requests in RUNS:
-        with open(os.path.join(examples, requests), "rb") as given:
-            got = program.run(["map", form] + [os.path.join(examples, it) for it in files], stdin=given)
+    for line, requests in RUNS:
+        words = [os.path.join(examples, it) if "." in it else it for it in line.split()]
+        with open(os.path.join(examples, requests) if requests else os.devnull, "rb") as given:
+            got = program.run(words, stdin=given)
         shown = "```\n%s```\n" % got.out.decode()
         is_shown = got.status == 0 and got.err == b"" and got.out != b"" and shown in readme
-        tally.holds("the example of " + files[0], is_shown, "the README has not its output, %r" % got.out)
+        tally.holds("the example of " + line, is_shown, "the README has not its output, %r" % got.out)

@@ -2,6 +2,7 @@
 
 import os
 import resource
+import select
 import signal
 import subprocess
 import tempfile
@@ -25,6 +26,7 @@ def check(tally, program):
     check_beginnings(tally, program)
     check_requests(tally, program)
     check_messages(tally, program)
+    check_pauses(tally, program)
 
 
 def check_output(tally, program):
@@ -144,3 +146,31 @@ def check_messages(tally, program):
         tally.same("a full standard error, " + name, got, status, output)
         got = program.map(table, DISKS, given, before=lambda: os.close(2))
         tally.same("a closed standard error, " + name, got, status, output)
+
+
+def check_pauses(tally, program):
+    """A request is answered before the next one is written, though its pipe stays open."""
+    words = [program.path, "map", "table", program.file("table", TABLE), program.file("disks", DISKS)]
+    ran = subprocess.Popen(words, stdin=subprocess.PIPE, stdout=subprocess.PIPE, stderr=subprocess.PIPE, bufsize=0)
+    rows = [
+        ("a request", "R a 0 2\n", "1 R sda 0 1\n1 R sdb 0 1\n"),
+        ("a request and a part of the next", "R a 2 1\nW a", "2 R sda 1 1\n"),
+        ("the other part and one more", " 3 1\nR a 0 1\n", "3 W sdb 1 1\n4 R sda 0 1\n"),
+    ]
+    for name, given, answer in rows:
+        ran.stdin.write(given.encode())
+        got = read_soon(ran.stdout, len(answer))
+        tally.holds("before a pause, " + name, got == answer.encode(), "the answer so far is %r" % got)
+    out, err = ran.communicate()
+    tally.same("after the pauses", Outcome(ran.returncode, out, err))
+
+
+def read_soon(stream, most):
+    """What of so many bytes comes while none takes longer than some seconds."""
+    got = b""
+    while len(got) < most and select.select([stream], [], [], 5)[0]:
+        more = os.read(stream.fileno(), most - len(got))
+        if not more:
+            break
+        got += more
+    return got

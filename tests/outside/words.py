@@ -3,7 +3,8 @@
 VOLUME = "vol: 0 100 linear sda 50\n"
 DISKS = "sda 150\n"
 
-HELP = [["--help"], ["-h"], ["help"], ["help", "map"], ["map", "--help"]]
+HELP = [["--help"], ["-h"], ["help"], ["help", "map"], ["map", "--help"], ["table", "-h"], ["help", "concise"],
+        ["name", "--help"], ["splitname", "--help"]]
 
 # Words that are refused whatever formats and commands there are.
 REFUSED = [
@@ -11,6 +12,14 @@ REFUSED = [
     ["map"],
     ["map", "table"],
     ["nonsense"],
+    ["table"],
+    ["concise", "nonsense", "TABLE", "DISKS"],
+    ["name", "vg0"],
+    ["name", "vg0", "lv0", "real", "more"],
+    ["name", "vg0", "-lv0"],
+    ["splitname"],
+    ["splitname", "a-b", "c-d"],
+    ["--status", "name", "vg0", "lv0"],
     ["map", "nonsense", "TABLE", "DISKS"],
     ["map", "lvm"],
     ["map", "LVM", "TABLE"],
@@ -36,6 +45,9 @@ def check(tally, program):
         is_refused = got.status == 2 and got.out == b"" and got.err.endswith(b"\n")
         tally.holds("words %s" % words, is_refused, "status %s, on standard output %r, on standard error %r"
                     % (got.status, got.out, got.err))
+    for words, tip in (["tabel", "lvm", "TABLE"], b"'table'"), (["table", "lvn", "TABLE"], b"'lvm'"):
+        got = program.run(real(words))
+        tally.holds("a tip for %s" % words, got.status == 2 and tip in got.err, "on standard error %r" % got.err)
     tally.same("no DISKS", program.run(real(["map", "table", "TABLE"])), 2, "", "dmremap: words: disks\n")
     tally.same("no DISKS, before FILE is opened", program.run(["map", "table", "missing"]), 2, "",
                "dmremap: words: disks\n")

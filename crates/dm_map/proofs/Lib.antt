@@ -1,4 +1,5 @@
 pub mod ChunkCopies
+pub mod Chunks
 pub mod LevelLemmas
 pub mod Numbers
 pub mod Ranges

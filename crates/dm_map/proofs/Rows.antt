@@ -57,6 +57,46 @@ pub walked_cut : {S F : Type 0} (took left : S → List BlockUnit → S → Type
 walked_cut took left stack room faults (Ok done) old new before after step len is_err cut one same = absurd cc
 walked_cut took left stack room faults (Err fault) old new before after step len is_err cut one same = record { took = tt; state = tt; kept = tt; room = tt; left = cut; faults = one; stack = same }
 
+-- a walk after another one, which took its units
+pub walked_then : {S F : Type 0} (took left : S → List BlockUnit → S → Type 0) (stack : S → Description) (room faults : S → ℕ) (result : Result (Unit {0}) F) (old middle new : S) (before between after : Walking) (first second : Step) (next : State → Step) (m n : ℕ)
+    → ((a b c : S) (us vs : List BlockUnit) → took a us b → took b vs c → took a (us ++ vs) c) → ((a b c : S) (us vs : List BlockUnit) → took a us b → left b vs c → left a (us ++ vs) c)
+    → took old first.units middle → next first.state ≡ second → m ≤ n → stack middle ≡ stack old → room old ≤ room middle → faults middle ≡ faults old → between.stack ≡ before.stack
+    → IsWalked took left stack room faults result middle new between after second m → IsWalked took left stack room faults result old new before after (and_then first next) n
+walked_then took left stack room faults (Ok done) old middle new before between after first second next m n took_took took_left taken same few kept_is room_is faults_is stack_is walk =
+    rw same (record {
+      took = took_took old middle new first.units second.units taken walk.took;
+      state = walk.state;
+      kept = walk.kept ∙ kept_is;
+      room = omega (arith, room_is, walk.room, few);
+      left = tt;
+      faults = omega (arith, walk.faults, faults_is);
+      stack = walk.stack ∙ stack_is;
+    })
+walked_then took left stack room faults (Err fault) old middle new before between after first second next m n took_took took_left taken same few kept_is room_is faults_is stack_is walk =
+    rw same (record {
+      took = tt;
+      state = tt;
+      kept = tt;
+      room = tt;
+      left = record {
+        front = first.units ++ walk.left.front;
+        rest = walk.left.rest;
+        whole = append_assoc first.units walk.left.front walk.left.rest ∙ ap (λ (us : List BlockUnit). first.units ++ us) walk.left.whole;
+        holds = took_left old middle new first.units walk.left.front taken walk.left.holds;
+      };
+      faults = omega (arith, walk.faults, faults_is);
+      stack = walk.stack ∙ stack_is;
+    })
+
+-- what is a beginning of the units is one of more units
+pub left_more : {S : Type 0} (left : S → List BlockUnit → S → Type 0) (old new : S) (units more all : List BlockUnit) → units ++ more ≡ all → OfBeginning left old units new → OfBeginning left old all new
+left_more left old new units more all whole cut = record {
+  front = cut.front;
+  rest = cut.rest ++ more;
+  whole = sym (append_assoc cut.front cut.rest more) ∙ ap (λ (us : List BlockUnit). us ++ more) cut.whole ∙ whole;
+  holds = cut.holds;
+}
+
 -- a piece of errors
 pub units_in_fails : (len : ℕ) → units_in Fails len ≡ replicate len Fails
 units_in_fails zero = refl
@@ -90,6 +130,19 @@ steps_same step other state s t (suc n) each =
     ∙ and_then_at (other state t) (λ after. steps step after (suc s) n) (λ after. steps other after (suc t) n)
     (steps_same step other (other state t).state (suc s) (suc t) n (λ after i within.
     ap (step after) (let e : suc s + i ≡ s + suc i = omega arith in e) ∙ each after (suc i) (omega (arith, within)) ∙ ap (other after) (let e : t + suc i ≡ suc t + i = omega arith in e)))
+
+-- two rows whose steps are the same in one state, which they keep
+pub steps_read : (step other : State → ℕ → Step) (state : State) (s t n : ℕ) → ((i : ℕ) → i < n → step state (s + i) ≡ other state (t + i)) → ((i : ℕ) → i < n → (other state (t + i)).state ≡ state) → steps step state s n ≡ steps other state t n
+steps_read step other state s t zero each kept = refl
+steps_read step other state s t (suc n) each kept =
+    let here : step state s ≡ other state t = ap (step state) (let e : s ≡ s + 0 = omega arith in e) ∙ each 0 (omega arith) ∙ ap (other state) (let e : t + 0 ≡ t = omega arith in e) in
+    let same : (other state t).state ≡ state = ap (λ (p : ℕ). (other state p).state) (let e : t ≡ t + 0 = omega arith in e) ∙ kept 0 (omega arith) in
+    let later : steps step state (suc s) n ≡ steps other state (suc t) n = steps_read step other state (suc s) (suc t) n
+    (λ i within. ap (step state) (let e : suc s + i ≡ s + suc i = omega arith in e) ∙ each (suc i) (omega (arith, within)) ∙ ap (other state) (let e : t + suc i ≡ suc t + i = omega arith in e))
+    (λ i within. ap (λ (p : ℕ). (other state p).state) (let e : suc t + i ≡ t + suc i = omega arith in e) ∙ kept (suc i) (omega (arith, within))) in
+    ap (λ (first : Step). and_then first (λ after. steps step after (suc s) n)) here
+    ∙ and_then_at (other state t) (λ after. steps step after (suc s) n) (λ after. steps other after (suc t) n)
+    (subst (λ (after : State). steps step after (suc s) n ≡ steps other after (suc t) n) (sym same) later)
 
 -- a row of one unit, which changes nothing
 pub steps_still : (step : State → ℕ → Step) (state : State) (sector n : ℕ) (unit : BlockUnit) → next_unit unit ≡ unit → ((i : ℕ) → i < n → step state (sector + i) ≡ keep (unit ∷ []) state) → steps step state sector n ≡ keep (units_in unit n) state

@@ -15,7 +15,7 @@ use Rattle.dm_stack.specs.Description.{Description, lines_at}
 use Rattle.dm_map.specs.Snapshots.{number_in}
 use Rattle.dm_map.specs.SnapshotWrites.{lost, put}
 use Rattle.dm_map.specs.State.{State, none_taken, taken_at}
-use Rattle.dm_map.specs.Tables.{AreTables, has_room, room_of, snapshot_in, snapshot_of, state_of}
+use Rattle.dm_map.specs.Tables.{AreTables, has_room, snapshot_in, snapshot_of, state_of}
 
 -- One table
 

@@ -1,19 +1,22 @@
 -- What a walk down a stack hands over: the steps of ranges and of lines, and places in stripes.
-use Rattle.std.specs.Prelude.{ℕ, ◌≡◌, ◌+◌, ◌*◌, ◌/◌, ◌%◌, ◌^◌, ◌≤◌, Bool, false, List, [], ◌∷◌, Result, OnOk, OnErr}
+use Rattle.std.specs.Prelude.{ℕ, ◌≡◌, ◌+◌, ◌*◌, ◌/◌, ◌%◌, ◌^◌, ◌<◌, ◌≤◌, Bool, false, List, [], ◌∷◌, Some, Result, OnOk, OnErr}
 use Rattle.dm_table.specs.declared.request.Op.{Op}
 use Rattle.dm_table.specs.declared.request.Op.TheVariants as ops
 use Rattle.dm_table.specs.DeviceIo.{fault_of}
 use Rattle.dm_stack.specs.declared.id.Lower.{Lower}
 use Rattle.dm_stack.specs.declared.found.FoundColumn.{FoundColumn}
+use Rattle.dm_stack.specs.declared.found.FoundSnapshot.{FoundSnapshot}
 use Rattle.dm_stack.specs.declared.found.FoundTarget.{FoundTarget}
-use Rattle.dm_stack.specs.Description.{Description, is_ro_at}
-use Rattle.dm_stack.specs.Below.{Below, below_stripes, below_target, column_of, AreStripes}
+use Rattle.dm_stack.specs.Description.{Description, device_len, is_ro_at, lower_len}
+use Rattle.dm_stack.specs.Below.{Below, Lies, below_stripes, below_target, column_of, AreStripes, IsSnapshotSound}
+use Rattle.dm_map.specs.declared.chunk.ReadPlace.{ReadPlace}
 use Rattle.dm_map.specs.declared.stripe.ChunkPlace.{ChunkPlace}
 use Rattle.dm_map.specs.Sink.{OfBeginning}
 use Rattle.dm_map.specs.Reads.{by_below, read_unit}
 use Rattle.dm_map.specs.Snapshots.{read_over}
 use Rattle.dm_map.specs.State.{State, taken_at}
 use Rattle.dm_map.specs.Steps.{Step, keep, steps}
+use Rattle.dm_map.specs.Tables.{snapshot_at}
 use Rattle.dm_map.specs.Units.{BlockUnit, ReadOf, WriteOf, Zeros, Drops, Fails}
 use Rattle.dm_map.specs.Mapping.{write_step, write_target, sector_step}
 
@@ -86,3 +89,19 @@ pub record AreInStripes (stack : Description) (chunk : ℕ) (columns : List Foun
   pub stripes : AreStripes stack line_len chunk columns
   pub inside : distance + len ≤ line_len
   pub small : line_len ≤ 2 ^ 50
+
+-- len sectors from a sector on are of a snapshot
+pub record AreInSnapshot (stack : Description) (device : ℕ) (snapshot : FoundSnapshot) (sector len : ℕ) : Type 0 where
+  pub is : snapshot_at stack device ≡ Some snapshot
+  pub sound : IsSnapshotSound stack device 0 (device_len stack device) snapshot
+  pub inside : sector + len ≤ device_len stack device
+
+-- and of one chunk of it
+pub record AreInChunk (stack : Description) (device : ℕ) (snapshot : FoundSnapshot) (sector len : ℕ) : Type 0 where
+  pub whole : AreInSnapshot stack device snapshot sector len
+  pub part : sector % snapshot.chunk + len ≤ snapshot.chunk
+
+-- where len sectors of one chunk are read: in a row on a device or a disk, which has them
+pub record AreReadAt (stack : Description) (state : State) (device : ℕ) (snapshot : FoundSnapshot) (sector len : ℕ) (place : ReadPlace) : Type 0 where
+  pub lies : (i : ℕ) → i < len → read_over (taken_at state device) snapshot (sector + i) ≡ Lies place.to (place.sector + i)
+  pub inside : place.sector + len ≤ lower_len stack place.to

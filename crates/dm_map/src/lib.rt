@@ -4,6 +4,7 @@
 //! `Sink` in pieces.
 #![tactic(auto)]
 
+mod chunk;
 mod levels;
 mod mapper;
 mod piece;

@@ -1,22 +1,24 @@
 //! Stretches: where the first sectors of a range are read, and how many continue like that.
 //!
 //! The walk hands pieces to a sink; this goes down the same way and returns one piece of a read, with
-//! no sink and no loop over sectors, at the cost of one look-up for each level. It will serve copies,
-//! which need the origin's side and the store's side at once. A new target is an arm of
+//! no sink and no loop over sectors, at the cost of one look-up for each level. It serves copies, which
+//! need the origin's side and the store's side at once. A new target is an arm of
 //! `line_stretch`, as it is one of `map_line`.
 
 ghost use Rattle.std.specs.Prelude.{◌≡◌, ◌+◌, ◌≤◌, ◌^◌, Some};
 ghost use Rattle.dm_table.specs.declared.request.Op.TheVariants.{Read};
+ghost use Rattle.dm_stack.specs.declared.found.FoundTarget.TheVariants.{Snapshot};
 ghost use Rattle.dm_stack.specs.Below.{found_at, IsTargetSound};
 ghost use Rattle.dm_stack.specs.Description.{lower_len};
 ghost use Rattle.dm_map.specs.Stretch.{IsFirst};
-ghost use Rattle.dm_map.specs.Walk.{line_step, range_step, stripes_step, AreInStripes};
+ghost use Rattle.dm_map.specs.Walk.{line_step, range_step, stripes_step, AreInSnapshot, AreInStripes};
 
+use crate::chunk::{part_of_chunk, read_place};
 use crate::stripe::place_at;
 use crate::taken::Taken;
 use crate::walk::{part_in, sector_at};
 use crate::walker::Walker;
-use dm_stack::{DeviceId, DiskId, FoundColumn, FoundLine, FoundTarget, Lower};
+use dm_stack::{DeviceId, DiskId, FoundColumn, FoundLine, FoundSnapshot, FoundTarget, Lower};
 
 #[cfg(test)]
 mod tests;
@@ -41,8 +43,8 @@ pub(crate) struct Stretch {
 
 /// The first stretch of a range of a device or a disk, through at most this many levels of devices.
 ///
-/// It has at least one sector and at most those of the range. It ends where a line or a chunk of
-/// stripes on its way down ends, at the latest.
+/// It has at least one sector and at most those of the range. It ends where a line or a chunk on its
+/// way down ends, of stripes or of a snapshot, at the latest.
 #[cycle(stretch)]
 pub(crate) fn first_stretch<T: Taken>(
     walker: &mut Walker<'_, T>,
@@ -113,7 +115,9 @@ fn line_stretch<T: Taken>(
             ground: Ground::Fails,
             len,
         },
-        FoundTarget::Snapshot(_) => unreachable!(),
+        FoundTarget::Snapshot(snapshot) => {
+            snapshot_stretch(walker, levels, device, snapshot, distance, len)
+        }
     }
 }
 
@@ -141,4 +145,28 @@ fn stripes_stretch<T: Taken>(
         place.chunk_start + place.past,
     );
     first_stretch(walker, levels, column.to, sector, part)
+}
+
+/// The first stretch of sectors of a snapshot, as its chunks are in this state.
+#[cycle(stretch)]
+fn snapshot_stretch<T: Taken>(
+    walker: &mut Walker<'_, T>,
+    levels: u32,
+    device: DeviceId,
+    snapshot: &FoundSnapshot,
+    sector: u64,
+    len: u64,
+) -> Stretch
+    requires some { 1 ≤ len }
+    requires inside { AreInSnapshot walker.old.stack device snapshot.now sector len }
+    ensures { IsFirst walker.old walker.new (line_step walker.old.stack Read levels device (Snapshot snapshot.now) walker.old.state sector) len result }
+{
+    let part = part_of_chunk(snapshot.chunk, sector, len);
+    match read_place(walker, device, snapshot, sector, part) {
+        Some(place) => first_stretch(walker, levels, place.to, place.sector, part),
+        None => Stretch {
+            ground: Ground::Fails,
+            len: part,
+        },
+    }
 }

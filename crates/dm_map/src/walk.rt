@@ -1,23 +1,28 @@
 //! The walk down a stack: hands the units of consecutive sectors to a sink.
 //!
-//! A range goes down as one step: it is cut where a line or a chunk of stripes ends, and nowhere
-//! else, and each line that it passes is looked up once. A new target is an arm of `map_line`, with
-//! a loop of its own where it cuts, and an arm of `below_target`; one with a state is an arm of
-//! `write_target` as well. Each function says which units it hands over and which state it leaves.
+//! A range goes down as one step: it is cut where a line or a chunk ends, of stripes or of a
+//! snapshot, and nowhere else, and each line that it passes is looked up once. A new target is an arm
+//! of `map_line`, with a loop of its own where it cuts, and one of `below_target` and `write_target`.
+//! Each function says which units it hands over and which state it leaves.
 
 ghost use Rattle.std.specs.Prelude.{◌≡◌, ℕ, ◌+◌, ◌-◌, ◌<◌, ◌≤◌, ◌^◌, Some, length, min};
 ghost use Rattle.dm_stack.specs.Below.{found_at, IsTargetSound};
 ghost use Rattle.dm_stack.specs.Description.{Description, device_len, lower_len};
+ghost use Rattle.dm_stack.specs.declared.found.FoundTarget.TheVariants.{Snapshot};
 ghost use Rattle.dm_stack.specs.declared.id.Lower.TheVariants.{Device};
+ghost use Rattle.dm_map.specs.SnapshotWrites.{write_snapshot};
+ghost use Rattle.dm_map.specs.Steps.{steps};
 ghost use Rattle.dm_map.specs.Units.{diskless_len, piece_len, units_in, units_of, IsOnDisk, IsOnDisks};
-ghost use Rattle.dm_map.specs.Walk.{disk_unit, zero_unit, refuses, range_step, line_step, stripes_step, AreInStripes, IsReady, IsWalked};
+ghost use Rattle.dm_map.specs.Walk.{disk_unit, zero_unit, refuses, range_step, line_step, stripes_step, AreInChunk, AreInSnapshot, AreInStripes, IsReady, IsWalked};
 
+use crate::chunk::{part_of_chunk, read_place};
 use crate::piece::Piece;
+use crate::ready::{make_ready, write_store};
 use crate::sink::Sink;
 use crate::stripe::{next_chunk, place_at};
 use crate::taken::Taken;
 use crate::walker::Walker;
-use dm_stack::{DeviceId, DiskId, FoundColumn, FoundLine, FoundTarget, Lower};
+use dm_stack::{DeviceId, DiskId, FoundColumn, FoundLine, FoundSnapshot, FoundTarget, Lower};
 use dm_table::Op;
 
 /// Hands over the units of sectors of a device or a disk, through at most this many levels of
@@ -113,7 +118,9 @@ fn map_line<S: Sink, T: Taken>(
         }
         FoundTarget::Zero => sink.piece(zero_piece(op, len)),
         FoundTarget::Error => sink.piece(Piece::Error { len }),
-        FoundTarget::Snapshot(_) => unreachable!(),
+        FoundTarget::Snapshot(snapshot) => {
+            map_snapshot(walker, op, levels, device, snapshot, distance, len, sink)
+        }
     }
 }
 
@@ -150,6 +157,85 @@ fn map_stripes<S: Sink, T: Taken>(
         place = next_chunk(chunk, columns.len(), place);
     }
     Ok(())
+}
+
+/// Hands over the units of sectors of a snapshot, chunk by chunk, through at most this many levels of
+/// devices below it.
+#[cycle(walk)]
+fn map_snapshot<S: Sink, T: Taken>(
+    walker: &mut Walker<'_, T>,
+    op: Op,
+    levels: u32,
+    device: DeviceId,
+    snapshot: &FoundSnapshot,
+    sector: u64,
+    len: u64,
+    sink: &mut S,
+) -> Result<(), S::Fault>
+    requires inside { AreInSnapshot walker.old.stack device snapshot.now sector len }
+    requires small { sector + len ≤ 2 ^ 50 }
+    requires sink { IsReady S.stack S.room sink.old walker.old.stack len }
+    ensures { IsWalked S.took S.left S.stack S.room S.faults result sink.old sink.new walker.old walker.new (line_step walker.old.stack op levels device (Snapshot snapshot.now) walker.old.state sector len) len }
+{
+    let mut from = sector;
+    let mut left = len;
+    while left > 0 {
+        let part = part_of_chunk(snapshot.chunk, from, left);
+        map_chunk(walker, op, levels, device, snapshot, from, part, sink)?;
+        from += part;
+        left -= part;
+    }
+    Ok(())
+}
+
+/// Hands over the units of sectors of one chunk of a snapshot. All of them are errors if the snapshot
+/// is lost.
+#[cycle(walk)]
+fn map_chunk<S: Sink, T: Taken>(
+    walker: &mut Walker<'_, T>,
+    op: Op,
+    levels: u32,
+    device: DeviceId,
+    snapshot: &FoundSnapshot,
+    sector: u64,
+    len: u64,
+    sink: &mut S,
+) -> Result<(), S::Fault>
+    requires some { 1 ≤ len }
+    requires chunk { AreInChunk walker.old.stack device snapshot.now sector len }
+    requires sink { IsReady S.stack S.room sink.old walker.old.stack len }
+    ensures { IsWalked S.took S.left S.stack S.room S.faults result sink.old sink.new walker.old walker.new (line_step walker.old.stack op levels device (Snapshot snapshot.now) walker.old.state sector len) len }
+{
+    match op {
+        Op::Write => write_chunk(walker, device, snapshot, sector, len, sink),
+        Op::Read => match read_place(walker, device, snapshot, sector, len) {
+            Some(place) => map_range(walker, op, levels, place.to, place.sector, len, sink),
+            None => sink.piece(Piece::Error { len }),
+        },
+    }
+}
+
+/// Hands over the units of writes to sectors of one chunk of a snapshot: the chunk is made ready, and
+/// then they are written where they are read from then on.
+fn write_chunk<S: Sink, T: Taken>(
+    walker: &mut Walker<'_, T>,
+    device: DeviceId,
+    snapshot: &FoundSnapshot,
+    sector: u64,
+    len: u64,
+    sink: &mut S,
+) -> Result<(), S::Fault>
+    requires some { 1 ≤ len }
+    requires chunk { AreInChunk walker.old.stack device snapshot.now sector len }
+    requires sink { IsReady S.stack S.room sink.old walker.old.stack len }
+    ensures { IsWalked S.took S.left S.stack S.room S.faults result sink.old sink.new walker.old walker.new (steps (write_snapshot walker.old.stack snapshot.now device) walker.old.state sector len) len }
+{
+    let chunk = sector / snapshot.chunk;
+    make_ready(walker, device, snapshot, chunk, sink)?;
+    match read_place(walker, device, snapshot, sector, len) {
+        Some(place) => write_store(walker, &place.to, place.sector, len, sink),
+        None => sink.piece(Piece::Error { len }),
+    }
 }
 
 /// Whether a device refuses the operation as a whole: a write, where it is read-only.

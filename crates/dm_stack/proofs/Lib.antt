@@ -6,6 +6,7 @@ pub mod DepthTests
 pub mod FirstFaults
 pub mod HandedOn
 pub mod LayoutLemmas
+pub mod LineSearchLemmas
 pub mod LoadLemmas
 pub mod NameLemmas
 pub mod OneFault
@@ -17,6 +18,7 @@ pub mod RoundLemmas
 pub mod SameLine
 pub mod SearchLemmas
 pub mod SnapshotIds
+pub mod SnapshotRule
 pub mod SoundLines
 pub mod SpanLemmas
 pub mod StoreLemmas

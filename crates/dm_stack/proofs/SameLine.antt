@@ -1,14 +1,14 @@
 -- The line of a sector is also that of each other sector that it holds.
 use Rattle.std.proofs.Common.{◌≡◌, ℕ, ◌+◌, ◌<◌, ◌≤◌, Bool, true, false, cond, List, [], ◌∷◌, length, Option, Some, None, refl, sym, ap, ◌∙◌, arith}
 use Rattle.std.specs.Prelude.{◌&&◌, nat_le, option_map}
-use Rattle.std.proofs.lemmas.Bool.{le-leb, lt-ltb, le-ltb}
+use Rattle.std.proofs.lemmas.Bool.{le-ltb}
 use Rattle.dm_table.specs.declared.table.Line.{Line}
 use Rattle.dm_stack.specs.declared.found.FoundLine.{FoundLine}
 use Rattle.dm_stack.specs.Description.{Description, lines_at}
 use Rattle.dm_stack.specs.Below.{holds, line_of, found_line, found_at}
 use Rattle.dm_stack.specs.Soundness.{IsSound}
 use Rattle.dm_stack.proofs.LayoutLemmas.{AreInRow}
-use Rattle.dm_stack.proofs.SoundLines.{there, device_sound, lines_there}
+use Rattle.dm_stack.proofs.SoundLines.{holds_from, there, device_sound, lines_there}
 
 -- Lines that start where the one before ends
 
@@ -22,14 +22,11 @@ starts_after end [] sector line e is = absurd cc
 starts_after end (first ∷ lines) sector line e is =
     starts_here end sector first line lines (holds sector first) e.0 (λ later. starts_after (first.start + first.len) lines sector line e.1 later) is
 
-holds_between : (line : Line) (sector : ℕ) → line.start ≤ sector → sector < line.start + line.len → holds sector line ≡ true
-holds_between line sector from before = rw (le-leb line.start sector from, lt-ltb sector (line.start + line.len) before) refl
-
 and_none : (b : Bool) → (b && false) ≡ false
 and_none true = refl
 and_none false = refl
 
-holds_none : (line : Line) (sector : ℕ) → line.start + line.len ≤ sector → holds sector line ≡ false
+pub holds_none : (line : Line) (sector : ℕ) → line.start + line.len ≤ sector → holds sector line ≡ false
 holds_none line sector past = rw (le-ltb sector (line.start + line.len) past) (and_none (nat_le line.start sector))
 
 same_here : (sector other : ℕ) (first line : Line) (lines : List Line) (b : Bool) → line.start ≤ other → other < line.start + line.len
@@ -37,7 +34,7 @@ same_here : (sector other : ℕ) (first line : Line) (lines : List Line) (b : Bo
     → cond b (Some first) (line_of lines sector) ≡ Some line → line_of (first ∷ lines) other ≡ Some line
 same_here sector other first line lines true from before behind later is =
     let same : first ≡ line = cc in
-    let held : holds other first ≡ true = rw same (holds_between line other from before) in
+    let held : holds other first ≡ true = rw same (holds_from line other from before) in
     rw held (ap Some same)
 same_here sector other first line lines false from before behind later is =
     let past = behind is in

@@ -16,7 +16,7 @@ use Rattle.dm_table.specs.declared.disk.Disk.{Disk}
 use Rattle.dm_table.specs.declared.load_fault.LoadKind.TheVariants.{Limit, Empty, Stripe, Range, Snapshot, Store}
 use Rattle.dm_stack.specs.declared.found.FoundLine.{FoundLine}
 use Rattle.dm_stack.specs.Description.{Description, lines_at, lines_or_none, end_of, device_len, lower_len, lower_of}
-use Rattle.dm_stack.specs.Below.{holds, line_of, found_line, found_lines, found_columns, found_target, found_at, has_sector, LiesIn, AreStripes, IsSnapshotSound, IsTargetSound, HoldsSoundly}
+use Rattle.dm_stack.specs.Below.{holds, line_of, found_line, found_columns, found_target, found_at, LiesIn, AreStripes, IsSnapshotSound, IsTargetSound, HoldsSoundly}
 use Rattle.dm_stack.specs.Soundness.{all_lines, is_large, is_far, without_lines, empty_in, misplaced_in, is_bad_chunk, is_bad_snapshot, is_bad_stripe, has_bad_store, has_bad_stripes, is_past, passes_end, snapshot_in, HaveSmallEnds, IsSound}
 use Rattle.dm_stack.specs.Span.{column_span, spans, target_spans}
 use Rattle.dm_stack.proofs.LayoutLemmas.{AreInRow, in_row}
@@ -24,15 +24,6 @@ use Rattle.dm_stack.proofs.ChunkLemmas.{chunk_within}
 use Rattle.dm_stack.proofs.Passes.{append_none, all_parts, faults_by_none, passes_before, passes_after}
 
 -- A search in a list, and in what its elements become
-
-cond_map : {X Y : Type 0} (f : X → Y) (b : Bool) (x : X) (later : Option X) → cond b (Some (f x)) (option_map f later) ≡ option_map f (cond b (Some x) later)
-cond_map f true x later = refl
-cond_map f false x later = refl
-
-pub find-map : {X Y : Type 0} (f : X → Y) (test : Y → Bool) (xs : List X) → find test (map f xs) ≡ option_map f (find (λ x. test (f x)) xs)
-find-map f test [] = refl
-find-map {Y = Y} f test (x ∷ xs) =
-    ap (λ (later : Option Y). cond (test (f x)) (Some (f x)) later) (find-map f test xs) ∙ cond_map f (test (f x)) x (find (λ y. test (f y)) xs)
 
 pub position_or_len-map : {X Y : Type 0} (f : X → Y) (test : Y → Bool) (xs : List X) → position_or_len test (map f xs) ≡ position_or_len (λ x. test (f x)) xs
 position_or_len-map f test [] = refl
@@ -61,7 +52,7 @@ held_here : (line : Line) (lines : List Line) (sector : ℕ) (b : Bool) → hold
 held_here line lines sector true is later = record { line = line; is = rw is refl }
 held_here line lines sector false is later = let rest = later refl in record { line = rest.line; is = rw is rest.is }
 
-holds_from : (line : Line) (sector : ℕ) → line.start ≤ sector → sector < line.start + line.len → holds sector line ≡ true
+pub holds_from : (line : Line) (sector : ℕ) → line.start ≤ sector → sector < line.start + line.len → holds sector line ≡ true
 holds_from line sector from before = rw (le-leb line.start sector from, lt-ltb sector (line.start + line.len) before) refl
 
 passed : (line : Line) (sector : ℕ) → line.start ≤ sector → holds sector line ≡ false → line.start + line.len ≤ sector
@@ -248,9 +239,6 @@ sector_found stack id sector sound within inside =
         target = target_sound stack id (length d.it.lines) h.line h.line.target (whole_line stack id (holds sector) d.it.lines h.line lines s.placed h.is) b.1 c.1 f.1 g.1;
       };
     }
-
-pub find-found : (stack : Description) (id sector : ℕ) → find (has_sector sector) (found_lines stack id) ≡ found_at stack id sector
-find-found stack id sector = find-map (found_line stack) (has_sector sector) (lines_at stack id)
 
 -- The length of a device
 

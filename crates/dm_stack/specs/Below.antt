@@ -74,9 +74,6 @@ below_line over None sector = IsError
 abbrev pub found_lines : Description → ℕ → List FoundLine
 found_lines stack device = map (found_line stack) (lines_at stack device)
 
-abbrev pub has_sector : ℕ → FoundLine → Bool
-has_sector sector line = nat_le line.start sector && nat_lt sector (line.start + line.len)
-
 -- the line of a sector of a device, with ids for names
 abbrev pub found_at : Description → ℕ → ℕ → Option FoundLine
 found_at stack device sector = option_map (found_line stack) (line_of (lines_at stack device) sector)

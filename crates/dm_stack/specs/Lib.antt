@@ -1,6 +1,7 @@
 pub mod Below
 pub mod Description
 pub mod Graph
+pub mod LineSearch
 pub mod Load
 pub mod Loaded
 pub mod NameIndex

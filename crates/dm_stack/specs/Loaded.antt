@@ -1,16 +1,18 @@
 -- What a stack keeps beside its description, and what a looker is.
-use Rattle.std.specs.Prelude.{◌≡◌, ℕ, suc, ◌^◌, ◌<◌, Bool, true, false, List, filter, length, map, nat_lt, if◌then◌else◌}
-use Rattle.std.specs.List.{flat_map, list_any, range_with_len}
+use Rattle.std.specs.Prelude.{◌≡◌, ℕ, suc, ◌^◌, ◌<◌, Bool, true, false, List, Some, filter, length, map, nat_lt, if◌then◌else◌}
+use Rattle.std.specs.List.{All, Contains, flat_map, list_any, range_with_len}
 use Rattle.dm_table.specs.declared.table.DeviceSpec.{DeviceSpec}
 use Rattle.dm_table.specs.declared.table.Line.{Line}
 use Rattle.dm_table.specs.declared.table.Target.{Target}
 use Rattle.dm_table.specs.declared.table.Target.TheVariants as targets
 use Rattle.dm_stack.specs.declared.found.FoundLine.{FoundLine}
+use Rattle.dm_stack.specs.declared.found.FoundSnapshot.{FoundSnapshot}
+use Rattle.dm_stack.specs.declared.found.FoundTarget.TheVariants as found
 use Rattle.dm_stack.specs.declared.id.Lower.{Lower}
 use Rattle.dm_stack.specs.declared.id.Lower.TheVariants as lowers
-use Rattle.dm_stack.specs.Description.{Description, lines_at, lower_of}
+use Rattle.dm_stack.specs.Description.{Description, device_len, lines_at, lower_of}
 use Rattle.dm_stack.specs.Span.{spans}
-use Rattle.dm_stack.specs.Below.{found_line}
+use Rattle.dm_stack.specs.Below.{found_at, found_line}
 use Rattle.dm_stack.specs.Graph.{greatest}
 use Rattle.dm_stack.specs.Soundness.{IsSound, depth_of}
 
@@ -46,6 +48,17 @@ has_snapshot lines = list_any (λ line. is_snapshot line.target) lines
 abbrev pub snapshots : Description → List ℕ
 snapshots stack = filter (λ device. has_snapshot (lines_at stack device)) (range_with_len 0 (length stack.devices))
 
+-- a device that is all of a snapshot: that is its line, from 0 to its end
+pub record IsSnapshot (stack : Description) (device : ℕ) : Type 0 where
+  pub there : device < length stack.devices
+  pub snapshot : FoundSnapshot
+  pub line : found_at stack device 0 ≡ Some (record { start = 0; len = device_len stack device; target = found.Snapshot snapshot })
+
+-- such are these devices, and all whose first sector lies in a snapshot's line are among them
+pub record AreSnapshots (stack : Description) (devices : List ℕ) : Type 0 where
+  pub each : All (IsSnapshot stack) devices
+  pub among : (device : ℕ) (line : FoundLine) (snapshot : FoundSnapshot) → found_at stack device 0 ≡ Some line → line.target ≡ found.Snapshot snapshot → Contains devices device
+
 -- a sound description, with its names, its lines by ids, its depth and its snapshots
 pub record IsLoaded (stack : Description) (devices disks : List (List ℕ)) (by_ids : List (List FoundLine)) (deepest : ℕ) (over : List ℕ) : Type 0 where
   pub sound : IsSound stack
@@ -55,10 +68,11 @@ pub record IsLoaded (stack : Description) (devices disks : List (List ℕ)) (by_
   pub depth : deepest ≡ stack_depth stack
   pub snapshots : over ≡ snapshots stack
 
--- a looker: its stack, and the count of its searches
+-- a looker: its stack, and the counts of its searches and of their comparisons of a start with a sector
 pub record Looking : Type 0 where
   pub stack : Description
   pub searches : ℕ
+  pub comparisons : ℕ
 
 -- one search more, up to the greatest count
 abbrev pub next_count : ℕ → ℕ

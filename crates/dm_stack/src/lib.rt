@@ -11,6 +11,7 @@ mod id;
 mod indexed;
 mod layout;
 mod limits;
+mod line_search;
 mod links;
 mod load;
 mod looker;

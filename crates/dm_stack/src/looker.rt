@@ -5,20 +5,22 @@
 
 ghost use Rattle.std.specs.Prelude.{◌≡◌, ℕ, ◌+◌, ◌<◌, ◌≤◌, ◌^◌, Some, length};
 ghost use Rattle.dm_stack.specs.Below.{HoldsSoundly, found_at};
-ghost use Rattle.dm_stack.specs.Description.{device_len, disk_len, is_ro_at};
-ghost use Rattle.dm_stack.specs.Loaded.{next_count, snapshots, stack_depth};
+ghost use Rattle.dm_stack.specs.Description.{device_len, disk_len, is_ro_at, lines_at};
+ghost use Rattle.dm_stack.specs.Loaded.{next_count, snapshots, stack_depth, AreSnapshots};
 ghost use Rattle.dm_stack.specs.Soundness.{IsSound};
+ghost use Rattle.dm_stack.specs.LineSearch.{binary_digits};
 
 use crate::found::Found;
 use crate::id::{DeviceId, DiskId};
 use crate::stack::Stack;
 use std::marker::Model;
 
-/// Finds the lines of sectors in a stack, and counts its searches.
+/// Finds the lines of sectors in a stack, and counts its searches and their comparisons.
 #[derive(Drop)]
 pub struct Looker<'s> {
     stack: &'s Stack,
     searches: u64,
+    comparisons: u64,
 }
 
 impl<'s> Model for Looker<'s> {
@@ -26,23 +28,28 @@ impl<'s> Model for Looker<'s> {
 
     ghost Value = { Looking };
 
-    ghost view = { λ looker. record { stack = looker.stack.now; searches = looker.searches } };
+    ghost view = { λ looker. record { stack = looker.stack.now; searches = looker.searches; comparisons = looker.comparisons } };
 }
 
 impl<'s> Looker<'s> {
-    /// A looker of a stack, with no search counted.
+    /// A looker of a stack, with no search and no comparison counted.
     pub(crate) fn new(stack: &'s Stack) -> Looker<'s>
         ensures stack { result.stack ≡ stack.now }
         ensures searches { result.searches ≡ 0 }
+        ensures comparisons { result.comparisons ≡ 0 }
     {
-        Looker { stack, searches: 0 }
+        Looker {
+            stack,
+            searches: 0,
+            comparisons: 0,
+        }
     }
 
     /// The line of a sector of a device, with ids for names: also that of each other sector that it
-    /// holds. The search is counted.
+    /// holds. The search is counted, and so is each comparison of a line's start with the sector: at
+    /// most as many as the number of the device's lines has binary digits.
     ///
-    /// The id is one of the stack, and the sector is below the device's length. Cost: a walk over
-    /// the lines of the device. No memory is taken.
+    /// The id is one of the stack, and the sector is below the device's length. No memory is taken.
     pub fn look(&mut self, device: DeviceId, sector: u64) -> Found<'s>
         requires device { device < length self.old.stack.devices }
         requires sector { sector < device_len self.old.stack device }
@@ -51,10 +58,14 @@ impl<'s> Looker<'s> {
         ensures all { (other : ℕ) → result.now.start ≤ other → other < result.now.start + result.now.len → found_at self.old.stack device other ≡ Some result.now }
         ensures stack { self.new.stack ≡ self.old.stack }
         ensures counted { self.new.searches ≡ next_count self.old.searches }
+        ensures grown { self.old.comparisons ≤ self.new.comparisons }
+        ensures few { self.new.comparisons ≤ self.old.comparisons + binary_digits (length (lines_at self.old.stack device)) }
     {
-        self.searches = self.searches.saturating_add(1);
         let stack = self.stack;
-        stack.find_line(device, sector)
+        let (line, comparisons) = stack.find_line(device, sector);
+        self.searches = self.searches.saturating_add(1);
+        self.comparisons = self.comparisons.saturating_add(comparisons);
+        line
     }
 
     /// The searches so far; it stays at the greatest number once there.
@@ -62,6 +73,14 @@ impl<'s> Looker<'s> {
         ensures { result ≡ self.now.searches }
     {
         self.searches
+    }
+
+    /// How often these compared a line's start with a sector; it stays at the greatest number once
+    /// there.
+    pub fn comparisons(&self) -> u64
+        ensures { result ≡ self.now.comparisons }
+    {
+        self.comparisons
     }
 
     /// The number of devices of the stack.
@@ -101,7 +120,8 @@ impl<'s> Looker<'s> {
 
     /// The devices of the stack that are snapshots, in their order.
     pub fn snapshots(&self) -> &[DeviceId]
-        ensures { result.now ≡ snapshots self.now.stack }
+        ensures ids { result.now ≡ snapshots self.now.stack }
+        ensures all { AreSnapshots self.now.stack result.now }
     {
         self.stack.snapshots()
     }

@@ -3,11 +3,12 @@
 //! The invariant carries the soundness, so nothing above asks for it again: a value is made only
 //! through the checks of a load. Names are looked up there; afterwards everything goes by ids.
 
-ghost use Rattle.std.specs.Prelude.{◌≡◌, ◌≢◌, ℕ, ◌+◌, ◌<◌, ◌≤◌, ◌^◌, IfErr, IfOk, IsTrue, OnOk, Some, None, find, length, option_copied, position, slice_get};
+ghost use Rattle.std.specs.Prelude.{◌≡◌, ◌≢◌, ℕ, ◌+◌, ◌<◌, ◌≤◌, ◌^◌, IfErr, IfOk, IsTrue, OnOk, Some, length, position, slice_get};
 ghost use Rattle.dm_table.specs.Name.{is_disk_name};
-ghost use Rattle.dm_stack.specs.Below.{HoldsSoundly, found_at, found_lines, has_sector};
-ghost use Rattle.dm_stack.specs.Description.{Description, device_len, disk_len, is_ro_at, is_same, name_at, disk_name_at};
-ghost use Rattle.dm_stack.specs.Loaded.{IsDeeperByOne, snapshots, stack_depth};
+ghost use Rattle.dm_stack.specs.Below.{HoldsSoundly, found_at, found_lines};
+ghost use Rattle.dm_stack.specs.Description.{Description, device_len, disk_len, is_ro_at, is_same, name_at, disk_name_at, lines_at};
+ghost use Rattle.dm_stack.specs.Loaded.{IsDeeperByOne, snapshots, stack_depth, AreSnapshots};
+ghost use Rattle.dm_stack.specs.LineSearch.{binary_digits};
 ghost use Rattle.dm_stack.specs.Soundness.{IsRefusedBy, IsSound};
 ghost use Rattle.dm_stack.specs.declared.graph.TheConstants.{MOST_DEPTH};
 ghost use Rattle.dm_stack.specs.declared.limits.TheConstants.{MOST_CHUNK, MOST_DEVICES, MOST_DISKS, MOST_LENGTH, MOST_LINES, MOST_PLACES, MOST_SNAPSHOT_CHUNK, MOST_STRIPES};
@@ -19,6 +20,7 @@ ghost use Rattle.dm_table.specs.declared.place.Part.TheVariants.{Source};
 use crate::found::{Found, FoundLine, FoundTable};
 use crate::id::{DeviceId, DiskId};
 use crate::layout::end_of;
+use crate::line_search::search;
 use crate::load::check;
 use crate::looker::Looker;
 use crate::name_index::NameIndex;
@@ -176,9 +178,11 @@ impl Stack {
         self.depth
     }
 
-    /// The devices that are snapshots, in their order: each has a snapshot's line, alone in its table.
+    /// The devices that are snapshots, in their order: each has a snapshot's line, alone in its table,
+    /// and no other device has one at its first sector.
     pub fn snapshots(&self) -> &[DeviceId]
-        ensures { result.now ≡ snapshots self.now }
+        ensures ids { result.now ≡ snapshots self.now }
+        ensures all { AreSnapshots self.now result.now }
     {
         self.snapshots.as_slice()
     }
@@ -208,10 +212,11 @@ impl Stack {
         self.disks[disk.index()].name.as_str()
     }
 
-    /// A looker of this stack, with no search counted.
+    /// A looker of this stack, with no search and no comparison counted.
     pub fn looker(&self) -> Looker<'_>
         ensures stack { result.stack ≡ self.now }
         ensures searches { result.searches ≡ 0 }
+        ensures comparisons { result.comparisons ≡ 0 }
     {
         Looker::new(self)
     }
@@ -234,24 +239,17 @@ impl Stack {
         self.tables[device.index()].as_slice()
     }
 
-    /// The line of a sector. This is the one place where a line is found.
-    pub(crate) fn find_line(&self, device: DeviceId, sector: u64) -> Found<'_>
+    /// The line of a sector, and how many starts of lines were compared with it.
+    pub(crate) fn find_line(&self, device: DeviceId, sector: u64) -> (Found<'_>, u64)
         requires device { device < length self.now.devices }
         requires sector { sector < device_len self.now device }
-        ensures line { found_at self.now device sector ≡ Some result.now }
-        ensures holds { HoldsSoundly self.now device result.now sector }
-        ensures all { (other : ℕ) → result.now.start ≤ other → other < result.now.start + result.now.len → found_at self.now device other ≡ Some result.now }
+        ensures line { found_at self.now device sector ≡ Some result.0.now }
+        ensures holds { HoldsSoundly self.now device result.0.now sector }
+        ensures all { (other : ℕ) → result.0.now.start ≤ other → other < result.0.now.start + result.0.now.len → found_at self.now device other ≡ Some result.0.now }
+        ensures few { result.1 ≤ binary_digits (length (lines_at self.now device)) }
     {
-        match line_of(self.lines(device), sector) {
-            Some(line) => line,
-            None => unreachable!(),
-        }
+        let lines = self.lines(device);
+        let (index, comparisons) = search(lines, sector);
+        (&lines[index], comparisons)
     }
-}
-
-/// The first line that holds a sector.
-fn line_of(lines: &[FoundLine], sector: u64) -> Option<&FoundLine>
-    ensures { option_copied result ≡ find (has_sector sector) lines.now }
-{
-    lines.iter().find(|line| line.start <= sector && sector - line.start < line.len)
 }

@@ -49,3 +49,10 @@ pub behind_bytes : (buffer held : List ℕ) (start end n : ℕ) → slice_range 
 behind_bytes buffer held start end n e l =
     let whole : length (slice_range buffer start (start + n)) ≡ n = ap length (line_at buffer held start end n e l) ∙ length-take-le n held (omega arith) in
     behind_line buffer held start end n e l ∙ ap (λ m. drop (m + 1) held) (sym whole)
+
+-- what is held without its first bytes
+pub without_front : (buffer held : List ℕ) (start end n : ℕ) → slice_range buffer start end ≡ held → start + n ≤ end → slice_range buffer (start + n) end ≡ drop n held
+without_front buffer held start end n e within =
+    let len = end - (start + n) in
+    let all : n + len ≡ end - start = omega arith in
+    ap (take len) (sym (drop-drop n start buffer)) ∙ sym (drop-take n len (drop start buffer)) ∙ ap (λ m. drop n (take m (drop start buffer))) all ∙ ap (drop n) e

@@ -1,11 +1,10 @@
 -- The text of a number of which only the last digit is new.
-use Rattle.std.proofs.Common.{◌≡◌, ℕ, zero, suc, ◌+◌, ◌<◌, ◌^◌, ◌/◌, ◌%◌, ◌++◌, List, [], ◌∷◌, length, drop, set, decimal, refl, sym, ap, ◌∙◌, arith, append_assoc, length-append, length-drop, inl, inr}
+use Rattle.std.proofs.Common.{◌≡◌, ℕ, zero, suc, ◌+◌, ◌<◌, ◌^◌, ◌/◌, ◌%◌, ◌++◌, List, [], ◌∷◌, ◌≤◌, length, take, set, decimal, refl, sym, ap, ◌∙◌, arith, append_assoc, length-append, length-take-le, inl, inr}
 use Rattle.std.proofs.Math.Nat.{div-eq_of_lt, mod-eq_of_lt}
-use Rattle.std.proofs.Math.Seq.{set-append_seam}
+use Rattle.std.proofs.Math.Seq.{set-append_seam, take-set-lt}
 use Rattle.std.proofs.lemmas.Bool.{cases_lt}
 use Rattle.std.proofs.lemmas.Fmt.{decimal_digit, decimal_step}
-use Rattle.std.proofs.lemmas.List.{drop-set-add}
-use Rattle.dm_stream.specs.NumberedLine.{number_prefix}
+use Rattle.dm_stream.specs.NumberPrefix.{number_prefix}
 
 -- the digits before the last one, by the tens
 abbrev tens_text : ℕ → List ℕ
@@ -25,17 +24,18 @@ tens_and_last n fits = elim (cases_lt n 10) [
       decimal_step n large fits ∙ ap (λ (ds : List ℕ). ds ++ (48 + n % 10) ∷ []) (some_tens (n / 10) some)
 ]
 
--- the front at the end of some room, with the last digit set
-pub last_digit_set : (text : List ℕ) (start old new : ℕ) → length text ≡ 21 → old < 2 ^ 64 → new < 2 ^ 64 → new / 10 ≡ old / 10 → drop start text ≡ number_prefix old → drop start (set text 19 (48 + new % 10)) ≡ number_prefix new
-last_digit_set text start old new len old_fits new_fits tens is =
+-- the prefix at the front of some room, with the last digit set
+pub last_digit_set : (text : List ℕ) (last old new : ℕ) → last + 2 ≤ length text → old < 2 ^ 64 → new < 2 ^ 64 → new / 10 ≡ old / 10 → take (last + 2) text ≡ number_prefix old → take (last + 2) (set text last (48 + new % 10)) ≡ number_prefix new
+last_digit_set text last old new within old_fits new_fits tens is =
     let first = tens_text (old / 10) in
-    let split : drop start text ≡ first ++ (48 + old % 10) ∷ 32 ∷ [] =
+    let digit = 48 + new % 10 in
+    let split : take (last + 2) text ≡ first ++ (48 + old % 10) ∷ 32 ∷ [] =
     is ∙ ap (λ (ds : List ℕ). ds ++ 32 ∷ []) (tens_and_last old old_fits) ∙ append_assoc first ((48 + old % 10) ∷ []) (32 ∷ []) in
-    let place : start + length first ≡ 19 = omega (arith, len, length-drop start text, ap length split, length-append first ((48 + old % 10) ∷ 32 ∷ [])) in
-    ap (λ k. drop start (set text k (48 + new % 10))) (sym place)
-    ∙ drop-set-add start text (length first) (48 + new % 10)
-    ∙ ap (λ (ds : List ℕ). set ds (length first) (48 + new % 10)) split
-    ∙ set-append_seam first (48 + old % 10) (32 ∷ []) (48 + new % 10)
-    ∙ ap (λ (t : ℕ). tens_text t ++ (48 + new % 10) ∷ 32 ∷ []) (sym tens)
-    ∙ sym (append_assoc (tens_text (new / 10)) ((48 + new % 10) ∷ []) (32 ∷ []))
+    let place : last ≡ length first = omega (arith, length-take-le (last + 2) text within, ap length split, length-append first ((48 + old % 10) ∷ 32 ∷ [])) in
+    take-set-lt (last + 2) text last digit (omega arith)
+    ∙ ap (λ (k : ℕ). set (take (last + 2) text) k digit) place
+    ∙ ap (λ (ds : List ℕ). set ds (length first) digit) split
+    ∙ set-append_seam first (48 + old % 10) (32 ∷ []) digit
+    ∙ ap (λ (t : ℕ). tens_text t ++ digit ∷ 32 ∷ []) (sym tens)
+    ∙ sym (append_assoc (tens_text (new / 10)) (digit ∷ []) (32 ∷ []))
     ∙ ap (λ (ds : List ℕ). ds ++ 32 ∷ []) (sym (tens_and_last new new_fits))

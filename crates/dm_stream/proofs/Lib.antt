@@ -1,5 +1,6 @@
 pub mod DeviceNames
 pub mod FewestLemmas
+pub mod Fronts
 pub mod Held
 pub mod JoinLemmas
 pub mod LastDigit
@@ -8,4 +9,3 @@ pub mod PieceLemmas
 pub mod RequestMapped
 pub mod Runs
 pub mod Turns
-pub mod Unchanged

@@ -7,7 +7,7 @@ pub mod Mapped
 pub mod MappedLaws
 pub mod Messages
 pub mod NextHeld
-pub mod NumberedLine
+pub mod NumberPrefix
 pub mod Outcome
 pub mod Pending
 pub mod PieceText

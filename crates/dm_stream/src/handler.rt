@@ -37,6 +37,12 @@ pub trait Handler {
         ensures ready { OnOk result (ready self.new source.new) }
         ensures stopped { IfErr result (λ fault. stopped self.old source.old (numbered request.now ∷ []) fault self.new source.new) };
 
+    /// No request is at hand, and reading one may wait: what was gathered of the answers can go on.
+    /// Nothing is answered.
+    fn before_read(&mut self)
+        ensures answered { (source : Self.Source) → answered self.old source [] self.new source }
+        ensures ready { (source : Self.Source) → ready self.old source → ready self.new source };
+
     /// No requests are answered where nothing changes.
     ghost answered_none: { (h : Self) (s : Self.Source) → answered h s [] h s };
 

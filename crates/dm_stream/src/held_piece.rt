@@ -14,10 +14,12 @@ ghost use Rattle.dm_stream.specs.Progress.{HasWritten};
 ghost use Rattle.dm_stream.specs.PieceText.{pieces_text};
 ghost use Rattle.dm_table.specs.WriteAll.{IsCutShort};
 
-use crate::numbered_line::NumberedLine;
+use crate::kept_range::KeptRange;
+use crate::number_prefix::NumberPrefix;
+use crate::piece_text::PieceLine;
 use dm_map::Piece;
 use dm_stack::{DiskId, Stack};
-use dm_table::{OutFault, Output, write_all};
+use dm_table::{OutFault, Output};
 use std::marker::Model;
 
 /// At most one piece of a request to a stack's devices, under the request's number.
@@ -25,8 +27,10 @@ use std::marker::Model;
 pub(crate) struct HeldPiece<'s> {
     stack: &'s Stack,
     piece: Option<Piece>,
-    /// The line that was written last, under the request's number.
-    line: NumberedLine,
+    /// What each line begins with: the request's number.
+    prefix: NumberPrefix,
+    /// What the line ended with that was written last.
+    range: KeptRange,
 }
 
 impl<'s> Model for HeldPiece<'s> {
@@ -34,7 +38,7 @@ impl<'s> Model for HeldPiece<'s> {
 
     ghost Value = { Pending };
 
-    ghost view = { λ held. record { stack = held.stack.now; number = held.line.number; piece = held.piece } };
+    ghost view = { λ held. record { stack = held.stack.now; number = held.prefix; piece = held.piece } };
 
     ghost invariant = { λ held. IsHeld held.stack.now held.piece };
 }
@@ -47,19 +51,22 @@ impl<'s> HeldPiece<'s> {
         HeldPiece {
             stack,
             piece: None,
-            line: NumberedLine::new(),
+            prefix: NumberPrefix::new(),
+            range: KeptRange::new(),
         }
     }
 
     /// Sets the number of the request.
+    #[inline(always)]
     pub(crate) fn set_number(&mut self, number: u64)
         ensures { self.new ≡ record { stack = self.old.stack; number = number; piece = self.old.piece } }
     {
-        self.line.set_number(number);
+        self.prefix.set(number);
     }
 
     /// Lengthens the held piece by one that continues it. Returns false, and changes nothing, if
     /// none is held or the piece does not continue it.
+    #[inline(always)]
     pub(crate) fn lengthen(&mut self, piece: &Piece) -> bool
         requires some { 1 ≤ piece_len piece.now }
         requires lies { IsOnDisks self.old.stack piece.now }
@@ -83,6 +90,7 @@ impl<'s> HeldPiece<'s> {
     }
 
     /// Holds a piece where none is held.
+    #[inline(always)]
     pub(crate) fn hold(&mut self, piece: Piece)
         requires fits { IsHeld self.old.stack (Some piece) }
         requires none { self.old.piece ≡ None }
@@ -92,6 +100,7 @@ impl<'s> HeldPiece<'s> {
     }
 
     /// Writes the line of the held piece, which is then held no longer. Writes nothing if none is held.
+    #[inline(always)]
     pub(crate) fn write<W: Output>(&mut self, writer: &mut W) -> Result<(), OutFault>
         ensures ok { OnOk result (since (W.written writer.old) (W.written writer.new)
             ≡ pieces_text self.old.stack self.old.number (fewest (held_units self.old.piece))) }
@@ -100,16 +109,18 @@ impl<'s> HeldPiece<'s> {
         ensures moved { HasWritten W.written W.waiting W.faults W.flushes writer.old writer.new (fault_of result) }
         ensures nothing { self.new ≡ record { stack = self.old.stack; number = self.old.number; piece = None } }
     {
-        let Some(piece) = &self.piece else {
+        let Some(piece) = self.piece else {
             return Ok(());
         };
-        self.line.set_piece(self.stack, piece);
         self.piece = None;
-        write_all(writer, self.line.as_slice())
+        self.range.note(&piece);
+        let line = PieceLine::new(&self.prefix, &self.range, self.stack, piece);
+        writer.put(&line)
     }
 }
 
 /// Whether the second piece continues the first.
+#[inline(always)]
 fn goes_on(held: &Piece, piece: &Piece) -> bool
     ensures { result ≡ is_after (first_unit held.now) (piece_len held.now) (first_unit piece.now) }
 {
@@ -139,6 +150,7 @@ fn goes_on(held: &Piece, piece: &Piece) -> bool
 }
 
 /// Whether `next` is the sector after `len` sectors from `sector` on.
+#[inline(always)]
 fn follows(sector: u64, len: u64, next: u64) -> bool
     ensures { result ≡ (sector + len == next) }
 {
@@ -146,6 +158,7 @@ fn follows(sector: u64, len: u64, next: u64) -> bool
 }
 
 /// A piece that is longer by `more` sectors.
+#[inline(always)]
 fn longer(stack: &Stack, held: &Piece, more: u64) -> Piece
     requires { Fits stack.now (first_unit held.now) (piece_len held.now + more) }
     ensures first { first_unit result ≡ first_unit held.now }
@@ -188,6 +201,7 @@ fn longer(stack: &Stack, held: &Piece, more: u64) -> Piece
 }
 
 /// The sum of two numbers of sectors that a disk has.
+#[inline(always)]
 fn sum(stack: &Stack, disk: DiskId, len: u64, more: u64) -> u64
     requires there { disk < length stack.now.disks }
     requires inside { len + more ≤ disk_len stack.now disk }
@@ -198,6 +212,7 @@ fn sum(stack: &Stack, disk: DiskId, len: u64, more: u64) -> u64
 }
 
 /// The sectors of a piece.
+#[inline(always)]
 fn length_of(piece: &Piece) -> u64
     ensures { result ≡ piece_len piece.now }
 {

@@ -47,6 +47,7 @@ impl<'s, W: Output> Join<'s, W> {
     }
 
     /// Sets the number of the request that comes next; the one before is finished, so nothing is held.
+    #[inline(always)]
     pub fn begin(&mut self, number: u64)
         requires { self.old.held.piece ≡ None }
         ensures number { self.new.held ≡ record { stack = self.old.held.stack; number = number; piece = None } }
@@ -60,6 +61,7 @@ impl<'s, W: Output> Join<'s, W> {
     ///
     /// `OutFault` if a write failed: a beginning of the line was written, and not all of it. Cost: as
     /// many writes as the one line takes, and none if nothing is held. No memory is taken.
+    #[inline(always)]
     pub fn finish(&mut self) -> Result<(), OutFault>
         ensures ok { OnOk result (since (W.written self.old.writer.now) (W.written self.new.writer.now)
             ≡ pieces_text self.old.held.stack self.old.held.number (fewest (held_units self.old.held.piece))) }
@@ -77,6 +79,16 @@ impl<'s, W: Output> Join<'s, W> {
         ensures fewest { (units : List BlockUnit) → AreFewest units (fewest units) }
     {
         self.held.write(&mut *self.writer)
+    }
+
+    /// Has the writer hand on what it gathered. Nothing is written or flushed.
+    pub(crate) fn hand_on(&mut self)
+        ensures held { self.new.held ≡ self.old.held }
+        ensures moved { HasWritten W.written W.waiting W.faults W.flushes self.old.writer.now self.new.writer.now 0 }
+        ensures written { W.written self.new.writer.now ≡ W.written self.old.writer.now }
+        ensures same_reference { self.new.writer.ghost_name ≡ self.old.writer.ghost_name }
+    {
+        self.writer.hand_on();
     }
 
     /// Ends the join, after its last request was finished, and gives its writer back as it is:
@@ -117,6 +129,7 @@ impl<W: Output> Sink for Join<'_, W> {
 
     ghost took_then_left = { λ a b c us vs first second. (left_more a.held b.held c.held us vs _ _ _ first.0 second.0, written_more W.written W.waiting W.faults W.flushes a.writer.now b.writer.now c.writer.now 1 first.1 second.1, second.2 ∙ first.2) };
 
+    #[inline(always)]
     fn piece(&mut self, piece: Piece) -> Result<(), OutFault> {
         if self.held.lengthen(&piece) {
             return Ok(());

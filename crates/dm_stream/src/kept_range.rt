@@ -1,55 +1,106 @@
-//! The range that a line ends with, a start and a length, kept while both stay the same.
+//! The range that a line ends with: a start, a length and a newline.
 //!
-//! Over many columns the same range comes once for each column, so its digits are put once. They
-//! stand at the very end of the text; whoever puts something else there says that none is kept.
+//! Over many columns the same range comes once for each column. Its text is kept as soon as it comes
+//! a second time, and then copied whole; before that, its digits are written where they belong.
 
-ghost use Rattle.std.specs.Prelude.{◌≡◌, ◌≤◌, ◌+◌, ◌∷◌, [], length, drop};
-ghost use Rattle.dm_stream.specs.KeptRange.{IsKept, range_text};
+ghost use Rattle.std.specs.Prelude.{◌≡◌, ◌++◌, ◌+◌, ◌<◌, ◌≤◌, length, take};
+ghost use Rattle.dm_stream.specs.KeptRange.{range_text};
 
-use crate::put_before::{put_before, put_number_before};
+use dm_map::Piece;
+use dm_table::{put_bytes, put_digits, put_room};
+use std::marker::Model;
 
-/// The range that a text ends with, and where that begins: at the text's end if none is kept.
-#[derive(Clone, Copy)]
+/// The room in bytes: two numbers, two spaces and a newline.
+const ROOM: usize = 48;
+
+/// The range that came last, and its text if it came twice.
+#[derive(Drop)]
 pub(crate) struct KeptRange {
-    pub(crate) start: u64,
-    pub(crate) len: u64,
-    pub(crate) at: usize,
+    start: u64,
+    len: u64,
+    text: [u8; ROOM],
+    /// Where the text ends: 0 if none is kept.
+    end: usize,
 }
 
-/// Makes a text end with a start, a length and a newline, which stay as they are if it does already.
-pub(crate) fn set_range(text: &mut [u8], range: &mut KeptRange, start: u64, len: u64)
-    requires room { 64 ≤ length text.old }
-    requires range { IsKept range.old text.old }
-    ensures range { IsKept range.new text.new }
-    ensures text { drop range.new.at text.new ≡ range_text start len }
-{
-    let is_same = range.at < text.len() && range.start == start && range.len == len;
-    if !is_same {
-        *range = put_range(text, start, len);
+impl Model for KeptRange {
+    ghost use Rattle.std.specs.Prelude.{◌≡◌, ◌<◌, ◌≤◌, take};
+    ghost use Rattle.dm_stream.specs.KeptRange.{range_text};
+
+    ghost Value = { Unit {0} };
+
+    ghost view = { λ range. tt };
+
+    ghost invariant = { λ range. (range.end ≤ 48) × (0 < range.end → take range.end range.text ≡ range_text range.start range.len) };
+}
+
+impl KeptRange {
+    /// None came yet.
+    pub(crate) fn new() -> KeptRange {
+        KeptRange {
+            start: 0,
+            len: 0,
+            text: [b' '; ROOM],
+            end: 0,
+        }
+    }
+
+    /// Notes the range of the line of a piece, if it ends with one.
+    #[inline(always)]
+    pub(crate) fn note(&mut self, piece: &Piece) {
+        if let Piece::Read { start, len, .. } | Piece::Write { start, len, .. } = *piece {
+            self.note_range(start, len);
+        }
+    }
+
+    /// Keeps the text of a range if it came last, too.
+    #[inline(always)]
+    fn note_range(&mut self, start: u64, len: u64) {
+        if self.start != start || self.len != len {
+            self.start = start;
+            self.len = len;
+            self.end = 0;
+        } else if self.end == 0 {
+            self.end = keep(&mut self.text, start, len);
+        }
+    }
+
+    /// Puts a range at a place of a block, and returns where it ends.
+    #[inline(always)]
+    pub(crate) fn put_into(&self, block: &mut [u8], at: usize, start: u64, len: u64) -> usize
+        requires { at + ROOM ≤ length block.old }
+        ensures few { result ≤ at + ROOM }
+        ensures end { result ≡ at + length (range_text start len) }
+        ensures text { take result block.new ≡ take at block.old ++ range_text start len }
+    {
+        if self.end > 0 && self.start == start && self.len == len {
+            return put_room(block, at, &self.text, self.end);
+        }
+        put_range(block, at, start, len)
     }
 }
 
-/// Puts a start, a length and a newline at the end of a text.
-fn put_range(text: &mut [u8], start: u64, len: u64) -> KeptRange
-    requires { 64 ≤ length text.old }
-    ensures range { IsKept result text.new }
-    ensures text { drop result.at text.new ≡ range_text start len }
+/// Puts the text of a range at the front of a room, and returns where it ends.
+#[inline(never)]
+fn keep(text: &mut [u8], start: u64, len: u64) -> usize
+    requires { length text.old ≡ ROOM }
+    ensures within { result ≤ ROOM }
+    ensures text { take result text.new ≡ range_text start len }
 {
-    let end = put_before(text, text.len(), b"\n");
-    let end = put_number_before(text, end, len);
-    let end = put_before(text, end, b" ");
-    let end = put_number_before(text, end, start);
-    let at = put_before(text, end, b" ");
-    KeptRange { start, len, at }
+    put_range(text, 0, start, len)
 }
 
-/// Makes a text end with only a newline, so that no range is kept, and returns where it is.
-pub(crate) fn without_range(text: &mut [u8], range: &mut KeptRange) -> usize
-    requires { 1 ≤ length text.old }
-    ensures at { range.new.at ≡ length text.new }
-    ensures start { result + 1 ≡ length text.new }
-    ensures text { drop result text.new ≡ 10 ∷ [] }
+/// Puts a start, a length and a newline at a place of a block, and returns where they end.
+#[inline(always)]
+fn put_range(block: &mut [u8], at: usize, start: u64, len: u64) -> usize
+    requires { at + ROOM ≤ length block.old }
+    ensures few { result ≤ at + 43 }
+    ensures end { result ≡ at + length (range_text start len) }
+    ensures text { take result block.new ≡ take at block.old ++ range_text start len }
 {
-    range.at = text.len();
-    put_before(text, range.at, b"\n")
+    let at = put_bytes(block, at, b" ");
+    let at = put_digits(block, at, start);
+    let at = put_bytes(block, at, b" ");
+    let at = put_digits(block, at, len);
+    put_bytes(block, at, b"\n")
 }

@@ -16,9 +16,7 @@ mod lines;
 mod map_run;
 mod message;
 mod number_prefix;
-mod numbered_line;
 mod piece_text;
-mod put_before;
 mod request_mapper;
 mod requests;
 

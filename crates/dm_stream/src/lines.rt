@@ -1,13 +1,14 @@
 //! The lines of an input, from a buffer that holds what was read and not yet returned.
 //! Clauses see only those bytes, so lines depend on the bytes and never on how reads cut them.
 //! No memory is taken, and the search for a newline continues where the last one stopped: each byte is searched once.
-ghost use Rattle.std.specs.Prelude.{◌≡◌, ◌+◌, ◌≤◌, ◌++◌, [], ◌∷◌, length, take, IfOk, OnErr};
+ghost use Rattle.std.specs.Prelude.{◌≡◌, ◌+◌, ◌≤◌, ◌++◌, [], ◌∷◌, length, take, drop, IfOk, OnErr};
 ghost use Rattle.std.specs.Borrow.{sem};
 ghost use Rattle.std.specs.Io.BufRead.{Rests};
 ghost use Rattle.dm_table.specs.DeviceIo.{delivery, since, fault_of, end_of};
 
 use crate::line_buffer::{line_len, make_room, read_behind};
 use dm_table::{InFault, Input};
+use memchr::memchr;
 use std::marker::Model;
 
 /// The most bytes of a line, without its newline.
@@ -73,6 +74,29 @@ impl Lines {
             start: 0,
             end: 0,
         }
+    }
+
+    /// The bytes that were read and not yet returned.
+    #[inline(always)]
+    pub(crate) fn held(&self) -> &[u8]
+        ensures { result.now ≡ self.now }
+    {
+        let buffer: &[u8] = &self.buffer;
+        &buffer[self.start..self.end]
+    }
+
+    /// Whether a newline is held, so that the next line is there without a read.
+    pub(crate) fn has_newline(&self) -> bool {
+        memchr(b'\n', self.held()).is_some()
+    }
+
+    /// Lets the first bytes go that are held.
+    #[inline(always)]
+    pub(crate) fn skip(&mut self, len: usize)
+        requires { len ≤ length self.old }
+        ensures { self.new ≡ drop len self.old }
+    {
+        self.start += len;
     }
 
     /// How many bytes are held.

@@ -23,9 +23,10 @@ use crate::last_device::LastDevice;
 use crate::message::{message_of, tell};
 use crate::request_mapper::RequestMapper;
 use crate::requests::handle_requests;
-use dm_map::Mapper;
+use dm_map::{Mapper, Taken};
 use dm_stack::Stack;
 use dm_table::{Input, OutFault, Output};
+use std::marker::PhantomData;
 
 /// How a run ends when a request was not mapped.
 fn ending_of(cause: NotMapped) -> Ending
@@ -39,10 +40,10 @@ fn ending_of(cause: NotMapped) -> Ending
 
 /// Answers the requests up to the first bad one, an end or a fault, through one mapper and one join.
 /// Nothing is flushed.
-fn map_lines<'s, R: Input, W: Output>(
+fn map_lines<'s, T: Taken, R: Input, W: Output>(
     requests: &mut R,
-    mapper: &mut Mapper<'s>,
-    handler: &mut RequestMapper<'_, 's, W>,
+    mapper: &mut Mapper<'s, T>,
+    handler: &mut RequestMapper<'_, 's, T, W>,
 ) -> Ending
     requires { IsReady handler.old.devices mapper.old handler.old.join.held }
     ensures stack { mapper.new.stack ≡ mapper.old.stack }
@@ -62,9 +63,9 @@ fn map_lines<'s, R: Input, W: Output>(
 }
 
 /// The same for an output, which the caller has back afterwards.
-fn map_requests<'s, R: Input, W: Output>(
+fn map_requests<'s, T: Taken, R: Input, W: Output>(
     stack: &'s Stack,
-    mapper: &mut Mapper<'s>,
+    mapper: &mut Mapper<'s, T>,
     requests: &mut R,
     output: &mut W,
 ) -> Ending
@@ -81,6 +82,7 @@ fn map_requests<'s, R: Input, W: Output>(
     let mut handler = RequestMapper {
         devices: LastDevice::new(stack),
         join: Join::new(stack, output),
+        taken: PhantomData,
     };
     let ending = map_lines(requests, mapper, &mut handler);
     let _writer = handler.join.end();
@@ -89,9 +91,9 @@ fn map_requests<'s, R: Input, W: Output>(
 
 /// Answers the requests up to the first bad one, an end or a fault, and then flushes the output,
 /// once and only where no write failed.
-fn map_and_flush<'s, R: Input, W: Output>(
+fn map_and_flush<'s, T: Taken, R: Input, W: Output>(
     stack: &'s Stack,
-    mapper: &mut Mapper<'s>,
+    mapper: &mut Mapper<'s, T>,
     requests: &mut R,
     output: &mut W,
 ) -> Ending
@@ -131,9 +133,9 @@ fn map_and_flush<'s, R: Input, W: Output>(
 ///
 /// Cost: time linear in the bytes read and written, plus what the mapper takes for each request. No
 /// memory is taken.
-pub fn run<'s, R: Input, W: Output, E: Output>(
+pub fn run<'s, T: Taken, R: Input, W: Output, E: Output>(
     stack: &'s Stack,
-    mapper: &mut Mapper<'s>,
+    mapper: &mut Mapper<'s, T>,
     requests: &mut R,
     output: &mut W,
     messages: &mut E,

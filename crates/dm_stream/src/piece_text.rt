@@ -1,48 +1,97 @@
-//! The line of a piece.
+//! The line of a piece, as a text that puts itself into a block.
 //!
-//! It is put together from its end, in room that the caller keeps, so a request takes no memory for
-//! its lines. A new kind of piece is an arm of `put_piece` here and of `unit_text` in
-//! `specs/PieceText`.
+//! Reads and writes come by the hundreds of millions, so they are put in line; the other kinds go
+//! through functions of their own. A new kind of piece is an arm of `put_piece` here and of
+//! `unit_text` in `specs/PieceText`.
 
-ghost use Rattle.std.specs.Prelude.{◌≡◌, ◌++◌, ◌+◌, ◌<◌, ◌≤◌, ◌∷◌, [], length, drop, decimal};
+ghost use Rattle.std.specs.Prelude.{◌≡◌, ◌++◌, ◌+◌, ◌<◌, ◌≤◌, ◌∷◌, [], length, take, decimal};
 ghost use Rattle.dm_stack.specs.Description.{disk_name_at};
 ghost use Rattle.dm_map.specs.Units.{IsOnDisks, first_unit, piece_len};
-ghost use Rattle.dm_stream.specs.PieceText.{place_text, unit_text};
-ghost use Rattle.dm_stream.specs.KeptRange.{IsKept};
+ghost use Rattle.dm_stream.specs.Pending.{piece_view};
+ghost use Rattle.dm_stream.specs.PieceText.{piece_text, place_text, unit_text};
 
-use crate::kept_range::{KeptRange, set_range, without_range};
-use crate::put_before::{put_before, put_number_before};
+use crate::kept_range::KeptRange;
+use crate::number_prefix::NumberPrefix;
 use dm_map::Piece;
 use dm_stack::{DiskId, Stack};
+use dm_table::{Text, put_bytes, put_digits};
+use std::marker::Model;
 
-/// Puts what a piece is and a newline at the end of a text, and returns where that begins.
-pub(crate) fn put_piece(
-    text: &mut [u8],
-    range: &mut KeptRange,
-    stack: &Stack,
-    piece: &Piece,
-) -> usize
-    requires room { 1024 ≤ length text.old }
-    requires range { IsKept range.old text.old }
+/// The line of a piece on disks of a stack, under a number.
+#[derive(Drop)]
+pub(crate) struct PieceLine<'a> {
+    prefix: &'a NumberPrefix,
+    range: &'a KeptRange,
+    stack: &'a Stack,
+    piece: Piece,
+}
+
+impl<'a> Model for PieceLine<'a> {
+    ghost use Rattle.std.specs.Prelude.{ℕ, List};
+    ghost use Rattle.dm_map.specs.Units.{IsOnDisks};
+    ghost use Rattle.dm_stream.specs.Pending.{piece_view};
+    ghost use Rattle.dm_stream.specs.PieceText.{piece_text};
+
+    ghost Value = { List ℕ };
+
+    ghost view = { λ line. piece_text line.stack.now line.prefix.now (piece_view line.piece) };
+
+    ghost invariant = { λ line. IsOnDisks line.stack.now line.piece };
+}
+
+impl<'a> PieceLine<'a> {
+    /// The line of a piece. The range may be that of any line.
+    #[inline(always)]
+    pub(crate) fn new(
+        prefix: &'a NumberPrefix,
+        range: &'a KeptRange,
+        stack: &'a Stack,
+        piece: Piece,
+    ) -> PieceLine<'a>
+        requires { IsOnDisks stack.now piece }
+        ensures text { result ≡ piece_text stack.now prefix.now (piece_view piece) }
+        ensures some { 0 < length result }
+    {
+        PieceLine {
+            prefix,
+            range,
+            stack,
+            piece,
+        }
+    }
+}
+
+impl<'a> Text for PieceLine<'a> {
+    ghost text = { λ line. line };
+
+    #[inline(always)]
+    fn put_into(&self, block: &mut [u8], at: usize) -> usize {
+        let at = self.prefix.put_into(block, at);
+        put_piece(block, at, self.range, self.stack, &self.piece)
+    }
+}
+
+/// Puts what a piece is and a newline at a place of a block, and returns where they end.
+#[inline(always)]
+fn put_piece(block: &mut [u8], at: usize, range: &KeptRange, stack: &Stack, piece: &Piece) -> usize
+    requires room { at + 800 ≤ length block.old }
     requires lies { IsOnDisks stack.now piece.now }
-    ensures text { drop result text.new ≡ unit_text stack.now (first_unit piece.now) (piece_len piece.now) ++ 10 ∷ [] }
-    ensures range { IsKept range.new text.new }
-    ensures before { result ≤ range.new.at }
-    ensures room { 64 ≤ result }
+    ensures few { result ≤ at + 800 }
+    ensures end { result ≡ at + length (unit_text stack.now (first_unit piece.now) (piece_len piece.now) ++ 10 ∷ []) }
+    ensures text { take result block.new ≡ take at block.old ++ unit_text stack.now (first_unit piece.now) (piece_len piece.now) ++ 10 ∷ [] }
 {
     match *piece {
-        Piece::Read { disk, start, len } | Piece::Write { disk, start, len } => {
-            set_range(text, range, start, len);
-            let word = if matches!(*piece, Piece::Read { .. }) {
-                b"R "
-            } else {
-                b"W "
-            };
-            put_named(text, range.at, word, stack, disk)
+        Piece::Read { disk, start, len } => {
+            let at = put_named(block, at, b"R ", stack, disk);
+            range.put_into(block, at, start, len)
         }
-        Piece::Zero { len } => put_counted(text, range, b"zero ", len),
-        Piece::Drop { len } => put_counted(text, range, b"drop ", len),
-        Piece::Error { len } => put_counted(text, range, b"error ", len),
+        Piece::Write { disk, start, len } => {
+            let at = put_named(block, at, b"W ", stack, disk);
+            range.put_into(block, at, start, len)
+        }
+        Piece::Zero { len } => put_counted(block, at, b"zero ", len),
+        Piece::Drop { len } => put_counted(block, at, b"drop ", len),
+        Piece::Error { len } => put_counted(block, at, b"error ", len),
         Piece::Copy {
             disk,
             start,
@@ -50,63 +99,62 @@ pub(crate) fn put_piece(
             to,
             to_start,
         } => {
-            let end = without_range(text, range);
-            let end = put_place(text, end, stack, to, to_start);
-            let end = put_before(text, end, b" ");
-            let end = put_number_before(text, end, len);
-            let end = put_before(text, end, b" ");
-            let end = put_place(text, end, stack, disk, start);
-            put_before(text, end, b"copy ")
+            let at = put_bytes(block, at, b"copy ");
+            let at = put_place(block, at, stack, disk, start);
+            let at = put_bytes(block, at, b" ");
+            let at = put_digits(block, at, len);
+            let at = put_bytes(block, at, b" ");
+            let at = put_place(block, at, stack, to, to_start);
+            put_bytes(block, at, b"\n")
         }
         Piece::Fill { len, disk, start } => {
-            let end = without_range(text, range);
-            let end = put_place(text, end, stack, disk, start);
-            let end = put_before(text, end, b" ");
-            let end = put_number_before(text, end, len);
-            put_before(text, end, b"fill ")
+            let at = put_bytes(block, at, b"fill ");
+            let at = put_digits(block, at, len);
+            let at = put_bytes(block, at, b" ");
+            let at = put_place(block, at, stack, disk, start);
+            put_bytes(block, at, b"\n")
         }
     }
 }
 
-/// Puts a word and the name of a disk of the stack before a place of a text.
-fn put_named(text: &mut [u8], end: usize, word: &[u8], stack: &Stack, disk: DiskId) -> usize
-    requires room { 640 ≤ end }
-    requires within { end ≤ length text.old }
+/// Puts a word and the name of a disk of the stack at a place of a block.
+#[inline(always)]
+fn put_named(block: &mut [u8], at: usize, word: &[u8], stack: &Stack, disk: DiskId) -> usize
+    requires room { at + 300 ≤ length block.old }
     requires short { length word.now ≤ 9 }
     requires there { disk < length stack.now.disks }
-    ensures text { drop result text.new ≡ word.now ++ disk_name_at stack.now disk ++ drop end text.old }
-    ensures behind { drop end text.new ≡ drop end text.old }
-    ensures before { result ≤ end }
-    ensures room { 64 ≤ result }
+    ensures few { result ≤ at + 264 }
+    ensures end { result ≡ at + length (word.now ++ disk_name_at stack.now disk) }
+    ensures text { take result block.new ≡ take at block.old ++ word.now ++ disk_name_at stack.now disk }
 {
-    let end = put_before(text, end, stack.disk_name(disk).as_bytes());
-    put_before(text, end, word)
+    let at = put_bytes(block, at, word);
+    put_bytes(block, at, stack.disk_name(disk).as_bytes())
 }
 
-/// Puts a word, a number and a newline at the end of a text.
-fn put_counted(text: &mut [u8], range: &mut KeptRange, word: &[u8], number: u64) -> usize
-    requires room { 1024 ≤ length text.old }
+/// Puts a word, a number and a newline at a place of a block.
+#[inline(never)]
+fn put_counted(block: &mut [u8], at: usize, word: &[u8], number: u64) -> usize
+    requires room { at + 300 ≤ length block.old }
     requires short { length word.now ≤ 9 }
-    ensures text { drop result text.new ≡ word.now ++ decimal number ++ 10 ∷ [] }
-    ensures range { range.new.at ≡ length text.new }
-    ensures before { result ≤ range.new.at }
-    ensures room { 64 ≤ result }
+    ensures few { result ≤ at + 30 }
+    ensures end { result ≡ at + length (word.now ++ decimal number ++ 10 ∷ []) }
+    ensures text { take result block.new ≡ take at block.old ++ word.now ++ decimal number ++ 10 ∷ [] }
 {
-    let end = without_range(text, range);
-    let end = put_number_before(text, end, number);
-    put_before(text, end, word)
+    let at = put_bytes(block, at, word);
+    let at = put_digits(block, at, number);
+    put_bytes(block, at, b"\n")
 }
 
-/// Puts a place before a place of a text: the name of a disk of the stack and a sector.
-fn put_place(text: &mut [u8], end: usize, stack: &Stack, disk: DiskId, sector: u64) -> usize
-    requires room { 384 ≤ end }
-    requires within { end ≤ length text.old }
+/// Puts a place at a place of a block: the name of a disk of the stack and a sector.
+#[inline(never)]
+fn put_place(block: &mut [u8], at: usize, stack: &Stack, disk: DiskId, sector: u64) -> usize
+    requires room { at + 300 ≤ length block.old }
     requires there { disk < length stack.now.disks }
-    ensures text { drop result text.new ≡ place_text stack.now disk sector ++ drop end text.old }
-    ensures before { result ≤ end }
-    ensures room { end ≤ result + 276 }
+    ensures few { result ≤ at + 276 }
+    ensures end { result ≡ at + length (place_text stack.now disk sector) }
+    ensures text { take result block.new ≡ take at block.old ++ place_text stack.now disk sector }
 {
-    let end = put_number_before(text, end, sector);
-    let end = put_before(text, end, b" ");
-    put_before(text, end, stack.disk_name(disk).as_bytes())
+    let at = put_bytes(block, at, stack.disk_name(disk).as_bytes());
+    let at = put_bytes(block, at, b" ");
+    put_digits(block, at, sector)
 }

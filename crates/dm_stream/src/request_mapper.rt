@@ -18,13 +18,14 @@ use crate::ending::NotMapped;
 use crate::handler::Handler;
 use crate::join::Join;
 use crate::last_device::LastDevice;
-use dm_map::{MapFault, Mapper};
+use dm_map::{MapFault, Mapper, Taken};
 use dm_stack::DeviceId;
 use dm_table::{OutFault, Output, Request};
+use std::marker::PhantomData;
 
 /// Joins the units of a request of a device of the stack, and writes them. Nothing is held before.
-fn map_request<W: Output>(
-    mapper: &mut Mapper<'_>,
+fn map_request<T: Taken, W: Output>(
+    mapper: &mut Mapper<'_, T>,
     request: &Request<'_>,
     device: DeviceId,
     join: &mut Join<'_, W>,
@@ -55,13 +56,15 @@ fn map_request<W: Output>(
 
 /// Finds the devices of requests, and writes the pieces that a mapper makes of them.
 #[derive(Drop)]
-pub(crate) struct RequestMapper<'m, 's, W> {
+pub(crate) struct RequestMapper<'m, 's, T, W> {
     pub(crate) devices: LastDevice<'s>,
     pub(crate) join: Join<'m, W>,
+    /// How the mapper keeps taken chunks.
+    pub(crate) taken: PhantomData<T>,
 }
 
-impl<'s, W: Output> Handler for RequestMapper<'_, 's, W> {
-    type Source = Mapper<'s>;
+impl<'s, T: Taken, W: Output> Handler for RequestMapper<'_, 's, T, W> {
+    type Source = Mapper<'s, T>;
 
     type Fault = NotMapped;
 
@@ -107,7 +110,11 @@ impl<'s, W: Output> Handler for RequestMapper<'_, 's, W> {
       second.5,
     ) };
 
-    fn handle(&mut self, mapper: &mut Mapper<'s>, request: &Request<'_>) -> Result<(), NotMapped> {
+    fn handle(
+        &mut self,
+        mapper: &mut Mapper<'s, T>,
+        request: &Request<'_>,
+    ) -> Result<(), NotMapped> {
         let Some(device) = self.devices.find(request.device) else {
             return Err(NotMapped::Unknown(request.number));
         };
@@ -115,5 +122,9 @@ impl<'s, W: Output> Handler for RequestMapper<'_, 's, W> {
             Ok(()) => Ok(()),
             Err(OutFault) => Err(NotMapped::Output),
         }
+    }
+
+    fn before_read(&mut self) {
+        self.join.hand_on();
     }
 }

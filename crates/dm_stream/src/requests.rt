@@ -3,15 +3,17 @@
 //! What is handed on depends on the bytes and ends that the input delivered, and on nothing else. A
 //! new check of a line goes into `request_of`, in the order in which `specs/Requests.antt` has it.
 
-ghost use Rattle.std.specs.Prelude.{◌≡◌, ◌≢◌, ◌<◌, ◌≤◌, ◌∷◌, [], Ok, Some, IfOk, IfErr, OnOk};
+ghost use Rattle.std.specs.Prelude.{◌≡◌, ◌≢◌, ◌+◌, ◌<◌, ◌≤◌, ◌∷◌, [], length, take, drop, Ok, Some, IfOk, IfErr, IfSome, OnOk};
 ghost use Rattle.dm_table.specs.DeviceIo.{delivery};
+ghost use Rattle.dm_stream.specs.Lines.{line_parts};
+ghost use Rattle.dm_stream.specs.declared.lines.TheConstants.{MOST_LINE_BYTES};
 ghost use Rattle.dm_stream.specs.Progress.{HasRead};
 ghost use Rattle.dm_stream.specs.Requests.{HasMet, IsAmong, Requests, after_requests, is_bad, line_requests, numbered, requests_of, word_for};
 
 use crate::ending::{Ending, RequestWord};
 use crate::handler::Handler;
 use crate::lines::{Lines, Next};
-use dm_table::{Input, Request, RequestFault, parse_request};
+use dm_table::{Input, Request, RequestFault, front_request, parse_request};
 
 /// The most requests of a run.
 pub const MOST_REQUESTS: u64 = 1_000_000_000_000;
@@ -39,6 +41,32 @@ fn request_of(line: &[u8], number: u64) -> Result<Request<'_>, RequestWord>
     match parse_request(line, number) {
         Ok(request) => Ok(request),
         Err(fault) => Err(word_of(fault)),
+    }
+}
+
+/// The request of line `number`, where the held bytes begin with it and it is quickly read.
+#[inline(always)]
+fn front_of(held: &[u8], number: u64) -> Option<(Request<'_>, usize)>
+    ensures good { IfSome result (λ front. (rest : Requests) → line_requests number (take front.1 held.now) rest ≡ after_requests (numbered front.0 ∷ []) rest) }
+    ensures line { IfSome result (λ front. line_parts held.now ≡ take front.1 held.now ∷ line_parts (drop (front.1 + 1) held.now)) }
+    ensures within { IfSome result (λ front. front.1 < length held.now) }
+    ensures short { IfSome result (λ front. front.1 ≤ MOST_LINE_BYTES) }
+    ensures few { IfSome result (λ front. number ≤ MOST_REQUESTS) }
+{
+    if number > MOST_REQUESTS {
+        return None;
+    }
+    let (request, len) = front_request(held, number)?;
+    Some((request, len))
+}
+
+/// Lets the handler know of a read that may wait: one comes where no newline is held.
+fn before_read<H: Handler>(handler: &mut H, lines: &Lines)
+    ensures answered { (source : H.Source) → H.answered handler.old source [] handler.new source }
+    ensures ready { (source : H.Source) → H.ready handler.old source → H.ready handler.new source }
+{
+    if !lines.has_newline() {
+        handler.before_read();
     }
 }
 
@@ -71,6 +99,14 @@ pub fn handle_requests<R: Input, H: Handler>(
     let mut number = 0;
     'lines: loop {
         number += 1;
+        if let Some((request, len)) = front_of(lines.held(), number) {
+            if let Err(fault) = handler.handle(&mut *source, &request) {
+                return Err(fault);
+            }
+            lines.skip(len + 1);
+            continue;
+        }
+        before_read(handler, &lines);
         match lines.next(requests) {
             Next::Line(line) => match request_of(line, number) {
                 Ok(request) => {

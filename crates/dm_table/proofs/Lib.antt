@@ -3,6 +3,7 @@ pub mod ByteLemmas
 pub mod FieldLemmas
 pub mod FaultLemmas
 pub mod RequestLemmas
+pub mod FrontRequest
 mod Portions
 pub mod DiskLemmas
 pub mod TableGroups
@@ -15,4 +16,5 @@ pub mod TargetRows
 pub mod Growth
 pub mod RowFaultLemmas
 pub mod WriteLemmas
+pub mod BlockLemmas
 pub mod CanonicalTable

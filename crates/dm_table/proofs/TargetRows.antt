@@ -2,7 +2,7 @@
 use Rattle.std.proofs.Common.{◌≡◌, ◌≢◌, inl, inr, ℕ, ◌-◌, ◌<◌, ◌≤◌, Bool, true, false, eqb, nat_eq, ◌&&◌, List, [], ◌∷◌, length, take, drop, slice_index_or, Option, Some, None, Result, Ok, Err, refl, ap, arith}
 use Rattle.std.specs.Prelude.{codes}
 use Rattle.std.specs.Cmp.Lexicographic.{pointwise}
-use Rattle.std.proofs.lemmas.Bool.{cases_Bool, ne_eqb}
+use Rattle.std.proofs.lemmas.Bool.{cases_Bool}
 use Rattle.std.proofs.lemmas.List.{take_rest, length-map}
 use denote.Ref.{Bor}
 use Rattle.dm_table.specs.declared.table.Column.{Column}
@@ -14,7 +14,7 @@ use Rattle.dm_table.specs.declared.row_faults.RowFault.{RowFault}
 use Rattle.dm_table.specs.declared.row_faults.RowFault.TheVariants.{Field, Name, Memory}
 use Rattle.dm_table.specs.Number.{number_of}
 use Rattle.dm_table.specs.Fields.{texts}
-use Rattle.dm_table.specs.LineBody.{are_columns, is_half, is_dev, are_devs, are_both_devs, has_devs}
+use Rattle.dm_table.specs.LineBody.{are_columns, is_half, is_dev, are_devs, has_devs}
 use Rattle.dm_table.specs.RowFaults.{value_fault, read_unless}
 use Rattle.dm_table.specs.LineReading.{dev_in, columns_in, dev_reading, columns_reading, fault_before, linear_reading, striped_reading, snapshot_reading, target_reading, body_reading}
 use Rattle.dm_table.proofs.TableGroups.{same_name}

@@ -2,6 +2,7 @@ pub mod Number
 pub mod PartInput
 pub mod Name
 pub mod Fields
+pub mod Gathered
 pub mod LoadFault
 pub mod LoadMessage
 pub mod DiskList

@@ -1,9 +1,11 @@
 //! The traits of what the product reads from and writes to, and their faults.
 //! Ghost members say what a device did so far, so that a caller's contract can speak of any device.
 //! A change of a clause here is a change for every reader and writer above: check them all.
-ghost use Rattle.std.specs.Prelude.{◌≡◌, ◌+◌, ◌<◌, ◌≤◌, ◌++◌, ℕ, List, length, IfOk};
-ghost use Rattle.dm_table.specs.DeviceIo.{given, fault_of, end_of, unflushed};
+ghost use Rattle.std.specs.Prelude.{◌≡◌, ◌+◌, ◌<◌, ◌≤◌, ◌++◌, ℕ, List, length, IfOk, OnOk, OnErr};
+ghost use Rattle.dm_table.specs.DeviceIo.{given, fault_of, end_of, since, unflushed};
+ghost use Rattle.dm_table.specs.WriteAll.{IsCutShort};
 
+use crate::text::{TEXT_ROOM, Text};
 use thiserror::Error;
 
 /// A read failed.
@@ -67,4 +69,34 @@ pub trait Output {
         ensures waiting { waiting self.new ≡ unflushed result (waiting self.old) }
         ensures faults { faults self.new ≡ faults self.old + fault_of result }
         ensures flushes { flushes self.new ≡ flushes self.old + 1 };
+
+    /// Writes all of a text that isn't empty. After a fault a beginning of it is written, and nothing
+    /// is tried again.
+    fn put<T: Text>(&mut self, text: &T) -> Result<(), OutFault>
+        requires { 0 < length (T.text text.now) }
+        ensures appends { written self.new ≡ written self.old ++ since (written self.old) (written self.new) }
+        ensures ok { OnOk result (since (written self.old) (written self.new) ≡ T.text text.now) }
+        ensures left { OnErr result (IsCutShort (T.text text.now) (since (written self.old) (written self.new))) }
+        ensures waiting { waiting self.new ≡ waiting self.old ++ since (written self.old) (written self.new) }
+        ensures faults { faults self.new ≡ faults self.old + fault_of result }
+        ensures flushes { flushes self.new ≡ flushes self.old }
+    {
+        let mut room = [0; TEXT_ROOM];
+        let len = text.put_into(&mut room, 0);
+        let mut rest = &room[..len];
+        'rest: while !rest.is_empty() {
+            let taken = self.write(rest)?;
+            rest = &rest[taken..];
+        }
+        Ok(())
+    }
+
+    /// Has what was gathered go on without a flush, as far as that succeeds: a call before a wait,
+    /// and nothing else depends on it.
+    fn hand_on(&mut self)
+        ensures bytes { written self.new ≡ written self.old }
+        ensures waiting { waiting self.new ≡ waiting self.old }
+        ensures faults { faults self.new ≡ faults self.old }
+        ensures flushes { flushes self.new ≡ flushes self.old }
+    {}
 }

@@ -6,6 +6,7 @@
 //! The words are those of dmsetup(8) and of the kernel's admin-guide/device-mapper documents.
 #![tactic(auto)]
 
+mod block;
 mod canonical_text;
 mod counted;
 mod device_io;
@@ -13,6 +14,7 @@ mod disk;
 mod disk_list;
 mod disk_name;
 mod fields;
+mod gathered;
 mod history;
 mod line_body;
 mod load_fault;
@@ -29,15 +31,18 @@ mod short_io;
 mod table;
 mod table_row;
 mod table_text;
+mod text;
 mod text_checks;
 mod writing;
 
+pub use block::{put_bytes, put_digits, put_room};
 pub use canonical_text::{write_concise, write_table};
 pub use counted::Counted;
 pub use device_io::{InFault, Input, OutFault, Output};
 pub use disk::Disk;
 pub use disk_list::parse_disks;
 pub use disk_name::DiskName;
+pub use gathered::Gathered;
 pub use history::Tally;
 pub use load_fault::{LoadFault, LoadKind};
 pub use load_message::LoadMessage;
@@ -46,8 +51,9 @@ pub use number_text::{MOST_DIGITS, put, put_number};
 pub use part_input::{MOST_PART_BYTES, read_part};
 pub use place::{Part, Place};
 pub use request::{MOST_SECTORS, Op, Request, RequestFault};
-pub use request_line::parse_request;
+pub use request_line::{front_request, parse_request};
 pub use short_io::{ShortIn, ShortOut};
 pub use table::{Column, Columns, DevRef, DeviceSpec, Line, Table, Target};
 pub use table_text::parse_table;
+pub use text::{TEXT_ROOM, Text};
 pub use writing::write_all;

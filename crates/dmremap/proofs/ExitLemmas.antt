@@ -23,7 +23,7 @@ pub refused_kind : (kind : LoadKind) → load_status kind ≢ 6 → (kind ≢ ki
 refused_kind kinds.Memory h = absurd (h refl)
 refused_kind kind h = ((λ e. absurd cc), refl)
 
-no_write_fault : (kind : LoadKind) → load_status kind ≡ 5 → ⊥
+pub no_write_fault : (kind : LoadKind) → load_status kind ≡ 5 → ⊥
 no_write_fault kinds.Memory h = omega arith
 no_write_fault kind h = omega arith
 

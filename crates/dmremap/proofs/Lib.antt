@@ -1,3 +1,4 @@
 mod CommandLine
 pub mod ExitLemmas
 pub mod OneWhole
+pub mod PrintLemmas

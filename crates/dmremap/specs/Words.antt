@@ -4,20 +4,26 @@ use Rattle.std.specs.Prelude.{None, codes, drop, is_some, map, not, option_and_t
 use Rattle.std.specs.Prelude.{if◌then◌else◌}
 use Rattle.std.specs.Borrow.{Bor}
 use Rattle.std.specs.List.{before_first, list_any}
+use Rattle.std.specs.Option.{option_map_or}
 use Rattle.std.specs.Str.{bytes_eq}
 use Rattle.clap.specs.Kinds.{IsAmong, Kinds, or_else}
 use Rattle.clap.specs.Simple.{on_top}
-use Rattle.clap.specs.Words.{App, Row, Rule, Text, fault_of, first_of, kind_of, new_app, new_rule}
-use Rattle.clap.specs.Words.{subcommand_of, with_rule, with_subcommand}
+use Rattle.clap.specs.Words.{AddsSubcommand, App, Row, Rule, Text, app_of, fault_of, first_of, kind_of}
+use Rattle.clap.specs.Words.{new_app, new_rule, subcommand_of, with_rule, with_subcommand}
+use Rattle.clap.specs.declared.builder.command.Command.{Command}
 use Rattle.clap.specs.declared.builder.value_parser.ValueParser.{ValueParser}
 use Rattle.clap.specs.declared.builder.value_parser.ValueParser.TheVariants.{Names}
 use Rattle.clap.specs.declared.error.Error.{Error}
 use Rattle.clap.specs.declared.error.kind.ErrorKind.{ErrorKind}
 use Rattle.clap.specs.declared.error.kind.ErrorKind.TheVariants as kind
+use Rattle.dmremap.specs.declared.words.Form.{Form}
+use Rattle.dmremap.specs.declared.words.Form.TheVariants as forms
 use Rattle.dmremap.specs.declared.words.Format.{Format}
 use Rattle.dmremap.specs.declared.words.Format.TheVariants.{Lvm, Table}
+use Rattle.dmremap.specs.declared.words.Files.{Files}
 use Rattle.dmremap.specs.declared.words.Task.{Task}
-use Rattle.dmremap.specs.declared.words.Task.TheVariants.{Map}
+use Rattle.dmremap.specs.declared.words.Task.TheVariants as task
+use Rattle.lvm_volume.specs.Names.{NameParts}
 use Rattle.dmremap.specs.declared.words.Job.{Job}
 use Rattle.dmremap.specs.declared.words.WordsFault.{WordsFault}
 use Rattle.dmremap.specs.declared.words.WordsFault.TheVariants.{Words, Disks, Memory}
@@ -46,51 +52,113 @@ required_rule id = record (new_rule id) { value_names = 1; required = true }
 abbrev pub format_rule : ValueParser → Rule
 format_rule parser = record (required_rule (codes "format")) { parser = Some parser }
 
--- DISKS, which clap lets be left out, since the formats differ in it
-abbrev pub disks_rule : Rule
-disks_rule = record (new_rule (codes "disks")) { value_names = 1 }
+-- an argument that may be left out, with one name in the help
+abbrev pub optional_rule : Text → Rule
+optional_rule id = record (new_rule id) { value_names = 1 }
 
--- `map FORMAT FILE [DISKS]`
-abbrev pub map_app : ValueParser → App
-map_app parser = with_rule (with_rule (with_rule (new_app (codes "map")) (format_rule parser))
-    (required_rule (codes "file"))) disks_rule
+-- a command that loads files, `NAME FORMAT FILE [DISKS]`: clap lets DISKS be left out, since the formats differ in it
+abbrev pub source_app : Text → ValueParser → App
+source_app name parser = with_rule (with_rule (with_rule (new_app name) (format_rule parser))
+    (required_rule (codes "file"))) (optional_rule (codes "disks"))
+
+-- `name VG LV [LAYER]`
+abbrev pub name_app : App
+name_app = with_rule (with_rule (with_rule (new_app (codes "name")) (required_rule (codes "vg")))
+    (required_rule (codes "lv"))) (optional_rule (codes "layer"))
+
+-- `splitname NAME`
+abbrev pub split_app : App
+split_app = with_rule (new_app (codes "splitname")) (required_rule (codes "name"))
 
 -- the program by itself, which asks for a command and without a word shows its help
 abbrev pub program_app : App
 program_app = on_top (λ s. record s { subcommand_required = true; arg_required_else_help = true })
     (new_app (codes "dmremap"))
 
+-- the program with these commands
+abbrev pub with_commands : App → List App → App
+with_commands line [] = line
+with_commands line (command ∷ commands) = with_commands (with_subcommand line command.top) commands
+
 -- the program with its commands
 abbrev pub command_line : ValueParser → App
-command_line parser = with_subcommand program_app (map_app parser).top
+command_line parser = with_commands program_app
+    (source_app (codes "map") parser ∷ source_app (codes "table") parser ∷ source_app (codes "concise") parser
+    ∷ name_app ∷ split_app ∷ [])
+
+-- as a subcommand, the command is this one
+abbrev pub IsCommand : App → Command → Type 0
+IsCommand app command = (old new : Command) → AddsSubcommand old command new
+    → app_of new ≡ with_subcommand (app_of old) app.top
 
 -- ---- what words say
 
+-- files with their texts themselves
+pub record FileWords : Type 0 where
+  pub format : Format
+  pub file : Text
+  pub disks : Option Text
+
 -- a task with its texts themselves
 pub data TaskWords : Type 0 where
-  map_words : Format → Text → Option Text → TaskWords
+  map_words : FileWords → TaskWords
+  print_words : Form → FileWords → TaskWords
+  name_words : NameParts → TaskWords
+  split_words : Text → TaskWords
+
+-- the texts of files
+abbrev pub file_words : Files → FileWords
+file_words files = record { format = files.format; file = files.file.now; disks = option_map (λ d. d.now) files.disks }
 
 -- the texts of a task
 abbrev pub words_of : Task → TaskWords
-words_of (Map format file disks) = map_words format file.now (option_map (λ d. d.now) disks)
+words_of (task.Map files) = map_words (file_words files)
+words_of (task.Print form files) = print_words form (file_words files)
+words_of (task.Name vg lv layer) = name_words (record { vg = vg.now; lv = lv.now; layer = option_map (λ l. l.now) layer })
+words_of (task.SplitName name) = split_words name.now
 
--- the task of `map` with these arguments, of which the first two have to be there
-abbrev pub map_of : Option Text → Option Text → Option Text → Option TaskWords
-map_of word file disks = option_and_then (λ format.
-    option_map (λ path. map_words format path disks) file) (option_and_then format_named word)
+-- the files that these arguments say, of which the first two have to be there
+abbrev pub files_from : Option Text → Option Text → Option Text → Option FileWords
+files_from word file disks = option_and_then (λ format.
+    option_map (λ path. record { format = format; file = path; disks = disks }) file) (option_and_then format_named word)
 
--- the task that the matches of `map` give
-abbrev pub map_task : List Row → Option TaskWords
-map_task rows = map_of (first_of (codes "format") rows) (first_of (codes "file") rows)
+-- the files that the matches of a command give
+abbrev pub files_in : List Row → Option FileWords
+files_in rows = files_from (first_of (codes "format") rows) (first_of (codes "file") rows)
     (first_of (codes "disks") rows)
+
+-- the task of `name` with these arguments, of which the first two have to be there
+abbrev pub name_from : Option Text → Option Text → Option Text → Option TaskWords
+name_from vg lv layer = option_and_then (λ group.
+    option_map (λ volume. name_words (record { vg = group; lv = volume; layer = layer })) lv) vg
+
+-- the task that the matches of `name` give
+abbrev pub name_in : List Row → Option TaskWords
+name_in rows = name_from (first_of (codes "vg") rows) (first_of (codes "lv") rows) (first_of (codes "layer") rows)
+
+-- the task that the matches of `splitname` give
+abbrev pub split_in : List Row → Option TaskWords
+split_in rows = option_map split_words (first_of (codes "name") rows)
 
 -- the task that the matches of a command give
 abbrev pub task_of : Text → List Row → Option TaskWords
-task_of command rows = if bytes_eq command (codes "map") then map_task rows else None
+task_of command rows =
+    if bytes_eq command (codes "map") then option_map map_words (files_in rows)
+    else (if bytes_eq command (codes "table") then option_map (print_words forms.Table) (files_in rows)
+    else (if bytes_eq command (codes "concise") then option_map (print_words forms.Concise) (files_in rows)
+    else (if bytes_eq command (codes "name") then name_in rows
+    else (if bytes_eq command (codes "splitname") then split_in rows else None))))
 
 -- the task that clap's matches of the words give
 abbrev pub task_in : App → List Text → Option TaskWords
 task_in line words = option_and_then (λ met. task_of met.0 met.1) (subcommand_of line words)
+
+-- the files that a task loads, if it loads any
+abbrev pub files_of : TaskWords → Option FileWords
+files_of (map_words files) = Some files
+files_of (print_words form files) = Some files
+files_of (name_words parts) = None
+files_of (split_words name) = None
 
 -- a list of disks goes with texts of this format
 abbrev pub has_disk_list : Format → Bool
@@ -98,9 +166,12 @@ has_disk_list Lvm = false
 has_disk_list Table = true
 
 -- DISKS is there exactly where the format asks for it
-abbrev pub has_its_disks : TaskWords → Bool
-has_its_disks (map_words format file disks) =
-    if has_disk_list format then is_some disks else not (is_some disks)
+abbrev pub has_its_disks : FileWords → Bool
+has_its_disks files = if has_disk_list files.format then is_some files.disks else not (is_some files.disks)
+
+-- so it is with the files of a task, where it loads any
+abbrev pub task_has_its_disks : TaskWords → Bool
+task_has_its_disks asked = option_map_or has_its_disks (files_of asked) true
 
 -- ---- what words give
 
@@ -143,7 +214,7 @@ RefusesHyphen words error =
 pub record IsJobOf (words : List Text) (job : Job) : Type 0 where
   pub hyphen : has_lone_hyphen words ≡ false
   pub task : IsTaken words (words_of job.task)
-  pub disks : has_its_disks (words_of job.task) ≡ true
+  pub disks : task_has_its_disks (words_of job.task) ≡ true
   pub status : job.status ≡ false
 
 -- the words ask for a task with DISKS missing or too much, and have no lone hyphen
@@ -151,7 +222,7 @@ pub record LacksItsDisks (words : List Text) : Type 0 where
   pub hyphen : has_lone_hyphen words ≡ false
   pub asked : TaskWords
   pub task : IsTaken words asked
-  pub disks : has_its_disks asked ≡ false
+  pub disks : task_has_its_disks asked ≡ false
 
 -- the words have this fault: they are text, and memory can run out at any words
 abbrev pub IsFaultOf : List Text → WordsFault → Type 0

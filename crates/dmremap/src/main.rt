@@ -1,25 +1,27 @@
 //! dmremap maps block requests through device-mapper tables to the disks below.
 //!
-//! This file is the table of contents: `words` reads the command line, `map_whole` does the work,
-//! and `main` joins them to the real files and streams and does nothing else.
+//! This file is the table of contents: `words` reads the command line, `map_whole` and `other_whole`
+//! do the work, and `main` joins them to the real files and streams and does nothing else.
 #![tactic(auto)]
 
-ghost use Rattle.std.specs.Prelude.{◌≡◌, false, is_some};
-ghost use Rattle.dmremap.specs.Words.{has_disk_list};
+ghost use Rattle.std.specs.Prelude.{◌≡◌, false, is_some, true};
+ghost use Rattle.dmremap.specs.OtherWhole.{is_other};
+ghost use Rattle.dmremap.specs.Words.{file_words, has_its_disks, task_has_its_disks, words_of};
 
 mod load;
 mod map_whole;
+mod other_whole;
 mod part_file;
 mod words;
 
-use dm_table::Counted;
+use dm_table::{Counted, Gathered};
 use map_whole::map_whole;
+use other_whole::other_whole;
 use part_file::PartFile;
 use std::fs::File;
 use std::io;
-use std::io::BufWriter;
 use std::process::ExitCode;
-use words::{Format, Task, WordsFault, not_text, read_words};
+use words::{Files, Job, Task, WordsFault, not_text, read_words};
 
 fn main(rt: HostRuntime) -> ExitCode {
     let status = match answer(&rt) {
@@ -37,12 +39,10 @@ fn answer(rt: &HostRuntime) -> Result<u8, WordsFault> {
         .map(|argument| argument.as_str())
         .collect(rt.alloc())?;
     let job = read_words(rt.alloc(), words.as_slice())?;
-    let Task::Map {
-        format,
-        file,
-        disks,
-    } = job.task;
-    map_files(rt, format, job.status, file, disks)
+    match job.task {
+        Task::Map(files) => map_files(rt, files, job.status),
+        _ => print_job(rt, &job),
+    }
 }
 
 /// The words that the program is given, of which the first is its name.
@@ -54,34 +54,63 @@ fn arguments_of(rt: &HostRuntime) -> Result<Vec<String>, WordsFault> {
     }
 }
 
-/// Maps the requests of the standard input through the tables of a file.
-fn map_files(
-    rt: &HostRuntime,
-    format: Format,
-    status: bool,
-    file: &str,
-    disks: Option<&str>,
-) -> Result<u8, WordsFault>
+/// Maps the requests of the standard input through the tables of files.
+fn map_files(rt: &HostRuntime, files: Files<'_>, status: bool) -> Result<u8, WordsFault>
     requires unflagged { status ≡ false }
-    requires disks { is_some disks ≡ has_disk_list format }
+    requires disks { has_its_disks (file_words files) ≡ true }
 {
-    let Ok(output) = BufWriter::new(rt.alloc(), rt.stdout()) else {
-        return Err(WordsFault::Memory);
-    };
-    let mut disks = match disks {
-        Some(path) => Some(Counted::new(PartFile::new(File::open(rt, path)))),
+    let mut disks = match files.disks {
+        Some(path) => Some(open(rt, path)),
         None => None,
     };
     Ok(map_whole(
         rt.alloc(),
-        format,
+        files.format,
         status,
-        &mut Counted::new(PartFile::new(File::open(rt, file))),
+        &mut open(rt, files.file),
         &mut disks,
         &mut Counted::new(rt.stdin()),
-        &mut Counted::new(output),
+        &mut Gathered::new(Counted::new(rt.stdout())),
         &mut Counted::new(rt.stderr()),
     ))
+}
+
+/// Does a job that maps no requests.
+fn print_job(rt: &HostRuntime, job: &Job<'_>) -> Result<u8, WordsFault>
+    requires other { is_other (words_of job.now.task) ≡ true }
+    requires disks { task_has_its_disks (words_of job.now.task) ≡ true }
+{
+    let (mut source, mut disks) = match job.task.files() {
+        Some(files) => open_files(rt, files),
+        None => (None, None),
+    };
+    Ok(other_whole(
+        rt.alloc(),
+        job,
+        &mut source,
+        &mut disks,
+        &mut Counted::new(rt.stdin()),
+        &mut Gathered::new(Counted::new(rt.stdout())),
+        &mut Counted::new(rt.stderr()),
+    ))
+}
+
+fn open(rt: &HostRuntime, path: &str) -> Counted<PartFile<File>> {
+    Counted::new(PartFile::new(File::open(rt, path)))
+}
+
+fn open_files(
+    rt: &HostRuntime,
+    files: Files<'_>,
+) -> (Option<Counted<PartFile<File>>>, Option<Counted<PartFile<File>>>)
+    ensures source { is_some result.0 ≡ true }
+    ensures disks { is_some result.1 ≡ is_some files.entry.disks }
+{
+    let disks = match files.disks {
+        Some(path) => Some(open(rt, path)),
+        None => None,
+    };
+    (Some(open(rt, files.file)), disks)
 }
 
 /// Prints why there is no job, and returns its exit status, whether or not it could be printed.

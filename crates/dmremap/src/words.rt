@@ -1,22 +1,24 @@
 //! The words of the command line, as clap's builder reads them.
 //! A job holds what the words say and nothing that a file says, so that words are refused before a
-//! file is opened. A new command is a function beside `map_command`, the definition of its
-//! arguments and a variant of `Task`; a new format is a variant of `Format` and a word of `FORMATS`.
+//! file is opened. A new command is a function beside `split_command`, the definition of its
+//! arguments and a variant of `Task`; one that loads files is a line in `program` and in
+//! `Task::of_matches`. A new format is a variant of `Format` and a word of `FORMATS`.
 ghost use Rattle.std.specs.Prelude.{◌≡◌, IfErr, IfOk, Some, false, option_and_then};
 ghost use Rattle.std.specs.Prelude.{option_map};
 ghost use Rattle.clap.specs.Walk.{texts};
-ghost use Rattle.clap.specs.Words.{AddsSubcommand, app_of, found_of, kind_of, rows_of, rule_of};
-ghost use Rattle.clap.specs.Words.{subcommand_rows_of, with_subcommand};
-ghost use Rattle.dmremap.specs.Words.{TakesFormats, command_line, disks_rule, format_named};
-ghost use Rattle.dmremap.specs.Words.{IsFaultOf, IsJobOf, IsNotText, fault_from, format_rule, has_disk_list};
-ghost use Rattle.dmremap.specs.Words.{has_its_disks, has_lone_hyphen, map_app, map_task};
-ghost use Rattle.dmremap.specs.Words.{required_rule, status_of, task_of, words_of};
+ghost use Rattle.clap.specs.Words.{app_of, found_of, kind_of, rows_of, rule_of};
+ghost use Rattle.clap.specs.Words.{subcommand_rows_of};
+ghost use Rattle.dmremap.specs.Words.{IsCommand, TakesFormats, command_line, format_named};
+ghost use Rattle.dmremap.specs.Words.{IsFaultOf, IsJobOf, IsNotText, fault_from, file_words, files_in, files_of, format_rule, has_disk_list};
+ghost use Rattle.dmremap.specs.Words.{has_its_disks, has_lone_hyphen, name_app, name_in, optional_rule};
+ghost use Rattle.dmremap.specs.Words.{required_rule, source_app, split_app, split_in, status_of, task_has_its_disks, task_of, words_of};
 ghost use Rattle.clap.specs.declared.error.kind.ErrorKind.TheVariants as kind;
 ghost use Rattle.dmremap.specs.declared.words.WordsFault.TheVariants as fault;
 
 #[cfg(test)]
 mod tests;
 
+use clap::builder::ValueParser;
 use clap::error::ErrorKind;
 use clap::{Arg, ArgMatches, Command};
 use std::alloc::{AllocError, Global};
@@ -32,15 +34,38 @@ pub enum Format {
     Table,
 }
 
-/// What the program is asked to do. The texts are those of the words, and paths are taken as given.
-#[derive(Debug, Drop)]
+/// A form that devices are printed in.
+#[derive(Clone, Copy, Debug)]
+pub enum Form {
+    /// Lines `NAME: START LEN TYPE ARGS`.
+    Table,
+    /// The concise form of dmsetup(8).
+    Concise,
+}
+
+/// The files that a command loads. Paths are taken as given.
+#[derive(Clone, Copy, Debug)]
+pub struct Files<'a> {
+    pub format: Format,
+    pub file: &'a str,
+    pub disks: Option<&'a str>,
+}
+
+/// What the program is asked to do. The texts are those of the words.
+#[derive(Clone, Copy, Debug)]
 pub enum Task<'a> {
-    /// Map the requests of the standard input through the tables of `file`.
-    Map {
-        format: Format,
-        file: &'a str,
-        disks: Option<&'a str>,
+    /// Map the requests of the standard input through the tables of these files.
+    Map(Files<'a>),
+    /// Print the devices of these files in a form.
+    Print(Form, Files<'a>),
+    /// Print the device mapper's name of a volume, or of a layer of it.
+    Name {
+        vg: &'a str,
+        lv: &'a str,
+        layer: Option<&'a str>,
     },
+    /// Print the parts of the device mapper's name of a volume.
+    SplitName(&'a str),
 }
 
 /// What the words ask for.
@@ -67,15 +92,21 @@ pub enum WordsFault {
 
 const ABOUT: &str = "Maps block requests through device-mapper tables to the disks below";
 
+const NOTES: &str = "\
+`dmremap help COMMAND` has the words of a command, an example and its exit statuses.
+
+Exit status
+  0  done, or help was asked for
+  1  FILE, DISKS or a name was refused
+  2  the words were refused
+  3  a request was bad
+  4  the requests could not be read
+  5  the output could not be written
+  6  out of memory";
+
 const MAP_ABOUT: &str = "Maps the requests of the standard input to pieces on the disks";
 
-const FORMAT_HELP: &str = "The format of FILE";
-
-const FILE_HELP: &str = "The file of the devices and their tables, or of the metadata";
-
-const DISKS_HELP: &str = "The file of the disks and their lengths, for the format table";
-
-const NOTES: &str = "\
+const MAP_NOTES: &str = "\
 Requests come from the standard input. Pieces go to the standard output, messages to the standard
 error. START, LEN, CHUNK and OFFSET are whole sectors of 512 bytes.
 
@@ -107,9 +138,84 @@ Exit status
   5  the output could not be written
   6  out of memory
 
-Examples
-  dmremap map table stack.table disks.txt < requests.txt
-  dmremap map lvm vg0.backup < requests.txt";
+Example
+  dmremap map table stack.table disks.txt < requests.txt";
+
+const TABLE_ABOUT: &str = "Checks the tables of FILE, and prints them as lines `NAME: START LEN TYPE ARGS`";
+
+const TABLE_NOTES: &str = "\
+FILE and DISKS are those of `dmremap map`. Whether a device is read-only is not printed.
+
+Exit status
+  0  the tables were printed
+  1  FILE or DISKS was refused
+  2  the words were refused
+  5  the output could not be written
+  6  out of memory
+
+Example
+  dmremap table lvm vg0.backup";
+
+const CONCISE_ABOUT: &str = "Checks the tables of FILE, and prints them in the concise form of dmsetup(8)";
+
+const CONCISE_NOTES: &str = "\
+FILE and DISKS are those of `dmremap map`. All devices are printed in one line, each as
+`NAME,,,rw,START LEN TYPE ARGS`, or with `ro` if it is read-only.
+
+Exit status
+  0  the tables were printed
+  1  FILE or DISKS was refused
+  2  the words were refused
+  5  the output could not be written
+  6  out of memory
+
+Example
+  dmremap concise lvm vg0.backup";
+
+const NAME_ABOUT: &str = "Prints the device mapper's name of a logical volume";
+
+const NAME_NOTES: &str = "\
+The parts are joined by hyphens, each with its own hyphens doubled. A part has letters, digits and
+`+_.-`, and does not begin with a hyphen. The name has at most 127 bytes.
+
+Exit status
+  0  the name was printed
+  1  a part was refused, or the name is too long
+  2  the words were refused
+  5  the output could not be written
+  6  out of memory
+
+Example
+  dmremap name vg0 lv-1";
+
+const SPLIT_ABOUT: &str = "Prints the parts of the device mapper's name of a logical volume";
+
+const SPLIT_NOTES: &str = "\
+The group, the volume and, if there is one, the layer are printed with single spaces between them.
+
+Exit status
+  0  the parts were printed
+  1  NAME is not the name of a volume
+  2  the words were refused
+  5  the output could not be written
+  6  out of memory
+
+Example
+  dmremap splitname vg0-lv--1";
+
+const FORMAT_HELP: &str = "The format of FILE";
+
+const FILE_HELP: &str = "The file of the devices and their tables, or of the metadata";
+
+const DISKS_HELP: &str = "The file of the disks and their lengths, for the format table";
+
+const VG_HELP: &str = "The volume group";
+
+const LV_HELP: &str = "The logical volume";
+
+const LAYER_HELP: &str = "A layer of the volume, such as `real`";
+
+const NAME_HELP: &str = "A name as `dmsetup ls` shows it";
 
 const NOT_TEXT: &str = "invalid UTF-8 was detected in one or more arguments";
 
@@ -137,6 +243,32 @@ impl Format {
     }
 }
 
+impl<'a> Files<'a> {
+    fn of_matches(given: &ArgMatches<'a>) -> Option<Files<'a>>
+        ensures { option_map file_words result ≡ files_in (rows_of (found_of given.now)) }
+    {
+        let word = given.get_str("format")?;
+        let format = Format::named(word)?;
+        let file = given.get_str("file")?;
+        Some(Files {
+            format,
+            file,
+            disks: given.get_str("disks"),
+        })
+    }
+
+    /// Whether there is a disk list exactly where the format asks for it.
+    fn has_its_disks(self) -> bool
+        ensures { result ≡ has_its_disks (file_words self.entry) }
+    {
+        if self.format.has_disk_list() {
+            self.disks.is_some()
+        } else {
+            self.disks.is_none()
+        }
+    }
+}
+
 impl<'a> Task<'a> {
     // The task of the command that clap found. There is one wherever clap takes the words, since each
     // command's words are required, but no clause of clap's says so.
@@ -146,35 +278,51 @@ impl<'a> Task<'a> {
     {
         let (command, given) = matches.subcommand()?;
         match command {
-            "map" => Task::of_map(given),
+            "map" => Some(Task::Map(Files::of_matches(given)?)),
+            "table" => Some(Task::Print(Form::Table, Files::of_matches(given)?)),
+            "concise" => Some(Task::Print(Form::Concise, Files::of_matches(given)?)),
+            "name" => Task::of_name(given),
+            "splitname" => Task::of_split(given),
             _ => None,
         }
     }
 
-    fn of_map(given: &ArgMatches<'a>) -> Option<Task<'a>>
-        ensures { option_map words_of result ≡ map_task (rows_of (found_of given.now)) }
+    fn of_name(given: &ArgMatches<'a>) -> Option<Task<'a>>
+        ensures { option_map words_of result ≡ name_in (rows_of (found_of given.now)) }
     {
-        let word = given.get_str("format")?;
-        let format = Format::named(word)?;
-        let file = given.get_str("file")?;
-        Some(Task::Map {
-            format,
-            file,
-            disks: given.get_str("disks"),
+        let vg = given.get_str("vg")?;
+        let lv = given.get_str("lv")?;
+        Some(Task::Name {
+            vg,
+            lv,
+            layer: given.get_str("layer"),
         })
     }
 
-    fn has_its_disks(&self) -> bool
-        ensures { result ≡ has_its_disks (words_of self.now) }
+    fn of_split(given: &ArgMatches<'a>) -> Option<Task<'a>>
+        ensures { option_map words_of result ≡ split_in (rows_of (found_of given.now)) }
+    {
+        let name = given.get_str("name")?;
+        Some(Task::SplitName(name))
+    }
+
+    /// The files that it loads, if it loads any.
+    pub fn files(self) -> Option<Files<'a>>
+        ensures { option_map file_words result ≡ files_of (words_of self.entry) }
     {
         match self {
-            Task::Map { format, disks, .. } => {
-                if format.has_disk_list() {
-                    disks.is_some()
-                } else {
-                    disks.is_none()
-                }
-            }
+            Task::Map(files) | Task::Print(_, files) => Some(files),
+            Task::Name { .. } | Task::SplitName(_) => None,
+        }
+    }
+
+    // Whether its files, if it loads any, have a disk list exactly where they need one.
+    fn has_its_disks(self) -> bool
+        ensures { result ≡ task_has_its_disks (words_of self.entry) }
+    {
+        match self {
+            Task::Map(files) | Task::Print(_, files) => files.has_its_disks(),
+            Task::Name { .. } | Task::SplitName(_) => true,
         }
     }
 }
@@ -220,38 +368,82 @@ impl From<AllocError> for WordsFault {
     }
 }
 
-fn format_argument<'a>(alloc: Global) -> Arg<'a>
-    // It is the argument that the definitions name, whatever memory its words lie in.
-    ensures { (parser : _) × TakesFormats parser × (rule_of result ≡ format_rule parser)
-        × (result.global ≡ false) }
+// The words that FORMAT may be.
+fn format_parser<'a>() -> ValueParser<'a>
+    ensures { TakesFormats result }
 {
-    Arg::new(alloc, "format")
-        .value_name("FORMAT")
-        .help(FORMAT_HELP)
-        .required(true)
-        .value_parser(FORMATS)
+    ValueParser::Names(FORMATS)
 }
 
-// `map FORMAT FILE [DISKS]`.
-fn map_command<'a>(alloc: Global) -> Result<Command<'a>, AllocError>
-    // As a subcommand it is the one that the definitions name.
-    ensures { IfOk result (λ c. (parser : _) × TakesFormats parser × ((old new : _)
-        → AddsSubcommand old c new → app_of new ≡ with_subcommand (app_of old) (map_app parser).top)) }
+// A word that has to be there.
+fn required<'a>(alloc: Global, id: &'a str, value_name: &'a str, help: &'a str) -> Arg<'a>
+    ensures rule { rule_of result ≡ required_rule id.entry.now }
+    ensures local { result.global ≡ false }
 {
-    let file = Arg::new(alloc, "file")
-        .value_name("FILE")
-        .help(FILE_HELP)
-        .required(true);
-    let disks = Arg::new(alloc, "disks")
-        .value_name("DISKS")
-        .help(DISKS_HELP);
+    Arg::new(alloc, id)
+        .value_name(value_name)
+        .help(help)
+        .required(true)
+}
+
+// A word that may be left out.
+fn optional<'a>(alloc: Global, id: &'a str, value_name: &'a str, help: &'a str) -> Arg<'a>
+    ensures rule { rule_of result ≡ optional_rule id.entry.now }
+    ensures local { result.global ≡ false }
+{
+    Arg::new(alloc, id).value_name(value_name).help(help)
+}
+
+fn format_argument<'a>(alloc: Global, parser: ValueParser<'a>) -> Arg<'a>
+    ensures rule { rule_of result ≡ format_rule parser.entry }
+    ensures local { result.global ≡ false }
+{
+    required(alloc, "format", "FORMAT", FORMAT_HELP).value_parser(parser)
+}
+
+// A command that loads files: `NAME FORMAT FILE [DISKS]`.
+fn source_command<'a>(
+    alloc: Global,
+    name: &'a str,
+    about: &'a str,
+    notes: &'a str,
+    parser: ValueParser<'a>,
+) -> Result<Command<'a>, AllocError>
+    ensures { IfOk result (IsCommand (source_app name.entry.now parser.entry)) }
+{
     Ok(
-        Command::new(alloc, "map")
-            .about(MAP_ABOUT)
-            .after_help(NOTES)
-            .arg(format_argument(alloc))?
-            .arg(file)?
-            .arg(disks)?,
+        Command::new(alloc, name)
+            .about(about)
+            .after_help(notes)
+            .arg(format_argument(alloc, parser))?
+            .arg(required(alloc, "file", "FILE", FILE_HELP))?
+            .arg(optional(alloc, "disks", "DISKS", DISKS_HELP))?,
+    )
+}
+
+// `name VG LV [LAYER]`.
+fn name_command<'a>(alloc: Global) -> Result<Command<'a>, AllocError>
+    ensures { IfOk result (IsCommand name_app) }
+{
+    Ok(
+        Command::new(alloc, "name")
+            .about(NAME_ABOUT)
+            .after_help(NAME_NOTES)
+            .arg(required(alloc, "vg", "VG", VG_HELP))?
+            .arg(required(alloc, "lv", "LV", LV_HELP))?
+            .arg(optional(alloc, "layer", "LAYER", LAYER_HELP))?,
+    )
+}
+
+// `splitname NAME`.
+fn split_command<'a>(alloc: Global) -> Result<Command<'a>, AllocError>
+    ensures { IfOk result (IsCommand split_app) }
+{
+    Ok(
+        Command::new(alloc, "splitname")
+            .about(SPLIT_ABOUT)
+            .after_help(SPLIT_NOTES)
+            .arg(required(alloc, "name", "NAME", NAME_HELP))?,
     )
 }
 
@@ -260,14 +452,23 @@ fn program<'a>(alloc: Global) -> Result<Command<'a>, AllocError>
     ensures { IfOk result (λ c. (parser : _) × TakesFormats parser
         × (app_of c ≡ command_line parser)) }
 {
-    let map = map_command(alloc)?;
+    let parser = format_parser();
+    let map = source_command(alloc, "map", MAP_ABOUT, MAP_NOTES, parser)?;
+    let table = source_command(alloc, "table", TABLE_ABOUT, TABLE_NOTES, parser)?;
+    let concise = source_command(alloc, "concise", CONCISE_ABOUT, CONCISE_NOTES, parser)?;
+    let name = name_command(alloc)?;
+    let split = split_command(alloc)?;
     Ok(
         Command::new(alloc, "dmremap")
             .about(ABOUT)
             .after_help(NOTES)
             .subcommand_required(true)
             .arg_required_else_help(true)
-            .subcommand(map)?,
+            .subcommand(map)?
+            .subcommand(table)?
+            .subcommand(concise)?
+            .subcommand(name)?
+            .subcommand(split)?,
     )
 }
 

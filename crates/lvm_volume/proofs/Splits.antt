@@ -8,7 +8,7 @@ use Rattle.std.proofs.lemmas.Bool.Decides.{nat_tests}
 use Rattle.std.proofs.lemmas.List.{append-nil, take_more, take-append-drop}
 use denote.Ref.{Bor}
 use Rattle.std.proofs.lemmas.Option.{same_Some}
-use Rattle.lvm_volume.specs.Names.{NameParts, built, Returns, is_letter, begins_with, part_fault, layer_fault, or_later, doubled, undoubled, with_hyphen, joined, fault_of, Builds, IsSplit, doubled_parts, name_or}
+use Rattle.lvm_volume.specs.Names.{NameParts, built, Returns, is_letter, begins_with, part_fault, layer_fault, or_later, doubled, undoubled, undoubled_parts, with_hyphen, joined, fault_of, Builds, IsSplit, doubled_parts, name_or}
 use Rattle.dm_table.specs.Name.{is_device_byte, is_device_name}
 use Rattle.lvm_volume.specs.Cuts.{head_length, head_of, after_hyphen, tail_of, with_layer, slices_of}
 use Rattle.lvm_volume.specs.declared.fault.NameFault.{NameFault}
@@ -427,14 +427,11 @@ built_slices p name h =
     let l = or_none (part_fault p.lv) (layer_fault p.layer) v.1 in
     ap slices_of (sym h.1) ∙ joined_slices p.vg p.lv p.layer v.0 l.0 l.1
 
-abbrev undoubled_parts : NameParts → NameParts
-undoubled_parts p = record { vg = undoubled p.vg; lv = undoubled p.lv; layer = option_map undoubled p.layer }
-
 layer_back : (l : Option (List ℕ)) → option_map undoubled (option_map doubled l) ≡ l
 layer_back None = refl
 layer_back (Some l) = ap (λ (x : List ℕ). Some x) (undoubled-doubled l)
 
-parts_back : (p : NameParts) → undoubled_parts (doubled_parts p) ≡ p
+pub parts_back : (p : NameParts) → undoubled_parts (doubled_parts p) ≡ p
 parts_back p =
     ap (λ (x : List ℕ). let q : NameParts = record { vg = x; lv = undoubled (doubled p.lv); layer = option_map undoubled (option_map doubled p.layer) } in q) (undoubled-doubled p.vg)
     ∙ ap (λ (x : List ℕ). let q : NameParts = record { vg = p.vg; lv = x; layer = option_map undoubled (option_map doubled p.layer) } in q) (undoubled-doubled p.lv)

@@ -1,4 +1,5 @@
 pub mod Names
+pub mod NameMessage
 pub mod Fields
 pub mod Group
 pub mod Metadata

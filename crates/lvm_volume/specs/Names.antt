@@ -94,3 +94,20 @@ Builds p name = (fault_of p ≡ None) × (joined p ≡ name)
 -- the doubled parts of a name
 abbrev pub IsSplit : List ℕ → NameParts → Type 0
 IsSplit name slices = (p : NameParts) × Builds p name × (slices ≡ doubled_parts p)
+
+-- each part of some slices with its hyphens undoubled
+abbrev pub undoubled_parts : NameParts → NameParts
+undoubled_parts p = record { vg = undoubled p.vg; lv = undoubled p.lv; layer = option_map undoubled p.layer }
+
+-- a space and a part, if there is one
+abbrev pub with_space : Option (List ℕ) → List ℕ
+with_space None = []
+with_space (Some part) = 32 ∷ part
+
+-- the parts with single spaces between them
+abbrev pub spaced : NameParts → List ℕ
+spaced p = p.vg ++ 32 ∷ (p.lv ++ with_space p.layer)
+
+-- the text is the parts of a name with single spaces between them
+abbrev pub IsSpaced : List ℕ → List ℕ → Type 0
+IsSpaced name text = (p : NameParts) × Builds p name × (text ≡ spaced p)

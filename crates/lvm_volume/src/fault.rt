@@ -1,9 +1,10 @@
-//! Why no name is built of a group, a volume and a layer.
-//! The order of the variants is that of the checks of one part; a new reason is a variant here and a clause of
-//! `build_name`.
+//! Why no name is built of a group, a volume and a layer, and the message that tells it.
+//! The order of the variants is that of the checks of one part; a new reason is a variant here, a clause of
+//! `build_name` and a word of `specs/NameMessage`.
 
 ghost use Rattle.std.specs.Prelude.{◌≡◌};
 ghost use Rattle.lvm_volume.specs.declared.fault.NameFault.TheVariants.{Memory};
+ghost use Rattle.lvm_volume.specs.NameMessage.{name_message};
 
 use std::alloc::AllocError;
 use thiserror::Error;
@@ -33,5 +34,21 @@ impl From<AllocError> for NameFault {
 
     fn from(_error: AllocError) -> NameFault {
         NameFault::Memory
+    }
+}
+
+impl NameFault {
+    /// The message of a name that was not built: one line, with its newline. `Memory` has that of a run that is out of
+    /// memory. Takes no memory.
+    pub fn message(self) -> &'static [u8]
+        ensures { result.now ≡ name_message self }
+    {
+        match self {
+            NameFault::Letter => b"dmremap: name: letter\n",
+            NameFault::HyphenFirst => b"dmremap: name: hyphen\n",
+            NameFault::Empty => b"dmremap: name: empty\n",
+            NameFault::Long => b"dmremap: name: long\n",
+            NameFault::Memory => b"dmremap: memory\n",
+        }
     }
 }

@@ -83,6 +83,7 @@ fn line_text(alloc: Global, line: &Line) -> Result<String, Fail> {
         }
         Target::Zero => text.push_str(" zero")?,
         Target::Error => text.push_str(" error")?,
+        Target::Snapshot { .. } => text.push_str(" snapshot")?,
     }
     Ok(text)
 }

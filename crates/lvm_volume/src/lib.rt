@@ -30,6 +30,6 @@ mod walk;
 
 pub use fault::NameFault;
 pub use metadata::parse_metadata;
-pub use names::{Parts, build_name, split_name, undouble};
+pub use names::{Parts, build_name, spaced_parts, split_name, undouble};
 pub use refused_text::text_fault;
 pub use volume_group::VolumeGroup;

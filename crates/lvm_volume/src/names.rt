@@ -5,7 +5,7 @@
 ghost use Rattle.std.specs.Prelude.{◌≡◌, ℕ, ◌++◌, List, IfOk, IfSome, IfNone, OnOk, option_map, IsTrue};
 ghost use Rattle.std.specs.List.{list_all};
 ghost use Rattle.std.specs.String.{string_bytes};
-ghost use Rattle.lvm_volume.specs.Names.{NameParts, is_letter, begins_with, part_fault, layer_fault, or_later, doubled, undoubled, joined, built, Returns, Builds, IsSplit, parts_view};
+ghost use Rattle.lvm_volume.specs.Names.{NameParts, is_letter, begins_with, part_fault, layer_fault, or_later, doubled, undoubled, joined, built, Returns, Builds, IsSplit, IsSpaced, parts_view, spaced, undoubled_parts};
 ghost use Rattle.lvm_volume.specs.Cuts.{head_length, head_of, tail_of, slices_of};
 
 use crate::fault::NameFault;
@@ -216,4 +216,32 @@ pub fn undouble(alloc: Global, text: &str) -> Result<String, AllocError>
     }
     whole.push_str(rest)?;
     Ok(whole)
+}
+
+/// The parts of a name from its slices, with single spaces between them.
+fn spaced(alloc: Global, slices: Parts<'_>) -> Result<String, AllocError>
+    ensures { IfOk result (λ text. string_bytes text ≡ spaced (undoubled_parts (parts_view slices.entry))) }
+{
+    let mut text = undouble(alloc, slices.vg)?;
+    text.push(' ')?;
+    text.push_str(undouble(alloc, slices.lv)?.as_str())?;
+    if let Some(layer) = slices.layer {
+        text.push(' ')?;
+        text.push_str(undouble(alloc, layer)?.as_str())?;
+    }
+    Ok(text)
+}
+
+/// The parts of a name with single spaces between them, and `None` exactly where no parts build it.
+/// Fails only where a growth was refused.
+///
+/// Source: dmsetup(8), splitname.
+pub fn spaced_parts(alloc: Global, name: &str) -> Result<Option<String>, AllocError>
+    ensures some { IfOk result (λ found. IfSome found (λ text. IsSpaced name.now (string_bytes text))) }
+    ensures none { IfOk result (λ found. IfNone found ((p : NameParts) → ¬ (Builds p name.now))) }
+{
+    let Some(slices) = split_name(name) else {
+        return Ok(None);
+    };
+    Ok(Some(spaced(alloc, slices)?))
 }

@@ -1,8 +1,6 @@
 //! Rows of names. Each public call is made here with enough memory.
 
-use crate::{NameFault, build_name, split_name, undouble};
-use std::alloc::Global;
-use std::process::Abort;
+use crate::{NameFault, build_name, spaced_parts, split_name, undouble};
 use std::test::Fail;
 
 const PART_OF_63: &str = "abcdefghijklmnopqrstuvwxyzabcdefghijklmnopqrstuvwxyz01234567890";
@@ -37,21 +35,6 @@ fn built(rt: HostRuntime) -> Result<(), Fail> {
     Ok(())
 }
 
-/// The parts of a name with single spaces, if it has parts.
-fn parts_of(alloc: Global, name: &str) -> Result<Option<String>, Fail> {
-    let Some(parts) = split_name(name) else {
-        return Ok(None);
-    };
-    let vg = undouble(alloc, parts.vg)?;
-    let lv = undouble(alloc, parts.lv)?;
-    let mut text = format!(in alloc; "{vg} {lv}")?;
-    if let Some(layer) = parts.layer {
-        text.push_str(" ")?;
-        text.push_str(undouble(alloc, layer)?.as_str())?;
-    }
-    Ok(Some(text))
-}
-
 #[test]
 fn split(rt: HostRuntime) -> Result<(), Fail> {
     for (name, wanted) in [
@@ -67,7 +50,7 @@ fn split(rt: HostRuntime) -> Result<(), Fail> {
         ("a-b/c", None),
         ("", None),
     ] {
-        let parts = parts_of(rt.alloc(), name)?;
+        let parts = spaced_parts(rt.alloc(), name)?;
         assert_eq!(rt;
             parts.as_ref().map(|parts| parts.as_str()),
             wanted,
@@ -86,8 +69,27 @@ fn undoubled(rt: HostRuntime) -> Result<(), Fail> {
 }
 
 #[test]
+fn slices(rt: HostRuntime) -> Result<(), Fail> {
+    let slices = split_name("a-b--c-d").ok_or("no slices")?;
+    assert_eq!(rt;
+        (slices.vg, slices.lv, slices.layer),
+        ("a", "b--c", Some("d"))
+    );
+    Ok(())
+}
+
+#[test]
 fn messages(rt: HostRuntime) -> Result<(), Fail> {
     let text = NameFault::Long.to_string(rt.alloc())?;
     assert_eq!(rt; text.as_str(), "more than 127 bytes");
+    for (fault, message) in [
+        (NameFault::Letter, "dmremap: name: letter\n"),
+        (NameFault::HyphenFirst, "dmremap: name: hyphen\n"),
+        (NameFault::Empty, "dmremap: name: empty\n"),
+        (NameFault::Long, "dmremap: name: long\n"),
+        (NameFault::Memory, "dmremap: memory\n"),
+    ] {
+        assert_eq!(rt; fault.message(), message.as_bytes());
+    }
     Ok(())
 }

@@ -15,6 +15,7 @@ mod columns;
 mod counted;
 mod fault_texts;
 mod faults;
+mod gathered;
 mod intervals;
 mod large_parts;
 mod metadata;
@@ -23,6 +24,7 @@ mod parts;
 mod printed;
 mod refused_loads;
 mod rows;
+mod snapshots;
 mod stacks;
 
 /// More than any stream of a case has, but for the large parts.

@@ -9,35 +9,44 @@ fn refusal<'a>(rt: &impl Abort, alloc: Global, words: &'a [&'a str]) -> (u8, Str
     (fault.status(), text)
 }
 
+// The files of a table and of metadata, as a task shows them.
+const TABLE: &str = r#"Files { format: Table, file: "a.table", disks: Some("a.disks") }"#;
+const BACKUP: &str = r#"Files { format: Lvm, file: "vg0.backup", disks: None }"#;
+
+/// Words, how the task that they ask for begins, and its texts.
+static TASKS: [(&[&str], &str, &str); 9] = [
+    (&["dmremap", "map", "table", "a.table", "a.disks"], "Map(", TABLE),
+    (&["dmremap", "map", "table", "--", "a.table", "a.disks"], "Map(", TABLE),
+    (&["dmremap", "map", "lvm", "vg0.backup"], "Map(", BACKUP),
+    (&["dmremap", "table", "lvm", "vg0.backup"], "Print(Table, ", BACKUP),
+    (&["dmremap", "concise", "table", "a.table", "a.disks"], "Print(Concise, ", TABLE),
+    (
+        &["dmremap", "map", "table", "--", "-", "d"],
+        "Map(",
+        r#"Files { format: Table, file: "-", disks: Some("d") }"#,
+    ),
+    (
+        &["dmremap", "name", "vg0", "lv-1"],
+        "Name { ",
+        r#"vg: "vg0", lv: "lv-1", layer: None"#,
+    ),
+    (
+        &["dmremap", "name", "vg0", "--", "-x", "real"],
+        "Name { ",
+        r#"vg: "vg0", lv: "-x", layer: Some("real")"#,
+    ),
+    (&["dmremap", "splitname", "a-b"], "SplitName(", r#""a-b""#),
+];
+
 #[test]
-fn map_table_gives_its_texts(rt: HostRuntime) {
-    let plain = ["dmremap", "map", "table", "a.table", "a.disks"];
-    let after_dashes = ["dmremap", "map", "table", "--", "a.table", "a.disks"];
-    for words in [plain.as_slice(), after_dashes.as_slice()] {
-        let job = read_words(rt.alloc(), words).expect(&rt, "a job");
-        let Task::Map { file, disks, .. } = job.task;
-        assert!(rt; file == "a.table" && disks == Some("a.disks") && !job.status);
+fn tasks(rt: HostRuntime) {
+    let alloc = rt.alloc();
+    for (words, task, texts) in TASKS {
+        let job = read_words(alloc, words).expect(&rt, "a job");
+        let shown = format!(in alloc; "{:?}", job.task).expect(&rt, "a text");
+        assert!(&rt; shown.starts_with(task) && shown.contains(texts), "{shown}");
+        assert!(&rt; !job.status, "{shown}");
     }
-}
-
-#[test]
-fn map_lvm_gives_its_file(rt: HostRuntime) {
-    let words = ["dmremap", "map", "lvm", "vg0.backup"];
-    let job = read_words(rt.alloc(), words.as_slice()).expect(&rt, "a job");
-    let Task::Map {
-        format,
-        file,
-        disks,
-    } = job.task;
-    assert!(rt; matches!(format, Format::Lvm) && file == "vg0.backup" && disks.is_none());
-}
-
-#[test]
-fn a_hyphen_after_dashes_is_a_file(rt: HostRuntime) {
-    let words = ["dmremap", "map", "table", "--", "-", "d"];
-    let job = read_words(rt.alloc(), words.as_slice()).expect(&rt, "a job");
-    let Task::Map { file, disks, .. } = job.task;
-    assert!(rt; file == "-" && disks == Some("d") && !job.status);
 }
 
 #[test]
@@ -60,9 +69,11 @@ fn texts_of_faults(rt: HostRuntime) {
 
 #[test]
 fn disks_go_with_tables_alone(rt: HostRuntime) {
-    let cases: [&[&str]; 2] = [
+    let cases: [&[&str]; 4] = [
         &["dmremap", "map", "table", "a.table"],
         &["dmremap", "map", "lvm", "vg0.backup", "a.disks"],
+        &["dmremap", "table", "table", "a.table"],
+        &["dmremap", "concise", "lvm", "vg0.backup", "a.disks"],
     ];
     for words in cases {
         let (status, text) = refusal(&rt, rt.alloc(), words);
@@ -71,9 +82,26 @@ fn disks_go_with_tables_alone(rt: HostRuntime) {
     }
 }
 
-#[test]
-fn other_words_are_refused(rt: HostRuntime) {
-    let cases: [(&[&str], &str); 12] = [
+/// Words that are refused, and what is told of them.
+static REFUSED: [(&[&str], &str); 18] = [
+        (&["dmremap", "name", "vg0"], "<LV>"),
+        (&["dmremap", "name", "a", "-b"], "unexpected argument '-b'"),
+        (
+            &["dmremap", "splitname", "a-b", "c"],
+            "unexpected argument 'c'",
+        ),
+        (
+            &["dmremap", "table", "lvm", "a", "--status"],
+            "unexpected argument '--status'",
+        ),
+        (
+            &["dmremap", "tabel", "lvm", "a"],
+            "a similar subcommand exists: 'table'",
+        ),
+        (
+            &["dmremap", "concise", "tabel", "a", "b"],
+            "a similar value exists: 'table'",
+        ),
         (&[], "Usage: dmremap <COMMAND>"),
         (&["dmremap"], "Usage: dmremap <COMMAND>"),
         (&["dmremap", "map"], "<FORMAT> <FILE>"),
@@ -113,30 +141,36 @@ fn other_words_are_refused(rt: HostRuntime) {
             &["dmremap", "map", "--version"],
             "unexpected argument '--version'",
         ),
-    ];
-    for (words, told) in cases {
+];
+
+#[test]
+fn other_words_are_refused(rt: HostRuntime) {
+    for (words, told) in REFUSED {
         let (status, text) = refusal(&rt, rt.alloc(), words);
         assert!(rt; text.contains(told), "{text}");
         assert_eq!(rt; status, 2);
     }
 }
 
+/// Words that ask for help, and what it tells.
+static HELP: [(&[&str], &str, &str); 9] = [
+        (&["dmremap", "--help"], "Usage: dmremap <COMMAND>", "  splitname  Prints"),
+        (&["dmremap", "-h"], "Usage: dmremap <COMMAND>", "  concise    Checks"),
+        (&["dmremap", "help"], "Usage: dmremap <COMMAND>", "  6  out of memory"),
+        (&["dmremap", "help", "map"], "map <FORMAT> <FILE> [DISKS]", "FORMAT is one of\n  lvm"),
+        (&["dmremap", "map", "--help"], "map <FORMAT> <FILE> [DISKS]", "dmremap map table"),
+        (&["dmremap", "table", "-h"], "table <FORMAT> <FILE> [DISKS]", "dmremap table lvm"),
+        (&["dmremap", "concise", "-h"], "concise <FORMAT> <FILE> [DISKS]", "dmremap concise lvm"),
+        (&["dmremap", "name", "-h"], "name <VG> <LV> [LAYER]", "dmremap name vg0 lv-1"),
+        (&["dmremap", "splitname", "-h"], "splitname <NAME>", "dmremap splitname vg0-lv--1"),
+];
+
 #[test]
-fn help_names_the_formats(rt: HostRuntime) {
-    let cases: [&[&str]; 5] = [
-        &["dmremap", "--help"],
-        &["dmremap", "-h"],
-        &["dmremap", "help"],
-        &["dmremap", "help", "map"],
-        &["dmremap", "map", "--help"],
-    ];
-    for words in cases {
+fn help_of_each_command(rt: HostRuntime) {
+    for (words, usage, told) in HELP {
         let (status, text) = refusal(&rt, rt.alloc(), words);
-        assert!(rt;
-            text.contains("FORMAT is one of\n  lvm    the metadata")
-                && text.contains("\n  table  lines"),
-            "{text}"
-        );
+        assert!(rt; text.contains(usage) && text.contains(told), "{text}");
+        assert!(rt; text.contains("Exit status\n  0  "), "{text}");
         assert_eq!(rt; status, 0);
     }
 }

@@ -1,6 +1,6 @@
-use Rattle.std.proofs.Common.{◌≡◌, ℕ, ◌+◌, ◌-◌, ◌≤◌, sym, ap, ◌∙◌, arith}
+use Rattle.std.proofs.Common.{◌≡◌, ℕ, ◌+◌, ◌-◌, ap, ◌∙◌, arith}
 use Rattle.dm_map.specs.Homes.{home}
-use Rattle.dm_map.specs.SnapshotWrites.{row, store_writes, write_to}
+use Rattle.dm_map.specs.SnapshotWrites.{store_writes, write_to}
 use Rattle.dm_map.specs.Steps.{keep}
 use Rattle.dm_map.specs.Units.{BlockUnit, WriteOf, units_in}
 use Rattle.dm_map.specs.Walk.{Walking}

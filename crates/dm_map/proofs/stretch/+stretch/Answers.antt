@@ -10,6 +10,7 @@ use Rattle.dm_map.specs.Stretch.{ground_unit, IsThere}
 use Rattle.dm_map.specs.Units.{units_in}
 use Rattle.dm_map.specs.Walk.{Walking, line_step, range_step, stripes_step, AreInStripes, IsPlace}
 use Rattle.dm_map.proofs.Ranges.{range_deepest, range_disk, range_line, line_errors, line_linear, line_striped, line_zeros, stripes_chunk}
+use Rattle.dm_map.proofs.Chunks.{chunk_read, in_one_chunk, in_snapshot, lost_read}
 use Rattle.dm_map.proofs.Stripes.{column_inside}
 use Rattle.dm_map.proofs.There.{device_there, disk_there}
 use Rattle.dm_map.proofs.stretch.+stretch.Goals as goal
@@ -144,4 +145,59 @@ stripes_stretch-returns g t c =
           ∙ ap (λ (p : ℕ). range_step w.stack Read a.levels column.to w.state p n) (sym c.sector_at-sector.ensures) ∙ s.read;
       lies = s.lies;
       same = s.same;
+    }
+
+-- A snapshot
+
+pub line_stretch-snapshot_stretch-requires : goal.line_stretch-snapshot_stretch-requires
+line_stretch-snapshot_stretch-requires g t c =
+    let a = c.args in
+    let inside = in_snapshot a.walker.now.stack a.device a.distance a.len a.line.now c.in-Snapshot.snapshot c.requires.found c.in-Snapshot.is c.requires.sound c.requires.inside in
+    search rules
+
+pub line_stretch-returns-in-Snapshot : goal.line_stretch-returns-in-Snapshot
+line_stretch-returns-in-Snapshot g t c =
+    let a = c.args in let device = a.device in let w = a.walker.now in let s = c.snapshot_stretch.ensures in let n = c.snapshot_stretch.result.len in
+    record {
+      some = s.some;
+      most = s.most;
+      read = ap (λ target. line_step w.stack Read a.levels device target w.state a.distance n) c.in-Snapshot.is ∙ s.read;
+      lies = s.lies;
+      same = s.same;
+    }
+
+pub snapshot_stretch-read_place-requires : goal.snapshot_stretch-read_place-requires
+snapshot_stretch-read_place-requires g t c =
+    let a = c.args in let part = c.part_of_chunk-part.ensures in
+    let whole : a.sector + a.len ≡ a.sector + a.len = refl in
+    let chunk = in_one_chunk a.walker.now.stack a.walker.now.stack a.device a.sector a.len a.sector a.len c.part_of_chunk-part.result a.snapshot.now c.requires.inside refl whole part in
+    record { some = omega (arith, part, c.requires.some, c.requires.inside.sound.chunk_some); chunk = chunk }
+
+pub snapshot_stretch-first_stretch-requires : goal.snapshot_stretch-first_stretch-requires
+snapshot_stretch-first_stretch-requires g t c =
+    let a = c.args in let part = c.part_of_chunk-part.ensures in let at = c.in-Some.ensures.place in
+    let some : 1 ≤ c.part_of_chunk-part.result = omega (arith, part, c.requires.some, c.requires.inside.sound.chunk_some) in
+    let inside = at.inside in
+    search rules
+
+pub snapshot_stretch-returns-in-Some : goal.snapshot_stretch-returns-in-Some
+snapshot_stretch-returns-in-Some g t c =
+    let a = c.args in let w = a.walker.now in let s = c.first_stretch.ensures in let n = c.first_stretch.result.len in
+    record {
+      some = s.some;
+      most = omega (arith, s.most, c.part_of_chunk-part.ensures);
+      read = chunk_read w.stack a.levels a.device a.sector n c.part_of_chunk-part.result a.snapshot.now w.state c.in-Some.place c.in-Some.ensures.place s.most ∙ s.read;
+      lies = s.lies;
+      same = s.same;
+    }
+
+pub snapshot_stretch-returns-in-None : goal.snapshot_stretch-returns-in-None
+snapshot_stretch-returns-in-None g t c =
+    let a = c.args in let w = a.walker.now in let part = c.part_of_chunk-part.ensures in
+    record {
+      some = omega (arith, part, c.requires.some, c.requires.inside.sound.chunk_some);
+      most = omega (arith, part);
+      read = lost_read w.stack a.levels a.device a.sector c.part_of_chunk-part.result a.snapshot.now w.state c.in-None.ensures.lost;
+      lies = tt;
+      same = refl;
     }

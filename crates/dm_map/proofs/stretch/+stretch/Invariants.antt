@@ -9,3 +9,6 @@ decreases-line_stretch g l = 3 * l.levels + 2
 
 abbrev pub decreases-stripes_stretch : goal.decreases-stripes_stretch
 decreases-stripes_stretch g l = 3 * l.levels + 1
+
+abbrev pub decreases-snapshot_stretch : goal.decreases-snapshot_stretch
+decreases-snapshot_stretch g l = 3 * l.levels + 1

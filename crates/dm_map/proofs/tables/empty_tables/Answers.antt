@@ -1,4 +1,4 @@
-use Rattle.std.proofs.Common.{◌≡◌, ℕ, ◌+◌, ◌∷◌, ◌++◌, [], List, Some, ap, subst, sym, ◌∙◌, length, replicate, length-append, arith}
+use Rattle.std.proofs.Common.{◌≡◌, ℕ, ◌+◌, ◌∷◌, ◌++◌, [], Some, ap, ◌∙◌, length, replicate, length-append}
 use Rattle.std.specs.Prelude.{nat_lt, slice_get}
 use Rattle.dm_map.specs.State.{State, none_taken}
 use Rattle.dm_map.specs.Tables.{has_room, state_of}

@@ -1,8 +1,9 @@
-use Rattle.std.proofs.Common.{rules, ◌≡◌, ℕ, suc, ◌+◌, ◌-◌, ◌<◌, ◌≤◌, false, List, Some, length, sym, ap, subst, ◌∙◌, arith}
+use Rattle.std.proofs.Common.{rules, ◌≡◌, ℕ, suc, ◌+◌, ◌-◌, ◌^◌, ◌<◌, ◌≤◌, false, List, Some, length, sym, ap, subst, ◌∙◌, arith}
 use Rattle.dm_table.specs.declared.request.Op.{Op}
 use Rattle.dm_stack.specs.declared.found.FoundLine.{FoundLine}
 use Rattle.dm_stack.specs.declared.found.FoundTarget.{FoundTarget}
-use Rattle.dm_stack.specs.declared.found.FoundTarget.TheVariants.{Linear, Zero, Error}
+use Rattle.dm_stack.specs.declared.found.FoundSnapshot.{FoundSnapshot}
+use Rattle.dm_stack.specs.declared.found.FoundTarget.TheVariants.{Linear, Zero, Error, Snapshot}
 use Rattle.dm_stack.specs.declared.id.Lower.{Lower}
 use Rattle.dm_stack.specs.declared.id.Lower.TheVariants.{Device, Disk}
 use Rattle.dm_stack.specs.Below.{HoldsSoundly, below_stripes, found_at}
@@ -11,7 +12,8 @@ use Rattle.dm_map.specs.Units.{BlockUnit, Fails, diskless_len, units_in}
 use Rattle.dm_map.specs.Mapping.{sector_step}
 use Rattle.dm_map.specs.State.{State}
 use Rattle.dm_map.specs.Steps.{Step, keep}
-use Rattle.dm_map.specs.Walk.{Walking, below_step, disk_unit, zero_unit, refuses, range_step, line_step, stripes_step}
+use Rattle.dm_map.specs.Walk.{Walking, below_step, disk_unit, zero_unit, refuses, range_step, line_step, stripes_step, target_step}
+use Rattle.dm_map.proofs.Chunks.{chunk_read, in_one_chunk, in_snapshot, lost_read, write_line_step}
 use Rattle.dm_map.proofs.There.{device_there}
 use Rattle.dm_map.proofs.Ranges.{range_deepest, range_disk, range_refused, range_line, stripes_chunk, line_errors, line_linear, line_zeros}
 use Rattle.dm_map.proofs.Rows.{left_on, state_on, took_on, walked_as, walked_cut, walked_piece}
@@ -202,3 +204,87 @@ map_stripes-loop-left-preserved g t c =
       room = omega (arith, walk.room, l.invariant.room, on);
       faults = omega (arith, walk.faults, l.invariant.faults);
     }
+
+-- A snapshot
+
+pub map_line-map_snapshot-requires : goal.map_line-map_snapshot-requires
+map_line-map_snapshot-requires g t c κs within =
+    let a = c.args in
+    let inside = in_snapshot a.walker.now.stack a.device a.distance a.len a.line.now c.in-Snapshot.snapshot c.requires.found c.in-Snapshot.is c.requires.sound c.requires.inside in
+    let small : a.distance + a.len ≤ 2 ^ 50 = omega (arith, c.requires.inside, c.requires.small) in
+    search rules
+
+pub map_line-returns-in-Snapshot : goal.map_line-returns-in-Snapshot
+map_line-returns-in-Snapshot g t c =
+    let a = c.args in let w = a.walker.now in let walk = c.map_snapshot in
+    walked_as g.S.Sink.took g.S.Sink.left g.S.Sink.stack g.S.Sink.room g.S.Sink.faults walk.result a.sink.now walk.new.sink w walk.new.walker _ _ a.len
+    (ap (λ target. line_step w.stack a.op a.levels a.device target w.state a.distance a.len) (sym c.in-Snapshot.is)) walk.ensures
+
+pub map_snapshot-map_chunk-requires : goal.map_snapshot-map_chunk-requires
+map_snapshot-map_chunk-requires g t c κs within =
+    let a = c.args in let l = c.loop-left in let part = c.part_of_chunk-part.ensures in
+    let some : 1 ≤ c.part_of_chunk-part.result = omega (arith, part, c.loop-left-test.true, c.requires.inside.sound.chunk_some) in
+    let chunk = in_one_chunk a.walker.now.stack l.walker.stack a.device a.sector a.len l.from l.left c.part_of_chunk-part.result a.snapshot.now c.requires.inside l.invariant.same l.invariant.place part in
+    let stack : g.S.Sink.stack l.sink ≡ l.walker.stack = l.invariant.stack ∙ c.requires.sink.stack ∙ sym l.invariant.same in
+    let room : c.part_of_chunk-part.result ≤ g.S.Sink.room l.sink = omega (arith, part, c.requires.sink.room, l.invariant.room, l.invariant.within) in
+    search rules
+
+-- what a chunk is asked for is the next part of the snapshot's range
+snapshot_part : (stack before : Description) (op : Op) (levels device sector at done n : ℕ) (snapshot : FoundSnapshot) (state : State) → before ≡ stack → at ≡ sector + done
+    → line_step before op levels device (Snapshot snapshot) state at n ≡ line_step stack op levels device (Snapshot snapshot) state (sector + done) n
+snapshot_part stack before op levels device sector at done n snapshot state same place =
+    ap (λ (s : Description). line_step s op levels device (Snapshot snapshot) state at n) same ∙ ap (λ (p : ℕ). line_step stack op levels device (Snapshot snapshot) state p n) place
+
+pub map_snapshot-returns-in_err-map_chunk : goal.map_snapshot-returns-in_err-map_chunk
+map_snapshot-returns-in_err-map_chunk g t c =
+    let a = c.args in let w = a.walker.now in let l = c.loop-left in let n = c.part_of_chunk-part.result in let done = a.len - l.left in
+    let row = target_step w.stack a.op a.levels a.device (Snapshot a.snapshot.now) in
+    let part = snapshot_part w.stack l.walker.stack a.op a.levels a.device a.sector l.from done n a.snapshot.now l.walker.state l.invariant.same (omega (arith, l.invariant.place, l.invariant.within)) in
+    let walk = c.in_err-map_chunk.ensures in
+    walked_cut g.S.Sink.took g.S.Sink.left g.S.Sink.stack g.S.Sink.room g.S.Sink.faults c.from_residual.result a.sink.now c.map_chunk.new.sink w c.map_chunk.new.walker (line_step w.stack a.op a.levels a.device (Snapshot a.snapshot.now) w.state a.sector a.len) a.len c.from_residual.ensures.0
+    (left_on g.S.Sink.took g.S.Sink.left g.met.S.Sink.took_then_left a.sink.now l.sink c.map_chunk.new.sink row w.state l.walker.state a.sector done n a.len
+    (omega (arith, c.part_of_chunk-part.ensures, l.invariant.within)) l.invariant.state l.invariant.taken (rw part at walk.left))
+    (omega (arith, walk.faults, l.invariant.faults)) (walk.stack ∙ l.invariant.same)
+
+pub map_snapshot-loop-left-preserved : goal.map_snapshot-loop-left-preserved
+map_snapshot-loop-left-preserved g t c =
+    let a = c.args in let w = a.walker.now in let l = c.loop-left in let n = c.part_of_chunk-part.result in let done = a.len - l.left in
+    let row = target_step w.stack a.op a.levels a.device (Snapshot a.snapshot.now) in
+    let part = snapshot_part w.stack l.walker.stack a.op a.levels a.device a.sector l.from done n a.snapshot.now l.walker.state l.invariant.same (omega (arith, l.invariant.place, l.invariant.within)) in
+    let walk = c.in_ok-map_chunk.ensures in
+    let on : done + n ≡ a.len - (l.left - n) = omega (arith, c.part_of_chunk-part.ensures, l.invariant.within) in
+    let taken = took_on g.S.Sink.took g.met.S.Sink.took_then_took a.sink.now l.sink c.map_chunk.new.sink row w.state l.walker.state a.sector done n l.invariant.state l.invariant.taken (rw part at walk.took) in
+    let state = state_on row w.state l.walker.state c.map_chunk.new.walker.state a.sector done n l.invariant.state (rw part at walk.state) in
+    record {
+      taken = rw on at taken;
+      state = rw on at state;
+      within = omega (arith, l.invariant.within);
+      place = omega (arith, l.invariant.place, c.part_of_chunk-part.ensures);
+      same = walk.stack ∙ l.invariant.same;
+      stack = walk.kept ∙ l.invariant.stack;
+      room = omega (arith, walk.room, l.invariant.room, on);
+      faults = omega (arith, walk.faults, l.invariant.faults);
+    }
+
+-- A chunk of it
+
+pub map_chunk-returns-in-Write : goal.map_chunk-returns-in-Write
+map_chunk-returns-in-Write g t c =
+    let a = c.args in let w = a.walker.now in let walk = c.write_chunk in
+    walked_as g.S.Sink.took g.S.Sink.left g.S.Sink.stack g.S.Sink.room g.S.Sink.faults walk.result a.sink.now walk.new.sink w walk.new.walker _ _ a.len
+    (write_line_step w.stack a.levels a.device a.sector a.len a.snapshot.now w.state ∙ ap (λ (op : Op). line_step w.stack op a.levels a.device (Snapshot a.snapshot.now) w.state a.sector a.len) (sym c.in-Write.is)) walk.ensures
+
+pub map_chunk-returns-in-Some : goal.map_chunk-returns-in-Some
+map_chunk-returns-in-Some g t c =
+    let a = c.args in let w = a.walker.now in let walk = c.map_range in
+    walked_as g.S.Sink.took g.S.Sink.left g.S.Sink.stack g.S.Sink.room g.S.Sink.faults walk.result a.sink.now walk.new.sink w walk.new.walker _ _ a.len
+    (ap (λ (op : Op). range_step w.stack op a.levels c.in-Some.place.to w.state c.in-Some.place.sector a.len) c.in-Read.is
+    ∙ sym (chunk_read w.stack a.levels a.device a.sector a.len a.len a.snapshot.now w.state c.in-Some.place c.in-Some.ensures.place (omega arith))
+    ∙ ap (λ (op : Op). line_step w.stack op a.levels a.device (Snapshot a.snapshot.now) w.state a.sector a.len) (sym c.in-Read.is)) walk.ensures
+
+pub map_chunk-returns-in-None : goal.map_chunk-returns-in-None
+map_chunk-returns-in-None g t c =
+    let a = c.args in let w = a.walker.now in let p = c.piece in
+    walked_piece g.S.Sink.took g.S.Sink.left g.S.Sink.stack g.S.Sink.room g.S.Sink.faults p.result a.sink.now p.new.self w _ _ a.len a.len
+    (sym (lost_read w.stack a.levels a.device a.sector a.len a.snapshot.now w.state c.in-None.ensures.lost) ∙ ap (λ (op : Op). line_step w.stack op a.levels a.device (Snapshot a.snapshot.now) w.state a.sector a.len) (sym c.in-Read.is)) (omega arith)
+    p.ensures.took p.ensures.left p.ensures.faults p.ensures.stack p.ensures.room

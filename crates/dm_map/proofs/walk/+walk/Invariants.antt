@@ -1,19 +1,26 @@
 use Rattle.std.proofs.Common.{◌≡◌, ◌+◌, ◌-◌, ◌*◌, ◌<◌, ◌≤◌, length}
+use Rattle.dm_stack.specs.declared.found.FoundTarget.TheVariants.{Snapshot}
 use Rattle.dm_stack.specs.declared.id.Lower.TheVariants.{Device}
-use Rattle.dm_map.specs.Walk.{range_step, stripes_step, IsPlace}
+use Rattle.dm_map.specs.Walk.{range_step, line_step, stripes_step, IsPlace}
 use Rattle.dm_map.proofs.walk.+walk.Given as goal
 
 abbrev pub decreases-map_range : goal.decreases-map_range
-decreases-map_range g l = 4 * l.levels + 1
+decreases-map_range g l = 5 * l.levels + 1
 
 abbrev pub decreases-map_device : goal.decreases-map_device
-decreases-map_device g l = 4 * l.levels
+decreases-map_device g l = 5 * l.levels
 
 abbrev pub decreases-map_line : goal.decreases-map_line
-decreases-map_line g l = 4 * l.levels + 3
+decreases-map_line g l = 5 * l.levels + 4
 
 abbrev pub decreases-map_stripes : goal.decreases-map_stripes
-decreases-map_stripes g l = 4 * l.levels + 2
+decreases-map_stripes g l = 5 * l.levels + 2
+
+abbrev pub decreases-map_snapshot : goal.decreases-map_snapshot
+decreases-map_snapshot g l = 5 * l.levels + 3
+
+abbrev pub decreases-map_chunk : goal.decreases-map_chunk
+decreases-map_chunk g l = 5 * l.levels + 2
 
 abbrev pub invariant-map_device-loop-left : goal.invariant-map_device-loop-left
 invariant-map_device-loop-left g l = record {
@@ -44,3 +51,18 @@ invariant-map_stripes-loop-left g l = record {
 
 abbrev pub decreases-map_stripes-loop-left : goal.decreases-map_stripes-loop-left
 decreases-map_stripes-loop-left g l = l.left
+
+abbrev pub invariant-map_snapshot-loop-left : goal.invariant-map_snapshot-loop-left
+invariant-map_snapshot-loop-left g l = record {
+  taken : g.S.Sink.took l.fn.sink (line_step l.fn.walker.stack l.op l.levels l.device (Snapshot l.snapshot) l.fn.walker.state l.sector (l.len - l.left)).units l.sink;
+  state : l.walker.state ≡ (line_step l.fn.walker.stack l.op l.levels l.device (Snapshot l.snapshot) l.fn.walker.state l.sector (l.len - l.left)).state;
+  within : l.left ≤ l.len;
+  place : l.from + l.left ≡ l.sector + l.len;
+  same : l.walker.stack ≡ l.fn.walker.stack;
+  stack : g.S.Sink.stack l.sink ≡ g.S.Sink.stack l.fn.sink;
+  room : g.S.Sink.room l.fn.sink ≤ g.S.Sink.room l.sink + (l.len - l.left);
+  faults : g.S.Sink.faults l.sink ≡ g.S.Sink.faults l.fn.sink;
+}
+
+abbrev pub decreases-map_snapshot-loop-left : goal.decreases-map_snapshot-loop-left
+decreases-map_snapshot-loop-left g l = l.left

@@ -8,7 +8,7 @@ ghost use Rattle.std.specs.Prelude.{◌≡◌, ◌<◌, length};
 ghost use Rattle.dm_stack.specs.Description.{disk_len};
 
 use super::*;
-use dm_map::{Mapper, Piece, Sink};
+use dm_map::{Mapper, Piece, PlainTaken, Sink};
 use dm_stack::{DiskId, FoundTarget, Lower, Stack};
 use dm_stream::{Ending, Join, run};
 use dm_table::{CheckFault, DiskName, Name, parse_disks, parse_table};
@@ -69,7 +69,7 @@ fn a_stack(rt: HostRuntime) {
 fn a_read_only_device(rt: HostRuntime) {
     let alloc = rt.alloc();
     let stack = stack_of(&rt, alloc, TWO_DEVICES, true);
-    let mut mapper = Mapper::new(alloc, stack.looker()).expect(&rt, "a mapper");
+    let mut mapper = Mapper::<PlainTaken>::new(alloc, stack.looker()).expect(&rt, "a mapper");
     let mut requests = ShortIn::new("W b 0 8\nR b 0 8\nW a 1 1\n".as_bytes(), PLENTY);
     let mut output = ShortOut::new(alloc, PLENTY, PLENTY).expect(&rt, "an output");
     let mut messages = ShortOut::new(alloc, PLENTY, PLENTY).expect(&rt, "messages");

@@ -1,36 +1,37 @@
-use Rattle.std.proofs.Common.{◌≡◌, Some, None, sym, ap, subst, ◌∙◌}
-use Rattle.std.specs.Prelude.{find, option_copied}
+use Rattle.std.proofs.Common.{◌≡◌, ◌≤◌, ℕ, suc, List, Some, length, refl, subst, sym, ap, ◌∙◌, add-one}
+use Rattle.std.specs.Prelude.{slice_get}
+use Rattle.std.proofs.lemmas.List.{length-map}
+use Rattle.std.proofs.lemmas.Option.{slice_get_read}
 use Rattle.dm_stack.specs.declared.found.FoundLine.{FoundLine}
-use Rattle.dm_stack.specs.Below.{HoldsSoundly, found_at, has_sector}
-use Rattle.dm_stack.proofs.SoundLines.{sector_found, find-found}
+use Rattle.dm_stack.specs.Below.{HoldsSoundly, found_at}
+use Rattle.dm_stack.specs.LineSearch.{StartsAfter, StartsBy, binary_digits}
+use Rattle.dm_stack.specs.Description.{lines_at}
+use Rattle.dm_stack.proofs.LineSearchLemmas.{first_starts, line_there}
 use Rattle.dm_stack.proofs.SameLine.{same_found}
+use Rattle.dm_stack.proofs.SoundLines.{sector_found}
 use Rattle.dm_stack.proofs.stack.Stack.find_line.Goals as goal
 
-pub unreachable-requires : goal.unreachable-requires
-unreachable-requires c =
-    let st = c.args.self.now in
-    let f = sector_found st c.args.device c.args.sector c.lines.ensures.sound c.requires.device c.requires.sector in
-    let none : found_at st c.args.device c.args.sector ≡ None =
-    sym (find-found st c.args.device c.args.sector) ∙ ap (find (has_sector c.args.sector)) (sym c.lines.ensures.lines) ∙ sym c.line_of.ensures ∙ ap option_copied c.in-None.is in
-    let is = f.is in absurd cc
+pub search-index-requires : goal.search-index-requires
+search-index-requires c =
+    rw c.lines-lines.ensures.lines (first_starts c.args.self.now c.args.device c.args.sector c.lines-lines.ensures.sound c.requires.device c.requires.sector)
 
-pub returns-clause-line : goal.returns-clause-line
-returns-clause-line c =
-    sym (find-found c.args.self.now c.args.device c.args.sector) ∙ ap (find (has_sector c.args.sector)) (sym c.lines.ensures.lines) ∙ sym c.line_of.ensures ∙ ap option_copied c.in-Some.is
-
-pub returns-clause-holds : goal.returns-clause-holds
-returns-clause-holds c =
+pub returns : goal.returns
+returns c =
     let st = c.args.self.now in
-    let f = sector_found st c.args.device c.args.sector c.lines.ensures.sound c.requires.device c.requires.sector in
-    let some : found_at st c.args.device c.args.sector ≡ Some c.in-Some.line.now =
-    sym (find-found st c.args.device c.args.sector) ∙ ap (find (has_sector c.args.sector)) (sym c.lines.ensures.lines) ∙ sym c.line_of.ensures ∙ ap option_copied c.in-Some.is in
-    let is = f.is in
-    let same : f.line ≡ c.in-Some.line.now = cc in
-    subst (λ (line : FoundLine). HoldsSoundly st c.args.device line c.args.sector) same f.soundly
-
-pub returns-clause-all : goal.returns-clause-all
-returns-clause-all c other from before =
-    let st = c.args.self.now in
-    let some : found_at st c.args.device c.args.sector ≡ Some c.in-Some.line.now =
-    sym (find-found st c.args.device c.args.sector) ∙ ap (find (has_sector c.args.sector)) (sym c.lines.ensures.lines) ∙ sym c.line_of.ensures ∙ ap option_copied c.in-Some.is in
-    same_found st c.args.device c.args.sector other c.in-Some.line.now c.lines.ensures.sound c.requires.device some from before
+    let sound = c.lines-lines.ensures.sound in
+    let lines = c.lines-lines.ensures.lines in
+    let there = line_there st c.args.device c.search-index.result.0 c.args.sector sound c.requires.device c.requires.sector
+    (subst (λ (ls : List FoundLine). StartsBy ls c.search-index.result.0 c.args.sector) lines c.search-index.ensures.from)
+    (subst (λ (ls : List FoundLine). StartsAfter ls (suc c.search-index.result.0) c.args.sector) lines
+    (subst (λ (index : ℕ). StartsAfter c.lines-lines.result.now index c.args.sector) (add-one c.search-index.result.0) c.search-index.ensures.next)) in
+    let here = slice_get_read c.lines-lines.result.now _ c.search-index.result.0 c.index-lines-index.result refl c.search-index.ensures.within c.index-lines-index.is in
+    let is : found_at st c.args.device c.args.sector ≡ Some c.index-lines-index.result =
+    sym there ∙ ap (λ (ls : List FoundLine). slice_get ls c.search-index.result.0) (sym lines) ∙ here in
+    let f = sector_found st c.args.device c.args.sector sound c.requires.device c.requires.sector in
+    let same : f.line ≡ c.index-lines-index.result = let known = f.is in cc in
+    record {
+      line = is;
+      holds = subst (λ (line : FoundLine). HoldsSoundly st c.args.device line c.args.sector) same f.soundly;
+      all = λ other from before. same_found st c.args.device c.args.sector other c.index-lines-index.result sound c.requires.device is from before;
+      few = subst (λ (n : ℕ). c.search-index.result.1 ≤ binary_digits n) (ap length lines ∙ length-map (lines_at st c.args.device) _) c.search-index.ensures.few;
+    }

@@ -8,20 +8,20 @@ use Rattle.dm_stream.proofs.JoinLemmas.{held_line}
 use Rattle.dm_stream.proofs.held_piece.HeldPiece.write.Given as given
 use Rattle.dm_stream.proofs.held_piece.HeldPiece.write.Goals as goal
 
--- the bytes that are written are the text of what was held
-line_is : (g : given.Over) (c : goal.After-write_all g) → c.as_slice.result.now ≡ pieces_text c.args.self.now.stack c.args.self.now.number (fewest (held_units c.args.self.now.piece))
+-- the text that is put is that of what was held
+line_is : (g : given.Over) (c : goal.After-put g) → c.new-line.result ≡ pieces_text c.args.self.now.stack c.args.self.now.number (fewest (held_units c.args.self.now.piece))
 line_is g c =
     let inside = c.self.inside in
-    let holding : Pending = record { stack = inside.stack.now; number = inside.line.number; piece = inside.piece } in
-    held_line holding c.in-Some.piece c.as_slice.result.now c.in-Some.is c.self.invariant (c.as_slice.ensures ∙ c.set_piece.ensures.text)
+    let holding : Pending = record { stack = inside.stack.now; number = inside.prefix; piece = inside.piece } in
+    held_line holding c.in-Some.piece c.new-line.result c.in-Some.is c.self.invariant c.new-line.ensures.text
     ∙ ap (λ (h : Pending). pieces_text h.stack h.number (fewest (held_units h.piece))) c.self.view_is
 
 pub returns-clause-ok : goal.returns-clause-ok
 returns-clause-ok g c =
-    let wrote = since (g.W.Output.written c.args.writer.now) (g.W.Output.written c.write_all.new.writer) in
-    subst (λ (text : List ℕ). OnOk c.write_all.result (wrote ≡ text)) (line_is g c) c.write_all.ensures.ok
+    let wrote = since (g.W.Output.written c.args.writer.now) (g.W.Output.written c.put.new.self) in
+    subst (λ (text : List ℕ). OnOk c.put.result (wrote ≡ text)) (line_is g c) c.put.ensures.ok
 
 pub returns-clause-err : goal.returns-clause-err
 returns-clause-err g c =
-    let wrote = since (g.W.Output.written c.args.writer.now) (g.W.Output.written c.write_all.new.writer) in
-    subst (λ (text : List ℕ). OnErr c.write_all.result (IsCutShort text wrote)) (line_is g c) c.write_all.ensures.left
+    let wrote = since (g.W.Output.written c.args.writer.now) (g.W.Output.written c.put.new.self) in
+    subst (λ (text : List ℕ). OnErr c.put.result (IsCutShort text wrote)) (line_is g c) c.put.ensures.left

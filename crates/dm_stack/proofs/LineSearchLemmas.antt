@@ -1,0 +1,110 @@
+-- Counts of comparisons against binary digits, and the line of a sector by the starts of lines in a row.
+use Rattle.std.proofs.Common.{◌≡◌, ℕ, zero, suc, ◌+◌, ◌*◌, ◌/◌, ◌^◌, ◌<◌, ◌≤◌, Bool, true, false, List, [], ◌∷◌, Some, length, get_or, map, refl, sym, subst, ◌∙◌, add-one, arith}
+use Rattle.std.specs.Prelude.{◌==◌, option_map, slice_get}
+use Rattle.std.proofs.lemmas.Nat.{pow_pos}
+use Rattle.std.proofs.lemmas.Bool.{eqb-true}
+use Rattle.std.proofs.lemmas.Option.{slice_get-get_or}
+use Rattle.std.proofs.Math.Nat.{mul-le-mul_left, pow-succ'}
+use Rattle.dm_table.specs.declared.table.Line.{Line}
+use Rattle.dm_stack.specs.declared.found.FoundLine.{FoundLine}
+use Rattle.dm_stack.specs.Below.{found_at, found_line, found_lines, line_of}
+use Rattle.dm_stack.specs.Description.{Description, device_len, end_of, lines_at}
+use Rattle.dm_stack.specs.LineSearch.{StartsAfter, StartsBy, binary_digits, digits_to}
+use Rattle.dm_stack.specs.Soundness.{IsSound}
+use Rattle.dm_stack.proofs.LayoutLemmas.{AreInRow}
+use Rattle.dm_stack.proofs.SameLine.{holds_none}
+use Rattle.dm_stack.proofs.SoundLines.{holds_from, device_sound, lines_there, there}
+
+-- Binary digits
+
+digits_in_rows : (binary_digits 0 ≡ 0) × (binary_digits 1 ≡ 1) × (binary_digits 3 ≡ 2) × (binary_digits 4 ≡ 3) × (binary_digits 65535 ≡ 16) × (binary_digits 65536 ≡ 17)
+digits_in_rows = (refl, refl, refl, refl, refl, refl)
+
+digits_later : (most number k : ℕ) (b : Bool) → (number == 0) ≡ b → 0 < number → k ≤ digits_to most (number / 2) → suc k ≤ digits_to (suc most) number
+digits_later most number k true none some rest = let zero_number = eqb-true _ _ none in absurd (omega (arith, zero_number, some))
+digits_later most number k false none some rest = rw none (omega (arith, rest))
+
+few_to : (most number k : ℕ) → number ≤ most → 2 ^ k ≤ 2 * number → k ≤ digits_to most number
+few_to zero number k within few = let some = pow_pos k in absurd (omega (arith, within, few, some))
+few_to (suc most) number zero within few = omega arith
+few_to (suc most) number (suc zero) within few = digits_later most number 0 (number == 0) refl (omega (arith, few)) (omega arith)
+few_to (suc most) number (suc (suc k)) within few =
+    let some = pow_pos k in
+    digits_later most number (suc k) (number == 0) refl (omega (arith, few, some)) (few_to most (number / 2) (suc k) (omega (arith, within)) (omega (arith, few)))
+
+-- a number whose double a power of two does not exceed has as many binary digits as the power's exponent
+pub few_digits : (number k : ℕ) → 2 ^ k ≤ 2 * number → k ≤ binary_digits number
+few_digits number k few = few_to number number k (omega arith) few
+
+-- Comparisons, each of which halves how many starts are left to compare
+
+twice : (k : ℕ) → 2 ^ (k + 1) ≡ 2 * 2 ^ k
+twice k = rw (add-one k) (pow-succ' 2 k)
+
+halved : (power next half all total : ℕ) → next ≡ 2 * power → 2 * half ≤ all → power * all < total → next * half < total
+halved power next half all total is halves within = rw is (omega (arith, within, mul-le-mul_left power halves))
+
+pub more-halved : (k half all total : ℕ) → 2 * half ≤ all → 2 ^ k * all < total → 2 ^ (k + 1) * half < total
+more-halved k half all total halves within = halved (2 ^ k) (2 ^ (k + 1)) half all total (twice k) halves within
+
+pub more-few : (k all total : ℕ) → 1 ≤ all → 2 ^ k * all < total → 2 ^ (k + 1) ≤ 2 * total
+more-few k all total some within = rw (twice k) (omega (arith, within, mul-le-mul_left (2 ^ k) some))
+
+-- Starts
+
+pub starts_by : (lines : List FoundLine) (index sector : ℕ) (line : FoundLine) → index < length lines → (get_or lines index line).start ≤ sector → StartsBy lines index sector
+starts_by lines index sector line within from = rw (slice_get-get_or lines index line within) from
+
+pub starts_after : (lines : List FoundLine) (index sector : ℕ) (line : FoundLine) → index < length lines → sector < (get_or lines index line).start → StartsAfter lines index sector
+starts_after lines index sector line within before = rw (slice_get-get_or lines index line within) before
+
+-- Lines in a row
+
+-- a line that starts at a sector or before it starts after the end of those before it
+past_end : (stack : Description) (end : ℕ) (lines : List Line) (index sector : ℕ) → AreInRow end lines → StartsBy (map (found_line stack) lines) index sector → end ≤ sector
+past_end stack end [] index sector row from = absurd from
+past_end stack end (line ∷ lines) zero sector row from = omega (arith, row.0, from)
+past_end stack end (line ∷ lines) (suc index) sector row from =
+    let past = past_end stack (line.start + line.len) lines index sector row.1 from in omega (arith, row.0, past)
+
+held : (stack : Description) (line : Line) (lines : List Line) (sector : ℕ) → line.start ≤ sector → sector < line.start + line.len → Some (found_line stack line) ≡ option_map (found_line stack) (line_of (line ∷ lines) sector)
+held stack line lines sector from before = rw (holds_from line sector from before) refl
+
+not_held : (stack : Description) (line : Line) (lines : List Line) (sector : ℕ) → line.start + line.len ≤ sector → option_map (found_line stack) (line_of (line ∷ lines) sector) ≡ option_map (found_line stack) (line_of lines sector)
+not_held stack line lines sector past = rw (holds_none line sector past) refl
+
+-- the line that starts at a sector or before it, where the next one starts after it, has the sector
+in_row_held : (stack : Description) (end : ℕ) (lines : List Line) (index sector : ℕ) → AreInRow end lines → sector < end_of lines
+    → StartsBy (map (found_line stack) lines) index sector → StartsAfter (map (found_line stack) lines) (suc index) sector
+    → slice_get (map (found_line stack) lines) index ≡ option_map (found_line stack) (line_of lines sector)
+in_row_held stack end [] index sector row inside from next = absurd from
+in_row_held stack end (line ∷ []) zero sector row inside from next = held stack line [] sector from inside
+in_row_held stack end (line ∷ []) (suc index) sector row inside from next = absurd from
+in_row_held stack end (line ∷ other ∷ lines) zero sector row inside from next =
+    held stack line (other ∷ lines) sector from (omega (arith, row.1.0, next))
+in_row_held stack end (line ∷ other ∷ lines) (suc index) sector row inside from next =
+    in_row_held stack (line.start + line.len) (other ∷ lines) index sector row.1 inside from next
+    ∙ sym (not_held stack line (other ∷ lines) sector (past_end stack (line.start + line.len) (other ∷ lines) index sector row.1 from))
+
+-- The lines of a device
+
+first_from : (stack : Description) (lines : List Line) (sector : ℕ) → AreInRow 0 lines → sector < end_of lines → StartsBy (map (found_line stack) lines) 0 sector
+first_from stack [] sector row inside = absurd (omega (arith, inside))
+first_from stack (line ∷ lines) sector row inside = omega (arith, row.0)
+
+pub first_starts : (stack : Description) (id sector : ℕ) → IsSound stack → id < length stack.devices → sector < device_len stack id → StartsBy (found_lines stack id) 0 sector
+first_starts stack id sector sound within inside =
+    let d = there stack.devices id within in
+    let same = sym (lines_there stack id d.it d.at) in
+    first_from stack (lines_at stack id) sector
+    (subst (λ (ls : List Line). AreInRow 0 ls) same (device_sound stack id d.it sound d.at).placed)
+    inside
+
+pub line_there : (stack : Description) (id index sector : ℕ) → IsSound stack → id < length stack.devices → sector < device_len stack id
+    → StartsBy (found_lines stack id) index sector → StartsAfter (found_lines stack id) (suc index) sector → slice_get (found_lines stack id) index ≡ found_at stack id sector
+line_there stack id index sector sound within inside from next =
+    let d = there stack.devices id within in
+    let same = sym (lines_there stack id d.it d.at) in
+    in_row_held stack 0 (lines_at stack id) index sector
+    (subst (λ (ls : List Line). AreInRow 0 ls) same (device_sound stack id d.it sound d.at).placed)
+    inside from next

@@ -1,0 +1,167 @@
+-- In a sound stack the snapshots are the devices whose first sector lies in a snapshot's line, and that line is all of them.
+use Rattle.std.proofs.Common.{◌≡◌, ℕ, zero, suc, ◌+◌, ◌<◌, ◌≤◌, Bool, true, false, cond, not, nat_le, nat_lt, inl, inr, ◌⊎◌, List, [], ◌∷◌, ◌++◌, Option, Some, None, arith, refl, sym, ap, subst, ◌∙◌, get_or, length, map}
+use Rattle.std.specs.Prelude.{◌==◌, ◌||◌, filter, find, option_map, slice_get}
+use Rattle.std.specs.List.{All, AllByRecursion, Contains, list_any, range_with_len}
+use Rattle.std.proofs.lemmas.Bool.{cases_lt, eqb-true, not-false, or_cases, or_left, or_parts, or_right}
+use Rattle.std.proofs.lemmas.List.Elements.{All-from_recursion, Contains-append_cases, Contains-append_left, Contains-append_right}
+use Rattle.std.proofs.lemmas.List.FromFn.{get_or-range_with_len, length-range_with_len}
+use Rattle.std.proofs.lemmas.Option.{slice_get_past}
+use Rattle.dm_table.specs.declared.table.DevRef.{DevRef}
+use Rattle.dm_table.specs.declared.table.Line.{Line}
+use Rattle.dm_table.specs.declared.table.Target.{Target}
+use Rattle.dm_table.specs.declared.table.Target.TheVariants as targets
+use Rattle.dm_stack.specs.declared.found.FoundLine.{FoundLine}
+use Rattle.dm_stack.specs.declared.found.FoundSnapshot.{FoundSnapshot}
+use Rattle.dm_stack.specs.declared.found.FoundTarget.{FoundTarget}
+use Rattle.dm_stack.specs.declared.found.FoundTarget.TheVariants as found
+use Rattle.dm_stack.specs.Below.{found_at, found_line, found_target, holds, line_of}
+use Rattle.dm_stack.specs.Description.{Description, device_len, end_of, lines_at, lines_or_none, lower_len, lower_of}
+use Rattle.dm_stack.specs.Loaded.{AreSnapshots, IsSnapshot, has_snapshot, is_snapshot, snapshots}
+use Rattle.dm_stack.specs.Soundness.{IsSound, is_bad_chunk, is_bad_snapshot}
+use Rattle.dm_stack.proofs.LayoutLemmas.{AreInRow}
+use Rattle.dm_stack.proofs.SoundLines.{device_some, device_sound, holds_from, lines_there, there}
+
+-- Numbers that pass a test, among those from 0 on
+
+only : (x y : ℕ) → Contains (y ∷ []) x → y ≡ x
+only x y (zero, below, is) = is
+only x y (suc k, below, is) = absurd (omega (arith, below))
+
+kept_by : (x y : ℕ) (rest : List ℕ) (b : Bool) → Contains rest x → Contains (cond b (y ∷ rest) rest) x
+kept_by x y rest true named = Contains-append_right (y ∷ []) rest x named
+kept_by x y rest false named = named
+
+kept : (p : ℕ → Bool) (xs : List ℕ) (x : ℕ) → p x ≡ true → Contains xs x → Contains (filter p xs) x
+kept p [] x passes (k, below, is) = absurd (omega (arith, below))
+kept p (y ∷ ys) x passes named = by_part (kept p ys x passes) (Contains-append_cases (y ∷ []) ys x named)
+  where
+    by_part : (Contains ys x → Contains (filter p ys) x) → Contains (y ∷ []) x ⊎ Contains ys x → Contains (filter p (y ∷ ys)) x
+    by_part more (inl here) =
+        let same = only x y here in
+        let yes : p y ≡ true = ap p same ∙ passes in
+        rw yes (Contains-append_left (y ∷ []) (filter p ys) x here)
+    by_part more (inr later) = kept_by x y (filter p ys) (p y) (more later)
+
+in_range : (n x : ℕ) → x < n → Contains (range_with_len 0 n) x
+in_range n x below = (x, omega (arith, below, length-range_with_len 0 n), get_or-range_with_len 0 n x x below ∙ omega arith)
+
+each_by : (P : ℕ → Type 0) (x : ℕ) (rest : List ℕ) (b : Bool) → (b ≡ true → P x) → AllByRecursion P rest → AllByRecursion P (cond b (x ∷ rest) rest)
+each_by P x rest true here more = (here refl, more)
+each_by P x rest false here more = more
+
+each_kept : (P : ℕ → Type 0) (p : ℕ → Bool) (a n : ℕ) → ((x : ℕ) → x < a + n → p x ≡ true → P x) → AllByRecursion P (filter p (range_with_len a n))
+each_kept P p a zero each = tt
+each_kept P p a (suc n) each =
+    each_by P a (filter p (range_with_len (a + 1) n)) (p a) (each a (omega arith)) (each_kept P p (a + 1) n (λ x below. each x (omega (arith, below))))
+
+-- A device with a snapshot's line has no other
+
+one_by : (stack : Description) (lines len : ℕ) (target : Target) → is_bad_snapshot stack lines len target ≡ false → is_snapshot target ≡ true → lines ≡ 1
+one_by stack lines len (targets.Linear to offset) good is = absurd cc
+one_by stack lines len (targets.Striped chunk columns) good is = absurd cc
+one_by stack lines len targets.Zero good is = absurd cc
+one_by stack lines len targets.Error good is = absurd cc
+one_by stack lines len (targets.Snapshot origin store chunk) good is =
+    eqb-true _ _ (not-false _ (or_parts (not (lines == 1)) (is_bad_chunk chunk || not (len == lower_len stack (lower_of stack origin))) good).0)
+
+one_of : (stack : Description) (count : ℕ) (lines : List Line) → AllByRecursion (λ line. is_bad_snapshot stack count line.len line.target ≡ false) lines → has_snapshot lines ≡ true → count ≡ 1
+one_of stack count [] good is = absurd cc
+one_of stack count (line ∷ lines) good is = by_part (one_of stack count lines good.1) (or_cases (is_snapshot line.target) (has_snapshot lines) is)
+  where
+    by_part : (has_snapshot lines ≡ true → count ≡ 1) → (is_snapshot line.target ≡ true) ⊎ (has_snapshot lines ≡ true) → count ≡ 1
+    by_part more (inl here) = one_by stack count line.len line.target good.0 here
+    by_part more (inr later) = more later
+
+-- the target of a snapshot's line, by ids
+pub record IsOver (stack : Description) (target : Target) : Type 0 where
+  pub snapshot : FoundSnapshot
+  pub is : found_target stack target ≡ found.Snapshot snapshot
+
+over : (stack : Description) (target : Target) → is_snapshot target ≡ true → IsOver stack target
+over stack (targets.Linear to offset) is = absurd cc
+over stack (targets.Striped chunk columns) is = absurd cc
+over stack targets.Zero is = absurd cc
+over stack targets.Error is = absurd cc
+over stack (targets.Snapshot origin store chunk) is = record { snapshot = record { origin = lower_of stack origin; store = lower_of stack store; chunk = chunk }; is = refl }
+
+-- the only line of a device
+pub record IsOnly (lines : List Line) : Type 0 where
+  pub line : Line
+  pub is : lines ≡ line ∷ []
+  pub over : is_snapshot line.target ≡ true
+
+alone : (lines : List Line) → length lines ≡ 1 → has_snapshot lines ≡ true → IsOnly lines
+alone [] one is = absurd cc
+alone (line ∷ []) one is = record { line = line; is = refl; over = by_part (or_cases (is_snapshot line.target) false is) }
+  where
+    by_part : (is_snapshot line.target ≡ true) ⊎ (false ≡ true) → is_snapshot line.target ≡ true
+    by_part (inl here) = here
+    by_part (inr wrong) = absurd cc
+alone (line ∷ next ∷ lines) one is = absurd (omega (arith, one))
+
+line_from : (line : Line) → 0 < line.len → line.start ≡ 0 → line_of (line ∷ []) 0 ≡ Some line
+line_from line some from = let here = holds_from line 0 (omega (arith, from)) (omega (arith, some)) in rw here refl
+
+is_whole : (stack : Description) (device : ℕ) (lines : List Line) → IsSound stack → device < length stack.devices → lines_at stack device ≡ lines → AreInRow 0 lines → IsOnly lines → IsSnapshot stack device
+is_whole stack device lines sound within are row alone =
+    let line = alone.line in
+    let target = over stack line.target alone.over in
+    let from : line.start ≡ 0 = (subst (AreInRow 0) alone.is row).0 in
+    let end : device_len stack device ≡ line.start + line.len = ap end_of (are ∙ alone.is) in
+    let len : line.len ≡ device_len stack device = omega (arith, from, end) in
+    let some = device_some stack device sound within in
+    record {
+      there = within;
+      snapshot = target.snapshot;
+      line =
+          ap (λ (ls : List Line). option_map (found_line stack) (line_of ls 0)) (are ∙ alone.is)
+          ∙ ap (option_map (found_line stack)) (line_from line (omega (arith, len, some)) from)
+          ∙ ap (λ (s : ℕ). Some (record { start = s; len = line.len; target = found_target stack line.target })) from
+          ∙ ap (λ (l : ℕ). Some (record { start = 0; len = l; target = found_target stack line.target })) len
+          ∙ ap (λ (t : FoundTarget). Some (record { start = 0; len = device_len stack device; target = t })) target.is;
+    }
+
+each_snapshot : (stack : Description) → IsSound stack → (device : ℕ) → device < length stack.devices → has_snapshot (lines_at stack device) ≡ true → IsSnapshot stack device
+each_snapshot stack sound device within is =
+    let d = there stack.devices device within in
+    let lines = lines_there stack device d.it d.at in
+    let s = device_sound stack device d.it sound d.at in
+    let has = subst (λ (ls : List Line). has_snapshot ls ≡ true) lines is in
+    is_whole stack device d.it.lines sound within lines s.placed (alone d.it.lines (one_of stack (length d.it.lines) d.it.lines s.fitting has) has)
+
+-- A device whose first sector lies in a snapshot's line has one
+
+target_over : (stack : Description) (target : Target) (snapshot : FoundSnapshot) → found_target stack target ≡ found.Snapshot snapshot → is_snapshot target ≡ true
+target_over stack (targets.Linear to offset) snapshot is = absurd cc
+target_over stack (targets.Striped chunk columns) snapshot is = absurd cc
+target_over stack targets.Zero snapshot is = absurd cc
+target_over stack targets.Error snapshot is = absurd cc
+target_over stack (targets.Snapshot origin store chunk) snapshot is = refl
+
+any_found : (stack : Description) (test : Line → Bool) (lines : List Line) (line : FoundLine) (snapshot : FoundSnapshot) → option_map (found_line stack) (find test lines) ≡ Some line → line.target ≡ found.Snapshot snapshot → has_snapshot lines ≡ true
+any_found stack test [] line snapshot at is = absurd cc
+any_found stack test (first ∷ lines) line snapshot at is = by_test (λ e. any_found stack test lines line snapshot e is) (test first) at
+  where
+    by_test : (option_map (found_line stack) (find test lines) ≡ Some line → has_snapshot lines ≡ true) → (b : Bool) → option_map (found_line stack) (cond b (Some first) (find test lines)) ≡ Some line → has_snapshot (first ∷ lines) ≡ true
+    by_test more true e =
+        let same : found_target stack first.target ≡ line.target = cc in
+        or_left (is_snapshot first.target) (has_snapshot lines) (target_over stack first.target snapshot (same ∙ is))
+    by_test more false e = or_right (is_snapshot first.target) (has_snapshot lines) (more e)
+
+lines_within : (stack : Description) (device : ℕ) → has_snapshot (lines_at stack device) ≡ true → device < length stack.devices
+lines_within stack device is = by_place (cases_lt device (length stack.devices))
+  where
+    by_place : (device < length stack.devices) ⊎ (length stack.devices ≤ device) → device < length stack.devices
+    by_place (inl within) = within
+    by_place (inr past) =
+        let none = slice_get_past stack.devices device past in
+        let no : has_snapshot (lines_at stack device) ≡ false = ap (λ found. has_snapshot (lines_or_none found)) none in
+        absurd (let both = sym no ∙ is in cc)
+
+pub are_snapshots : (stack : Description) → IsSound stack → AreSnapshots stack (snapshots stack)
+are_snapshots stack sound = record {
+  each = All-from_recursion (IsSnapshot stack) (snapshots stack) (each_kept (IsSnapshot stack) (λ device. has_snapshot (lines_at stack device)) 0 (length stack.devices) (λ device below is. each_snapshot stack sound device (omega (arith, below)) is));
+  among = λ device line snapshot at is.
+      let has = any_found stack (holds 0) (lines_at stack device) line snapshot at is in
+      kept (λ id. has_snapshot (lines_at stack id)) (range_with_len 0 (length stack.devices)) device has (in_range (length stack.devices) device (lines_within stack device has));
+}

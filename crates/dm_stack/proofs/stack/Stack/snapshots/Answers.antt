@@ -1,0 +1,11 @@
+use Rattle.std.proofs.Common.{List, ℕ, sym, ap, subst, ◌∙◌}
+use Rattle.dm_stack.specs.Description.{Description}
+use Rattle.dm_stack.specs.Loaded.{AreSnapshots, snapshots}
+use Rattle.dm_stack.specs.Soundness.{IsSound}
+use Rattle.dm_stack.proofs.SnapshotRule.{are_snapshots}
+use Rattle.dm_stack.proofs.stack.Stack.snapshots.Goals as goal
+
+pub returns-clause-all : goal.returns-clause-all
+returns-clause-all c =
+    subst (λ (ids : List ℕ). AreSnapshots c.args.self.now ids) (sym (c.as_slice.ensures.value ∙ c.self.invariant.snapshots ∙ ap (λ (stack : Description). snapshots stack) c.self.view_is))
+    (are_snapshots c.args.self.now (subst IsSound c.self.view_is c.self.invariant.sound))

@@ -1,0 +1,20 @@
+-- The line of a sector, found by the starts of lines.
+use Rattle.std.specs.Prelude.{ℕ, zero, suc, ◌/◌, ◌==◌, ◌≤◌, ◌<◌, ⊤, List, MatchOption, slice_get, if◌then◌else◌}
+use Rattle.dm_stack.specs.declared.found.FoundLine.{FoundLine}
+
+-- there is a line at an index, and it starts at a sector or before it
+abbrev pub StartsBy : List FoundLine → (index sector : ℕ) → Type 0
+StartsBy lines index sector = MatchOption (slice_get lines index) ⊥ (λ line. line.start ≤ sector)
+
+-- the line at an index starts after a sector, or there is none
+abbrev pub StartsAfter : List FoundLine → (index sector : ℕ) → Type 0
+StartsAfter lines index sector = MatchOption (slice_get lines index) ⊤ (λ line. sector < line.start)
+
+-- the binary digits of a number that has at most so many
+abbrev pub digits_to : (most number : ℕ) → ℕ
+digits_to zero number = 0
+digits_to (suc most) number = if number == 0 then 0 else suc (digits_to most (number / 2))
+
+-- the number of binary digits of a number
+abbrev pub binary_digits : ℕ → ℕ
+binary_digits number = digits_to number number

@@ -1,0 +1,50 @@
+-- What a block holds up to the end of what was put into it.
+use Rattle.std.proofs.Common.{◌≡◌, ℕ, ◌+◌, ◌-◌, ◌≤◌, ◌++◌, List, [], ◌∷◌, ◌<◌, length, take, drop, slice_range, sym, ap, subst, ◌∙◌, append_assoc, arith}
+use Rattle.std.proofs.Math.Seq.{take-add, take-append_seam}
+use Rattle.std.proofs.lemmas.List.{take-append-le, take-take, append-nil}
+use Rattle.dm_table.specs.DeviceIo.{since}
+use Rattle.dm_table.specs.WriteAll.{IsCutShort}
+use Rattle.dm_table.proofs.Growth.{since_is}
+
+-- a text at the front of what was put after a place
+pub room_front : (at len : ℕ) (new old room rest : List ℕ) → take at new ≡ take at old → drop at new ≡ room ++ rest → len ≤ length room → take (at + len) new ≡ take at old ++ take len room
+room_front at len new old room rest before behind fits =
+    take-add at len new
+    ∙ ap (λ (front : List ℕ). front ++ take len (drop at new)) before
+    ∙ ap (λ (back : List ℕ). take at old ++ take len back) behind
+    ∙ ap (λ (text : List ℕ). take at old ++ text) (take-append-le len room rest fits)
+
+-- the whole of it
+pub bytes_front : (at : ℕ) (new old bytes rest : List ℕ) → take at new ≡ take at old → drop at new ≡ bytes ++ rest → take (at + length bytes) new ≡ take at old ++ bytes
+bytes_front at new old bytes rest before behind =
+    take-add at (length bytes) new
+    ∙ ap (λ (front : List ℕ). front ++ take (length bytes) (drop at new)) before
+    ∙ ap (λ (back : List ℕ). take at old ++ take (length bytes) back) behind
+    ∙ ap (λ (text : List ℕ). take at old ++ text) (take-append_seam bytes rest)
+
+-- a number's digits, which were put before the end of their place
+pub digits_front : (at start end : ℕ) (new old digits rest : List ℕ) → end ≡ at + length digits → start + length digits ≡ end → take start new ≡ take start old → drop start new ≡ digits ++ rest → take end new ≡ take at old ++ digits
+digits_front at start end new old digits rest is place before behind =
+    let same : start ≡ at = omega arith in
+    ap (λ (n : ℕ). take n new) is
+    ∙ bytes_front at new old digits rest (subst (λ (n : ℕ). take n new ≡ take n old) same before) (subst (λ (n : ℕ). drop n new ≡ digits ++ rest) same behind)
+
+-- what was written of a block's front, after one write more
+pub sent_more : (old mid new block : List ℕ) (sent len taken : ℕ) → taken ≤ len - sent → mid ≡ old ++ take sent block → new ≡ mid ++ take taken (slice_range block sent len) → new ≡ old ++ take (sent + taken) block
+sent_more old mid new block sent len taken few so_far more =
+    more ∙ ap (λ (xs : List ℕ). xs ++ take taken (slice_range block sent len)) so_far ∙ append_assoc old (take sent block) _
+    ∙ ap (λ (xs : List ℕ). old ++ (take sent block ++ xs)) (take-take taken (len - sent) (drop sent block) few)
+    ∙ ap (λ (xs : List ℕ). old ++ xs) (sym (take-add sent taken block))
+
+-- what was passed on of it, and then what moved to its front
+pub passed_on : (old mid block new : List ℕ) (sent len : ℕ) → sent ≤ len → mid ≡ old ++ take sent block → take (len - sent) new ≡ slice_range block sent len → mid ++ take (len - sent) new ≡ old ++ take len block
+passed_on old mid block new sent len within passed moved =
+    let all : sent + (len - sent) ≡ len = omega arith in
+    ap (λ (xs : List ℕ). xs ++ take (len - sent) new) passed ∙ append_assoc old (take sent block) _
+    ∙ ap (λ (xs : List ℕ). old ++ (take sent block ++ xs)) moved
+    ∙ ap (λ (xs : List ℕ). old ++ xs) (sym (take-add sent (len - sent) block) ∙ ap (λ (n : ℕ). take n block) all)
+
+-- a text of which nothing was taken
+pub none_taken : (old new text : List ℕ) → 0 < length text → new ≡ old → IsCutShort text (since old new)
+none_taken old new [] some same = absurd (omega (arith, some))
+none_taken old new (byte ∷ rest) some same = (byte, rest, ap (λ (xs : List ℕ). xs ++ byte ∷ rest) (sym (since_is old new [] (same ∙ sym (append-nil old)))))

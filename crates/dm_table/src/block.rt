@@ -1,0 +1,97 @@
+//! Parts of a text put into a block of bytes, one after the other.
+//!
+//! Each says what the block holds up to its end, so the parts of a line add up. What stands after
+//! the end is free: a room of a fixed size is copied whole, past the end of its text, since such a
+//! copy is the cheapest.
+
+ghost use Rattle.std.specs.Prelude.{◌≡◌, ◌++◌, ◌+◌, ◌<◌, ◌≤◌, length, take, drop, decimal};
+
+use crate::number_text::MOST_DIGITS;
+
+/// Copies bytes to a place of a block.
+#[inline(always)]
+fn copy_to(block: &mut [u8], at: usize, bytes: &[u8])
+    requires within { at + length bytes.now ≤ length block.old }
+    ensures before { take at block.new ≡ take at block.old }
+    ensures bytes { drop at block.new ≡ bytes.now ++ drop (at + length bytes.now) block.old }
+{
+    block[at..at + bytes.len()].copy_from_slice(bytes);
+}
+
+/// Copies a room to a place of a block, and returns where the text ends that the room begins with.
+#[tactic(auto, using(crate::proofs::BlockLemmas::room_front))]
+#[inline(always)]
+pub fn put_room<const ROOM: usize>(
+    block: &mut [u8],
+    at: usize,
+    room: &[u8; ROOM],
+    len: usize,
+) -> usize
+    requires within { at + ROOM ≤ length block.old }
+    requires text { len ≤ ROOM }
+    ensures end { result ≡ at + len }
+    ensures text { take result block.new ≡ take at block.old ++ take len room.now }
+{
+    copy_to(block, at, room);
+    at + len
+}
+
+/// Puts bytes at a place of a block, and returns where they end.
+#[tactic(auto, using(crate::proofs::BlockLemmas::bytes_front))]
+#[inline(always)]
+pub fn put_bytes(block: &mut [u8], at: usize, bytes: &[u8]) -> usize
+    requires { at + length bytes.now ≤ length block.old }
+    ensures end { result ≡ at + length bytes.now }
+    ensures text { take result block.new ≡ take at block.old ++ bytes.now }
+{
+    copy_to(block, at, bytes);
+    at + bytes.len()
+}
+
+/// Puts a number at a place of a block, in decimal digits, and returns where they end.
+///
+/// They are counted first and then written where they belong.
+#[inline(always)]
+pub fn put_digits(block: &mut [u8], at: usize, number: u64) -> usize
+    requires { at + MOST_DIGITS ≤ length block.old }
+    ensures end { result ≡ at + length (decimal number) }
+    ensures few { result ≤ at + MOST_DIGITS }
+    ensures text { take result block.new ≡ take at block.old ++ decimal number }
+{
+    let end = at + count_digits(number);
+    let _start = itoa::write_digits(number, block, end);
+    end
+}
+
+/// How many digits a number has.
+#[inline(always)]
+fn count_digits(number: u64) -> usize
+    ensures { result ≡ length (decimal number) }
+{
+    let mut left = number;
+    let mut count = 0;
+    'fours: while left >= 10_000 {
+        left /= 10_000;
+        count += 4;
+    }
+    count + few_digits(left)
+}
+
+/// How many digits a number of at most four has.
+#[inline(always)]
+fn few_digits(number: u64) -> usize
+    requires { number < 10000 }
+    ensures digits { result ≡ length (decimal number) }
+    ensures few { result ≤ 4 }
+{
+    if number < 10 {
+        return 1;
+    }
+    if number < 100 {
+        return 2;
+    }
+    if number < 1000 {
+        return 3;
+    }
+    4
+}

@@ -1,0 +1,33 @@
+//! What is gathered for a writer of std: when it is passed on, and what a fault leaves.
+//!
+//! A row says what each call of a fake does, and how many calls it had after what was gathered was
+//! handed on, and after a flush.
+
+use super::counted::{Fake, Step};
+use dm_table::{Counted, Gathered, Output, write_all};
+use std::cell::Cell;
+
+#[test]
+fn passes_on_once(rt: HostRuntime) {
+    for (script, handed_on, flushed, succeeds) in [
+        ([Step::Moves(5), Step::Moves(0), Step::Fails, Step::Fails], 1, 2, true),
+        ([Step::Moves(3), Step::Moves(2), Step::Moves(0), Step::Fails], 2, 3, true),
+        // What could not be handed on stays gathered, and is no fault yet.
+        ([Step::Moves(3), Step::Fails, Step::Moves(2), Step::Moves(0)], 2, 4, true),
+        ([Step::Moves(3), Step::Fails, Step::Moves(1), Step::Fails], 2, 4, false),
+        ([Step::Moves(3), Step::Moves(0), Step::Moves(2), Step::Fails], 2, 4, false),
+        ([Step::Fails, Step::Fails, Step::Moves(5), Step::Moves(0)], 1, 2, false),
+    ] {
+        let calls = Cell::new(0);
+        let mut output = Gathered::new(Counted::new(Fake {
+            script: &script,
+            calls: &calls,
+        }));
+        assert!(rt; write_all(&mut output, &[1, 2, 3, 4, 5]).is_ok(), "gathered");
+        assert_eq!(rt; calls.get(), 0, "calls while there is room");
+        output.hand_on();
+        assert_eq!(rt; calls.get(), handed_on, "calls after {handed_on} to hand on");
+        assert_eq!(rt; output.flush().is_ok(), succeeds, "a flush after {handed_on}");
+        assert_eq!(rt; calls.get(), flushed, "calls after a flush");
+    }
+}

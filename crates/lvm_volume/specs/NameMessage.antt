@@ -1,0 +1,21 @@
+-- The messages of names that are not built, or have no parts.
+use Rattle.std.specs.Prelude.{ℕ, List, ◌++◌, codes}
+use Rattle.dm_table.specs.LoadMessage.{memory_message}
+use Rattle.lvm_volume.specs.declared.fault.NameFault.{NameFault}
+use Rattle.lvm_volume.specs.declared.fault.NameFault.TheVariants.{Letter, HyphenFirst, Empty, Long, Memory}
+
+-- a message about a name, with this word
+abbrev pub name_refusal : List ℕ → List ℕ
+name_refusal word = codes "dmremap: name: " ++ word ++ codes "\n"
+
+-- the message of a name that was not built
+abbrev pub name_message : NameFault → List ℕ
+name_message Letter = name_refusal (codes "letter")
+name_message HyphenFirst = name_refusal (codes "hyphen")
+name_message Empty = name_refusal (codes "empty")
+name_message Long = name_refusal (codes "long")
+name_message Memory = memory_message
+
+-- the message of a name that no parts build
+abbrev pub split_message : List ℕ
+split_message = name_refusal (codes "split")

@@ -1,0 +1,143 @@
+"""The commands that print: tables in both forms, and names of volumes. No request is read."""
+
+import os
+
+from backups import BACKUP
+from harness import failing_input
+
+TABLE = "a: 0 8 linear sda 0 \nb: 0 8 zero\nb: 8 16 striped 2 4 /dev/mapper/a 0 sda 8\n"
+DISKS = "sda 16\n"
+UNWRITTEN = "dmremap: output: write\n"
+
+# What is printed in each form, of these tables and of the backup.
+TABLES = [
+    ("table", "a: 0 8 linear sda 0\nb: 0 8 zero\nb: 8 16 striped 2 4 /dev/mapper/a 0 sda 8\n"),
+    ("concise", "a,,,rw,0 8 linear sda 0;b,,,rw,0 8 zero,8 16 striped 2 4 /dev/mapper/a 0 sda 8\n"),
+]
+GROUP = [
+    ("table", "vg0-home: 0 81920 linear /dev/sda1 2048\n"
+              "vg0-home: 81920 163840 striped 2 128 /dev/sda1 83968 /dev/sdb1 2048\n"
+              "vg0-archive--2025: 0 8192 linear /dev/sdb1 83968\n"),
+    ("concise", "vg0-home,,,rw,0 81920 linear /dev/sda1 2048,"
+                "81920 163840 striped 2 128 /dev/sda1 83968 /dev/sdb1 2048;"
+                "vg0-archive--2025,,,ro,0 8192 linear /dev/sdb1 83968\n"),
+]
+
+# A group of one volume, line by line, and a second volume in place of its line 24.
+ONE = '''\
+contents = "Text Format Volume Group"
+version = 1
+vg0 {
+  extent_size = 8192
+  physical_volumes {
+    pv0 {
+      device = "/dev/sda1"
+      dev_size = 1050624
+      pe_start = 2048
+      pe_count = 128
+    }
+  }
+  logical_volumes {
+    lv0 {
+      status = ["READ", "WRITE", "VISIBLE"]
+      segment_count = 1
+      segment1 {
+        start_extent = 0
+        extent_count = 25
+        type = "striped"
+        stripe_count = 1
+        stripes = ["pv0", 0]
+      }
+    }
+  }
+}
+'''.splitlines(keepends=True)
+SECOND = '''\
+    lv-1 {
+      status = ["READ"]
+      segment_count = 1
+      segment1 {
+        start_extent = 0
+        extent_count = 4
+        type = "striped"
+        stripe_count = 2
+        stripe_size = 128
+        stripes = ["pv0", 25, "pv0", 27]
+      }
+    }
+'''.splitlines(keepends=True)
+TWO = ONE[:24] + SECOND + ONE[24:]
+
+# Groups, and what `table` prints of them or tells.
+GROUPS = [
+    ("one volume", ONE, "vg0-lv0: 0 204800 linear /dev/sda1 2048\n", ""),
+    ("two volumes", TWO, "vg0-lv0: 0 204800 linear /dev/sda1 2048\n"
+                         "vg0-lv--1: 0 32768 striped 2 128 /dev/sda1 206848 /dev/sda1 223232\n", ""),
+    ("an extent that two volumes use", TWO[:33] + ['stripes = ["pv0", 24, "pv0", 27]\n'] + TWO[34:], "",
+     "extents at 28"),
+    ("extents past the end of their disk", ONE[:7] + ["dev_size = 1050623\n"] + ONE[8:], "", "extents at 6"),
+    ("a decimal", ONE[:1] + ["version = 1.0\n"] + ONE[2:], "", "syntax at 2"),
+    ("a missing bracket", ONE[:25], "", "syntax at 26"),
+]
+
+# Words, and what is printed of them or told.
+NAMES = [
+    (["name", "a-", "b"], "a---b\n", ""),
+    (["name", "vg0", "lv-1", "real"], "vg0-lv--1-real\n", ""),
+    (["name", "a" * 63, "b" * 63], "a" * 63 + "-" + "b" * 63 + "\n", ""),
+    (["name", "a" * 64, "b" * 63], "", "long"),
+    (["name", "--", "a", "-b"], "", "hyphen"),
+    (["name", "a", "b", "_c"], "", "letter"),
+    (["name", "a", ""], "", "empty"),
+    (["splitname", "a---b"], "a- b\n", ""),
+    (["splitname", "a-b--c-d"], "a b-c d\n", ""),
+    (["splitname", "a-----b"], "a-- b\n", ""),
+    (["splitname", "a--b"], "", "split"),
+    (["splitname", "a-b-c-d"], "", "split"),
+    (["splitname", "a-b-_c"], "", "split"),
+    (["splitname", "--", "-a-b"], "", "split"),
+]
+
+
+def check(tally, program):
+    files = ["table", program.file("table", TABLE), program.file("disks", DISKS)]
+    backup = ["lvm", program.file("backup", BACKUP)]
+    for given, printed in ((files, TABLES), (backup, GROUP)):
+        for form, text in printed:
+            tally.same("%s of %s" % (form, given[0]), program.run([form] + given, given="bad\n"), 0, text)
+    check_groups(tally, program)
+    for words, text, word in NAMES:
+        message = "dmremap: name: %s\n" % word if word else ""
+        tally.same(" ".join(words), program.run(words), 1 if word else 0, text, message)
+    check_streams(tally, program, ["table"] + files)
+    printed = program.run(["table"] + backup).out
+    disks = "/dev/sda1 1050624\n/dev/sdb1 1050624\n"
+    again = ["table", program.file("again", printed), program.file("disks", disks)]
+    tally.same("a printed table, read again", program.run(["table"] + again), 0, printed)
+
+
+def check_groups(tally, program):
+    for name, lines, text, refused in GROUPS:
+        path = program.file("backup", "".join(lines))
+        message = "dmremap: source: %s\n" % refused if refused else ""
+        tally.same("table of " + name, program.run(["table", "lvm", path]), 1 if refused else 0, text, message)
+
+
+def check_streams(tally, program, words):
+    """Files that can't be read, and streams that fail or are closed."""
+    text = TABLES[0][1]
+    missing = words[:2] + [os.path.join(program.room, "missing")] + words[3:]
+    tally.same("table of a missing file", program.run(missing), 1, "", "dmremap: source: read\n")
+    missing = words[:3] + [program.room]
+    tally.same("table with a folder as its disks", program.run(missing), 1, "", "dmremap: disks: read\n")
+    requests = failing_input("R a")
+    tally.same("table, with requests that would fail", program.run(words, stdin=requests), 0, text)
+    os.close(requests)
+    tally.same("table, with a closed input", program.run(words, before=lambda: os.close(0)), 0, text)
+    for name, asked in (("table", words), ("name", ["name", "a", "b"]), ("splitname", ["splitname", "a-b"])):
+        with open("/dev/full", "wb") as full:
+            tally.same("a full output, " + name, program.run(asked, stdout=full), 5, "", UNWRITTEN)
+        tally.same("a closed output, " + name, program.run(asked, before=lambda: os.close(1)), 5, "", UNWRITTEN)
+    with open("/dev/full", "wb") as full:
+        empty = ["table", "table", program.file("empty"), program.file("empty")]
+        tally.same("a full output, no tables", program.run(empty, stdout=full))
