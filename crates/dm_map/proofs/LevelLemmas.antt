@@ -22,7 +22,7 @@ use Rattle.dm_stack.specs.declared.found.FoundLine.{FoundLine}
 use Rattle.dm_stack.specs.declared.found.FoundTarget.{FoundTarget}
 use Rattle.dm_stack.specs.declared.found.FoundTarget.TheVariants as founds
 use Rattle.dm_stack.specs.Description.{Description, is_ro_at, lower_of, ref_link, line_links, device_links, links, lines_or_none}
-use Rattle.dm_stack.specs.Span.{Span, column_span, target_spans}
+use Rattle.dm_stack.specs.Span.{Span, column_span, target_spans, whole_span}
 use Rattle.dm_stack.specs.Graph.{links_of, greatest, depth_to}
 use Rattle.dm_stack.specs.declared.found.FoundSnapshot.{FoundSnapshot}
 use Rattle.dm_stack.specs.Below.{Below, Lies, IsZero, IsError, below, below_line, below_stripes, below_target, below_column, column_of, in_column, found_line, found_target, found_columns, found_at, holds, line_of}
@@ -30,8 +30,8 @@ use Rattle.dm_stack.specs.Soundness.{IsSound, faults_at, depth_of}
 use Rattle.dm_stack.proofs.Passes.{all_parts, passes_after}
 use Rattle.dm_stack.proofs.SoundLines.{found}
 use Rattle.dm_map.specs.Units.{BlockUnit, Zeros, Drops, Fails}
-use Rattle.dm_map.specs.Snapshots.{read_over}
-use Rattle.dm_map.specs.State.{State, taken_at}
+use Rattle.dm_map.specs.Snapshots.{number_in, read_numbered, read_over}
+use Rattle.dm_map.specs.State.{State, Taken, taken_at}
 use Rattle.dm_map.specs.Steps.{Step, keep}
 use Rattle.dm_map.specs.Reads.{by_below, read_below, read_unit}
 use Rattle.dm_map.specs.Mapping.{write_line, write_target, write_step, IsFreeOfLevels}
@@ -67,13 +67,30 @@ unfolding OnBelow
 on_column P columns i sector None each e = tt
 on_column P columns i sector (Some column) each e = at_place (λ c. OnLower P c.to) columns i column each e
 
-on_target : (over : FoundSnapshot → ℕ → Below) (stack : Description) (P : ℕ → Type 0) (len : ℕ) (target : Target) (distance : ℕ) → AllByRecursion P (span_links stack (target_spans len target)) → OnBelow P (below_target over (found_target stack target) distance)
+-- a snapshot goes on in its store or its origin, where it goes on
+GoesOn : (over : FoundSnapshot → ℕ → Below) (P : ℕ → Type 0) → Type 0
+GoesOn over P = (snapshot : FoundSnapshot) (sector : ℕ) → OnLower P snapshot.store → OnLower P snapshot.origin → OnBelow P (over snapshot sector)
+
+over_by : (P : ℕ → Type 0) (snapshot : FoundSnapshot) (sector : ℕ) (valid : Bool) (number : Option ℕ) → OnLower P snapshot.store → OnLower P snapshot.origin → OnBelow P (cond valid (read_numbered snapshot number sector) IsError)
 unfolding OnBelow
-on_target over stack P len (targets.Linear to offset) distance each = on_ref stack P to (all_parts P (ref_link stack to) [] each).0
-on_target over stack P len (targets.Striped chunk columns) distance each =
+over_by P snapshot sector false number store origin = tt
+over_by P snapshot sector true None store origin = origin
+over_by P snapshot sector true (Some number) store origin = store
+
+over_read : (P : ℕ → Type 0) (taken : Taken) → GoesOn (read_over taken) P
+unfolding GoesOn
+over_read P taken snapshot sector store origin = over_by P snapshot sector taken.valid (number_in (sector / snapshot.chunk) taken.chunks) store origin
+
+on_target : (over : FoundSnapshot → ℕ → Below) (stack : Description) (P : ℕ → Type 0) (len : ℕ) (target : Target) (distance : ℕ) → GoesOn over P → AllByRecursion P (span_links stack (target_spans len target)) → OnBelow P (below_target over (found_target stack target) distance)
+unfolding OnBelow GoesOn
+on_target over stack P len (targets.Linear to offset) distance on each = on_ref stack P to (all_parts P (ref_link stack to) [] each).0
+on_target over stack P len (targets.Striped chunk columns) distance on each =
     on_column P (found_columns stack columns) (column_of chunk (length (found_columns stack columns)) distance) (in_column chunk (length (found_columns stack columns)) distance) _ (on_columns stack P (len / length columns) columns each) refl
-on_target over stack P len targets.Zero distance each = tt
-on_target over stack P len targets.Error distance each = tt
+on_target over stack P len targets.Zero distance on each = tt
+on_target over stack P len targets.Error distance on each = tt
+on_target over stack P len (targets.Snapshot origin store chunk) distance on each =
+    let store_first = all_parts P (ref_link stack store) (span_links stack (whole_span origin true ∷ [])) each in
+    on (record { origin = lower_of stack origin; store = lower_of stack store; chunk = chunk }) distance (on_ref stack P store store_first.0) (on_ref stack P origin (all_parts P (ref_link stack origin) [] store_first.1).0)
 
 on_lines : (stack : Description) (P : ℕ → Type 0) (lines : List Line) → AllByRecursion P (flat_map (line_links stack) lines) → AllByRecursion (λ line. AllByRecursion P (line_links stack line)) lines
 on_lines stack P [] each = tt
@@ -81,22 +98,22 @@ on_lines stack P (line ∷ lines) each =
     let parts = all_parts P (line_links stack line) (flat_map (line_links stack) lines) each in
     (parts.0, on_lines stack P lines parts.1)
 
-on_line : (over : FoundSnapshot → ℕ → Below) (stack : Description) (P : ℕ → Type 0) (lines : List Line) (sector : ℕ) (line : Option Line) → AllByRecursion (λ l. AllByRecursion P (line_links stack l)) lines → line_of lines sector ≡ line → OnBelow P (below_line over (option_map (found_line stack) line) sector)
+on_line : (over : FoundSnapshot → ℕ → Below) (stack : Description) (P : ℕ → Type 0) (lines : List Line) (sector : ℕ) (line : Option Line) → GoesOn over P → AllByRecursion (λ l. AllByRecursion P (line_links stack l)) lines → line_of lines sector ≡ line → OnBelow P (below_line over (option_map (found_line stack) line) sector)
 unfolding OnBelow
-on_line over stack P lines sector None each e = tt
-on_line over stack P lines sector (Some line) each e =
-    on_target over stack P line.len line.target (sector - line.start) (found (λ l. AllByRecursion P (line_links stack l)) (holds sector) lines line each e).1
+on_line over stack P lines sector None on each e = tt
+on_line over stack P lines sector (Some line) on each e =
+    on_target over stack P line.len line.target (sector - line.start) on (found (λ l. AllByRecursion P (line_links stack l)) (holds sector) lines line each e).1
 
-on_device : (over : FoundSnapshot → ℕ → Below) (stack : Description) (P : ℕ → Type 0) (device sector : ℕ) (spec : Option DeviceSpec) → slice_get stack.devices device ≡ spec → AllByRecursion P (links_of (links stack) device) → OnBelow P (below_line over (option_map (found_line stack) (line_of (lines_or_none spec) sector)) sector)
+on_device : (over : FoundSnapshot → ℕ → Below) (stack : Description) (P : ℕ → Type 0) (device sector : ℕ) (spec : Option DeviceSpec) → GoesOn over P → slice_get stack.devices device ≡ spec → AllByRecursion P (links_of (links stack) device) → OnBelow P (below_line over (option_map (found_line stack) (line_of (lines_or_none spec) sector)) sector)
 unfolding OnBelow
-on_device over stack P device sector None e each = tt
-on_device over stack P device sector (Some spec) e each =
+on_device over stack P device sector None on e each = tt
+on_device over stack P device sector (Some spec) on e each =
     let is : slice_get (links stack) device ≡ Some (device_links stack spec) = slice_get-map (device_links stack) stack.devices device ∙ ap (option_map (device_links stack)) e in
     let named : links_of (links stack) device ≡ device_links stack spec = get_or_from_slice_get (links stack) device (device_links stack spec) [] is in
-    on_line over stack P spec.lines sector (line_of spec.lines sector) (on_lines stack P spec.lines (subst (AllByRecursion P) named each)) refl
+    on_line over stack P spec.lines sector (line_of spec.lines sector) on (on_lines stack P spec.lines (subst (AllByRecursion P) named each)) refl
 
-on_below : (over : FoundSnapshot → ℕ → Below) (stack : Description) (P : ℕ → Type 0) (device sector : ℕ) → AllByRecursion P (links_of (links stack) device) → OnBelow P (below over stack device sector)
-on_below over stack P device sector each = on_device over stack P device sector (slice_get stack.devices device) refl each
+on_below : (over : FoundSnapshot → ℕ → Below) (stack : Description) (P : ℕ → Type 0) (device sector : ℕ) → GoesOn over P → AllByRecursion P (links_of (links stack) device) → OnBelow P (below over stack device sector)
+on_below over stack P device sector on each = on_device over stack P device sector (slice_get stack.devices device) on refl each
 
 -- What a device names is less deep
 
@@ -136,7 +153,7 @@ same_read stack state (suc n) zero k (Device device) sector h = absurd (some_lev
 same_read stack state (suc n) (suc j) zero (Device device) sector h = absurd (some_level (links stack) n j device h.second)
 same_read stack state (suc n) (suc j) (suc k) (Device device) sector h =
     same_below (IsShallow (links stack) n j k) (read_below stack state device sector) Zeros Fails (λ to s. read_unit stack state j to s) (λ to s. read_unit stack state k to s)
-    (on_below (read_over (taken_at state device)) stack (IsShallow (links stack) n j k) device sector (named_shallow (links stack) n j k device h)) (λ to s on. same_read stack state n j k to s on)
+    (on_below (read_over (taken_at state device)) stack (IsShallow (links stack) n j k) device sector (over_read (IsShallow (links stack) n j k) (taken_at state device)) (named_shallow (links stack) n j k device h)) (λ to s on. same_read stack state n j k to s on)
 
 same_target : (P : ℕ → Type 0) (stack : Description) (state : State) (device : ℕ) (target : FoundTarget) (distance : ℕ) (f h : Lower → State → ℕ → Step) → OnBelow P (below_target (read_over (taken_at state device)) target distance) → ((to : Lower) (s : ℕ) → OnLower P to → f to state s ≡ h to state s)
     → write_target stack state device target distance f ≡ write_target stack state device target distance h
@@ -162,7 +179,7 @@ same_write stack (suc n) (suc j) zero (Device device) state sector h = absurd (s
 same_write stack (suc n) (suc j) (suc k) (Device device) state sector h =
     ap (λ (step : Step). cond (is_ro_at stack device) (keep (Fails ∷ []) state) step)
     (same_line (IsShallow (links stack) n j k) stack state device (found_at stack device sector) sector (λ to after s. write_step stack j to after s) (λ to after s. write_step stack k to after s)
-    (on_below (read_over (taken_at state device)) stack (IsShallow (links stack) n j k) device sector (named_shallow (links stack) n j k device h)) (λ to s on. same_write stack n j k to state s on))
+    (on_below (read_over (taken_at state device)) stack (IsShallow (links stack) n j k) device sector (over_read (IsShallow (links stack) n j k) (taken_at state device)) (named_shallow (links stack) n j k device h)) (λ to s on. same_write stack n j k to state s on))
 
 -- A sound stack is nowhere too deep
 

@@ -1,21 +1,33 @@
 -- The state of tables, and the places that are left in them.
-use Rattle.std.proofs.Common.{◌≡◌, ℕ, zero, suc, ◌+◌, ◌<◌, ◌≤◌, Bool, true, false, cond, not, List, [], ◌∷◌, ◌++◌, Option, Some, None, length, get_or, set, replicate, nat_lt, refl, sym, ap, subst, ◌∙◌, inl, inr, arith}
-use Rattle.std.specs.Prelude.{◌==◌, option_map, slice_get, IfSome}
-use Rattle.std.proofs.lemmas.List.{replicate-append-replicate}
-use Rattle.std.proofs.lemmas.Option.{slice_get_read}
-use Rattle.std.proofs.lemmas.Bool.{cases_eq, eq-eqb, ne_eqb, lt-ltb, le-ltb}
+use Rattle.std.proofs.Common.{◌≡◌, ◌↔◌, ℕ, zero, suc, ◌+◌, ◌*◌, ◌<◌, ◌≤◌, Bool, true, false, cond, not, List, [], ◌∷◌, ◌++◌, Option, Some, None, length, get_or, set, drop, drop-cons, replicate, nat_eq, nat_lt, refl, sym, ap, subst, ◌∙◌, inl, inr, arith}
+use Rattle.std.specs.Prelude.{◌==◌, filter, find, is_none, option_map, slice_get, IfSome}
+use Rattle.std.specs.List.{AllByRecursion, list_any, position_or_len, range_with_len}
+use Rattle.std.proofs.lemmas.Bool.{cases_eq, eq-eqb, leb-true, le-leb, ne_eqb, lt-ltb, le-ltb, ltb-true, ltb_from_iff, or_left, or_parts, or_right}
+use Rattle.std.proofs.lemmas.List.{get_or-replicate, length-set, replicate-append-replicate, set-get_or}
+use Rattle.std.proofs.lemmas.Option.{slice_get_read, slice_get_within}
+use Rattle.dm_table.specs.declared.load_fault.LoadKind.TheVariants.{Unknown}
+use Rattle.dm_table.specs.declared.table.DevRef.{DevRef}
+use Rattle.dm_table.specs.declared.table.DevRef.TheVariants as refs
+use Rattle.dm_table.specs.declared.table.DeviceSpec.{DeviceSpec}
 use Rattle.dm_table.specs.declared.table.Line.{Line}
 use Rattle.dm_table.specs.declared.table.Target.{Target}
 use Rattle.dm_table.specs.declared.table.Target.TheVariants as targets
 use Rattle.dm_stack.specs.declared.found.FoundLine.{FoundLine}
 use Rattle.dm_stack.specs.declared.found.FoundSnapshot.{FoundSnapshot}
+use Rattle.dm_stack.specs.declared.found.FoundTarget.{FoundTarget}
 use Rattle.dm_stack.specs.declared.found.FoundTarget.TheVariants as founds
-use Rattle.dm_stack.specs.Below.{found_at, found_line, found_target, line_of}
-use Rattle.dm_stack.specs.Description.{Description, lines_at}
+use Rattle.dm_stack.specs.Below.{found_at, found_line, found_target, holds, line_of}
+use Rattle.dm_stack.specs.Description.{Description, device_id, disk_id, is_same, lines_at, lines_or_none, lower_len, lower_of}
+use Rattle.dm_stack.specs.Loaded.{has_snapshot, is_snapshot, snapshots}
+use Rattle.dm_stack.specs.Places.{place}
+use Rattle.dm_stack.specs.Soundness.{IsSound, all_lines, is_unknown, is_unknown_ref}
+use Rattle.dm_stack.specs.Span.{target_spans, whole_span}
+use Rattle.dm_stack.proofs.Passes.{faults_by_none, passes_before}
+use Rattle.dm_stack.proofs.SoundLines.{device_some, disk_some, found, of_device, there}
 use Rattle.dm_map.specs.Snapshots.{number_in}
-use Rattle.dm_map.specs.SnapshotWrites.{lost, put}
-use Rattle.dm_map.specs.State.{State, none_taken, taken_at}
-use Rattle.dm_map.specs.Tables.{AreTables, has_room, snapshot_in, snapshot_of, state_of}
+use Rattle.dm_map.specs.SnapshotWrites.{lost, put, with_chunk}
+use Rattle.dm_map.specs.State.{State, Taken, none_taken, taken_at}
+use Rattle.dm_map.specs.Tables.{AreTables, has_room, room_of, snapshot_in, snapshot_of, state_of}
 
 -- One table
 
@@ -39,6 +51,36 @@ number_within chunk (first ∷ rest) number is = number_after (first == chunk) (
     number_after true later len number within is = let first : 0 ≡ number = cc in omega (arith, first)
     number_after false None len number within is = absurd cc
     number_after false (Some n) len number within is = let next : suc n ≡ number = cc in omega (arith, within n refl, next)
+
+pub each_set : {T : Type 0} (P : ℕ → T → Type 0) (tables : List T) (device : ℕ) (new : T) → ((other : ℕ) (table : T) → (other ≡ device → ⊥) → slice_get tables other ≡ Some table → P other table) → P device new
+    → (other : ℕ) (table : T) → slice_get (set tables device new) other ≡ Some table → P other table
+each_set P [] device new each last other table is = absurd cc
+each_set P (first ∷ rest) zero new each last zero table is = let same : new ≡ table = cc in subst (P 0) same last
+each_set P (first ∷ rest) zero new each last (suc other) table is = each (suc other) table (λ e. absurd (omega (arith, e))) is
+each_set P (first ∷ rest) (suc device) new each last zero table is = each zero table (λ e. absurd (omega (arith, e))) is
+each_set P (first ∷ rest) (suc device) new each last (suc other) table is =
+    each_set (λ d t. P (suc d) t) rest device new (λ o t differ found. each (suc o) t (λ e. differ (omega (arith, e))) found) last other table is
+
+pub took_put : {T : Type 0} (chunks : T → List ℕ) (valid : T → Bool) (tables : List T) (device index chunk : ℕ) (table new : T) → index ≡ device → slice_get tables device ≡ Some table → (taken_at (state_of chunks valid tables) device).valid ≡ true → chunks new ≡ chunks table ++ chunk ∷ [] → valid new ≡ true
+    → state_of chunks valid (set tables index new) ≡ put (state_of chunks valid tables) device (with_chunk (taken_at (state_of chunks valid tables) device) chunk)
+took_put chunks valid tables device index chunk table new same got good more on =
+    let kept = state_at chunks valid tables device table got in
+    let before : valid table ≡ true = ap (λ (taken : Taken). taken.valid) (sym kept) ∙ good in
+    rw same (state_set chunks valid tables device new ∙ rw (kept, more, on, before) refl)
+
+pub take_room : {T : Type 0} (chunks : T → List ℕ) (valid : T → Bool) (places : T → ℕ) (stack : Description) (tables : List T) (device : ℕ) (table : T) → AreTables places stack tables → slice_get tables device ≡ Some table
+    → has_room stack device (length (taken_at (state_of chunks valid tables) device).chunks) ≡ true → length (chunks table) < places table
+take_room chunks valid places stack tables device table are got room =
+    let kept = state_at chunks valid tables device table got in
+    ltb-true _ _ (are.room device (length (chunks table)) table got ∙ ap (λ (taken : Taken). has_room stack device (length taken.chunks)) (sym kept) ∙ room)
+
+pub tables_set : {T : Type 0} (places : T → ℕ) (stack : Description) (tables : List T) (device index : ℕ) (table new : T) → AreTables places stack tables → index ≡ device → slice_get tables device ≡ Some table → places new ≡ places table → AreTables places stack (set tables index new)
+tables_set places stack tables device index table new are same got kept = record {
+  count = length-set tables index new ∙ are.count;
+  room = λ other number t at.
+      each_set (λ o u. nat_lt number (places u) ≡ has_room stack o number) tables index new (λ o u differ found. are.room o number u found)
+      (rw same (ap (λ (n : ℕ). nat_lt number n) kept ∙ are.room device number table got)) other t at;
+}
 
 -- A list of tables that grows
 
@@ -84,25 +126,148 @@ pub lost_put : {T : Type 0} (chunks : T → List ℕ) (valid : T → Bool) (tabl
 lost_put chunks valid tables device index table new same got kept off =
     rw same (state_set chunks valid tables device new ∙ rw (state_at chunks valid tables device table got, kept, off) refl)
 
--- No line is a snapshot's
+-- nothing is taken in a new table
+pub state_new : {T : Type 0} (chunks : T → List ℕ) (valid : T → Bool) (tables : List T) (device count : ℕ) (new : T) → device < count → state_of chunks valid tables ≡ replicate count none_taken → chunks new ≡ [] → valid new ≡ true → state_of chunks valid (set tables device new) ≡ replicate count none_taken
+state_new chunks valid tables device count new there before nothing good =
+    state_set chunks valid tables device new ∙ rw (before, nothing, good) (ap (λ (taken : Taken). put (replicate count none_taken) device taken) (sym (get_or-replicate count device none_taken none_taken there)) ∙ set-get_or (replicate count none_taken) device none_taken)
 
-no_snapshot : (stack : Description) (target : Target) → snapshot_of (found_target stack target) ≡ None
-no_snapshot stack (targets.Linear to offset) = refl
-no_snapshot stack (targets.Striped chunk columns) = refl
-no_snapshot stack targets.Zero = refl
-no_snapshot stack targets.Error = refl
+-- A device that has no snapshot's line
 
-no_line : (stack : Description) (line : Option Line) → snapshot_in (option_map (found_line stack) line) ≡ None
-no_line stack None = refl
-no_line stack (Some line) = no_snapshot stack line.target
+plain_target : (stack : Description) (target : Target) → is_snapshot target ≡ false → snapshot_of (found_target stack target) ≡ None
+plain_target stack (targets.Linear to offset) e = refl
+plain_target stack (targets.Striped chunk columns) e = refl
+plain_target stack targets.Zero e = refl
+plain_target stack targets.Error e = refl
+plain_target stack (targets.Snapshot origin store chunk) e = absurd cc
 
-no_room : (stack : Description) (device number : ℕ) → has_room stack device number ≡ false
-no_room stack device number = rw (no_line stack (line_of (lines_at stack device) 0)) refl
+each_plain : (lines : List Line) → has_snapshot lines ≡ false → AllByRecursion (λ line. is_snapshot line.target ≡ false) lines
+each_plain [] e = tt
+each_plain (line ∷ lines) e = let parts = or_parts (is_snapshot line.target) (has_snapshot lines) e in (parts.0, each_plain lines parts.1)
 
-pub no_places : (stack : Description) (device number places : ℕ) → places ≡ 0 → nat_lt number places ≡ has_room stack device number
-no_places stack device number places none = rw none (le-ltb number 0 (omega arith) ∙ sym (no_room stack device number))
+plain_line : (stack : Description) (lines : List Line) (sector : ℕ) (line : Option Line) → has_snapshot lines ≡ false → line_of lines sector ≡ line → snapshot_in (option_map (found_line stack) line) ≡ None
+plain_line stack lines sector None e is = refl
+plain_line stack lines sector (Some line) e is = plain_target stack line.target (found (λ l. is_snapshot l.target ≡ false) (holds sector) lines line (each_plain lines e) is).1
 
-pub no_found : (stack : Description) (device sector : ℕ) (line : FoundLine) (snapshot : FoundSnapshot) → found_at stack device sector ≡ Some line → line.target ≡ founds.Snapshot snapshot → ⊥
-no_found stack device sector line snapshot is kind =
-    let none : snapshot_in (found_at stack device sector) ≡ None = no_line stack (line_of (lines_at stack device) sector) in
-    absurd (let some : snapshot_in (found_at stack device sector) ≡ Some snapshot = rw (is, kind) refl in cc)
+pub plain_room : (stack : Description) (device number : ℕ) → has_snapshot (lines_at stack device) ≡ false → has_room stack device number ≡ false
+plain_room stack device number e = rw (plain_line stack (lines_at stack device) 0 (line_of (lines_at stack device) 0) e refl) refl
+
+-- The snapshots of a stack
+
+picked : (f : ℕ → Bool) (a n x : ℕ) → a ≤ x → x < a + n → f x ≡ true → list_any (nat_eq x) (filter f (range_with_len a n)) ≡ true
+picked f a zero x from to good = absurd (omega (arith, from, to))
+picked f a (suc n) x from to good = elim (cases_eq x a) [
+  | inl same ↦ let here : f a ≡ true = subst (λ (y : ℕ). f y ≡ true) same good in rw here (or_left (nat_eq x a) _ (eq-eqb x a same))
+  | inr differ ↦ picked_later (f a) x a (filter f (range_with_len (a + 1) n)) (picked f (a + 1) n x (omega (arith, from, differ)) (omega (arith, to)) good)
+]
+  where
+    picked_later : (first : Bool) (x a : ℕ) (rest : List ℕ) → list_any (nat_eq x) rest ≡ true → list_any (nat_eq x) (cond first (a ∷ rest) rest) ≡ true
+    picked_later true x a rest later = or_right (nat_eq x a) _ later
+    picked_later false x a rest later = later
+
+not_picked : (f : ℕ → Bool) (n x : ℕ) (b : Bool) → x < n → f x ≡ b → list_any (nat_eq x) (filter f (range_with_len 0 n)) ≡ false → b ≡ false
+not_picked f n x true there is none = absurd (let some = picked f 0 n x (omega arith) (omega (arith, there)) is in cc)
+not_picked f n x false there is none = refl
+
+-- a device that is not among them has no place
+pub unlisted_room : (stack : Description) (device number : ℕ) → device < length stack.devices → list_any (nat_eq device) (snapshots stack) ≡ false → has_room stack device number ≡ false
+unlisted_room stack device number there none =
+    plain_room stack device number (not_picked (λ d. has_snapshot (lines_at stack d)) (length stack.devices) device (has_snapshot (lines_at stack device)) there refl none)
+
+-- they are devices of the stack
+picked_within : (f : ℕ → Bool) (a n i d : ℕ) → i < length (filter f (range_with_len a n)) → get_or (filter f (range_with_len a n)) i d < a + n
+picked_within f a zero i d within = absurd (omega (arith, within))
+picked_within f a (suc n) i d within = within_by (f a) a (a + suc n) (filter f (range_with_len (a + 1) n)) i d (omega arith) (λ j inside. let e : a + 1 + n ≡ a + suc n = omega arith in subst (λ (most : ℕ). get_or (filter f (range_with_len (a + 1) n)) j d < most) e (picked_within f (a + 1) n j d inside)) within
+  where
+    within_by : (first : Bool) (a most : ℕ) (rest : List ℕ) (i d : ℕ) → a < most → ((j : ℕ) → j < length rest → get_or rest j d < most) → i < length (cond first (a ∷ rest) rest) → get_or (cond first (a ∷ rest) rest) i d < most
+    within_by true a most rest zero d here later within = here
+    within_by true a most rest (suc i) d here later within = later i (omega (arith, within))
+    within_by false a most rest i d here later within = later i within
+
+pub snapshot_there : (stack : Description) (next d : ℕ) → next < length (snapshots stack) → get_or (snapshots stack) next d < length stack.devices
+snapshot_there stack next d within = let low = picked_within (λ device. has_snapshot (lines_at stack device)) 0 (length stack.devices) next d within in omega (arith, low)
+
+-- one that is none of the later ones, and not this one, is none of these
+pub not_yet : (ids : List ℕ) (next d device : ℕ) → next < length ids → (device ≡ get_or ids next d → ⊥) → list_any (nat_eq device) (drop (next + 1) ids) ≡ false → list_any (nat_eq device) (drop next ids) ≡ false
+not_yet ids next d device within differ later =
+    let e : suc next ≡ next + 1 = omega arith in
+    let rest : drop next ids ≡ get_or ids next d ∷ drop (next + 1) ids = drop-cons ids next d within ∙ ap (λ (k : ℕ). get_or ids next d ∷ drop k ids) e in
+    let both : list_any (nat_eq device) (get_or ids next d ∷ drop (next + 1) ids) ≡ false = rw (ne_eqb device (get_or ids next d) differ) later in
+    subst (λ (xs : List ℕ). list_any (nat_eq device) xs ≡ false) (sym rest) both
+
+-- The tables before the first snapshot is looked up, and after the next one
+
+pub first_rooms : {T : Type 0} (places : T → ℕ) (stack : Description) (tables : List T) → length tables ≡ length stack.devices → ((index : ℕ) (table : T) → slice_get tables index ≡ Some table → places table ≡ 0)
+    → (device number : ℕ) (table : T) → slice_get tables device ≡ Some table → list_any (nat_eq device) (snapshots stack) ≡ false → nat_lt number (places table) ≡ has_room stack device number
+first_rooms places stack tables count none device number table got unlisted =
+    let within = slice_get_within tables device table got in
+    let inside : device < length stack.devices = omega (arith, within, count) in
+    rw (none device table got) (le-ltb number 0 (omega arith) ∙ sym (unlisted_room stack device number inside unlisted))
+
+pub next_rooms : {T : Type 0} (places : T → ℕ) (stack : Description) (tables : List T) (next d index : ℕ) (new : T) → next < length (snapshots stack) → d ≡ get_or (snapshots stack) next d → index ≡ d → ((number : ℕ) → nat_lt number (places new) ≡ has_room stack d number)
+    → ((device number : ℕ) (table : T) → slice_get tables device ≡ Some table → list_any (nat_eq device) (drop next (snapshots stack)) ≡ false → nat_lt number (places table) ≡ has_room stack device number)
+    → (device number : ℕ) (table : T) → slice_get (set tables index new) device ≡ Some table → list_any (nat_eq device) (drop (next + 1) (snapshots stack)) ≡ false → nat_lt number (places table) ≡ has_room stack device number
+next_rooms places stack tables next d index new within is same room before device number table got later =
+    each_set (λ other t. list_any (nat_eq other) (drop (next + 1) (snapshots stack)) ≡ false → nat_lt number (places t) ≡ has_room stack other number) tables index new
+    (λ other t differ at unlisted. before other number t at (not_yet (snapshots stack) next d other within (λ e. differ (e ∙ sym is ∙ sym same)) unlisted))
+    (λ unlisted. subst (λ (x : ℕ). nat_lt number (places new) ≡ has_room stack x number) (sym same) (room number))
+    device table got later
+
+-- The places of a snapshot
+
+pub snapshot_room : (stack : Description) (device number count : ℕ) (line : FoundLine) (snapshot : FoundSnapshot) → found_at stack device 0 ≡ Some line → line.target ≡ founds.Snapshot snapshot → ((number < count) ↔ ((place snapshot.chunk number + 1) * snapshot.chunk ≤ lower_len stack snapshot.store)) → nat_lt number count ≡ has_room stack device number
+snapshot_room stack device number count line snapshot is kind law =
+    rw (is, kind) (sym (ltb_from_iff ((λ e. law.1 (leb-true _ _ e)), (λ less. le-leb _ _ (law.0 less)))))
+
+pub other_room : (stack : Description) (device number : ℕ) (line : FoundLine) → found_at stack device 0 ≡ Some line → ((snapshot : FoundSnapshot) → line.target ≡ founds.Snapshot snapshot → ⊥) → has_room stack device number ≡ false
+other_room stack device number line is other = rw (is, none_of line.target other) refl
+  where
+    none_of : (target : FoundTarget) → ((snapshot : FoundSnapshot) → target ≡ founds.Snapshot snapshot → ⊥) → snapshot_of target ≡ None
+    none_of (founds.Linear to offset) other = refl
+    none_of (founds.Striped chunk columns) other = refl
+    none_of founds.Zero other = refl
+    none_of founds.Error other = refl
+    none_of (founds.Snapshot snapshot) other = absurd (other snapshot refl)
+
+-- Its store is there
+
+known_at : (stack : Description) (device : ℕ) (spec : DeviceSpec) → IsSound stack → slice_get stack.devices device ≡ Some spec → AllByRecursion (λ line. is_unknown stack line ≡ false) spec.lines
+known_at stack device spec sound at =
+    of_device (λ line. is_unknown stack line ≡ false) stack.devices device spec (faults_by_none Unknown (λ line. line.at) (is_unknown stack) (all_lines stack.devices) (passes_before stack sound.before).known) at
+
+place_step : {X : Type 0} (x : X) (later : Option X) (place end : ℕ) (here : Bool) → is_none (cond here (Some x) later) ≡ false → (is_none later ≡ false → place < end) → cond (not here) (1 + place) 0 < suc end
+place_step x later place end true e more = omega arith
+place_step x later place end false e more = omega (arith, more e)
+
+place_before : {X : Type 0} (test : X → Bool) (xs : List X) → is_none (find test xs) ≡ false → position_or_len test xs < length xs
+place_before test [] e = absurd cc
+place_before test (x ∷ xs) e = place_step x (find test xs) (position_or_len test xs) (length xs) (test x) e (place_before test xs)
+
+lower_some : (stack : Description) (to : DevRef) → IsSound stack → is_unknown_ref stack to ≡ false → 0 < lower_len stack (lower_of stack to)
+lower_some stack (refs.Device name) sound known = device_some stack (device_id stack name) sound (place_before (λ device. is_same device.name name) stack.devices known)
+lower_some stack (refs.Disk name) sound known =
+    let it = there stack.disks (disk_id stack name) (place_before (λ disk. is_same disk.name name) stack.disks known) in
+    rw it.at (disk_some stack (disk_id stack name) it.it sound it.at)
+
+store_at : (stack : Description) (target : Target) (len : ℕ) (snapshot : FoundSnapshot) → IsSound stack → list_any (λ span. is_unknown_ref stack span.to) (target_spans len target) ≡ false → found_target stack target ≡ founds.Snapshot snapshot → 0 < lower_len stack snapshot.store
+store_at stack (targets.Linear to offset) len snapshot sound known is = absurd cc
+store_at stack (targets.Striped chunk columns) len snapshot sound known is = absurd cc
+store_at stack targets.Zero len snapshot sound known is = absurd cc
+store_at stack targets.Error len snapshot sound known is = absurd cc
+store_at stack (targets.Snapshot origin store chunk) len snapshot sound known is =
+    let same : record { origin = lower_of stack origin; store = lower_of stack store; chunk = chunk } ≡ snapshot = cc in
+    let parts = or_parts (is_unknown_ref stack store) (list_any (λ span. is_unknown_ref stack span.to) (whole_span origin true ∷ [])) known in
+    subst (λ (s : FoundSnapshot). 0 < lower_len stack s.store) same (lower_some stack store sound parts.0)
+
+store_in : (stack : Description) (lines : List Line) (sector : ℕ) (line : Option Line) (found_line_is : FoundLine) (snapshot : FoundSnapshot) → IsSound stack → AllByRecursion (λ l. is_unknown stack l ≡ false) lines → line_of lines sector ≡ line → option_map (found_line stack) line ≡ Some found_line_is
+    → found_line_is.target ≡ founds.Snapshot snapshot → 0 < lower_len stack snapshot.store
+store_in stack lines sector None it snapshot sound known is found_is kind = absurd cc
+store_in stack lines sector (Some line) it snapshot sound known is found_is kind =
+    let same : found_line stack line ≡ it = cc in
+    store_at stack line.target line.len snapshot sound (found (λ l. is_unknown stack l ≡ false) (holds sector) lines line known is).1 (ap (λ (l : FoundLine). l.target) same ∙ kind)
+
+store_of : (stack : Description) (device sector : ℕ) (spec : Option DeviceSpec) (line : FoundLine) (snapshot : FoundSnapshot) → IsSound stack → slice_get stack.devices device ≡ spec → option_map (found_line stack) (line_of (lines_or_none spec) sector) ≡ Some line → line.target ≡ founds.Snapshot snapshot → 0 < lower_len stack snapshot.store
+store_of stack device sector None line snapshot sound at is kind = absurd cc
+store_of stack device sector (Some spec) line snapshot sound at is kind = store_in stack spec.lines sector (line_of spec.lines sector) line snapshot sound (known_at stack device spec sound at) refl is kind
+
+pub store_some : (stack : Description) (device sector : ℕ) (line : FoundLine) (snapshot : FoundSnapshot) → IsSound stack → found_at stack device sector ≡ Some line → line.target ≡ founds.Snapshot snapshot → 0 < lower_len stack snapshot.store
+store_some stack device sector line snapshot sound is kind = store_of stack device sector (slice_get stack.devices device) line snapshot sound refl is kind

@@ -61,12 +61,12 @@ impl<'s, T: Taken> Mapper<'s, T> {
     /// # Errors
     ///
     /// `AllocError` where it is out of memory for its state.
-    pub fn new(alloc: Global, looker: Looker<'s>) -> Result<Mapper<'s, T>, AllocError>
+    pub fn new(alloc: Global, mut looker: Looker<'s>) -> Result<Mapper<'s, T>, AllocError>
         ensures stack { IfOk result (λ mapper. mapper.stack ≡ looker.entry.stack) }
         ensures state { IfOk result (λ mapper. mapper.state ≡ start_state looker.entry.stack) }
         ensures going { IfOk result (λ mapper. mapper.stopped ≡ false) }
     {
-        let tables = empty_tables(alloc, &looker)?;
+        let tables = empty_tables(alloc, &mut looker)?;
         Ok(Mapper {
             walker: Walker::new(looker, tables),
             stopped: false,

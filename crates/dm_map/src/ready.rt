@@ -56,8 +56,9 @@ pub(crate) fn make_ready<S: Sink, T: Taken>(
     if is_settled(walker, device, chunk) {
         return Ok(());
     }
+    let end = walker.len(device);
     let first = chunk * snapshot.chunk;
-    let count = snapshot.chunk.min(walker.len(device) - first);
+    let count = snapshot.chunk.min(end - first);
     if !can_take(walker, device, snapshot, first, count) {
         walker.invalidate(device);
         return Ok(());

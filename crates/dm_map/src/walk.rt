@@ -264,10 +264,7 @@ pub(crate) fn sector_at<T: Taken>(
     requires { offset + distance < lower_len walker.now.stack to }
     ensures { result ≡ offset + distance }
 {
-    let end = match to {
-        Lower::Device(device) => walker.len(device),
-        Lower::Disk(disk) => walker.disk_len(disk),
-    };
+    let end = walker.lower_len(to);
     prove!(offset <= end && distance < end - offset);
     offset + distance
 }

@@ -6,7 +6,7 @@
 
 ghost use Rattle.std.specs.Prelude.{◌≡◌, ℕ, ◌+◌, ◌<◌, ◌≤◌, ◌^◌, true, not, None, Some, IfSome, length};
 ghost use Rattle.dm_stack.specs.Below.{HoldsSoundly, found_at};
-ghost use Rattle.dm_stack.specs.Description.{device_len, disk_len, is_ro_at};
+ghost use Rattle.dm_stack.specs.Description.{device_len, is_ro_at, lower_len};
 ghost use Rattle.dm_stack.specs.Soundness.{IsSound};
 ghost use Rattle.dm_map.specs.SnapshotWrites.{lost, put, with_chunk};
 ghost use Rattle.dm_map.specs.Snapshots.{number_in};
@@ -14,7 +14,7 @@ ghost use Rattle.dm_map.specs.State.{taken_at};
 ghost use Rattle.dm_map.specs.Tables.{AreTables, has_room, state_of};
 
 use crate::taken::Taken;
-use dm_stack::{DeviceId, DiskId, Found, Looker};
+use dm_stack::{DeviceId, Found, Looker, Lower};
 use std::marker::Model;
 
 /// A stack, seen through its looker, and the state of its devices.
@@ -33,6 +33,19 @@ impl<'s, T: Taken> Model for Walker<'s, T> {
     ghost view = { λ walker. record { stack = walker.looker.stack; state = state_of T.chunks T.valid walker.tables.items } };
 
     ghost invariant = { λ walker. AreTables T.places walker.looker.stack walker.tables.items };
+}
+
+/// The length of a device or a disk of the looker's stack in sectors, from 1 to 2^50.
+#[inline(always)]
+pub(crate) fn lower_len(looker: &Looker<'_>, lower: Lower) -> u64
+    requires { 0 < lower_len looker.now.stack lower }
+    ensures len { result ≡ lower_len looker.now.stack lower }
+    ensures small { result ≤ 2 ^ 50 }
+{
+    match lower {
+        Lower::Device(device) => looker.len(device),
+        Lower::Disk(disk) => looker.disk_len(disk),
+    }
 }
 
 impl<'s, T: Taken> Walker<'s, T> {
@@ -69,15 +82,14 @@ impl<'s, T: Taken> Walker<'s, T> {
         self.looker.len(device)
     }
 
-    /// The length of a disk of the stack in sectors, from 1 to 2^50.
+    /// The length of a device or a disk of the stack in sectors, from 1 to 2^50.
     #[inline(always)]
-    pub(crate) fn disk_len(&self, disk: DiskId) -> u64
-        requires { disk < length self.now.stack.disks }
-        ensures len { result ≡ disk_len self.now.stack disk }
-        ensures some { 1 ≤ result }
+    pub(crate) fn lower_len(&self, lower: Lower) -> u64
+        requires { 0 < lower_len self.now.stack lower }
+        ensures len { result ≡ lower_len self.now.stack lower }
         ensures small { result ≤ 2 ^ 50 }
     {
-        self.looker.disk_len(disk)
+        lower_len(&self.looker, lower)
     }
 
     /// Whether a device of the stack is read-only.

@@ -60,8 +60,8 @@ fn a_stretch_is_the_first_piece_of_a_read(rt: HostRuntime) {
         let (start, len) = (request.start, request.len);
         let end = stack.len(device);
         assert!(&rt; start < end && len <= end - start, "inside");
-        let looker = stack.looker();
-        let tables: Vec<PlainTaken> = empty_tables(alloc, &looker).expect(&rt, "tables");
+        let mut looker = stack.looker();
+        let tables: Vec<PlainTaken> = empty_tables(alloc, &mut looker).expect(&rt, "tables");
         let mut walker = Walker::new(looker, tables);
         let stretch = first_stretch(&mut walker, MOST_DEPTH, Lower::Device(device), start, len);
         assert_eq!(&rt; stretch.len, want, "{line}");
