@@ -8,7 +8,7 @@ ghost use Rattle.dm_map.specs.Tables.{AreTables, has_room, state_of};
 
 use crate::taken::Taken;
 use crate::walker::lower_len;
-use dm_stack::{places, DeviceId, FoundTarget, Looker};
+use dm_stack::{DeviceId, FoundTarget, Looker, places};
 use std::alloc::{AllocError, Global};
 
 /// A table for each device of the looker's stack, with nothing taken: for a snapshot with the places
