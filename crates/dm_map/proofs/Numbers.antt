@@ -3,7 +3,8 @@ use Rattle.std.proofs.Common.{◌≡◌, ℕ, zero, suc, ◌+◌, ◌-◌, ◌*�
 use Rattle.std.specs.List.{AllByRecursion, IsDistinct}
 use Rattle.std.specs.Prelude.{◌==◌, option_map}
 use Rattle.std.proofs.lemmas.Bool.{eq-eqb, ne_eqb}
-use Rattle.std.proofs.lemmas.Nat.{div-add-mod', mod-mul-add}
+use Rattle.std.proofs.Math.Nat.{mul-le-mul_right}
+use Rattle.std.proofs.lemmas.Nat.{div-add-mod', div-mul-add, mod-mul-add}
 use Rattle.dm_stack.specs.Places.{is_metadata, place}
 use Rattle.dm_map.specs.Snapshots.{number_in}
 
@@ -79,3 +80,26 @@ place_data chunk i some =
     let first : (place chunk i == 0) ≡ false = ne_eqb (place chunk i) 0 (λ is. omega (arith, is)) in
     let later : ((place chunk i - 1) % (32 * chunk + 1) == 0) ≡ false = ne_eqb ((place chunk i - 1) % (e + 1)) 0 (λ is. omega (arith, is, rest)) in
     rw (first, later) refl
+
+-- the next place is the next chunk, or the one after an area
+quotient_next : (i e : ℕ) → 0 < e → suc i / e ≤ i / e + 1
+quotient_next i e some =
+    let whole : i / e * e + i % e ≡ i = div-add-mod' i e in
+    let small : i % e < e = omega (arith, some) in
+    let at : i + e ≡ (i / e + 1) * e + i % e = omega (arith, whole) in
+    let next : (i + e) / e ≡ i / e + 1 = ap (λ n. n / e) at ∙ div-mul-add (i / e + 1) e (i % e) small in
+    let low = quotient_le (suc i) (i + e) e (omega (arith, some)) in
+    omega (arith, low, next)
+
+-- so a store is used up to a chunk after its last place, where each number below has one
+pub allocated_small : (chunk taken most : ℕ) → 0 < chunk → ((number : ℕ) → number < taken → (place chunk number + 1) * chunk ≤ most) → place chunk taken * chunk ≤ most + 2 * chunk
+allocated_small chunk zero most some fits =
+    let none : 0 / (32 * chunk) ≡ 0 = grind arith in
+    let first : place chunk 0 ≡ 2 = omega (arith, none) in
+    rw first (omega arith)
+allocated_small chunk (suc i) most some fits =
+    let q = quotient_next i (32 * chunk) (omega (arith, some)) in
+    let next : place chunk (suc i) ≤ place chunk i + 1 + 1 = omega (arith, q) in
+    let wide : place chunk (suc i) * chunk ≤ (place chunk i + 1 + 1) * chunk = mul-le-mul_right chunk next in
+    let sum : (place chunk i + 1 + 1) * chunk ≡ (place chunk i + 1) * chunk + chunk = grind arith in
+    omega (arith, wide, sum, fits i (omega arith))

@@ -12,4 +12,5 @@ pub mod Steps
 pub mod Stretch
 pub mod Tables
 pub mod Units
+pub mod Usage
 pub mod Walk

@@ -17,6 +17,7 @@ mod stretch;
 mod stripe;
 mod tables;
 mod taken;
+mod usage;
 mod walk;
 mod walker;
 
@@ -28,3 +29,4 @@ pub use places::places_are_apart;
 pub use plain_taken::PlainTaken;
 pub use sink::Sink;
 pub use taken::Taken;
+pub use usage::Usage;

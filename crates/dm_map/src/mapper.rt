@@ -4,20 +4,24 @@
 //! `specs/Mapping.antt` defines what becomes of a sector, `walk` cuts a range into pieces, and
 //! `walker` keeps what one request leaves for the next.
 
-ghost use Rattle.std.specs.Prelude.{◌≡◌, ℕ, ◌+◌, ◌^◌, ◌<◌, ◌≤◌, ◌∷◌, false, true, length, nat_lt, IfOk, OnOk, []};
+ghost use Rattle.std.specs.Prelude.{◌≡◌, ℕ, ◌+◌, ◌^◌, ◌<◌, ◌≤◌, ◌∷◌, false, true, length, nat_lt, IfOk, IfSome, OnOk, []};
 ghost use Rattle.dm_stack.specs.Description.{Description, device_len};
+ghost use Rattle.dm_stack.specs.Loaded.{IsSnapshot};
 ghost use Rattle.dm_stack.specs.declared.graph.TheConstants.{MOST_DEPTH};
 ghost use Rattle.dm_stack.specs.declared.id.Lower.TheVariants.{Device};
 ghost use Rattle.dm_map.specs.Mapping.{request_step};
 ghost use Rattle.dm_map.specs.Mapper.{OnSinkFault, OnStopped, walking_of};
 ghost use Rattle.dm_map.specs.Sink.{OfBeginning};
-ghost use Rattle.dm_map.specs.State.{start_state};
+ghost use Rattle.dm_map.specs.State.{start_state, taken_at};
+ghost use Rattle.dm_map.specs.Tables.{snapshot_at};
+ghost use Rattle.dm_map.specs.Usage.{usage_of};
 ghost use Rattle.dm_map.specs.Walk.{range_step, IsReady, IsWalked};
 
 use crate::piece::Piece;
 use crate::sink::Sink;
 use crate::tables::empty_tables;
 use crate::taken::Taken;
+use crate::usage::{Usage, usage_of};
 use crate::walk::map_range;
 use crate::walker::Walker;
 use dm_stack::{DeviceId, Looker, Lower, MOST_DEPTH};
@@ -114,6 +118,17 @@ impl<'s, T: Taken> Mapper<'s, T> {
                 Err(MapFault::Sink(fault))
             }
         }
+    }
+
+    /// How much of the store of a snapshot is used, and whether the snapshot is valid.
+    ///
+    /// The device is a snapshot of the mapper's stack. Cost: one look-up. No memory is taken.
+    pub fn usage(&mut self, device: DeviceId) -> Usage
+        requires { IsSnapshot self.old.stack device }
+        ensures usage { IfSome (snapshot_at self.old.stack device) (λ snapshot. result ≡ usage_of self.old.stack snapshot (taken_at self.old.state device)) }
+        ensures same { self.new ≡ self.old }
+    {
+        usage_of(&mut self.walker, device)
     }
 
     /// Hands over the units of a request; stopping at a fault is left to the caller.

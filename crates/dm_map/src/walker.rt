@@ -129,10 +129,11 @@ impl<'s, T: Taken> Walker<'s, T> {
         table.find(chunk)
     }
 
-    /// How many chunks a snapshot took.
+    /// How many chunks a snapshot took; its store has a place for each.
     pub(crate) fn count(&self, device: DeviceId) -> usize
         requires { device < length self.now.stack.devices }
-        ensures { result ≡ length (taken_at self.now.state device).chunks }
+        ensures count { result ≡ length (taken_at self.now.state device).chunks }
+        ensures room { (number : ℕ) → number < result → has_room self.now.stack device number ≡ true }
     {
         let table = &self.tables[device.index()];
         table.count()

@@ -1,0 +1,58 @@
+//! Usage: how much of a snapshot's store is used.
+
+ghost use Rattle.std.specs.Prelude.{◌≡◌, ◌*◌, ◌<◌, ◌≤◌, ◌^◌, IfSome};
+ghost use Rattle.dm_stack.specs.Loaded.{IsSnapshot};
+ghost use Rattle.dm_map.specs.State.{taken_at};
+ghost use Rattle.dm_map.specs.Tables.{snapshot_at};
+ghost use Rattle.dm_map.specs.Usage.{allocated, metadata, usage_of};
+
+use crate::taken::Taken;
+use crate::walker::Walker;
+use dm_stack::{DeviceId, FoundTarget};
+
+/// How much of the store of a snapshot is used, in sectors of 512 bytes.
+#[derive(Clone, Copy, Debug, PartialEq, Eq, Drop)]
+pub struct Usage {
+    /// The sectors up to the place of the next chunk. Where an area of chunk numbers comes before
+    /// that place, this can pass the store's length.
+    pub allocated: u64,
+    /// The length of the store.
+    pub total: u64,
+    /// How many of the allocated sectors are the header and the areas of chunk numbers.
+    pub metadata: u64,
+    /// Whether the snapshot is valid.
+    pub valid: bool,
+}
+
+/// The usage of a snapshot in this state, at the cost of one look-up.
+pub(crate) fn usage_of<T: Taken>(walker: &mut Walker<'_, T>, device: DeviceId) -> Usage
+    requires { IsSnapshot walker.old.stack device }
+    ensures usage { IfSome (snapshot_at walker.old.stack device) (λ snapshot. result ≡ usage_of walker.old.stack snapshot (taken_at walker.old.state device)) }
+    ensures same { walker.new ≡ walker.old }
+{
+    walker.is_sound();
+    let line = walker.look(device, 0);
+    let FoundTarget::Snapshot(snapshot) = &line.target else {
+        unreachable!()
+    };
+    let total = walker.lower_len(snapshot.store);
+    let valid = walker.is_valid(device);
+    usage_with(snapshot.chunk, walker.count(device), total, valid)
+}
+
+/// The usage of a store of a length that has this many taken chunks.
+fn usage_with(chunk: u64, taken: usize, total: u64, valid: bool) -> Usage
+    requires some { 0 < chunk }
+    requires small { chunk ≤ 1024 }
+    requires fits { allocated chunk taken < 2 ^ 63 }
+    ensures { result ≡ record { allocated = allocated chunk taken; total = total; metadata = metadata chunk taken; valid = valid } }
+{
+    let taken = taken as u64;
+    let areas = taken / (32 * chunk);
+    Usage {
+        allocated: (2 + taken + areas) * chunk,
+        total,
+        metadata: (areas + 2) * chunk,
+        valid,
+    }
+}
