@@ -22,16 +22,16 @@ loop-next-init g c =
 pub places_of-requires : goal.places_of-requires
 places_of-requires g c =
     let stack = c.args.looker.now.stack in let l = c.loop-next in let d = c.index-snapshots-next.result in
-    let ids : c.snapshots.result.now ≡ snapshots stack = c.snapshots.ensures ∙ ap snapshots l.invariant.same in
-    let within : l.next < length (snapshots stack) = omega (arith, c.loop-next-test.true, ap (λ (xs : List ℕ). length xs) c.snapshots-count.ensures) in
+    let ids : c.snapshots.result.now ≡ snapshots stack = c.snapshots.ensures.ids ∙ ap snapshots l.invariant.same in
+    let within : l.next < length (snapshots stack) = omega (arith, c.loop-next-test.true, ap (λ (xs : List ℕ). length xs) c.snapshots-count.ensures.ids) in
     let is : d ≡ get_or (snapshots stack) l.next d = c.index-snapshots-next.is ∙ ap (λ (xs : List ℕ). get_or xs l.next d) ids in
     subst (λ (s : Description). d < length s.devices) (sym l.invariant.same) (subst (λ (x : ℕ). x < length stack.devices) (sym is) (snapshot_there stack l.next d within))
 
 pub index_mut-requires : goal.index_mut-requires
 index_mut-requires g c =
     let stack = c.args.looker.now.stack in let l = c.loop-next in let d = c.index-snapshots-next.result in
-    let ids : c.snapshots.result.now ≡ snapshots stack = c.snapshots.ensures ∙ ap snapshots l.invariant.same in
-    let within : l.next < length (snapshots stack) = omega (arith, c.loop-next-test.true, ap (λ (xs : List ℕ). length xs) c.snapshots-count.ensures) in
+    let ids : c.snapshots.result.now ≡ snapshots stack = c.snapshots.ensures.ids ∙ ap snapshots l.invariant.same in
+    let within : l.next < length (snapshots stack) = omega (arith, c.loop-next-test.true, ap (λ (xs : List ℕ). length xs) c.snapshots-count.ensures.ids) in
     let is : d ≡ get_or (snapshots stack) l.next d = c.index-snapshots-next.is ∙ ap (λ (xs : List ℕ). get_or xs l.next d) ids in
     let low : d < length stack.devices = subst (λ (x : ℕ). x < length stack.devices) (sym is) (snapshot_there stack l.next d within) in
     omega (arith, low, l.invariant.count, c.index.ensures)
@@ -39,8 +39,8 @@ index_mut-requires g c =
 pub loop-next-preserved : goal.loop-next-preserved
 loop-next-preserved g c =
     let stack = c.args.looker.now.stack in let l = c.loop-next in let d = c.index-snapshots-next.result in let table = c.in_ok-table.table in let made = c.in_ok-table.ensures in
-    let ids : c.snapshots.result.now ≡ snapshots stack = c.snapshots.ensures ∙ ap snapshots l.invariant.same in
-    let within : l.next < length (snapshots stack) = omega (arith, c.loop-next-test.true, ap (λ (xs : List ℕ). length xs) c.snapshots-count.ensures) in
+    let ids : c.snapshots.result.now ≡ snapshots stack = c.snapshots.ensures.ids ∙ ap snapshots l.invariant.same in
+    let within : l.next < length (snapshots stack) = omega (arith, c.loop-next-test.true, ap (λ (xs : List ℕ). length xs) c.snapshots-count.ensures.ids) in
     let is : d ≡ get_or (snapshots stack) l.next d = c.index-snapshots-next.is ∙ ap (λ (xs : List ℕ). get_or xs l.next d) ids in
     let low : d < length stack.devices = subst (λ (x : ℕ). x < length stack.devices) (sym is) (snapshot_there stack l.next d within) in
     let room : (number : ℕ) → nat_lt number (g.T.Taken.places table) ≡ has_room stack d number = λ number.
