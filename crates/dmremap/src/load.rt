@@ -93,7 +93,6 @@ fn load_texts(alloc: Global, form: Form, source: &[u8], list: &[u8]) -> Result<S
 }
 
 /// What two texts describe, or the first fault of the source's, and else of the disk list's.
-#[tactic(auto, using(crate::proofs::LoadLemmas::first_before, crate::proofs::LoadLemmas::first_after))]
 fn parse_texts(
     alloc: Global,
     form: Form,
