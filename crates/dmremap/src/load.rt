@@ -18,7 +18,9 @@ ghost use Rattle.dmremap.specs.Words.{has_disk_list};
 
 use crate::words::{Form, Format};
 use dm_stack::Stack;
-use dm_table::{DeviceSpec, Disk, Input, LoadFault, Part, parse_concise, parse_disks, parse_table, read_part};
+use dm_table::{
+    DeviceSpec, Disk, Input, LoadFault, Part, parse_concise, parse_disks, parse_table, read_part,
+};
 use lvm_volume::parse_metadata;
 use std::alloc::Global;
 
