@@ -18,7 +18,9 @@ ghost use Rattle.dmremap.specs.Words.{has_disk_list};
 
 use crate::words::{Form, Format};
 use dm_stack::Stack;
-use dm_table::{DeviceSpec, Disk, Input, LoadFault, Part, parse_concise, parse_disks, parse_table, read_part};
+use dm_table::{
+    DeviceSpec, Disk, Input, LoadFault, Part, parse_concise, parse_disks, parse_table, read_part,
+};
 use lvm_volume::parse_metadata;
 use std::alloc::Global;
 
@@ -93,7 +95,6 @@ fn load_texts(alloc: Global, form: Form, source: &[u8], list: &[u8]) -> Result<S
 }
 
 /// What two texts describe, or the first fault of the source's, and else of the disk list's.
-#[tactic(auto, using(crate::proofs::LoadLemmas::first_before, crate::proofs::LoadLemmas::first_after))]
 fn parse_texts(
     alloc: Global,
     form: Form,

@@ -102,7 +102,10 @@ fn open(rt: &HostRuntime, path: &str) -> Counted<PartFile<File>> {
 fn open_files(
     rt: &HostRuntime,
     files: Files<'_>,
-) -> (Option<Counted<PartFile<File>>>, Option<Counted<PartFile<File>>>)
+) -> (
+    Option<Counted<PartFile<File>>>,
+    Option<Counted<PartFile<File>>>,
+)
     ensures source { is_some result.0 ≡ true }
     ensures disks { is_some result.1 ≡ is_some files.entry.disks }
 {

@@ -24,7 +24,9 @@ use crate::load::load;
 use crate::words::{Files, Form, Format, Job, Task};
 use dm_stack::Stack;
 use dm_stream::tell;
-use dm_table::{DeviceSpec, Input, LoadFault, LoadKind, OutFault, Output, write_all, write_concise, write_table};
+use dm_table::{
+    DeviceSpec, Input, LoadFault, LoadKind, OutFault, Output, write_all, write_concise, write_table,
+};
 use lvm_volume::{NameFault, build_name, spaced_parts};
 use std::alloc::Global;
 
@@ -141,7 +143,9 @@ fn print<S: Input, D: Input, W: Output>(
 {
     match task {
         Task::Map(_) => unreachable!(),
-        Task::Print(form, files) => { print_devices(alloc, form, files.format, source, disks, output) }
+        Task::Print(form, files) => {
+            print_devices(alloc, form, files.format, source, disks, output)
+        }
         Task::Name { vg, lv, layer } => print_name(alloc, vg, lv, layer, output),
         Task::SplitName(name) => print_parts(alloc, name, output),
     }

@@ -149,7 +149,8 @@ Exit status
 Example
   dmremap map table stack.table disks.txt < requests.txt";
 
-const TABLE_ABOUT: &str = "Checks the tables of FILE, and prints them as lines `NAME: START LEN TYPE ARGS`";
+const TABLE_ABOUT: &str =
+    "Checks the tables of FILE, and prints them as lines `NAME: START LEN TYPE ARGS`";
 
 const TABLE_NOTES: &str = "\
 FILE and DISKS are those of `dmremap map`. Whether a device is read-only is not printed.
@@ -164,7 +165,8 @@ Exit status
 Example
   dmremap table lvm vg0.backup";
 
-const CONCISE_ABOUT: &str = "Checks the tables of FILE, and prints them in the concise form of dmsetup(8)";
+const CONCISE_ABOUT: &str =
+    "Checks the tables of FILE, and prints them in the concise form of dmsetup(8)";
 
 const CONCISE_NOTES: &str = "\
 FILE and DISKS are those of `dmremap map`. All devices are printed in one line, each as
@@ -215,7 +217,8 @@ const FORMAT_HELP: &str = "The format of FILE";
 
 const FILE_HELP: &str = "The file of the devices and their tables, or of the metadata";
 
-const DISKS_HELP: &str = "The file of the disks and their lengths, for the formats concise and table";
+const DISKS_HELP: &str =
+    "The file of the disks and their lengths, for the formats concise and table";
 
 const VG_HELP: &str = "The volume group";
 

@@ -200,7 +200,8 @@ fn a_read_only_volume(rt: HostRuntime) {
 }
 
 /// A device with a uuid of 129 bytes.
-const LONG_UUID: &str = "a,uuuuuuuuuuuuuuuuuuuuuuuuuuuuuuuuuuuuuuuuuuuuuuuuuuuuuuuuuuuuuuuuuuuuuuuuuuuuuuuuuuuuuuuuuuuuuuuuuuuuuuuuuuuuuuuuuuuuuuuuuuuuuuuuu,,,0 8 zero";
+const LONG_UUID: &str =
+    "a,uuuuuuuuuuuuuuuuuuuuuuuuuuuuuuuuuuuuuuuuuuuuuuuuuuuuuuuuuuuuuuuuuuuuuuuuuuuuuuuuuuuuuuuuuuuuuuuuuuuuuuuuuuuuuuuuuuuuuuuuuuuuuuuuu,,,0 8 zero";
 
 /// Tables in a format and disks, and why they are refused.
 static REFUSED: [(Format, &str, &str, &str); 6] = [

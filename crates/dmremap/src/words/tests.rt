@@ -11,15 +11,32 @@ fn refusal<'a>(rt: &impl Abort, alloc: Global, words: &'a [&'a str]) -> (u8, Str
 
 // The files of a table and of metadata, as a task shows them.
 const TABLE: &str = r#"Files { format: Table, file: "a.table", disks: Some("a.disks") }"#;
+
 const BACKUP: &str = r#"Files { format: Lvm, file: "vg0.backup", disks: None }"#;
 
 /// Words, how the task that they ask for begins, and its texts.
 static TASKS: [(&[&str], &str, &str); 10] = [
-    (&["dmremap", "map", "table", "a.table", "a.disks"], "Map(", TABLE),
-    (&["dmremap", "map", "table", "--", "a.table", "a.disks"], "Map(", TABLE),
+    (
+        &["dmremap", "map", "table", "a.table", "a.disks"],
+        "Map(",
+        TABLE,
+    ),
+    (
+        &["dmremap", "map", "table", "--", "a.table", "a.disks"],
+        "Map(",
+        TABLE,
+    ),
     (&["dmremap", "map", "lvm", "vg0.backup"], "Map(", BACKUP),
-    (&["dmremap", "table", "lvm", "vg0.backup"], "Print(Table, ", BACKUP),
-    (&["dmremap", "concise", "table", "a.table", "a.disks"], "Print(Concise, ", TABLE),
+    (
+        &["dmremap", "table", "lvm", "vg0.backup"],
+        "Print(Table, ",
+        BACKUP,
+    ),
+    (
+        &["dmremap", "concise", "table", "a.table", "a.disks"],
+        "Print(Concise, ",
+        TABLE,
+    ),
     (
         &["dmremap", "map", "concise", "f", "d"],
         "Map(",
@@ -90,63 +107,63 @@ fn disks_go_with_tables_alone(rt: HostRuntime) {
 
 /// Words that are refused, and what is told of them.
 static REFUSED: [(&[&str], &str); 18] = [
-        (&["dmremap", "name", "vg0"], "<LV>"),
-        (&["dmremap", "name", "a", "-b"], "unexpected argument '-b'"),
-        (
-            &["dmremap", "splitname", "a-b", "c"],
-            "unexpected argument 'c'",
-        ),
-        (
-            &["dmremap", "table", "lvm", "a", "--status"],
-            "unexpected argument '--status'",
-        ),
-        (
-            &["dmremap", "tabel", "lvm", "a"],
-            "a similar subcommand exists: 'table'",
-        ),
-        (
-            &["dmremap", "concise", "tabel", "a", "b"],
-            "a similar value exists: 'table'",
-        ),
-        (&[], "Usage: dmremap <COMMAND>"),
-        (&["dmremap"], "Usage: dmremap <COMMAND>"),
-        (&["dmremap", "map"], "<FORMAT> <FILE>"),
-        (
-            &["dmremap", "map", "lvm2", "a"],
-            "invalid value 'lvm2' for '<FORMAT>'",
-        ),
-        (
-            &["dmremap", "check", "table", "a", "b"],
-            "unrecognized subcommand 'check'",
-        ),
-        (
-            &["dmremap", "map", "table", "a", "b", "--status"],
-            "unexpected argument '--status'",
-        ),
-        (
-            &["dmremap", "--status", "map", "table", "a", "b"],
-            "unexpected argument '--status'",
-        ),
-        (
-            &["dmremap", "map", "table", "a", "b", "c"],
-            "unexpected argument 'c'",
-        ),
-        (
-            &["dmremap", "map", "-x", "table", "a", "b"],
-            "unexpected argument '-x'",
-        ),
-        (
-            &["dmremap", "map", "table", "-", "d"],
-            "error: unexpected argument '-' found",
-        ),
-        (
-            &["dmremap", "map", "table", "f", "-"],
-            "error: unexpected argument '-' found",
-        ),
-        (
-            &["dmremap", "map", "--version"],
-            "unexpected argument '--version'",
-        ),
+    (&["dmremap", "name", "vg0"], "<LV>"),
+    (&["dmremap", "name", "a", "-b"], "unexpected argument '-b'"),
+    (
+        &["dmremap", "splitname", "a-b", "c"],
+        "unexpected argument 'c'",
+    ),
+    (
+        &["dmremap", "table", "lvm", "a", "--status"],
+        "unexpected argument '--status'",
+    ),
+    (
+        &["dmremap", "tabel", "lvm", "a"],
+        "a similar subcommand exists: 'table'",
+    ),
+    (
+        &["dmremap", "concise", "tabel", "a", "b"],
+        "a similar value exists: 'table'",
+    ),
+    (&[], "Usage: dmremap <COMMAND>"),
+    (&["dmremap"], "Usage: dmremap <COMMAND>"),
+    (&["dmremap", "map"], "<FORMAT> <FILE>"),
+    (
+        &["dmremap", "map", "lvm2", "a"],
+        "invalid value 'lvm2' for '<FORMAT>'",
+    ),
+    (
+        &["dmremap", "check", "table", "a", "b"],
+        "unrecognized subcommand 'check'",
+    ),
+    (
+        &["dmremap", "map", "table", "a", "b", "--status"],
+        "unexpected argument '--status'",
+    ),
+    (
+        &["dmremap", "--status", "map", "table", "a", "b"],
+        "unexpected argument '--status'",
+    ),
+    (
+        &["dmremap", "map", "table", "a", "b", "c"],
+        "unexpected argument 'c'",
+    ),
+    (
+        &["dmremap", "map", "-x", "table", "a", "b"],
+        "unexpected argument '-x'",
+    ),
+    (
+        &["dmremap", "map", "table", "-", "d"],
+        "error: unexpected argument '-' found",
+    ),
+    (
+        &["dmremap", "map", "table", "f", "-"],
+        "error: unexpected argument '-' found",
+    ),
+    (
+        &["dmremap", "map", "--version"],
+        "unexpected argument '--version'",
+    ),
 ];
 
 #[test]
@@ -160,15 +177,51 @@ fn other_words_are_refused(rt: HostRuntime) {
 
 /// Words that ask for help, and what it tells.
 static HELP: [(&[&str], &str, &str); 9] = [
-        (&["dmremap", "--help"], "Usage: dmremap <COMMAND>", "  splitname  Prints"),
-        (&["dmremap", "-h"], "Usage: dmremap <COMMAND>", "  concise    Checks"),
-        (&["dmremap", "help"], "Usage: dmremap <COMMAND>", "  6  out of memory"),
-        (&["dmremap", "help", "map"], "map <FORMAT> <FILE> [DISKS]", "FORMAT is one of\n  lvm      the"),
-        (&["dmremap", "map", "--help"], "map <FORMAT> <FILE> [DISKS]", "dmremap map table"),
-        (&["dmremap", "table", "-h"], "table <FORMAT> <FILE> [DISKS]", "dmremap table lvm"),
-        (&["dmremap", "concise", "-h"], "concise <FORMAT> <FILE> [DISKS]", "dmremap concise lvm"),
-        (&["dmremap", "name", "-h"], "name <VG> <LV> [LAYER]", "dmremap name vg0 lv-1"),
-        (&["dmremap", "splitname", "-h"], "splitname <NAME>", "dmremap splitname vg0-lv--1"),
+    (
+        &["dmremap", "--help"],
+        "Usage: dmremap <COMMAND>",
+        "  splitname  Prints",
+    ),
+    (
+        &["dmremap", "-h"],
+        "Usage: dmremap <COMMAND>",
+        "  concise    Checks",
+    ),
+    (
+        &["dmremap", "help"],
+        "Usage: dmremap <COMMAND>",
+        "  6  out of memory",
+    ),
+    (
+        &["dmremap", "help", "map"],
+        "map <FORMAT> <FILE> [DISKS]",
+        "FORMAT is one of\n  lvm      the",
+    ),
+    (
+        &["dmremap", "map", "--help"],
+        "map <FORMAT> <FILE> [DISKS]",
+        "dmremap map table",
+    ),
+    (
+        &["dmremap", "table", "-h"],
+        "table <FORMAT> <FILE> [DISKS]",
+        "dmremap table lvm",
+    ),
+    (
+        &["dmremap", "concise", "-h"],
+        "concise <FORMAT> <FILE> [DISKS]",
+        "dmremap concise lvm",
+    ),
+    (
+        &["dmremap", "name", "-h"],
+        "name <VG> <LV> [LAYER]",
+        "dmremap name vg0 lv-1",
+    ),
+    (
+        &["dmremap", "splitname", "-h"],
+        "splitname <NAME>",
+        "dmremap splitname vg0-lv--1",
+    ),
 ];
 
 #[test]

@@ -14,10 +14,12 @@ returns c =
     let shows : app_of c.arg_required_else_help.result ≡ on_top (λ s. record s { arg_required_else_help = true }) (app_of c.subcommand_required.result) =
     ap app_of_fields c.arg_required_else_help.ensures in
     let bare : app_of c.arg_required_else_help.result ≡ program_app = shows
-    ∙ ap (on_top (λ s. record s { arg_required_else_help = true })) (asks ∙ ap (on_top (λ s. record s { subcommand_required = true })) named) in
-    (parser, c.format_parser-parser.ensures,
-    c.in_ok-split.ensures _ _ c.in_ok-subcommand-5.ensures ∙ ap (λ (a : App). with_subcommand a split_app.top)
-    (c.in_ok-name.ensures _ _ c.in_ok-subcommand-4.ensures ∙ ap (λ (a : App). with_subcommand a name_app.top)
-    (c.in_ok-concise.ensures _ _ c.in_ok-subcommand-3.ensures ∙ ap (λ (a : App). with_subcommand a (source_app (codes "concise") parser).top)
-    (c.in_ok-table.ensures _ _ c.in_ok-subcommand-2.ensures ∙ ap (λ (a : App). with_subcommand a (source_app (codes "table") parser).top)
-    (c.in_ok-map.ensures _ _ c.in_ok-subcommand.ensures ∙ ap (λ (a : App). with_subcommand a (source_app (codes "map") parser).top) bare)))))
+    ∙ ap (on_top (λ s. record s { arg_required_else_help = true })) (asks ∙ ap (on_top (λ s. record s { subcommand_required = true })) named) in (
+      parser,
+      c.format_parser-parser.ensures,
+      c.in_ok-split.ensures _ _ c.in_ok-subcommand-5.ensures ∙ ap (λ (a : App). with_subcommand a split_app.top)
+          (c.in_ok-name.ensures _ _ c.in_ok-subcommand-4.ensures ∙ ap (λ (a : App). with_subcommand a name_app.top)
+          (c.in_ok-concise.ensures _ _ c.in_ok-subcommand-3.ensures ∙ ap (λ (a : App). with_subcommand a (source_app (codes "concise") parser).top)
+          (c.in_ok-table.ensures _ _ c.in_ok-subcommand-2.ensures ∙ ap (λ (a : App). with_subcommand a (source_app (codes "table") parser).top)
+          (c.in_ok-map.ensures _ _ c.in_ok-subcommand.ensures ∙ ap (λ (a : App). with_subcommand a (source_app (codes "map") parser).top) bare)))),
+    )
