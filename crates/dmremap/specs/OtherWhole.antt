@@ -1,12 +1,10 @@
 -- What the commands but `map` give: what they print, their message and their exit status, by their words and by what was delivered.
 use Rattle.std.specs.Prelude.{◌≡◌, ◌≢◌, ◌↔◌, ℕ, ◌+◌, ◌<◌, ◌≤◌, Bool, true, false, List, [], ◌∷◌, ◌++◌, Result, Ok, Err, is_some}
 use Rattle.std.specs.Option.{option_map_or}
-use Rattle.dm_table.specs.declared.load_fault.LoadKind.TheVariants as kinds
 use Rattle.dm_table.specs.declared.table.DeviceSpec.{DeviceSpec}
 use Rattle.dm_table.specs.CanonicalText.{concise_text, table_text}
 use Rattle.dm_table.specs.DeviceIo.{Delivery, since}
 use Rattle.dm_table.specs.LoadMessage.{load_message}
-use Rattle.dm_stack.specs.Description.{Description}
 use Rattle.dm_stream.specs.Messages.{write_message}
 use Rattle.lvm_volume.specs.declared.fault.NameFault.{NameFault}
 use Rattle.lvm_volume.specs.declared.fault.NameFault.TheVariants as names
@@ -21,7 +19,7 @@ use Rattle.dmremap.specs.Exit.{FailedOutput}
 use Rattle.dmremap.specs.Load.{Load, PartsGive, RefusedBy, SoundAs}
 use Rattle.dmremap.specs.Status.{load_status}
 use Rattle.dmremap.specs.Whole.{Whole}
-use Rattle.dmremap.specs.Words.{FileWords, TaskWords, map_words, print_words, name_words, split_words, files_of, has_disk_list}
+use Rattle.dmremap.specs.Words.{TaskWords, map_words, print_words, name_words, split_words, files_of, has_disk_list}
 
 -- ---- what there is to print
 

@@ -1,8 +1,5 @@
 use Rattle.std.proofs.Common.{◌∙◌, sym}
-use Rattle.dm_table.specs.DeviceIo.{since}
-use Rattle.dmremap.specs.Inputs.{delivery_if}
 use Rattle.dmremap.specs.OtherWhole.{printing_message}
-use Rattle.dmremap.specs.Words.{words_of}
 use Rattle.dmremap.proofs.PrintLemmas.{failed_at, one_other, other_at}
 use Rattle.dmremap.proofs.other_whole.other_whole.Goals as goal
 

@@ -1,4 +1,4 @@
-use Rattle.std.proofs.Common.{Ok, ap, option_map, rules, sym, ◌≡◌, ◌∙◌}
+use Rattle.std.proofs.Common.{Ok, ap, option_map, rules, ◌≡◌, ◌∙◌}
 use Rattle.dmremap.proofs.PrintLemmas.{name_printed}
 use Rattle.dmremap.proofs.other_whole.print_name.Goals as goal
 
