@@ -99,11 +99,7 @@ static MESSAGES: [(NameFault, &str, &[u8]); 5] = [
         "a part begins with a hyphen",
         b"dmremap: name: hyphen\n",
     ),
-    (
-        NameFault::Empty,
-        "an empty part",
-        b"dmremap: name: empty\n",
-    ),
+    (NameFault::Empty, "an empty part", b"dmremap: name: empty\n"),
     (
         NameFault::Long,
         "more than 127 bytes",

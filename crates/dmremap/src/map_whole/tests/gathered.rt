@@ -24,11 +24,22 @@ fn passes_on_once(rt: HostRuntime) {
             script: &script,
             calls: &calls,
         }));
-        assert!(rt; write_all(&mut output, &[1, 2, 3, 4, 5]).is_ok(), "gathered");
+        assert!(rt;
+            write_all(&mut output, &[1, 2, 3, 4, 5]).is_ok(),
+            "gathered"
+        );
         assert_eq!(rt; calls.get(), 0, "calls while there is room");
         output.hand_on();
-        assert_eq!(rt; calls.get(), handed_on, "calls after {handed_on} to hand on");
-        assert_eq!(rt; output.flush().is_ok(), succeeds, "a flush after {handed_on}");
+        assert_eq!(rt;
+            calls.get(),
+            handed_on,
+            "calls after {handed_on} to hand on"
+        );
+        assert_eq!(rt;
+            output.flush().is_ok(),
+            succeeds,
+            "a flush after {handed_on}"
+        );
         assert_eq!(rt; calls.get(), flushed, "calls after a flush");
     }
 }
