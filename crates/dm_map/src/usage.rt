@@ -10,6 +10,9 @@ use crate::taken::Taken;
 use crate::walker::Walker;
 use dm_stack::{DeviceId, FoundTarget};
 
+#[cfg(test)]
+mod tests;
+
 /// How much of the store of a snapshot is used, in sectors of 512 bytes.
 #[derive(Clone, Copy, Debug, PartialEq, Eq, Drop)]
 pub struct Usage {

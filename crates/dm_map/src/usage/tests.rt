@@ -1,0 +1,103 @@
+//! The usage of a store after one request, by the formula of the kernel's document.
+
+use super::*;
+use crate::mapper::Mapper;
+use crate::piece_list::PieceList;
+use crate::plain_taken::PlainTaken;
+use dm_stack::Stack;
+use dm_table::{parse_disks, parse_request, parse_table};
+use std::alloc::Global;
+use std::process::Abort;
+
+/// Tables with one snapshot, the disks, a request of the snapshot, and the usage after it.
+static ROWS: [(&str, &str, &str, Usage); 5] = [
+    (
+        "s: 0 64 snapshot base cow P 1\n",
+        "base 64\ncow 64\n",
+        "R s 0 64",
+        Usage {
+            allocated: 2,
+            total: 64,
+            metadata: 2,
+            valid: true,
+        },
+    ),
+    // The place of the next chunk is after the second area.
+    (
+        "s: 0 64 snapshot base cow P 1\n",
+        "base 64\ncow 64\n",
+        "W s 0 33",
+        Usage {
+            allocated: 36,
+            total: 64,
+            metadata: 3,
+            valid: true,
+        },
+    ),
+    // And here it is past the end of the store.
+    (
+        "s: 0 64 snapshot base cow P 1\n",
+        "base 64\ncow 34\n",
+        "W s 0 32",
+        Usage {
+            allocated: 35,
+            total: 34,
+            metadata: 3,
+            valid: true,
+        },
+    ),
+    // A store without a place for the last chunk, and an origin that cannot be read.
+    (
+        "s: 0 32 snapshot base cow P 8\n",
+        "base 32\ncow 32\n",
+        "W s 0 24",
+        Usage {
+            allocated: 32,
+            total: 32,
+            metadata: 16,
+            valid: false,
+        },
+    ),
+    (
+        "o: 0 4 linear base 0\no: 4 4 error\ns: 0 8 snapshot /dev/mapper/o cow P 8\n",
+        "base 4\ncow 32\n",
+        "W s 0 1",
+        Usage {
+            allocated: 16,
+            total: 32,
+            metadata: 16,
+            valid: false,
+        },
+    ),
+];
+
+/// The usage of the snapshot of a stack after a request.
+fn usage_after(rt: &impl Abort, alloc: Global, stack: &Stack, line: &str) -> Usage {
+    let request = parse_request(line.as_bytes(), 1).expect(rt, "a request");
+    let device = *stack.snapshots().first().expect(rt, "a snapshot");
+    let mut mapper: Mapper<'_, PlainTaken> = Mapper::new(alloc, stack.looker()).expect(
+        rt, "a mapper",
+    );
+    let mut list = PieceList::new(alloc, stack);
+    mapper
+        .request(&request, device, &mut list)
+        .expect(rt, "pieces");
+    mapper.usage(device)
+}
+
+#[test]
+fn usage_of_a_store(rt: HostRuntime) {
+    let alloc = rt.alloc();
+    for &(table, disks, line, want) in &ROWS {
+        let devices = parse_table(alloc, table.as_bytes()).expect(&rt, "devices");
+        let disks = parse_disks(alloc, disks.as_bytes()).expect(&rt, "disks");
+        let stack = Stack::load(alloc, devices, disks).expect(&rt, "a stack");
+        assert_eq!(&rt; usage_after(&rt, alloc, &stack, line), want, "{line}");
+    }
+}
+
+#[test]
+fn the_numbers_of_the_document(rt: HostRuntime) {
+    let usage = usage_with(8, 49542, 2097152, true);
+    assert_eq!(&rt; (usage.allocated, usage.metadata), (397896, 1560));
+}
