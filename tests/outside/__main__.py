@@ -28,6 +28,7 @@ import loads
 import printing
 import ranges
 import request_lines
+import snapshots
 import streams
 import words
 from harness import Program, Tally
@@ -46,7 +47,7 @@ def main():
         # As root the cases of unreadable files run as nobody, who has to come to the program.
         os.chmod(room, 0o755)
         program = Program(shutil.copy(built, os.path.join(room, "dmremap")), room)
-        for part in (words, files, loads, backups, groups, printing, request_lines, ranges, streams, limits):
+        for part in (words, files, loads, backups, groups, printing, request_lines, ranges, snapshots, streams, limits):
             part.check(tally, program)
         launcher.check(tally, program, TOP, built == BUILT)
         documents.check(tally, program, TOP)
