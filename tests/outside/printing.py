@@ -122,8 +122,8 @@ NAMES = [
 
 
 def check(tally, program):
-    files = ["table", program.file("table", TABLE), program.file("disks", DISKS)]
-    backup = ["lvm", program.file("backup", BACKUP)]
+    files = ["table", program.file("printed.table", TABLE), program.file("printed.disks", DISKS)]
+    backup = ["lvm", program.file("printed.backup", BACKUP)]
     for given, printed in ((files, TABLES), (backup, GROUP)):
         for form, text in printed:
             tally.same("%s of %s" % (form, given[0]), program.run([form] + given, given="bad\n"), 0, text)
