@@ -1,4 +1,5 @@
 pub mod ChunkLemmas
+pub mod ClaimLemmas
 pub mod CrowdLemmas
 pub mod DepthLemmas
 pub mod DepthRule

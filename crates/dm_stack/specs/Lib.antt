@@ -6,6 +6,7 @@ pub mod LineSearch
 pub mod Load
 pub mod Loaded
 pub mod NameIndex
+pub mod Naming
 pub mod Places
 pub mod Soundness
 pub mod Span
