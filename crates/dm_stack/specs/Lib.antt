@@ -11,3 +11,4 @@ pub mod Places
 pub mod Soundness
 pub mod Span
 pub mod Store
+pub mod Sweep
