@@ -12,6 +12,8 @@ pub mod LoadLemmas
 pub mod NameLemmas
 pub mod OneFault
 pub mod Passes
+pub mod SweepLemmas
+pub mod PairLemmas
 pub mod PathLemmas
 pub mod PlaceLemmas
 pub mod PlacedLemmas
