@@ -10,6 +10,8 @@ pub mod LayoutLemmas
 pub mod LineSearchLemmas
 pub mod LoadLemmas
 pub mod NameLemmas
+pub mod TidyLemmas
+pub mod MeetLemmas
 pub mod OneFault
 pub mod Passes
 pub mod SweepLemmas
