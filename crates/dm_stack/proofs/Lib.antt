@@ -11,6 +11,7 @@ pub mod LineSearchLemmas
 pub mod LoadLemmas
 pub mod NameLemmas
 pub mod TidyLemmas
+pub mod TopLemmas
 pub mod MeetLemmas
 pub mod OneFault
 pub mod Passes

@@ -90,7 +90,7 @@ no_pair_from_pairs test xs turns pairs = record {
 pub pairs_from_no_pair : {X : Type 0} (test : X → X → Bool) (xs : List X) → HasNoPair test xs → AllPairs (λ x y. test x y ≡ false) xs
 pairs_from_no_pair test xs none i j d less within = none.at i j d (omega arith) within (λ e. omega (arith, e))
 
-none_before : {X : Type 0} (test : X → Bool) (xs : List X) → list_any test xs ≡ false → (k : ℕ) (d : X) → k < length xs → test (get_or xs k d) ≡ false
+pub none_before : {X : Type 0} (test : X → Bool) (xs : List X) → list_any test xs ≡ false → (k : ℕ) (d : X) → k < length xs → test (get_or xs k d) ≡ false
 none_before test [] none k d within = absurd (omega arith)
 none_before test (x ∷ xs) none zero d within = (or_parts _ _ none).0
 none_before test (x ∷ xs) none (suc k) d within = none_before test xs (or_parts _ _ none).1 k d (omega arith)
