@@ -1,14 +1,14 @@
 -- That two claims meet, as it is computed and as it is defined.
-use Rattle.std.proofs.Common.{◌≡◌, ℕ, ◌+◌, ◌<◌, ◌≤◌, Bool, true, false, not, refl, sym, ap, ◌∙◌, arith}
+use Rattle.std.proofs.Common.{◌≡◌, ℕ, Bool, true, false, not, refl, sym, ap, ◌∙◌, arith}
 use Rattle.std.specs.Prelude.{◌&&◌, ◌==◌, max, min, nat_lt}
-use Rattle.std.proofs.lemmas.Bool.{and_from, and_parts, eq-eqb, eqb-true, lt-ltb, ltb-true, not-false, true≢false}
+use Rattle.std.proofs.lemmas.Bool.{and_from, and_parts, eq-eqb, eqb-true, lt-ltb, ltb-true, true≢false}
 use Rattle.dm_stack.specs.declared.claim.Claim.{Claim}
 use Rattle.dm_stack.specs.declared.claim.ClaimKind.{ClaimKind}
 use Rattle.dm_stack.specs.declared.claim.ClaimKind.TheVariants.{Own, Reading}
 use Rattle.dm_stack.specs.declared.id.Lower.{Lower}
 use Rattle.dm_stack.specs.declared.id.Lower.TheVariants.{Device, Disk}
 use Rattle.dm_stack.specs.declared.tidy.Numbered.{Numbered}
-use Rattle.dm_stack.specs.Claims.{AreApart, HasSector, MeetAt, may_share}
+use Rattle.dm_stack.specs.Claims.{AreApart, MeetAt, may_share}
 use Rattle.dm_stack.specs.Sweep.{is_same, meets, rivals}
 
 pub same_is : (one other : Lower) → is_same one other ≡ true → one ≡ other

@@ -1,5 +1,5 @@
 -- What a claim meets of those before it, in the order of their starts, is told by how far they reach.
-use Rattle.std.proofs.Common.{◌≡◌, ℕ, zero, suc, ◌+◌, ◌<◌, ◌≤◌, Bool, true, false, cond, not, List, [], ◌∷◌, ◌++◌, refl, sym, ap, ◌∙◌, arith, get_or, length, take, drop}
+use Rattle.std.proofs.Common.{◌≡◌, ℕ, suc, ◌+◌, ◌<◌, ◌≤◌, Bool, true, false, cond, not, List, [], ◌∷◌, ◌++◌, refl, sym, ap, ◌∙◌, arith, get_or, length, take, drop}
 use Rattle.std.specs.Prelude.{◌||◌, ◌&&◌, fold, max, min, nat_lt}
 use Rattle.std.specs.List.{AllByRecursion, list_any}
 use Rattle.std.specs.List.Sorted.{IsNonDecreasingBy}
@@ -8,7 +8,6 @@ use Rattle.std.proofs.lemmas.Bool.{le-ltb, lt-ltb}
 use Rattle.std.proofs.lemmas.List.{get_or-take, get_or_default, length-take, take_more}
 use Rattle.std.proofs.lemmas.List.Elements.{recursion_from_All}
 use Rattle.std.proofs.lemmas.List.Sums.{fold-append}
-use Rattle.dm_stack.specs.declared.claim.Claim.{Claim}
 use Rattle.dm_stack.specs.declared.claim.ClaimKind.{ClaimKind}
 use Rattle.dm_stack.specs.declared.claim.ClaimKind.TheVariants.{Own, Reading}
 use Rattle.dm_stack.specs.declared.id.Lower.{Lower}
@@ -80,9 +79,9 @@ starts_before : (order : List Numbered) (k : ℕ) (next : Numbered) → IsNonDec
 starts_before order k next sorted within is =
     recursion_from_All (λ one. one.claim.start ≤ next.claim.start) (take k order)
     (λ i d below.
-        let long = length-take k order in
-        let at : get_or (take k order) i d ≡ get_or order i d = get_or-take k order i d (omega arith) in
-        omega (arith, sorted i k d (omega arith) within, ap (λ (one : Numbered). one.claim.start) at, ap (λ (one : Numbered). one.claim.start) (is ∙ get_or_default order k next d within)))
+    let long = length-take k order in
+    let at : get_or (take k order) i d ≡ get_or order i d = get_or-take k order i d (omega arith) in
+    omega (arith, sorted i k d (omega arith) within, ap (λ (one : Numbered). one.claim.start) at, ap (λ (one : Numbered). one.claim.start) (is ∙ get_or_default order k next d within)))
 
 pub met : (count : ℕ) (order : List Numbered) (k : ℕ) (next : Numbered) → IsNonDecreasingBy (λ one. one.claim.start) order → k < length order → next ≡ get_or order k next → next.number < count
     → list_any (λ one. rivals count one next) (take k order) ≡ reach_meets (reach_of count next.claim.to (take k order)) next.claim

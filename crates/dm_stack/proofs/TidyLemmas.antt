@@ -1,7 +1,7 @@
 -- Claims in the order of their starts, and in that of their list: the same pairs meet, and so the same claim is the first that meets an earlier one.
 use Rattle.std.proofs.Common.{◌≡◌, ℕ, zero, suc, ◌+◌, ◌<◌, ◌≤◌, Bool, true, false, cond, not, List, [], ◌∷◌, ◌++◌, Option, Some, None, refl, sym, ap, subst, ◌∙◌, arith, get_or, length, take, drop}
-use Rattle.std.specs.Prelude.{◌||◌, ◌&&◌, find, max, nat_lt, option_map, slice_get}
-use Rattle.std.specs.List.{All, AllPairs, list_any}
+use Rattle.std.specs.Prelude.{◌&&◌, find, nat_lt, option_map, slice_get}
+use Rattle.std.specs.List.{All, AllPairs}
 use Rattle.std.specs.List.Sorted.{IsPermutation}
 use Rattle.std.proofs.Math.Seq.{drop-cons}
 use Rattle.std.proofs.lemmas.Bool.{le-ltb, lt-ltb, ltb-false, ltb-true, true≢false}
@@ -10,9 +10,8 @@ use Rattle.std.proofs.lemmas.List.Quantifiers.{all_pairs_push}
 use Rattle.std.proofs.lemmas.List.Sorted.{All-permutation, IsPermutation-sym, length_permutation}
 use Rattle.std.proofs.lemmas.Option.{slice_get_read}
 use Rattle.dm_stack.specs.declared.claim.Claim.{Claim}
-use Rattle.dm_stack.specs.declared.id.Lower.{Lower}
 use Rattle.dm_stack.specs.declared.tidy.Numbered.{Numbered}
-use Rattle.dm_stack.specs.Claims.{AreApart, IsClash, IsFirstClash, MeetAt}
+use Rattle.dm_stack.specs.Claims.{AreApart, IsFirstClash}
 use Rattle.dm_stack.specs.Sweep.{HasPlace, clash_of, clash_with, has_pair, is_tidy_to, meets, numbered, rivals}
 use Rattle.dm_stack.proofs.MeetLemmas.{apart_from, meet_from, none_from, rivals_turn}
 use Rattle.dm_stack.proofs.PairLemmas.{no_pair_from_pairs, no_pair_moved, pairs_from_no_pair, pairs_from_search, search_from_pairs}

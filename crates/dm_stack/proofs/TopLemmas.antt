@@ -1,6 +1,6 @@
 -- What the claims of a stack are on, and which devices none of them are on.
-use Rattle.std.proofs.Common.{◌≡◌, ℕ, zero, suc, ◌+◌, ◌<◌, ◌≤◌, Bool, true, false, cond, not, List, [], ◌∷◌, ◌++◌, Option, Some, None, refl, sym, ap, subst, ◌∙◌, arith, get_or, length, map}
-use Rattle.std.specs.Prelude.{◌↔◌, ◌||◌, ◌==◌, IfOk, IsTrue, is_none, slice_get}
+use Rattle.std.proofs.Common.{◌≡◌, ℕ, suc, ◌+◌, ◌<◌, Bool, true, false, cond, not, List, [], ◌∷◌, ◌++◌, Option, Some, None, refl, sym, ap, subst, ◌∙◌, arith, get_or, length, map}
+use Rattle.std.specs.Prelude.{◌↔◌, ◌||◌, IfOk, IsTrue, is_none, slice_get}
 use Rattle.std.proofs.Common.{Result, Ok, Err}
 use Rattle.std.specs.declared.alloc.AllocError.{AllocError}
 use Rattle.std.specs.List.{All, AllByRecursion, AllPairs, flat_map, list_any, position_or_len, range_with_len}
@@ -99,8 +99,8 @@ named_by_claims stack device =
     any_flat test (device_claims stack) (range_with_len 0 (length stack.devices))
     ∙ any_same (λ id. list_any test (device_claims stack id)) (λ id. list_any (line_names stack device) (lines_at stack id)) (range_with_len 0 (length stack.devices))
     (λ id.
-        any_flat test (line_claims stack id) (lines_at stack id)
-        ∙ any_same (λ line. list_any test (line_claims stack id line)) (line_names stack device) (lines_at stack id) (λ line. any_map test (span_claim stack id) (spans line)))
+    any_flat test (line_claims stack id) (lines_at stack id)
+    ∙ any_same (λ line. list_any test (line_claims stack id line)) (line_names stack device) (lines_at stack id) (λ line. any_map test (span_claim stack id) (spans line)))
     ∙ by_ids stack (list_any (line_names stack device)) [] stack.devices 0 refl refl
 
 device_is : (device : ℕ) (lower : Lower) → is_device device lower ≡ true → lower ≡ Device device

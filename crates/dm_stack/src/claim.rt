@@ -46,7 +46,12 @@ pub(crate) fn claims(alloc: Global, stack: &Indexed) -> Result<Vec<Claim>, Alloc
 {
     let mut claims = Vec::new(alloc);
     for (id, device) in stack.devices().iter().enumerate() {
-        add_lines(&mut claims, stack, DeviceId::new(id), device.lines.as_slice())?;
+        add_lines(
+            &mut claims,
+            stack,
+            DeviceId::new(id),
+            device.lines.as_slice(),
+        )?;
     }
     Ok(claims)
 }

@@ -226,7 +226,12 @@ impl Stack {
     {
         let claims = claims(alloc, &self.indexed())?;
         // An id is at most the count: that of a name that is not there.
-        first_clash(alloc, &claims, self.device_count() + 1, self.disk_count() + 1)
+        first_clash(
+            alloc,
+            &claims,
+            self.device_count() + 1,
+            self.disk_count() + 1,
+        )
     }
 
     /// The name of a device of the stack.

@@ -1,8 +1,7 @@
-use Rattle.std.proofs.Common.{◌≡◌, Option, Some, length, refl, sym, ap, ◌∙◌}
-use Rattle.std.specs.Prelude.{slice_get, take}
+use Rattle.std.proofs.Common.{◌≡◌, Some, length, refl, sym, ap, ◌∙◌}
+use Rattle.std.specs.Prelude.{take}
 use Rattle.std.proofs.lemmas.Option.{slice_get_read}
 use Rattle.dm_stack.specs.declared.claim.Claim.{Claim}
-use Rattle.dm_stack.specs.declared.clash.Clash.{Clash}
 use Rattle.dm_stack.specs.Sweep.{clash_with}
 use Rattle.dm_stack.proofs.TidyLemmas.{clash_here, clash_none}
 use Rattle.dm_stack.proofs.tidy.clash_at.Goals as goal

@@ -1,5 +1,5 @@
 -- none of the claims so far meets the later one
-use Rattle.std.proofs.Common.{◌≡◌, drop, take}
+use Rattle.std.proofs.Common.{◌≡◌, drop}
 use Rattle.dm_stack.specs.Sweep.{clash_with}
 use Rattle.dm_stack.proofs.tidy.clash_at.Given as goal
 

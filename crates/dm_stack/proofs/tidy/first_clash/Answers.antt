@@ -1,13 +1,9 @@
-use Rattle.std.proofs.Common.{◌≡◌, ◌<◌, ◌+◌, false, true, List, Some, ℕ, Bool, length, refl, sym, ap, subst, ◌∙◌, arith, get_or}
-use Rattle.std.specs.Prelude.{slice_get, take}
-use Rattle.std.specs.List.{All, AllPairs}
-use Rattle.std.specs.List.Sorted.{IsPermutation}
+use Rattle.std.proofs.Common.{◌≡◌, ◌<◌, ◌+◌, true, List, ℕ, length, sym, ap, subst, ◌∙◌, arith}
+use Rattle.std.specs.List.{AllPairs}
 use Rattle.std.proofs.lemmas.List.{take_all}
-use Rattle.std.proofs.lemmas.Option.{slice_get_read}
-use Rattle.dm_stack.specs.declared.claim.Claim.{Claim}
 use Rattle.dm_stack.specs.declared.tidy.Numbered.{Numbered}
 use Rattle.dm_stack.specs.Claims.{AreApart, IsFirstClash}
-use Rattle.dm_stack.specs.Sweep.{HasPlace, clash_with, is_tidy_to, numbered}
+use Rattle.dm_stack.specs.Sweep.{is_tidy_to}
 use Rattle.dm_stack.proofs.TidyLemmas.{at, first_is, order_length, places_kept, tidy_below}
 use Rattle.dm_stack.proofs.tidy.first_clash.Goals as goal
 

@@ -1,11 +1,9 @@
-use Rattle.std.proofs.Common.{◌≡◌, ◌+◌, ◌∙◌, ℕ, List, ap, subst, sym}
+use Rattle.std.proofs.Common.{◌≡◌, ◌∙◌, List, ap, subst, sym}
 use Rattle.std.specs.Prelude.{IfOk}
-use Rattle.std.specs.List.{All}
 use Rattle.dm_stack.specs.declared.claim.Claim.{Claim}
 use Rattle.dm_stack.specs.Claims.{IsFirstClash, claims}
 use Rattle.dm_stack.specs.Description.{Description}
 use Rattle.dm_stack.specs.Soundness.{IsSound}
-use Rattle.dm_stack.specs.Sweep.{HasPlace}
 use Rattle.dm_stack.proofs.TopLemmas.{claims_within, none_passes, tidiness}
 use Rattle.dm_stack.proofs.stack.Stack.tidy.Goals as goal
 
