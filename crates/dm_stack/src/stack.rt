@@ -3,7 +3,7 @@
 //! The invariant carries the soundness, so nothing above asks for it again: a value is made only
 //! through the checks of a load. Names are looked up there; afterwards everything goes by ids.
 
-ghost use Rattle.std.specs.Prelude.{◌≡◌, ◌≢◌, ℕ, ◌+◌, ◌<◌, ◌≤◌, ◌^◌, ◌↔◌, IfErr, IfOk, IsTrue, OnOk, Some, is_none, length, position, slice_get};
+ghost use Rattle.std.specs.Prelude.{◌≡◌, ◌≢◌, ℕ, ◌+◌, ◌<◌, ◌≤◌, ◌^◌, ◌↔◌, IfErr, IfOk, IsTrue, OnOk, List, Option, Some, is_none, length, position, slice_get};
 ghost use Rattle.dm_table.specs.Name.{is_disk_name};
 ghost use Rattle.dm_stack.specs.Below.{HoldsSoundly, found_at, found_lines};
 ghost use Rattle.dm_stack.specs.Claims.{IsFirstClash, IsTidy, IsTop, claims};
@@ -11,6 +11,8 @@ ghost use Rattle.dm_stack.specs.Description.{Description, device_len, disk_len, 
 ghost use Rattle.dm_stack.specs.Loaded.{IsDeeperByOne, snapshots, stack_depth, AreSnapshots};
 ghost use Rattle.dm_stack.specs.LineSearch.{binary_digits};
 ghost use Rattle.dm_stack.specs.Soundness.{IsRefusedBy, IsSound};
+ghost use Rattle.dm_stack.specs.declared.claim.Claim.{Claim};
+ghost use Rattle.dm_stack.specs.declared.clash.Clash.{Clash};
 ghost use Rattle.dm_stack.specs.declared.graph.TheConstants.{MOST_DEPTH};
 ghost use Rattle.dm_stack.specs.declared.limits.TheConstants.{MOST_CHUNK, MOST_DEVICES, MOST_DISKS, MOST_LENGTH, MOST_LINES, MOST_PLACES, MOST_SNAPSHOT_CHUNK, MOST_STRIPES};
 ghost use Rattle.dm_table.specs.LoadFault.{IsMemoryFault};
@@ -223,6 +225,8 @@ impl Stack {
     pub fn tidy(&self, alloc: Global) -> Result<Option<Clash>, AllocError>
         ensures clash { IfOk result (λ found. IsFirstClash (claims self.now) found) }
         ensures tidy { IfOk result (λ found. IsTrue (is_none found) ↔ IsTidy self.now) }
+        // Claims have no other clash.
+        ensures one { (all : List Claim) (found other : Option Clash) → IsFirstClash all found → IsFirstClash all other → found ≡ other }
     {
         let claims = claims(alloc, &self.indexed())?;
         // An id is at most the count: that of a name that is not there.
