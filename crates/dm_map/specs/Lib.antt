@@ -1,3 +1,4 @@
+pub mod Counts
 pub mod Homes
 pub mod KeptLaws
 pub mod Mapper

@@ -12,11 +12,11 @@ use Rattle.dm_map.specs.Units.{BlockUnit, Fails, diskless_len, units_in}
 use Rattle.dm_map.specs.Mapping.{sector_step}
 use Rattle.dm_map.specs.State.{State}
 use Rattle.dm_map.specs.Steps.{Step, keep}
-use Rattle.dm_map.specs.Walk.{Walking, below_step, disk_unit, zero_unit, refuses, range_step, line_step, stripes_step, target_step}
+use Rattle.dm_map.specs.Walk.{Scene, Walking, below_step, disk_unit, zero_unit, refuses, range_step, line_step, scene, stripes_step, target_step}
 use Rattle.dm_map.proofs.Chunks.{chunk_read, in_one_chunk, in_snapshot, lost_read, write_line_step}
 use Rattle.dm_map.proofs.There.{device_there}
 use Rattle.dm_map.proofs.Ranges.{range_deepest, range_disk, range_refused, range_line, stripes_chunk, line_errors, line_linear, line_zeros}
-use Rattle.dm_map.proofs.Rows.{left_on, state_on, took_on, walked_as, walked_cut, walked_piece}
+use Rattle.dm_map.proofs.Rows.{added_then, left_on, state_on, took_on, walked_as, walked_cut, walked_piece}
 use Rattle.dm_map.proofs.Stripes.{column_inside, place_small}
 use Rattle.dm_map.proofs.walk.+walk.Goals as goal
 use Rattle.dm_map.proofs.walk.+walk.Goals.{map_device-then-levels-eq0-via-then-levels-eq0, map_device-then-levels-eq0-via-else-levels-eq0+then-refuses}
@@ -65,14 +65,15 @@ map_device-returns-in_err-map_line g t c =
     let part : line_step l.walker.stack a.op (a.levels - 1) a.device line.target l.walker.state (l.at - line.start) n ≡ range_step w.stack a.op a.levels (Device a.device) l.walker.state (a.sector + done) n =
     line_part w.stack l.walker.stack l.walker.state a.op a.levels (a.levels - 1) a.device a.sector l.at done n line l.invariant.same (omega (arith, c.if-levels-eq0.false))
     (sym c.refuses.ensures ∙ c.if-refuses.false) (omega (arith, l.invariant.place, l.invariant.within)) c.look-line.ensures.holds (omega (arith, c.part_in-part.ensures)) c.look-line.ensures.all in
-    let looked : (look : Walking → Step) → look c.look-line.new.self ≡ look l.walker = λ look. ap look c.look-line.ensures.same in
+    let looked : (look : Scene → Step) → look (scene c.look-line.new.self) ≡ look (scene l.walker) = λ look. ap look c.look-line.ensures.same in
     let step : line_step c.look-line.new.self.stack a.op (a.levels - 1) a.device line.target c.look-line.new.self.state (l.at - line.start) n ≡ range_step w.stack a.op a.levels (Device a.device) l.walker.state (a.sector + done) n =
     looked (λ v. line_step v.stack a.op (a.levels - 1) a.device line.target v.state (l.at - line.start) n) ∙ part in
     let walk = c.in_err-map_line.ensures in
     walked_cut g.S.Sink.took g.S.Sink.left g.S.Sink.stack g.S.Sink.room g.S.Sink.faults c.from_residual.result a.sink.now c.map_line.new.sink w c.map_line.new.walker (range_step w.stack a.op a.levels (Device a.device) w.state a.sector a.len) a.len c.from_residual.ensures.0
     (left_on g.S.Sink.took g.S.Sink.left g.met.S.Sink.took_then_left a.sink.now l.sink c.map_line.new.sink (sector_step w.stack a.op a.levels (Device a.device)) w.state l.walker.state a.sector done n a.len
     (omega (arith, c.part_in-part.ensures, l.invariant.within)) l.invariant.state l.invariant.taken (rw step at walk.left))
-    (omega (arith, walk.faults, l.invariant.faults)) (walk.stack ∙ ap (λ (v : Walking). v.stack) c.look-line.ensures.same ∙ l.invariant.same)
+    (omega (arith, walk.faults, l.invariant.faults)) (walk.stack ∙ ap (λ (v : Scene). v.stack) c.look-line.ensures.same ∙ l.invariant.same)
+    (added_then w.looked l.walker.looked c.map_line.new.walker.looked l.invariant.looked (added_then l.walker.looked c.look-line.new.self.looked c.map_line.new.walker.looked c.look-line.ensures.looked walk.looked))
 
 pub map_device-loop-left-preserved : goal.map_device-loop-left-preserved
 map_device-loop-left-preserved g t c =
@@ -80,7 +81,7 @@ map_device-loop-left-preserved g t c =
     let part : line_step l.walker.stack a.op (a.levels - 1) a.device line.target l.walker.state (l.at - line.start) n ≡ range_step w.stack a.op a.levels (Device a.device) l.walker.state (a.sector + done) n =
     line_part w.stack l.walker.stack l.walker.state a.op a.levels (a.levels - 1) a.device a.sector l.at done n line l.invariant.same (omega (arith, c.if-levels-eq0.false))
     (sym c.refuses.ensures ∙ c.if-refuses.false) (omega (arith, l.invariant.place, l.invariant.within)) c.look-line.ensures.holds (omega (arith, c.part_in-part.ensures)) c.look-line.ensures.all in
-    let looked : (look : Walking → Step) → look c.look-line.new.self ≡ look l.walker = λ look. ap look c.look-line.ensures.same in
+    let looked : (look : Scene → Step) → look (scene c.look-line.new.self) ≡ look (scene l.walker) = λ look. ap look c.look-line.ensures.same in
     let step : line_step c.look-line.new.self.stack a.op (a.levels - 1) a.device line.target c.look-line.new.self.state (l.at - line.start) n ≡ range_step w.stack a.op a.levels (Device a.device) l.walker.state (a.sector + done) n =
     looked (λ v. line_step v.stack a.op (a.levels - 1) a.device line.target v.state (l.at - line.start) n) ∙ part in
     let walk = c.in_ok-map_line.ensures in
@@ -94,7 +95,8 @@ map_device-loop-left-preserved g t c =
       state = rw on at state;
       within = omega (arith, l.invariant.within);
       place = omega (arith, l.invariant.place, c.part_in-part.ensures);
-      same = walk.stack ∙ ap (λ (v : Walking). v.stack) c.look-line.ensures.same ∙ l.invariant.same;
+      same = walk.stack ∙ ap (λ (v : Scene). v.stack) c.look-line.ensures.same ∙ l.invariant.same;
+      looked = added_then w.looked l.walker.looked c.map_line.new.walker.looked l.invariant.looked (added_then l.walker.looked c.look-line.new.self.looked c.map_line.new.walker.looked c.look-line.ensures.looked walk.looked);
       stack = walk.kept ∙ l.invariant.stack;
       room = omega (arith, walk.room, l.invariant.room, on);
       faults = omega (arith, walk.faults, l.invariant.faults);
@@ -170,7 +172,7 @@ map_stripes-returns-in_err-map_range g t c =
     walked_cut g.S.Sink.took g.S.Sink.left g.S.Sink.stack g.S.Sink.room g.S.Sink.faults c.from_residual.result a.sink.now c.map_range.new.sink w c.map_range.new.walker (stripes_step w.stack a.op a.levels a.chunk a.columns.now w.state a.distance a.len) a.len c.from_residual.ensures.0
     (left_on g.S.Sink.took g.S.Sink.left g.met.S.Sink.took_then_left a.sink.now l.sink c.map_range.new.sink row w.state l.walker.state a.distance done n a.len
     (omega (arith, c.min-part.ensures, l.invariant.within)) l.invariant.state l.invariant.taken (rw part at walk.left))
-    (omega (arith, walk.faults, l.invariant.faults)) (walk.stack ∙ l.invariant.same)
+    (omega (arith, walk.faults, l.invariant.faults)) (walk.stack ∙ l.invariant.same) (added_then w.looked l.walker.looked c.map_range.new.walker.looked l.invariant.looked walk.looked)
 
 pub map_stripes-next_chunk-place-requires-clause-small : goal.map_stripes-next_chunk-place-requires-clause-small
 map_stripes-next_chunk-place-requires-clause-small g t c =
@@ -200,6 +202,7 @@ map_stripes-loop-left-preserved g t c =
           let next_at : a.distance + done + (a.chunk - l.place.past) ≡ a.distance + (a.len - (l.left - n)) = omega (arith, c.min-part.ensures, l.invariant.within, more) in
           rw next_at at next;
       same = walk.stack ∙ l.invariant.same;
+      looked = added_then w.looked l.walker.looked c.map_range.new.walker.looked l.invariant.looked walk.looked;
       stack = walk.kept ∙ l.invariant.stack;
       room = omega (arith, walk.room, l.invariant.room, on);
       faults = omega (arith, walk.faults, l.invariant.faults);
@@ -244,7 +247,7 @@ map_snapshot-returns-in_err-map_chunk g t c =
     walked_cut g.S.Sink.took g.S.Sink.left g.S.Sink.stack g.S.Sink.room g.S.Sink.faults c.from_residual.result a.sink.now c.map_chunk.new.sink w c.map_chunk.new.walker (line_step w.stack a.op a.levels a.device (Snapshot a.snapshot.now) w.state a.sector a.len) a.len c.from_residual.ensures.0
     (left_on g.S.Sink.took g.S.Sink.left g.met.S.Sink.took_then_left a.sink.now l.sink c.map_chunk.new.sink row w.state l.walker.state a.sector done n a.len
     (omega (arith, c.part_of_chunk-part.ensures, l.invariant.within)) l.invariant.state l.invariant.taken (rw part at walk.left))
-    (omega (arith, walk.faults, l.invariant.faults)) (walk.stack ∙ l.invariant.same)
+    (omega (arith, walk.faults, l.invariant.faults)) (walk.stack ∙ l.invariant.same) (added_then w.looked l.walker.looked c.map_chunk.new.walker.looked l.invariant.looked walk.looked)
 
 pub map_snapshot-loop-left-preserved : goal.map_snapshot-loop-left-preserved
 map_snapshot-loop-left-preserved g t c =
@@ -261,6 +264,7 @@ map_snapshot-loop-left-preserved g t c =
       within = omega (arith, l.invariant.within);
       place = omega (arith, l.invariant.place, c.part_of_chunk-part.ensures);
       same = walk.stack ∙ l.invariant.same;
+      looked = added_then w.looked l.walker.looked c.map_chunk.new.walker.looked l.invariant.looked walk.looked;
       stack = walk.kept ∙ l.invariant.stack;
       room = omega (arith, walk.room, l.invariant.room, on);
       faults = omega (arith, walk.faults, l.invariant.faults);

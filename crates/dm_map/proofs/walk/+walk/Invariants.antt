@@ -1,6 +1,7 @@
 use Rattle.std.proofs.Common.{◌≡◌, ◌+◌, ◌-◌, ◌*◌, ◌<◌, ◌≤◌, length}
 use Rattle.dm_stack.specs.declared.found.FoundTarget.TheVariants.{Snapshot}
 use Rattle.dm_stack.specs.declared.id.Lower.TheVariants.{Device}
+use Rattle.dm_map.specs.Counts.{AreAdded}
 use Rattle.dm_map.specs.Walk.{range_step, line_step, stripes_step, IsPlace}
 use Rattle.dm_map.proofs.walk.+walk.Given as goal
 
@@ -29,6 +30,7 @@ invariant-map_device-loop-left g l = record {
   within : l.left ≤ l.len;
   place : l.at + l.left ≡ l.sector + l.len;
   same : l.walker.stack ≡ l.fn.walker.stack;
+  looked : AreAdded l.fn.walker.looked l.walker.looked;
   stack : g.S.Sink.stack l.sink ≡ g.S.Sink.stack l.fn.sink;
   room : g.S.Sink.room l.fn.sink ≤ g.S.Sink.room l.sink + (l.len - l.left);
   faults : g.S.Sink.faults l.sink ≡ g.S.Sink.faults l.fn.sink;
@@ -44,6 +46,7 @@ invariant-map_stripes-loop-left g l = record {
   within : l.left ≤ l.len;
   place : 0 < l.left → IsPlace l.chunk (length l.columns) (l.distance + (l.len - l.left)) l.place;
   same : l.walker.stack ≡ l.fn.walker.stack;
+  looked : AreAdded l.fn.walker.looked l.walker.looked;
   stack : g.S.Sink.stack l.sink ≡ g.S.Sink.stack l.fn.sink;
   room : g.S.Sink.room l.fn.sink ≤ g.S.Sink.room l.sink + (l.len - l.left);
   faults : g.S.Sink.faults l.sink ≡ g.S.Sink.faults l.fn.sink;
@@ -59,6 +62,7 @@ invariant-map_snapshot-loop-left g l = record {
   within : l.left ≤ l.len;
   place : l.from + l.left ≡ l.sector + l.len;
   same : l.walker.stack ≡ l.fn.walker.stack;
+  looked : AreAdded l.fn.walker.looked l.walker.looked;
   stack : g.S.Sink.stack l.sink ≡ g.S.Sink.stack l.fn.sink;
   room : g.S.Sink.room l.fn.sink ≤ g.S.Sink.room l.sink + (l.len - l.left);
   faults : g.S.Sink.faults l.sink ≡ g.S.Sink.faults l.fn.sink;
