@@ -6,12 +6,16 @@
 
 ghost use Rattle.std.specs.Prelude.{◌≡◌, ℕ, ◌+◌, ◌*◌, ◌^◌, ◌<◌, ◌≤◌, ◌∷◌, false, true, length, nat_lt, IfOk, IfSome, OnOk, []};
 ghost use Rattle.dm_stack.specs.Description.{Description, device_len};
-ghost use Rattle.dm_stack.specs.Loaded.{snapshots, IsSnapshot};
+ghost use Rattle.dm_table.specs.declared.request.Op.TheVariants.{Read};
+ghost use Rattle.dm_stack.specs.Loaded.{snapshots, stack_depth, IsSnapshot};
+ghost use Rattle.dm_stack.specs.Soundness.{depth_of};
 ghost use Rattle.dm_stack.specs.declared.graph.TheConstants.{MOST_DEPTH};
 ghost use Rattle.dm_stack.specs.declared.id.Lower.TheVariants.{Device};
 ghost use Rattle.dm_map.specs.Mapping.{request_step};
+ghost use Rattle.dm_map.specs.Bound.{IsBounded};
 ghost use Rattle.dm_map.specs.Counts.{grown_by, no_counts, AreAdded};
 ghost use Rattle.dm_map.specs.Mapper.{walking_of, with_looked, OnSinkFault, OnStopped, OnTried};
+ghost use Rattle.dm_map.specs.Path.{path, read_stretches};
 ghost use Rattle.dm_map.specs.Sink.{OfBeginning};
 ghost use Rattle.dm_map.specs.State.{start_state, taken_at};
 ghost use Rattle.dm_map.specs.Tables.{snapshot_at};
@@ -90,8 +94,9 @@ impl<'s, T: Taken> Mapper<'s, T> {
     ///
     /// The id belongs to the mapper's stack, which is also the sink's, and the sink has room for the
     /// request. Each piece is a stretch of sectors whose path down stays in one line, and one chunk,
-    /// of each device. Cost: at most one line look-up for each piece and level, and a single one for
-    /// consecutive sectors that reach a line together. No memory is taken.
+    /// of each device. Cost of a read: at most as many line searches as the stack is deep for each run
+    /// of sectors with one path (`specs/Path`), however long, and at most 17 comparisons each; they are
+    /// counted (`searches`, `probes`). No memory is taken.
     ///
     /// # Errors
     ///
@@ -117,6 +122,7 @@ impl<'s, T: Taken> Mapper<'s, T> {
         ensures stopped { OnStopped result ((self.old.stopped ≡ true) × (self.new ≡ self.old) × (sink.new ≡ sink.old)) }
         ensures counted { OnTried result (self.new.looked ≡ grown_by self.old.looked self.new.last) }
         ensures few { OnTried result (self.new.last.comparisons ≤ 17 * self.new.last.searches) }
+        ensures bounded { OnTried result (request.now.op ≡ Read → self.new.last.searches ≤ stack_depth self.old.stack * read_stretches self.old.stack self.old.state device request.now.start request.now.len) }
     {
         if self.stopped {
             return Err(MapFault::Stopped);
@@ -176,8 +182,10 @@ impl<'s, T: Taken> Mapper<'s, T> {
         requires device { device < length self.old.stack.devices }
         requires sink { IsReady S.stack S.room sink.old self.old.stack request.now.len }
         ensures walked { IsWalked S.took S.left S.stack S.room S.faults result sink.old sink.new (walking_of self.old) (walking_of self.new) (request_step self.old.stack request.now.op device request.now.start request.now.len self.old.state) request.now.len }
+        ensures bounded { request.now.op ≡ Read → self.new.looked.searches ≤ self.old.looked.searches + stack_depth self.old.stack * read_stretches self.old.stack self.old.state device request.now.start request.now.len }
         ensures stopped { self.new.stopped ≡ self.old.stopped }
     {
+        self.walker.is_sound();
         let end = self.walker.len(device);
         if passes_end(request, end) {
             return sink.piece(Piece::Error { len: request.len });
@@ -195,6 +203,7 @@ impl<'s, T: Taken> Mapper<'s, T> {
         requires inside { request.now.start + request.now.len ≤ device_len self.old.stack device }
         requires sink { IsReady S.stack S.room sink.old self.old.stack request.now.len }
         ensures walked { IsWalked S.took S.left S.stack S.room S.faults result sink.old sink.new (walking_of self.old) (walking_of self.new) (range_step self.old.stack request.now.op MOST_DEPTH (Device device) self.old.state request.now.start request.now.len) request.now.len }
+        ensures bounded { IsBounded (walking_of self.old) (walking_of self.new) request.now.op (depth_of self.old.stack device) (path self.old.stack self.old.state MOST_DEPTH (Device device)) request.now.start request.now.len }
         ensures stopped { self.new.stopped ≡ self.old.stopped }
     {
         let lower = Lower::Device(device);
