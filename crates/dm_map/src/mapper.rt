@@ -36,6 +36,9 @@ use std::fmt;
 use std::marker::Model;
 use thiserror::Error;
 
+#[cfg(test)]
+mod tests;
+
 /// Why a request was not mapped to its end.
 #[derive(Clone, Copy, Debug, PartialEq, Eq, Drop, Error)]
 #[error_bound(F: fmt::Display)]
