@@ -164,7 +164,7 @@ lines_apart stack state levels fewer device at line more last before found all =
     let one : last.line ≡ line = cc in
     let end : last.line.start + last.line.len ≡ line.start + line.len = ap (λ (l : FoundLine). l.start + l.len) one in
     omega (arith, end, last.past, before)) in
-    rw (line_at stack state levels fewer device (at - 1) last.line more last.found, line_at stack state levels fewer device at line more found) 
+    rw (line_at stack state levels fewer device (at - 1) last.line more last.found, line_at stack state levels fewer device at line more found)
     (other_start device last.line.start line.start (chunk_at last.line.target (at - 1 - last.line.start)) (chunk_at line.target (at - line.start))
     (lower_path stack state fewer device last.line.target (at - 1 - last.line.start)) (lower_path stack state fewer device line.target (at - line.start)) differs)
 

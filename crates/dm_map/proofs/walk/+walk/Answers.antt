@@ -266,9 +266,9 @@ map_stripes-loop-left-preserved g t c =
       bounded = λ device line found kind.
           let part : IsLineBounded l.walker c.map_range.new.walker a.op a.levels device line (a.distance + done) n =
           stripe_bound l.walker c.map_range.new.walker a.op a.levels device a.chunk a.columns.now line column l.place (a.distance + done) c.sector_at-sector.result n
-    (subst (λ (s : Description). found_at s device line.start ≡ Some line) (sym l.invariant.same) found) kind stripes.some stripes.chunk_some at some most c.index-columns-place.is c.sector_at-sector.ensures c.in_ok-map_range.ensures.bounded in
+          (subst (λ (s : Description). found_at s device line.start ≡ Some line) (sym l.invariant.same) found) kind stripes.some stripes.chunk_some at some most c.index-columns-place.is c.sector_at-sector.ensures c.in_ok-map_range.ensures.bounded in
           rw on at (chunks_on w l.walker c.map_range.new.walker a.op a.levels device a.chunk a.distance done n line (λ d. ap (λ (t : FoundTarget). chunk_at t d) kind) l.invariant.same
-    (λ is. l.invariant.state ∙ stripes_kept w.stack a.op a.levels a.chunk a.columns.now w.state a.distance done is) (λ later. l.invariant.edge later c.loop-left-test.true) some (l.invariant.bounded device line found kind) part);
+          (λ is. l.invariant.state ∙ stripes_kept w.stack a.op a.levels a.chunk a.columns.now w.state a.distance done is) (λ later. l.invariant.edge later c.loop-left-test.true) some (l.invariant.bounded device line found kind) part);
     }
 
 -- A snapshot
@@ -353,9 +353,9 @@ map_snapshot-loop-left-preserved g t c =
           rw next_at at first;
       bounded = λ line found kind.
           let next = subst (λ (p : ℕ). IsLineBounded l.walker c.map_chunk.new.walker a.op a.levels a.device line p n) place
-    (c.in_ok-map_chunk.ensures.bounded line (subst (λ (s : Description). found_at s a.device line.start ≡ Some line) (sym l.invariant.same) found) kind) in
+          (c.in_ok-map_chunk.ensures.bounded line (subst (λ (s : Description). found_at s a.device line.start ≡ Some line) (sym l.invariant.same) found) kind) in
           rw on at (chunks_on w l.walker c.map_chunk.new.walker a.op a.levels a.device a.snapshot.now.chunk a.sector done n line (λ d. ap (λ (t : FoundTarget). chunk_at t d) kind) l.invariant.same
-    (λ is. l.invariant.state ∙ line_kept w.stack a.op a.levels a.device (Snapshot a.snapshot.now) w.state a.sector done is) (λ later. l.invariant.edge later c.loop-left-test.true) some (l.invariant.bounded line found kind) next);
+          (λ is. l.invariant.state ∙ line_kept w.stack a.op a.levels a.device (Snapshot a.snapshot.now) w.state a.sector done is) (λ later. l.invariant.edge later c.loop-left-test.true) some (l.invariant.bounded line found kind) next);
     }
 
 -- A chunk of it
