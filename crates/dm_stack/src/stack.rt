@@ -303,6 +303,7 @@ impl Stack {
         ensures holds { HoldsSoundly self.now device result.0.now sector }
         ensures all { (other : ℕ) → result.0.now.start ≤ other → other < result.0.now.start + result.0.now.len → found_at self.now device other ≡ Some result.0.now }
         ensures few { result.1 ≤ binary_digits (length (lines_at self.now device)) }
+        ensures most { result.1 ≤ 17 }
     {
         let lines = self.lines(device);
         let (index, comparisons) = search(lines, sector);
