@@ -5,14 +5,15 @@
 //! of `map_line`, with a loop of its own where it cuts, and one of `below_target` and `write_target`.
 //! Each function says which units it hands over and which state it leaves.
 
-ghost use Rattle.std.specs.Prelude.{◌≡◌, ℕ, ◌+◌, ◌-◌, ◌<◌, ◌≤◌, ◌^◌, Some, length, min};
+ghost use Rattle.std.specs.Prelude.{◌≡◌, ℕ, ◌+◌, ◌-◌, ◌<◌, ◌≤◌, ◌^◌, Some, length, min, OnErr, OnOk};
+ghost use Rattle.dm_table.specs.DeviceIo.{fault_of};
 ghost use Rattle.dm_stack.specs.Below.{found_at, IsTargetSound};
 ghost use Rattle.dm_stack.specs.Description.{Description, device_len, lower_len};
 ghost use Rattle.dm_stack.specs.declared.found.FoundTarget.TheVariants.{Snapshot};
 ghost use Rattle.dm_stack.specs.declared.id.Lower.TheVariants.{Device};
 ghost use Rattle.dm_map.specs.SnapshotWrites.{write_snapshot};
 ghost use Rattle.dm_map.specs.Steps.{steps};
-ghost use Rattle.dm_map.specs.Units.{diskless_len, piece_len, units_in, units_of, IsOnDisk, IsOnDisks};
+ghost use Rattle.dm_map.specs.Units.{Fails, diskless_len, piece_len, units_in, units_of, IsOnDisk, IsOnDisks};
 ghost use Rattle.dm_map.specs.Walk.{disk_unit, zero_unit, refuses, range_step, line_step, stripes_step, AreInChunk, AreInSnapshot, AreInStripes, IsReady, IsWalked};
 
 use crate::chunk::{part_of_chunk, read_place};
@@ -71,7 +72,7 @@ fn map_device<S: Sink, T: Taken>(
     ensures { IsWalked S.took S.left S.stack S.room S.faults result sink.old sink.new walker.old walker.new (range_step walker.old.stack op levels (Device device) walker.old.state sector len) len }
 {
     if levels == 0 || refuses(walker, op, device) {
-        return sink.piece(Piece::Error { len });
+        return fail(len, sink);
     }
     let mut at = sector;
     let mut left = len;
@@ -116,8 +117,8 @@ fn map_line<S: Sink, T: Taken>(
             let columns = columns.as_slice();
             map_stripes(walker, op, levels, *chunk, columns, distance, len, sink)
         }
-        FoundTarget::Zero => sink.piece(zero_piece(op, len)),
-        FoundTarget::Error => sink.piece(Piece::Error { len }),
+        FoundTarget::Zero => hand_zeros(op, len, sink),
+        FoundTarget::Error => fail(len, sink),
         FoundTarget::Snapshot(snapshot) => {
             map_snapshot(walker, op, levels, device, snapshot, distance, len, sink)
         }
@@ -161,7 +162,10 @@ fn map_stripes<S: Sink, T: Taken>(
 
 /// Hands over the units of sectors of a snapshot, chunk by chunk, through at most this many levels of
 /// devices below it.
+///
+/// It is never inlined: the walk through lines and stripes is the faster for it.
 #[cycle(walk)]
+#[inline(never)]
 fn map_snapshot<S: Sink, T: Taken>(
     walker: &mut Walker<'_, T>,
     op: Op,
@@ -236,6 +240,35 @@ fn write_chunk<S: Sink, T: Taken>(
         Some(place) => write_store(walker, &place.to, place.sector, len, sink),
         None => sink.piece(Piece::Error { len }),
     }
+}
+
+/// Fails sectors. This is rare, and a sink's call in line would take registers from all others, so it
+/// is never inlined.
+#[inline(never)]
+fn fail<S: Sink>(len: u64, sink: &mut S) -> Result<(), S::Fault>
+    requires some { 1 ≤ len }
+    requires room { len ≤ S.room sink.old }
+    ensures took { OnOk result (S.took sink.old (units_in Fails len) sink.new) }
+    ensures left { OnErr result (S.left sink.old (units_in Fails len) sink.new) }
+    ensures faults { S.faults sink.new ≡ S.faults sink.old + fault_of result }
+    ensures stack { OnOk result (S.stack sink.new ≡ S.stack sink.old) }
+    ensures room { OnOk result (S.room sink.old ≤ S.room sink.new + len) }
+{
+    sink.piece(Piece::Error { len })
+}
+
+/// Hands over sectors in zeros. It is never inlined, as `fail` is not.
+#[inline(never)]
+fn hand_zeros<S: Sink>(op: Op, len: u64, sink: &mut S) -> Result<(), S::Fault>
+    requires some { 1 ≤ len }
+    requires room { len ≤ S.room sink.old }
+    ensures took { OnOk result (S.took sink.old (units_in (zero_unit op) len) sink.new) }
+    ensures left { OnErr result (S.left sink.old (units_in (zero_unit op) len) sink.new) }
+    ensures faults { S.faults sink.new ≡ S.faults sink.old + fault_of result }
+    ensures stack { OnOk result (S.stack sink.new ≡ S.stack sink.old) }
+    ensures room { OnOk result (S.room sink.old ≤ S.room sink.new + len) }
+{
+    sink.piece(zero_piece(op, len))
 }
 
 /// Whether a device refuses the operation as a whole: a write, where it is read-only.

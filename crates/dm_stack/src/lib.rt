@@ -5,6 +5,7 @@
 #![tactic(auto)]
 
 mod depth;
+mod disk_text;
 mod found;
 mod graph;
 mod id;
@@ -27,6 +28,7 @@ mod store_places;
 mod stores;
 mod stripes;
 
+pub use disk_text::DiskText;
 pub use found::{Found, FoundColumn, FoundColumns, FoundLine, FoundSnapshot, FoundTarget};
 pub use graph::MOST_DEPTH;
 pub use id::{DeviceId, DiskId, Lower};
