@@ -6,7 +6,8 @@
 //! Each function says which units it hands over, which state it leaves, and, of a read, how often it
 //! searches: at most once a level for each stretch of sectors with one path (`specs/Path`).
 
-ghost use Rattle.std.specs.Prelude.{◌≡◌, ℕ, ◌+◌, ◌-◌, ◌<◌, ◌≤◌, ◌^◌, Some, length, min};
+ghost use Rattle.std.specs.Prelude.{◌≡◌, ℕ, ◌+◌, ◌-◌, ◌<◌, ◌≤◌, ◌^◌, Some, length, min, OnErr, OnOk};
+ghost use Rattle.dm_table.specs.DeviceIo.{fault_of};
 ghost use Rattle.dm_stack.specs.Below.{found_at, IsTargetSound};
 ghost use Rattle.dm_stack.specs.Description.{Description, device_len, lower_len};
 ghost use Rattle.dm_stack.specs.Loaded.{lower_depth};
@@ -17,7 +18,7 @@ ghost use Rattle.dm_map.specs.Bound.{IsBounded, IsLineBounded, IsTargetBounded};
 ghost use Rattle.dm_map.specs.Path.{path};
 ghost use Rattle.dm_map.specs.SnapshotWrites.{write_snapshot};
 ghost use Rattle.dm_map.specs.Steps.{steps};
-ghost use Rattle.dm_map.specs.Units.{diskless_len, piece_len, units_in, units_of, IsOnDisk, IsOnDisks};
+ghost use Rattle.dm_map.specs.Units.{Fails, diskless_len, piece_len, units_in, units_of, IsOnDisk, IsOnDisks};
 ghost use Rattle.dm_map.specs.Walk.{disk_unit, zero_unit, refuses, range_step, line_step, stripes_step, AreInChunk, AreInSnapshot, AreInStripes, IsReady, IsWalked};
 
 use crate::chunk::{part_of_chunk, read_place};
@@ -78,7 +79,7 @@ fn map_device<S: Sink, T: Taken>(
     ensures bounded { IsBounded walker.old walker.new op (depth_of walker.old.stack device) (path walker.old.stack walker.old.state levels (Device device)) sector len }
 {
     if levels == 0 || refuses(walker, op, device) {
-        return sink.piece(Piece::Error { len });
+        return fail(len, sink);
     }
     let mut at = sector;
     let mut left = len;
@@ -124,8 +125,8 @@ fn map_line<S: Sink, T: Taken>(
             let columns = columns.as_slice();
             map_stripes(walker, op, levels, *chunk, columns, distance, len, sink)
         }
-        FoundTarget::Zero => sink.piece(zero_piece(op, len)),
-        FoundTarget::Error => sink.piece(Piece::Error { len }),
+        FoundTarget::Zero => hand_zeros(op, len, sink),
+        FoundTarget::Error => fail(len, sink),
         FoundTarget::Snapshot(snapshot) => {
             map_snapshot(walker, op, levels, device, snapshot, distance, len, sink)
         }
@@ -170,7 +171,10 @@ fn map_stripes<S: Sink, T: Taken>(
 
 /// Hands over the units of sectors of a snapshot, chunk by chunk, through at most this many levels of
 /// devices below it.
+///
+/// It is never inlined: the walk through lines and stripes is the faster for it.
 #[cycle(walk)]
+#[inline(never)]
 fn map_snapshot<S: Sink, T: Taken>(
     walker: &mut Walker<'_, T>,
     op: Op,
@@ -247,6 +251,35 @@ fn write_chunk<S: Sink, T: Taken>(
         Some(place) => write_store(walker, &place.to, place.sector, len, sink),
         None => sink.piece(Piece::Error { len }),
     }
+}
+
+/// Fails sectors. This is rare, and a sink's call in line would take registers from all others, so it
+/// is never inlined.
+#[inline(never)]
+fn fail<S: Sink>(len: u64, sink: &mut S) -> Result<(), S::Fault>
+    requires some { 1 ≤ len }
+    requires room { len ≤ S.room sink.old }
+    ensures took { OnOk result (S.took sink.old (units_in Fails len) sink.new) }
+    ensures left { OnErr result (S.left sink.old (units_in Fails len) sink.new) }
+    ensures faults { S.faults sink.new ≡ S.faults sink.old + fault_of result }
+    ensures stack { OnOk result (S.stack sink.new ≡ S.stack sink.old) }
+    ensures room { OnOk result (S.room sink.old ≤ S.room sink.new + len) }
+{
+    sink.piece(Piece::Error { len })
+}
+
+/// Hands over sectors in zeros. It is never inlined, as `fail` is not.
+#[inline(never)]
+fn hand_zeros<S: Sink>(op: Op, len: u64, sink: &mut S) -> Result<(), S::Fault>
+    requires some { 1 ≤ len }
+    requires room { len ≤ S.room sink.old }
+    ensures took { OnOk result (S.took sink.old (units_in (zero_unit op) len) sink.new) }
+    ensures left { OnErr result (S.left sink.old (units_in (zero_unit op) len) sink.new) }
+    ensures faults { S.faults sink.new ≡ S.faults sink.old + fault_of result }
+    ensures stack { OnOk result (S.stack sink.new ≡ S.stack sink.old) }
+    ensures room { OnOk result (S.room sink.old ≤ S.room sink.new + len) }
+{
+    sink.piece(zero_piece(op, len))
 }
 
 /// Whether a device refuses the operation as a whole: a write, where it is read-only.

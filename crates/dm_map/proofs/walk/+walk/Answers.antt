@@ -1,4 +1,4 @@
-use Rattle.std.proofs.Common.{rules, ◌≡◌, ℕ, suc, ◌+◌, ◌-◌, ◌^◌, ◌<◌, ◌≤◌, false, List, Some, length, sym, ap, subst, ◌∙◌, arith}
+use Rattle.std.proofs.Common.{rules, ◌≡◌, ℕ, suc, ◌+◌, ◌-◌, ◌^◌, ◌<◌, ◌≤◌, false, List, Some, length, refl, sym, ap, subst, ◌∙◌, arith}
 use Rattle.dm_table.specs.declared.request.Op.{Op}
 use Rattle.dm_stack.specs.declared.found.FoundColumn.{FoundColumn}
 use Rattle.dm_stack.specs.declared.found.FoundLine.{FoundLine}
@@ -43,12 +43,12 @@ map_range-returns-in-Disk-clause-walked g t c =
 
 pub map_device-returns-then-levels-eq0-clause-walked : goal.map_device-returns-then-levels-eq0-clause-walked
 map_device-returns-then-levels-eq0-clause-walked g t c =
-    let a = c.args in let p = c.piece in
+    let a = c.args in let p = c.fail in
     let fails : keep (units_in Fails a.len) a.walker.now.state ≡ range_step a.walker.now.stack a.op a.levels (Device a.device) a.walker.now.state a.sector a.len = elim c.then-levels-eq0.branch [
       | map_device-then-levels-eq0-via-then-levels-eq0 b ↦ sym (range_deepest a.walker.now.stack a.op a.levels a.device a.sector a.len a.walker.now.state b.if-levels-eq0.true)
       | map_device-then-levels-eq0-via-else-levels-eq0+then-refuses b ↦ sym (range_refused a.walker.now.stack a.op a.levels a.device a.sector a.len a.walker.now.state (sym b.refuses.ensures ∙ b.if-refuses.true))
     ] in
-    walked_piece g.S.Sink.took g.S.Sink.left g.S.Sink.stack g.S.Sink.room g.S.Sink.faults p.result a.sink.now p.new.self a.walker.now _ _ a.len a.len fails (omega arith) p.ensures.took p.ensures.left p.ensures.faults p.ensures.stack p.ensures.room
+    walked_piece g.S.Sink.took g.S.Sink.left g.S.Sink.stack g.S.Sink.room g.S.Sink.faults p.result a.sink.now p.new.sink a.walker.now _ _ a.len a.len fails (omega arith) p.ensures.took p.ensures.left p.ensures.faults p.ensures.stack p.ensures.room
 
 pub map_device-look-line-requires-clause-device : goal.map_device-look-line-requires-clause-device
 map_device-look-line-requires-clause-device g t c =
@@ -161,14 +161,14 @@ map_line-returns-in-Striped-clause-walked g t c =
 
 pub map_line-returns-in-Zero-clause-walked : goal.map_line-returns-in-Zero-clause-walked
 map_line-returns-in-Zero-clause-walked g t c =
-    let a = c.args in let device = a.device in let p = c.piece in
-    walked_piece g.S.Sink.took g.S.Sink.left g.S.Sink.stack g.S.Sink.room g.S.Sink.faults p.result a.sink.now p.new.self a.walker.now _ _ a.len a.len (zeros_step a.walker.now a.op a.levels device a.distance a.len a.line.now.target _ c.in-Zero.is c.zero_piece.ensures.units) (omega arith)
-    p.ensures.took p.ensures.left p.ensures.faults p.ensures.stack (rw c.zero_piece.ensures.diskless at p.ensures.room)
+    let a = c.args in let device = a.device in let p = c.hand_zeros in
+    walked_piece g.S.Sink.took g.S.Sink.left g.S.Sink.stack g.S.Sink.room g.S.Sink.faults p.result a.sink.now p.new.sink a.walker.now _ _ a.len a.len (zeros_step a.walker.now a.op a.levels device a.distance a.len a.line.now.target _ c.in-Zero.is refl) (omega arith)
+    p.ensures.took p.ensures.left p.ensures.faults p.ensures.stack p.ensures.room
 
 pub map_line-returns-in-Error-clause-walked : goal.map_line-returns-in-Error-clause-walked
 map_line-returns-in-Error-clause-walked g t c =
-    let a = c.args in let device = a.device in let p = c.piece-in-Error in
-    walked_piece g.S.Sink.took g.S.Sink.left g.S.Sink.stack g.S.Sink.room g.S.Sink.faults p.result a.sink.now p.new.self a.walker.now _ _ a.len a.len (errors_step a.walker.now a.op a.levels device a.distance a.len a.line.now.target c.in-Error.is) (omega arith)
+    let a = c.args in let device = a.device in let p = c.fail in
+    walked_piece g.S.Sink.took g.S.Sink.left g.S.Sink.stack g.S.Sink.room g.S.Sink.faults p.result a.sink.now p.new.sink a.walker.now _ _ a.len a.len (errors_step a.walker.now a.op a.levels device a.distance a.len a.line.now.target c.in-Error.is) (omega arith)
     p.ensures.took p.ensures.left p.ensures.faults p.ensures.stack p.ensures.room
 
 -- Stripes
