@@ -1,7 +1,7 @@
 use Rattle.std.proofs.Common.{ap, codes, true, ◌≡◌, ◌∙◌}
 use Rattle.clap.specs.Simple.{app_of_fields, on_top}
 use Rattle.clap.specs.Words.{App, app_of, new_app, with_subcommand}
-use Rattle.dmremap.specs.Words.{name_app, program_app, source_app, split_app}
+use Rattle.dmremap.specs.Words.{map_app, name_app, program_app, source_app, split_app}
 use Rattle.dmremap.proofs.words.program.Goals as goal
 
 pub returns : goal.returns
@@ -21,5 +21,5 @@ returns c =
           (c.in_ok-name.ensures _ _ c.in_ok-subcommand-4.ensures ∙ ap (λ (a : App). with_subcommand a name_app.top)
           (c.in_ok-concise.ensures _ _ c.in_ok-subcommand-3.ensures ∙ ap (λ (a : App). with_subcommand a (source_app (codes "concise") parser).top)
           (c.in_ok-table.ensures _ _ c.in_ok-subcommand-2.ensures ∙ ap (λ (a : App). with_subcommand a (source_app (codes "table") parser).top)
-          (c.in_ok-map.ensures _ _ c.in_ok-subcommand.ensures ∙ ap (λ (a : App). with_subcommand a (source_app (codes "map") parser).top) bare)))),
+          (c.in_ok-map.ensures _ _ c.in_ok-subcommand.ensures ∙ ap (λ (a : App). with_subcommand a (map_app parser).top) bare)))),
     )
