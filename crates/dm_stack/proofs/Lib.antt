@@ -1,3 +1,4 @@
+pub mod Apart
 pub mod ChunkLemmas
 pub mod CrowdLemmas
 pub mod DepthLemmas
@@ -10,6 +11,7 @@ pub mod LineSearchLemmas
 pub mod LoadLemmas
 pub mod NameLemmas
 pub mod OneFault
+pub mod Parts
 pub mod Passes
 pub mod PathLemmas
 pub mod PlaceLemmas
