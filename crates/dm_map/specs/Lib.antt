@@ -1,7 +1,10 @@
+pub mod Contents
+pub mod Fitting
 pub mod Homes
 pub mod KeptLaws
 pub mod Mapper
 pub mod Mapping
+pub mod Own
 pub mod PieceList
 pub mod Reads
 pub mod Sink
@@ -14,3 +17,4 @@ pub mod Tables
 pub mod Units
 pub mod Usage
 pub mod Walk
+pub mod Ways
