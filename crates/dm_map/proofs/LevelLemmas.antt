@@ -81,7 +81,7 @@ pub over_read : (P : ℕ → Type 0) (taken : Taken) → GoesOn (read_over taken
 unfolding GoesOn
 over_read P taken snapshot sector store origin = over_by P snapshot sector taken.valid (number_in (sector / snapshot.chunk) taken.chunks) store origin
 
-on_target : (over : FoundSnapshot → ℕ → Below) (stack : Description) (P : ℕ → Type 0) (len : ℕ) (target : Target) (distance : ℕ) → GoesOn over P → AllByRecursion P (span_links stack (target_spans len target)) → OnBelow P (below_target over (found_target stack target) distance)
+pub on_target : (over : FoundSnapshot → ℕ → Below) (stack : Description) (P : ℕ → Type 0) (len : ℕ) (target : Target) (distance : ℕ) → GoesOn over P → AllByRecursion P (span_links stack (target_spans len target)) → OnBelow P (below_target over (found_target stack target) distance)
 unfolding OnBelow GoesOn
 on_target over stack P len (targets.Linear to offset) distance on each = on_ref stack P to (all_parts P (ref_link stack to) [] each).0
 on_target over stack P len (targets.Striped chunk columns) distance on each =
@@ -92,7 +92,7 @@ on_target over stack P len (targets.Snapshot origin store chunk) distance on eac
     let store_first = all_parts P (ref_link stack store) (span_links stack (whole_span origin true ∷ [])) each in
     on (record { origin = lower_of stack origin; store = lower_of stack store; chunk = chunk }) distance (on_ref stack P store store_first.0) (on_ref stack P origin (all_parts P (ref_link stack origin) [] store_first.1).0)
 
-on_lines : (stack : Description) (P : ℕ → Type 0) (lines : List Line) → AllByRecursion P (flat_map (line_links stack) lines) → AllByRecursion (λ line. AllByRecursion P (line_links stack line)) lines
+pub on_lines : (stack : Description) (P : ℕ → Type 0) (lines : List Line) → AllByRecursion P (flat_map (line_links stack) lines) → AllByRecursion (λ line. AllByRecursion P (line_links stack line)) lines
 on_lines stack P [] each = tt
 on_lines stack P (line ∷ lines) each =
     let parts = all_parts P (line_links stack line) (flat_map (line_links stack) lines) each in

@@ -1,6 +1,8 @@
 pub mod Back
+pub mod Bounds
 pub mod ChunkCopies
 pub mod Chunks
+pub mod Depths
 pub mod FoundLines
 pub mod HomeLemmas
 pub mod How
@@ -10,6 +12,7 @@ pub mod Made
 pub mod Numbers
 pub mod OneLevel
 pub mod OwnWrites
+pub mod Paths
 pub mod Plays
 pub mod Ranges
 pub mod Readies

@@ -1,10 +1,13 @@
+pub mod Bound
 pub mod Contents
+pub mod Counts
 pub mod Fitting
 pub mod Homes
 pub mod KeptLaws
 pub mod Mapper
 pub mod Mapping
 pub mod Own
+pub mod Path
 pub mod PieceList
 pub mod Reads
 pub mod Sink
