@@ -1,5 +1,5 @@
 -- One level down: what lies below is less deep, and from there on the levels that are left play no part.
-use Rattle.std.proofs.Common.{◌≡◌, ℕ, zero, suc, ◌<◌, ◌≤◌, inl, inr, cond, List, [], ◌∷◌, Option, None, length, map, refl, sym, ap, subst, ◌∙◌, arith}
+use Rattle.std.proofs.Common.{◌≡◌, ℕ, zero, suc, ◌-◌, ◌<◌, ◌≤◌, inl, inr, cond, [], ◌∷◌, Option, Some, None, length, refl, sym, ap, subst, ◌∙◌, arith}
 use Rattle.std.specs.Prelude.{option_map}
 use Rattle.std.specs.List.{AllByRecursion}
 use Rattle.std.proofs.lemmas.Bool.{cases_lt}
@@ -10,10 +10,9 @@ use Rattle.dm_stack.specs.declared.id.Lower.TheVariants.{Device, Disk}
 use Rattle.dm_stack.specs.declared.found.FoundLine.{FoundLine}
 use Rattle.dm_stack.specs.Below.{Below, Lies, IsError, below, below_line, found_at, found_line, line_of}
 use Rattle.dm_stack.specs.Description.{Description, is_ro_at, links, lines_or_none}
-use Rattle.dm_stack.specs.Graph.{greatest, links_of}
+use Rattle.dm_stack.specs.Graph.{links_of}
 use Rattle.dm_stack.specs.Loaded.{lower_depth}
 use Rattle.dm_stack.specs.Soundness.{IsSound, depth_of}
-use Rattle.dm_stack.proofs.DepthLemmas.{depth_to-deeper}
 use Rattle.dm_map.specs.Mapping.{write_line, write_step}
 use Rattle.dm_map.specs.Reads.{by_below, read_below, read_unit}
 use Rattle.dm_map.specs.SnapshotWrites.{read}
@@ -21,31 +20,10 @@ use Rattle.dm_map.specs.Snapshots.{read_over}
 use Rattle.dm_map.specs.State.{State, taken_at}
 use Rattle.dm_map.specs.Steps.{Step, keep}
 use Rattle.dm_map.specs.Units.{ReadOf, Zeros, Fails}
-use Rattle.dm_map.proofs.LevelLemmas.{IsShallow, OnBelow, OnLower, named_shallow, on_below, over_read, same_below, same_line, same_read, same_write, shallow}
+use Rattle.dm_map.proofs.Depths.{below_less, depth_some}
+use Rattle.dm_map.proofs.LevelLemmas.{IsShallow, OnBelow, named_shallow, on_below, over_read, same_below, same_line, same_read, same_write, shallow}
 
 -- What lies below a device is less deep
-
-each_less : (f : ℕ → ℕ) (xs : List ℕ) (n : ℕ) → greatest (map f xs) < n → AllByRecursion (λ x. f x < n) xs
-each_less f [] n less = tt
-each_less f (x ∷ xs) n less = (omega (arith, less), each_less f xs n (omega (arith, less)))
-
-pub device_deeper : (stack : Description) (device : ℕ) → IsSound stack → device < length stack.devices → 0 < depth_of stack device
-device_deeper stack device sound there =
-    let deeper = depth_to-deeper (links stack) 32 device (shallow stack device sound there) in omega (arith, deeper)
-
-named_less : (stack : Description) (device : ℕ) → IsSound stack → device < length stack.devices → AllByRecursion (λ e. depth_of stack e < depth_of stack device) (links_of (links stack) device)
-named_less stack device sound there =
-    let deeper = depth_to-deeper (links stack) 32 device (shallow stack device sound there) in
-    each_less (depth_of stack) (links_of (links stack) device) (depth_of stack device) (omega (arith, deeper))
-
-less_deep : (stack : Description) (n : ℕ) (to : Lower) → 0 < n → OnLower (λ e. depth_of stack e < n) to → lower_depth stack to < n
-unfolding OnLower
-less_deep stack n (Device device) some less = less
-less_deep stack n (Disk disk) some less = some
-
-less_below : (stack : Description) (n : ℕ) (b : Below) (to : Lower) (at : ℕ) → 0 < n → OnBelow (λ e. depth_of stack e < n) b → b ≡ Lies to at → lower_depth stack to < n
-unfolding OnBelow
-less_below stack n b to at some on is = less_deep stack n to some (subst (λ (x : Below). OnBelow (λ e. depth_of stack e < n) x) is on)
 
 none_past : (stack : Description) (device sector : ℕ) → length stack.devices ≤ device → found_at stack device sector ≡ None
 none_past stack device sector past = ap (λ o. option_map (found_line stack) (line_of (lines_or_none o) sector)) (slice_get_past stack.devices device past)
@@ -53,15 +31,14 @@ none_past stack device sector past = ap (λ o. option_map (found_line stack) (li
 pub below_past : (stack : Description) (state : State) (device sector : ℕ) → length stack.devices ≤ device → read_below stack state device sector ≡ IsError
 below_past stack state device sector past = ap (λ (line : Option FoundLine). below_line (read_over (taken_at state device)) line sector) (none_past stack device sector past)
 
-no_error : (to : Lower) (at : ℕ) → IsError ≡ Lies to at → ⊥
-no_error to at e = cc
+next_line : (stack : Description) (state : State) (device sector : ℕ) (to : Lower) (at : ℕ) (line : Option FoundLine) → IsSound stack → found_at stack device sector ≡ line → below_line (read_over (taken_at state device)) line sector ≡ Lies to at
+    → lower_depth stack to < depth_of stack device
+next_line stack state device sector to at None sound is e = absurd cc
+next_line stack state device sector to at (Some line) sound is e =
+    let less = below_less stack state device sector (sector - line.start) line to at sound is e in let some = depth_some stack device in omega (arith, less, some)
 
 pub next_depth : (stack : Description) (state : State) (device sector : ℕ) (to : Lower) (at : ℕ) → IsSound stack → read_below stack state device sector ≡ Lies to at → lower_depth stack to < depth_of stack device
-next_depth stack state device sector to at sound is = elim (cases_lt device (length stack.devices)) [
-  | inl there ↦ less_below stack (depth_of stack device) (read_below stack state device sector) to at (device_deeper stack device sound there)
-      (on_below (read_over (taken_at state device)) stack (λ e. depth_of stack e < depth_of stack device) device sector (over_read (λ e. depth_of stack e < depth_of stack device) (taken_at state device)) (named_less stack device sound there)) is
-  | inr past ↦ absurd (no_error to at (sym (below_past stack state device sector past) ∙ is))
-]
+next_depth stack state device sector to at sound e = next_line stack state device sector to at (found_at stack device sector) sound refl e
 
 -- The levels that are left
 
