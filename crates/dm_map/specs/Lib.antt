@@ -1,9 +1,12 @@
 pub mod Bound
+pub mod Contents
 pub mod Counts
+pub mod Fitting
 pub mod Homes
 pub mod KeptLaws
 pub mod Mapper
 pub mod Mapping
+pub mod Own
 pub mod Path
 pub mod PieceList
 pub mod Reads
@@ -17,3 +20,4 @@ pub mod Tables
 pub mod Units
 pub mod Usage
 pub mod Walk
+pub mod Ways
