@@ -1,0 +1,4 @@
+pub mod PatchLemmas
+pub mod PlayedLemmas
+pub mod RunLemmas
+pub mod UnitPlays

@@ -1,0 +1,17 @@
+//! Requests played on the values of disks.
+//!
+//! A `Replay` plays the units of requests, one request after the other, on disks whose sectors hold
+//! what was there before, and answers what each sector of a request reads or stores. No table of
+//! sectors is made: what it keeps grows with the pieces that were stored.
+#![tactic(auto)]
+
+mod disk_values;
+mod patch;
+mod player;
+mod playing;
+mod stretch;
+mod value;
+mod value_run;
+mod value_runs;
+
+pub use value_run::ValueRun;

@@ -1,0 +1,115 @@
+//! The player: a sink that plays the pieces of a request on the values of disks.
+//!
+//! Its relation speaks of values sector by sector, so nothing above knows that they are kept as
+//! ranges. Nothing is said of a player that failed.
+
+ghost use Rattle.std.specs.Prelude.{◌≡◌, ◌+◌, ◌<◌, ◌≤◌, ◌^◌, OnOk};
+ghost use Rattle.dm_map.specs.Units.{IsOnDisk, IsOnDisks, piece_len, units_of};
+ghost use Rattle.dm_replay.specs.Player.{HasPlayed};
+
+use crate::playing::Playing;
+use crate::value_run::ValueRun;
+use dm_map::{Piece, Sink};
+use dm_stack::{DiskId, Stack};
+use dm_table::Tally;
+use std::alloc::AllocError;
+
+/// Plays pieces on the disks of a stack.
+#[derive(Drop)]
+pub(crate) struct Player<'s> {
+    pub stack: &'s Stack,
+    pub playing: Playing,
+    pub faults: Tally,
+}
+
+impl Player<'_> {
+    /// Plays a piece.
+    fn play(&mut self, piece: Piece) -> Result<(), AllocError>
+        requires some { 1 ≤ piece_len piece }
+        requires lies { IsOnDisks self.old.stack.now piece }
+        ensures played { OnOk result (HasPlayed self.old.playing (units_of piece) self.new.playing) }
+        ensures stack { self.new.stack ≡ self.old.stack }
+        ensures faults { self.new.faults ≡ self.old.faults }
+    {
+        match piece {
+            Piece::Read { disk, start, len } => {
+                is_small(self.stack, disk, start, len);
+                self.playing.read(disk, start, len)
+            }
+            Piece::Write { disk, start, len } => {
+                is_small(self.stack, disk, start, len);
+                self.playing.write(disk, start, len)
+            }
+            Piece::Zero { len } => {
+                self.playing.answer(ValueRun::Zero { len })?;
+                Ok(())
+            }
+            Piece::Drop { len } => {
+                self.playing.answer(ValueRun::Zero { len })?;
+                Ok(())
+            }
+            Piece::Error { len } => {
+                self.playing.answer(ValueRun::Error { len })?;
+                Ok(())
+            }
+            Piece::Copy {
+                disk,
+                start,
+                len,
+                to,
+                to_start,
+            } => {
+                is_small(self.stack, disk, start, len);
+                is_small(self.stack, to, to_start, len);
+                self.playing.copy(disk, start, len, to, to_start)
+            }
+            Piece::Fill { len, disk, start } => {
+                is_small(self.stack, disk, start, len);
+                self.playing.fill(disk, start, len)
+            }
+        }
+    }
+}
+
+/// No disk is longer than 2^50 sectors.
+fn is_small(stack: &Stack, disk: DiskId, start: u64, len: u64)
+    requires { IsOnDisk stack.now disk start len }
+    ensures { start + len ≤ 2 ^ 50 }
+{
+    prove!(stack.disk_len(disk) <= 1 << 50);
+}
+
+impl Sink for Player<'_> {
+    ghost use Rattle.std.specs.Prelude.{◌^◌};
+    ghost use Rattle.dm_replay.specs.Player.{HasPlayed};
+    ghost use Rattle.dm_replay.specs.PlayLaws.{played_nothing, played_both};
+
+    type Fault = AllocError;
+
+    ghost stack = { λ player. player.stack.now };
+
+    ghost room = { λ player. 2 ^ 64 };
+
+    ghost faults = { λ player. player.faults };
+
+    ghost took = { λ old units new. HasPlayed old.playing units new.playing };
+
+    ghost left = { λ old units new. Unit {0} };
+
+    /// Plays the piece, or fails where it is out of memory.
+    fn piece(&mut self, piece: Piece) -> Result<(), AllocError> {
+        match self.play(piece) {
+            Ok(()) => Ok(()),
+            Err(fault) => {
+                self.faults.raise();
+                Err(fault)
+            }
+        }
+    }
+
+    ghost took_nothing = { λ s. played_nothing s.playing };
+
+    ghost took_then_took = { λ a b c us vs first second. played_both a.playing b.playing c.playing us vs first second };
+
+    ghost took_then_left = { λ a b c us vs first second. tt };
+}
