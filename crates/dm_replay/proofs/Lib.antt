@@ -1,4 +1,5 @@
 pub mod PatchLemmas
+pub mod Playbacks
 pub mod PlayedLemmas
 pub mod RunLemmas
 pub mod UnitPlays

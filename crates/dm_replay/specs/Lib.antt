@@ -3,6 +3,7 @@ pub mod Patches
 pub mod PlayLaws
 pub mod Player
 pub mod Ranges
+pub mod Replay
 pub mod Rows
 pub mod Runs
 pub mod Values

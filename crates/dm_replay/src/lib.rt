@@ -5,8 +5,10 @@
 //! sectors is made: what it keeps grows with the pieces that were stored.
 #![tactic(auto)]
 
+mod asked_request;
 mod disk_values;
 mod patch;
+mod playback;
 mod player;
 mod playing;
 mod stretch;

@@ -3,16 +3,19 @@
 //! Its relation speaks of values sector by sector, so nothing above knows that they are kept as
 //! ranges. Nothing is said of a player that failed.
 
-ghost use Rattle.std.specs.Prelude.{◌≡◌, ◌+◌, ◌<◌, ◌≤◌, ◌^◌, OnOk};
+ghost use Rattle.std.specs.Prelude.{◌≡◌, ◌+◌, ◌<◌, ◌≤◌, ◌^◌, [], OnOk};
 ghost use Rattle.dm_map.specs.Units.{IsOnDisk, IsOnDisks, piece_len, units_of};
 ghost use Rattle.dm_replay.specs.Player.{HasPlayed};
+ghost use Rattle.dm_replay.specs.Runs.{AreMaximal};
 
 use crate::playing::Playing;
 use crate::value_run::ValueRun;
+use crate::value_runs::ValueRuns;
 use dm_map::{Piece, Sink};
 use dm_stack::{DiskId, Stack};
 use dm_table::Tally;
-use std::alloc::AllocError;
+use std::alloc::{AllocError, Global};
+use std::mem::replace;
 
 /// Plays pieces on the disks of a stack.
 #[derive(Drop)]
@@ -23,6 +26,27 @@ pub(crate) struct Player<'s> {
 }
 
 impl Player<'_> {
+    /// Sets the number of the request that comes next, and the sector of its device that is answered
+    /// first. Nothing is answered yet.
+    pub(crate) fn begin(&mut self, alloc: Global, number: u64, first: u64)
+        ensures playing { self.new.playing ≡ record { values = self.old.playing.values; number = number; next = first; runs = [] } }
+        ensures stack { self.new.stack ≡ self.old.stack }
+    {
+        self.playing.number = number;
+        self.playing.next = first;
+        self.playing.runs = ValueRuns::new(alloc);
+    }
+
+    /// What was answered since a request began; it is not kept.
+    pub(crate) fn take_runs(&mut self, alloc: Global) -> Vec<ValueRun>
+        ensures runs { result.items ≡ self.old.playing.runs }
+        ensures maximal { AreMaximal result.items }
+        ensures values { self.new.playing.values ≡ self.old.playing.values }
+        ensures stack { self.new.stack ≡ self.old.stack }
+    {
+        replace(&mut self.playing.runs, ValueRuns::new(alloc)).into_vec()
+    }
+
     /// Plays a piece.
     fn play(&mut self, piece: Piece) -> Result<(), AllocError>
         requires some { 1 ≤ piece_len piece }
