@@ -1,4 +1,5 @@
 pub mod Below
+pub mod Claims
 pub mod Description
 pub mod Graph
 pub mod LineSearch

@@ -4,6 +4,8 @@
 //! soundness again. Lines are found by a `Looker` alone, which counts its searches.
 #![tactic(auto)]
 
+mod claim;
+mod clash;
 mod depth;
 mod found;
 mod graph;
@@ -27,6 +29,7 @@ mod store_places;
 mod stores;
 mod stripes;
 
+pub use clash::Clash;
 pub use found::{Found, FoundColumn, FoundColumns, FoundLine, FoundSnapshot, FoundTarget};
 pub use graph::MOST_DEPTH;
 pub use id::{DeviceId, DiskId, Lower};

@@ -6,8 +6,8 @@
 ghost use Rattle.std.specs.Prelude.{◌≡◌, IfErr, IfOk, Some, false, option_and_then};
 ghost use Rattle.std.specs.Prelude.{option_map};
 ghost use Rattle.clap.specs.Walk.{texts};
-ghost use Rattle.clap.specs.Words.{app_of, found_of, kind_of, rows_of, rule_of};
-ghost use Rattle.clap.specs.Words.{subcommand_rows_of};
+ghost use Rattle.clap.specs.Words.{App, app_of, found_of, kind_of, rows_of, rule_of};
+ghost use Rattle.clap.specs.Words.{subcommand_rows_of, with_subcommand};
 ghost use Rattle.dmremap.specs.Words.{IsCommand, TakesFormats, command_line, format_named};
 ghost use Rattle.dmremap.specs.Words.{IsFaultOf, IsJobOf, IsNotText, fault_from, file_words, files_in, files_of, format_rule, has_disk_list};
 ghost use Rattle.dmremap.specs.Words.{has_its_disks, has_lone_hyphen, name_app, name_in, optional_rule};
@@ -459,29 +459,43 @@ fn split_command<'a>(alloc: Global) -> Result<Command<'a>, AllocError>
     )
 }
 
+// The command line with one more command, if that was made. A step of `program` then holds nothing
+// that it has to drop where memory runs out.
+fn with_command<'a>(
+    line: Command<'a>,
+    command: Result<Command<'a>, AllocError>,
+) -> Result<Command<'a>, AllocError>
+    ensures { (app : App) → IfOk command.entry (IsCommand app)
+        → IfOk result (λ longer. app_of longer ≡ with_subcommand (app_of line.entry) app.top) }
+{
+    line.subcommand(command?)
+}
+
 // The whole command line.
 fn program<'a>(alloc: Global) -> Result<Command<'a>, AllocError>
     ensures { IfOk result (λ c. (parser : _) × TakesFormats parser
         × (app_of c ≡ command_line parser)) }
 {
     let parser = format_parser();
-    let map = source_command(alloc, "map", MAP_ABOUT, MAP_NOTES, parser)?;
-    let table = source_command(alloc, "table", TABLE_ABOUT, TABLE_NOTES, parser)?;
-    let concise = source_command(alloc, "concise", CONCISE_ABOUT, CONCISE_NOTES, parser)?;
-    let name = name_command(alloc)?;
-    let split = split_command(alloc)?;
-    Ok(
-        Command::new(alloc, "dmremap")
-            .about(ABOUT)
-            .after_help(NOTES)
-            .subcommand_required(true)
-            .arg_required_else_help(true)
-            .subcommand(map)?
-            .subcommand(table)?
-            .subcommand(concise)?
-            .subcommand(name)?
-            .subcommand(split)?,
-    )
+    let line = Command::new(alloc, "dmremap")
+        .about(ABOUT)
+        .after_help(NOTES)
+        .subcommand_required(true)
+        .arg_required_else_help(true);
+    let line = with_command(
+        line,
+        source_command(alloc, "map", MAP_ABOUT, MAP_NOTES, parser),
+    )?;
+    let line = with_command(
+        line,
+        source_command(alloc, "table", TABLE_ABOUT, TABLE_NOTES, parser),
+    )?;
+    let line = with_command(
+        line,
+        source_command(alloc, "concise", CONCISE_ABOUT, CONCISE_NOTES, parser),
+    )?;
+    let line = with_command(line, name_command(alloc))?;
+    with_command(line, split_command(alloc))
 }
 
 /// The fault where an argument isn't UTF-8, so that there are no words to read.
