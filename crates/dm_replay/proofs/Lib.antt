@@ -1,5 +1,7 @@
+pub mod NamedLemmas
 pub mod PatchLemmas
 pub mod Playbacks
 pub mod PlayedLemmas
 pub mod RunLemmas
 pub mod UnitPlays
+pub mod WorldLemmas

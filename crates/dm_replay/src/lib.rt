@@ -6,14 +6,19 @@
 #![tactic(auto)]
 
 mod asked_request;
+mod claims_stub;
 mod disk_values;
 mod patch;
 mod playback;
 mod player;
 mod playing;
+mod replay;
+mod replay_fault;
 mod stretch;
 mod value;
 mod value_run;
 mod value_runs;
 
+pub use replay::Replay;
+pub use replay_fault::ReplayFault;
 pub use value_run::ValueRun;

@@ -8,6 +8,7 @@ ghost use Rattle.dm_map.specs.Units.{IsOnDisk, IsOnDisks, piece_len, units_of};
 ghost use Rattle.dm_replay.specs.Player.{HasPlayed};
 ghost use Rattle.dm_replay.specs.Runs.{AreMaximal};
 
+use crate::disk_values::DiskValues;
 use crate::playing::Playing;
 use crate::value_run::ValueRun;
 use crate::value_runs::ValueRuns;
@@ -25,7 +26,24 @@ pub(crate) struct Player<'s> {
     pub faults: Tally,
 }
 
-impl Player<'_> {
+impl<'s> Player<'s> {
+    /// A player on the disks of a stack, as they are at the start. No memory is taken.
+    pub(crate) fn new(alloc: Global, stack: &'s Stack) -> Player<'s>
+        ensures stack { result.stack.now ≡ stack.now }
+        ensures patches { result.playing.values.patches.items ≡ [] }
+    {
+        Player {
+            stack,
+            playing: Playing {
+                values: DiskValues::new(alloc),
+                number: 0,
+                next: 0,
+                runs: ValueRuns::new(alloc),
+            },
+            faults: Tally::new(),
+        }
+    }
+
     /// Sets the number of the request that comes next, and the sector of its device that is answered
     /// first. Nothing is answered yet.
     pub(crate) fn begin(&mut self, alloc: Global, number: u64, first: u64)
