@@ -1,4 +1,5 @@
 pub mod NamedLemmas
+pub mod OfDiskLemmas
 pub mod PatchLemmas
 pub mod Playbacks
 pub mod PlayedLemmas

@@ -1,4 +1,6 @@
 pub mod Histories
+pub mod OfDiskLaws
+pub mod OfDisks
 pub mod Patches
 pub mod PlayLaws
 pub mod Player

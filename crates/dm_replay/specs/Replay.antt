@@ -1,8 +1,8 @@
 -- A replay, and what its results say.
-use Rattle.std.specs.Prelude.{◌≡◌, ℕ, Bool, true, false, List, [], None, Option, Some, position}
+use Rattle.std.specs.Prelude.{◌≡◌, ℕ, Bool, true, false, List, [], None, Some, length, position}
 use Rattle.dm_table.specs.declared.request.Request.{Request}
 use Rattle.dm_stack.specs.declared.clash.Clash.{Clash}
-use Rattle.dm_stack.specs.Claims.{IsTidiness, IsTidy, IsTop}
+use Rattle.dm_stack.specs.Claims.{IsClash, IsTidy, IsTop, claims}
 use Rattle.dm_stack.specs.Description.{Description, device_id, is_same}
 use Rattle.dm_map.specs.Mapper.{Mapping}
 use Rattle.dm_map.specs.State.{State}
@@ -10,6 +10,7 @@ use Rattle.dm_replay.specs.declared.patch.Patch.{Patch}
 use Rattle.dm_replay.specs.declared.replay_fault.ReplayFault.{ReplayFault}
 use Rattle.dm_replay.specs.declared.replay_fault.ReplayFault.TheVariants as faults
 use Rattle.dm_replay.specs.Histories.{Asked, World, world_after}
+use Rattle.dm_replay.specs.OfDisks.{AreValuesOf}
 use Rattle.dm_replay.specs.Patches.{values_in}
 
 -- a replay: its stack, the requests that it accepted, and whether it stopped
@@ -37,7 +38,7 @@ pub record HasTop (of : Description) (name : List ℕ) : Type 0 where
 
 -- why there is no new replay: a clash, or no memory
 abbrev pub IsNotBegun : ReplayFault → Description → Type 0
-IsNotBegun faults.Untidy of = (clash : Clash) × IsTidiness of (Some clash)
+IsNotBegun faults.Untidy of = (clash : Clash) × IsClash (claims of) clash
 IsNotBegun faults.Memory of = Unit {0}
 IsNotBegun faults.NotTop of = ⊥
 IsNotBegun faults.Stopped of = ⊥
@@ -56,6 +57,7 @@ pub record IsGoing (of : Description) (mapper : Mapping) (disks : Description) (
   pub player_stack : disks ≡ of
   pub state_is : mapper.state ≡ (world_after of all).state
   pub values_are : (disk sector : ℕ) → values_in patches disk sector ≡ (world_after of all).values disk sector
+  pub disks_are : AreValuesOf (length of.disks) (values_in patches)
 
 -- unless it stopped; no claims of its stack meet
 pub record IsReplay (of : Description) (mapper : Mapping) (disks : Description) (patches : List Patch) (all : List Asked) (ended : Bool) : Type 0 where

@@ -1,11 +1,12 @@
-ghost use Rattle.std.specs.Prelude.{◌≡◌, IfOk};
-ghost use Rattle.std.specs.Bool.{Decides};
+ghost use Rattle.std.specs.Prelude.{◌≡◌, ◌<◌, ◌↔◌, IsTrue, IfOk, length};
+ghost use Rattle.std.specs.List.{AllPairs};
 ghost use Rattle.dm_stack.specs.Claims.{IsTidiness, IsTop};
 use dm_stack::{Clash, DeviceId, Stack};
 use std::alloc::{AllocError, Global};
 
 pub(crate) fn is_top(stack: &Stack, device: DeviceId) -> bool
-    ensures { Decides result (IsTop stack.now device) }
+    requires { device < length stack.now.devices }
+    ensures { IsTrue result ↔ IsTop stack.now device }
 {
     stack.is_ro(device)
 }

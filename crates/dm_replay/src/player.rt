@@ -124,6 +124,11 @@ fn is_small(stack: &Stack, disk: DiskId, start: u64, len: u64)
 impl Sink for Player<'_> {
     ghost use Rattle.std.specs.Prelude.{◌^◌};
     ghost use Rattle.dm_replay.specs.Player.{HasPlayed};
+    ghost use Rattle.std.specs.Prelude.{◌≡◌, length};
+    ghost use Rattle.std.proofs.Common.{refl, subst, ◌∙◌};
+    ghost use Rattle.dm_stack.specs.Description.{Description};
+    ghost use Rattle.dm_replay.specs.OfDisks.{AreUnitsOf};
+    ghost use Rattle.dm_replay.specs.OfDiskLaws.{units_of-append};
     ghost use Rattle.dm_replay.specs.PlayLaws.{played_nothing, played_both};
 
     type Fault = AllocError;
@@ -134,7 +139,8 @@ impl Sink for Player<'_> {
 
     ghost faults = { λ player. player.faults };
 
-    ghost took = { λ old units new. HasPlayed old.playing units new.playing };
+    ghost took = { λ old units new. HasPlayed old.playing units new.playing
+        × AreUnitsOf (length old.stack.now.disks) units × (new.stack.now ≡ old.stack.now) };
 
     ghost left = { λ old units new. Unit {0} };
 
@@ -149,9 +155,13 @@ impl Sink for Player<'_> {
         }
     }
 
-    ghost took_nothing = { λ s. played_nothing s.playing };
+    ghost took_nothing = { λ s. (played_nothing s.playing, tt, refl) };
 
-    ghost took_then_took = { λ a b c us vs first second. played_both a.playing b.playing c.playing us vs first second };
+    ghost took_then_took = { λ a b c us vs first second. (
+      played_both a.playing b.playing c.playing us vs first.0 second.0,
+      units_of-append (length a.stack.now.disks) us vs first.1 (subst (λ (stack : Description). AreUnitsOf (length stack.disks) vs) first.2 second.1),
+      second.2 ∙ first.2,
+    ) };
 
     ghost took_then_left = { λ a b c us vs first second. tt };
 }

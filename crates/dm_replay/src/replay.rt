@@ -3,10 +3,12 @@
 //! `specs/Histories.antt` says what the disks hold after the requests that were accepted, and what a
 //! request answers then; `specs/Rows.antt` says what each device would hold if it were alone.
 
-ghost use Rattle.std.specs.Prelude.{◌≡◌, ◌∷◌, ◌++◌, [], IfErr, IfOk, IfSome, None, OnOk, Option, Some, false, position};
+ghost use Rattle.std.specs.Prelude.{◌≡◌, ◌∷◌, ◌++◌, [], IfErr, IfOk, IfSome, None, OnOk, Option, Some, false, length, position};
+ghost use Rattle.std.specs.List.{AllByRecursion};
 ghost use Rattle.dm_stack.specs.Claims.{IsTidy, IsTop};
 ghost use Rattle.dm_stack.specs.Description.{is_same};
 ghost use Rattle.dm_replay.specs.Histories.{asked_answers, world_after};
+ghost use Rattle.dm_replay.specs.OfDisks.{IsRunOf};
 ghost use Rattle.dm_replay.specs.Replay.{HasTop, IsNotAnswered, IsNotBegun, asked_request, new_replay};
 ghost use Rattle.dm_replay.specs.Runs.{AreMaximal, flat};
 
@@ -91,6 +93,7 @@ impl<'s, T: Taken> Replay<'s, T> {
         ensures stack { self.new.stack ≡ self.old.stack }
         ensures answers { IfOk result (λ runs. flat runs.items ≡ asked_answers self.old.stack (world_after self.old.stack self.old.asked) (asked_request self.old.stack request.now)) }
         ensures runs { IfOk result (λ runs. AreMaximal runs.items) }
+        ensures disks { IfOk result (λ runs. AllByRecursion (IsRunOf (length self.old.stack.disks)) runs.items) }
         ensures top { OnOk result (HasTop self.old.stack request.now.device.now) }
         ensures asked { OnOk result (self.new.asked ≡ self.old.asked ++ asked_request self.old.stack request.now ∷ []) }
         ensures going { OnOk result ((self.old.stopped ≡ false) × (self.new.stopped ≡ false)) }

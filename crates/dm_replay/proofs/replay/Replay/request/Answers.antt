@@ -24,7 +24,7 @@ invariant_of-self-2 g c =
       going = λ _. subst (λ (all : List Asked). IsGoing inside.stack.now c.play_request.new.mapper newer.stack.now newer.playing.values.patches.items all)
           (ap (λ (asked : Asked). inside.asked.items ++ asked ∷ []) (sym c.new.ensures) ∙ sym c.in-Ok-push.ensures.items)
           (going_next inside.stack.now inside.player.stack.now newer.stack.now inside.mapper c.play_request.new.mapper inside.player.playing.values.patches.items newer.playing.values.patches.items inside.asked.items request c.in-Some.device
-          (c.self.invariant.going c.if-self.false) did.going did.stack did.same_stack did.state did.values);
+          (c.self.invariant.going c.if-self.false) did.going did.stack did.same_stack did.state did.values did.disks);
     }
 
 pub returns-clause-answers : goal.returns-clause-answers
