@@ -21,6 +21,7 @@ mod name_index;
 mod names;
 mod placed;
 mod ranges;
+mod reach;
 mod resolve;
 mod snapshots;
 mod span;
@@ -28,6 +29,7 @@ mod stack;
 mod store_places;
 mod stores;
 mod stripes;
+mod tidy;
 
 pub use clash::Clash;
 pub use found::{Found, FoundColumn, FoundColumns, FoundLine, FoundSnapshot, FoundTarget};

@@ -3,9 +3,10 @@
 //! The invariant carries the soundness, so nothing above asks for it again: a value is made only
 //! through the checks of a load. Names are looked up there; afterwards everything goes by ids.
 
-ghost use Rattle.std.specs.Prelude.{◌≡◌, ◌≢◌, ℕ, ◌+◌, ◌<◌, ◌≤◌, ◌^◌, IfErr, IfOk, IsTrue, OnOk, Some, length, position, slice_get};
+ghost use Rattle.std.specs.Prelude.{◌≡◌, ◌≢◌, ℕ, ◌+◌, ◌<◌, ◌≤◌, ◌^◌, ◌↔◌, IfErr, IfOk, IsTrue, OnOk, Some, is_none, length, position, slice_get};
 ghost use Rattle.dm_table.specs.Name.{is_disk_name};
 ghost use Rattle.dm_stack.specs.Below.{HoldsSoundly, found_at, found_lines};
+ghost use Rattle.dm_stack.specs.Claims.{IsFirstClash, IsTidy, IsTop, claims};
 ghost use Rattle.dm_stack.specs.Description.{Description, device_len, disk_len, is_ro_at, is_same, name_at, disk_name_at, lines_at};
 ghost use Rattle.dm_stack.specs.Loaded.{IsDeeperByOne, snapshots, stack_depth, AreSnapshots};
 ghost use Rattle.dm_stack.specs.LineSearch.{binary_digits};
@@ -17,15 +18,19 @@ ghost use Rattle.dm_table.specs.declared.load_fault.LoadFault.{LoadFault};
 ghost use Rattle.dm_table.specs.declared.load_fault.LoadKind.TheVariants.{Memory};
 ghost use Rattle.dm_table.specs.declared.place.Part.TheVariants.{Source};
 
+use crate::claim::{claims, is_named};
+use crate::clash::Clash;
 use crate::found::{Found, FoundLine, FoundTable};
 use crate::id::{DeviceId, DiskId};
+use crate::indexed::Indexed;
 use crate::layout::end_of;
 use crate::line_search::search;
 use crate::load::check;
 use crate::looker::Looker;
 use crate::name_index::NameIndex;
+use crate::tidy::first_clash;
 use dm_table::{DeviceSpec, Disk, LoadFault};
-use std::alloc::Global;
+use std::alloc::{AllocError, Global};
 use std::marker::Model;
 
 /// A stack in which no check of a load finds a fault.
@@ -195,6 +200,40 @@ impl Stack {
         self.devices[device.index()].ro
     }
 
+    /// Whether no line names a device of the stack, so that none claims any of it.
+    ///
+    /// No memory is taken. Cost: a look-up for each line of the stack and each of its columns.
+    pub fn is_top(&self, device: DeviceId) -> bool
+        requires { device < length self.now.devices }
+        ensures { IsTrue result ↔ IsTop self.now device }
+    {
+        !is_named(&self.indexed(), device)
+    }
+
+    /// The first claim that meets an earlier one, or nothing, which is where the stack is tidy.
+    ///
+    /// A linear line claims its range below, a striped line one range a column, and a snapshot all
+    /// of its store and, for reading, all of its origin. Claims come by device, line and column, a
+    /// store before its origin. Two meet where they have a sector of one device or disk and not both
+    /// are for reading. The clash has the earliest claim that the first one meets, and the least
+    /// sector that both have.
+    ///
+    /// Fails only when out of memory. Cost: that of sorting the claims, and a walk over them for each
+    /// binary digit of their number, with memory for two copies of each.
+    pub fn tidy(&self, alloc: Global) -> Result<Option<Clash>, AllocError>
+        ensures clash { IfOk result (λ found. IsFirstClash (claims self.now) found) }
+        ensures tidy { IfOk result (λ found. IsTrue (is_none found) ↔ IsTidy self.now) }
+    {
+        let claims = claims(alloc, &self.indexed())?;
+        // An id is at most the count: that of a name that is not there.
+        first_clash(
+            alloc,
+            &claims,
+            self.device_count() + 1,
+            self.disk_count() + 1,
+        )
+    }
+
     /// The name of a device of the stack.
     pub fn name(&self, device: DeviceId) -> &str
         requires { device < length self.now.devices }
@@ -219,6 +258,19 @@ impl Stack {
         ensures comparisons { result.comparisons ≡ 0 }
     {
         Looker::new(self)
+    }
+
+    /// The description, with its names indexed.
+    fn indexed(&self) -> Indexed<'_>
+        ensures description { result ≡ self.now }
+        ensures sound { IsSound self.now }
+    {
+        Indexed::new(
+            &self.devices,
+            &self.disks,
+            &self.device_names,
+            &self.disk_names,
+        )
     }
 
     /// What describes a device.
