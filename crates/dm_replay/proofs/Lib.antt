@@ -4,5 +4,6 @@ pub mod PatchLemmas
 pub mod Playbacks
 pub mod PlayedLemmas
 pub mod RunLemmas
+pub mod RunTextLemmas
 pub mod UnitPlays
 pub mod WorldLemmas

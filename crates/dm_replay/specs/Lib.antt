@@ -7,5 +7,6 @@ pub mod Player
 pub mod Ranges
 pub mod Replay
 pub mod Rows
+pub mod RunText
 pub mod Runs
 pub mod Values

@@ -6,7 +6,6 @@
 #![tactic(auto)]
 
 mod asked_request;
-mod claims_stub;
 mod disk_values;
 mod patch;
 mod playback;
@@ -14,6 +13,7 @@ mod player;
 mod playing;
 mod replay;
 mod replay_fault;
+mod run_text;
 mod stretch;
 mod value;
 mod value_run;
@@ -21,4 +21,5 @@ mod value_runs;
 
 pub use replay::Replay;
 pub use replay_fault::ReplayFault;
+pub use run_text::write_runs;
 pub use value_run::ValueRun;

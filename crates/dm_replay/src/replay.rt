@@ -56,7 +56,7 @@ impl<'s, T: Taken> Replay<'s, T> {
         ensures tidy { OnOk result (IsTidy stack.now) }
         ensures fault { IfErr result (λ fault. IsNotBegun fault stack.now) }
     {
-        match crate::claims_stub::tidy(alloc, stack) {
+        match stack.tidy(alloc) {
             Ok(None) => {}
             Ok(Some(_)) => return Err(ReplayFault::Untidy),
             Err(_) => return Err(ReplayFault::Memory),
@@ -125,7 +125,7 @@ fn top_device(stack: &Stack, name: &str) -> Option<DeviceId>
     ensures none { result ≡ None → HasTop stack.now name.now → ⊥ }
 {
     let device = stack.device(name)?;
-    if crate::claims_stub::is_top(stack, device) {
+    if stack.is_top(device) {
         Some(device)
     } else {
         None
