@@ -18,7 +18,7 @@ use Rattle.dm_stack.specs.declared.claim.Claim.{Claim}
 use Rattle.dm_stack.specs.declared.clash.Clash.{Clash}
 use Rattle.dm_stack.specs.declared.id.Lower.{Lower}
 use Rattle.dm_stack.specs.declared.id.Lower.TheVariants.{Device, Disk}
-use Rattle.dm_stack.specs.Claims.{AreApart, IsClash, IsFirstClash, IsTidy, IsTop, claims, device_claims, line_claims, span_claim}
+use Rattle.dm_stack.specs.Claims.{AreApart, IsClash, IsFirstClash, IsTidy, IsTop, MeetAt, claims, device_claims, line_claims, span_claim}
 use Rattle.dm_stack.specs.Description.{Description, is_same, lines_at, lines_or_none, lower_of}
 use Rattle.dm_stack.specs.Naming.{is_device, is_named, line_names}
 use Rattle.dm_stack.specs.Soundness.{IsSound, passes_end}
@@ -141,3 +141,74 @@ untied stack (Some clash) is = (λ e. absurd (true≢false (sym e)), λ tidy. ab
 pub tidiness : (stack : Description) (result : Result (Option Clash) AllocError) → IfOk result (λ found. IsFirstClash (claims stack) found) → IfOk result (λ found. IsTrue (is_none found) ↔ IsTidy stack)
 tidiness stack (Ok found) is = untied stack found is
 tidiness stack (Err fault) is = tt
+
+-- The clash of claims is one
+
+-- at which places its claims stand
+record Stands (all : List Claim) (clash : Clash) : Type 0 where
+  one : ℕ
+  other : ℕ
+  in_order : one < other
+  within : other < length all
+  pairs : (i j : ℕ) (d : Claim) → i < j → j < other → AreApart (get_or all i d) (get_or all j d)
+  earliest : (i : ℕ) (d : Claim) → i < one → AreApart (get_or all i d) (get_or all other d)
+  meet : (d : Claim) → MeetAt (get_or all one d) (get_or all other d) clash.lower clash.sector
+  least : (d : Claim) (sector : ℕ) → sector < clash.sector → MeetAt (get_or all one d) (get_or all other d) clash.lower sector → ⊥
+  of_one : (d : Claim) → clash.first ≡ (get_or all one d).device
+  of_other : (d : Claim) → clash.second ≡ (get_or all other d).device
+
+stands : (all : List Claim) (clash : Clash) → IsClash all clash → Stands all clash
+stands all clash is =
+    let front = is.before ++ is.earlier ∷ is.between in
+    let whole = front ++ is.later ∷ is.after in
+    let front_length = length-append is.before (is.earlier ∷ is.between) in
+    let whole_length = length-append front (is.later ∷ is.after) in
+    let same_length = ap (λ (list : List Claim). length list) is.split in
+    let at : (i : ℕ) (d : Claim) → i < length front → get_or all i d ≡ get_or front i d = λ i d below. ap (λ (list : List Claim). get_or list i d) is.split ∙ get_or_append_left front (is.later ∷ is.after) d i below in
+    let early : (d : Claim) → is.earlier ≡ get_or all (length is.before) d = λ d. sym (at (length is.before) d (omega arith) ∙ get_or-append_seam is.before is.earlier is.between d) in
+    let late : (d : Claim) → is.later ≡ get_or all (length front) d = λ d. sym (ap (λ (list : List Claim). get_or list (length front) d) is.split ∙ get_or-append_seam front is.later is.after d) in
+    record {
+      one = length is.before;
+      other = length front;
+      in_order = omega arith;
+      within = omega arith;
+      pairs = λ i j d less below. rw (at i d (omega arith), at j d below) (is.first i j d less below);
+      earliest = λ i d below. rw (at i d (omega arith), get_or_append_left is.before (is.earlier ∷ is.between) d i below, ← late d) (is.earliest i d below);
+      meet = λ d. rw (← early d, ← late d) is.meet;
+      least = λ d. rw (← early d, ← late d) is.least;
+      of_one = λ d. is.of_earlier ∙ ap (λ (claim : Claim). claim.device) (early d);
+      of_other = λ d. is.of_later ∙ ap (λ (claim : Claim). claim.device) (late d);
+    }
+
+in_turn : (a b : ℕ) → (a < b → ⊥) → (b < a → ⊥) → a ≡ b
+in_turn a b less more = grind (arith, less, more)
+
+same_parts : (a b : Clash) → a.lower ≡ b.lower → a.sector ≡ b.sector → a.first ≡ b.first → a.second ≡ b.second → a ≡ b
+same_parts a b lower sector first second =
+    ap (λ (l : Lower). make l a.sector a.first a.second) lower ∙ ap (λ (s : ℕ). make b.lower s a.first a.second) sector
+    ∙ ap (λ (one : ℕ). make b.lower b.sector one a.second) first ∙ ap (λ (other : ℕ). make b.lower b.sector b.first other) second
+  where
+    make : Lower → ℕ → ℕ → ℕ → Clash
+    make lower sector first second = record { lower = lower; sector = sector; first = first; second = second }
+
+same_clash : (all : List Claim) (a b : Clash) (d : Claim) → Stands all a → Stands all b → a ≡ b
+same_clash all a b d x y =
+    let other : x.other ≡ y.other = in_turn x.other y.other
+    (λ less. y.pairs x.one x.other d x.in_order less a.lower a.sector (x.meet d))
+    (λ more. x.pairs y.one y.other d y.in_order more b.lower b.sector (y.meet d)) in
+    let there : get_or all x.other d ≡ get_or all y.other d = ap (λ (i : ℕ). get_or all i d) other in
+    let one : x.one ≡ y.one = in_turn x.one y.one
+    (λ less. y.earliest x.one d less a.lower a.sector (subst (λ (claim : Claim). MeetAt (get_or all x.one d) claim a.lower a.sector) there (x.meet d)))
+    (λ more. x.earliest y.one d more b.lower b.sector (subst (λ (claim : Claim). MeetAt (get_or all y.one d) claim b.lower b.sector) (sym there) (y.meet d))) in
+    let here : get_or all x.one d ≡ get_or all y.one d = ap (λ (i : ℕ). get_or all i d) one in
+    let lower : a.lower ≡ b.lower = sym (x.meet d).there.on ∙ ap (λ (claim : Claim). claim.to) there ∙ (y.meet d).there.on in
+    let meet_a : MeetAt (get_or all y.one d) (get_or all y.other d) b.lower a.sector = rw (← here, ← there, ← lower) (x.meet d) in
+    let meet_b : MeetAt (get_or all x.one d) (get_or all x.other d) a.lower b.sector = rw (here, there, lower) (y.meet d) in
+    let sector : a.sector ≡ b.sector = in_turn a.sector b.sector (λ less. y.least d a.sector less meet_a) (λ more. x.least d b.sector more meet_b) in
+    same_parts a b lower sector (x.of_one d ∙ ap (λ (claim : Claim). claim.device) here ∙ sym (y.of_one d)) (x.of_other d ∙ ap (λ (claim : Claim). claim.device) there ∙ sym (y.of_other d))
+
+pub one_clash : (all : List Claim) (found other : Option Clash) → IsFirstClash all found → IsFirstClash all other → found ≡ other
+one_clash all None None a b = refl
+one_clash all None (Some other) a b = absurd (clash_unties all other b a)
+one_clash all (Some found) None a b = absurd (clash_unties all found a b)
+one_clash all (Some found) (Some other) a b = ap Some (same_clash all found other a.earlier (stands all found a) (stands all other b))

@@ -3,14 +3,16 @@
 //! The invariant carries the soundness, so nothing above asks for it again: a value is made only
 //! through the checks of a load. Names are looked up there; afterwards everything goes by ids.
 
-ghost use Rattle.std.specs.Prelude.{◌≡◌, ◌≢◌, ℕ, ◌+◌, ◌<◌, ◌≤◌, ◌^◌, ◌↔◌, IfErr, IfOk, IsTrue, OnOk, Some, is_none, length, position, slice_get};
+ghost use Rattle.std.specs.Prelude.{◌≡◌, ◌≢◌, ℕ, ◌+◌, ◌<◌, ◌≤◌, ◌^◌, ◌↔◌, IfErr, IfOk, IsTrue, OnOk, List, Option, Some, is_none, length, position, slice_get};
 ghost use Rattle.dm_table.specs.Name.{is_disk_name};
 ghost use Rattle.dm_stack.specs.Below.{HoldsSoundly, found_at, found_lines};
 ghost use Rattle.dm_stack.specs.Claims.{IsFirstClash, IsTidy, IsTop, claims};
 ghost use Rattle.dm_stack.specs.Description.{Description, device_len, disk_len, is_ro_at, is_same, name_at, disk_name_at, lines_at};
-ghost use Rattle.dm_stack.specs.Loaded.{IsDeeperByOne, snapshots, stack_depth, AreSnapshots};
+ghost use Rattle.dm_stack.specs.Loaded.{IsDeeperByOne, disk_text, snapshots, stack_depth, AreSnapshots};
 ghost use Rattle.dm_stack.specs.LineSearch.{binary_digits};
 ghost use Rattle.dm_stack.specs.Soundness.{IsRefusedBy, IsSound};
+ghost use Rattle.dm_stack.specs.declared.claim.Claim.{Claim};
+ghost use Rattle.dm_stack.specs.declared.clash.Clash.{Clash};
 ghost use Rattle.dm_stack.specs.declared.graph.TheConstants.{MOST_DEPTH};
 ghost use Rattle.dm_stack.specs.declared.limits.TheConstants.{MOST_CHUNK, MOST_DEVICES, MOST_DISKS, MOST_LENGTH, MOST_LINES, MOST_PLACES, MOST_SNAPSHOT_CHUNK, MOST_STRIPES};
 ghost use Rattle.dm_table.specs.LoadFault.{IsMemoryFault};
@@ -20,6 +22,7 @@ ghost use Rattle.dm_table.specs.declared.place.Part.TheVariants.{Source};
 
 use crate::claim::{claims, is_named};
 use crate::clash::Clash;
+use crate::disk_text::DiskText;
 use crate::found::{Found, FoundLine, FoundTable};
 use crate::id::{DeviceId, DiskId};
 use crate::indexed::Indexed;
@@ -43,6 +46,7 @@ pub struct Stack {
     tables: Vec<FoundTable>,
     depth: u32,
     snapshots: Vec<DeviceId>,
+    texts: Vec<DiskText>,
 }
 
 impl Model for Stack {
@@ -53,7 +57,7 @@ impl Model for Stack {
 
     ghost view = { λ stack. record { devices = stack.devices.items; disks = stack.disks.items } };
 
-    ghost invariant = { λ stack. IsLoaded (record { devices = stack.devices.items; disks = stack.disks.items }) stack.device_names stack.disk_names stack.tables.items stack.depth stack.snapshots.items };
+    ghost invariant = { λ stack. IsLoaded (record { devices = stack.devices.items; disks = stack.disks.items }) stack.device_names stack.disk_names stack.tables.items stack.depth stack.snapshots.items stack.texts.items };
 }
 
 impl Stack {
@@ -117,6 +121,7 @@ impl Stack {
             tables: checked.tables,
             depth: checked.depth,
             snapshots: checked.snapshots,
+            texts: checked.texts,
         })
     }
 
@@ -223,6 +228,8 @@ impl Stack {
     pub fn tidy(&self, alloc: Global) -> Result<Option<Clash>, AllocError>
         ensures clash { IfOk result (λ found. IsFirstClash (claims self.now) found) }
         ensures tidy { IfOk result (λ found. IsTrue (is_none found) ↔ IsTidy self.now) }
+        // Claims have no other clash.
+        ensures one { (all : List Claim) (found other : Option Clash) → IsFirstClash all found → IsFirstClash all other → found ≡ other }
     {
         let claims = claims(alloc, &self.indexed())?;
         // An id is at most the count: that of a name that is not there.
@@ -249,6 +256,15 @@ impl Stack {
         ensures form { IsTrue (is_disk_name result.now) }
     {
         self.disks[disk.index()].name.as_str()
+    }
+
+    /// The name of a disk of the stack and a space, as lines have them.
+    #[inline(always)]
+    pub fn disk_text(&self, disk: DiskId) -> &DiskText
+        requires { disk < length self.now.disks }
+        ensures text { result.now ≡ disk_text (disk_name_at self.now disk) }
+    {
+        &self.texts[disk.index()]
     }
 
     /// A looker of this stack, with no search and no comparison counted.
@@ -299,6 +315,7 @@ impl Stack {
         ensures holds { HoldsSoundly self.now device result.0.now sector }
         ensures all { (other : ℕ) → result.0.now.start ≤ other → other < result.0.now.start + result.0.now.len → found_at self.now device other ≡ Some result.0.now }
         ensures few { result.1 ≤ binary_digits (length (lines_at self.now device)) }
+        ensures most { result.1 ≤ 17 }
     {
         let lines = self.lines(device);
         let (index, comparisons) = search(lines, sector);

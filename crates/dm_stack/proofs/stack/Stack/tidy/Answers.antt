@@ -4,7 +4,7 @@ use Rattle.dm_stack.specs.declared.claim.Claim.{Claim}
 use Rattle.dm_stack.specs.Claims.{IsFirstClash, claims}
 use Rattle.dm_stack.specs.Description.{Description}
 use Rattle.dm_stack.specs.Soundness.{IsSound}
-use Rattle.dm_stack.proofs.TopLemmas.{claims_within, none_passes, tidiness}
+use Rattle.dm_stack.proofs.TopLemmas.{claims_within, none_passes, one_clash, tidiness}
 use Rattle.dm_stack.proofs.stack.Stack.tidy.Goals as goal
 
 pub claims-requires : goal.claims-requires
@@ -26,3 +26,9 @@ returns-clause-clash c =
 
 pub returns-clause-tidy : goal.returns-clause-tidy
 returns-clause-tidy c = tidiness c.args.self.now c.first_clash.result (returns-clause-clash c)
+
+pub returns-clause-one : goal.returns-clause-one
+returns-clause-one c = one_clash
+
+pub returns-in_err-claims-clause-one : goal.returns-in_err-claims-clause-one
+returns-in_err-claims-clause-one c = one_clash
