@@ -23,8 +23,9 @@ use Rattle.dm_replay.proofs.UnitPlays.{fails_answer, fails_played}
 -- units that all fail are the same wherever they begin
 fails_anywhere : (units : List BlockUnit) (n number first start : ℕ) (values : Values) → units_in Fails n ≡ units → (played number first units values ≡ played number start units values) × (played_answers number first units values ≡ played_answers number start units values)
 fails_anywhere units n number first start values is = rw (← is) (
-    fails_played number first n values ∙ sym (fails_played number start n values),
-    fails_answer number first n values ∙ sym (fails_answer number start n values))
+  fails_played number first n values ∙ sym (fails_played number start n values),
+  fails_answer number first n values ∙ sym (fails_answer number start n values),
+)
 
 is_past : (end start len : ℕ) → 1 ≤ len → end < start → nat_lt end (start + len) ≡ true
 is_past end start len some beyond = grind (arith, nat_tests)

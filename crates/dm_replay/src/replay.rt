@@ -12,6 +12,9 @@ ghost use Rattle.dm_replay.specs.OfDisks.{IsRunOf};
 ghost use Rattle.dm_replay.specs.Replay.{HasTop, IsNotAnswered, IsNotBegun, asked_request, new_replay};
 ghost use Rattle.dm_replay.specs.Runs.{AreMaximal, flat};
 
+#[cfg(test)]
+mod tests;
+
 use crate::asked_request::AskedRequest;
 use crate::playback::play_request;
 use crate::player::Player;

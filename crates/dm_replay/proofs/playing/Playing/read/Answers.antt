@@ -23,7 +23,7 @@ loop-left-preserved c =
     let on : l.at ≡ a.start + done = omega (arith, l.invariant.at_is, l.invariant.within) in
     let all : done + n ≡ a.len - (l.left - n) = omega (arith, l.invariant.within, s.ensures.most) in
     let part = read_played l.self c.answer.new.self a.disk l.at n s.result.first s.ensures.hold
-        (run_answered l.self c.answer.new.self c.run.result (Gives s.result.first) n c.run.ensures.first c.run.ensures.len said.values said.runs said.next said.number) in
+    (run_answered l.self c.answer.new.self c.run.result (Gives s.result.first) n c.run.ensures.first c.run.ensures.len said.values said.runs said.next said.number) in
     record {
       has_played = read_more a.self.now l.self c.answer.new.self a.disk a.start done n (a.len - (l.left - n)) all l.invariant.has_played (subst (λ (at : ℕ). HasPlayed l.self (units_in (ReadOf a.disk at) n) c.answer.new.self) on part);
       within = omega (arith, l.invariant.within);
