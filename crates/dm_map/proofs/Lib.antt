@@ -1,10 +1,15 @@
+pub mod BlockLemmas
 pub mod ChunkCopies
 pub mod Chunks
+pub mod GrowLemmas
 pub mod LevelLemmas
 pub mod Numbers
 pub mod Ranges
 pub mod Readies
+pub mod RingLemmas
 pub mod Rows
+pub mod RunLemmas
+pub mod SortedLemmas
 pub mod Stores
 pub mod Stripes
 pub mod TableLemmas

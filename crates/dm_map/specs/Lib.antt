@@ -1,9 +1,11 @@
+pub mod Blocks
 pub mod Homes
 pub mod KeptLaws
 pub mod Mapper
 pub mod Mapping
 pub mod PieceList
 pub mod Reads
+pub mod Runs
 pub mod Sink
 pub mod SnapshotWrites
 pub mod Snapshots
