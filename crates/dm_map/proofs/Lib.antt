@@ -1,9 +1,12 @@
 pub mod BlockLemmas
+pub mod Bounds
 pub mod ChunkCopies
 pub mod Chunks
+pub mod Depths
 pub mod GrowLemmas
 pub mod LevelLemmas
 pub mod Numbers
+pub mod Paths
 pub mod Ranges
 pub mod Readies
 pub mod RingLemmas

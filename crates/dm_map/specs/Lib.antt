@@ -1,8 +1,11 @@
 pub mod Blocks
+pub mod Bound
+pub mod Counts
 pub mod Homes
 pub mod KeptLaws
 pub mod Mapper
 pub mod Mapping
+pub mod Path
 pub mod PieceList
 pub mod Reads
 pub mod Runs
