@@ -1,9 +1,11 @@
 pub mod Back
+pub mod BlockLemmas
 pub mod Bounds
 pub mod ChunkCopies
 pub mod Chunks
 pub mod Depths
 pub mod FoundLines
+pub mod GrowLemmas
 pub mod HomeLemmas
 pub mod How
 pub mod LevelLemmas
@@ -16,8 +18,11 @@ pub mod Paths
 pub mod Plays
 pub mod Ranges
 pub mod Readies
+pub mod RingLemmas
 pub mod Rows
+pub mod RunLemmas
 pub mod Runs
+pub mod SortedLemmas
 pub mod Stores
 pub mod Stripes
 pub mod TableLemmas

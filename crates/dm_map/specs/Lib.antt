@@ -1,3 +1,4 @@
+pub mod Blocks
 pub mod Bound
 pub mod Contents
 pub mod Counts
@@ -10,6 +11,7 @@ pub mod Own
 pub mod Path
 pub mod PieceList
 pub mod Reads
+pub mod Runs
 pub mod Sink
 pub mod SnapshotWrites
 pub mod Snapshots
