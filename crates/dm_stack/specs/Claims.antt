@@ -88,7 +88,7 @@ pub record IsClash (all : List Claim) (clash : Clash) : Type 0 where
   pub of_earlier : clash.first ≡ earlier.device
   pub of_later : clash.second ≡ later.device
 
--- the clash of a stack, and none exactly where it is tidy
-abbrev pub IsTidiness : Description → Option Clash → Type 0
-IsTidiness stack (Some clash) = IsClash (claims stack) clash
-IsTidiness stack None = IsTidy stack
+-- the clash of claims, and none exactly where no two meet
+abbrev pub IsFirstClash : List Claim → Option Clash → Type 0
+IsFirstClash all (Some clash) = IsClash all clash
+IsFirstClash all None = AllPairs AreApart all

@@ -6,7 +6,9 @@ pub mod LineSearch
 pub mod Load
 pub mod Loaded
 pub mod NameIndex
+pub mod Naming
 pub mod Places
 pub mod Soundness
 pub mod Span
 pub mod Store
+pub mod Sweep
