@@ -100,10 +100,7 @@ impl<'s> HeldPiece<'s> {
     }
 
     /// Writes the line of the held piece, which is then held no longer. Writes nothing if none is held.
-    ///
-    /// It is never inlined, and all that it does is inlined here: so the walk, which calls it by its
-    /// pieces, keeps its registers.
-    #[inline(never)]
+    #[inline(always)]
     pub(crate) fn write<W: Output>(&mut self, writer: &mut W) -> Result<(), OutFault>
         ensures ok { OnOk result (since (W.written writer.old) (W.written writer.new)
             ≡ pieces_text self.old.stack self.old.number (fewest (held_units self.old.piece))) }
