@@ -3,14 +3,19 @@
 //! A range goes down as one step: it is cut where a line or a chunk ends, of stripes or of a
 //! snapshot, and nowhere else, and each line that it passes is looked up once. A new target is an arm
 //! of `map_line`, with a loop of its own where it cuts, and one of `below_target` and `write_target`.
-//! Each function says which units it hands over and which state it leaves.
+//! Each function says which units it hands over, which state it leaves, and, of a read, how often it
+//! searches: at most once a level for each stretch of sectors with one path (`specs/Path`).
 
 ghost use Rattle.std.specs.Prelude.{◌≡◌, ℕ, ◌+◌, ◌-◌, ◌<◌, ◌≤◌, ◌^◌, Some, length, min, OnErr, OnOk};
 ghost use Rattle.dm_table.specs.DeviceIo.{fault_of};
 ghost use Rattle.dm_stack.specs.Below.{found_at, IsTargetSound};
 ghost use Rattle.dm_stack.specs.Description.{Description, device_len, lower_len};
-ghost use Rattle.dm_stack.specs.declared.found.FoundTarget.TheVariants.{Snapshot};
+ghost use Rattle.dm_stack.specs.Loaded.{lower_depth};
+ghost use Rattle.dm_stack.specs.Soundness.{depth_of};
+ghost use Rattle.dm_stack.specs.declared.found.FoundTarget.TheVariants.{Snapshot, Striped};
 ghost use Rattle.dm_stack.specs.declared.id.Lower.TheVariants.{Device};
+ghost use Rattle.dm_map.specs.Bound.{IsBounded, IsLineBounded, IsTargetBounded};
+ghost use Rattle.dm_map.specs.Path.{path};
 ghost use Rattle.dm_map.specs.SnapshotWrites.{write_snapshot};
 ghost use Rattle.dm_map.specs.Steps.{steps};
 ghost use Rattle.dm_map.specs.Units.{Fails, diskless_len, piece_len, units_in, units_of, IsOnDisk, IsOnDisks};
@@ -46,7 +51,8 @@ pub(crate) fn map_range<S: Sink, T: Taken>(
     requires some { 1 ≤ len }
     requires inside { sector + len ≤ lower_len walker.old.stack lower }
     requires sink { IsReady S.stack S.room sink.old walker.old.stack len }
-    ensures { IsWalked S.took S.left S.stack S.room S.faults result sink.old sink.new walker.old walker.new (range_step walker.old.stack op levels lower walker.old.state sector len) len }
+    ensures walked { IsWalked S.took S.left S.stack S.room S.faults result sink.old sink.new walker.old walker.new (range_step walker.old.stack op levels lower walker.old.state sector len) len }
+    ensures bounded { IsBounded walker.old walker.new op (lower_depth walker.old.stack lower) (path walker.old.stack walker.old.state levels lower) sector len }
 {
     match lower {
         Lower::Disk(disk) => sink.piece(disk_piece(op, disk, sector, len)),
@@ -69,7 +75,8 @@ fn map_device<S: Sink, T: Taken>(
     requires some { 1 ≤ len }
     requires inside { sector + len ≤ device_len walker.old.stack device }
     requires sink { IsReady S.stack S.room sink.old walker.old.stack len }
-    ensures { IsWalked S.took S.left S.stack S.room S.faults result sink.old sink.new walker.old walker.new (range_step walker.old.stack op levels (Device device) walker.old.state sector len) len }
+    ensures walked { IsWalked S.took S.left S.stack S.room S.faults result sink.old sink.new walker.old walker.new (range_step walker.old.stack op levels (Device device) walker.old.state sector len) len }
+    ensures bounded { IsBounded walker.old walker.new op (depth_of walker.old.stack device) (path walker.old.stack walker.old.state levels (Device device)) sector len }
 {
     if levels == 0 || refuses(walker, op, device) {
         return fail(len, sink);
@@ -106,7 +113,8 @@ fn map_line<S: Sink, T: Taken>(
     requires found { found_at walker.old.stack device line.now.start ≡ Some line.now }
     requires sound { IsTargetSound walker.old.stack device line.now.start line.now.len line.now.target }
     requires sink { IsReady S.stack S.room sink.old walker.old.stack len }
-    ensures { IsWalked S.took S.left S.stack S.room S.faults result sink.old sink.new walker.old walker.new (line_step walker.old.stack op levels device line.now.target walker.old.state distance len) len }
+    ensures walked { IsWalked S.took S.left S.stack S.room S.faults result sink.old sink.new walker.old walker.new (line_step walker.old.stack op levels device line.now.target walker.old.state distance len) len }
+    ensures bounded { IsLineBounded walker.old walker.new op levels device line.now distance len }
 {
     match &line.target {
         FoundTarget::Linear { to, offset } => {
@@ -140,7 +148,8 @@ fn map_stripes<S: Sink, T: Taken>(
     requires some { 1 ≤ len }
     requires inside { AreInStripes walker.old.stack chunk columns.now distance len }
     requires sink { IsReady S.stack S.room sink.old walker.old.stack len }
-    ensures { IsWalked S.took S.left S.stack S.room S.faults result sink.old sink.new walker.old walker.new (stripes_step walker.old.stack op levels chunk columns.now walker.old.state distance len) len }
+    ensures walked { IsWalked S.took S.left S.stack S.room S.faults result sink.old sink.new walker.old walker.new (stripes_step walker.old.stack op levels chunk columns.now walker.old.state distance len) len }
+    ensures bounded { (device : ℕ) → IsTargetBounded walker.old walker.new op levels device (Striped chunk columns.now) distance len }
 {
     let mut place = place_at(chunk, columns.len() as u64, distance);
     let mut left = len;
@@ -179,7 +188,8 @@ fn map_snapshot<S: Sink, T: Taken>(
     requires inside { AreInSnapshot walker.old.stack device snapshot.now sector len }
     requires small { sector + len ≤ 2 ^ 50 }
     requires sink { IsReady S.stack S.room sink.old walker.old.stack len }
-    ensures { IsWalked S.took S.left S.stack S.room S.faults result sink.old sink.new walker.old walker.new (line_step walker.old.stack op levels device (Snapshot snapshot.now) walker.old.state sector len) len }
+    ensures walked { IsWalked S.took S.left S.stack S.room S.faults result sink.old sink.new walker.old walker.new (line_step walker.old.stack op levels device (Snapshot snapshot.now) walker.old.state sector len) len }
+    ensures bounded { IsTargetBounded walker.old walker.new op levels device (Snapshot snapshot.now) sector len }
 {
     let mut from = sector;
     let mut left = len;
@@ -208,7 +218,8 @@ fn map_chunk<S: Sink, T: Taken>(
     requires some { 1 ≤ len }
     requires chunk { AreInChunk walker.old.stack device snapshot.now sector len }
     requires sink { IsReady S.stack S.room sink.old walker.old.stack len }
-    ensures { IsWalked S.took S.left S.stack S.room S.faults result sink.old sink.new walker.old walker.new (line_step walker.old.stack op levels device (Snapshot snapshot.now) walker.old.state sector len) len }
+    ensures walked { IsWalked S.took S.left S.stack S.room S.faults result sink.old sink.new walker.old walker.new (line_step walker.old.stack op levels device (Snapshot snapshot.now) walker.old.state sector len) len }
+    ensures bounded { IsTargetBounded walker.old walker.new op levels device (Snapshot snapshot.now) sector len }
 {
     match op {
         Op::Write => write_chunk(walker, device, snapshot, sector, len, sink),

@@ -4,6 +4,8 @@
 //! soundness again. Lines are found by a `Looker` alone, which counts its searches.
 #![tactic(auto)]
 
+mod claim;
+mod clash;
 mod depth;
 mod disk_text;
 mod found;
@@ -20,6 +22,7 @@ mod name_index;
 mod names;
 mod placed;
 mod ranges;
+mod reach;
 mod resolve;
 mod snapshots;
 mod span;
@@ -27,7 +30,9 @@ mod stack;
 mod store_places;
 mod stores;
 mod stripes;
+mod tidy;
 
+pub use clash::Clash;
 pub use disk_text::DiskText;
 pub use found::{Found, FoundColumn, FoundColumns, FoundLine, FoundSnapshot, FoundTarget};
 pub use graph::MOST_DEPTH;

@@ -1,8 +1,18 @@
-use Rattle.std.proofs.Common.{ap, codes, true, ◌≡◌, ◌∙◌}
+use Rattle.std.proofs.Common.{ap, codes, true, Result, Ok, Err, ◌≡◌, ◌∙◌}
+use Rattle.std.specs.Prelude.{IfOk}
+use Rattle.std.specs.declared.alloc.AllocError.{AllocError}
 use Rattle.clap.specs.Simple.{app_of_fields, on_top}
 use Rattle.clap.specs.Words.{App, app_of, new_app, with_subcommand}
-use Rattle.dmremap.specs.Words.{name_app, program_app, source_app, split_app}
+use Rattle.clap.specs.declared.builder.command.Command.{Command}
+use Rattle.clap.specs.declared.builder.value_parser.ValueParser.{ValueParser}
+use Rattle.dmremap.specs.Words.{TakesFormats, command_line, map_app, name_app, program_app, source_app, split_app}
 use Rattle.dmremap.proofs.words.program.Goals as goal
+
+-- what the last command is added to, and what that gives
+whole : (parser : ValueParser) (line : App) (answer : Result Command AllocError) → TakesFormats parser → with_subcommand line split_app.top ≡ command_line parser
+    → IfOk answer (λ c. app_of c ≡ with_subcommand line split_app.top) → IfOk answer (λ c. (p : ValueParser) × TakesFormats p × (app_of c ≡ command_line p))
+whole parser line (Ok c) formats line_is is = (parser, formats, is ∙ line_is)
+whole parser line (Err e) formats line_is is = tt
 
 pub returns : goal.returns
 returns c =
@@ -11,15 +21,13 @@ returns c =
     ap app_of_fields c.after_help.ensures ∙ ap app_of_fields c.about.ensures ∙ c.new.ensures.app in
     let asks : app_of c.subcommand_required.result ≡ on_top (λ s. record s { subcommand_required = true }) (app_of c.after_help.result) =
     ap app_of_fields c.subcommand_required.ensures in
-    let shows : app_of c.arg_required_else_help.result ≡ on_top (λ s. record s { arg_required_else_help = true }) (app_of c.subcommand_required.result) =
-    ap app_of_fields c.arg_required_else_help.ensures in
-    let bare : app_of c.arg_required_else_help.result ≡ program_app = shows
-    ∙ ap (on_top (λ s. record s { arg_required_else_help = true })) (asks ∙ ap (on_top (λ s. record s { subcommand_required = true })) named) in (
-      parser,
-      c.format_parser-parser.ensures,
-      c.in_ok-split.ensures _ _ c.in_ok-subcommand-5.ensures ∙ ap (λ (a : App). with_subcommand a split_app.top)
-          (c.in_ok-name.ensures _ _ c.in_ok-subcommand-4.ensures ∙ ap (λ (a : App). with_subcommand a name_app.top)
-          (c.in_ok-concise.ensures _ _ c.in_ok-subcommand-3.ensures ∙ ap (λ (a : App). with_subcommand a (source_app (codes "concise") parser).top)
-          (c.in_ok-table.ensures _ _ c.in_ok-subcommand-2.ensures ∙ ap (λ (a : App). with_subcommand a (source_app (codes "table") parser).top)
-          (c.in_ok-map.ensures _ _ c.in_ok-subcommand.ensures ∙ ap (λ (a : App). with_subcommand a (source_app (codes "map") parser).top) bare)))),
-    )
+    let shows : app_of c.arg_required_else_help-line.result ≡ on_top (λ s. record s { arg_required_else_help = true }) (app_of c.subcommand_required.result) =
+    ap app_of_fields c.arg_required_else_help-line.ensures in
+    let bare : app_of c.arg_required_else_help-line.result ≡ program_app = shows
+    ∙ ap (on_top (λ s. record s { arg_required_else_help = true })) (asks ∙ ap (on_top (λ s. record s { subcommand_required = true })) named) in
+    whole parser (app_of c.in_ok-line-4.line) c.with_command-5.result c.format_parser-parser.ensures (ap (λ (a : App). with_subcommand a split_app.top)
+    (c.in_ok-line-4.ensures name_app c.name_command.ensures ∙ ap (λ (a : App). with_subcommand a name_app.top)
+    (c.in_ok-line-3.ensures (source_app (codes "concise") parser) c.source_command-2.ensures ∙ ap (λ (a : App). with_subcommand a (source_app (codes "concise") parser).top)
+    (c.in_ok-line-2.ensures (source_app (codes "table") parser) c.source_command.ensures ∙ ap (λ (a : App). with_subcommand a (source_app (codes "table") parser).top)
+    (c.in_ok-line.ensures (map_app parser) c.map_command.ensures ∙ ap (λ (a : App). with_subcommand a (map_app parser).top) bare)))))
+    (c.with_command-5.ensures split_app c.split_command.ensures)
