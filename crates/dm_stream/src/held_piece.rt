@@ -126,10 +126,18 @@ fn goes_on(held: &Piece, piece: &Piece) -> bool
     ensures { result ≡ is_after (first_unit held.now) (piece_len held.now) (first_unit piece.now) }
 {
     match *piece {
-        Piece::Read { disk, start: next, .. } => {
+        Piece::Read {
+            disk,
+            start: next,
+            ..
+        } => {
             matches!(*held, Piece::Read { disk: other, start, len } if other == disk && follows(start, len, next))
         }
-        Piece::Write { disk, start: next, .. } => {
+        Piece::Write {
+            disk,
+            start: next,
+            ..
+        } => {
             matches!(*held, Piece::Write { disk: other, start, len } if other == disk && follows(start, len, next))
         }
         Piece::Zero { .. } => matches!(*held, Piece::Zero { .. }),
@@ -144,7 +152,11 @@ fn goes_on(held: &Piece, piece: &Piece) -> bool
         } => {
             matches!(*held, Piece::Copy { disk: other, start, len, to: other_to, to_start } if other == disk && follows(start, len, next) && other_to == to && follows(to_start, len, next_to))
         }
-        Piece::Fill { disk, start: next, .. } => {
+        Piece::Fill {
+            disk,
+            start: next,
+            ..
+        } => {
             matches!(*held, Piece::Fill { len, disk: other, start } if other == disk && follows(start, len, next))
         }
     }

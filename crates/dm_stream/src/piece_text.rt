@@ -152,14 +152,7 @@ fn put_copy(
 }
 
 /// Puts what a fill is and a newline at a place of a block.
-fn put_fill(
-    block: &mut [u8],
-    at: usize,
-    stack: &Stack,
-    disk: DiskId,
-    start: u64,
-    len: u64,
-) -> usize
+fn put_fill(block: &mut [u8], at: usize, stack: &Stack, disk: DiskId, start: u64, len: u64) -> usize
     requires room { at + 800 ≤ length block.old }
     requires there { disk < length stack.now.disks }
     ensures few { result ≤ at + 400 }
