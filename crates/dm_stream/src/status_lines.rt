@@ -26,7 +26,9 @@ pub(crate) fn write_status<T: Taken, W: Output>(
     output: &mut W,
 ) -> Result<(), OutFault>
     requires { mapper.old.stack ≡ stack.now }
-    ensures same { mapper.new ≡ mapper.old }
+    ensures stack { mapper.new.stack ≡ mapper.old.stack }
+    ensures state { mapper.new.state ≡ mapper.old.state }
+    ensures going { mapper.new.stopped ≡ mapper.old.stopped }
     ensures wrote { Wrote W.written W.waiting W.faults W.flushes output.old output.new result (status_text stack.now mapper.old.state) }
 {
     for device in stack.snapshots() {
