@@ -1,4 +1,4 @@
--- the mapper stays but for what its looker counted, the lines of the snapshots so far are written, and nothing failed
+-- the mapper stays but for its looker's counts, the lines of the snapshots so far are written, and nothing failed
 use Rattle.std.proofs.Common.{◌≡◌, take, Ok}
 use Rattle.std.specs.List.{flat_map}
 use Rattle.dm_table.specs.CanonicalText.{Wrote}
