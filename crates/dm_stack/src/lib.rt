@@ -7,6 +7,7 @@
 mod claim;
 mod clash;
 mod depth;
+mod disk_text;
 mod found;
 mod graph;
 mod id;
@@ -33,6 +34,7 @@ mod stripes;
 mod tidy;
 
 pub use clash::Clash;
+pub use disk_text::DiskText;
 pub use found::{Found, FoundColumn, FoundColumns, FoundLine, FoundSnapshot, FoundTarget};
 pub use graph::MOST_DEPTH;
 pub use id::{DeviceId, DiskId, Lower};

@@ -8,7 +8,7 @@ ghost use Rattle.dm_table.specs.Name.{is_disk_name};
 ghost use Rattle.dm_stack.specs.Below.{HoldsSoundly, found_at, found_lines};
 ghost use Rattle.dm_stack.specs.Claims.{IsFirstClash, IsThere, IsTidy, IsTop, claims};
 ghost use Rattle.dm_stack.specs.Description.{Description, device_len, disk_len, is_ro_at, is_same, name_at, disk_name_at, lines_at};
-ghost use Rattle.dm_stack.specs.Loaded.{IsDeeperByOne, snapshots, stack_depth, AreSnapshots};
+ghost use Rattle.dm_stack.specs.Loaded.{IsDeeperByOne, disk_text, snapshots, stack_depth, AreSnapshots};
 ghost use Rattle.dm_stack.specs.LineSearch.{binary_digits};
 ghost use Rattle.dm_stack.specs.Soundness.{IsRefusedBy, IsSound};
 ghost use Rattle.dm_stack.specs.declared.claim.Claim.{Claim};
@@ -22,6 +22,7 @@ ghost use Rattle.dm_table.specs.declared.place.Part.TheVariants.{Source};
 
 use crate::claim::{claims, is_named};
 use crate::clash::Clash;
+use crate::disk_text::DiskText;
 use crate::found::{Found, FoundLine, FoundTable};
 use crate::id::{DeviceId, DiskId};
 use crate::indexed::Indexed;
@@ -45,6 +46,7 @@ pub struct Stack {
     tables: Vec<FoundTable>,
     depth: u32,
     snapshots: Vec<DeviceId>,
+    texts: Vec<DiskText>,
 }
 
 impl Model for Stack {
@@ -55,7 +57,7 @@ impl Model for Stack {
 
     ghost view = { λ stack. record { devices = stack.devices.items; disks = stack.disks.items } };
 
-    ghost invariant = { λ stack. IsLoaded (record { devices = stack.devices.items; disks = stack.disks.items }) stack.device_names stack.disk_names stack.tables.items stack.depth stack.snapshots.items };
+    ghost invariant = { λ stack. IsLoaded (record { devices = stack.devices.items; disks = stack.disks.items }) stack.device_names stack.disk_names stack.tables.items stack.depth stack.snapshots.items stack.texts.items };
 }
 
 impl Stack {
@@ -119,6 +121,7 @@ impl Stack {
             tables: checked.tables,
             depth: checked.depth,
             snapshots: checked.snapshots,
+            texts: checked.texts,
         })
     }
 
@@ -257,6 +260,15 @@ impl Stack {
         self.disks[disk.index()].name.as_str()
     }
 
+    /// The name of a disk of the stack and a space, as lines have them.
+    #[inline(always)]
+    pub fn disk_text(&self, disk: DiskId) -> &DiskText
+        requires { disk < length self.now.disks }
+        ensures text { result.now ≡ disk_text (disk_name_at self.now disk) }
+    {
+        &self.texts[disk.index()]
+    }
+
     /// A looker of this stack, with no search and no comparison counted.
     pub fn looker(&self) -> Looker<'_>
         ensures stack { result.stack ≡ self.now }
@@ -305,6 +317,7 @@ impl Stack {
         ensures holds { HoldsSoundly self.now device result.0.now sector }
         ensures all { (other : ℕ) → result.0.now.start ≤ other → other < result.0.now.start + result.0.now.len → found_at self.now device other ≡ Some result.0.now }
         ensures few { result.1 ≤ binary_digits (length (lines_at self.now device)) }
+        ensures most { result.1 ≤ 17 }
     {
         let lines = self.lines(device);
         let (index, comparisons) = search(lines, sector);
