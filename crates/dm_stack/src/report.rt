@@ -20,8 +20,7 @@ pub fn check_report(alloc: Global, stack: &Stack) -> Result<String, AllocError>
     ensures one { (description : Description) (text other : List ℕ) → IsReport description text → IsReport description other → text ≡ other }
 {
     let tidiness = tidiness_text(alloc, stack)?;
-    format!(
-        in alloc;
+    format!(in alloc;
         "devices {}\ndisks {}\ndepth {}\n{}\n",
         stack.device_count(),
         stack.disk_count(),
@@ -38,8 +37,7 @@ fn tidiness_text(alloc: Global, stack: &Stack) -> Result<String, AllocError>
         return String::from_str(alloc, "tidy");
     };
     let lower = lower_words(stack, clash.lower);
-    format!(
-        in alloc;
+    format!(in alloc;
         "clash {}{} {} {} {}",
         lower.0,
         lower.1,
