@@ -25,7 +25,8 @@ use crate::words::{Files, Form, Format, Job, Task};
 use dm_stack::{Stack, check_report};
 use dm_stream::tell;
 use dm_table::{
-    DeviceSpec, Input, LoadFault, LoadKind, OutFault, Output, Part, write_all, write_concise, write_table,
+    DeviceSpec, Input, LoadFault, LoadKind, OutFault, Output, Part, write_all, write_concise,
+    write_table,
 };
 use lvm_volume::{NameFault, build_name, spaced_parts};
 use std::alloc::Global;

@@ -53,7 +53,10 @@ fn source_of<'a>(task: Task<'_>, text: &'a str) -> Option<ShortIn<'a>>
     ensures { is_some result ≡ has_source (words_of task.entry) }
 {
     match task {
-        Task::Map(_) | Task::Print(_, _) | Task::Check(_) => Some(ShortIn::new(text.as_bytes(), PLENTY)),
+        Task::Map(_) | Task::Print(_, _) | Task::Check(_) => Some(ShortIn::new(
+            text.as_bytes(),
+            PLENTY,
+        )),
         Task::Name { .. } | Task::SplitName(_) => None,
     }
 }
