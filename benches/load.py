@@ -58,20 +58,36 @@ def snapshots(devices):
     return "".join(text)
 
 
+def columns(lines):
+    text = []
+    for line in range(lines):
+        text.append(f"a: {128 * line} 128 striped 128 1")
+        text.extend(f" t {128 * line + 127 - column}" for column in range(128))
+        text.append("\n")
+    return "".join(text)
+
+
+def last_clash(lines):
+    return columns(lines) + "b: 0 1 linear t 0\n"
+
+
 SHAPES = [
-    ("one device of 65,536 lines of zeros", one_device, 65536, 0),
-    ("one device of 40,000 lines on a disk", linear_lines, 40000, 0),
-    ("1,024 devices in 32 chains of 32", chains, 1024, 0),
-    ("32 levels of 128 columns on the level below", levels, 128, 0),
-    ("993 snapshots over an origin and stores up to 31 deep", snapshots, 1024, 0),
-    ("a ring of 1,024 devices (refused)", ring, 1024, 1),
-    ("a row of 1,024 devices (refused)", row, 1024, 1),
+    ("one device of 65,536 lines of zeros", "map", one_device, 65536, 0),
+    ("one device of 40,000 lines on a disk", "map", linear_lines, 40000, 0),
+    ("1,024 devices in 32 chains of 32", "map", chains, 1024, 0),
+    ("32 levels of 128 columns on the level below", "map", levels, 128, 0),
+    ("993 snapshots over an origin and stores up to 31 deep", "map", snapshots, 1024, 0),
+    ("a ring of 1,024 devices (refused)", "map", ring, 1024, 1),
+    ("a row of 1,024 devices (refused)", "map", row, 1024, 1),
+    ("115,200 columns", "map", columns, 900, 0),
+    ("115,200 columns, checked", "check", columns, 900, 0),
+    ("115,200 columns and a clash of the last line, checked", "check", last_clash, 900, 0),
 ]
 
 
-def seconds(program, table, disks, status):
+def seconds(program, command, table, disks, status):
     before = resource.getrusage(resource.RUSAGE_CHILDREN)
-    done = subprocess.run([program, "map", "table", table, disks], stdin=subprocess.DEVNULL, capture_output=True)
+    done = subprocess.run([program, command, "table", table, disks], stdin=subprocess.DEVNULL, capture_output=True)
     after = resource.getrusage(resource.RUSAGE_CHILDREN)
     if done.returncode != status:
         sys.exit(f"{table}: status {done.returncode}, {done.stderr.decode()}")
@@ -87,17 +103,17 @@ def main():
         disks = os.path.join(folder, "disks")
         table = os.path.join(folder, "table")
 
-        def least(text, status):
+        def least(command, text, status):
             with open(table, "w") as file:
                 file.write(text)
-            return min(seconds(program, table, disks, status) for _ in range(runs))
+            return min(seconds(program, command, table, disks, status) for _ in range(runs))
 
         with open(disks, "w") as file:
-            file.write("s 8\n")
-        empty = least("", 0)
-        for name, make, size, status in SHAPES:
-            whole = max(least(make(size), status) - empty, 0.0001)
-            tenth = max(least(make(size // 10), status) - empty, 0.0001)
+            file.write("s 8\nt 1000000\n")
+        empty = least("map", "", 0)
+        for name, command, make, size, status in SHAPES:
+            whole = max(least(command, make(size), status) - empty, 0.0001)
+            tenth = max(least(command, make(size // 10), status) - empty, 0.0001)
             print(f"{name}: {len(make(size))} bytes, {whole * 1000:.1f} ms, {whole / tenth:.1f} times a tenth")
 
 

@@ -22,6 +22,7 @@ RUNS = [
     ("concise lvm vg0.backup", None),
     ("name vg0 lv-1", None),
     ("splitname vg0-lv--1", None),
+    ("check table overlap.table overlap-disks.txt", None),
 ]
 
 

@@ -22,6 +22,7 @@ pub mod PairLemmas
 pub mod PathLemmas
 pub mod PlaceLemmas
 pub mod PlacedLemmas
+pub mod ReportLemmas
 pub mod RoundLemmas
 pub mod SameLine
 pub mod SearchLemmas

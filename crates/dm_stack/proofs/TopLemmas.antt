@@ -1,15 +1,15 @@
 -- What the claims of a stack are on, and which devices none of them are on.
-use Rattle.std.proofs.Common.{◌≡◌, ℕ, suc, ◌+◌, ◌<◌, Bool, true, false, cond, not, List, [], ◌∷◌, ◌++◌, Option, Some, None, refl, sym, ap, subst, ◌∙◌, arith, get_or, length, map}
-use Rattle.std.specs.Prelude.{◌↔◌, ◌||◌, IfOk, IsTrue, is_none, slice_get}
+use Rattle.std.proofs.Common.{◌≡◌, ℕ, zero, suc, ◌+◌, ◌<◌, ◌≤◌, Bool, true, false, cond, not, List, [], ◌∷◌, ◌++◌, Option, Some, None, refl, sym, ap, subst, ◌∙◌, arith, get_or, length, map}
+use Rattle.std.specs.Prelude.{◌↔◌, ◌||◌, IfOk, IfSome, IsTrue, is_none, nat_lt, slice_get}
 use Rattle.std.proofs.Common.{Result, Ok, Err}
 use Rattle.std.specs.declared.alloc.AllocError.{AllocError}
 use Rattle.std.specs.List.{All, AllByRecursion, AllPairs, flat_map, list_any, position_or_len, range_with_len}
 use Rattle.std.proofs.Math.Seq.{get_or-append_seam}
-use Rattle.std.proofs.lemmas.Bool.{eq-eqb, eqb-true, true≢false}
+use Rattle.std.proofs.lemmas.Bool.{eq-eqb, eqb-true, ltb-false, ltb-true, or_parts, true≢false}
 use Rattle.std.proofs.lemmas.List.{append_assoc, get_or_default, get_or_append_left, length-append}
 use Rattle.std.proofs.lemmas.List.Elements.{All-from_recursion}
 use Rattle.std.proofs.lemmas.List.Folds.{Any-from_list_any}
-use Rattle.std.proofs.lemmas.Option.{slice_get_read}
+use Rattle.std.proofs.lemmas.Option.{slice_get_past, slice_get_read}
 use Rattle.dm_table.specs.declared.table.DevRef.{DevRef}
 use Rattle.dm_table.specs.declared.table.DevRef.TheVariants as refs
 use Rattle.dm_table.specs.declared.table.DeviceSpec.{DeviceSpec}
@@ -18,15 +18,16 @@ use Rattle.dm_stack.specs.declared.claim.Claim.{Claim}
 use Rattle.dm_stack.specs.declared.clash.Clash.{Clash}
 use Rattle.dm_stack.specs.declared.id.Lower.{Lower}
 use Rattle.dm_stack.specs.declared.id.Lower.TheVariants.{Device, Disk}
-use Rattle.dm_stack.specs.Claims.{AreApart, IsClash, IsFirstClash, IsTidy, IsTop, MeetAt, claims, device_claims, line_claims, span_claim}
-use Rattle.dm_stack.specs.Description.{Description, is_same, lines_at, lines_or_none, lower_of}
+use Rattle.dm_stack.specs.Claims.{AreApart, IsClash, IsFirstClash, IsLower, IsThere, IsTidy, IsTop, MeetAt, claims, device_claims, line_claims, span_claim, span_end}
+use Rattle.dm_stack.specs.Description.{Description, end_of, is_same, len_or_none, lines_at, lines_or_none, lower_len, lower_of}
 use Rattle.dm_stack.specs.Naming.{is_device, is_named, line_names}
-use Rattle.dm_stack.specs.Soundness.{IsSound, passes_end}
+use Rattle.dm_stack.specs.Report.{IsReport, report_text}
+use Rattle.dm_stack.specs.Soundness.{IsSound, is_past, passes, passes_end}
 use Rattle.dm_stack.specs.Span.{Span, spans}
 use Rattle.dm_stack.specs.Sweep.{HasPlace}
-use Rattle.dm_stack.proofs.HandedOn.{all_each}
+use Rattle.dm_stack.proofs.HandedOn.{all_append, all_each}
 use Rattle.dm_stack.proofs.PairLemmas.{none_before}
-use Rattle.dm_stack.proofs.SoundLines.{device_sound}
+use Rattle.dm_stack.proofs.SoundLines.{device_sound, lines_there, there}
 
 -- no line of a sound stack passes the end of what it names
 pub none_passes : (stack : Description) → IsSound stack → All (λ device. All (λ line. passes_end stack line ≡ false) device.lines) stack.devices
@@ -212,3 +213,74 @@ one_clash all None None a b = refl
 one_clash all None (Some other) a b = absurd (clash_unties all other b a)
 one_clash all (Some found) None a b = absurd (clash_unties all found a b)
 one_clash all (Some found) (Some other) a b = ap Some (same_clash all found other a.earlier (stands all found a) (stands all other b))
+
+-- What a clash names is there
+
+record Inside (stack : Description) (claim : Claim) : Type 0 where
+  end : claim.end ≤ lower_len stack claim.to
+  device : claim.device < length stack.devices
+
+range_below : (from count end : ℕ) → from + count ≡ end → AllByRecursion (λ id. id < end) (range_with_len from count)
+range_below from zero end e = tt
+range_below from (suc count) end e = (omega (arith, e), range_below (from + 1) count end (omega (arith, e)))
+
+each_in : {X Y : Type 0} (Q : X → Type 0) (P : Y → Type 0) (f : X → List Y) (xs : List X) → AllByRecursion Q xs → ((x : X) → Q x → AllByRecursion P (f x)) → AllByRecursion P (flat_map f xs)
+each_in Q P f [] all each = tt
+each_in Q P f (x ∷ xs) all each = all_append P (f x) (flat_map f xs) (each x all.0) (each_in Q P f xs all.1 each)
+
+end_inside : (whole offset : ℕ) (len : Option ℕ) → passes whole offset len ≡ false → span_end whole offset len ≤ whole
+end_inside whole offset (Some len) e = ltb-false whole (offset + len) e
+end_inside whole offset None e = omega arith
+
+spans_inside : (stack : Description) (device : ℕ) (list : List Span) → device < length stack.devices → list_any (is_past stack) list ≡ false → AllByRecursion (Inside stack) (map (span_claim stack device) list)
+spans_inside stack device [] within none = tt
+spans_inside stack device (span ∷ list) within none =
+    let parts = or_parts _ _ none in
+    (record { end = end_inside (lower_len stack (lower_of stack span.to)) span.offset span.len parts.0; device = within }, spans_inside stack device list within parts.1)
+
+device_inside : (stack : Description) (device : ℕ) → IsSound stack → device < length stack.devices → AllByRecursion (Inside stack) (device_claims stack device)
+device_inside stack device sound within =
+    let found = there stack.devices device within in
+    let inside = subst (AllByRecursion (λ line. passes_end stack line ≡ false)) (sym (lines_there stack device found.it found.at)) (device_sound stack device found.it sound found.at).inside in
+    each_in (λ line. passes_end stack line ≡ false) (Inside stack) (line_claims stack device) (lines_at stack device) inside (λ line none. spans_inside stack device (spans line) within none)
+
+claims_inside : (stack : Description) → IsSound stack → All (Inside stack) (claims stack)
+claims_inside stack sound =
+    All-from_recursion (Inside stack) (claims stack)
+    (each_in (λ id. id < length stack.devices) (Inside stack) (device_claims stack) (range_with_len 0 (length stack.devices)) (range_below 0 (length stack.devices) (length stack.devices) (omega arith)) (λ device within. device_inside stack device sound within))
+
+by_length : {X : Type 0} (xs : List X) (id len : ℕ) (none_len : slice_get xs id ≡ None → len ≡ 0) (b : Bool) → nat_lt id (length xs) ≡ b → 0 < len → id < length xs
+by_length xs id len none_len true is some = ltb-true id (length xs) is
+by_length xs id len none_len false is some = absurd (omega (arith, some, none_len (slice_get_past xs id (ltb-false id (length xs) is))))
+
+lower_there : (stack : Description) (lower : Lower) → 0 < lower_len stack lower → IsLower stack lower
+lower_there stack (Device id) some = by_length stack.devices id (lower_len stack (Device id)) (λ none. ap (λ (found : Option DeviceSpec). end_of (lines_or_none found)) none) (nat_lt id (length stack.devices)) refl some
+lower_there stack (Disk id) some = by_length stack.disks id (lower_len stack (Disk id)) (λ none. ap len_or_none none) (nat_lt id (length stack.disks)) refl some
+
+clash_there : (stack : Description) (clash : Clash) → IsSound stack → IsClash (claims stack) clash → IsThere stack clash
+clash_there stack clash sound is =
+    let all = claims_inside stack sound in
+    let s = stands (claims stack) clash is in
+    let d = is.earlier in
+    let one = all s.one d (omega (arith, s.in_order, s.within)) in
+    let other = all s.other d s.within in
+    let met = s.meet d in
+    let inside : clash.sector < lower_len stack clash.lower = subst (λ (lower : Lower). clash.sector < lower_len stack lower) met.there.on (omega (arith, met.there.before, other.end)) in
+    record {
+      lower = lower_there stack clash.lower (omega (arith, inside));
+      inside = inside;
+      first = rw (s.of_one d) one.device;
+      second = rw (s.of_other d) other.device;
+    }
+
+found_there : (stack : Description) (found : Option Clash) → IsSound stack → IsFirstClash (claims stack) found → IfSome found (IsThere stack)
+found_there stack None sound is = tt
+found_there stack (Some clash) sound is = clash_there stack clash sound is
+
+pub result_there : (stack : Description) (result : Result (Option Clash) AllocError) → IsSound stack → IfOk result (λ found. IsFirstClash (claims stack) found) → IfOk result (λ found. IfSome found (IsThere stack))
+result_there stack (Ok found) sound is = found_there stack found sound is
+result_there stack (Err fault) sound is = tt
+
+-- and so its report is one
+pub one_report : (stack : Description) (text other : List ℕ) → IsReport stack text → IsReport stack other → text ≡ other
+one_report stack text other a b = sym a.is ∙ ap (report_text stack) (one_clash (claims stack) a.found b.found a.clash b.clash) ∙ b.is

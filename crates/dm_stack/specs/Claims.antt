@@ -7,7 +7,7 @@ use Rattle.dm_stack.specs.declared.claim.ClaimKind.{ClaimKind}
 use Rattle.dm_stack.specs.declared.claim.ClaimKind.TheVariants.{Own, Reading}
 use Rattle.dm_stack.specs.declared.clash.Clash.{Clash}
 use Rattle.dm_stack.specs.declared.id.Lower.{Lower}
-use Rattle.dm_stack.specs.declared.id.Lower.TheVariants.{Device}
+use Rattle.dm_stack.specs.declared.id.Lower.TheVariants.{Device, Disk}
 use Rattle.dm_stack.specs.Description.{Description, lines_at, lower_len, lower_of}
 use Rattle.dm_stack.specs.Span.{Span, spans}
 
@@ -92,3 +92,15 @@ pub record IsClash (all : List Claim) (clash : Clash) : Type 0 where
 abbrev pub IsFirstClash : List Claim → Option Clash → Type 0
 IsFirstClash all (Some clash) = IsClash all clash
 IsFirstClash all None = AllPairs AreApart all
+
+-- a device or a disk of the stack
+abbrev pub IsLower : Description → Lower → Type 0
+IsLower stack (Device id) = id < length stack.devices
+IsLower stack (Disk id) = id < length stack.disks
+
+-- what a clash names is there
+pub record IsThere (stack : Description) (clash : Clash) : Type 0 where
+  pub lower : IsLower stack clash.lower
+  pub inside : clash.sector < lower_len stack clash.lower
+  pub first : clash.first < length stack.devices
+  pub second : clash.second < length stack.devices

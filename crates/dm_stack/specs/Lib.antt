@@ -8,6 +8,7 @@ pub mod Loaded
 pub mod NameIndex
 pub mod Naming
 pub mod Places
+pub mod Report
 pub mod Soundness
 pub mod Span
 pub mod Store

@@ -23,6 +23,7 @@ mod names;
 mod placed;
 mod ranges;
 mod reach;
+mod report;
 mod resolve;
 mod snapshots;
 mod span;
@@ -38,5 +39,6 @@ pub use found::{Found, FoundColumn, FoundColumns, FoundLine, FoundSnapshot, Foun
 pub use graph::MOST_DEPTH;
 pub use id::{DeviceId, DiskId, Lower};
 pub use looker::Looker;
+pub use report::check_report;
 pub use stack::Stack;
 pub use store_places::places;

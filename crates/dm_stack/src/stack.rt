@@ -3,10 +3,10 @@
 //! The invariant carries the soundness, so nothing above asks for it again: a value is made only
 //! through the checks of a load. Names are looked up there; afterwards everything goes by ids.
 
-ghost use Rattle.std.specs.Prelude.{◌≡◌, ◌≢◌, ℕ, ◌+◌, ◌<◌, ◌≤◌, ◌^◌, ◌↔◌, IfErr, IfOk, IsTrue, OnOk, List, Option, Some, is_none, length, position, slice_get};
+ghost use Rattle.std.specs.Prelude.{◌≡◌, ◌≢◌, ℕ, ◌+◌, ◌<◌, ◌≤◌, ◌^◌, ◌↔◌, IfErr, IfOk, IfSome, IsTrue, OnOk, List, Option, Some, is_none, length, position, slice_get};
 ghost use Rattle.dm_table.specs.Name.{is_disk_name};
 ghost use Rattle.dm_stack.specs.Below.{HoldsSoundly, found_at, found_lines};
-ghost use Rattle.dm_stack.specs.Claims.{IsFirstClash, IsTidy, IsTop, claims};
+ghost use Rattle.dm_stack.specs.Claims.{IsFirstClash, IsThere, IsTidy, IsTop, claims};
 ghost use Rattle.dm_stack.specs.Description.{Description, device_len, disk_len, is_ro_at, is_same, name_at, disk_name_at, lines_at};
 ghost use Rattle.dm_stack.specs.Loaded.{IsDeeperByOne, disk_text, snapshots, stack_depth, AreSnapshots};
 ghost use Rattle.dm_stack.specs.LineSearch.{binary_digits};
@@ -228,6 +228,8 @@ impl Stack {
     pub fn tidy(&self, alloc: Global) -> Result<Option<Clash>, AllocError>
         ensures clash { IfOk result (λ found. IsFirstClash (claims self.now) found) }
         ensures tidy { IfOk result (λ found. IsTrue (is_none found) ↔ IsTidy self.now) }
+        // What it names is there.
+        ensures there { IfOk result (λ found. IfSome found (IsThere self.now)) }
         // Claims have no other clash.
         ensures one { (all : List Claim) (found other : Option Clash) → IsFirstClash all found → IsFirstClash all other → found ≡ other }
     {

@@ -9,14 +9,15 @@ use Rattle.lvm_volume.specs.Names.{NameParts, built, spaced}
 use Rattle.lvm_volume.proofs.Splits.{one_split}
 use Rattle.dmremap.specs.declared.other_whole.Printing.{Printing}
 use Rattle.dmremap.specs.declared.other_whole.Printing.TheVariants as printing
-use Rattle.dmremap.specs.OtherWhole.{FilesSay, GiveOther, IsPrinted, IsRefusal, IsTextPrinted, Prints, Refuses, Said, SplitSays, TaskSays, devices_said, line, name_said, name_status, printing_message, printing_status, whole_said, written_as}
+use Rattle.dmremap.specs.OtherWhole.{CheckSays, FilesSay, GiveOther, IsPrinted, IsRefusal, IsTextPrinted, Prints, Refuses, ReportSays, Said, SplitSays, TaskSays, devices_said, line, name_said, name_status, printing_message, printing_status, whole_said, written_as}
 use Rattle.dmremap.specs.declared.words.Form.{Form}
 use Rattle.dmremap.specs.declared.words.Format.{Format}
 use Rattle.dmremap.specs.Exit.{FailedOutput}
-use Rattle.dmremap.specs.Load.{PartsGive, SoundAs}
+use Rattle.dmremap.specs.Load.{Load, PartsGive, RefusedBy, SoundAs}
 use Rattle.dmremap.specs.Whole.{Whole}
+use Rattle.dm_stack.proofs.TopLemmas.{one_report}
 use Rattle.dm_stack.specs.Description.{Description}
-use Rattle.dmremap.specs.Words.{TaskWords, map_words, print_words, name_words, split_words}
+use Rattle.dmremap.specs.Words.{TaskWords, map_words, print_words, check_words, name_words, split_words}
 use Rattle.dmremap.proofs.ExitLemmas.{no_write_fault, refused_kind}
 use Rattle.dmremap.proofs.OneWhole.{one_load}
 
@@ -45,6 +46,20 @@ pub files_printed : (form : Form) (format : Format) (source disks : Delivery) (d
     → IsTextPrinted (written_as form description.devices) output old new ended → IsPrinted (FilesSay form format source disks) output old new ended
 files_printed form format source disks description output old new ended gives is =
     says_printed (FilesSay form format source disks) (written_as form description.devices) output old new ended (record { load = SoundAs description; loaded = gives; is = refl }) is
+
+-- what is said by one rule is said by another that it gives
+pub printed_more : (Says More : Said → Type 0) → ((said : Said) → Says said → More said) → (output : List ℕ) (old new : ℕ) (ended : Printing) → IsPrinted Says output old new ended → IsPrinted More output old new ended
+printed_more Says More more output old new printing.Done is = more (Prints output) is
+printed_more Says More more output old new printing.WriteFault is = (is.0, more (Prints is.0) is.1, is.2)
+printed_more Says More more output old new (printing.Unloaded fault) is = (is.0, λ six. more _ (is.1 six))
+printed_more Says More more output old new (printing.Unnamed fault) is = (is.0, λ six. more _ (is.1 six))
+printed_more Says More more output old new printing.Unsplit is = (is.0, λ six. more _ (is.1 six))
+
+-- the report of a load
+pub check_printed : (format : Format) (source disks : Delivery) (description : Description) (output : List ℕ) (old new : ℕ) (ended : Printing) → PartsGive format source disks (SoundAs description)
+    → IsPrinted (ReportSays (SoundAs description)) output old new ended → IsPrinted (CheckSays format source disks) output old new ended
+check_printed format source disks description output old new ended gives is =
+    printed_more (ReportSays (SoundAs description)) (CheckSays format source disks) (λ said says. record { load = SoundAs description; loaded = gives; says = says }) output old new ended is
 
 -- a name that is built
 pub name_printed : (parts : NameParts) (name output : List ℕ) (old new : ℕ) (ended : Printing) → Ok name ≡ built parts → IsTextPrinted (line name) output old new ended
@@ -101,9 +116,15 @@ one_split_said name (Prints a) (Refuses b) x y = absurd (y.0 x.1.0 x.1.1)
 one_split_said name (Refuses a) (Prints b) x y = absurd (x.0 y.1.0 y.1.1)
 one_split_said name (Refuses a) (Refuses b) x y = ap Refuses (sym x.1 ∙ y.1)
 
+one_report_said : (load : Load) (a b : Said) → ReportSays load a → ReportSays load b → a ≡ b
+one_report_said (RefusedBy fault) a b x y = sym x ∙ y
+one_report_said (SoundAs description) a b x y = sym x.2 ∙ ap Prints (one_report description x.0 y.0 x.1 y.1) ∙ y.2
+
 one_said : (asked : TaskWords) (source disks : Delivery) (a b : Said) → TaskSays asked source disks a → TaskSays asked source disks b → a ≡ b
 one_said (map_words files) source disks a b x y = absurd x
 one_said (print_words form files) source disks a b x y = sym x.is ∙ ap (devices_said form) (one_load files.format source disks x.load y.load x.loaded y.loaded) ∙ y.is
+one_said (check_words files) source disks a b x y =
+    one_report_said y.load a b (subst (λ (load : Load). ReportSays load a) (one_load files.format source disks x.load y.load x.loaded y.loaded) x.says) y.says
 one_said (name_words parts) source disks a b x y = sym x ∙ y
 one_said (split_words name) source disks a b x y = one_split_said name a b x y
 

@@ -5,6 +5,7 @@ use Rattle.dm_table.specs.declared.table.DeviceSpec.{DeviceSpec}
 use Rattle.dm_table.specs.CanonicalText.{concise_text, table_text}
 use Rattle.dm_table.specs.DeviceIo.{Delivery, since}
 use Rattle.dm_table.specs.LoadMessage.{load_message}
+use Rattle.dm_stack.specs.Report.{IsReport}
 use Rattle.dm_stream.specs.Messages.{write_message}
 use Rattle.lvm_volume.specs.declared.fault.NameFault.{NameFault}
 use Rattle.lvm_volume.specs.declared.fault.NameFault.TheVariants as names
@@ -19,7 +20,7 @@ use Rattle.dmremap.specs.Exit.{FailedOutput}
 use Rattle.dmremap.specs.Load.{Load, PartsGive, RefusedBy, SoundAs}
 use Rattle.dmremap.specs.Status.{load_status}
 use Rattle.dmremap.specs.Whole.{Whole}
-use Rattle.dmremap.specs.Words.{TaskWords, map_words, print_words, name_words, split_words, files_of, has_disk_list}
+use Rattle.dmremap.specs.Words.{TaskWords, map_words, print_words, check_words, name_words, split_words, files_of, has_disk_list}
 
 -- ---- what there is to print
 
@@ -48,6 +49,17 @@ pub record FilesSay (form : Form) (format : Format) (source disks : Delivery) (s
   pub loaded : PartsGive format source disks load
   pub is : devices_said form load ≡ said
 
+-- the report of a load, or why it is refused
+abbrev pub ReportSays : Load → Said → Type 0
+ReportSays (RefusedBy fault) said = Refuses (load_message fault) ≡ said
+ReportSays (SoundAs description) said = (text : List ℕ) × IsReport description text × (Prints text ≡ said)
+
+-- the files have this report
+pub record CheckSays (format : Format) (source disks : Delivery) (said : Said) : Type 0 where
+  pub load : Load
+  pub loaded : PartsGive format source disks load
+  pub says : ReportSays load said
+
 -- a name, or why it is not built
 abbrev pub name_said : Result (List ℕ) NameFault → Said
 name_said (Ok name) = Prints (line name)
@@ -62,6 +74,7 @@ SplitSays name (Refuses message) = ((p : NameParts) → Builds p name → ⊥) �
 abbrev pub TaskSays : TaskWords → (source disks : Delivery) → Said → Type 0
 TaskSays (map_words files) source disks said = ⊥
 TaskSays (print_words form files) source disks said = FilesSay form files.format source disks said
+TaskSays (check_words files) source disks said = CheckSays files.format source disks said
 TaskSays (name_words parts) source disks said = name_said (built parts) ≡ said
 TaskSays (split_words name) source disks said = SplitSays name said
 

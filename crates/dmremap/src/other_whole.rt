@@ -13,7 +13,7 @@ ghost use Rattle.lvm_volume.specs.Names.{built};
 ghost use Rattle.dmremap.specs.Exit.{FailedOutput, MessageWritten};
 ghost use Rattle.dmremap.specs.Load.{PartsGive, RefusedBy, SoundAs};
 ghost use Rattle.dmremap.specs.Inputs.{IsReadOnIf, IsUnchanged, delivery_if};
-ghost use Rattle.dmremap.specs.OtherWhole.{FilesSay, GiveOther, IsPrinted, IsTextPrinted, OutputPrinted, Prints, SplitSays, TaskSays, has_list, has_source, is_other, line, name_said, printing_message, printing_status, written_as};
+ghost use Rattle.dmremap.specs.OtherWhole.{CheckSays, FilesSay, GiveOther, IsPrinted, IsTextPrinted, OutputPrinted, Prints, ReportSays, SplitSays, TaskSays, has_list, has_source, is_other, line, name_said, printing_message, printing_status, written_as};
 ghost use Rattle.dmremap.specs.Whole.{Whole};
 ghost use Rattle.dmremap.specs.Words.{TaskWords, file_words, has_disk_list, words_of};
 
@@ -22,10 +22,11 @@ mod tests;
 
 use crate::load::load;
 use crate::words::{Files, Form, Format, Job, Task};
-use dm_stack::Stack;
+use dm_stack::{Stack, check_report};
 use dm_stream::tell;
 use dm_table::{
-    DeviceSpec, Input, LoadFault, LoadKind, OutFault, Output, write_all, write_concise, write_table,
+    DeviceSpec, Input, LoadFault, LoadKind, OutFault, Output, Part, write_all, write_concise,
+    write_table,
 };
 use lvm_volume::{NameFault, build_name, spaced_parts};
 use std::alloc::Global;
@@ -46,7 +47,8 @@ pub(crate) enum Printing {
 }
 
 /// Does what a command but `map` asks for: prints the devices of a source in a form, once they are
-/// checked as for `map`; or the name of a volume; or the parts of one. It returns the exit status.
+/// checked as for `map`; or the report of a check; or the name of a volume; or the parts of one. It
+/// returns the exit status.
 ///
 /// | Status | When |
 /// |---|---|
@@ -146,6 +148,7 @@ fn print<S: Input, D: Input, W: Output>(
         Task::Print(form, files) => {
             print_devices(alloc, form, files.format, source, disks, output)
         }
+        Task::Check(files) => print_check(alloc, files.format, source, disks, output),
         Task::Name { vg, lv, layer } => print_name(alloc, vg, lv, layer, output),
         Task::SplitName(name) => print_parts(alloc, name, output),
     }
@@ -225,6 +228,42 @@ fn write_devices<W: Output>(
     }
 }
 
+/// Prints the report of a load.
+fn print_check<S: Input, D: Input, W: Output>(
+    alloc: Global,
+    format: Format,
+    source: &mut Option<S>,
+    disks: &mut Option<D>,
+    output: &mut W,
+) -> Printing
+    requires source { IsSome source.old }
+    requires disks { is_some disks.old ≡ has_disk_list format }
+    ensures printed { IsPrinted (CheckSays format
+        (delivery_if S.handed S.faults S.ends source.old source.new)
+        (delivery_if D.handed D.faults D.ends disks.old disks.new))
+        (since (W.written output.old) (W.written output.new)) (W.flushes output.old) (W.flushes output.new) result }
+    ensures source { IsReadOnIf S.handed S.faults S.ends source.old source.new }
+    ensures disks { IsReadOnIf D.handed D.faults D.ends disks.old disks.new }
+    ensures output { OutputPrinted W.written W.waiting W.faults W.flushes result output.old output.new }
+{
+    match load_source(alloc, format, source, disks) {
+        Ok(stack) => print_report(alloc, &stack, output),
+        Err(fault) => Printing::Unloaded(fault),
+    }
+}
+
+/// Prints the report of a stack.
+fn print_report<W: Output>(alloc: Global, stack: &Stack, output: &mut W) -> Printing
+    ensures printed { IsPrinted (ReportSays (SoundAs stack.now))
+        (since (W.written output.old) (W.written output.new)) (W.flushes output.old) (W.flushes output.new) result }
+    ensures output { OutputPrinted W.written W.waiting W.faults W.flushes result output.old output.new }
+{
+    match check_report(alloc, stack) {
+        Ok(text) => print_text(text.as_str().as_bytes(), output),
+        Err(_) => Printing::Unloaded(LoadFault::memory(Part::Source)),
+    }
+}
+
 /// Prints the name of a volume, or of a layer of it.
 fn print_name<W: Output>(
     alloc: Global,
@@ -254,6 +293,22 @@ fn print_parts<W: Output>(alloc: Global, name: &str, output: &mut W) -> Printing
         Ok(None) => Printing::Unsplit,
         Err(_) => Printing::Unnamed(NameFault::Memory),
     }
+}
+
+/// Prints a text of whole lines.
+fn print_text<W: Output>(text: &[u8], output: &mut W) -> Printing
+    ensures printed { IsTextPrinted text.now
+        (since (W.written output.old) (W.written output.new)) (W.flushes output.old) (W.flushes output.new) result }
+    ensures output { OutputPrinted W.written W.waiting W.faults W.flushes result output.old output.new }
+{
+    let written = write_text(text, &mut *output);
+    close(written, output)
+}
+
+fn write_text<W: Output>(text: &[u8], output: &mut W) -> Result<(), OutFault>
+    ensures { Wrote W.written W.waiting W.faults W.flushes output.old output.new result text.now }
+{
+    write_all(output, text)
 }
 
 /// Prints a line.

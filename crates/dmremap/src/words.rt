@@ -60,6 +60,8 @@ pub enum Task<'a> {
     Map(Files<'a>),
     /// Print the devices of these files in a form.
     Print(Form, Files<'a>),
+    /// Check the devices of these files, and print whether two of their lines claim one sector.
+    Check(Files<'a>),
     /// Print the device mapper's name of a volume, or of a layer of it.
     Name {
         vg: &'a str,
@@ -185,6 +187,23 @@ Exit status
 Example
   dmremap concise lvm vg0.backup";
 
+const CHECK_ABOUT: &str = "Checks the tables of FILE, and whether two lines claim the same sectors";
+
+const CHECK_NOTES: &str = "\
+FILE and DISKS are those of `dmremap map`. Four lines are printed: `devices N`, `disks N`, `depth N`
+and `tidy`, or `clash LOWER SECTOR FIRST SECOND` in place of `tidy`: the devices FIRST and SECOND both
+use that sector of the disk or device LOWER, and not both only to read it.
+
+Exit status
+  0  the check was printed, also one with a clash
+  1  FILE or DISKS was refused
+  2  the words were refused
+  5  the output could not be written
+  6  out of memory
+
+Example
+  dmremap check table stack.table disks.txt";
+
 const NAME_ABOUT: &str = "Prints the device mapper's name of a logical volume";
 
 const NAME_NOTES: &str = "\
@@ -298,6 +317,7 @@ impl<'a> Task<'a> {
             "map" => Some(Task::Map(Files::of_matches(given)?)),
             "table" => Some(Task::Print(Form::Table, Files::of_matches(given)?)),
             "concise" => Some(Task::Print(Form::Concise, Files::of_matches(given)?)),
+            "check" => Some(Task::Check(Files::of_matches(given)?)),
             "name" => Task::of_name(given),
             "splitname" => Task::of_split(given),
             _ => None,
@@ -328,7 +348,7 @@ impl<'a> Task<'a> {
         ensures { option_map file_words result ≡ files_of (words_of self.entry) }
     {
         match self {
-            Task::Map(files) | Task::Print(_, files) => Some(files),
+            Task::Map(files) | Task::Print(_, files) | Task::Check(files) => Some(files),
             Task::Name { .. } | Task::SplitName(_) => None,
         }
     }
@@ -338,7 +358,7 @@ impl<'a> Task<'a> {
         ensures { result ≡ task_has_its_disks (words_of self.entry) }
     {
         match self {
-            Task::Map(files) | Task::Print(_, files) => files.has_its_disks(),
+            Task::Map(files) | Task::Print(_, files) | Task::Check(files) => files.has_its_disks(),
             Task::Name { .. } | Task::SplitName(_) => true,
         }
     }
@@ -571,6 +591,10 @@ fn program<'a>(alloc: Global) -> Result<Command<'a>, AllocError>
     let line = with_command(
         line,
         source_command(alloc, "concise", CONCISE_ABOUT, CONCISE_NOTES, parser),
+    )?;
+    let line = with_command(
+        line,
+        source_command(alloc, "check", CHECK_ABOUT, CHECK_NOTES, parser),
     )?;
     let line = with_command(line, name_command(alloc))?;
     with_command(line, split_command(alloc))

@@ -53,7 +53,10 @@ fn source_of<'a>(task: Task<'_>, text: &'a str) -> Option<ShortIn<'a>>
     ensures { is_some result ≡ has_source (words_of task.entry) }
 {
     match task {
-        Task::Map(_) | Task::Print(_, _) => Some(ShortIn::new(text.as_bytes(), PLENTY)),
+        Task::Map(_) | Task::Print(_, _) | Task::Check(_) => Some(ShortIn::new(
+            text.as_bytes(),
+            PLENTY,
+        )),
         Task::Name { .. } | Task::SplitName(_) => None,
     }
 }
@@ -63,7 +66,7 @@ fn disks_of<'a>(task: Task<'_>, text: &'a str) -> Option<ShortIn<'a>>
     ensures { is_some result ≡ has_list (words_of task.entry) }
 {
     match task {
-        Task::Map(files) | Task::Print(_, files) => {
+        Task::Map(files) | Task::Print(_, files) | Task::Check(files) => {
             if files.format.has_disk_list() {
                 Some(ShortIn::new(text.as_bytes(), 1))
             } else {
@@ -248,6 +251,95 @@ fn refused_loads(rt: HostRuntime) {
             let ran = run(alloc, task, source, disks, output, messages);
             check(&rt, ran, message, 1);
         }
+    }
+}
+
+/// Tables in a format and disks, and the report of their check or why they are refused.
+static CHECKS: [(Format, &str, &str, &str, u8); 9] = [
+    (
+        Format::Table,
+        "",
+        "",
+        "devices 0\ndisks 0\ndepth 0\ntidy\n",
+        0,
+    ),
+    (
+        Format::Table,
+        "a: 0 8 linear sda 0\nb: 0 8 linear sda 4\n",
+        "sda 16\n",
+        "devices 2\ndisks 1\ndepth 1\nclash sda 4 a b\n",
+        0,
+    ),
+    (
+        Format::Table,
+        "a: 0 8 linear sda 0\nb: 0 8 linear sda 8\n",
+        "sda 16\nsdb 1\n",
+        "devices 2\ndisks 2\ndepth 1\ntidy\n",
+        0,
+    ),
+    (
+        Format::Table,
+        "a: 0 8 zero\nb: 0 8 linear /dev/mapper/a 0\nc: 0 8 linear /dev/mapper/a 0\n",
+        "",
+        "devices 3\ndisks 0\ndepth 2\nclash /dev/mapper/a 0 b c\n",
+        0,
+    ),
+    (
+        Format::Table,
+        "s: 0 8 snapshot base base P 1\n",
+        "base 8\n",
+        "devices 1\ndisks 1\ndepth 1\nclash base 0 s s\n",
+        0,
+    ),
+    // Two that read one origin get along.
+    (
+        Format::Concise,
+        "s,,,,0 8 snapshot base one P 1;t,,,,0 8 snapshot base two P 1\n",
+        "base 8\none 8\ntwo 8\n",
+        "devices 2\ndisks 3\ndepth 1\ntidy\n",
+        0,
+    ),
+    // The first that meets an earlier one is c, and the first that it meets is a, at 5.
+    (
+        Format::Table,
+        "a: 0 8 linear sda 0\nb: 0 8 linear sda 8\nc: 0 8 linear sda 5\nd: 0 8 linear sda 0\n",
+        "sda 16\n",
+        "devices 4\ndisks 1\ndepth 1\nclash sda 5 a c\n",
+        0,
+    ),
+    (
+        Format::Table,
+        "a: 0 16 striped 2 8 sda 0 sda 4\n",
+        "sda 16\n",
+        "devices 1\ndisks 1\ndepth 1\nclash sda 4 a a\n",
+        0,
+    ),
+    (
+        Format::Table,
+        "a: 0 8 linear sda 1\n",
+        "sda 8\n",
+        "dmremap: source: range at 1\n",
+        1,
+    ),
+];
+
+fn checking(format: Format) -> Task<'static>
+    ensures { is_other (words_of result) ≡ true }
+{
+    Task::Check(Files {
+        format,
+        file: "",
+        disks: None,
+    })
+}
+
+#[test]
+fn checks(rt: HostRuntime) {
+    let alloc = rt.alloc();
+    for &(format, source, disks, text, status) in &CHECKS {
+        let (output, messages) = (stream(&rt, alloc, 3), stream(&rt, alloc, 1));
+        let ran = run(alloc, checking(format), source, disks, output, messages);
+        check(&rt, ran, text, status);
     }
 }
 

@@ -15,7 +15,7 @@ const TABLE: &str = r#"Files { format: Table, file: "a.table", disks: Some("a.di
 const BACKUP: &str = r#"Files { format: Lvm, file: "vg0.backup", disks: None }"#;
 
 /// Words, how the task that they ask for begins, and its texts.
-static TASKS: [(&[&str], &str, &str); 10] = [
+static TASKS: [(&[&str], &str, &str); 11] = [
     (
         &["dmremap", "map", "table", "a.table", "a.disks"],
         "Map(",
@@ -41,6 +41,11 @@ static TASKS: [(&[&str], &str, &str); 10] = [
         &["dmremap", "map", "concise", "f", "d"],
         "Map(",
         r#"Files { format: Concise, file: "f", disks: Some("d") }"#,
+    ),
+    (
+        &["dmremap", "check", "table", "a.table", "a.disks"],
+        "Check(",
+        TABLE,
     ),
     (
         &["dmremap", "map", "table", "--", "-", "d"],
@@ -211,7 +216,7 @@ fn other_words_are_refused(rt: HostRuntime) {
 }
 
 /// Words that ask for help, and what it tells.
-static HELP: [(&[&str], &str, &str); 9] = [
+static HELP: [(&[&str], &str, &str); 10] = [
     (
         &["dmremap", "--help"],
         "Usage: dmremap [OPTIONS] <COMMAND>",
@@ -246,6 +251,11 @@ static HELP: [(&[&str], &str, &str); 9] = [
         &["dmremap", "concise", "-h"],
         "concise <FORMAT> <FILE> [DISKS]",
         "dmremap concise lvm",
+    ),
+    (
+        &["dmremap", "check", "-h"],
+        "check <FORMAT> <FILE> [DISKS]",
+        "clash LOWER SECTOR FIRST SECOND",
     ),
     (
         &["dmremap", "name", "-h"],

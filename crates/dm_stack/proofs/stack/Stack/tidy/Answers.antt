@@ -4,7 +4,7 @@ use Rattle.dm_stack.specs.declared.claim.Claim.{Claim}
 use Rattle.dm_stack.specs.Claims.{IsFirstClash, claims}
 use Rattle.dm_stack.specs.Description.{Description}
 use Rattle.dm_stack.specs.Soundness.{IsSound}
-use Rattle.dm_stack.proofs.TopLemmas.{claims_within, none_passes, one_clash, tidiness}
+use Rattle.dm_stack.proofs.TopLemmas.{claims_within, none_passes, one_clash, result_there, tidiness}
 use Rattle.dm_stack.proofs.stack.Stack.tidy.Goals as goal
 
 pub claims-requires : goal.claims-requires
@@ -32,3 +32,6 @@ returns-clause-one c = one_clash
 
 pub returns-in_err-claims-clause-one : goal.returns-in_err-claims-clause-one
 returns-in_err-claims-clause-one c = one_clash
+
+pub returns-clause-there : goal.returns-clause-there
+returns-clause-there c = result_there c.args.self.now c.first_clash.result c.indexed.ensures.sound (returns-clause-clash c)

@@ -1,0 +1,21 @@
+use Rattle.std.proofs.Common.{Option, Some, sym, subst, ◌∙◌}
+use Rattle.std.specs.Prelude.{decimal, string_bytes}
+use Rattle.std.proofs.lemmas.Result.{IfOk-weaker}
+use Rattle.dm_stack.specs.declared.clash.Clash.{Clash}
+use Rattle.dm_stack.specs.Claims.{IsFirstClash, claims}
+use Rattle.dm_stack.specs.Report.{SaysTidiness, lower_text}
+use Rattle.dm_stack.proofs.ReportLemmas.{clash_line}
+use Rattle.dm_stack.proofs.report.tidiness_text.Goals as goal
+
+pub returns : goal.returns
+returns c =
+    let stack = c.args.stack.now in
+    let clash = c.in-Some.clash in
+    let words = c.lower_words-lower.result in
+    IfOk-weaker c.format.result _ (λ text. SaysTidiness stack (string_bytes text))
+    (λ text is. record {
+      found = Some clash;
+      clash = subst (λ (found : Option Clash). IsFirstClash (claims stack) found) c.in-Some.is c.in_ok-clash.ensures.clash;
+      is =
+          rw (← c.name.ensures, ← c.name-2.ensures) (clash_line words.0.now words.1.now (lower_text stack clash.lower) (decimal clash.sector) c.name.result.now c.name-2.result.now c.lower_words-lower.ensures) ∙ sym is;
+    }) c.format.ensures.ok

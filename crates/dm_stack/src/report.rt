@@ -1,0 +1,59 @@
+//! What a check says of a stack, as text.
+
+ghost use Rattle.std.specs.Prelude.{◌≡◌, ◌++◌, IfOk, List, ℕ, string_bytes};
+ghost use Rattle.dm_stack.specs.Claims.{IsLower};
+ghost use Rattle.dm_stack.specs.Description.{Description};
+ghost use Rattle.dm_stack.specs.Report.{IsReport, SaysTidiness, lower_text};
+
+use crate::id::Lower;
+use crate::stack::Stack;
+use std::alloc::{AllocError, Global};
+
+/// What a check says of a stack: lines `devices N`, `disks N` and `depth N`, and then `tidy`, or
+/// `clash LOWER SECTOR FIRST SECOND` with the devices of the two claims. LOWER is a disk, or a device
+/// as `/dev/mapper/NAME`.
+///
+/// Fails only when out of memory. Cost: that of `Stack::tidy`.
+pub fn check_report(alloc: Global, stack: &Stack) -> Result<String, AllocError>
+    ensures text { IfOk result (λ text. IsReport stack.now (string_bytes text)) }
+    // A stack has no other report.
+    ensures one { (description : Description) (text other : List ℕ) → IsReport description text → IsReport description other → text ≡ other }
+{
+    let tidiness = tidiness_text(alloc, stack)?;
+    format!(in alloc;
+        "devices {}\ndisks {}\ndepth {}\n{}\n",
+        stack.device_count(),
+        stack.disk_count(),
+        stack.depth(),
+        tidiness.as_str(),
+    )
+}
+
+/// The last line of a report.
+fn tidiness_text(alloc: Global, stack: &Stack) -> Result<String, AllocError>
+    ensures { IfOk result (λ text. SaysTidiness stack.now (string_bytes text)) }
+{
+    let Some(clash) = stack.tidy(alloc)? else {
+        return String::from_str(alloc, "tidy");
+    };
+    let lower = lower_words(stack, clash.lower);
+    format!(in alloc;
+        "clash {}{} {} {} {}",
+        lower.0,
+        lower.1,
+        clash.sector,
+        stack.name(clash.first),
+        stack.name(clash.second),
+    )
+}
+
+/// What a line names a lower device or disk by, in two parts.
+fn lower_words(stack: &Stack, lower: Lower) -> (&str, &str)
+    requires { IsLower stack.now lower }
+    ensures { result.0.now ++ result.1.now ≡ lower_text stack.now lower }
+{
+    match lower {
+        Lower::Device(id) => ("/dev/mapper/", stack.name(id)),
+        Lower::Disk(id) => ("", stack.disk_name(id)),
+    }
+}
