@@ -25,6 +25,7 @@ import groups
 import launcher
 import limits
 import loads
+import lookers
 import printing
 import ranges
 import request_lines
@@ -51,6 +52,7 @@ def main():
             part.check(tally, program)
         launcher.check(tally, program, TOP, built == BUILT)
         documents.check(tally, program, TOP)
+        lookers.check(tally, TOP)
     return tally.close()
 
 

@@ -15,7 +15,7 @@ WORDS = re.compile(r"`([A-Z]\w*)` (?:\(((?:`\w+`(?:, )?)+)\)|(`\w+`))")
 RUNS = [
     ("map table volume.table disks.txt", "requests.txt"),
     ("map table stack.table stack-disks.txt", "stack-requests.txt"),
-    ("map table snapshot.table snapshot-disks.txt", "snapshot-requests.txt"),
+    ("map table snapshot.table snapshot-disks.txt --status", "snapshot-requests.txt"),
     ("map lvm vg0.backup", "vg0-requests.txt"),
     ("map concise volume.concise disks.txt", "requests.txt"),
     ("table lvm vg0.backup", None),

@@ -31,6 +31,17 @@ REFUSED = [
 ]
 
 
+# DISKS, the length of one write from sector 0 on to a snapshot in chunks of one sector, and its status line.
+STATUS = [
+    ("base 64\ncow 64\n", 0, "s: 0 64 snapshot 2/64 2\n"),
+    ("base 64\ncow 64\n", 31, "s: 0 64 snapshot 33/64 2\n"),
+    ("base 64\ncow 64\n", 32, "s: 0 64 snapshot 35/64 3\n"),
+    ("base 64\ncow 64\n", 33, "s: 0 64 snapshot 36/64 3\n"),
+    ("base 64\ncow 34\n", 32, "s: 0 64 snapshot 35/34 3\n"),
+    ("base 64\ncow 33\n", 32, "s: 0 64 snapshot Invalid\n"),
+]
+
+
 class Plain:
     """A stack and the state of its snapshots. A table is (start, length, target words) for each line."""
 
@@ -119,6 +130,18 @@ class Plain:
             to = "/dev/mapper/" + name
             units += [self.read(to, sector)] if op == "R" else self.write(to, sector)
         return units
+
+    def status(self):
+        """The status lines of the snapshots."""
+        shown = ""
+        for name, table in self.tables.items():
+            words = table[0][2]
+            if words[0] == "snapshot":
+                count, size = len(self.taken[name]), words[3]
+                areas = count // (32 * size)
+                used = "%d/%d %d" % ((2 + count + areas) * size, self.length(words[2]), (2 + areas) * size)
+                shown += "%s: 0 %d snapshot %s\n" % (name, table[0][1], "Invalid" if name in self.lost else used)
+        return shown
 
 
 def device(to):
@@ -213,6 +236,7 @@ def check(tally, program):
         tally.same("requests of %s" % source, run(program, source, disks, requests), 0, output)
     for source, disks, message in REFUSED:
         tally.same("the load of %s" % source, run(program, source, disks, ""), 1, "", "dmremap: %s\n" % message)
+    check_status(tally, program)
     for seed in range(ROUNDS):
         dice = random.Random(seed)
         stack = small_stack(dice)
@@ -225,9 +249,21 @@ def check(tally, program):
             given += "%s %s %d %d\n" % request
             wanted += lines(number, stack.request(*request))
         disks = "".join("%s %d\n" % it for it in stack.disks.items())
-        tally.same("the small stack of %s" % source, run(program, source, disks, given), 0, wanted)
+        got = run(program, source, disks, given, "--status")
+        tally.same("the small stack of %s" % source, got, 0, wanted + stack.status())
 
 
-def run(program, source, disks, requests):
-    words = ["map", "concise", program.file("concise", source), program.file("disks", disks)]
+def check_status(tally, program):
+    for disks, length, line in STATUS:
+        length_of = dict(it.split() for it in disks.splitlines())
+        stack = Plain({"s": [(0, 64, ("snapshot", "base", "cow", 1))]}, set(), {it: int(length_of[it]) for it in length_of})
+        given, wanted = "", ""
+        if length > 0:
+            given, wanted = "W s 0 %d\n" % length, lines(1, stack.request("W", "s", 0, length))
+        got = run(program, concise(stack), disks, given, "--status")
+        tally.same("the status line after %d chunks, of %r" % (length, disks), got, 0, wanted + line)
+
+
+def run(program, source, disks, requests, *flags):
+    words = ["map", "concise", program.file("concise", source), program.file("disks", disks), *flags]
     return program.run(words, given=requests)

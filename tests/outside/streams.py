@@ -16,6 +16,10 @@ SHORT_ANSWER = "1 R sda 0 1\n1 R sdb 0 1\n"
 # Its answer goes out in many writes.
 LONG = "R a 0 4096\n" * 20
 BAD = "R b 0 1\n"
+# One snapshot is written, and the other runs out of places.
+SNAPSHOTS = "s: 0 8 snapshot base cow P 8\nt: 0 8 snapshot base cow2 P 8\n"
+STORES = "base 8\ncow 24\ncow2 16\n"
+WRITES = "W s 0 1\nW t 0 1\n"
 UNWRITTEN = "dmremap: output: write\n"
 UNREAD = "dmremap: requests: read\n"
 
@@ -24,6 +28,7 @@ def check(tally, program):
     check_output(tally, program)
     check_reader(tally, program)
     check_beginnings(tally, program)
+    check_each_beginning(tally, program)
     check_requests(tally, program)
     check_messages(tally, program)
     check_pauses(tally, program)
@@ -70,6 +75,22 @@ def check_beginnings(tally, program):
             file.seek(0)
             got.out = file.read()
         tally.same("an output that fails after %d bytes" % most, got, 5, whole[:most], UNWRITTEN)
+
+
+def check_each_beginning(tally, program):
+    """A file that runs full after each byte of what is written at the end of a run, or printed."""
+    table = ["table", program.file("table", SNAPSHOTS), program.file("disks", STORES)]
+    for name, words in (("status lines", ["map", *table, "--status"]), ("concise text", ["concise", *table])):
+        whole = program.run(words, given=WRITES).out
+        cut = []
+        for most in range(len(whole)):
+            with tempfile.TemporaryFile() as file:
+                got = program.run(words, given=WRITES, stdout=file, before=lambda: limit_files(most))
+                file.seek(0)
+                cut.append((got.status, file.read() == whole[:most], got.err))
+        wrong = [at for at, it in enumerate(cut) if it != (5, True, UNWRITTEN.encode())]
+        tally.holds("%s that are cut after each of %d bytes" % (name, len(whole)), len(whole) > 60 and not wrong,
+                    "it differs after %s bytes" % wrong)
 
 
 def limit_files(most):

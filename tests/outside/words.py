@@ -20,6 +20,15 @@ REFUSED = [
     ["splitname"],
     ["splitname", "a-b", "c-d"],
     ["--status", "name", "vg0", "lv0"],
+    ["name", "vg0", "lv0", "--status"],
+    ["splitname", "--status", "a-b"],
+    ["table", "table", "TABLE", "DISKS", "--status"],
+    ["concise", "--status", "table", "TABLE", "DISKS"],
+    ["map", "table", "TABLE", "DISKS", "--status", "--status"],
+    ["map", "--status", "table", "TABLE", "DISKS", "--status"],
+    ["map", "table", "--", "TABLE", "DISKS", "--status"],
+    ["map", "table", "TABLE", "DISKS", "--status=yes"],
+    ["map", "table", "TABLE", "DISKS", "--stat"],
     ["map", "nonsense", "TABLE", "DISKS"],
     ["map", "lvm"],
     ["map", "LVM", "TABLE"],
@@ -29,6 +38,13 @@ REFUSED = [
     ["--version"],
     ["MAP", "table", "TABLE", "DISKS"],
     [b"map", b"table", b"\xff", b"DISKS"],
+]
+
+# Words that ask for status lines, of a stack without a snapshot.
+STATUS = [
+    ["map", "table", "TABLE", "DISKS", "--status"],
+    ["map", "--status", "table", "TABLE", "DISKS"],
+    ["map", "table", "--status", "TABLE", "--", "DISKS"],
 ]
 
 
@@ -54,5 +70,9 @@ def check(tally, program):
     for files in (["TABLE", "DISKS"], ["missing", "missing"]):
         tally.same("DISKS beside metadata, %s" % files, program.run(real(["map", "lvm", *files])), 2, "",
                    "dmremap: words: disks\n")
+    for words in STATUS:
+        tally.same("words %s" % words, program.run(real(words), given="R vol 0 1\n"), 0, "1 R sda 50 1\n")
+    tally.same("no DISKS beside --status", program.run(real(["map", "--status", "table", "TABLE"])), 2, "",
+               "dmremap: words: disks\n")
     tally.same("words after --", program.run(real(["map", "table", "--", "TABLE", "DISKS"]), given="R vol 0 1\n"),
                0, "1 R sda 50 1\n")

@@ -13,7 +13,7 @@ use Rattle.dm_map.specs.SnapshotWrites.{copy_to, home_kept, read, row, write_to}
 use Rattle.dm_map.specs.Steps.{keep}
 use Rattle.dm_map.specs.Stretch.{ground_unit}
 use Rattle.dm_map.specs.Units.{WriteOf, units_in}
-use Rattle.dm_map.specs.Walk.{Walking, range_step}
+use Rattle.dm_map.specs.Walk.{Scene, Walking, range_step, scene}
 use Rattle.dm_map.proofs.Stripes.{in_chunk}
 use Rattle.dm_map.proofs.UnitRows.{copy_row, first_reads, row_front, write_row}
 
@@ -27,15 +27,15 @@ kept_on snapshot number sector i some within =
     assoc p r i = omega arith
 
 -- a first stretch of what is left of a range is the next part of the row of its reads
-pub next_reads : (before now : Walking) (lower : Lower) (sector done at n : ℕ) (ground : Ground) → now ≡ before → at ≡ sector + done → range_step now.stack Read MOST_DEPTH lower now.state at n ≡ keep (units_in (ground_unit ground) n) now.state
+pub next_reads : (before now : Walking) (lower : Lower) (sector done at n : ℕ) (ground : Ground) → scene now ≡ scene before → at ≡ sector + done → range_step now.stack Read MOST_DEPTH lower now.state at n ≡ keep (units_in (ground_unit ground) n) now.state
     → row (read before.stack before.state lower) (sector + done) n ≡ units_in (ground_unit ground) n
 next_reads before now lower sector done at n ground same at_is reads =
-    ap (λ (s : ℕ). row (read before.stack before.state lower) s n) (sym at_is) ∙ ap (λ (w : Walking). row (read w.stack w.state lower) at n) (sym same)
+    ap (λ (s : ℕ). row (read before.stack before.state lower) s n) (sym at_is) ∙ ap (λ (w : Scene). row (read w.stack w.state lower) at n) (sym same)
     ∙ first_reads now.stack now.state lower at n (ground_unit ground) reads
 
 -- a copy is as long as both sides go on
 pub copy_part : (before now : Walking) (snapshot : FoundSnapshot) (number sector done from to m : ℕ) (ground : Ground) (first : HomeStretch) → 0 < snapshot.chunk → sector % snapshot.chunk + (done + first.len) ≤ snapshot.chunk
-    → now ≡ before → from ≡ sector + done → to ≡ kept_at snapshot number sector + done → range_step now.stack Read MOST_DEPTH snapshot.origin now.state from m ≡ keep (units_in (ground_unit ground) m) now.state → first.len ≤ m
+    → scene now ≡ scene before → from ≡ sector + done → to ≡ kept_at snapshot number sector + done → range_step now.stack Read MOST_DEPTH snapshot.origin now.state from m ≡ keep (units_in (ground_unit ground) m) now.state → first.len ≤ m
     → GoOn (home before.stack snapshot.store) to first.disk first.start first.len
     → row (λ s. copy_to (read before.stack before.state snapshot.origin s) (home_kept before.stack snapshot number s)) (sector + done) first.len ≡ units_in (copy_to (ground_unit ground) (record { disk = first.disk; sector = first.start })) first.len
 copy_part before now snapshot number sector done from to m ground first some part same from_is to_is reads few homes =
@@ -50,9 +50,9 @@ copy_part before now snapshot number sector done from to m ground first some par
     copy_row origin (home_kept before.stack snapshot number) (sector + done) first.len (ground_unit ground) first.disk first.start read_part home_part
 
 -- and so is a write
-pub next_writes : (before now : Walking) (store : Lower) (sector done at left : ℕ) (first : HomeStretch) → now ≡ before → at ≡ sector + done → IsFirstHomes now.stack store at left first
+pub next_writes : (before now : Walking) (store : Lower) (sector done at left : ℕ) (first : HomeStretch) → scene now ≡ scene before → at ≡ sector + done → IsFirstHomes now.stack store at left first
     → row (λ s. write_to (home before.stack store s)) (sector + done) first.len ≡ units_in (WriteOf first.disk first.start) first.len
 next_writes before now store sector done at left first same at_is is =
     ap (λ (s : ℕ). row (λ u. write_to (home before.stack store u)) s first.len) (sym at_is)
-    ∙ ap (λ (w : Walking). row (λ u. write_to (home w.stack store u)) at first.len) (sym same)
+    ∙ ap (λ (w : Scene). row (λ u. write_to (home w.stack store u)) at first.len) (sym same)
     ∙ write_row (home now.stack store) at first.disk first.start first.len is.homes

@@ -39,11 +39,11 @@ use Rattle.dm_map.proofs.Stripes.{at_place}
 
 -- What lies below a device is among what it names
 
-OnLower : (ℕ → Type 0) → Lower → Type 0
+unfoldable pub OnLower : (ℕ → Type 0) → Lower → Type 0
 OnLower P (Device device) = P device
 OnLower P (Disk disk) = Unit {0}
 
-OnBelow : (ℕ → Type 0) → Below → Type 0
+unfoldable pub OnBelow : (ℕ → Type 0) → Below → Type 0
 OnBelow P (Lies to sector) = OnLower P to
 OnBelow P IsZero = Unit {0}
 OnBelow P IsError = Unit {0}
@@ -68,7 +68,7 @@ on_column P columns i sector None each e = tt
 on_column P columns i sector (Some column) each e = at_place (λ c. OnLower P c.to) columns i column each e
 
 -- a snapshot goes on in its store or its origin, where it goes on
-GoesOn : (over : FoundSnapshot → ℕ → Below) (P : ℕ → Type 0) → Type 0
+unfoldable pub GoesOn : (over : FoundSnapshot → ℕ → Below) (P : ℕ → Type 0) → Type 0
 GoesOn over P = (snapshot : FoundSnapshot) (sector : ℕ) → OnLower P snapshot.store → OnLower P snapshot.origin → OnBelow P (over snapshot sector)
 
 over_by : (P : ℕ → Type 0) (snapshot : FoundSnapshot) (sector : ℕ) (valid : Bool) (number : Option ℕ) → OnLower P snapshot.store → OnLower P snapshot.origin → OnBelow P (cond valid (read_numbered snapshot number sector) IsError)
@@ -77,11 +77,11 @@ over_by P snapshot sector false number store origin = tt
 over_by P snapshot sector true None store origin = origin
 over_by P snapshot sector true (Some number) store origin = store
 
-over_read : (P : ℕ → Type 0) (taken : Taken) → GoesOn (read_over taken) P
+pub over_read : (P : ℕ → Type 0) (taken : Taken) → GoesOn (read_over taken) P
 unfolding GoesOn
 over_read P taken snapshot sector store origin = over_by P snapshot sector taken.valid (number_in (sector / snapshot.chunk) taken.chunks) store origin
 
-on_target : (over : FoundSnapshot → ℕ → Below) (stack : Description) (P : ℕ → Type 0) (len : ℕ) (target : Target) (distance : ℕ) → GoesOn over P → AllByRecursion P (span_links stack (target_spans len target)) → OnBelow P (below_target over (found_target stack target) distance)
+pub on_target : (over : FoundSnapshot → ℕ → Below) (stack : Description) (P : ℕ → Type 0) (len : ℕ) (target : Target) (distance : ℕ) → GoesOn over P → AllByRecursion P (span_links stack (target_spans len target)) → OnBelow P (below_target over (found_target stack target) distance)
 unfolding OnBelow GoesOn
 on_target over stack P len (targets.Linear to offset) distance on each = on_ref stack P to (all_parts P (ref_link stack to) [] each).0
 on_target over stack P len (targets.Striped chunk columns) distance on each =
@@ -92,7 +92,7 @@ on_target over stack P len (targets.Snapshot origin store chunk) distance on eac
     let store_first = all_parts P (ref_link stack store) (span_links stack (whole_span origin true ∷ [])) each in
     on (record { origin = lower_of stack origin; store = lower_of stack store; chunk = chunk }) distance (on_ref stack P store store_first.0) (on_ref stack P origin (all_parts P (ref_link stack origin) [] store_first.1).0)
 
-on_lines : (stack : Description) (P : ℕ → Type 0) (lines : List Line) → AllByRecursion P (flat_map (line_links stack) lines) → AllByRecursion (λ line. AllByRecursion P (line_links stack line)) lines
+pub on_lines : (stack : Description) (P : ℕ → Type 0) (lines : List Line) → AllByRecursion P (flat_map (line_links stack) lines) → AllByRecursion (λ line. AllByRecursion P (line_links stack line)) lines
 on_lines stack P [] each = tt
 on_lines stack P (line ∷ lines) each =
     let parts = all_parts P (line_links stack line) (flat_map (line_links stack) lines) each in

@@ -1,7 +1,10 @@
+pub mod Bounds
 pub mod ChunkCopies
 pub mod Chunks
+pub mod Depths
 pub mod LevelLemmas
 pub mod Numbers
+pub mod Paths
 pub mod Ranges
 pub mod Readies
 pub mod Rows

@@ -6,12 +6,27 @@ use Rattle.std.specs.Prelude.{nat_lt, true, ◌≤◌, replicate, Result, Ok, Er
 use Rattle.dm_table.specs.declared.request.Op.{Op}
 use Rattle.dm_table.specs.DeviceIo.{fault_of}
 use Rattle.dm_stack.specs.Description.{Description, device_len}
+use Rattle.dm_map.specs.Counts.{AreAdded, Counts}
 use Rattle.dm_map.specs.Units.{BlockUnit, Fails, next_unit, units_in}
 use Rattle.dm_map.specs.Sink.{OfBeginning}
 use Rattle.dm_map.specs.State.{State}
 use Rattle.dm_map.specs.Steps.{Step, keep, and_then, steps}
 use Rattle.dm_map.specs.Mapping.{request_step}
 use Rattle.dm_map.specs.Walk.{Walking, IsWalked}
+
+-- Counts that only searches were added to
+
+pub none_added : (counts : Counts) → AreAdded counts counts
+none_added counts = record { searches = omega arith; comparisons = omega arith; few = omega arith }
+
+pub added_then : (first second third : Counts) → AreAdded first second → AreAdded second third → AreAdded first third
+added_then first second third one two = record {
+  searches = omega (arith, one.searches, two.searches);
+  comparisons = omega (arith, one.comparisons, two.comparisons);
+  few = omega (arith, one.searches, two.searches, one.few, two.few);
+}
+
+-- What a sink took and left
 
 -- what holds, holds where there is a fault
 pub on_err : {T E : Type 0} (r : Result T E) (P : Type 0) → P → OnErr r P
@@ -49,20 +64,21 @@ walked_piece took left stack room faults result old new walk units step diskless
       left = on_err_then result (left old units new) (OfBeginning left old units new) (λ failed. record { front = units; rest = []; whole = append-nil units; holds = failed }) left_is;
       faults = faults_is;
       stack = refl;
+      looked = none_added walk.looked;
     })
 
 -- a walk that the sink cut short
 pub walked_cut : {S F : Type 0} (took left : S → List BlockUnit → S → Type 0) (stack : S → Description) (room faults : S → ℕ) (result : Result (Unit {0}) F) (old new : S) (before after : Walking) (step : Step) (len : ℕ)
-    → IsErr result → OfBeginning left old step.units new → faults new ≡ faults old + 1 → after.stack ≡ before.stack → IsWalked took left stack room faults result old new before after step len
-walked_cut took left stack room faults (Ok done) old new before after step len is_err cut one same = absurd cc
-walked_cut took left stack room faults (Err fault) old new before after step len is_err cut one same = record { took = tt; state = tt; kept = tt; room = tt; left = cut; faults = one; stack = same }
+    → IsErr result → OfBeginning left old step.units new → faults new ≡ faults old + 1 → after.stack ≡ before.stack → AreAdded before.looked after.looked → IsWalked took left stack room faults result old new before after step len
+walked_cut took left stack room faults (Ok done) old new before after step len is_err cut one same looked = absurd cc
+walked_cut took left stack room faults (Err fault) old new before after step len is_err cut one same looked = record { took = tt; state = tt; kept = tt; room = tt; left = cut; faults = one; stack = same; looked = looked }
 
 -- a walk after another one, which took its units
 pub walked_then : {S F : Type 0} (took left : S → List BlockUnit → S → Type 0) (stack : S → Description) (room faults : S → ℕ) (result : Result (Unit {0}) F) (old middle new : S) (before between after : Walking) (first second : Step) (next : State → Step) (m n : ℕ)
     → ((a b c : S) (us vs : List BlockUnit) → took a us b → took b vs c → took a (us ++ vs) c) → ((a b c : S) (us vs : List BlockUnit) → took a us b → left b vs c → left a (us ++ vs) c)
-    → took old first.units middle → next first.state ≡ second → m ≤ n → stack middle ≡ stack old → room old ≤ room middle → faults middle ≡ faults old → between.stack ≡ before.stack
+    → took old first.units middle → next first.state ≡ second → m ≤ n → stack middle ≡ stack old → room old ≤ room middle → faults middle ≡ faults old → between.stack ≡ before.stack → AreAdded before.looked between.looked
     → IsWalked took left stack room faults result middle new between after second m → IsWalked took left stack room faults result old new before after (and_then first next) n
-walked_then took left stack room faults (Ok done) old middle new before between after first second next m n took_took took_left taken same few kept_is room_is faults_is stack_is walk =
+walked_then took left stack room faults (Ok done) old middle new before between after first second next m n took_took took_left taken same few kept_is room_is faults_is stack_is looked_is walk =
     rw same (record {
       took = took_took old middle new first.units second.units taken walk.took;
       state = walk.state;
@@ -71,8 +87,9 @@ walked_then took left stack room faults (Ok done) old middle new before between 
       left = tt;
       faults = omega (arith, walk.faults, faults_is);
       stack = walk.stack ∙ stack_is;
+      looked = added_then before.looked between.looked after.looked looked_is walk.looked;
     })
-walked_then took left stack room faults (Err fault) old middle new before between after first second next m n took_took took_left taken same few kept_is room_is faults_is stack_is walk =
+walked_then took left stack room faults (Err fault) old middle new before between after first second next m n took_took took_left taken same few kept_is room_is faults_is stack_is looked_is walk =
     rw same (record {
       took = tt;
       state = tt;
@@ -86,6 +103,7 @@ walked_then took left stack room faults (Err fault) old middle new before betwee
       };
       faults = omega (arith, walk.faults, faults_is);
       stack = walk.stack ∙ stack_is;
+      looked = added_then before.looked between.looked after.looked looked_is walk.looked;
     })
 
 -- what is a beginning of the units is one of more units

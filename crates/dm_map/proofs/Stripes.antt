@@ -72,11 +72,11 @@ below_chunk chunk distance i columns column place some chunk_some at within is =
 -- The place of the next chunk
 
 -- the first sector after a chunk
-record IsAfter (chunk distance : ℕ) : Type 0 where
-  number : (distance + (chunk - distance % chunk)) / chunk ≡ distance / chunk + 1
-  past : (distance + (chunk - distance % chunk)) % chunk ≡ 0
+pub record IsAfter (chunk distance : ℕ) : Type 0 where
+  pub number : (distance + (chunk - distance % chunk)) / chunk ≡ distance / chunk + 1
+  pub past : (distance + (chunk - distance % chunk)) % chunk ≡ 0
 
-after_chunk : (chunk distance : ℕ) → 0 < chunk → IsAfter chunk distance
+pub after_chunk : (chunk distance : ℕ) → 0 < chunk → IsAfter chunk distance
 after_chunk chunk distance some =
     let whole : distance / chunk * chunk + distance % chunk ≡ distance = div-add-mod' distance chunk in
     let small : distance % chunk < chunk = omega arith in

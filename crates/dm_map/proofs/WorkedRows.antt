@@ -1,5 +1,5 @@
 -- Rows worked by hand, against which the definitions are checked.
-use Rattle.std.proofs.Common.{◌≡◌, ℕ, Bool, true, false, List, [], ◌∷◌, refl}
+use Rattle.std.proofs.Common.{◌≡◌, ℕ, Bool, true, false, List, [], ◌∷◌, None, refl}
 use Rattle.dm_table.specs.declared.disk.Disk as disks
 use Rattle.dm_table.specs.declared.place.Part.TheVariants as parts
 use Rattle.dm_table.specs.declared.place.Place.{Place}
@@ -12,7 +12,9 @@ use Rattle.dm_table.specs.declared.table.Target.TheVariants as targets
 use Rattle.dm_stack.specs.declared.found.FoundSnapshot.{FoundSnapshot}
 use Rattle.dm_stack.specs.Below.{Lies, IsError}
 use Rattle.dm_stack.specs.Description.{Description}
-use Rattle.dm_stack.specs.declared.id.Lower.TheVariants.{Disk}
+use Rattle.dm_stack.specs.declared.graph.TheConstants.{MOST_DEPTH}
+use Rattle.dm_stack.specs.declared.id.Lower.TheVariants.{Device, Disk}
+use Rattle.dm_map.specs.Path.{PathStep, path, read_stretches}
 use Rattle.dm_map.specs.Reads.{read_unit}
 use Rattle.dm_map.specs.Mapping.{write_step, request_step}
 use Rattle.dm_stack.specs.Places.{place}
@@ -69,6 +71,30 @@ read_only_written = refl
 
 past_the_end : request_step sample Read 0 6 3 start ≡ keep (Fails ∷ Fails ∷ Fails ∷ []) start
 past_the_end = refl
+
+-- Paths and stretches: two sectors of zeros are one, below a device too, and each chunk of stripes is one
+
+abbrev passed : (device start : ℕ) → PathStep
+passed device start = record { device = device; start = start; chunk = None }
+
+path_down : path sample start MOST_DEPTH (Device 3) 4 ≡ passed 3 0 ∷ passed 2 0 ∷ passed 0 4 ∷ []
+unfolding path
+path_down = refl
+
+lines_stretches : read_stretches sample start 0 3 5 ≡ 3
+unfolding path
+lines_stretches = refl
+
+below_stretches : read_stretches sample start 3 3 3 ≡ 2
+unfolding path
+below_stretches = refl
+
+chunks_stretches : read_stretches sample start 1 1 6 ≡ 4
+unfolding path
+chunks_stretches = refl
+
+no_stretches : read_stretches sample start 0 6 3 ≡ 0
+no_stretches = refl
 
 -- A snapshot of disk 0 with its store on disk 1: chunk 3 was taken first, and then chunk 1
 

@@ -1,7 +1,10 @@
+pub mod Bound
+pub mod Counts
 pub mod Homes
 pub mod KeptLaws
 pub mod Mapper
 pub mod Mapping
+pub mod Path
 pub mod PieceList
 pub mod Reads
 pub mod Sink

@@ -1,20 +1,27 @@
 -- A mapper, and what its results say.
 use Rattle.std.specs.Prelude.{Bool, Result, Ok, Err}
 use Rattle.dm_stack.specs.Description.{Description}
+use Rattle.dm_map.specs.Counts.{Counts}
 use Rattle.dm_map.specs.State.{State}
 use Rattle.dm_map.specs.Walk.{Walking}
 use Rattle.dm_map.specs.declared.mapper.MapFault.{MapFault}
 use Rattle.dm_map.specs.declared.mapper.MapFault.TheVariants as faults
 
--- a mapper: its stack, the state that the requests so far left, and whether one of its sinks failed
+-- a mapper: its stack, the state that the requests so far left, whether one of its sinks failed, what its looker counted so far, and how much of that in the last request that it did not refuse as stopped
 pub record Mapping : Type 0 where
   pub stack : Description
   pub state : State
   pub stopped : Bool
+  pub looked : Counts
+  pub last : Counts
 
 -- the walk that a mapper makes
 abbrev pub walking_of : Mapping → Walking
-walking_of mapper = record { stack = mapper.stack; state = mapper.state }
+walking_of mapper = record { stack = mapper.stack; state = mapper.state; looked = mapper.looked }
+
+-- a mapper after look-ups that belong to no request
+abbrev pub with_looked : Mapping → Counts → Mapping
+with_looked mapper counts = record { stack = mapper.stack; state = mapper.state; stopped = mapper.stopped; looked = counts; last = mapper.last }
 
 -- where the result is that the sink failed, or that the mapper is stopped
 abbrev pub OnSinkFault : {F : Type 0} → Result (Unit {0}) (MapFault F) → Type 0 → Type 0
@@ -26,3 +33,9 @@ abbrev pub OnStopped : {F : Type 0} → Result (Unit {0}) (MapFault F) → Type 
 OnStopped (Ok done) P = Unit {0}
 OnStopped (Err (faults.Sink fault)) P = Unit {0}
 OnStopped (Err faults.Stopped) P = P
+
+-- where the mapper was not stopped before
+abbrev pub OnTried : {F : Type 0} → Result (Unit {0}) (MapFault F) → Type 0 → Type 0
+OnTried (Ok done) P = P
+OnTried (Err (faults.Sink fault)) P = P
+OnTried (Err faults.Stopped) P = Unit {0}

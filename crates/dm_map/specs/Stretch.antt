@@ -4,9 +4,10 @@ use Rattle.dm_stack.specs.Description.{Description}
 use Rattle.dm_map.specs.declared.stretch.Ground.{Ground}
 use Rattle.dm_map.specs.declared.stretch.Ground.TheVariants as grounds
 use Rattle.dm_map.specs.declared.stretch.Stretch.{Stretch}
+use Rattle.dm_map.specs.Counts.{AreAdded}
 use Rattle.dm_map.specs.Steps.{Step, keep}
 use Rattle.dm_map.specs.Units.{BlockUnit, ReadOf, Zeros, Fails, IsOnDisk, units_in}
-use Rattle.dm_map.specs.Walk.{Walking}
+use Rattle.dm_map.specs.Walk.{Walking, scene}
 
 -- the read of the first sector
 abbrev pub ground_unit : Ground → BlockUnit
@@ -26,4 +27,5 @@ pub record IsFirst (before after : Walking) (reads : ℕ → Step) (len : ℕ) (
   pub most : stretch.len ≤ len
   pub read : reads stretch.len ≡ keep (units_in (ground_unit stretch.ground) stretch.len) before.state
   pub lies : IsThere before.stack stretch.ground stretch.len
-  pub same : after ≡ before
+  pub same : scene after ≡ scene before
+  pub looked : AreAdded before.looked after.looked

@@ -11,6 +11,7 @@ use Rattle.dm_stack.specs.Description.{Description, device_len, is_ro_at, lower_
 use Rattle.dm_stack.specs.Below.{Below, Lies, below_stripes, below_target, column_of, AreStripes, IsSnapshotSound}
 use Rattle.dm_map.specs.declared.chunk.ReadPlace.{ReadPlace}
 use Rattle.dm_map.specs.declared.stripe.ChunkPlace.{ChunkPlace}
+use Rattle.dm_map.specs.Counts.{AreAdded, Counts}
 use Rattle.dm_map.specs.Sink.{OfBeginning}
 use Rattle.dm_map.specs.Reads.{by_below, read_unit}
 use Rattle.dm_map.specs.Snapshots.{read_over}
@@ -20,10 +21,19 @@ use Rattle.dm_map.specs.Tables.{snapshot_at}
 use Rattle.dm_map.specs.Units.{BlockUnit, ReadOf, WriteOf, Zeros, Drops, Fails}
 use Rattle.dm_map.specs.Mapping.{write_step, write_target, sector_step}
 
--- a walk: its stack, and the state that it is in
+-- a walk: its stack, the state that it is in, and what its looker counted so far
 pub record Walking : Type 0 where
   pub stack : Description
   pub state : State
+  pub looked : Counts
+
+-- what a walk sees: all of it but the counts
+pub record Scene : Type 0 where
+  pub stack : Description
+  pub state : State
+
+abbrev pub scene : Walking → Scene
+scene walk = record { stack = walk.stack; state = walk.state }
 
 -- the unit of a sector of a disk, and that of one in zeros
 abbrev pub disk_unit : Op → (disk sector : ℕ) → BlockUnit
@@ -76,6 +86,7 @@ pub record IsWalked {S F : Type 0} (takes leaves : S → List BlockUnit → S �
   pub left : OnErr result (OfBeginning leaves old step.units new)
   pub faults : faults_of new ≡ faults_of old + fault_of result
   pub stack : after.stack ≡ before.stack
+  pub looked : AreAdded before.looked after.looked
 
 -- the place in stripes of a sector at a distance from the line's start
 pub record IsPlace (chunk count distance : ℕ) (place : ChunkPlace) : Type 0 where

@@ -4,13 +4,18 @@
 //! `specs/Mapping.antt` defines what becomes of a sector, `walk` cuts a range into pieces, and
 //! `walker` keeps what one request leaves for the next.
 
-ghost use Rattle.std.specs.Prelude.{◌≡◌, ℕ, ◌+◌, ◌^◌, ◌<◌, ◌≤◌, ◌∷◌, false, true, length, nat_lt, IfOk, IfSome, OnOk, []};
+ghost use Rattle.std.specs.Prelude.{◌≡◌, ℕ, ◌+◌, ◌*◌, ◌^◌, ◌<◌, ◌≤◌, ◌∷◌, false, true, length, nat_lt, IfOk, IfSome, OnOk, []};
 ghost use Rattle.dm_stack.specs.Description.{Description, device_len};
-ghost use Rattle.dm_stack.specs.Loaded.{IsSnapshot};
+ghost use Rattle.dm_table.specs.declared.request.Op.TheVariants.{Read};
+ghost use Rattle.dm_stack.specs.Loaded.{snapshots, stack_depth, IsSnapshot};
+ghost use Rattle.dm_stack.specs.Soundness.{depth_of};
 ghost use Rattle.dm_stack.specs.declared.graph.TheConstants.{MOST_DEPTH};
 ghost use Rattle.dm_stack.specs.declared.id.Lower.TheVariants.{Device};
 ghost use Rattle.dm_map.specs.Mapping.{request_step};
-ghost use Rattle.dm_map.specs.Mapper.{OnSinkFault, OnStopped, walking_of};
+ghost use Rattle.dm_map.specs.Bound.{IsBounded};
+ghost use Rattle.dm_map.specs.Counts.{grown_by, no_counts, AreAdded};
+ghost use Rattle.dm_map.specs.Mapper.{walking_of, with_looked, OnSinkFault, OnStopped, OnTried};
+ghost use Rattle.dm_map.specs.Path.{path, read_stretches};
 ghost use Rattle.dm_map.specs.Sink.{OfBeginning};
 ghost use Rattle.dm_map.specs.State.{start_state, taken_at};
 ghost use Rattle.dm_map.specs.Tables.{snapshot_at};
@@ -31,6 +36,9 @@ use std::fmt;
 use std::marker::Model;
 use thiserror::Error;
 
+#[cfg(test)]
+mod tests;
+
 /// Why a request was not mapped to its end.
 #[derive(Clone, Copy, Debug, PartialEq, Eq, Drop, Error)]
 #[error_bound(F: fmt::Display)]
@@ -44,11 +52,13 @@ pub enum MapFault<F> {
 }
 
 /// Maps requests through the stack of its looker, one after the other. A clause sees its stack, the
-/// state that its requests left, and whether one of its sinks failed.
+/// state that its requests left, whether one of its sinks failed, and the counts of its looker.
 #[derive(Drop)]
 pub struct Mapper<'s, T: Taken> {
     walker: Walker<'s, T>,
     stopped: bool,
+    searches: u64,
+    probes: u64,
 }
 
 impl<'s, T: Taken> Model for Mapper<'s, T> {
@@ -56,11 +66,12 @@ impl<'s, T: Taken> Model for Mapper<'s, T> {
 
     ghost Value = { Mapping };
 
-    ghost view = { λ mapper. record { stack = mapper.walker.stack; state = mapper.walker.state; stopped = mapper.stopped } };
+    ghost view = { λ mapper. record { stack = mapper.walker.stack; state = mapper.walker.state; stopped = mapper.stopped; looked = mapper.walker.looked; last = record { searches = mapper.searches; comparisons = mapper.probes } } };
 }
 
 impl<'s, T: Taken> Mapper<'s, T> {
-    /// A mapper of the looker's stack, in the state at the start, and not stopped.
+    /// A mapper of the looker's stack, in the state at the start, and not stopped. It makes at most one
+    /// line search for each snapshot.
     ///
     /// # Errors
     ///
@@ -69,11 +80,15 @@ impl<'s, T: Taken> Mapper<'s, T> {
         ensures stack { IfOk result (λ mapper. mapper.stack ≡ looker.entry.stack) }
         ensures state { IfOk result (λ mapper. mapper.state ≡ start_state looker.entry.stack) }
         ensures going { IfOk result (λ mapper. mapper.stopped ≡ false) }
+        ensures looked { IfOk result (λ mapper. mapper.looked.searches ≤ looker.entry.searches + length (snapshots looker.entry.stack)) }
+        ensures last { IfOk result (λ mapper. mapper.last ≡ no_counts) }
     {
         let tables = empty_tables(alloc, &mut looker)?;
         Ok(Mapper {
             walker: Walker::new(looker, tables),
             stopped: false,
+            searches: 0,
+            probes: 0,
         })
     }
 
@@ -82,8 +97,9 @@ impl<'s, T: Taken> Mapper<'s, T> {
     ///
     /// The id belongs to the mapper's stack, which is also the sink's, and the sink has room for the
     /// request. Each piece is a stretch of sectors whose path down stays in one line, and one chunk,
-    /// of each device. Cost: at most one line look-up for each piece and level, and a single one for
-    /// consecutive sectors that reach a line together. No memory is taken.
+    /// of each device. Cost of a read: at most as many line searches as the stack is deep for each run
+    /// of sectors with one path (`specs/Path`), however long, and at most 17 comparisons each; they are
+    /// counted (`searches`, `probes`). No memory is taken.
     ///
     /// # Errors
     ///
@@ -107,11 +123,19 @@ impl<'s, T: Taken> Mapper<'s, T> {
         ensures failed { OnSinkFault result (S.faults sink.new ≡ S.faults sink.old + 1) }
         ensures stops { OnSinkFault result ((self.old.stopped ≡ false) × (self.new.stopped ≡ true)) }
         ensures stopped { OnStopped result ((self.old.stopped ≡ true) × (self.new ≡ self.old) × (sink.new ≡ sink.old)) }
+        ensures counted { OnTried result (self.new.looked ≡ grown_by self.old.looked self.new.last) }
+        ensures few { OnTried result (self.new.last.comparisons ≤ 17 * self.new.last.searches) }
+        ensures bounded { OnTried result (request.now.op ≡ Read → self.new.last.searches ≤ stack_depth self.old.stack * read_stretches self.old.stack self.old.state device request.now.start request.now.len) }
     {
         if self.stopped {
             return Err(MapFault::Stopped);
         }
-        match self.map_request(request, device, sink) {
+        let searches = self.walker.searches();
+        let comparisons = self.walker.comparisons();
+        let mapped = self.map_request(request, device, sink);
+        self.searches = self.walker.searches() - searches;
+        self.probes = self.walker.comparisons() - comparisons;
+        match mapped {
             Ok(()) => Ok(()),
             Err(fault) => {
                 self.stopped = true;
@@ -122,13 +146,33 @@ impl<'s, T: Taken> Mapper<'s, T> {
 
     /// How much of the store of a snapshot is used, and whether the snapshot is valid.
     ///
-    /// The device is a snapshot of the mapper's stack. Cost: one look-up. No memory is taken.
+    /// The device is a snapshot of the mapper's stack. Cost: one look-up, which belongs to no request.
+    /// No memory is taken.
     pub fn usage(&mut self, device: DeviceId) -> Usage
         requires { IsSnapshot self.old.stack device }
         ensures usage { IfSome (snapshot_at self.old.stack device) (λ snapshot. result ≡ usage_of self.old.stack snapshot (taken_at self.old.state device)) }
-        ensures same { self.new ≡ self.old }
+        ensures same { self.new ≡ with_looked self.old self.new.looked }
+        ensures looked { AreAdded self.old.looked self.new.looked }
+        ensures one { self.new.looked.searches ≤ self.old.looked.searches + 1 }
     {
         usage_of(&mut self.walker, device)
+    }
+
+    /// The line searches of the last request that was not answered `Stopped`, 0 before the first: what
+    /// its looker's count grew by, which stays at the greatest number once there. A line search is one
+    /// look-up, in the table of one device, of the line that holds a sector. No memory is taken.
+    pub fn searches(&self) -> u64
+        ensures { result ≡ self.now.last.searches }
+    {
+        self.searches
+    }
+
+    /// How often these searches compared a line's start with a sector, at most 17 times each. No memory
+    /// is taken.
+    pub fn probes(&self) -> u64
+        ensures { result ≡ self.now.last.comparisons }
+    {
+        self.probes
     }
 
     /// Hands over the units of a request; stopping at a fault is left to the caller.
@@ -141,8 +185,10 @@ impl<'s, T: Taken> Mapper<'s, T> {
         requires device { device < length self.old.stack.devices }
         requires sink { IsReady S.stack S.room sink.old self.old.stack request.now.len }
         ensures walked { IsWalked S.took S.left S.stack S.room S.faults result sink.old sink.new (walking_of self.old) (walking_of self.new) (request_step self.old.stack request.now.op device request.now.start request.now.len self.old.state) request.now.len }
+        ensures bounded { request.now.op ≡ Read → self.new.looked.searches ≤ self.old.looked.searches + stack_depth self.old.stack * read_stretches self.old.stack self.old.state device request.now.start request.now.len }
         ensures stopped { self.new.stopped ≡ self.old.stopped }
     {
+        self.walker.is_sound();
         let end = self.walker.len(device);
         if passes_end(request, end) {
             return sink.piece(Piece::Error { len: request.len });
@@ -160,6 +206,7 @@ impl<'s, T: Taken> Mapper<'s, T> {
         requires inside { request.now.start + request.now.len ≤ device_len self.old.stack device }
         requires sink { IsReady S.stack S.room sink.old self.old.stack request.now.len }
         ensures walked { IsWalked S.took S.left S.stack S.room S.faults result sink.old sink.new (walking_of self.old) (walking_of self.new) (range_step self.old.stack request.now.op MOST_DEPTH (Device device) self.old.state request.now.start request.now.len) request.now.len }
+        ensures bounded { IsBounded (walking_of self.old) (walking_of self.new) request.now.op (depth_of self.old.stack device) (path self.old.stack self.old.state MOST_DEPTH (Device device)) request.now.start request.now.len }
         ensures stopped { self.new.stopped ≡ self.old.stopped }
     {
         let lower = Lower::Device(device);

@@ -10,6 +10,7 @@ ghost use Rattle.std.specs.Prelude.{◌≡◌, ℕ, ◌+◌, ◌*◌, ◌%◌, �
 ghost use Rattle.dm_stack.specs.Below.{IsSnapshotSound};
 ghost use Rattle.dm_stack.specs.Description.{Description, device_len, lower_len};
 ghost use Rattle.dm_stack.specs.Store.{IsStore};
+ghost use Rattle.dm_map.specs.Counts.{AreAdded};
 ghost use Rattle.dm_map.specs.Homes.{IsFirstHomes};
 ghost use Rattle.dm_map.specs.SnapshotWrites.{can_take, copies, copy_to, count_of, first_of, has_place, is_settled, reads_all, ready, store_writes};
 ghost use Rattle.dm_map.specs.State.{taken_at};
@@ -17,7 +18,7 @@ ghost use Rattle.dm_map.specs.Steps.{keep};
 ghost use Rattle.dm_map.specs.Stretch.{ground_unit, IsThere};
 ghost use Rattle.dm_map.specs.Tables.{snapshot_at};
 ghost use Rattle.dm_map.specs.Units.{diskless_len, piece_len, units_in, units_of, IsOnDisk, IsOnDisks};
-ghost use Rattle.dm_map.specs.Walk.{IsReady, IsWalked};
+ghost use Rattle.dm_map.specs.Walk.{scene, IsReady, IsWalked};
 
 use crate::piece::Piece;
 use crate::places::kept_at;
@@ -90,7 +91,8 @@ fn can_take<T: Taken>(
     requires is { snapshot_at walker.old.stack device ≡ Some snapshot.now }
     requires inside { sector + len ≤ lower_len walker.old.stack snapshot.now.origin }
     ensures is { result ≡ can_take walker.old.stack walker.old.state snapshot.now device sector len }
-    ensures same { walker.new ≡ walker.old }
+    ensures same { scene walker.new ≡ scene walker.old }
+    ensures looked { AreAdded walker.old.looked walker.new.looked }
 {
     !walker.is_full(device) && reads_all(walker, &snapshot.origin, sector, len)
 }
@@ -99,7 +101,8 @@ fn can_take<T: Taken>(
 fn reads_all<T: Taken>(walker: &mut Walker<'_, T>, lower: &Lower, sector: u64, len: u64) -> bool
     requires { sector + len ≤ lower_len walker.old.stack lower.now }
     ensures is { result ≡ reads_all walker.old.stack walker.old.state lower.now sector len }
-    ensures same { walker.new ≡ walker.old }
+    ensures same { scene walker.new ≡ scene walker.old }
+    ensures looked { AreAdded walker.old.looked walker.new.looked }
 {
     walker.is_sound();
     let mut at = sector;
@@ -212,7 +215,8 @@ fn first_homes<T: Taken>(
     requires inside { sector + len ≤ lower_len walker.old.stack store }
     requires store { IsStore walker.old.stack store }
     ensures is { IsFirstHomes walker.old.stack store sector len result }
-    ensures same { walker.new ≡ walker.old }
+    ensures same { scene walker.new ≡ scene walker.old }
+    ensures looked { AreAdded walker.old.looked walker.new.looked }
 {
     walker.is_sound();
     let stretch = first_stretch(walker, MOST_DEPTH, store, sector, len);

@@ -2,7 +2,8 @@
 //!
 //! All memory for taken chunks is reserved here, before the first request.
 
-ghost use Rattle.std.specs.Prelude.{◌≡◌, ℕ, ◌<◌, Some, length, nat_lt, replicate, slice_get, IfOk};
+ghost use Rattle.std.specs.Prelude.{◌≡◌, ℕ, ◌+◌, ◌<◌, ◌≤◌, Some, length, nat_lt, replicate, slice_get, IfOk};
+ghost use Rattle.dm_stack.specs.Loaded.{snapshots};
 ghost use Rattle.dm_map.specs.State.{none_taken, start_state};
 ghost use Rattle.dm_map.specs.Tables.{AreTables, has_room, state_of};
 
@@ -24,6 +25,7 @@ pub(crate) fn empty_tables<T: Taken>(
     ensures tables { IfOk result (λ tables. AreTables T.places looker.old.stack tables.items) }
     ensures state { IfOk result (λ tables. state_of T.chunks T.valid tables.items ≡ start_state looker.old.stack) }
     ensures stack { looker.new.stack ≡ looker.old.stack }
+    ensures looked { looker.new.searches ≤ looker.old.searches + length (snapshots looker.old.stack) }
 {
     let mut tables = tables_without_places(alloc, looker.device_count())?;
     let count = looker.snapshots().len();
@@ -53,6 +55,7 @@ fn places_of(looker: &mut Looker<'_>, device: DeviceId) -> usize
     requires { device < length looker.old.stack.devices }
     ensures places { (number : ℕ) → nat_lt number result ≡ has_room looker.old.stack device number }
     ensures stack { looker.new.stack ≡ looker.old.stack }
+    ensures one { looker.new.searches ≤ looker.old.searches + 1 }
 {
     // Called because its contract says that the stack is sound.
     looker.depth();

@@ -1,10 +1,12 @@
 //! Usage: how much of a snapshot's store is used.
 
-ghost use Rattle.std.specs.Prelude.{◌≡◌, ◌*◌, ◌<◌, ◌≤◌, ◌^◌, IfSome};
+ghost use Rattle.std.specs.Prelude.{◌≡◌, ◌+◌, ◌*◌, ◌<◌, ◌≤◌, ◌^◌, IfSome};
 ghost use Rattle.dm_stack.specs.Loaded.{IsSnapshot};
+ghost use Rattle.dm_map.specs.Counts.{AreAdded};
 ghost use Rattle.dm_map.specs.State.{taken_at};
 ghost use Rattle.dm_map.specs.Tables.{snapshot_at};
 ghost use Rattle.dm_map.specs.Usage.{allocated, metadata, usage_of};
+ghost use Rattle.dm_map.specs.Walk.{scene};
 
 use crate::taken::Taken;
 use crate::walker::Walker;
@@ -31,7 +33,9 @@ pub struct Usage {
 pub(crate) fn usage_of<T: Taken>(walker: &mut Walker<'_, T>, device: DeviceId) -> Usage
     requires { IsSnapshot walker.old.stack device }
     ensures usage { IfSome (snapshot_at walker.old.stack device) (λ snapshot. result ≡ usage_of walker.old.stack snapshot (taken_at walker.old.state device)) }
-    ensures same { walker.new ≡ walker.old }
+    ensures same { scene walker.new ≡ scene walker.old }
+    ensures looked { AreAdded walker.old.looked walker.new.looked }
+    ensures one { walker.new.looked.searches ≤ walker.old.looked.searches + 1 }
 {
     walker.is_sound();
     let line = walker.look(device, 0);

@@ -3,16 +3,22 @@
 //! A range goes down as one step: it is cut where a line or a chunk ends, of stripes or of a
 //! snapshot, and nowhere else, and each line that it passes is looked up once. A new target is an arm
 //! of `map_line`, with a loop of its own where it cuts, and one of `below_target` and `write_target`.
-//! Each function says which units it hands over and which state it leaves.
+//! Each function says which units it hands over, which state it leaves, and, of a read, how often it
+//! searches: at most once a level for each stretch of sectors with one path (`specs/Path`).
 
-ghost use Rattle.std.specs.Prelude.{◌≡◌, ℕ, ◌+◌, ◌-◌, ◌<◌, ◌≤◌, ◌^◌, Some, length, min};
+ghost use Rattle.std.specs.Prelude.{◌≡◌, ℕ, ◌+◌, ◌-◌, ◌<◌, ◌≤◌, ◌^◌, Some, length, min, OnErr, OnOk};
+ghost use Rattle.dm_table.specs.DeviceIo.{fault_of};
 ghost use Rattle.dm_stack.specs.Below.{found_at, IsTargetSound};
 ghost use Rattle.dm_stack.specs.Description.{Description, device_len, lower_len};
-ghost use Rattle.dm_stack.specs.declared.found.FoundTarget.TheVariants.{Snapshot};
+ghost use Rattle.dm_stack.specs.Loaded.{lower_depth};
+ghost use Rattle.dm_stack.specs.Soundness.{depth_of};
+ghost use Rattle.dm_stack.specs.declared.found.FoundTarget.TheVariants.{Snapshot, Striped};
 ghost use Rattle.dm_stack.specs.declared.id.Lower.TheVariants.{Device};
+ghost use Rattle.dm_map.specs.Bound.{IsBounded, IsLineBounded, IsTargetBounded};
+ghost use Rattle.dm_map.specs.Path.{path};
 ghost use Rattle.dm_map.specs.SnapshotWrites.{write_snapshot};
 ghost use Rattle.dm_map.specs.Steps.{steps};
-ghost use Rattle.dm_map.specs.Units.{diskless_len, piece_len, units_in, units_of, IsOnDisk, IsOnDisks};
+ghost use Rattle.dm_map.specs.Units.{Fails, diskless_len, piece_len, units_in, units_of, IsOnDisk, IsOnDisks};
 ghost use Rattle.dm_map.specs.Walk.{disk_unit, zero_unit, refuses, range_step, line_step, stripes_step, AreInChunk, AreInSnapshot, AreInStripes, IsReady, IsWalked};
 
 use crate::chunk::{part_of_chunk, read_place};
@@ -45,7 +51,8 @@ pub(crate) fn map_range<S: Sink, T: Taken>(
     requires some { 1 ≤ len }
     requires inside { sector + len ≤ lower_len walker.old.stack lower }
     requires sink { IsReady S.stack S.room sink.old walker.old.stack len }
-    ensures { IsWalked S.took S.left S.stack S.room S.faults result sink.old sink.new walker.old walker.new (range_step walker.old.stack op levels lower walker.old.state sector len) len }
+    ensures walked { IsWalked S.took S.left S.stack S.room S.faults result sink.old sink.new walker.old walker.new (range_step walker.old.stack op levels lower walker.old.state sector len) len }
+    ensures bounded { IsBounded walker.old walker.new op (lower_depth walker.old.stack lower) (path walker.old.stack walker.old.state levels lower) sector len }
 {
     match lower {
         Lower::Disk(disk) => sink.piece(disk_piece(op, disk, sector, len)),
@@ -68,10 +75,11 @@ fn map_device<S: Sink, T: Taken>(
     requires some { 1 ≤ len }
     requires inside { sector + len ≤ device_len walker.old.stack device }
     requires sink { IsReady S.stack S.room sink.old walker.old.stack len }
-    ensures { IsWalked S.took S.left S.stack S.room S.faults result sink.old sink.new walker.old walker.new (range_step walker.old.stack op levels (Device device) walker.old.state sector len) len }
+    ensures walked { IsWalked S.took S.left S.stack S.room S.faults result sink.old sink.new walker.old walker.new (range_step walker.old.stack op levels (Device device) walker.old.state sector len) len }
+    ensures bounded { IsBounded walker.old walker.new op (depth_of walker.old.stack device) (path walker.old.stack walker.old.state levels (Device device)) sector len }
 {
     if levels == 0 || refuses(walker, op, device) {
-        return sink.piece(Piece::Error { len });
+        return fail(len, sink);
     }
     let mut at = sector;
     let mut left = len;
@@ -105,7 +113,8 @@ fn map_line<S: Sink, T: Taken>(
     requires found { found_at walker.old.stack device line.now.start ≡ Some line.now }
     requires sound { IsTargetSound walker.old.stack device line.now.start line.now.len line.now.target }
     requires sink { IsReady S.stack S.room sink.old walker.old.stack len }
-    ensures { IsWalked S.took S.left S.stack S.room S.faults result sink.old sink.new walker.old walker.new (line_step walker.old.stack op levels device line.now.target walker.old.state distance len) len }
+    ensures walked { IsWalked S.took S.left S.stack S.room S.faults result sink.old sink.new walker.old walker.new (line_step walker.old.stack op levels device line.now.target walker.old.state distance len) len }
+    ensures bounded { IsLineBounded walker.old walker.new op levels device line.now distance len }
 {
     match &line.target {
         FoundTarget::Linear { to, offset } => {
@@ -116,8 +125,8 @@ fn map_line<S: Sink, T: Taken>(
             let columns = columns.as_slice();
             map_stripes(walker, op, levels, *chunk, columns, distance, len, sink)
         }
-        FoundTarget::Zero => sink.piece(zero_piece(op, len)),
-        FoundTarget::Error => sink.piece(Piece::Error { len }),
+        FoundTarget::Zero => hand_zeros(op, len, sink),
+        FoundTarget::Error => fail(len, sink),
         FoundTarget::Snapshot(snapshot) => {
             map_snapshot(walker, op, levels, device, snapshot, distance, len, sink)
         }
@@ -139,7 +148,8 @@ fn map_stripes<S: Sink, T: Taken>(
     requires some { 1 ≤ len }
     requires inside { AreInStripes walker.old.stack chunk columns.now distance len }
     requires sink { IsReady S.stack S.room sink.old walker.old.stack len }
-    ensures { IsWalked S.took S.left S.stack S.room S.faults result sink.old sink.new walker.old walker.new (stripes_step walker.old.stack op levels chunk columns.now walker.old.state distance len) len }
+    ensures walked { IsWalked S.took S.left S.stack S.room S.faults result sink.old sink.new walker.old walker.new (stripes_step walker.old.stack op levels chunk columns.now walker.old.state distance len) len }
+    ensures bounded { (device : ℕ) → IsTargetBounded walker.old walker.new op levels device (Striped chunk columns.now) distance len }
 {
     let mut place = place_at(chunk, columns.len() as u64, distance);
     let mut left = len;
@@ -161,7 +171,10 @@ fn map_stripes<S: Sink, T: Taken>(
 
 /// Hands over the units of sectors of a snapshot, chunk by chunk, through at most this many levels of
 /// devices below it.
+///
+/// It is never inlined: the walk through lines and stripes is the faster for it.
 #[cycle(walk)]
+#[inline(never)]
 fn map_snapshot<S: Sink, T: Taken>(
     walker: &mut Walker<'_, T>,
     op: Op,
@@ -175,7 +188,8 @@ fn map_snapshot<S: Sink, T: Taken>(
     requires inside { AreInSnapshot walker.old.stack device snapshot.now sector len }
     requires small { sector + len ≤ 2 ^ 50 }
     requires sink { IsReady S.stack S.room sink.old walker.old.stack len }
-    ensures { IsWalked S.took S.left S.stack S.room S.faults result sink.old sink.new walker.old walker.new (line_step walker.old.stack op levels device (Snapshot snapshot.now) walker.old.state sector len) len }
+    ensures walked { IsWalked S.took S.left S.stack S.room S.faults result sink.old sink.new walker.old walker.new (line_step walker.old.stack op levels device (Snapshot snapshot.now) walker.old.state sector len) len }
+    ensures bounded { IsTargetBounded walker.old walker.new op levels device (Snapshot snapshot.now) sector len }
 {
     let mut from = sector;
     let mut left = len;
@@ -204,7 +218,8 @@ fn map_chunk<S: Sink, T: Taken>(
     requires some { 1 ≤ len }
     requires chunk { AreInChunk walker.old.stack device snapshot.now sector len }
     requires sink { IsReady S.stack S.room sink.old walker.old.stack len }
-    ensures { IsWalked S.took S.left S.stack S.room S.faults result sink.old sink.new walker.old walker.new (line_step walker.old.stack op levels device (Snapshot snapshot.now) walker.old.state sector len) len }
+    ensures walked { IsWalked S.took S.left S.stack S.room S.faults result sink.old sink.new walker.old walker.new (line_step walker.old.stack op levels device (Snapshot snapshot.now) walker.old.state sector len) len }
+    ensures bounded { IsTargetBounded walker.old walker.new op levels device (Snapshot snapshot.now) sector len }
 {
     match op {
         Op::Write => write_chunk(walker, device, snapshot, sector, len, sink),
@@ -236,6 +251,35 @@ fn write_chunk<S: Sink, T: Taken>(
         Some(place) => write_store(walker, &place.to, place.sector, len, sink),
         None => sink.piece(Piece::Error { len }),
     }
+}
+
+/// Fails sectors. This is rare, and a sink's call in line would take registers from all others, so it
+/// is never inlined.
+#[inline(never)]
+fn fail<S: Sink>(len: u64, sink: &mut S) -> Result<(), S::Fault>
+    requires some { 1 ≤ len }
+    requires room { len ≤ S.room sink.old }
+    ensures took { OnOk result (S.took sink.old (units_in Fails len) sink.new) }
+    ensures left { OnErr result (S.left sink.old (units_in Fails len) sink.new) }
+    ensures faults { S.faults sink.new ≡ S.faults sink.old + fault_of result }
+    ensures stack { OnOk result (S.stack sink.new ≡ S.stack sink.old) }
+    ensures room { OnOk result (S.room sink.old ≤ S.room sink.new + len) }
+{
+    sink.piece(Piece::Error { len })
+}
+
+/// Hands over sectors in zeros. It is never inlined, as `fail` is not.
+#[inline(never)]
+fn hand_zeros<S: Sink>(op: Op, len: u64, sink: &mut S) -> Result<(), S::Fault>
+    requires some { 1 ≤ len }
+    requires room { len ≤ S.room sink.old }
+    ensures took { OnOk result (S.took sink.old (units_in (zero_unit op) len) sink.new) }
+    ensures left { OnErr result (S.left sink.old (units_in (zero_unit op) len) sink.new) }
+    ensures faults { S.faults sink.new ≡ S.faults sink.old + fault_of result }
+    ensures stack { OnOk result (S.stack sink.new ≡ S.stack sink.old) }
+    ensures room { OnOk result (S.room sink.old ≤ S.room sink.new + len) }
+{
+    sink.piece(zero_piece(op, len))
 }
 
 /// Whether a device refuses the operation as a whole: a write, where it is read-only.

@@ -8,10 +8,12 @@ ghost use Rattle.std.specs.Prelude.{◌≡◌, ℕ, ◌+◌, ◌<◌, ◌≤◌,
 ghost use Rattle.dm_stack.specs.Below.{HoldsSoundly, found_at};
 ghost use Rattle.dm_stack.specs.Description.{device_len, is_ro_at, lower_len};
 ghost use Rattle.dm_stack.specs.Soundness.{IsSound};
+ghost use Rattle.dm_map.specs.Counts.{counts_of, AreAdded};
 ghost use Rattle.dm_map.specs.SnapshotWrites.{lost, put, with_chunk};
 ghost use Rattle.dm_map.specs.Snapshots.{number_in};
 ghost use Rattle.dm_map.specs.State.{taken_at};
 ghost use Rattle.dm_map.specs.Tables.{AreTables, has_room, state_of};
+ghost use Rattle.dm_map.specs.Walk.{scene};
 
 use crate::taken::Taken;
 use dm_stack::{DeviceId, Found, Looker, Lower};
@@ -26,11 +28,12 @@ pub(crate) struct Walker<'s, T: Taken> {
 
 impl<'s, T: Taken> Model for Walker<'s, T> {
     ghost use Rattle.dm_map.specs.Tables.{AreTables, state_of};
+    ghost use Rattle.dm_map.specs.Counts.{counts_of};
     ghost use Rattle.dm_map.specs.Walk.{Walking};
 
     ghost Value = { Walking };
 
-    ghost view = { λ walker. record { stack = walker.looker.stack; state = state_of T.chunks T.valid walker.tables.items } };
+    ghost view = { λ walker. record { stack = walker.looker.stack; state = state_of T.chunks T.valid walker.tables.items; looked = counts_of walker.looker } };
 
     ghost invariant = { λ walker. AreTables T.places walker.looker.stack walker.tables.items };
 }
@@ -54,11 +57,28 @@ impl<'s, T: Taken> Walker<'s, T> {
         requires { AreTables T.places looker.stack tables.items }
         ensures stack { result.stack ≡ looker.entry.stack }
         ensures state { result.state ≡ state_of T.chunks T.valid tables.items }
+        ensures looked { result.looked ≡ counts_of looker.entry }
     {
         Walker { looker, tables }
     }
 
-    /// The line that holds a sector of a device.
+    /// The searches so far; they stay at the greatest number once there.
+    #[inline(always)]
+    pub(crate) fn searches(&self) -> u64
+        ensures { result ≡ self.now.looked.searches }
+    {
+        self.looker.searches()
+    }
+
+    /// How often the searches compared a line's start with a sector.
+    #[inline(always)]
+    pub(crate) fn comparisons(&self) -> u64
+        ensures { result ≡ self.now.looked.comparisons }
+    {
+        self.looker.comparisons()
+    }
+
+    /// The line that holds a sector of a device, at one search.
     #[inline(always)]
     pub(crate) fn look(&mut self, device: DeviceId, sector: u64) -> Found<'s>
         requires device { device < length self.old.stack.devices }
@@ -66,7 +86,9 @@ impl<'s, T: Taken> Walker<'s, T> {
         ensures line { found_at self.old.stack device sector ≡ Some result.now }
         ensures holds { HoldsSoundly self.old.stack device result.now sector }
         ensures all { (other : ℕ) → result.now.start ≤ other → other < result.now.start + result.now.len → found_at self.old.stack device other ≡ Some result.now }
-        ensures same { self.new ≡ self.old }
+        ensures same { scene self.new ≡ scene self.old }
+        ensures looked { AreAdded self.old.looked self.new.looked }
+        ensures one { self.new.looked.searches ≤ self.old.looked.searches + 1 }
     {
         self.looker.look(device, sector)
     }
@@ -156,6 +178,7 @@ impl<'s, T: Taken> Walker<'s, T> {
         requires fresh { number_in chunk (taken_at self.old.state device).chunks ≡ None }
         ensures stack { self.new.stack ≡ self.old.stack }
         ensures state { self.new.state ≡ put self.old.state device (with_chunk (taken_at self.old.state device) chunk) }
+        ensures looked { self.new.looked ≡ self.old.looked }
     {
         let table = &mut self.tables[device.index()];
         table.take(chunk);
@@ -166,6 +189,7 @@ impl<'s, T: Taken> Walker<'s, T> {
         requires device { device < length self.old.stack.devices }
         ensures stack { self.new.stack ≡ self.old.stack }
         ensures state { self.new.state ≡ put self.old.state device (lost (taken_at self.old.state device)) }
+        ensures looked { self.new.looked ≡ self.old.looked }
     {
         let table = &mut self.tables[device.index()];
         table.invalidate();

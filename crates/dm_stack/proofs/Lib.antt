@@ -1,4 +1,5 @@
 pub mod ChunkLemmas
+pub mod ClaimLemmas
 pub mod CrowdLemmas
 pub mod DepthLemmas
 pub mod DepthRule
@@ -9,8 +10,13 @@ pub mod LayoutLemmas
 pub mod LineSearchLemmas
 pub mod LoadLemmas
 pub mod NameLemmas
+pub mod TidyLemmas
+pub mod TopLemmas
+pub mod MeetLemmas
 pub mod OneFault
 pub mod Passes
+pub mod SweepLemmas
+pub mod PairLemmas
 pub mod PathLemmas
 pub mod PlaceLemmas
 pub mod PlacedLemmas

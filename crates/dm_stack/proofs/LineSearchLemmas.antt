@@ -1,17 +1,22 @@
 -- Counts of comparisons against binary digits, and the line of a sector by the starts of lines in a row.
-use Rattle.std.proofs.Common.{◌≡◌, ℕ, zero, suc, ◌+◌, ◌*◌, ◌/◌, ◌^◌, ◌<◌, ◌≤◌, Bool, true, false, List, [], ◌∷◌, Some, length, get_or, map, refl, sym, subst, ◌∙◌, add-one, arith}
+use Rattle.std.proofs.Common.{◌≡◌, ℕ, zero, suc, ◌+◌, ◌*◌, ◌/◌, ◌^◌, ◌<◌, ◌≤◌, Bool, true, false, List, [], ◌∷◌, ◌++◌, Some, drop, length, length-append, get_or, map, refl, sym, ap, subst, ◌∙◌, add-one, arith}
 use Rattle.std.specs.Prelude.{◌==◌, option_map, slice_get}
 use Rattle.std.proofs.lemmas.Nat.{pow_pos}
+use Rattle.std.proofs.lemmas.List.{length-drop}
 use Rattle.std.proofs.lemmas.Bool.{eqb-true}
 use Rattle.std.proofs.lemmas.Option.{slice_get-get_or}
 use Rattle.std.proofs.Math.Nat.{mul-le-mul_left, pow-succ'}
+use Rattle.dm_table.specs.LoadFault.{faults_by}
+use Rattle.dm_table.specs.declared.load_fault.LoadKind.TheVariants.{Limit}
+use Rattle.dm_table.specs.declared.table.DeviceSpec.{DeviceSpec}
 use Rattle.dm_table.specs.declared.table.Line.{Line}
 use Rattle.dm_stack.specs.declared.found.FoundLine.{FoundLine}
 use Rattle.dm_stack.specs.Below.{found_at, found_line, found_lines, line_of}
 use Rattle.dm_stack.specs.Description.{Description, device_len, end_of, lines_at}
 use Rattle.dm_stack.specs.LineSearch.{StartsAfter, StartsBy, binary_digits, digits_to}
-use Rattle.dm_stack.specs.Soundness.{IsSound}
+use Rattle.dm_stack.specs.Soundness.{IsSound, all_lines, past}
 use Rattle.dm_stack.proofs.LayoutLemmas.{AreInRow}
+use Rattle.dm_stack.proofs.Passes.{append_none, passes_before}
 use Rattle.dm_stack.proofs.SameLine.{holds_none}
 use Rattle.dm_stack.proofs.SoundLines.{holds_from, device_sound, lines_there, there}
 
@@ -35,6 +40,23 @@ few_to (suc most) number (suc (suc k)) within few =
 -- a number whose double a power of two does not exceed has as many binary digits as the power's exponent
 pub few_digits : (number k : ℕ) → 2 ^ k ≤ 2 * number → k ≤ binary_digits number
 few_digits number k few = few_to number number k (omega arith) few
+
+digits_none : (most number : ℕ) → number ≡ 0 → digits_to most number ≡ 0
+digits_none zero number none = refl
+digits_none (suc most) number none = rw none refl
+
+one_more : (most number k : ℕ) (b : Bool) → (number == 0) ≡ b → digits_to most (number / 2) ≤ k → digits_to (suc most) number ≤ suc k
+one_more most number k true none rest = rw none (omega arith)
+one_more most number k false none rest = rw none (omega (arith, rest))
+
+-- a number below a power of two has at most as many binary digits as the power's exponent
+most_to : (most number k : ℕ) → number < 2 ^ k → digits_to most number ≤ k
+most_to most number zero small = omega (arith, digits_none most number (omega (arith, small)))
+most_to zero number (suc k) small = omega arith
+most_to (suc most) number (suc k) small = one_more most number k (number == 0) refl (most_to most (number / 2) k (omega (arith, small)))
+
+pub most_digits : (number k : ℕ) → number < 2 ^ k → binary_digits number ≤ k
+most_digits number k small = most_to number number k small
 
 -- Comparisons, each of which halves how many starts are left to compare
 
@@ -87,6 +109,42 @@ in_row_held stack end (line ∷ other ∷ lines) (suc index) sector row inside f
     ∙ sym (not_held stack line (other ∷ lines) sector (past_end stack (line.start + line.len) (other ∷ lines) index sector row.1 from))
 
 -- The lines of a device
+
+none_dropped : (lines : List Line) → faults_by Limit (λ line. line.at) (λ line. true) lines ≡ [] → lines ≡ []
+none_dropped [] e = refl
+none_dropped (line ∷ lines) e = absurd cc
+
+lines_length : (devices : List DeviceSpec) (id : ℕ) (device : DeviceSpec) → slice_get devices id ≡ Some device → length device.lines ≤ length (all_lines devices)
+lines_length [] id device at = absurd cc
+lines_length (first ∷ devices) zero device at =
+    let same : first ≡ device = cc in
+    let whole = length-append first.lines (all_lines devices) in
+    rw (sym same) (omega (arith, whole))
+lines_length (first ∷ devices) (suc id) device at =
+    let rest = lines_length devices id device at in
+    let whole = length-append first.lines (all_lines devices) in
+    omega (arith, rest, whole)
+
+none_past : (most : ℕ) (lines : List Line) → past most (λ line. line.at) lines ≡ [] → length lines ≤ most
+none_past most lines none = let rest = none_dropped (drop most lines) none in let dropped = length-drop most lines in omega (arith, dropped, ap length rest)
+
+-- a device has no more lines than all of them may be
+pub few_lines : (stack : Description) (id : ℕ) → IsSound stack → id < length stack.devices → length (lines_at stack id) ≤ 65536
+few_lines stack id sound within =
+    let d = there stack.devices id within in
+    let few = (passes_before stack sound.before).few in
+    let none = (append_none (past 1024 (λ device. device.at) stack.devices ++ past 1024 (λ disk. disk.at) stack.disks) (past 65536 (λ line. line.at) (all_lines stack.devices)) few).1 in
+    let each = lines_length stack.devices id d.it d.at in
+    let all = none_past 65536 (all_lines stack.devices) none in
+    let same : length (lines_at stack id) ≡ length d.it.lines = ap length (lines_there stack id d.it d.at) in
+    omega (arith, each, all, same)
+
+-- so its number of lines has at most 17 binary digits
+pub few_halvings : (stack : Description) (id comparisons : ℕ) → IsSound stack → id < length stack.devices → comparisons ≤ binary_digits (length (lines_at stack id)) → comparisons ≤ 17
+few_halvings stack id comparisons sound within few =
+    let lines = few_lines stack id sound within in
+    let digits = most_digits (length (lines_at stack id)) 17 (omega (arith, lines)) in
+    omega (arith, few, digits)
 
 first_from : (stack : Description) (lines : List Line) (sector : ℕ) → AreInRow 0 lines → sector < end_of lines → StartsBy (map (found_line stack) lines) 0 sector
 first_from stack [] sector row inside = absurd (omega (arith, inside))

@@ -1,11 +1,14 @@
 pub mod Below
+pub mod Claims
 pub mod Description
 pub mod Graph
 pub mod LineSearch
 pub mod Load
 pub mod Loaded
 pub mod NameIndex
+pub mod Naming
 pub mod Places
 pub mod Soundness
 pub mod Span
 pub mod Store
+pub mod Sweep

@@ -1,5 +1,5 @@
 -- What a stack keeps beside its description, and what a looker is.
-use Rattle.std.specs.Prelude.{◌≡◌, ℕ, suc, ◌^◌, ◌<◌, Bool, true, false, List, Some, filter, length, map, nat_lt, if◌then◌else◌}
+use Rattle.std.specs.Prelude.{◌≡◌, ℕ, suc, ◌^◌, ◌<◌, Bool, true, false, List, [], ◌∷◌, ◌++◌, Some, filter, length, map, nat_lt, if◌then◌else◌}
 use Rattle.std.specs.List.{All, Contains, flat_map, list_any, range_with_len}
 use Rattle.dm_table.specs.declared.table.DeviceSpec.{DeviceSpec}
 use Rattle.dm_table.specs.declared.table.Line.{Line}
@@ -59,14 +59,19 @@ pub record AreSnapshots (stack : Description) (devices : List ℕ) : Type 0 wher
   pub each : All (IsSnapshot stack) devices
   pub among : (device : ℕ) (line : FoundLine) (snapshot : FoundSnapshot) → found_at stack device 0 ≡ Some line → line.target ≡ found.Snapshot snapshot → Contains devices device
 
--- a sound description, with its names, its lines by ids, its depth and its snapshots
-pub record IsLoaded (stack : Description) (devices disks : List (List ℕ)) (by_ids : List (List FoundLine)) (deepest : ℕ) (over : List ℕ) : Type 0 where
+-- the name of a disk as lines have it: with a space after it
+abbrev pub disk_text : List ℕ → List ℕ
+disk_text name = name ++ 32 ∷ []
+
+-- a sound description, with its names, its lines by ids, its depth, its snapshots and the texts of its disks
+pub record IsLoaded (stack : Description) (devices disks : List (List ℕ)) (by_ids : List (List FoundLine)) (deepest : ℕ) (over : List ℕ) (with_spaces : List (List ℕ)) : Type 0 where
   pub sound : IsSound stack
   pub device_names : devices ≡ map (λ device. device.name) stack.devices
   pub disk_names : disks ≡ map (λ disk. disk.name) stack.disks
   pub tables : by_ids ≡ map (found_table stack) stack.devices
   pub depth : deepest ≡ stack_depth stack
   pub snapshots : over ≡ snapshots stack
+  pub texts : with_spaces ≡ map (λ disk. disk_text disk.name) stack.disks
 
 -- a looker: its stack, and the counts of its searches and of their comparisons of a start with a sector
 pub record Looking : Type 0 where

@@ -4,7 +4,10 @@
 //! soundness again. Lines are found by a `Looker` alone, which counts its searches.
 #![tactic(auto)]
 
+mod claim;
+mod clash;
 mod depth;
+mod disk_text;
 mod found;
 mod graph;
 mod id;
@@ -19,6 +22,7 @@ mod name_index;
 mod names;
 mod placed;
 mod ranges;
+mod reach;
 mod resolve;
 mod snapshots;
 mod span;
@@ -26,7 +30,10 @@ mod stack;
 mod store_places;
 mod stores;
 mod stripes;
+mod tidy;
 
+pub use clash::Clash;
+pub use disk_text::DiskText;
 pub use found::{Found, FoundColumn, FoundColumns, FoundLine, FoundSnapshot, FoundTarget};
 pub use graph::MOST_DEPTH;
 pub use id::{DeviceId, DiskId, Lower};

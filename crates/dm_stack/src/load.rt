@@ -15,6 +15,7 @@ ghost use Rattle.dm_stack.specs.Soundness.{IsRefusedBy, checks_after, checks_bef
 ghost use Rattle.dm_stack.specs.Store.{store_links};
 
 use crate::depth::{deep, deepest};
+use crate::disk_text::{DiskText, disk_texts};
 use crate::found::FoundTable;
 use crate::graph::{depths, first_cycle};
 use crate::id::DeviceId;
@@ -39,6 +40,7 @@ pub(crate) struct Checked {
     pub tables: Vec<FoundTable>,
     pub depth: u32,
     pub snapshots: Vec<DeviceId>,
+    pub texts: Vec<DiskText>,
 }
 
 /// The depth of each device, also as a part of a store, and the first that reaches itself.
@@ -58,7 +60,7 @@ pub(crate) fn check(
     devices: &[DeviceSpec],
     disks: &[Disk],
 ) -> Result<Checked, LoadFault>
-    ensures loaded { IfOk result (λ checked. IsLoaded (record { devices = devices.now; disks = disks.now }) checked.names.devices checked.names.disks checked.tables.items checked.depth checked.snapshots.items) }
+    ensures loaded { IfOk result (λ checked. IsLoaded (record { devices = devices.now; disks = disks.now }) checked.names.devices checked.names.disks checked.tables.items checked.depth checked.snapshots.items checked.texts.items) }
     ensures fault { IfErr result (λ fault. fault.kind ≢ Memory → IsRefusedBy (record { devices = devices.now; disks = disks.now }) fault) }
     ensures memory { IfErr result (λ fault. fault.kind ≡ Memory → IsMemoryFault Source fault) }
 {
@@ -71,11 +73,15 @@ pub(crate) fn check(
     let Ok(snapshots) = snapshots(alloc, devices) else {
         return Err(LoadFault::memory(Part::Source));
     };
+    let Ok(texts) = disk_texts(alloc, disks) else {
+        return Err(LoadFault::memory(Part::Source));
+    };
     Ok(Checked {
         names,
         tables,
         depth,
         snapshots,
+        texts,
     })
 }
 

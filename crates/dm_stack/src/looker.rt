@@ -3,7 +3,7 @@
 //! A line is found in no other way, so a bound on a looker's count is one on the work of mapping.
 //! No call hands out the stack, and a looker is not copied: its count is that of all its searches.
 
-ghost use Rattle.std.specs.Prelude.{◌≡◌, ℕ, ◌+◌, ◌<◌, ◌≤◌, ◌^◌, Some, length};
+ghost use Rattle.std.specs.Prelude.{◌≡◌, ℕ, ◌+◌, ◌-◌, ◌*◌, ◌<◌, ◌≤◌, ◌^◌, Some, length};
 ghost use Rattle.dm_stack.specs.Below.{HoldsSoundly, found_at};
 ghost use Rattle.dm_stack.specs.Description.{device_len, disk_len, is_ro_at, lines_at};
 ghost use Rattle.dm_stack.specs.Loaded.{next_count, snapshots, stack_depth, AreSnapshots};
@@ -47,7 +47,8 @@ impl<'s> Looker<'s> {
 
     /// The line of a sector of a device, with ids for names: also that of each other sector that it
     /// holds. The search is counted, and so is each comparison of a line's start with the sector: at
-    /// most as many as the number of the device's lines has binary digits.
+    /// most as many as the number of the device's lines has binary digits, and so at most 17. Once the
+    /// searches are at the greatest number, neither count grows.
     ///
     /// The id is one of the stack, and the sector is below the device's length. No memory is taken.
     pub fn look(&mut self, device: DeviceId, sector: u64) -> Found<'s>
@@ -60,11 +61,15 @@ impl<'s> Looker<'s> {
         ensures counted { self.new.searches ≡ next_count self.old.searches }
         ensures grown { self.old.comparisons ≤ self.new.comparisons }
         ensures few { self.new.comparisons ≤ self.old.comparisons + binary_digits (length (lines_at self.old.stack device)) }
+        ensures most { self.new.comparisons ≤ self.old.comparisons + 17 * (self.new.searches - self.old.searches) }
     {
         let stack = self.stack;
         let (line, comparisons) = stack.find_line(device, sector);
-        self.searches = self.searches.saturating_add(1);
-        self.comparisons = self.comparisons.saturating_add(comparisons);
+        // Both or neither: no comparison is counted without its search.
+        if self.searches < u64::MAX {
+            self.searches += 1;
+            self.comparisons = self.comparisons.saturating_add(comparisons);
+        }
         line
     }
 
@@ -76,7 +81,7 @@ impl<'s> Looker<'s> {
     }
 
     /// How often these compared a line's start with a sector; it stays at the greatest number once
-    /// there.
+    /// there, and where it is once the searches are.
     pub fn comparisons(&self) -> u64
         ensures { result ≡ self.now.comparisons }
     {

@@ -3,13 +3,16 @@
 //! The invariant carries the soundness, so nothing above asks for it again: a value is made only
 //! through the checks of a load. Names are looked up there; afterwards everything goes by ids.
 
-ghost use Rattle.std.specs.Prelude.{◌≡◌, ◌≢◌, ℕ, ◌+◌, ◌<◌, ◌≤◌, ◌^◌, IfErr, IfOk, IsTrue, OnOk, Some, length, position, slice_get};
+ghost use Rattle.std.specs.Prelude.{◌≡◌, ◌≢◌, ℕ, ◌+◌, ◌<◌, ◌≤◌, ◌^◌, ◌↔◌, IfErr, IfOk, IsTrue, OnOk, List, Option, Some, is_none, length, position, slice_get};
 ghost use Rattle.dm_table.specs.Name.{is_disk_name};
 ghost use Rattle.dm_stack.specs.Below.{HoldsSoundly, found_at, found_lines};
+ghost use Rattle.dm_stack.specs.Claims.{IsFirstClash, IsTidy, IsTop, claims};
 ghost use Rattle.dm_stack.specs.Description.{Description, device_len, disk_len, is_ro_at, is_same, name_at, disk_name_at, lines_at};
-ghost use Rattle.dm_stack.specs.Loaded.{IsDeeperByOne, snapshots, stack_depth, AreSnapshots};
+ghost use Rattle.dm_stack.specs.Loaded.{IsDeeperByOne, disk_text, snapshots, stack_depth, AreSnapshots};
 ghost use Rattle.dm_stack.specs.LineSearch.{binary_digits};
 ghost use Rattle.dm_stack.specs.Soundness.{IsRefusedBy, IsSound};
+ghost use Rattle.dm_stack.specs.declared.claim.Claim.{Claim};
+ghost use Rattle.dm_stack.specs.declared.clash.Clash.{Clash};
 ghost use Rattle.dm_stack.specs.declared.graph.TheConstants.{MOST_DEPTH};
 ghost use Rattle.dm_stack.specs.declared.limits.TheConstants.{MOST_CHUNK, MOST_DEVICES, MOST_DISKS, MOST_LENGTH, MOST_LINES, MOST_PLACES, MOST_SNAPSHOT_CHUNK, MOST_STRIPES};
 ghost use Rattle.dm_table.specs.LoadFault.{IsMemoryFault};
@@ -17,15 +20,20 @@ ghost use Rattle.dm_table.specs.declared.load_fault.LoadFault.{LoadFault};
 ghost use Rattle.dm_table.specs.declared.load_fault.LoadKind.TheVariants.{Memory};
 ghost use Rattle.dm_table.specs.declared.place.Part.TheVariants.{Source};
 
+use crate::claim::{claims, is_named};
+use crate::clash::Clash;
+use crate::disk_text::DiskText;
 use crate::found::{Found, FoundLine, FoundTable};
 use crate::id::{DeviceId, DiskId};
+use crate::indexed::Indexed;
 use crate::layout::end_of;
 use crate::line_search::search;
 use crate::load::check;
 use crate::looker::Looker;
 use crate::name_index::NameIndex;
+use crate::tidy::first_clash;
 use dm_table::{DeviceSpec, Disk, LoadFault};
-use std::alloc::Global;
+use std::alloc::{AllocError, Global};
 use std::marker::Model;
 
 /// A stack in which no check of a load finds a fault.
@@ -38,6 +46,7 @@ pub struct Stack {
     tables: Vec<FoundTable>,
     depth: u32,
     snapshots: Vec<DeviceId>,
+    texts: Vec<DiskText>,
 }
 
 impl Model for Stack {
@@ -48,7 +57,7 @@ impl Model for Stack {
 
     ghost view = { λ stack. record { devices = stack.devices.items; disks = stack.disks.items } };
 
-    ghost invariant = { λ stack. IsLoaded (record { devices = stack.devices.items; disks = stack.disks.items }) stack.device_names stack.disk_names stack.tables.items stack.depth stack.snapshots.items };
+    ghost invariant = { λ stack. IsLoaded (record { devices = stack.devices.items; disks = stack.disks.items }) stack.device_names stack.disk_names stack.tables.items stack.depth stack.snapshots.items stack.texts.items };
 }
 
 impl Stack {
@@ -112,6 +121,7 @@ impl Stack {
             tables: checked.tables,
             depth: checked.depth,
             snapshots: checked.snapshots,
+            texts: checked.texts,
         })
     }
 
@@ -195,6 +205,42 @@ impl Stack {
         self.devices[device.index()].ro
     }
 
+    /// Whether no line names a device of the stack, so that none claims any of it.
+    ///
+    /// No memory is taken. Cost: a look-up for each line of the stack and each of its columns.
+    pub fn is_top(&self, device: DeviceId) -> bool
+        requires { device < length self.now.devices }
+        ensures { IsTrue result ↔ IsTop self.now device }
+    {
+        !is_named(&self.indexed(), device)
+    }
+
+    /// The first claim that meets an earlier one, or nothing, which is where the stack is tidy.
+    ///
+    /// A linear line claims its range below, a striped line one range a column, and a snapshot all
+    /// of its store and, for reading, all of its origin. Claims come by device, line and column, a
+    /// store before its origin. Two meet where they have a sector of one device or disk and not both
+    /// are for reading. The clash has the earliest claim that the first one meets, and the least
+    /// sector that both have.
+    ///
+    /// Fails only when out of memory. Cost: that of sorting the claims, and a walk over them for each
+    /// binary digit of their number, with memory for two copies of each.
+    pub fn tidy(&self, alloc: Global) -> Result<Option<Clash>, AllocError>
+        ensures clash { IfOk result (λ found. IsFirstClash (claims self.now) found) }
+        ensures tidy { IfOk result (λ found. IsTrue (is_none found) ↔ IsTidy self.now) }
+        // Claims have no other clash.
+        ensures one { (all : List Claim) (found other : Option Clash) → IsFirstClash all found → IsFirstClash all other → found ≡ other }
+    {
+        let claims = claims(alloc, &self.indexed())?;
+        // An id is at most the count: that of a name that is not there.
+        first_clash(
+            alloc,
+            &claims,
+            self.device_count() + 1,
+            self.disk_count() + 1,
+        )
+    }
+
     /// The name of a device of the stack.
     pub fn name(&self, device: DeviceId) -> &str
         requires { device < length self.now.devices }
@@ -212,6 +258,15 @@ impl Stack {
         self.disks[disk.index()].name.as_str()
     }
 
+    /// The name of a disk of the stack and a space, as lines have them.
+    #[inline(always)]
+    pub fn disk_text(&self, disk: DiskId) -> &DiskText
+        requires { disk < length self.now.disks }
+        ensures text { result.now ≡ disk_text (disk_name_at self.now disk) }
+    {
+        &self.texts[disk.index()]
+    }
+
     /// A looker of this stack, with no search and no comparison counted.
     pub fn looker(&self) -> Looker<'_>
         ensures stack { result.stack ≡ self.now }
@@ -219,6 +274,19 @@ impl Stack {
         ensures comparisons { result.comparisons ≡ 0 }
     {
         Looker::new(self)
+    }
+
+    /// The description, with its names indexed.
+    fn indexed(&self) -> Indexed<'_>
+        ensures description { result ≡ self.now }
+        ensures sound { IsSound self.now }
+    {
+        Indexed::new(
+            &self.devices,
+            &self.disks,
+            &self.device_names,
+            &self.disk_names,
+        )
     }
 
     /// What describes a device.
@@ -247,6 +315,7 @@ impl Stack {
         ensures holds { HoldsSoundly self.now device result.0.now sector }
         ensures all { (other : ℕ) → result.0.now.start ≤ other → other < result.0.now.start + result.0.now.len → found_at self.now device other ≡ Some result.0.now }
         ensures few { result.1 ≤ binary_digits (length (lines_at self.now device)) }
+        ensures most { result.1 ≤ 17 }
     {
         let lines = self.lines(device);
         let (index, comparisons) = search(lines, sector);

@@ -3,4 +3,4 @@ use Rattle.std.specs.Prelude.{ℕ, List, [], ◌∷◌, ◌++◌, decimal}
 
 -- its start, its length and a newline
 abbrev pub range_text : ℕ → ℕ → List ℕ
-range_text start len = 32 ∷ decimal start ++ 32 ∷ decimal len ++ 10 ∷ []
+range_text start len = decimal start ++ 32 ∷ decimal len ++ 10 ∷ []

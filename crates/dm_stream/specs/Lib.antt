@@ -16,3 +16,4 @@ pub mod Progress
 pub mod ProgressLaws
 pub mod Requests
 pub mod Run
+pub mod StatusLines

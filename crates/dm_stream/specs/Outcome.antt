@@ -1,5 +1,5 @@
 -- What a run writes for what its requests delivered, the state that they leave, and how it ends.
-use Rattle.std.specs.Prelude.{ℕ, List, [], ◌∷◌, ◌++◌, Option, None, Some, position}
+use Rattle.std.specs.Prelude.{ℕ, Bool, List, [], ◌∷◌, ◌++◌, Option, None, Some, position, if◌then◌else◌}
 use Rattle.dm_table.specs.DeviceIo.{Delivery}
 use Rattle.dm_stack.specs.Description.{Description, is_same}
 use Rattle.dm_map.specs.Mapping.{request_step}
@@ -8,6 +8,7 @@ use Rattle.dm_map.specs.Steps.{Step}
 use Rattle.dm_stream.specs.PieceText.{pieces_text}
 use Rattle.dm_stream.specs.Pieces.{fewest}
 use Rattle.dm_stream.specs.Requests.{NumberedRequest, requests_of}
+use Rattle.dm_stream.specs.StatusLines.{status_text}
 use Rattle.dm_stream.specs.declared.ending.Ending as ending
 use Rattle.dm_stream.specs.declared.ending.RequestWord as word
 
@@ -48,7 +49,24 @@ outcome_from stack state [] e = record { output = []; state = state; ending = e 
 outcome_from stack state (request ∷ requests) e =
     of_device stack (device_of stack request.values.device) request state (λ after. outcome_from stack after requests e)
 
--- the outcome of what the requests delivered
-abbrev pub run_outcome : Description → State → Delivery → Outcome
-run_outcome stack state delivered =
+-- the outcome of what the requests delivered, without status lines
+abbrev pub requests_outcome : Description → State → Delivery → Outcome
+requests_outcome stack state delivered =
     let requests = requests_of delivered in outcome_from stack state requests.all requests.ending
+
+-- this text if it is asked for and all requests were answered, up to a clean end
+abbrev pub if_done : (asked : Bool) → Option ending.Ending → List ℕ → List ℕ
+if_done asked (Some ending.TheVariants.Done) text = if asked then text else []
+if_done asked (Some (ending.TheVariants.BadRequest number w)) text = []
+if_done asked (Some ending.TheVariants.ReadFault) text = []
+if_done asked (Some ending.TheVariants.WriteFault) text = []
+if_done asked None text = []
+
+-- an outcome, and then the status lines of the state that it leaves, if they are asked for
+abbrev pub with_status : Description → (status : Bool) → Outcome → Outcome
+with_status stack status outcome =
+    record outcome { output = outcome.output ++ if_done status outcome.ending (status_text stack outcome.state) }
+
+-- the outcome of what the requests delivered, with status lines if they are asked for
+abbrev pub run_outcome : Description → (status : Bool) → State → Delivery → Outcome
+run_outcome stack status state delivered = with_status stack status (requests_outcome stack state delivered)

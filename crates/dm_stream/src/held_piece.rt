@@ -109,13 +109,14 @@ impl<'s> HeldPiece<'s> {
         ensures moved { HasWritten W.written W.waiting W.faults W.flushes writer.old writer.new (fault_of result) }
         ensures nothing { self.new ≡ record { stack = self.old.stack; number = self.old.number; piece = None } }
     {
-        let Some(piece) = self.piece else {
+        let Some(piece) = &self.piece else {
             return Ok(());
         };
-        self.piece = None;
-        self.range.note(&piece);
+        self.range.note(piece);
         let line = PieceLine::new(&self.prefix, &self.range, self.stack, piece);
-        writer.put(&line)
+        let wrote = writer.put(&line);
+        self.piece = None;
+        wrote
     }
 }
 

@@ -10,7 +10,7 @@ use dm_map::Piece;
 use dm_table::{put_bytes, put_digits, put_room};
 use std::marker::Model;
 
-/// The room in bytes: two numbers, two spaces and a newline.
+/// The room in bytes: two numbers, a space and a newline, and what makes the copy cheap.
 const ROOM: usize = 48;
 
 /// The range that came last, and its text if it came twice.
@@ -98,7 +98,6 @@ fn put_range(block: &mut [u8], at: usize, start: u64, len: u64) -> usize
     ensures end { result ≡ at + length (range_text start len) }
     ensures text { take result block.new ≡ take at block.old ++ range_text start len }
 {
-    let at = put_bytes(block, at, b" ");
     let at = put_digits(block, at, start);
     let at = put_bytes(block, at, b" ");
     let at = put_digits(block, at, len);

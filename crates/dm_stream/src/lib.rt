@@ -19,6 +19,7 @@ mod number_prefix;
 mod piece_text;
 mod request_mapper;
 mod requests;
+mod status_lines;
 
 pub use ending::{Ending, RequestWord};
 pub use handler::Handler;

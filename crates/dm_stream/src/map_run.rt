@@ -11,7 +11,7 @@ ghost use Rattle.dm_stream.specs.declared.lines.TheConstants.{MOST_LINE_BYTES};
 ghost use Rattle.dm_stream.specs.declared.requests.TheConstants.{MOST_REQUESTS};
 ghost use Rattle.dm_stream.specs.Mapped.{IsReady};
 ghost use Rattle.dm_stream.specs.Messages.{IsTold, ending_message};
-ghost use Rattle.dm_stream.specs.Outcome.{run_outcome};
+ghost use Rattle.dm_stream.specs.Outcome.{requests_outcome, run_outcome};
 ghost use Rattle.dm_stream.specs.Pieces.{AreFewest, fewest};
 ghost use Rattle.dm_stream.specs.Progress.{HasRead, HasWritten};
 ghost use Rattle.dm_stream.specs.Requests.{HasMet};
@@ -23,6 +23,7 @@ use crate::last_device::LastDevice;
 use crate::message::{message_of, tell};
 use crate::request_mapper::RequestMapper;
 use crate::requests::handle_requests;
+use crate::status_lines::write_status;
 use dm_map::{Mapper, Taken};
 use dm_stack::Stack;
 use dm_table::{Input, OutFault, Output};
@@ -52,7 +53,7 @@ fn map_lines<'s, T: Taken, R: Input, W: Output>(
     ensures same_writer { handler.new.join.writer.ghost_name ≡ handler.old.join.writer.ghost_name }
     ensures reads { HasRead R.handed R.faults R.ends requests.old requests.new }
     ensures writes { HasWritten W.written W.waiting W.faults W.flushes handler.old.join.writer.now handler.new.join.writer.now (write_faults result) }
-    ensures mapped { IsMapped (run_outcome handler.old.devices mapper.old.state (delivery R.handed R.faults R.ends requests.old requests.new))
+    ensures mapped { IsMapped (requests_outcome handler.old.devices mapper.old.state (delivery R.handed R.faults R.ends requests.old requests.new))
         (since (W.written handler.old.join.writer.now) (W.written handler.new.join.writer.now)) mapper.new.state result }
     ensures met { HasMet result (R.faults requests.old) (R.faults requests.new) }
 {
@@ -75,7 +76,7 @@ fn map_requests<'s, T: Taken, R: Input, W: Output>(
     ensures going { result ≢ Ending.WriteFault → mapper.new.stopped ≡ false }
     ensures reads { HasRead R.handed R.faults R.ends requests.old requests.new }
     ensures writes { HasWritten W.written W.waiting W.faults W.flushes output.old output.new (write_faults result) }
-    ensures mapped { IsMapped (run_outcome stack.now mapper.old.state (delivery R.handed R.faults R.ends requests.old requests.new))
+    ensures mapped { IsMapped (requests_outcome stack.now mapper.old.state (delivery R.handed R.faults R.ends requests.old requests.new))
         (since (W.written output.old) (W.written output.new)) mapper.new.state result }
     ensures met { HasMet result (R.faults requests.old) (R.faults requests.new) }
 {
@@ -89,13 +90,42 @@ fn map_requests<'s, T: Taken, R: Input, W: Output>(
     ending
 }
 
-/// Answers the requests up to the first bad one, an end or a fault, and then flushes the output,
-/// once and only where no write failed.
+/// The same, and then the status lines, if they are asked for and the requests came to a clean end.
+fn map_with_status<'s, T: Taken, R: Input, W: Output>(
+    stack: &'s Stack,
+    mapper: &mut Mapper<'s, T>,
+    requests: &mut R,
+    output: &mut W,
+    status: bool,
+) -> Ending
+    requires stack { mapper.old.stack ≡ stack.now }
+    requires going { mapper.old.stopped ≡ false }
+    ensures stack { mapper.new.stack ≡ mapper.old.stack }
+    ensures going { result ≢ Ending.WriteFault → mapper.new.stopped ≡ false }
+    ensures reads { HasRead R.handed R.faults R.ends requests.old requests.new }
+    ensures writes { HasWritten W.written W.waiting W.faults W.flushes output.old output.new (write_faults result) }
+    ensures mapped { IsMapped (run_outcome stack.now status mapper.old.state (delivery R.handed R.faults R.ends requests.old requests.new))
+        (since (W.written output.old) (W.written output.new)) mapper.new.state result }
+    ensures met { HasMet result (R.faults requests.old) (R.faults requests.new) }
+{
+    let ending = map_requests(stack, mapper, requests, output);
+    if !status || ending != Ending::Done {
+        return ending;
+    }
+    match write_status(stack, mapper, output) {
+        Ok(()) => Ending::Done,
+        Err(OutFault) => Ending::WriteFault,
+    }
+}
+
+/// Answers the requests up to the first bad one, an end or a fault, adds the status lines if they are
+/// asked for, and then flushes the output, once and only where no write failed.
 fn map_and_flush<'s, T: Taken, R: Input, W: Output>(
     stack: &'s Stack,
     mapper: &mut Mapper<'s, T>,
     requests: &mut R,
     output: &mut W,
+    status: bool,
 ) -> Ending
     requires stack { mapper.old.stack ≡ stack.now }
     requires going { mapper.old.stopped ≡ false }
@@ -103,10 +133,10 @@ fn map_and_flush<'s, T: Taken, R: Input, W: Output>(
     ensures going { result ≢ Ending.WriteFault → mapper.new.stopped ≡ false }
     ensures reads { HasRead R.handed R.faults R.ends requests.old requests.new }
     ensures wrote { HasRun W.written W.waiting W.faults W.flushes output.old output.new
-        (run_outcome stack.now mapper.old.state (delivery R.handed R.faults R.ends requests.old requests.new)) mapper.new.state result }
+        (run_outcome stack.now status mapper.old.state (delivery R.handed R.faults R.ends requests.old requests.new)) mapper.new.state result }
     ensures met { HasMet result (R.faults requests.old) (R.faults requests.new) }
 {
-    let ending = map_requests(stack, mapper, requests, output);
+    let ending = map_with_status(stack, mapper, requests, output, status);
     if ending == Ending::WriteFault {
         return ending;
     }
@@ -121,15 +151,14 @@ fn map_and_flush<'s, T: Taken, R: Input, W: Output>(
 ///
 /// | Ending | When |
 /// |---|---|
-/// | `Done` | the requests came to a clean end, and all were answered |
+/// | `Done` | the requests came to a clean end, and all were answered; with `status`, the line of each snapshot's usage follows |
 /// | `BadRequest` | the line of this number is bad; those before it were answered |
 /// | `ReadFault` | reading requests failed; those before it were answered |
-/// | `WriteFault` | writing or flushing the output failed; a beginning of the answers was written |
+/// | `WriteFault` | writing or flushing the output failed; a beginning of what there was to write was written |
 ///
 /// The mapper is one of this stack and not stopped; its state moves on with the requests. The output
 /// is flushed once at the end, unless a write failed; then a message of one line is written, except
-/// at `Done`. An output is not written to if there is nothing to write. Status lines are not
-/// supported yet, so `status` is false.
+/// at `Done`. An output is not written to if there is nothing to write.
 ///
 /// Cost: time linear in the bytes read and written, plus what the mapper takes for each request. No
 /// memory is taken.
@@ -143,24 +172,23 @@ pub fn run<'s, T: Taken, R: Input, W: Output, E: Output>(
 ) -> Ending
     requires stack { mapper.old.stack ≡ stack.now }
     requires going { mapper.old.stopped ≡ false }
-    requires unflagged { status ≡ false }
     // The mapper stays one of its stack, and can go on unless the output failed: in the state that the requests left.
     ensures stack { mapper.new.stack ≡ mapper.old.stack }
     ensures going { result ≢ Ending.WriteFault → mapper.new.stopped ≡ false }
     ensures state { result ≢ Ending.WriteFault → mapper.new.state
-        ≡ (run_outcome stack.now mapper.old.state (delivery R.handed R.faults R.ends requests.old requests.new)).state }
+        ≡ (run_outcome stack.now status mapper.old.state (delivery R.handed R.faults R.ends requests.old requests.new)).state }
     // What was written, and how it ended, is given by what the requests delivered.
-    ensures served { IsServed (run_outcome stack.now mapper.old.state (delivery R.handed R.faults R.ends requests.old requests.new))
+    ensures served { IsServed (run_outcome stack.now status mapper.old.state (delivery R.handed R.faults R.ends requests.old requests.new))
         (since (W.written output.old) (W.written output.new)) result }
     ensures read_fault { result ≡ Ending.ReadFault → R.faults requests.old < R.faults requests.new }
     ensures no_fault { result ≡ Ending.Done → R.faults requests.new ≤ R.faults requests.old }
     ensures write_fault { W.faults output.old < W.faults output.new ↔ (result ≡ Ending.WriteFault) }
     // If the output failed without a flush, something was left to write; if it was flushed, nothing was, and all of it still waits.
     ensures left { result ≡ Ending.WriteFault → W.flushes output.new ≡ W.flushes output.old
-        → IsCutShort (run_outcome stack.now mapper.old.state (delivery R.handed R.faults R.ends requests.old requests.new)).output
+        → IsCutShort (run_outcome stack.now status mapper.old.state (delivery R.handed R.faults R.ends requests.old requests.new)).output
         (since (W.written output.old) (W.written output.new)) }
     ensures failed_flush { result ≡ Ending.WriteFault → W.flushes output.old < W.flushes output.new
-        → (run_outcome stack.now mapper.old.state (delivery R.handed R.faults R.ends requests.old requests.new)).output
+        → (run_outcome stack.now status mapper.old.state (delivery R.handed R.faults R.ends requests.old requests.new)).output
         ≡ since (W.written output.old) (W.written output.new) }
     ensures still_waiting { result ≡ Ending.WriteFault → W.flushes output.old < W.flushes output.new
         → W.waiting output.new ≡ W.waiting output.old ++ since (W.written output.old) (W.written output.new) }
@@ -189,7 +217,7 @@ pub fn run<'s, T: Taken, R: Input, W: Output, E: Output>(
     // The figures of the limits.
     ensures limits { (MOST_LINE_BYTES ≡ 4096) × (MOST_REQUESTS ≡ 1000000000000) }
 {
-    let ending = map_and_flush(stack, mapper, requests, output);
+    let ending = map_and_flush(stack, mapper, requests, output, status);
     tell(messages, message_of(ending).as_slice());
     ending
 }

@@ -6,7 +6,8 @@
 
 ghost use Rattle.std.specs.Prelude.{◌≡◌, ◌++◌, ◌+◌, ◌<◌, ◌≤◌, ◌∷◌, [], length, take, decimal};
 ghost use Rattle.dm_stack.specs.Description.{disk_name_at};
-ghost use Rattle.dm_map.specs.Units.{IsOnDisks, first_unit, piece_len};
+ghost use Rattle.dm_stack.specs.Loaded.{disk_text};
+ghost use Rattle.dm_map.specs.Units.{CopyOf, FillOf, IsOnDisks, first_unit, piece_len};
 ghost use Rattle.dm_stream.specs.Pending.{piece_view};
 ghost use Rattle.dm_stream.specs.PieceText.{piece_text, place_text, unit_text};
 
@@ -23,7 +24,7 @@ pub(crate) struct PieceLine<'a> {
     prefix: &'a NumberPrefix,
     range: &'a KeptRange,
     stack: &'a Stack,
-    piece: Piece,
+    piece: &'a Piece,
 }
 
 impl<'a> Model for PieceLine<'a> {
@@ -34,9 +35,9 @@ impl<'a> Model for PieceLine<'a> {
 
     ghost Value = { List ℕ };
 
-    ghost view = { λ line. piece_text line.stack.now line.prefix.now (piece_view line.piece) };
+    ghost view = { λ line. piece_text line.stack.now line.prefix.now (piece_view line.piece.now) };
 
-    ghost invariant = { λ line. IsOnDisks line.stack.now line.piece };
+    ghost invariant = { λ line. IsOnDisks line.stack.now line.piece.now };
 }
 
 impl<'a> PieceLine<'a> {
@@ -46,10 +47,10 @@ impl<'a> PieceLine<'a> {
         prefix: &'a NumberPrefix,
         range: &'a KeptRange,
         stack: &'a Stack,
-        piece: Piece,
+        piece: &'a Piece,
     ) -> PieceLine<'a>
-        requires { IsOnDisks stack.now piece }
-        ensures text { result ≡ piece_text stack.now prefix.now (piece_view piece) }
+        requires { IsOnDisks stack.now piece.now }
+        ensures text { result ≡ piece_text stack.now prefix.now (piece_view piece.now) }
         ensures some { 0 < length result }
     {
         PieceLine {
@@ -67,7 +68,7 @@ impl<'a> Text for PieceLine<'a> {
     #[inline(always)]
     fn put_into(&self, block: &mut [u8], at: usize) -> usize {
         let at = self.prefix.put_into(block, at);
-        put_piece(block, at, self.range, self.stack, &self.piece)
+        put_piece(block, at, self.range, self.stack, self.piece)
     }
 }
 
@@ -98,37 +99,74 @@ fn put_piece(block: &mut [u8], at: usize, range: &KeptRange, stack: &Stack, piec
             len,
             to,
             to_start,
-        } => {
-            let at = put_bytes(block, at, b"copy ");
-            let at = put_place(block, at, stack, disk, start);
-            let at = put_bytes(block, at, b" ");
-            let at = put_digits(block, at, len);
-            let at = put_bytes(block, at, b" ");
-            let at = put_place(block, at, stack, to, to_start);
-            put_bytes(block, at, b"\n")
-        }
-        Piece::Fill { len, disk, start } => {
-            let at = put_bytes(block, at, b"fill ");
-            let at = put_digits(block, at, len);
-            let at = put_bytes(block, at, b" ");
-            let at = put_place(block, at, stack, disk, start);
-            put_bytes(block, at, b"\n")
-        }
+        } => put_copy(block, at, stack, disk, start, len, to, to_start),
+        Piece::Fill { len, disk, start } => put_fill(block, at, stack, disk, start, len),
     }
 }
 
-/// Puts a word and the name of a disk of the stack at a place of a block.
+/// Puts what a copy is and a newline at a place of a block.
+#[inline(never)]
+fn put_copy(
+    block: &mut [u8],
+    at: usize,
+    stack: &Stack,
+    disk: DiskId,
+    start: u64,
+    len: u64,
+    to: DiskId,
+    to_start: u64,
+) -> usize
+    requires room { at + 800 ≤ length block.old }
+    requires there { disk < length stack.now.disks }
+    requires target { to < length stack.now.disks }
+    ensures few { result ≤ at + 800 }
+    ensures end { result ≡ at + length (unit_text stack.now (CopyOf disk start to to_start) len ++ 10 ∷ []) }
+    ensures text { take result block.new ≡ take at block.old ++ unit_text stack.now (CopyOf disk start to to_start) len ++ 10 ∷ [] }
+{
+    let at = put_bytes(block, at, b"copy ");
+    let at = put_place(block, at, stack, disk, start);
+    let at = put_bytes(block, at, b" ");
+    let at = put_digits(block, at, len);
+    let at = put_bytes(block, at, b" ");
+    let at = put_place(block, at, stack, to, to_start);
+    put_bytes(block, at, b"\n")
+}
+
+/// Puts what a fill is and a newline at a place of a block.
+#[inline(never)]
+fn put_fill(
+    block: &mut [u8],
+    at: usize,
+    stack: &Stack,
+    disk: DiskId,
+    start: u64,
+    len: u64,
+) -> usize
+    requires room { at + 800 ≤ length block.old }
+    requires there { disk < length stack.now.disks }
+    ensures few { result ≤ at + 400 }
+    ensures end { result ≡ at + length (unit_text stack.now (FillOf disk start) len ++ 10 ∷ []) }
+    ensures text { take result block.new ≡ take at block.old ++ unit_text stack.now (FillOf disk start) len ++ 10 ∷ [] }
+{
+    let at = put_bytes(block, at, b"fill ");
+    let at = put_digits(block, at, len);
+    let at = put_bytes(block, at, b" ");
+    let at = put_place(block, at, stack, disk, start);
+    put_bytes(block, at, b"\n")
+}
+
+/// Puts a word and the name of a disk of the stack, with a space after it, at a place of a block.
 #[inline(always)]
 fn put_named(block: &mut [u8], at: usize, word: &[u8], stack: &Stack, disk: DiskId) -> usize
     requires room { at + 300 ≤ length block.old }
     requires short { length word.now ≤ 9 }
     requires there { disk < length stack.now.disks }
-    ensures few { result ≤ at + 264 }
-    ensures end { result ≡ at + length (word.now ++ disk_name_at stack.now disk) }
-    ensures text { take result block.new ≡ take at block.old ++ word.now ++ disk_name_at stack.now disk }
+    ensures few { result ≤ at + 265 }
+    ensures end { result ≡ at + length (word.now ++ disk_text (disk_name_at stack.now disk)) }
+    ensures text { take result block.new ≡ take at block.old ++ word.now ++ disk_text (disk_name_at stack.now disk) }
 {
     let at = put_bytes(block, at, word);
-    put_bytes(block, at, stack.disk_name(disk).as_bytes())
+    stack.disk_text(disk).put_into(block, at)
 }
 
 /// Puts a word, a number and a newline at a place of a block.
@@ -154,7 +192,6 @@ fn put_place(block: &mut [u8], at: usize, stack: &Stack, disk: DiskId, sector: u
     ensures end { result ≡ at + length (place_text stack.now disk sector) }
     ensures text { take result block.new ≡ take at block.old ++ place_text stack.now disk sector }
 {
-    let at = put_bytes(block, at, stack.disk_name(disk).as_bytes());
-    let at = put_bytes(block, at, b" ");
+    let at = stack.disk_text(disk).put_into(block, at);
     put_digits(block, at, sector)
 }

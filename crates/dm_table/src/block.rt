@@ -18,6 +18,38 @@ fn copy_to(block: &mut [u8], at: usize, bytes: &[u8])
     block[at..at + bytes.len()].copy_from_slice(bytes);
 }
 
+/// Sets a slice to a room, as one value: a copy from one slice to another asks first whether they
+/// overlap.
+#[inline(always)]
+fn set_room<const ROOM: usize>(place: &mut [u8], room: &[u8; ROOM])
+    requires { length place.old ≡ ROOM }
+    ensures { place.new ≡ room.now }
+{
+    let Some(whole) = place.first_chunk_mut::<ROOM>() else {
+        unreachable!()
+    };
+    *whole = *room;
+}
+
+/// Copies a room to a place of a block.
+#[inline(always)]
+fn copy_room<const ROOM: usize>(block: &mut [u8], at: usize, room: &[u8; ROOM])
+    requires within { at + ROOM ≤ length block.old }
+    ensures before { take at block.new ≡ take at block.old }
+    ensures bytes { drop at block.new ≡ room.now ++ drop (at + ROOM) block.old }
+{
+    set_room(&mut block[at..at + ROOM], room);
+}
+
+/// Bytes of a known length, as a room.
+#[inline(always)]
+fn as_room<const ROOM: usize>(bytes: &[u8]) -> &[u8; ROOM]
+    requires { length bytes.now ≡ ROOM }
+    ensures { result.now ≡ bytes.now }
+{
+    bytes.first_chunk::<ROOM>().unwrap()
+}
+
 /// Copies a room to a place of a block, and returns where the text ends that the room begins with.
 #[tactic(auto, using(crate::proofs::BlockLemmas::room_front))]
 #[inline(always)]
@@ -32,7 +64,7 @@ pub fn put_room<const ROOM: usize>(
     ensures end { result ≡ at + len }
     ensures text { take result block.new ≡ take at block.old ++ take len room.now }
 {
-    copy_to(block, at, room);
+    copy_room(block, at, room);
     at + len
 }
 
@@ -47,6 +79,7 @@ pub fn put_bytes(block: &mut [u8], at: usize, bytes: &[u8]) -> usize
     ensures text { take result block.new ≡ take at block.old ++ bytes.now }
 {
     match bytes.len() {
+        1 => put_known::<1>(block, at, bytes),
         2 => put_known::<2>(block, at, bytes),
         3 => put_known::<3>(block, at, bytes),
         4 => put_known::<4>(block, at, bytes),
@@ -59,6 +92,7 @@ pub fn put_bytes(block: &mut [u8], at: usize, bytes: &[u8]) -> usize
 }
 
 /// Puts bytes of a known length.
+#[tactic(auto, using(crate::proofs::BlockLemmas::bytes_front))]
 #[inline(always)]
 fn put_known<const LEN: usize>(block: &mut [u8], at: usize, bytes: &[u8]) -> usize
     requires known { length bytes.now ≡ LEN }
@@ -66,7 +100,8 @@ fn put_known<const LEN: usize>(block: &mut [u8], at: usize, bytes: &[u8]) -> usi
     ensures end { result ≡ at + length bytes.now }
     ensures text { take result block.new ≡ take at block.old ++ bytes.now }
 {
-    put_any(block, at, &bytes[..LEN])
+    copy_room(block, at, as_room::<LEN>(bytes));
+    at + bytes.len()
 }
 
 /// Puts bytes of any length.

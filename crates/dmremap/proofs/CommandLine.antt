@@ -8,7 +8,7 @@ use Rattle.clap.specs.declared.parser.matches.ArgMatches.{ArgMatches}
 use Rattle.clap.specs.declared.error.kind.ErrorKind.{ErrorKind}
 use Rattle.clap.specs.declared.error.kind.ErrorKind.TheVariants as kind
 use Rattle.clap.proofs.OnLiterals.{clap_on_literals}
-use Rattle.dmremap.specs.Words.{IsFaultOf, IsRefused, IsTaken, TakesFormats, TaskWords, command_line, fault_from, has_lone_hyphen, is_memory, refusal_of, task_in, task_of}
+use Rattle.dmremap.specs.Words.{IsFaultOf, IsRefused, IsTaken, TakesFormats, JobWords, command_line, fault_from, has_lone_hyphen, is_memory, refusal_of, job_in, job_of}
 use Rattle.dmremap.specs.declared.words.WordsFault.TheVariants.{Words, Memory}
 
 -- clap's matches are those that the definitions compute, whatever the parser of FORMAT
@@ -44,32 +44,32 @@ refused parser words error no_hyphen formats has_kind = go (is_memory (kind_of e
       no_memory = λ memory. true≢false (sym (ap is_memory memory) ∙ e);
     }
 
--- words that clap takes, and whose matches give a task, are taken with that task
-pub taken : (parser : ValueParser) (line : App) (words : List Text) (task : TaskWords) (matches : ArgMatches) → TakesFormats parser → line ≡ command_line parser
+-- words that clap takes, and whose matches give a job, are taken with that job
+pub taken : (parser : ValueParser) (line : App) (words : List Text) (job : JobWords) (matches : ArgMatches) → TakesFormats parser → line ≡ command_line parser
     → (is_simple_and_free line ≡ true → fault_of line words ≡ []) → HasMatchesOf line words matches
-    → Some task ≡ option_and_then (λ met. task_of met.0 met.1) (subcommand_rows_of matches) → IsTaken words task
-taken parser line words task matches formats line_is kinds has_matches task_is =
+    → Some job ≡ option_and_then (λ met. job_of met.0 met.1) (subcommand_rows_of matches) → IsTaken words job
+taken parser line words job matches formats line_is kinds has_matches job_is =
     let met : subcommand_rows_of matches ≡ subcommand_of line words = (has_matches (ap is_simple line_is ∙ simple parser)).1 in
     record {
       parser = parser;
       formats = formats;
       taken = ap (λ (a : App). fault_of a words) (sym line_is) ∙ kinds (ap is_simple_and_free line_is ∙ simple_and_free parser);
-      task = sym (task_is ∙ ap (option_and_then (λ met. task_of met.0 met.1)) (met ∙ ap (λ (a : App). subcommand_of a words) line_is));
+      job = sym (job_is ∙ ap (option_and_then (λ met. job_of met.0 met.1)) (met ∙ ap (λ (a : App). subcommand_of a words) line_is));
     }
 
--- words that clap takes, and whose matches give no task, lack a word
+-- words that clap takes, and whose matches give no job, lack a word
 pub lacking : (parser : ValueParser) (line : App) (words : List Text) (error : Error) (matches : ArgMatches) → has_lone_hyphen words ≡ false
     → TakesFormats parser → line ≡ command_line parser → (is_simple_and_free line ≡ true → fault_of line words ≡ []) → HasMatchesOf line words matches
-    → None ≡ option_and_then (λ met. task_of met.0 met.1) (subcommand_rows_of matches) → kind_of error ≡ kind.MissingRequiredArgument → IsRefused words error
-lacking parser line words error matches no_hyphen formats line_is kinds has_matches task_is kind_is =
+    → None ≡ option_and_then (λ met. job_of met.0 met.1) (subcommand_rows_of matches) → kind_of error ≡ kind.MissingRequiredArgument → IsRefused words error
+lacking parser line words error matches no_hyphen formats line_is kinds has_matches job_is kind_is =
     let met : subcommand_rows_of matches ≡ subcommand_of line words = (has_matches (ap is_simple line_is ∙ simple parser)).1 in
     let no_fault : fault_of (command_line parser) words ≡ [] =
     ap (λ (a : App). fault_of a words) (sym line_is) ∙ kinds (ap is_simple_and_free line_is ∙ simple_and_free parser) in
-    let no_task : task_in (command_line parser) words ≡ None =
-    sym (task_is ∙ ap (option_and_then (λ met. task_of met.0 met.1)) (met ∙ ap (λ (a : App). subcommand_of a words) line_is)) in
+    let no_job : job_in (command_line parser) words ≡ None =
+    sym (job_is ∙ ap (option_and_then (λ met. job_of met.0 met.1)) (met ∙ ap (λ (a : App). subcommand_of a words) line_is)) in
     let lacks : refusal_of (command_line parser) words ≡ kind.MissingRequiredArgument ∷ [] =
-    ap (λ (ks : Kinds). or_else ks (cond (is_some (task_in (command_line parser) words)) [] (kind.MissingRequiredArgument ∷ []))) no_fault
-    ∙ ap (λ (t : Option TaskWords). cond (is_some t) [] (kind.MissingRequiredArgument ∷ [])) no_task in
+    ap (λ (ks : Kinds). or_else ks (cond (is_some (job_in (command_line parser) words)) [] (kind.MissingRequiredArgument ∷ []))) no_fault
+    ∙ ap (λ (j : Option JobWords). cond (is_some j) [] (kind.MissingRequiredArgument ∷ [])) no_job in
     record {
       hyphen = no_hyphen;
       parser = parser;

@@ -1,5 +1,5 @@
 -- What an exit says of the status, the message and the flushes.
-use Rattle.std.proofs.Common.{◌≡◌, ◌≢◌, ℕ, ◌+◌, ◌≤◌, List, [], Option, Some, refl, sym, ap, subst, ◌∙◌, arith}
+use Rattle.std.proofs.Common.{◌≡◌, ◌≢◌, Bool, ℕ, ◌+◌, ◌≤◌, List, [], Option, Some, refl, sym, ap, subst, ◌∙◌, arith}
 use Rattle.dm_table.specs.declared.load_fault.LoadKind.{LoadKind}
 use Rattle.dm_table.specs.declared.load_fault.LoadKind.TheVariants as kinds
 use Rattle.dm_table.specs.DeviceIo.{Delivery}
@@ -35,30 +35,30 @@ served_is outcome output endings.ReadFault other h = h
 served_is outcome output endings.WriteFault other h = absurd (other refl)
 
 -- a exit in which the output did not fail and memory did not run out is a whole run
-pub whole_from : (format : Format) (source disks requests : Delivery) (output : List ℕ) (old new : ℕ) (exit : Exit) → IsExitOf format source disks requests output old new exit → exit_status exit ≢ 5 → exit_status exit ≢ 6 → GiveWhole format source disks requests (record { output = output; message = exit_message exit; status = exit_status exit })
-whole_from format source disks requests output old new (Refused fault) exits other none =
+pub whole_from : (format : Format) (flag : Bool) (source disks requests : Delivery) (output : List ℕ) (old new : ℕ) (exit : Exit) → IsExitOf format flag source disks requests output old new exit → exit_status exit ≢ 5 → exit_status exit ≢ 6 → GiveWhole format flag source disks requests (record { output = output; message = exit_message exit; status = exit_status exit })
+whole_from format flag source disks requests output old new (Refused fault) exits other none =
     let kind = refused_kind fault.kind none in
     let text : List ℕ → Option Whole = λ out. Some (record { output = out; message = load_message fault; status = 1 }) in
     let status : ℕ → Option Whole = λ n. Some (record { output = output; message = load_message fault; status = n }) in
     record { load = RefusedBy fault; loaded = exits.1 kind.0; is = ap text (sym exits.0) ∙ ap status kind.1 }
-whole_from format source disks requests output old new (Ran ending) exits other none =
-    let outcome = outcome_of exits.0 requests in
+whole_from format flag source disks requests output old new (Ran ending) exits other none =
+    let outcome = outcome_of exits.0 flag requests in
     let served = served_is outcome output ending other exits.2.served in
     record { load = SoundAs exits.0; loaded = exits.1; is = ap (ended_if outcome.output) served.1 ∙ ap (λ (out : List ℕ). ended_if out (Some ending)) served.0 }
 
 -- the same of the status that was answered
-pub whole_at : (format : Format) (source disks requests : Delivery) (output : List ℕ) (old new : ℕ) (exit : Exit) (status : ℕ) → status ≡ exit_status exit → IsExitOf format source disks requests output old new exit → status ≢ 5 → status ≢ 6 → GiveWhole format source disks requests (record { output = output; message = exit_message exit; status = status })
-whole_at format source disks requests output old new exit status is exits five six =
-    subst (λ (n : ℕ). GiveWhole format source disks requests (record { output = output; message = exit_message exit; status = n })) (sym is)
-    (whole_from format source disks requests output old new exit exits (λ e. five (is ∙ e)) (λ e. six (is ∙ e)))
+pub whole_at : (format : Format) (flag : Bool) (source disks requests : Delivery) (output : List ℕ) (old new : ℕ) (exit : Exit) (status : ℕ) → status ≡ exit_status exit → IsExitOf format flag source disks requests output old new exit → status ≢ 5 → status ≢ 6 → GiveWhole format flag source disks requests (record { output = output; message = exit_message exit; status = status })
+whole_at format flag source disks requests output old new exit status is exits five six =
+    subst (λ (n : ℕ). GiveWhole format flag source disks requests (record { output = output; message = exit_message exit; status = n })) (sym is)
+    (whole_from format flag source disks requests output old new exit exits (λ e. five (is ∙ e)) (λ e. six (is ∙ e)))
 
 -- a failed output comes of a sound load, and took a beginning of what there was to write
-pub failed_at_five : (format : Format) (source disks requests : Delivery) (output : List ℕ) (old new : ℕ) (exit : Exit) → IsExitOf format source disks requests output old new exit → exit_status exit ≡ 5 → (description : Description) × PartsGive format source disks (SoundAs description) × FailedOutput (outcome_of description requests).output output old new
-failed_at_five format source disks requests output old new (Refused fault) exits five = absurd (no_write_fault fault.kind five)
-failed_at_five format source disks requests output old new (Ran endings.Done) exits five = absurd (omega arith)
-failed_at_five format source disks requests output old new (Ran (endings.BadRequest number word)) exits five = absurd (omega arith)
-failed_at_five format source disks requests output old new (Ran endings.ReadFault) exits five = absurd (omega arith)
-failed_at_five format source disks requests output old new (Ran endings.WriteFault) exits five =
+pub failed_at_five : (format : Format) (flag : Bool) (source disks requests : Delivery) (output : List ℕ) (old new : ℕ) (exit : Exit) → IsExitOf format flag source disks requests output old new exit → exit_status exit ≡ 5 → (description : Description) × PartsGive format source disks (SoundAs description) × FailedOutput (outcome_of description flag requests).output output old new
+failed_at_five format flag source disks requests output old new (Refused fault) exits five = absurd (no_write_fault fault.kind five)
+failed_at_five format flag source disks requests output old new (Ran endings.Done) exits five = absurd (omega arith)
+failed_at_five format flag source disks requests output old new (Ran (endings.BadRequest number word)) exits five = absurd (omega arith)
+failed_at_five format flag source disks requests output old new (Ran endings.ReadFault) exits five = absurd (omega arith)
+failed_at_five format flag source disks requests output old new (Ran endings.WriteFault) exits five =
     let ran = exits.2 in (exits.0, exits.1, record { beginning = ran.served; left = ran.left refl; failed_flush = ran.failed_flush refl })
 
 -- requests are not asked for where the load is refused

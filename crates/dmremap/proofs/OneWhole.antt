@@ -1,5 +1,5 @@
 -- What is delivered gives one run: the texts describe one description at the most, and none where a check of the texts finds a fault.
-use Rattle.std.proofs.Common.{◌≡◌, inl, inr, ℕ, List, [], ◌∷◌, ◌++◌, Some, None, sym, ap, subst, ◌∙◌}
+use Rattle.std.proofs.Common.{◌≡◌, inl, inr, Bool, ℕ, List, [], ◌∷◌, ◌++◌, Some, None, sym, ap, subst, ◌∙◌}
 use Rattle.dm_table.specs.declared.table.DeviceSpec.{DeviceSpec}
 use Rattle.dm_table.specs.declared.disk.Disk.{Disk}
 use Rattle.dm_table.specs.declared.place.Part.TheVariants.{Source, Disks}
@@ -121,8 +121,8 @@ one_load Lvm source disks a b is_a is_b = one_of_part (part_read Source source) 
 
 -- What the run gives
 
-pub one_whole : (format : Format) (source disks requests : Delivery) (a b : Whole) → GiveWhole format source disks requests a → GiveWhole format source disks requests b → a ≡ b
-one_whole format source disks requests a b is_a is_b =
+pub one_whole : (format : Format) (flag : Bool) (source disks requests : Delivery) (a b : Whole) → GiveWhole format flag source disks requests a → GiveWhole format flag source disks requests b → a ≡ b
+one_whole format flag source disks requests a b is_a is_b =
     let same = one_load format source disks is_a.load is_b.load is_a.loaded is_b.loaded in
-    let some : Some a ≡ Some b = sym is_a.is ∙ ap (λ (load : Load). whole_of load requests) same ∙ is_b.is in
+    let some : Some a ≡ Some b = sym is_a.is ∙ ap (λ (load : Load). whole_of load flag requests) same ∙ is_b.is in
     cc

@@ -1,5 +1,5 @@
 -- How the program exits, and what it did until then.
-use Rattle.std.specs.Prelude.{◌≡◌, ◌≢◌, ℕ, ◌+◌, ◌<◌, ◌≤◌, ◌↔◌, List, [], ◌++◌}
+use Rattle.std.specs.Prelude.{◌≡◌, ◌≢◌, ℕ, Bool, ◌+◌, ◌<◌, ◌≤◌, ◌↔◌, List, [], ◌++◌}
 use Rattle.dm_table.specs.declared.load_fault.LoadKind.TheVariants.{Memory}
 use Rattle.dm_table.specs.DeviceIo.{Delivery, since}
 use Rattle.dm_table.specs.LoadMessage.{load_message}
@@ -40,17 +40,17 @@ pub record RanTo (outcome : Outcome) (output : List ℕ) (ending : Ending) (flus
   pub failed_flush : ending ≡ endings.WriteFault → flushes_old < flushes_new → outcome.output ≡ output
 
 -- what a run over a sound stack wrote; its last memory may be refused
-abbrev pub IsRun : Description → Delivery → List ℕ → (flushes_old flushes_new : ℕ) → Exit → Type 0
-IsRun description requests output old new (Refused fault) = (output ≡ []) × (fault.kind ≡ Memory)
-IsRun description requests output old new (Ran ending) = RanTo (outcome_of description requests) output ending old new
+abbrev pub IsRun : Description → (flag : Bool) → Delivery → List ℕ → (flushes_old flushes_new : ℕ) → Exit → Type 0
+IsRun description flag requests output old new (Refused fault) = (output ≡ []) × (fault.kind ≡ Memory)
+IsRun description flag requests output old new (Ran ending) = RanTo (outcome_of description flag requests) output ending old new
 
--- this output and this exit are what the deliveries give
-abbrev pub IsExitOf : Format → (source disks requests : Delivery) → List ℕ → (flushes_old flushes_new : ℕ) → Exit → Type 0
-IsExitOf format source disks requests output old new (Refused fault) =
+-- this output and this exit are what the format, the flag and the deliveries give
+abbrev pub IsExitOf : Format → (flag : Bool) → (source disks requests : Delivery) → List ℕ → (flushes_old flushes_new : ℕ) → Exit → Type 0
+IsExitOf format flag source disks requests output old new (Refused fault) =
     (output ≡ []) × (fault.kind ≢ Memory → PartsGive format source disks (RefusedBy fault))
-IsExitOf format source disks requests output old new (Ran ending) =
+IsExitOf format flag source disks requests output old new (Ran ending) =
     (description : Description) × PartsGive format source disks (SoundAs description)
-    × RanTo (outcome_of description requests) output ending old new
+    × RanTo (outcome_of description flag requests) output ending old new
 
 -- one flush, after which nothing waits; none where the load was refused; at most one where the output failed
 abbrev pub IsFlushed : Exit → List ℕ → ℕ → ℕ → Type 0

@@ -1,5 +1,5 @@
 -- The whole run: what it writes, its message and its exit status, by what was delivered.
-use Rattle.std.specs.Prelude.{◌≡◌, ℕ, List, [], Option, None, Some}
+use Rattle.std.specs.Prelude.{◌≡◌, ℕ, Bool, List, [], Option, None, Some}
 use Rattle.dm_table.specs.DeviceIo.{Delivery}
 use Rattle.dm_table.specs.LoadMessage.{load_message}
 use Rattle.dm_stream.specs.declared.ending.Ending.{Ending}
@@ -11,9 +11,9 @@ use Rattle.dmremap.specs.declared.words.Format.{Format}
 use Rattle.dmremap.specs.Load.{Load, RefusedBy, SoundAs, PartsGive}
 use Rattle.dmremap.specs.Status.{ending_status}
 
--- the outcome of what the requests delivered, over a stack in its state at the start
-abbrev pub outcome_of : Description → Delivery → Outcome
-outcome_of description requests = run_outcome description (start_state description) requests
+-- the outcome of what the requests delivered, over a stack in its state at the start; the flag asks for status lines
+abbrev pub outcome_of : Description → (flag : Bool) → Delivery → Outcome
+outcome_of description flag requests = run_outcome description flag (start_state description) requests
 
 -- what a run gives
 pub record Whole : Type 0 where
@@ -31,13 +31,13 @@ ended_if output (Some ending) = Some (ended output ending)
 ended_if output None = None
 
 -- a refused load writes nothing; a sound one goes by what the requests deliver
-abbrev pub whole_of : Load → Delivery → Option Whole
-whole_of (RefusedBy fault) requests = Some (record { output = []; message = load_message fault; status = 1 })
-whole_of (SoundAs description) requests =
-    let outcome = outcome_of description requests in ended_if outcome.output outcome.ending
+abbrev pub whole_of : Load → (flag : Bool) → Delivery → Option Whole
+whole_of (RefusedBy fault) flag requests = Some (record { output = []; message = load_message fault; status = 1 })
+whole_of (SoundAs description) flag requests =
+    let outcome = outcome_of description flag requests in ended_if outcome.output outcome.ending
 
--- the deliveries of the source, of the disk list and of the requests give this run
-pub record GiveWhole (format : Format) (source disks requests : Delivery) (whole : Whole) : Type 0 where
+-- the format, the flag and the deliveries of the source, of the disk list and of the requests give this run
+pub record GiveWhole (format : Format) (flag : Bool) (source disks requests : Delivery) (whole : Whole) : Type 0 where
   pub load : Load
   pub loaded : PartsGive format source disks load
-  pub is : whole_of load requests ≡ Some whole
+  pub is : whole_of load flag requests ≡ Some whole

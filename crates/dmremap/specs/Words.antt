@@ -1,6 +1,6 @@
 -- The command line of the program, and the job or the refusal that words have by it.
 use Rattle.std.specs.Prelude.{◌≡◌, ◌≢◌, ◌⊎◌, ◌∷◌, [], ℕ, Bool, true, false, List, Option, Some, ⊤}
-use Rattle.std.specs.Prelude.{None, codes, drop, is_some, map, not, option_and_then, option_map}
+use Rattle.std.specs.Prelude.{◌&&◌, None, codes, drop, is_some, map, not, option_and_then, option_map}
 use Rattle.std.specs.Prelude.{if◌then◌else◌}
 use Rattle.std.specs.Borrow.{Bor}
 use Rattle.std.specs.List.{before_first, list_any}
@@ -11,6 +11,7 @@ use Rattle.clap.specs.Simple.{on_top}
 use Rattle.clap.specs.Words.{AddsSubcommand, App, Row, Rule, Text, app_of, fault_of, first_of, kind_of}
 use Rattle.clap.specs.Words.{new_app, new_rule, subcommand_of, with_rule, with_subcommand}
 use Rattle.clap.specs.declared.builder.command.Command.{Command}
+use Rattle.clap.specs.declared.builder.ArgAction.TheVariants.{SetTrue}
 use Rattle.clap.specs.declared.builder.value_parser.ValueParser.{ValueParser}
 use Rattle.clap.specs.declared.builder.value_parser.ValueParser.TheVariants.{Names}
 use Rattle.clap.specs.declared.error.Error.{Error}
@@ -63,6 +64,14 @@ abbrev pub source_app : Text → ValueParser → App
 source_app name parser = with_rule (with_rule (with_rule (new_app name) (format_rule parser))
     (required_rule (codes "file"))) (optional_rule (codes "disks"))
 
+-- a flag, `--NAME`, which may stand once
+abbrev pub flag_rule : Text → Rule
+flag_rule id = record (new_rule id) { long = Some id; action = Some SetTrue }
+
+-- `map FORMAT FILE [DISKS] [--status]`
+abbrev pub map_app : ValueParser → App
+map_app parser = with_rule (source_app (codes "map") parser) (flag_rule (codes "status"))
+
 -- `name VG LV [LAYER]`
 abbrev pub name_app : App
 name_app = with_rule (with_rule (with_rule (new_app (codes "name")) (required_rule (codes "vg")))
@@ -85,7 +94,7 @@ with_commands line (command ∷ commands) = with_commands (with_subcommand line 
 -- the program with its commands
 abbrev pub command_line : ValueParser → App
 command_line parser = with_commands program_app
-    (source_app (codes "map") parser ∷ source_app (codes "table") parser ∷ source_app (codes "concise") parser
+    (map_app parser ∷ source_app (codes "table") parser ∷ source_app (codes "concise") parser
     ∷ name_app ∷ split_app ∷ [])
 
 -- as a subcommand, the command is this one
@@ -119,6 +128,15 @@ words_of (task.Print form files) = print_words form (file_words files)
 words_of (task.Name vg lv layer) = name_words (record { vg = vg.now; lv = lv.now; layer = option_map (λ l. l.now) layer })
 words_of (task.SplitName name) = split_words name.now
 
+-- a job with its texts themselves
+pub record JobWords : Type 0 where
+  pub task : TaskWords
+  pub status : Bool
+
+-- the texts of a job
+abbrev pub job_words : Job → JobWords
+job_words job = record { task = words_of job.task; status = job.status }
+
 -- the files that these arguments say, of which the first two have to be there
 abbrev pub files_from : Option Text → Option Text → Option Text → Option FileWords
 files_from word file disks = option_and_then (λ format.
@@ -151,9 +169,21 @@ task_of command rows =
     else (if bytes_eq command (codes "name") then name_in rows
     else (if bytes_eq command (codes "splitname") then split_in rows else None))))
 
--- the task that clap's matches of the words give
-abbrev pub task_in : App → List Text → Option TaskWords
-task_in line words = option_and_then (λ met. task_of met.0 met.1) (subcommand_of line words)
+-- a flag that was given has this text, and one that was not has another
+abbrev pub has_flag : Text → List Row → Bool
+has_flag id rows = option_map_or (λ text. bytes_eq text (codes "true")) (first_of id rows) false
+
+-- status lines are asked for by the flag of `map`, the only command that has it
+abbrev pub asks_status : Text → List Row → Bool
+asks_status command rows = bytes_eq command (codes "map") && has_flag (codes "status") rows
+
+-- the job that the matches of a command give
+abbrev pub job_of : Text → List Row → Option JobWords
+job_of command rows = option_map (λ task. record { task = task; status = asks_status command rows }) (task_of command rows)
+
+-- the job that clap's matches of the words give
+abbrev pub job_in : App → List Text → Option JobWords
+job_in line words = option_and_then (λ met. job_of met.0 met.1) (subcommand_of line words)
 
 -- the files that a task loads, if it loads any
 abbrev pub files_of : TaskWords → Option FileWords
@@ -188,17 +218,17 @@ abbrev pub has_lone_hyphen : List Text → Bool
 has_lone_hyphen words = lone_hyphen_in (drop 1 words)
 
 -- the kinds of a refusal: clap's, and a missing argument at words that clap takes and that give no
--- task
+-- job
 abbrev pub refusal_of : App → List Text → Kinds
 refusal_of line words = or_else (fault_of line words)
-    (if is_some (task_in line words) then [] else kind.MissingRequiredArgument ∷ [])
+    (if is_some (job_in line words) then [] else kind.MissingRequiredArgument ∷ [])
 
--- clap takes the words, and its matches give this task
-pub record IsTaken (words : List Text) (asked : TaskWords) : Type 0 where
+-- clap takes the words, and its matches give this job
+pub record IsTaken (words : List Text) (asked : JobWords) : Type 0 where
   pub parser : ValueParser
   pub formats : TakesFormats parser
   pub taken : fault_of (command_line parser) words ≡ []
-  pub task : task_in (command_line parser) words ≡ Some asked
+  pub job : job_in (command_line parser) words ≡ Some asked
 
 -- clap refuses the words by this error, which is not that memory ran out; they have no lone hyphen
 pub record IsRefused (words : List Text) (error : Error) : Type 0 where
@@ -216,16 +246,15 @@ RefusesHyphen words error =
 -- the words ask for this job
 pub record IsJobOf (words : List Text) (job : Job) : Type 0 where
   pub hyphen : has_lone_hyphen words ≡ false
-  pub task : IsTaken words (words_of job.task)
+  pub taken : IsTaken words (job_words job)
   pub disks : task_has_its_disks (words_of job.task) ≡ true
-  pub status : job.status ≡ false
 
--- the words ask for a task with DISKS missing or too much, and have no lone hyphen
+-- the words ask for a job with DISKS missing or too much, and have no lone hyphen
 pub record LacksItsDisks (words : List Text) : Type 0 where
   pub hyphen : has_lone_hyphen words ≡ false
-  pub asked : TaskWords
-  pub task : IsTaken words asked
-  pub disks : task_has_its_disks asked ≡ false
+  pub asked : JobWords
+  pub taken : IsTaken words asked
+  pub disks : task_has_its_disks asked.task ≡ false
 
 -- the words have this fault: they are text, and memory can run out at any words
 abbrev pub IsFaultOf : List Text → WordsFault → Type 0

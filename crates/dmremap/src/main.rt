@@ -4,7 +4,7 @@
 //! do the work, and `main` joins them to the real files and streams and does nothing else.
 #![tactic(auto)]
 
-ghost use Rattle.std.specs.Prelude.{◌≡◌, false, is_some, true};
+ghost use Rattle.std.specs.Prelude.{◌≡◌, is_some, true};
 ghost use Rattle.dmremap.specs.OtherWhole.{is_other};
 ghost use Rattle.dmremap.specs.Words.{file_words, has_its_disks, task_has_its_disks, words_of};
 
@@ -56,7 +56,6 @@ fn arguments_of(rt: &HostRuntime) -> Result<Vec<String>, WordsFault> {
 
 /// Maps the requests of the standard input through the tables of files.
 fn map_files(rt: &HostRuntime, files: Files<'_>, status: bool) -> u8
-    requires unflagged { status ≡ false }
     requires disks { has_its_disks (file_words files) ≡ true }
 {
     let mut disks = match files.disks {

@@ -4,7 +4,7 @@
 //! `map_whole` is the promise that the program makes. `main` hands in the real files and streams,
 //! tests hand in memory.
 
-ghost use Rattle.std.specs.Prelude.{◌≡◌, ◌≢◌, ◌+◌, ◌<◌, ◌≤◌, ◌^◌, ◌++◌, ◌↔◌, [], List, ℕ, false, is_some};
+ghost use Rattle.std.specs.Prelude.{◌≡◌, ◌≢◌, ◌+◌, ◌<◌, ◌≤◌, ◌^◌, ◌++◌, ◌↔◌, [], Bool, List, ℕ, is_some};
 ghost use Rattle.dm_table.specs.DeviceIo.{Delivery, delivery, since};
 ghost use Rattle.dm_table.specs.declared.part_input.TheConstants.{MOST_PART_BYTES};
 ghost use Rattle.dm_table.specs.declared.request.Op.TheVariants as Op;
@@ -48,7 +48,8 @@ pub(crate) enum Exit {
 }
 
 /// Maps requests through the devices of a source: reads the source and the disk list whole, checks
-/// them, and writes for each request the pieces that it touches. It returns the exit status.
+/// them, and writes for each request the pieces that it touches. With `status`, a line for each
+/// snapshot follows after a clean end of the requests. It returns the exit status.
 ///
 /// | Status | When |
 /// |---|---|
@@ -74,11 +75,10 @@ pub fn map_whole<S: Input, D: Input, Q: Input, W: Output, M: Output>(
     output: &mut W,
     messages: &mut M,
 ) -> u8
-    requires unflagged { status ≡ false }
     requires disks { is_some disks.old ≡ has_disk_list format }
 
     // What the deliveries give is one run.
-    ensures one { (f : Format) (s d q : Delivery) (a b : Whole) → GiveWhole f s d q a → GiveWhole f s d q b → a ≡ b }
+    ensures one { (f : Format) (flag : Bool) (s d q : Delivery) (a b : Whole) → GiveWhole f flag s d q a → GiveWhole f flag s d q b → a ≡ b }
     // The pieces of an answer are the fewest that its units can be made of.
     ensures fewest { (units : List BlockUnit) → AreFewest units (fewest units) }
 
@@ -86,7 +86,7 @@ pub fn map_whole<S: Input, D: Input, Q: Input, W: Output, M: Output>(
     ensures levels { (description : Description) → IsSound description → IsFreeOfLevels description Op.Read × IsFreeOfLevels description Op.Write }
 
     // Save where the output failed or memory ran out, all is what the deliveries give.
-    ensures whole { result ≢ 5 → result ≢ 6 → (message : List ℕ) × GiveWhole format
+    ensures whole { result ≢ 5 → result ≢ 6 → (message : List ℕ) × GiveWhole format status
         (delivery S.handed S.faults S.ends source.old source.new)
         (delivery_if D.handed D.faults D.ends disks.old disks.new)
         (delivery Q.handed Q.faults Q.ends requests.old requests.new)
@@ -100,7 +100,7 @@ pub fn map_whole<S: Input, D: Input, Q: Input, W: Output, M: Output>(
     ensures beginning { result ≡ 5 → (description : Description) × PartsGive format
         (delivery S.handed S.faults S.ends source.old source.new)
         (delivery_if D.handed D.faults D.ends disks.old disks.new) (SoundAs description)
-        × FailedOutput (outcome_of description (delivery Q.handed Q.faults Q.ends requests.old requests.new)).output
+        × FailedOutput (outcome_of description status (delivery Q.handed Q.faults Q.ends requests.old requests.new)).output
         (since (W.written output.old) (W.written output.new)) (W.flushes output.old) (W.flushes output.new) }
     ensures write_message { result ≡ 5 → IsTold write_message
         (since (M.written messages.old) (M.written messages.new)) (M.faults messages.old) (M.faults messages.new) }
@@ -162,9 +162,8 @@ fn load_and_run<S: Input, D: Input, Q: Input, W: Output, M: Output>(
     output: &mut W,
     messages: &mut M,
 ) -> Exit
-    requires unflagged { status ≡ false }
     requires disks { is_some disks.old ≡ has_disk_list format }
-    ensures exit { IsExitOf format
+    ensures exit { IsExitOf format status
         (delivery S.handed S.faults S.ends source.old source.new)
         (delivery_if D.handed D.faults D.ends disks.old disks.new)
         (delivery Q.handed Q.faults Q.ends requests.old requests.new)
@@ -190,8 +189,7 @@ fn map_requests<Q: Input, W: Output, M: Output>(
     output: &mut W,
     messages: &mut M,
 ) -> Exit
-    requires unflagged { status ≡ false }
-    ensures exit { IsRun stack.now (delivery Q.handed Q.faults Q.ends requests.old requests.new)
+    ensures exit { IsRun stack.now status (delivery Q.handed Q.faults Q.ends requests.old requests.new)
         (since (W.written output.old) (W.written output.new)) (W.flushes output.old) (W.flushes output.new) result }
     ensures requests { RequestsRead Q.handed Q.faults Q.ends result requests.old requests.new }
     ensures output { OutputWritten W.written W.waiting W.faults W.flushes result output.old output.new }

@@ -3,14 +3,14 @@
 //! file is opened. A new command is a function beside `split_command`, the definition of its
 //! arguments and a variant of `Task`; one that loads files is a line in `program` and in
 //! `Task::of_matches`. A new format is a variant of `Format` and a word of `FORMATS`.
-ghost use Rattle.std.specs.Prelude.{◌≡◌, IfErr, IfOk, Some, false, option_and_then};
+ghost use Rattle.std.specs.Prelude.{◌≡◌, IfErr, IfOk, Some, codes, false, option_and_then};
 ghost use Rattle.std.specs.Prelude.{option_map};
 ghost use Rattle.clap.specs.Walk.{texts};
 ghost use Rattle.clap.specs.Words.{App, app_of, found_of, kind_of, rows_of, rule_of};
 ghost use Rattle.clap.specs.Words.{subcommand_rows_of, with_subcommand};
 ghost use Rattle.dmremap.specs.Words.{IsCommand, TakesFormats, command_line, format_named};
 ghost use Rattle.dmremap.specs.Words.{IsFaultOf, IsJobOf, IsNotText, fault_from, file_words, files_in, files_of, format_rule, has_disk_list};
-ghost use Rattle.dmremap.specs.Words.{has_its_disks, has_lone_hyphen, name_app, name_in, optional_rule};
+ghost use Rattle.dmremap.specs.Words.{asks_status, flag_rule, has_flag, has_its_disks, has_lone_hyphen, job_of, job_words, map_app, name_app, name_in, optional_rule};
 ghost use Rattle.dmremap.specs.Words.{required_rule, source_app, split_app, split_in, status_of, task_has_its_disks, task_of, words_of};
 ghost use Rattle.clap.specs.declared.error.kind.ErrorKind.TheVariants as kind;
 ghost use Rattle.dmremap.specs.declared.words.WordsFault.TheVariants as fault;
@@ -20,7 +20,7 @@ mod tests;
 
 use clap::builder::ValueParser;
 use clap::error::ErrorKind;
-use clap::{Arg, ArgMatches, Command};
+use clap::{Arg, ArgAction, ArgMatches, Command};
 use std::alloc::{AllocError, Global};
 use std::io;
 use thiserror::Error;
@@ -74,7 +74,7 @@ pub enum Task<'a> {
 #[derive(Debug, Drop)]
 pub struct Job<'a> {
     pub task: Task<'a>,
-    /// Whether status lines follow the output; no word asks for them yet.
+    /// Whether the status lines of snapshots follow the output; `map` alone is asked for them.
     pub status: bool,
 }
 
@@ -135,6 +135,9 @@ Lines
             N copy DISK START LEN DISK2 START2
                                   sectors of an origin that go to a store first
             N fill LEN DISK START zeros of an origin that go to a store first
+  --status  NAME: 0 LEN snapshot ALLOCATED/TOTAL METADATA
+                                  what is used of a store, at the end of the requests
+            NAME: 0 LEN snapshot Invalid
 DEV, ORIGIN and STORE are a disk, or /dev/mapper/NAME for a device of FILE. A request has 1 to 1048576 sectors.
 
 Exit status
@@ -147,7 +150,7 @@ Exit status
   6  out of memory
 
 Example
-  dmremap map table stack.table disks.txt < requests.txt";
+  dmremap map table stack.table disks.txt --status < requests.txt";
 
 const TABLE_ABOUT: &str =
     "Checks the tables of FILE, and prints them as lines `NAME: START LEN TYPE ARGS`";
@@ -220,6 +223,8 @@ const FILE_HELP: &str = "The file of the devices and their tables, or of the met
 const DISKS_HELP: &str =
     "The file of the disks and their lengths, for the formats concise and table";
 
+const STATUS_HELP: &str = "After all pieces, print how much of each snapshot's store is used";
+
 const VG_HELP: &str = "The volume group";
 
 const LV_HELP: &str = "The logical volume";
@@ -282,13 +287,11 @@ impl<'a> Files<'a> {
 }
 
 impl<'a> Task<'a> {
-    // The task of the command that clap found. There is one wherever clap takes the words, since each
+    // The task of a command with its arguments. There is one wherever clap takes the words, since each
     // command's words are required, but no clause of clap's says so.
-    fn of_matches(matches: &ArgMatches<'a>) -> Option<Task<'a>>
-        ensures { option_map words_of result
-            ≡ option_and_then (λ met. task_of met.0 met.1) (subcommand_rows_of matches.now) }
+    fn of_command(command: &str, given: &ArgMatches<'a>) -> Option<Task<'a>>
+        ensures { option_map words_of result ≡ task_of command.now (rows_of (found_of given.now)) }
     {
-        let (command, given) = matches.subcommand()?;
         match command {
             "map" => Some(Task::Map(Files::of_matches(given)?)),
             "table" => Some(Task::Print(Form::Table, Files::of_matches(given)?)),
@@ -336,6 +339,45 @@ impl<'a> Task<'a> {
             Task::Map(files) | Task::Print(_, files) => files.has_its_disks(),
             Task::Name { .. } | Task::SplitName(_) => true,
         }
+    }
+}
+
+impl<'a> Job<'a> {
+    // The job of the command that clap found.
+    fn of_matches(matches: &ArgMatches<'a>) -> Option<Job<'a>>
+        ensures { option_map job_words result
+            ≡ option_and_then (λ met. job_of met.0 met.1) (subcommand_rows_of matches.now) }
+    {
+        let (command, given) = matches.subcommand()?;
+        Job::of_command(command, given)
+    }
+
+    // The job of a command with its arguments.
+    fn of_command(command: &str, given: &ArgMatches<'a>) -> Option<Job<'a>>
+        ensures { option_map job_words result ≡ job_of command.now (rows_of (found_of given.now)) }
+    {
+        let task = Task::of_command(command, given)?;
+        Some(Job {
+            task,
+            status: asks_status(command, given),
+        })
+    }
+}
+
+// Whether a command with its arguments asks for status lines: `map` alone has the flag.
+fn asks_status(command: &str, given: &ArgMatches<'_>) -> bool
+    ensures { result ≡ asks_status command.now (rows_of (found_of given.now)) }
+{
+    command == "map" && has_flag(given, "status")
+}
+
+// Whether a flag was given.
+fn has_flag(given: &ArgMatches<'_>, id: &str) -> bool
+    ensures { result ≡ has_flag id.now (rows_of (found_of given.now)) }
+{
+    match given.get_str(id) {
+        Some(text) => text == "true",
+        None => false,
     }
 }
 
@@ -413,6 +455,32 @@ fn format_argument<'a>(alloc: Global, parser: ValueParser<'a>) -> Arg<'a>
     required(alloc, "format", "FORMAT", FORMAT_HELP).value_parser(parser)
 }
 
+// A flag, which may stand once.
+fn flag<'a>(alloc: Global, id: &'a str, help: &'a str) -> Arg<'a>
+    ensures rule { rule_of result ≡ flag_rule id.entry.now }
+    ensures local { result.global ≡ false }
+{
+    Arg::new(alloc, id)
+        .long(id)
+        .action(ArgAction::SetTrue)
+        .help(help)
+}
+
+// `map FORMAT FILE [DISKS] [--status]`.
+fn map_command<'a>(alloc: Global, parser: ValueParser<'a>) -> Result<Command<'a>, AllocError>
+    ensures { IfOk result (IsCommand (map_app parser.entry)) }
+{
+    Ok(
+        Command::new(alloc, "map")
+            .about(MAP_ABOUT)
+            .after_help(MAP_NOTES)
+            .arg(format_argument(alloc, parser))?
+            .arg(required(alloc, "file", "FILE", FILE_HELP))?
+            .arg(optional(alloc, "disks", "DISKS", DISKS_HELP))?
+            .arg(flag(alloc, "status", STATUS_HELP))?,
+    )
+}
+
 // A command that loads files: `NAME FORMAT FILE [DISKS]`.
 fn source_command<'a>(
     alloc: Global,
@@ -482,10 +550,7 @@ fn program<'a>(alloc: Global) -> Result<Command<'a>, AllocError>
         .after_help(NOTES)
         .subcommand_required(true)
         .arg_required_else_help(true);
-    let line = with_command(
-        line,
-        source_command(alloc, "map", MAP_ABOUT, MAP_NOTES, parser),
-    )?;
+    let line = with_command(line, map_command(alloc, parser))?;
     let line = with_command(
         line,
         source_command(alloc, "table", TABLE_ABOUT, TABLE_NOTES, parser),
@@ -547,18 +612,15 @@ pub fn read_words<'a>(alloc: Global, words: &'a [&'a str]) -> Result<Job<'a>, Wo
         return Err(WordsFault::Words(error));
     }
     let matches = program.try_get_matches_from_mut(words)?;
-    let Some(task) = Task::of_matches(&matches) else {
+    let Some(job) = Job::of_matches(&matches) else {
         let error = program.error(
             ErrorKind::MissingRequiredArgument,
             "the command lacks a word",
         )?;
         return Err(WordsFault::Words(error));
     };
-    if !task.has_its_disks() {
+    if !job.task.has_its_disks() {
         return Err(WordsFault::Disks);
     }
-    Ok(Job {
-        task,
-        status: false,
-    })
+    Ok(job)
 }

@@ -25,6 +25,7 @@ mod refused_loads;
 mod rows;
 mod snapshot_loads;
 mod snapshots;
+mod status_lines;
 
 /// More than the output of any case has. A stream moves so much a call where a case says nothing else.
 const PLENTY: usize = 4096;
@@ -36,6 +37,8 @@ struct Case<'a> {
     source: &'a str,
     disks: &'a str,
     requests: &'a [u8],
+    /// Whether status lines are asked for.
+    flag: bool,
     output: &'a [u8],
     message: &'a [u8],
     status: u8,
@@ -72,6 +75,7 @@ const VOLUME: Case<'static> = Case {
     source: "a: 0 100 linear sda 50\n",
     disks: "sda 150\n",
     requests: b"R a 0 100\n",
+    flag: false,
     output: b"1 R sda 50 100\n",
     message: b"",
     status: 0,
@@ -129,7 +133,7 @@ fn check(rt: &impl Abort, alloc: Global, case: &Case<'_>) {
     let status = map_whole(
         alloc,
         Format::Table,
-        false,
+        case.flag,
         &mut source,
         &mut disks,
         &mut requests,

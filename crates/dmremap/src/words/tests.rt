@@ -71,6 +71,24 @@ fn tasks(rt: HostRuntime) {
     }
 }
 
+/// Words that ask for status lines too: before, among and after those of the files.
+static STATUS: [&[&str]; 4] = [
+    &["dmremap", "map", "table", "a.table", "a.disks", "--status"],
+    &["dmremap", "map", "--status", "table", "a.table", "a.disks"],
+    &[
+        "dmremap", "map", "table", "--status", "a.table", "--", "a.disks",
+    ],
+    &["dmremap", "map", "lvm", "--status", "vg0.backup"],
+];
+
+#[test]
+fn status_is_asked_for(rt: HostRuntime) {
+    for &words in &STATUS {
+        let job = read_words(rt.alloc(), words).expect(&rt, "a job");
+        assert!(&rt; job.status && matches!(job.task, Task::Map(_)));
+    }
+}
+
 #[test]
 fn texts_of_faults(rt: HostRuntime) {
     let alloc = rt.alloc();
@@ -106,7 +124,7 @@ fn disks_go_with_tables_alone(rt: HostRuntime) {
 }
 
 /// Words that are refused, and what is told of them.
-static REFUSED: [(&[&str], &str); 18] = [
+static REFUSED: [(&[&str], &str); 21] = [
     (&["dmremap", "name", "vg0"], "<LV>"),
     (&["dmremap", "name", "a", "-b"], "unexpected argument '-b'"),
     (
@@ -137,7 +155,19 @@ static REFUSED: [(&[&str], &str); 18] = [
         "unrecognized subcommand 'check'",
     ),
     (
-        &["dmremap", "map", "table", "a", "b", "--status"],
+        &["dmremap", "map", "table", "a", "b", "--status", "--status"],
+        "'--status' cannot be used multiple times",
+    ),
+    (
+        &["dmremap", "map", "lvm", "a", "--", "b", "--status"],
+        "unexpected argument '--status'",
+    ),
+    (
+        &["dmremap", "map", "table", "a", "b", "--status=yes"],
+        "unexpected value 'yes' for '--status'",
+    ),
+    (
+        &["dmremap", "splitname", "a-b", "--status"],
         "unexpected argument '--status'",
     ),
     (
@@ -194,13 +224,13 @@ static HELP: [(&[&str], &str, &str); 9] = [
     ),
     (
         &["dmremap", "help", "map"],
-        "map <FORMAT> <FILE> [DISKS]",
+        "map [OPTIONS] <FORMAT> <FILE> [DISKS]",
         "FORMAT is one of\n  lvm      the",
     ),
     (
         &["dmremap", "map", "--help"],
-        "map <FORMAT> <FILE> [DISKS]",
-        "dmremap map table",
+        "map [OPTIONS] <FORMAT> <FILE> [DISKS]",
+        "      --status",
     ),
     (
         &["dmremap", "table", "-h"],

@@ -12,9 +12,9 @@ use Rattle.dm_map.specs.Snapshots.{kept_at}
 use Rattle.dm_map.specs.Steps.{keep}
 use Rattle.dm_map.specs.Stretch.{ground_unit, IsFirst}
 use Rattle.dm_map.specs.Units.{BlockUnit, units_in, units_of}
-use Rattle.dm_map.specs.Walk.{Walking, range_step}
+use Rattle.dm_map.specs.Walk.{Scene, Walking, range_step, scene}
 use Rattle.dm_map.proofs.ChunkCopies.{copy_part}
-use Rattle.dm_map.proofs.Rows.{walked_cut}
+use Rattle.dm_map.proofs.Rows.{added_then, none_added, walked_cut}
 use Rattle.dm_map.proofs.There.{lower_small}
 use Rattle.dm_map.proofs.UnitRows.{left_row, took_row}
 use Rattle.dm_map.proofs.ready.copy_chunk.Goals as goal
@@ -29,12 +29,12 @@ next_place : (place chunk : ℕ) → (place + 1) * chunk ≡ place * chunk + chu
 next_place place chunk = omega arith
 
 -- what a piece copies is the next part of the row
-copy_next : (before now then : Walking) (snapshot : FoundSnapshot) (number sector len left from to : ℕ) (source : Stretch) (first : HomeStretch) → 0 < snapshot.chunk → sector % snapshot.chunk + len ≤ snapshot.chunk → left ≤ len → now ≡ before
+copy_next : (before now then : Walking) (snapshot : FoundSnapshot) (number sector len left from to : ℕ) (source : Stretch) (first : HomeStretch) → 0 < snapshot.chunk → sector % snapshot.chunk + len ≤ snapshot.chunk → left ≤ len → scene now ≡ scene before
     → from ≡ sector + (len - left) → to ≡ kept_at snapshot number sector + (len - left) → IsFirst now then (range_step now.stack Read MOST_DEPTH snapshot.origin now.state from) left source → IsFirstHomes then.stack snapshot.store to source.len first
     → row (λ u. copy_to (read before.stack before.state snapshot.origin u) (home_kept before.stack snapshot number u)) (sector + (len - left)) first.len ≡ units_in (copy_to (ground_unit source.ground) (record { disk = first.disk; sector = first.start })) first.len
 copy_next before now then snapshot number sector len left from to source first some part within same from_is to_is stretch homes =
     copy_part before now snapshot number sector (len - left) from to source.len source.ground first some (omega (arith, part, within, homes.most, stretch.most)) same from_is to_is stretch.read homes.most
-    (λ i more. ap (λ (v : Walking). home v.stack snapshot.store (to + i)) (sym (stretch.same ∙ same)) ∙ homes.homes i more)
+    (λ i more. ap (λ (v : Scene). home v.stack snapshot.store (to + i)) (sym (stretch.same ∙ same)) ∙ homes.homes i more)
 
 pub loop-left-init : goal.loop-left-init
 loop-left-init g c =
@@ -46,6 +46,7 @@ loop-left-init g c =
       from = refl;
       to = ap (λ (s : ℕ). s + a.len) c.kept_at-to.ensures;
       same = refl;
+      looked = none_added a.walker.now.looked;
       stack = refl;
       room = omega arith;
       faults = refl;
@@ -61,7 +62,8 @@ returns-in_err-piece g c =
     walked_cut g.S.Sink.took g.S.Sink.left g.S.Sink.stack g.S.Sink.room g.S.Sink.faults c.from_residual.result a.sink.now c.piece.new.self w h.new.walker (keep (copies w.stack w.state a.snapshot.now a.number a.sector a.len) w.state) 0 c.from_residual.ensures.0
     (left_row g.S.Sink.took g.S.Sink.left g.met.S.Sink.took_then_left a.sink.now l.sink c.piece.new.self copy a.sector done n a.len (units_of c.copy_piece.result)
     (omega (arith, h.ensures.is.most, s.ensures.most, l.invariant.within)) (next ∙ sym c.copy_piece.ensures.units) l.invariant.taken c.in_err-piece.ensures.left)
-    (omega (arith, c.in_err-piece.ensures.faults, l.invariant.faults)) (ap (λ (v : Walking). v.stack) (h.ensures.same ∙ s.ensures.same ∙ l.invariant.same))
+    (omega (arith, c.in_err-piece.ensures.faults, l.invariant.faults)) (ap (λ (v : Scene). v.stack) (h.ensures.same ∙ s.ensures.same ∙ l.invariant.same))
+    (added_then w.looked l.walker.looked h.new.walker.looked l.invariant.looked (added_then l.walker.looked s.new.walker.looked h.new.walker.looked s.ensures.looked h.ensures.looked))
 
 pub overflow_add-from : goal.overflow_add-from
 overflow_add-from g c =
@@ -91,6 +93,7 @@ loop-left-preserved g c =
       from = omega (arith, l.invariant.from, h.ensures.is.most, s.ensures.most);
       to = omega (arith, l.invariant.to, h.ensures.is.most, s.ensures.most);
       same = h.ensures.same ∙ s.ensures.same ∙ l.invariant.same;
+      looked = added_then w.looked l.walker.looked h.new.walker.looked l.invariant.looked (added_then l.walker.looked s.new.walker.looked h.new.walker.looked s.ensures.looked h.ensures.looked);
       stack = c.in_ok-piece.ensures.stack ∙ l.invariant.stack;
       room = omega (arith, c.in_ok-piece.ensures.room, l.invariant.room, c.copy_piece.ensures.diskless);
       faults = omega (arith, c.in_ok-piece.ensures.faults, l.invariant.faults);

@@ -4,6 +4,7 @@ use Rattle.dm_map.specs.declared.stretch.Ground.TheVariants as grounds
 use Rattle.dm_map.specs.SnapshotWrites.{any_error, is_error, read, row}
 use Rattle.dm_map.specs.Stretch.{ground_unit}
 use Rattle.dm_map.proofs.ChunkCopies.{next_reads}
+use Rattle.dm_map.proofs.Rows.{added_then}
 use Rattle.dm_map.proofs.There.{lower_small}
 use Rattle.dm_map.proofs.UnitRows.{bad_on, good_on}
 use Rattle.dm_map.proofs.ready.reads_all.Goals as goal
@@ -37,6 +38,7 @@ loop-left-preserved g c =
       within = omega (arith, l.invariant.within);
       place = omega (arith, l.invariant.place, s.ensures.most);
       same = s.ensures.same ∙ l.invariant.same;
+      looked = added_then w.looked l.walker.looked s.new.walker.looked l.invariant.looked s.ensures.looked;
     }
 
 pub returns-clause-is : goal.returns-clause-is

@@ -1,5 +1,7 @@
 use Rattle.std.proofs.Common.{◌≡◌, ◌+◌, ◌-◌, ◌≤◌, false}
+use Rattle.dm_map.specs.Counts.{AreAdded}
 use Rattle.dm_map.specs.SnapshotWrites.{any_error, read, row}
+use Rattle.dm_map.specs.Walk.{scene}
 use Rattle.dm_map.proofs.ready.reads_all.Given as goal
 
 abbrev pub invariant-loop-left : goal.invariant-loop-left
@@ -7,7 +9,8 @@ invariant-loop-left g l = record {
   good : any_error (row (read l.fn.walker.stack l.fn.walker.state l.lower) l.sector (l.len - l.left)) ≡ false;
   within : l.left ≤ l.len;
   place : l.at + l.left ≡ l.sector + l.len;
-  same : l.walker ≡ l.fn.walker;
+  same : scene l.walker ≡ scene l.fn.walker;
+  looked : AreAdded l.fn.walker.looked l.walker.looked;
 }
 
 abbrev pub decreases-loop-left : goal.decreases-loop-left

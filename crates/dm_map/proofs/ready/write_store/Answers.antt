@@ -3,9 +3,9 @@ use Rattle.dm_map.specs.Homes.{home}
 use Rattle.dm_map.specs.SnapshotWrites.{store_writes, write_to}
 use Rattle.dm_map.specs.Steps.{keep}
 use Rattle.dm_map.specs.Units.{BlockUnit, WriteOf, units_in}
-use Rattle.dm_map.specs.Walk.{Walking}
+use Rattle.dm_map.specs.Walk.{Scene}
 use Rattle.dm_map.proofs.ChunkCopies.{next_writes}
-use Rattle.dm_map.proofs.Rows.{walked_cut}
+use Rattle.dm_map.proofs.Rows.{added_then, walked_cut}
 use Rattle.dm_map.proofs.There.{lower_small}
 use Rattle.dm_map.proofs.UnitRows.{left_row, took_row}
 use Rattle.dm_map.proofs.ready.write_store.Goals as goal
@@ -19,7 +19,8 @@ returns-in_err-piece g c =
     walked_cut g.S.Sink.took g.S.Sink.left g.S.Sink.stack g.S.Sink.room g.S.Sink.faults c.from_residual.result a.sink.now c.piece.new.self w h.new.walker (keep (store_writes w.stack a.store.now a.sector a.len) w.state) 0 c.from_residual.ensures.0
     (left_row g.S.Sink.took g.S.Sink.left g.met.S.Sink.took_then_left a.sink.now l.sink c.piece.new.self writes a.sector done n a.len (units_in (WriteOf h.result.disk h.result.start) n)
     (omega (arith, h.ensures.is.most, l.invariant.within)) next l.invariant.taken c.in_err-piece.ensures.left)
-    (omega (arith, c.in_err-piece.ensures.faults, l.invariant.faults)) (ap (λ (v : Walking). v.stack) (h.ensures.same ∙ l.invariant.same))
+    (omega (arith, c.in_err-piece.ensures.faults, l.invariant.faults)) (ap (λ (v : Scene). v.stack) (h.ensures.same ∙ l.invariant.same))
+    (added_then w.looked l.walker.looked h.new.walker.looked l.invariant.looked h.ensures.looked)
 
 pub overflow_add-at : goal.overflow_add-at
 overflow_add-at g c =
@@ -39,6 +40,7 @@ loop-left-preserved g c =
       within = omega (arith, l.invariant.within);
       place = omega (arith, l.invariant.place, h.ensures.is.most);
       same = h.ensures.same ∙ l.invariant.same;
+      looked = added_then w.looked l.walker.looked h.new.walker.looked l.invariant.looked h.ensures.looked;
       stack = c.in_ok-piece.ensures.stack ∙ l.invariant.stack;
       room = omega (arith, c.in_ok-piece.ensures.room, l.invariant.room);
       faults = omega (arith, c.in_ok-piece.ensures.faults, l.invariant.faults);

@@ -8,10 +8,11 @@ use Rattle.dm_map.specs.declared.stripe.ChunkPlace.{ChunkPlace}
 use Rattle.dm_map.specs.Steps.{Step, keep}
 use Rattle.dm_map.specs.Stretch.{ground_unit, IsThere}
 use Rattle.dm_map.specs.Units.{units_in}
-use Rattle.dm_map.specs.Walk.{Walking, line_step, range_step, stripes_step, AreInStripes, IsPlace}
+use Rattle.dm_map.specs.Walk.{Scene, line_step, range_step, scene, stripes_step, AreInStripes, IsPlace}
 use Rattle.dm_map.proofs.Ranges.{range_deepest, range_disk, range_line, line_errors, line_linear, line_striped, line_zeros, stripes_chunk}
 use Rattle.dm_map.proofs.Chunks.{chunk_read, in_one_chunk, in_snapshot, lost_read}
 use Rattle.dm_map.proofs.Stripes.{column_inside}
+use Rattle.dm_map.proofs.Rows.{added_then, none_added}
 use Rattle.dm_map.proofs.There.{device_there, disk_there}
 use Rattle.dm_map.proofs.stretch.+stretch.Goals as goal
 
@@ -27,6 +28,7 @@ first_stretch-returns-in-Disk g t c =
       read = ap (λ (lower : Lower). range_step w.stack Read a.levels lower w.state a.sector a.len) c.in-Disk.is ∙ range_disk w.stack Read a.levels c.in-Disk.disk a.sector a.len w.state;
       lies = record { there = disk_there w.stack c.in-Disk.disk a.sector (omega (arith, inside, c.requires.some)); inside = inside };
       same = refl;
+      looked = none_added w.looked;
     }
 
 pub first_stretch-returns-then-levels-eq0 : goal.first_stretch-returns-then-levels-eq0
@@ -38,6 +40,7 @@ first_stretch-returns-then-levels-eq0 g t c =
       read = ap (λ (lower : Lower). range_step w.stack Read a.levels lower w.state a.sector a.len) c.in-Device.is ∙ range_deepest w.stack Read a.levels c.in-Device.device a.sector a.len w.state c.if-levels-eq0.true;
       lies = tt;
       same = refl;
+      looked = none_added w.looked;
     }
 
 pub first_stretch-look-line-requires-clause-device : goal.first_stretch-look-line-requires-clause-device
@@ -51,7 +54,7 @@ first_stretch-returns-else-levels-eq0 g t c =
     let a = c.args in let w = a.walker.now in let line = c.look-line.result.now in let s = c.line_stretch.ensures in let n = c.line_stretch.result.len in let holds = c.look-line.ensures.holds in
     let each : (i : ℕ) → i < n → found_at w.stack c.in-Device.device (a.sector + i) ≡ Some line = λ i within.
     c.look-line.ensures.all (a.sector + i) (omega (arith, holds.from)) (omega (arith, holds.from, holds.before, c.part_in-part.ensures, s.most, within)) in
-    let looked : (look : Walking → Step) → look c.look-line.new.self ≡ look w = λ look. ap look c.look-line.ensures.same in
+    let looked : (look : Scene → Step) → look (scene c.look-line.new.self) ≡ look (scene w) = λ look. ap look c.look-line.ensures.same in
     record {
       some = s.some;
       most = omega (arith, s.most, c.part_in-part.ensures);
@@ -59,8 +62,9 @@ first_stretch-returns-else-levels-eq0 g t c =
           ∙ range_line w.stack Read a.levels (a.levels - 1) c.in-Device.device a.sector n w.state line (omega (arith, c.if-levels-eq0.false)) refl holds.from each
           ∙ sym (looked (λ v. line_step v.stack Read (a.levels - 1) c.in-Device.device line.target v.state (a.sector - line.start) n)) ∙ s.read
           ∙ looked (λ v. keep (units_in (ground_unit c.line_stretch.result.ground) n) v.state);
-      lies = subst (λ (v : Walking). IsThere v.stack c.line_stretch.result.ground n) c.look-line.ensures.same s.lies;
+      lies = subst (λ (v : Scene). IsThere v.stack c.line_stretch.result.ground n) c.look-line.ensures.same s.lies;
       same = s.same ∙ c.look-line.ensures.same;
+      looked = added_then w.looked c.look-line.new.self.looked c.line_stretch.new.walker.looked c.look-line.ensures.looked s.looked;
     }
 
 -- A line
@@ -75,6 +79,7 @@ line_stretch-returns-in-Linear g t c =
           ∙ ap (λ (p : ℕ). range_step w.stack Read a.levels c.in-Linear.to w.state p n) (sym c.sector_at-sector.ensures) ∙ s.read;
       lies = s.lies;
       same = s.same;
+      looked = s.looked;
     }
 
 pub line_stretch-returns-in-Striped : goal.line_stretch-returns-in-Striped
@@ -87,6 +92,7 @@ line_stretch-returns-in-Striped g t c =
           ∙ ap (λ columns. stripes_step w.stack Read a.levels c.in-Striped.chunk columns w.state a.distance n) (sym c.as_slice-columns.ensures) ∙ s.read;
       lies = s.lies;
       same = s.same;
+      looked = s.looked;
     }
 
 pub line_stretch-returns-in-Zero : goal.line_stretch-returns-in-Zero
@@ -98,6 +104,7 @@ line_stretch-returns-in-Zero g t c =
       read = ap (λ target. line_step w.stack Read a.levels device target w.state a.distance a.len) c.in-Zero.is ∙ line_zeros w.stack Read a.levels device a.distance a.len w.state;
       lies = tt;
       same = refl;
+      looked = none_added w.looked;
     }
 
 pub line_stretch-returns-in-Error : goal.line_stretch-returns-in-Error
@@ -109,6 +116,7 @@ line_stretch-returns-in-Error g t c =
       read = ap (λ target. line_step w.stack Read a.levels device target w.state a.distance a.len) c.in-Error.is ∙ line_errors w.stack Read a.levels device a.distance a.len w.state;
       lies = tt;
       same = refl;
+      looked = none_added w.looked;
     }
 
 -- Stripes
@@ -145,6 +153,7 @@ stripes_stretch-returns g t c =
           ∙ ap (λ (p : ℕ). range_step w.stack Read a.levels column.to w.state p n) (sym c.sector_at-sector.ensures) ∙ s.read;
       lies = s.lies;
       same = s.same;
+      looked = s.looked;
     }
 
 -- A snapshot
@@ -164,6 +173,7 @@ line_stretch-returns-in-Snapshot g t c =
       read = ap (λ target. line_step w.stack Read a.levels device target w.state a.distance n) c.in-Snapshot.is ∙ s.read;
       lies = s.lies;
       same = s.same;
+      looked = s.looked;
     }
 
 pub snapshot_stretch-read_place-requires : goal.snapshot_stretch-read_place-requires
@@ -189,6 +199,7 @@ snapshot_stretch-returns-in-Some g t c =
       read = chunk_read w.stack a.levels a.device a.sector n c.part_of_chunk-part.result a.snapshot.now w.state c.in-Some.place c.in-Some.ensures.place s.most ∙ s.read;
       lies = s.lies;
       same = s.same;
+      looked = s.looked;
     }
 
 pub snapshot_stretch-returns-in-None : goal.snapshot_stretch-returns-in-None
@@ -200,4 +211,5 @@ snapshot_stretch-returns-in-None g t c =
       read = lost_read w.stack a.levels a.device a.sector c.part_of_chunk-part.result a.snapshot.now w.state c.in-None.ensures.lost;
       lies = tt;
       same = refl;
+      looked = none_added w.looked;
     }

@@ -17,6 +17,7 @@ loop-next-init g c =
       room = first_rooms g.T.Taken.places stack c.in_ok-tables.tables.items count made.places;
       state = made.state ∙ ap (λ (n : ℕ). replicate n none_taken) c.device_count.ensures;
       same = refl;
+      looked = omega arith;
     }
 
 pub places_of-requires : goal.places_of-requires
@@ -50,4 +51,5 @@ loop-next-preserved g c =
       room = next_rooms g.T.Taken.places stack l.tables.items l.next d c.index.result table within is c.index.ensures room l.invariant.room;
       state = state_new g.T.Taken.chunks g.T.Taken.valid l.tables.items c.index.result (length stack.devices) table (omega (arith, low, c.index.ensures)) l.invariant.state made.chunks made.valid;
       same = c.places_of.ensures.stack ∙ l.invariant.same;
+      looked = omega (arith, c.places_of.ensures.one, l.invariant.looked);
     }

@@ -1,4 +1,4 @@
-use Rattle.std.proofs.Common.{◌≡◌, ℕ, Some, false, drop, length, nat_eq}
+use Rattle.std.proofs.Common.{◌≡◌, ℕ, ◌+◌, ◌≤◌, Some, false, drop, length, nat_eq}
 use Rattle.std.specs.List.{list_any}
 use Rattle.std.specs.Prelude.{nat_lt, slice_get}
 use Rattle.dm_stack.specs.Loaded.{snapshots}
@@ -12,4 +12,5 @@ invariant-loop-next g l = record {
   room : (device number : ℕ) (table : g.row.T.Denot) → slice_get l.tables.items device ≡ Some table → list_any (nat_eq device) (drop l.next (snapshots l.fn.looker.stack)) ≡ false → nat_lt number (g.T.Taken.places table) ≡ has_room l.fn.looker.stack device number;
   state : state_of g.T.Taken.chunks g.T.Taken.valid l.tables.items ≡ start_state l.fn.looker.stack;
   same : l.looker.stack ≡ l.fn.looker.stack;
+  looked : l.looker.searches ≤ l.fn.looker.searches + l.next;
 }

@@ -1,7 +1,12 @@
-use Rattle.std.proofs.Common.{◌≡◌, ◌+◌, ◌-◌, ◌*◌, ◌<◌, ◌≤◌, length}
-use Rattle.dm_stack.specs.declared.found.FoundTarget.TheVariants.{Snapshot}
+use Rattle.std.proofs.Common.{◌≡◌, ℕ, ◌+◌, ◌-◌, ◌*◌, ◌<◌, ◌≤◌, length}
+use Rattle.dm_stack.specs.declared.found.FoundTarget.TheVariants.{Snapshot, Striped}
 use Rattle.dm_stack.specs.declared.id.Lower.TheVariants.{Device}
+use Rattle.dm_stack.specs.Soundness.{depth_of}
+use Rattle.dm_map.specs.Bound.{IsBounded, IsTargetBounded}
+use Rattle.dm_map.specs.Counts.{AreAdded}
+use Rattle.dm_map.specs.Path.{path}
 use Rattle.dm_map.specs.Walk.{range_step, line_step, stripes_step, IsPlace}
+use Rattle.dm_map.proofs.Bounds.{FirstOfChunk, LineBefore}
 use Rattle.dm_map.proofs.walk.+walk.Given as goal
 
 abbrev pub decreases-map_range : goal.decreases-map_range
@@ -29,9 +34,12 @@ invariant-map_device-loop-left g l = record {
   within : l.left ≤ l.len;
   place : l.at + l.left ≡ l.sector + l.len;
   same : l.walker.stack ≡ l.fn.walker.stack;
+  looked : AreAdded l.fn.walker.looked l.walker.looked;
   stack : g.S.Sink.stack l.sink ≡ g.S.Sink.stack l.fn.sink;
   room : g.S.Sink.room l.fn.sink ≤ g.S.Sink.room l.sink + (l.len - l.left);
   faults : g.S.Sink.faults l.sink ≡ g.S.Sink.faults l.fn.sink;
+  edge : 0 < l.len - l.left → 0 < l.left → LineBefore l.fn.walker.stack l.device l.at;
+  bounded : IsBounded l.fn.walker l.walker l.op (depth_of l.fn.walker.stack l.device) (path l.fn.walker.stack l.fn.walker.state l.levels (Device l.device)) l.sector (l.len - l.left);
 }
 
 abbrev pub decreases-map_device-loop-left : goal.decreases-map_device-loop-left
@@ -44,9 +52,12 @@ invariant-map_stripes-loop-left g l = record {
   within : l.left ≤ l.len;
   place : 0 < l.left → IsPlace l.chunk (length l.columns) (l.distance + (l.len - l.left)) l.place;
   same : l.walker.stack ≡ l.fn.walker.stack;
+  looked : AreAdded l.fn.walker.looked l.walker.looked;
   stack : g.S.Sink.stack l.sink ≡ g.S.Sink.stack l.fn.sink;
   room : g.S.Sink.room l.fn.sink ≤ g.S.Sink.room l.sink + (l.len - l.left);
   faults : g.S.Sink.faults l.sink ≡ g.S.Sink.faults l.fn.sink;
+  edge : 0 < l.len - l.left → 0 < l.left → FirstOfChunk l.chunk (l.distance + (l.len - l.left));
+  bounded : (device : ℕ) → IsTargetBounded l.fn.walker l.walker l.op l.levels device (Striped l.chunk l.columns) l.distance (l.len - l.left);
 }
 
 abbrev pub decreases-map_stripes-loop-left : goal.decreases-map_stripes-loop-left
@@ -59,9 +70,12 @@ invariant-map_snapshot-loop-left g l = record {
   within : l.left ≤ l.len;
   place : l.from + l.left ≡ l.sector + l.len;
   same : l.walker.stack ≡ l.fn.walker.stack;
+  looked : AreAdded l.fn.walker.looked l.walker.looked;
   stack : g.S.Sink.stack l.sink ≡ g.S.Sink.stack l.fn.sink;
   room : g.S.Sink.room l.fn.sink ≤ g.S.Sink.room l.sink + (l.len - l.left);
   faults : g.S.Sink.faults l.sink ≡ g.S.Sink.faults l.fn.sink;
+  edge : 0 < l.len - l.left → 0 < l.left → FirstOfChunk l.snapshot.chunk (l.sector + (l.len - l.left));
+  bounded : IsTargetBounded l.fn.walker l.walker l.op l.levels l.device (Snapshot l.snapshot) l.sector (l.len - l.left);
 }
 
 abbrev pub decreases-map_snapshot-loop-left : goal.decreases-map_snapshot-loop-left

@@ -28,7 +28,7 @@ pub returns-in_err-make_ready : goal.returns-in_err-make_ready
 returns-in_err-make_ready g c =
     let a = c.args in let w = a.walker.now in let walk = c.in_err-make_ready.ensures in
     walked_cut g.S.Sink.took g.S.Sink.left g.S.Sink.stack g.S.Sink.room g.S.Sink.faults c.from_residual.result a.sink.now c.make_ready.new.sink w c.make_ready.new.walker (steps (write_snapshot w.stack a.snapshot.now a.device) w.state a.sector a.len) a.len c.from_residual.ensures.0
-    (left_ready g.S.Sink.left a.sink.now c.make_ready.new.sink w.stack a.snapshot.now a.device a.sector a.len w.state c.requires.some walk.left) walk.faults walk.stack
+    (left_ready g.S.Sink.left a.sink.now c.make_ready.new.sink w.stack a.snapshot.now a.device a.sector a.len w.state c.requires.some walk.left) walk.faults walk.stack walk.looked
 
 pub read_place-requires : goal.read_place-requires
 read_place-requires g c =
@@ -69,7 +69,7 @@ returns-in-Some g c =
     (walked_then g.S.Sink.took g.S.Sink.left g.S.Sink.stack g.S.Sink.room g.S.Sink.faults walk.result a.sink.now c.make_ready.new.sink walk.new.sink w after walk.new.walker (ready w.stack snapshot a.device number w.state)
     (keep (store_writes after.stack place.to place.sector a.len) after.state) (λ state. keep (row (unit_kept w.stack snapshot a.device state) a.sector a.len) state) 0 a.len g.met.S.Sink.took_then_took g.met.S.Sink.took_then_left
     made.took (ap (λ (s : State). keep (row (unit_kept w.stack snapshot a.device s) a.sector a.len) s) (sym made.state) ∙ ap (λ (us : List BlockUnit). keep us after.state) units) (omega arith)
-    made.kept (omega (arith, made.room)) (omega (arith, made.faults)) made.stack walk.ensures)
+    made.kept (omega (arith, made.room)) (omega (arith, made.faults)) made.stack made.looked walk.ensures)
 
 pub returns-in-None : goal.returns-in-None
 returns-in-None g c =
@@ -82,5 +82,5 @@ returns-in-None g c =
     (walked_then g.S.Sink.took g.S.Sink.left g.S.Sink.stack g.S.Sink.room g.S.Sink.faults p.result a.sink.now c.make_ready.new.sink p.new.self w after after (ready w.stack snapshot a.device number w.state)
     (keep (units_in Fails a.len) after.state) (λ state. keep (row (unit_kept w.stack snapshot a.device state) a.sector a.len) state) a.len a.len g.met.S.Sink.took_then_took g.met.S.Sink.took_then_left
     made.took (ap (λ (s : State). keep (row (unit_kept w.stack snapshot a.device s) a.sector a.len) s) (sym made.state) ∙ ap (λ (us : List BlockUnit). keep us after.state) units) (omega arith)
-    made.kept (omega (arith, made.room)) (omega (arith, made.faults)) made.stack
+    made.kept (omega (arith, made.room)) (omega (arith, made.faults)) made.stack made.looked
     (walked_piece g.S.Sink.took g.S.Sink.left g.S.Sink.stack g.S.Sink.room g.S.Sink.faults p.result c.make_ready.new.sink p.new.self after _ _ a.len a.len refl (omega arith) p.ensures.took p.ensures.left p.ensures.faults p.ensures.stack p.ensures.room))

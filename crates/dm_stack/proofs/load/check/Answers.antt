@@ -36,4 +36,5 @@ returns-clause-loaded c =
       tables = c.in-Ok.ensures ∙ ap (λ (stack : Description). map (found_table stack) stack.devices) c.new-stack.ensures;
       depth = c.in_ok-depth.ensures.depth ∙ ap stack_depth c.new-stack.ensures;
       snapshots = c.in-Ok-snapshots.ensures;
+      texts = c.in-Ok-disk_texts.ensures;
     }

@@ -15,11 +15,11 @@ returns-clause-whole g c = λ five six.
     let requests = delivery g.Q.Input.handed g.Q.Input.faults g.Q.Input.ends c.args.requests.now c.load_and_run.new.requests in
     let output = since (g.W.Output.written c.args.output.now) (g.W.Output.written c.load_and_run.new.output) in
     let exit = c.load_and_run.result in
-    (exit_message exit, whole_at c.args.format source disks requests output (g.W.Output.flushes c.args.output.now) (g.W.Output.flushes c.load_and_run.new.output) exit c.exit_status.result c.exit_status.ensures c.load_and_run.ensures.exit five six, c.load_and_run.ensures.messages.told)
+    (exit_message exit, whole_at c.args.format c.args.status source disks requests output (g.W.Output.flushes c.args.output.now) (g.W.Output.flushes c.load_and_run.new.output) exit c.exit_status.result c.exit_status.ensures c.load_and_run.ensures.exit five six, c.load_and_run.ensures.messages.told)
 
 pub returns-clause-beginning : goal.returns-clause-beginning
 returns-clause-beginning g c = λ five.
-    failed_at_five c.args.format (delivery g.S.Input.handed g.S.Input.faults g.S.Input.ends c.args.source.now c.load_and_run.new.source)
+    failed_at_five c.args.format c.args.status (delivery g.S.Input.handed g.S.Input.faults g.S.Input.ends c.args.source.now c.load_and_run.new.source)
     (delivery_if g.D.Input.handed g.D.Input.faults g.D.Input.ends c.args.disks.now c.load_and_run.new.disks) (delivery g.Q.Input.handed g.Q.Input.faults g.Q.Input.ends c.args.requests.now c.load_and_run.new.requests)
     (since (g.W.Output.written c.args.output.now) (g.W.Output.written c.load_and_run.new.output)) (g.W.Output.flushes c.args.output.now) (g.W.Output.flushes c.load_and_run.new.output)
     c.load_and_run.result c.load_and_run.ensures.exit (sym c.exit_status.ensures ∙ five)

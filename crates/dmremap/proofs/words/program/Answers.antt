@@ -5,7 +5,7 @@ use Rattle.clap.specs.Simple.{app_of_fields, on_top}
 use Rattle.clap.specs.Words.{App, app_of, new_app, with_subcommand}
 use Rattle.clap.specs.declared.builder.command.Command.{Command}
 use Rattle.clap.specs.declared.builder.value_parser.ValueParser.{ValueParser}
-use Rattle.dmremap.specs.Words.{TakesFormats, command_line, name_app, program_app, source_app, split_app}
+use Rattle.dmremap.specs.Words.{TakesFormats, command_line, map_app, name_app, program_app, source_app, split_app}
 use Rattle.dmremap.proofs.words.program.Goals as goal
 
 -- what the last command is added to, and what that gives
@@ -27,7 +27,7 @@ returns c =
     ∙ ap (on_top (λ s. record s { arg_required_else_help = true })) (asks ∙ ap (on_top (λ s. record s { subcommand_required = true })) named) in
     whole parser (app_of c.in_ok-line-4.line) c.with_command-5.result c.format_parser-parser.ensures (ap (λ (a : App). with_subcommand a split_app.top)
     (c.in_ok-line-4.ensures name_app c.name_command.ensures ∙ ap (λ (a : App). with_subcommand a name_app.top)
-    (c.in_ok-line-3.ensures (source_app (codes "concise") parser) c.source_command-3.ensures ∙ ap (λ (a : App). with_subcommand a (source_app (codes "concise") parser).top)
-    (c.in_ok-line-2.ensures (source_app (codes "table") parser) c.source_command-2.ensures ∙ ap (λ (a : App). with_subcommand a (source_app (codes "table") parser).top)
-    (c.in_ok-line.ensures (source_app (codes "map") parser) c.source_command.ensures ∙ ap (λ (a : App). with_subcommand a (source_app (codes "map") parser).top) bare)))))
+    (c.in_ok-line-3.ensures (source_app (codes "concise") parser) c.source_command-2.ensures ∙ ap (λ (a : App). with_subcommand a (source_app (codes "concise") parser).top)
+    (c.in_ok-line-2.ensures (source_app (codes "table") parser) c.source_command.ensures ∙ ap (λ (a : App). with_subcommand a (source_app (codes "table") parser).top)
+    (c.in_ok-line.ensures (map_app parser) c.map_command.ensures ∙ ap (λ (a : App). with_subcommand a (map_app parser).top) bare)))))
     (c.with_command-5.ensures split_app c.split_command.ensures)

@@ -1,9 +1,9 @@
-use Rattle.std.proofs.Common.{◌≡◌, ◌∙◌, None, ap, inr, option_map, subst, sym, refl, rules}
+use Rattle.std.proofs.Common.{◌≡◌, ◌∙◌, None, ap, inr, option_map, subst, sym, rules}
 use Rattle.std.proofs.lemmas.Result.{err_from_is_err_and}
 use Rattle.clap.specs.Kinds.{HasKind}
 use Rattle.clap.specs.Walk.{texts}
 use Rattle.clap.specs.Words.{App, fault_of, is_simple_and_free}
-use Rattle.dmremap.specs.Words.{words_of}
+use Rattle.dmremap.specs.Words.{job_words}
 use Rattle.dmremap.proofs.CommandLine.{lacking, refused, simple_and_free, taken}
 use Rattle.dmremap.proofs.words.read_words.Goals as goal
 
@@ -23,16 +23,16 @@ returns-in_default-clause-fault c =
     let none : c.of_matches.result ≡ None = search rules in
     inr (lacking line.0 _ (texts c.args.words.now) c.in_ok-error-2.error c.in_ok-matches.matches
     (sym c.has_lone_hyphen.ensures ∙ c.if-has_lone_hyphen.false) line.1 line.2 c.in_ok-matches.ensures.kinds c.in_ok-matches.ensures.ok.2
-    (sym (ap (option_map words_of) none) ∙ c.of_matches.ensures) c.in_ok-error-2.ensures.kind)
+    (sym (ap (option_map job_words) none) ∙ c.of_matches.ensures) c.in_ok-error-2.ensures.kind)
 
 pub returns-then-not-has_its_disks-clause-fault : goal.returns-then-not-has_its_disks-clause-fault
 returns-then-not-has_its_disks-clause-fault c =
     let line = c.in_ok-program.ensures in
-    let task = words_of c.in-Some.task in
+    let job = job_words c.in-Some.job in
     record {
       hyphen = sym c.has_lone_hyphen.ensures ∙ c.if-has_lone_hyphen.false;
-      asked = task;
-      task = taken line.0 _ (texts c.args.words.now) task c.in_ok-matches.matches line.1 line.2 c.in_ok-matches.ensures.kinds
+      asked = job;
+      taken = taken line.0 _ (texts c.args.words.now) job c.in_ok-matches.matches line.1 line.2 c.in_ok-matches.ensures.kinds
           c.in_ok-matches.ensures.ok.2 c.in-Some.ensures;
       disks = sym c.has_its_disks.ensures ∙ search rules;
     }
@@ -40,11 +40,10 @@ returns-then-not-has_its_disks-clause-fault c =
 pub returns-clause-job : goal.returns-clause-job
 returns-clause-job c =
     let line = c.in_ok-program.ensures in
-    let task = words_of c.in-Some.task in
+    let job = job_words c.in-Some.job in
     record {
       hyphen = sym c.has_lone_hyphen.ensures ∙ c.if-has_lone_hyphen.false;
-      task = taken line.0 _ (texts c.args.words.now) task c.in_ok-matches.matches line.1 line.2 c.in_ok-matches.ensures.kinds
+      taken = taken line.0 _ (texts c.args.words.now) job c.in_ok-matches.matches line.1 line.2 c.in_ok-matches.ensures.kinds
           c.in_ok-matches.ensures.ok.2 c.in-Some.ensures;
       disks = sym c.has_its_disks.ensures ∙ search rules;
-      status = refl;
     }

@@ -212,27 +212,42 @@ fn parts_are_read_before_any_text(rt: HostRuntime) -> Result<(), Fail> {
     Ok(())
 }
 
+/// What is written where an output fails on its way: answers, and status lines after them.
+static WRITTEN: [Case<'static>; 2] = [
+    VOLUME,
+    Case {
+        name: "status lines",
+        source: "s: 0 8 snapshot base cow P 8\nt: 0 8 snapshot base cow P 16\n",
+        disks: "base 8\ncow 24\n",
+        requests: b"W t 0 1\n",
+        flag: true,
+        output: b"1 error 1\ns: 0 8 snapshot 16/24 16\nt: 0 8 snapshot Invalid\n",
+        ..VOLUME
+    },
+];
+
 #[test]
 fn the_output_fails_after_each_byte(rt: HostRuntime) {
-    for count in 0..VOLUME.output.len() {
-        let case = Case {
-            name: "an output that fails",
-            output: &VOLUME.output[..count],
-            message: WRITE_MESSAGE,
-            status: 5,
-            streams: Streams {
-                output: Some(count),
-                ..STEADY
-            },
-            ..VOLUME
+    for case in &WRITTEN {
+        for count in 0..case.output.len() {
+            let cut = Case {
+                output: &case.output[..count],
+                message: WRITE_MESSAGE,
+                status: 5,
+                streams: Streams {
+                    output: Some(count),
+                    ..STEADY
+                },
+                ..*case
+            };
+            check_steps(&rt, rt.alloc(), &cut);
+        }
+        let streams = Streams {
+            output: Some(case.output.len()),
+            ..STEADY
         };
-        check_steps(&rt, rt.alloc(), &case);
+        check_steps(&rt, rt.alloc(), &Case { streams, ..*case });
     }
-    let streams = Streams {
-        output: Some(VOLUME.output.len()),
-        ..STEADY
-    };
-    check_steps(&rt, rt.alloc(), &Case { streams, ..VOLUME });
 }
 
 /// A message for each way in which a run ends with one.

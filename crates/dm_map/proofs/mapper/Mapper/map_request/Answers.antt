@@ -1,7 +1,9 @@
-use Rattle.std.proofs.Common.{◌≡◌, ◌+◌, true, ap, sym, ◌∙◌, arith}
+use Rattle.std.proofs.Common.{◌≡◌, ◌+◌, false, true, ap, subst, sym, ◌∙◌, arith}
 use Rattle.std.specs.Prelude.{nat_lt}
 use Rattle.dm_stack.specs.Description.{device_len}
-use Rattle.dm_map.specs.Mapper.{walking_of}
+use Rattle.dm_stack.specs.Soundness.{IsSound}
+use Rattle.dm_map.specs.Mapper.{Mapping, walking_of}
+use Rattle.dm_map.proofs.Bounds.{request_bound}
 use Rattle.dm_map.proofs.Rows.{step_past_end, walked_piece}
 use Rattle.dm_map.proofs.mapper.Mapper.map_request.Goals as goal
 
@@ -11,3 +13,10 @@ returns-then-passes_end-clause-walked g c =
     let past : nat_lt (device_len m.stack c.args.device) (r.start + r.len) ≡ true = ap (λ x. nat_lt (device_len x.stack c.args.device) (r.start + r.len)) (sym c.self.view_is) ∙ ap (λ end. nat_lt end (r.start + r.len)) (sym c.len-end.ensures.len) ∙ sym c.if-passes_end.ensures in
     walked_piece g.S.Sink.took g.S.Sink.left g.S.Sink.stack g.S.Sink.room g.S.Sink.faults p.result c.args.sink.now p.new.self (walking_of m) _ _ r.len r.len (step_past_end m.stack r.op c.args.device r.start r.len m.state past) (omega arith)
     p.ensures.took p.ensures.left p.ensures.faults p.ensures.stack p.ensures.room
+
+pub returns-clause-bounded : goal.returns-clause-bounded
+returns-clause-bounded g c =
+    let r = c.args.request.now in let m = c.args.self.now in
+    let inside : nat_lt (device_len m.stack c.args.device) (r.start + r.len) ≡ false = ap (λ x. nat_lt (device_len x.stack c.args.device) (r.start + r.len)) (sym c.self.view_is) ∙ ap (λ end. nat_lt end (r.start + r.len)) (sym c.len-end.ensures.len) ∙ sym c.passes_end.ensures ∙ c.if-passes_end.false in
+    let sound = subst (λ (x : Mapping). IsSound x.stack) c.self.view_is c.is_sound.ensures in
+    request_bound (walking_of m) (walking_of c.map_sectors.new.self) r.op c.args.device r.start r.len sound c.requires.device inside c.map_sectors.ensures.bounded

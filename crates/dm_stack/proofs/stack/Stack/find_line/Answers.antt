@@ -6,7 +6,7 @@ use Rattle.dm_stack.specs.declared.found.FoundLine.{FoundLine}
 use Rattle.dm_stack.specs.Below.{HoldsSoundly, found_at}
 use Rattle.dm_stack.specs.LineSearch.{StartsAfter, StartsBy, binary_digits}
 use Rattle.dm_stack.specs.Description.{lines_at}
-use Rattle.dm_stack.proofs.LineSearchLemmas.{first_starts, line_there}
+use Rattle.dm_stack.proofs.LineSearchLemmas.{few_halvings, first_starts, line_there}
 use Rattle.dm_stack.proofs.SameLine.{same_found}
 use Rattle.dm_stack.proofs.SoundLines.{sector_found}
 use Rattle.dm_stack.proofs.stack.Stack.find_line.Goals as goal
@@ -29,9 +29,11 @@ returns c =
     sym there ∙ ap (λ (ls : List FoundLine). slice_get ls c.search-index.result.0) (sym lines) ∙ here in
     let f = sector_found st c.args.device c.args.sector sound c.requires.device c.requires.sector in
     let same : f.line ≡ c.index-lines-index.result = let known = f.is in cc in
+    let few = subst (λ (n : ℕ). c.search-index.result.1 ≤ binary_digits n) (ap length lines ∙ length-map (lines_at st c.args.device) _) c.search-index.ensures.few in
     record {
       line = is;
       holds = subst (λ (line : FoundLine). HoldsSoundly st c.args.device line c.args.sector) same f.soundly;
       all = λ other from before. same_found st c.args.device c.args.sector other c.index-lines-index.result sound c.requires.device is from before;
-      few = subst (λ (n : ℕ). c.search-index.result.1 ≤ binary_digits n) (ap length lines ∙ length-map (lines_at st c.args.device) _) c.search-index.ensures.few;
+      few = few;
+      most = few_halvings st c.args.device c.search-index.result.1 sound c.requires.device few;
     }

@@ -1,0 +1,13 @@
+use Rattle.std.proofs.Common.{Bool, not, sym, ap, subst, ◌∙◌}
+use Rattle.std.specs.Prelude.{◌↔◌, IsTrue}
+use Rattle.dm_stack.specs.Claims.{IsTop}
+use Rattle.dm_stack.specs.Description.{Description}
+use Rattle.dm_stack.specs.Naming.{is_named}
+use Rattle.dm_stack.proofs.TopLemmas.{top_is}
+use Rattle.dm_stack.proofs.stack.Stack.is_top.Goals as goal
+
+pub returns : goal.returns
+returns c =
+    let stack = c.args.self.now in
+    let is = c.is_named.ensures ∙ ap (λ (described : Description). is_named described c.args.device) c.indexed.ensures.description in
+    subst (λ (named : Bool). IsTrue (not named) ↔ IsTop stack c.args.device) (sym is) (top_is stack c.args.device)

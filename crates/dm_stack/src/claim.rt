@@ -1,0 +1,151 @@
+//! Claims: the sectors below that the lines of a stack rely on.
+//!
+//! A line claims its spans, so a target says nothing of claims beside what it names. One that comes
+//! to share what it names in another way is a kind here, and arms in `claim_kind` and `may_share` of
+//! the specs.
+
+ghost use Rattle.std.specs.Prelude.{◌≡◌, ◌∷◌, ◌++◌, [], IfOk, OnOk, false};
+ghost use Rattle.std.specs.List.{All, flat_map, list_any};
+ghost use Rattle.dm_stack.specs.Claims.{claims, line_claims, span_claim};
+ghost use Rattle.dm_stack.specs.Description.{lower_of};
+ghost use Rattle.dm_stack.specs.Naming.{is_device, is_named, line_names};
+ghost use Rattle.dm_stack.specs.Soundness.{is_past, passes_end};
+
+use crate::id::{DeviceId, Lower};
+use crate::indexed::Indexed;
+use crate::span::{Span, Spans};
+use dm_table::{DevRef, Line};
+use std::alloc::{AllocError, Global};
+
+/// How a line needs the sectors that it claims.
+#[derive(Clone, Copy, Debug, PartialEq, Eq, Drop)]
+pub(crate) enum ClaimKind {
+    /// Nothing else may use them.
+    Own,
+    /// The line only reads them, and so may others.
+    Reading,
+}
+
+/// Sectors of a lower device or disk, from a start to before an end, that a device claims.
+#[derive(Clone, Copy, Debug, Drop)]
+pub(crate) struct Claim {
+    pub device: DeviceId,
+    pub to: Lower,
+    pub start: u64,
+    pub end: u64,
+    pub kind: ClaimKind,
+}
+
+/// The claims of a stack: by device, line and column, a store before its origin.
+///
+/// No line passes the end of what it names. Fails only when out of memory. Cost: linear in the
+/// lines and their columns.
+pub(crate) fn claims(alloc: Global, stack: &Indexed) -> Result<Vec<Claim>, AllocError>
+    requires { All (λ device. All (λ line. passes_end stack.now line ≡ false) device.lines) stack.now.devices }
+    ensures { IfOk result (λ all. all.items ≡ claims stack.now) }
+{
+    let mut claims = Vec::new(alloc);
+    for (id, device) in stack.devices().iter().enumerate() {
+        add_lines(
+            &mut claims,
+            stack,
+            DeviceId::new(id),
+            device.lines.as_slice(),
+        )?;
+    }
+    Ok(claims)
+}
+
+/// Adds the claims of the lines of a device.
+fn add_lines(
+    claims: &mut Vec<Claim>,
+    stack: &Indexed,
+    device: DeviceId,
+    lines: &[Line],
+) -> Result<(), AllocError>
+    requires { All (λ line. passes_end stack.now line ≡ false) lines.now }
+    ensures { OnOk result (claims.new.items ≡ claims.old.items ++ flat_map (line_claims stack.now device) lines.now) }
+{
+    for line in lines {
+        add_line(claims, stack, device, line)?;
+    }
+    Ok(())
+}
+
+fn add_line(
+    claims: &mut Vec<Claim>,
+    stack: &Indexed,
+    device: DeviceId,
+    line: &Line,
+) -> Result<(), AllocError>
+    requires { passes_end stack.now line.now ≡ false }
+    ensures { OnOk result (claims.new.items ≡ claims.old.items ++ line_claims stack.now device line.now) }
+{
+    for span in Spans::of(line) {
+        add_claim(claims, stack, device, &span)?;
+    }
+    Ok(())
+}
+
+/// Adds what a device claims by a span that ends within what it names.
+fn add_claim(
+    claims: &mut Vec<Claim>,
+    stack: &Indexed,
+    device: DeviceId,
+    span: &Span<'_>,
+) -> Result<(), AllocError>
+    requires { is_past stack.now span.now ≡ false }
+    ensures { OnOk result (claims.new.items ≡ claims.old.items ++ span_claim stack.now device span.now ∷ []) }
+{
+    let to = stack.lower_of(span.to);
+    let whole = stack.len_of(span.to);
+    let claim = Claim {
+        device,
+        to,
+        start: span.offset,
+        end: match span.len {
+            Some(len) => span.offset + len,
+            None => whole,
+        },
+        kind: if span.read_only {
+            ClaimKind::Reading
+        } else {
+            ClaimKind::Own
+        },
+    };
+    claims.push(claim)?;
+    Ok(())
+}
+
+/// Whether a line of any device names the device of an id.
+///
+/// Cost: linear in the lines and their columns.
+pub(crate) fn is_named(stack: &Indexed, device: DeviceId) -> bool
+    ensures { result ≡ is_named stack.now device }
+{
+    stack
+        .devices()
+        .iter()
+        .any(|other| lines_name(stack, other.lines.as_slice(), device))
+}
+
+fn lines_name(stack: &Indexed, lines: &[Line], device: DeviceId) -> bool
+    ensures { result ≡ list_any (line_names stack.now device) lines.now }
+{
+    lines.iter().any(|line| line_names(stack, line, device))
+}
+
+fn line_names(stack: &Indexed, line: &Line, device: DeviceId) -> bool
+    ensures { result ≡ line_names stack.now device line.now }
+{
+    Spans::of(line).any(|span| is_device(stack, span.to, device))
+}
+
+fn is_device(stack: &Indexed, to: &DevRef, device: DeviceId) -> bool
+    ensures { result ≡ is_device device (lower_of stack.now to.now) }
+{
+    match stack.lower_of(to) {
+        Lower::Device(id) => id == device,
+        Lower::Disk(_) => false,
+    }
+}
