@@ -167,10 +167,6 @@ again text ds d =
     ) in
     (rw parts none, ap (devices_from 1) parts ∙ read.again)
 
--- a text describes no other devices
-pub one_description : (text : List ℕ) (a b : List DeviceSpec) → DescribesConcise text a → DescribesConcise text b → a ≡ b
-one_description text a b d e = sym (again text a d).1 ∙ (again text b e).1
-
 -- How a text is read
 
 pub read_as_promised : (text : List ℕ) (answer : Result (Vec DeviceSpec) LoadFault) → Answers Source (λ v. v.items) answer (read_concise text)

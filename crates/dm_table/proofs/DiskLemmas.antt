@@ -18,7 +18,7 @@ use Rattle.dm_table.specs.DiskList.{disk_line, AreListed, DescribesDisks, is_pai
 use Rattle.dm_table.specs.RowFaults.{no_faults, noted_rows, noted_rest, first_noted}
 use Rattle.dm_table.proofs.RowFaultLemmas.{noted_none, noted_refused}
 use Rattle.dm_table.proofs.NumberLemmas.{Spells-number_of, number_of-decimal, decimal_digits, decimal_some, Some-is_some}
-use Rattle.dm_table.proofs.ByteLemmas.{list_all-both, disk_name_parts, is_text-clear, is_text-digits, is_text-disk_name, digits-clear, disk_name-clear}
+use Rattle.dm_table.proofs.ByteLemmas.{list_all-both, disk_name_parts, is_text-clear, is_text-digits, digits-clear, plain-disk_name}
 use Rattle.dm_table.proofs.FieldLemmas.{IsClearOf, parts_at-first, parts_at-clear, join-parts_at, lines_of-whole, parts_at-lines, lines_of-lines, rest_of-lines}
 use Rattle.dm_table.proofs.FaultLemmas.{first_or-none, first_fault-all, faults_from-nil, faults_from-good, append-nil_both, unended-nil, unless-passed}
 use Rattle.dm_table.proofs.Parsing.{parsed}
@@ -91,11 +91,11 @@ named n [] listed = tt
 named n (disk ∷ disks) listed = ((listed.0.name, listed.0.len), named (suc n) disks listed.1)
 
 line_text : (disk : Disk) → is_disk_name disk.name ≡ true → disk.len < 10 ^ 19 → is_text (disk_line disk) ≡ true
-line_text disk name len = list_all-both (λ b. nat_le 32 b && nat_le b 126) disk.name (32 ∷ decimal disk.len) (is_text-disk_name disk.name name) (is_text-digits (decimal disk.len) (decimal_digits disk.len len))
+line_text disk name len = list_all-both (λ b. nat_le 32 b && nat_le b 126) disk.name (32 ∷ decimal disk.len) (plain-disk_name disk.name name).printed (is_text-digits (decimal disk.len) (decimal_digits disk.len len))
 
 line_fields : (disk : Disk) → is_disk_name disk.name ≡ true → disk.len < 10 ^ 19 → fields (disk_line disk) ≡ disk_row disk
 line_fields disk name len =
-    parts_at-first 32 disk.name (decimal disk.len) (disk_name-clear disk.name name)
+    parts_at-first 32 disk.name (decimal disk.len) (plain-disk_name disk.name name).clear
     ∙ ap (λ (more : List (List ℕ)). disk.name ∷ more) (parts_at-clear 32 (decimal disk.len) (digits-clear (decimal disk.len) (decimal_digits disk.len len)))
 
 rows_again : (disks : List Disk) → AreNamed disks → map fields (map disk_line disks) ≡ map disk_row disks

@@ -119,10 +119,6 @@ again text ds d =
     let no_syntax : faults_from Source Syntax (λ row. not (is_row row)) 1 (rows text) ++ unended Source (length (rows text) + 1) (rest_of text) ≡ [] = rw (no_rows, rest) refl in
     (first_fault-all (table_checks text) (no_bytes, (no_syntax, (no_lines, (no_names, tt)))), ap (devices_from 1) rs ∙ ap joined (named_again 1 d.lines ns d.said) ∙ devices_again ds d.each d.apart)
 
--- a text describes no other devices
-pub one_description : (text : List ℕ) (a b : List DeviceSpec) → DescribesTable text a → DescribesTable text b → a ≡ b
-one_description text a b d e = sym (again text a d).1 ∙ (again text b e).1
-
 -- How a text is read
 
 pub read_as_promised : (text : List ℕ) (answer : Result (Vec DeviceSpec) LoadFault) → Answers Source (λ v. v.items) answer (read_table text)
