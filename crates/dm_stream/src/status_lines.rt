@@ -6,6 +6,7 @@
 ghost use Rattle.std.specs.Prelude.{◌≡◌, ◌++◌, ◌+◌, ◌<◌, ◌≤◌, length};
 ghost use Rattle.dm_table.specs.CanonicalText.{Wrote};
 ghost use Rattle.dm_stack.specs.Description.{device_len, name_at};
+ghost use Rattle.dm_map.specs.Mapper.{with_looked};
 ghost use Rattle.dm_stream.specs.StatusLines.{after_name, status_text, usage_text};
 
 use arrayvec::ArrayVec;
@@ -26,7 +27,7 @@ pub(crate) fn write_status<T: Taken, W: Output>(
     output: &mut W,
 ) -> Result<(), OutFault>
     requires { mapper.old.stack ≡ stack.now }
-    ensures same { mapper.new ≡ mapper.old }
+    ensures same { mapper.new ≡ with_looked mapper.old mapper.new.looked }
     ensures wrote { Wrote W.written W.waiting W.faults W.flushes output.old output.new result (status_text stack.now mapper.old.state) }
 {
     for device in stack.snapshots() {

@@ -7,7 +7,7 @@ use Rattle.dm_stack.specs.declared.found.FoundSnapshot.{FoundSnapshot}
 use Rattle.dm_stack.specs.Description.{Description, device_len, name_at}
 use Rattle.dm_stack.specs.Loaded.{IsSnapshot}
 use Rattle.dm_map.specs.declared.usage.Usage.{Usage}
-use Rattle.dm_map.specs.Mapper.{Mapping}
+use Rattle.dm_map.specs.Mapper.{Mapping, with_looked}
 use Rattle.dm_map.specs.State.{taken_at}
 use Rattle.dm_map.specs.Tables.{snapshot_at, snapshot_in}
 use Rattle.dm_map.specs.Usage.{usage_of}
@@ -15,7 +15,7 @@ use Rattle.dm_stream.specs.StatusLines.{after_name, line_if, status_line}
 use Rattle.dm_stream.proofs.status_lines.write_status.Goals as goal
 
 -- what is written of a snapshot is its line
-line_of : (stack : Description) (old mapper : Mapping) (device : ℕ) (usage : Usage) → old.stack ≡ stack → mapper ≡ old → IsSnapshot stack device
+line_of : (stack : Description) (old mapper : Mapping) (device : ℕ) (usage : Usage) → old.stack ≡ stack → mapper ≡ with_looked old mapper.looked → IsSnapshot stack device
     → IfSome (snapshot_at mapper.stack device) (λ snapshot. usage ≡ usage_of mapper.stack snapshot (taken_at mapper.state device))
     → name_at stack device ++ after_name (device_len stack device) usage ≡ status_line stack old.state device
 line_of stack old mapper device usage of_stack same is used =

@@ -1,11 +1,12 @@
--- the mapper stays, the lines of the snapshots so far are written, and nothing failed
+-- the mapper stays but for its looker's counts, the lines of the snapshots so far are written, and nothing failed
 use Rattle.std.proofs.Common.{◌≡◌, take, Ok}
 use Rattle.std.specs.List.{flat_map}
 use Rattle.dm_table.specs.CanonicalText.{Wrote}
 use Rattle.dm_table.specs.declared.device_io.OutFault.{OutFault}
+use Rattle.dm_map.specs.Mapper.{with_looked}
 use Rattle.dm_stream.specs.StatusLines.{status_line}
 use Rattle.dm_stream.proofs.status_lines.write_status.Given as goal
 
 abbrev pub invariant-loop-device : goal.invariant-loop-device
-invariant-loop-device g l = (l.mapper ≡ l.fn.mapper)
+invariant-loop-device g l = (l.mapper ≡ with_looked l.fn.mapper l.mapper.looked)
     × Wrote {E = OutFault} g.W.Output.written g.W.Output.waiting g.W.Output.faults g.W.Output.flushes l.fn.output l.output (Ok tt) (flat_map (status_line l.stack l.fn.mapper.state) (take l.device-index l.device-items))
