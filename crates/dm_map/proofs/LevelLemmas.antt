@@ -112,23 +112,23 @@ on_device over stack P device sector (Some spec) on e each =
     let named : links_of (links stack) device ≡ device_links stack spec = get_or_from_slice_get (links stack) device (device_links stack spec) [] is in
     on_line over stack P spec.lines sector (line_of spec.lines sector) on (on_lines stack P spec.lines (subst (AllByRecursion P) named each)) refl
 
-on_below : (over : FoundSnapshot → ℕ → Below) (stack : Description) (P : ℕ → Type 0) (device sector : ℕ) → GoesOn over P → AllByRecursion P (links_of (links stack) device) → OnBelow P (below over stack device sector)
+pub on_below : (over : FoundSnapshot → ℕ → Below) (stack : Description) (P : ℕ → Type 0) (device sector : ℕ) → GoesOn over P → AllByRecursion P (links_of (links stack) device) → OnBelow P (below over stack device sector)
 on_below over stack P device sector on each = on_device over stack P device sector (slice_get stack.devices device) on refl each
 
 -- What a device names is less deep
 
 -- a depth that n levels are enough to see, and that is at most j and k
-record IsShallow (g : List (List ℕ)) (n j k device : ℕ) : Type 0 where
-  seen : depth_to g n device < n
-  first : depth_to g n device ≤ j
-  second : depth_to g n device ≤ k
+pub record IsShallow (g : List (List ℕ)) (n j k device : ℕ) : Type 0 where
+  pub seen : depth_to g n device < n
+  pub first : depth_to g n device ≤ j
+  pub second : depth_to g n device ≤ k
 
 each_shallow : (g : List (List ℕ)) (n j k : ℕ) (xs : List ℕ) → greatest (map (λ e. depth_to g n e) xs) < n → greatest (map (λ e. depth_to g n e) xs) ≤ j → greatest (map (λ e. depth_to g n e) xs) ≤ k → AllByRecursion (IsShallow g n j k) xs
 each_shallow g n j k [] seen first second = tt
 each_shallow g n j k (x ∷ xs) seen first second =
     (record { seen = omega arith; first = omega arith; second = omega arith }, each_shallow g n j k xs (omega arith) (omega arith) (omega arith))
 
-named_shallow : (g : List (List ℕ)) (n j k device : ℕ) → IsShallow g (suc n) (suc j) (suc k) device → AllByRecursion (IsShallow g n j k) (links_of g device)
+pub named_shallow : (g : List (List ℕ)) (n j k device : ℕ) → IsShallow g (suc n) (suc j) (suc k) device → AllByRecursion (IsShallow g n j k) (links_of g device)
 unfolding depth_to
 named_shallow g n j k device h =
     each_shallow g n j k (links_of g device) (omega (arith, h.seen)) (omega (arith, h.first)) (omega (arith, h.second))
@@ -139,13 +139,13 @@ some_level g n k device h = omega (arith, h)
 
 -- The units at two numbers of levels
 
-same_below : {X : Type 0} (P : ℕ → Type 0) (b : Below) (zeros fails : X) (f h : Lower → ℕ → X) → OnBelow P b → ((to : Lower) (sector : ℕ) → OnLower P to → f to sector ≡ h to sector) → by_below b zeros fails f ≡ by_below b zeros fails h
+pub same_below : {X : Type 0} (P : ℕ → Type 0) (b : Below) (zeros fails : X) (f h : Lower → ℕ → X) → OnBelow P b → ((to : Lower) (sector : ℕ) → OnLower P to → f to sector ≡ h to sector) → by_below b zeros fails f ≡ by_below b zeros fails h
 unfolding OnBelow
 same_below P (Lies to sector) zeros fails f h on same = same to sector on
 same_below P IsZero zeros fails f h on same = refl
 same_below P IsError zeros fails f h on same = refl
 
-same_read : (stack : Description) (state : State) (n j k : ℕ) (lower : Lower) (sector : ℕ) → OnLower (IsShallow (links stack) n j k) lower → read_unit stack state j lower sector ≡ read_unit stack state k lower sector
+pub same_read : (stack : Description) (state : State) (n j k : ℕ) (lower : Lower) (sector : ℕ) → OnLower (IsShallow (links stack) n j k) lower → read_unit stack state j lower sector ≡ read_unit stack state k lower sector
 unfolding OnLower read_unit
 same_read stack state n j k (Disk disk) sector h = refl
 same_read stack state zero j k (Device device) sector h = absurd (omega (arith, h.seen))
@@ -164,13 +164,13 @@ same_target P stack state device founds.Zero distance f h on same = refl
 same_target P stack state device founds.Error distance f h on same = refl
 same_target P stack state device (founds.Snapshot snapshot) distance f h on same = refl
 
-same_line : (P : ℕ → Type 0) (stack : Description) (state : State) (device : ℕ) (line : Option FoundLine) (sector : ℕ) (f h : Lower → State → ℕ → Step) → OnBelow P (below_line (read_over (taken_at state device)) line sector) → ((to : Lower) (s : ℕ) → OnLower P to → f to state s ≡ h to state s)
+pub same_line : (P : ℕ → Type 0) (stack : Description) (state : State) (device : ℕ) (line : Option FoundLine) (sector : ℕ) (f h : Lower → State → ℕ → Step) → OnBelow P (below_line (read_over (taken_at state device)) line sector) → ((to : Lower) (s : ℕ) → OnLower P to → f to state s ≡ h to state s)
     → write_line stack state device line sector f ≡ write_line stack state device line sector h
 unfolding OnBelow
 same_line P stack state device None sector f h on same = refl
 same_line P stack state device (Some line) sector f h on same = same_target P stack state device line.target (sector - line.start) f h on same
 
-same_write : (stack : Description) (n j k : ℕ) (lower : Lower) (state : State) (sector : ℕ) → OnLower (IsShallow (links stack) n j k) lower → write_step stack j lower state sector ≡ write_step stack k lower state sector
+pub same_write : (stack : Description) (n j k : ℕ) (lower : Lower) (state : State) (sector : ℕ) → OnLower (IsShallow (links stack) n j k) lower → write_step stack j lower state sector ≡ write_step stack k lower state sector
 unfolding OnLower write_step
 same_write stack n j k (Disk disk) state sector h = refl
 same_write stack zero j k (Device device) state sector h = absurd (omega (arith, h.seen))
@@ -194,7 +194,7 @@ none_at kind bad id zero (device ∷ devices) e below =
 none_at kind bad id (suc i) (device ∷ devices) e below =
     let same : id + suc i ≡ suc id + i = omega arith in rw same (none_at kind bad (suc id) i devices (cond_none _ _ (bad id) e).1 (omega arith))
 
-shallow : (stack : Description) (device : ℕ) → IsSound stack → device < length stack.devices → depth_of stack device ≤ MOST_DEPTH
+pub shallow : (stack : Description) (device : ℕ) → IsSound stack → device < length stack.devices → depth_of stack device ≤ MOST_DEPTH
 shallow stack device sound there =
     let place : 0 + device ≡ device = omega arith in
     let passes = none_at _ (λ id. nat_lt MOST_DEPTH (depth_of stack id)) 0 device stack.devices (passes_after stack sound.after).shallow there in

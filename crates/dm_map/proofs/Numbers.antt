@@ -1,12 +1,13 @@
 -- The numbers of chunks in a list, and their places in a store.
-use Rattle.std.proofs.Common.{◌≡◌, ℕ, zero, suc, ◌+◌, ◌-◌, ◌*◌, ◌/◌, ◌%◌, ◌<◌, ◌≤◌, Bool, true, false, cond, List, [], ◌∷◌, ◌++◌, Option, Some, None, length, get_or, take, nat_eq, refl, sym, ap, subst, ◌∙◌, arith}
+use Rattle.std.proofs.Common.{◌≡◌, inl, inr, ℕ, zero, suc, ◌+◌, ◌-◌, ◌*◌, ◌/◌, ◌%◌, ◌<◌, ◌≤◌, Bool, true, false, cond, List, [], ◌∷◌, ◌++◌, Option, Some, None, length, get_or, take, nat_eq, refl, sym, ap, subst, ◌∙◌, arith}
 use Rattle.std.specs.List.{AllByRecursion, IsDistinct}
 use Rattle.std.specs.Prelude.{◌==◌, option_map}
-use Rattle.std.proofs.lemmas.Bool.{eq-eqb, ne_eqb}
+use Rattle.std.proofs.lemmas.Bool.{cases_order, eq-eqb, eqb-true, ne_eqb}
 use Rattle.std.proofs.Math.Nat.{mul-le-mul_right}
 use Rattle.std.proofs.lemmas.Nat.{div-add-mod', div-mul-add, mod-mul-add}
 use Rattle.dm_stack.specs.Places.{is_metadata, place}
-use Rattle.dm_map.specs.Snapshots.{number_in}
+use Rattle.dm_stack.specs.declared.found.FoundSnapshot.{FoundSnapshot}
+use Rattle.dm_map.specs.Snapshots.{kept_at, number_in}
 
 none_parts : (b : Bool) (o : Option ℕ) → cond b (Some 0) (option_map suc o) ≡ None → (b ≡ false) × (o ≡ None)
 none_parts true o e = absurd cc
@@ -103,3 +104,105 @@ allocated_small chunk (suc i) most some fits =
     let wide : place chunk (suc i) * chunk ≤ (place chunk i + 1 + 1) * chunk = mul-le-mul_right chunk next in
     let sum : (place chunk i + 1 + 1) * chunk ≡ (place chunk i + 1) * chunk + chunk = grind arith in
     omega (arith, wide, sum, fits i (omega arith))
+
+-- a chunk that isn't the new one and isn't there is still not there
+pub number_other : (c d : ℕ) (xs : List ℕ) → number_in c xs ≡ None → (d ≡ c → ⊥) → number_in c (xs ++ d ∷ []) ≡ None
+number_other c d [] e differ = rw (ne_eqb d c differ) refl
+number_other c d (x ∷ xs) e differ = let parts = none_parts (x == c) (number_in c xs) e in rw (parts.0, number_other c d xs parts.1 differ) refl
+
+-- a number is that of one chunk
+inject_cons : (b p : Bool) (c e x i : ℕ) (o q : Option ℕ) → (b ≡ true → x ≡ c) → (p ≡ true → x ≡ e) → ((j : ℕ) → o ≡ Some j → q ≡ Some j → c ≡ e) → cond b (Some 0) (option_map suc o) ≡ Some i → cond p (Some 0) (option_map suc q) ≡ Some i → c ≡ e
+inject_cons true true c e x i o q is_c is_e later f g = sym (is_c refl) ∙ is_e refl
+inject_cons true false c e x i o None is_c is_e later f g = absurd cc
+inject_cons true false c e x i o (Some j) is_c is_e later f g = let first : 0 ≡ i = cc in let next : suc j ≡ i = cc in absurd (omega (arith, first, next))
+inject_cons false true c e x i None q is_c is_e later f g = absurd cc
+inject_cons false true c e x i (Some j) q is_c is_e later f g = let first : 0 ≡ i = cc in let next : suc j ≡ i = cc in absurd (omega (arith, first, next))
+inject_cons false false c e x i None q is_c is_e later f g = absurd cc
+inject_cons false false c e x i (Some j) None is_c is_e later f g = absurd cc
+inject_cons false false c e x i (Some j) (Some k) is_c is_e later f g =
+    let first : suc j ≡ i = cc in let second : suc k ≡ i = cc in
+    let same : k ≡ j = omega (arith, first, second) in
+    later j refl (ap Some same)
+
+pub number_one : (c e : ℕ) (xs : List ℕ) (i : ℕ) → number_in c xs ≡ Some i → number_in e xs ≡ Some i → c ≡ e
+number_one c e [] i f g = absurd cc
+number_one c e (x ∷ xs) i f g = inject_cons (x == c) (x == e) c e x i (number_in c xs) (number_in e xs) (λ t. eqb-true x c t) (λ t. eqb-true x e t) (λ j a b. number_one c e xs j a b) f g
+
+-- Whole parts and a rest
+
+less_parts : (q r p t m : ℕ) → q * m + r ≡ p * m + t → r < m → q < p → ⊥
+less_parts q r p t m e small less =
+    let most : (q + 1) * m ≤ p * m = mul-le-mul_right m (let l : q + 1 ≤ p = omega (arith, less) in l) in
+    let one : (q + 1) * m ≡ q * m + m = grind arith in
+    omega (arith, e, small, most, one)
+
+-- a number is so in one way
+pub same_parts : (q r p t m : ℕ) → q * m + r ≡ p * m + t → r < m → t < m → (q ≡ p) × (r ≡ t)
+same_parts q r p t m e r_in t_in = elim (cases_order q p) [
+  | inl same ↦ (same, (let k : q * m ≡ p * m = ap (λ (x : ℕ). x * m) same in omega (arith, e, k)))
+  | inr (inl less) ↦ absurd (less_parts q r p t m e r_in less)
+  | inr (inr more) ↦ absurd (less_parts p t q r m (sym e) t_in more)
+]
+
+-- the sectors of a chunk
+pub chunk_rest : (c m u : ℕ) → c * m ≤ u → u < c * m + m → u % m ≡ u - c * m
+chunk_rest c m u low high =
+    let whole : u / m * m + u % m ≡ u = div-add-mod' u m in
+    let some : 0 < m = omega (arith, low, high) in
+    let rest : u % m < m = omega (arith, some) in
+    let k : c * m + (u - c * m) ≡ u = omega (arith, low) in
+    (same_parts (u / m) (u % m) c (u - c * m) m (whole ∙ sym k) rest (omega (arith, low, high))).1
+
+pub of_chunk : (c m u : ℕ) → 0 < m → u / m ≡ c → (c * m ≤ u) × (u < c * m + m)
+of_chunk c m u some is =
+    let whole : u / m * m + u % m ≡ u = div-add-mod' u m in
+    let same : u / m * m ≡ c * m = ap (λ (x : ℕ). x * m) is in
+    let rest : u % m < m = omega (arith, some) in
+    (omega (arith, whole, same, rest), omega (arith, whole, same, rest))
+
+-- a sector of stripes is told by its column and its place there
+pub stripe_back : (chunk n o : ℕ) → 0 < chunk → ((o / chunk / n * chunk + o % chunk) / chunk * n + o / chunk % n) * chunk + (o / chunk / n * chunk + o % chunk) % chunk ≡ o
+stripe_back chunk n o some =
+    let q = o / chunk / n in
+    let r = o % chunk in
+    let w = q * chunk + r in
+    let r_in : r < chunk = omega (arith, some) in
+    let w_in : w % chunk < chunk = omega (arith, some) in
+    let whole_w : w / chunk * chunk + w % chunk ≡ w = div-add-mod' w chunk in
+    let parts = same_parts (w / chunk) (w % chunk) q r chunk whole_w w_in r_in in
+    let whole_c : q * n + o / chunk % n ≡ o / chunk = div-add-mod' (o / chunk) n in
+    let whole_o : o / chunk * chunk + o % chunk ≡ o = div-add-mod' o chunk in
+    ap (λ (x : ℕ). (x * n + o / chunk % n) * chunk + w % chunk) parts.0
+    ∙ ap (λ (x : ℕ). (q * n + o / chunk % n) * chunk + x) parts.1
+    ∙ ap (λ (x : ℕ). x * chunk + r) whole_c
+    ∙ whole_o
+
+-- The places of numbers
+
+place_one : (chunk i j : ℕ) → place chunk i ≡ place chunk j → i ≡ j
+place_one chunk i j e = elim (cases_order i j) [
+  | inl same ↦ same
+  | inr (inl less) ↦ absurd (let p = place_less chunk i j less in omega (arith, p, e))
+  | inr (inr more) ↦ absurd (let p = place_less chunk j i more in omega (arith, p, e))
+]
+
+pub kept_parts : (snapshot : FoundSnapshot) (i j s t : ℕ) → 0 < snapshot.chunk → kept_at snapshot i s ≡ kept_at snapshot j t → (i ≡ j) × (s % snapshot.chunk ≡ t % snapshot.chunk)
+kept_parts snapshot i j s t some e =
+    let parts = same_parts (place snapshot.chunk i) (s % snapshot.chunk) (place snapshot.chunk j) (t % snapshot.chunk) snapshot.chunk e (omega (arith, some)) (omega (arith, some)) in
+    (place_one snapshot.chunk i j parts.0, parts.1)
+
+-- one number and one place in the chunk are one sector
+pub same_sector : (snapshot : FoundSnapshot) (chunks : List ℕ) (i j s u : ℕ) → 0 < snapshot.chunk → number_in (s / snapshot.chunk) chunks ≡ Some i → number_in (u / snapshot.chunk) chunks ≡ Some j → kept_at snapshot i s ≡ kept_at snapshot j u → u ≡ s
+same_sector snapshot chunks i j s u some a b e =
+    let parts = kept_parts snapshot i j s u some e in
+    let whole_s : s / snapshot.chunk * snapshot.chunk + s % snapshot.chunk ≡ s = div-add-mod' s snapshot.chunk in
+    let whole_u : u / snapshot.chunk * snapshot.chunk + u % snapshot.chunk ≡ u = div-add-mod' u snapshot.chunk in
+    let one = number_one (s / snapshot.chunk) (u / snapshot.chunk) chunks i a (b ∙ ap Some (sym parts.0)) in
+    let products : s / snapshot.chunk * snapshot.chunk ≡ u / snapshot.chunk * snapshot.chunk = ap (λ (c : ℕ). c * snapshot.chunk) one in
+    omega (arith, whole_s, whole_u, products, parts.1)
+
+rest_below : (len m q r : ℕ) → r < m → (q + 1) * m ≤ len → q * m + r < len
+rest_below len m q r less most = let one : (q + 1) * m ≡ q * m + m = grind arith in omega (arith, less, most, one)
+
+pub kept_inside : (snapshot : FoundSnapshot) (i s len : ℕ) → 0 < snapshot.chunk → (place snapshot.chunk i + 1) * snapshot.chunk ≤ len → kept_at snapshot i s < len
+kept_inside snapshot i s len some most = rest_below len snapshot.chunk (place snapshot.chunk i) (s % snapshot.chunk) (omega (arith, some)) most

@@ -13,10 +13,10 @@ use Rattle.dm_map.specs.Units.{BlockUnit}
 use Rattle.dm_map.proofs.Numbers.{number_kept, number_new}
 use Rattle.dm_map.proofs.Rows.{and_then_at, step_assoc}
 
-taken_same : (state : State) (device : ℕ) (taken : Taken) → device < length state → taken_at (put state device taken) device ≡ taken
+pub taken_same : (state : State) (device : ℕ) (taken : Taken) → device < length state → taken_at (put state device taken) device ≡ taken
 taken_same state device taken there = get_or-set_same state device taken none_taken there
 
-taken_other : (state : State) (device other : ℕ) (taken : Taken) → (other ≡ device → ⊥) → taken_at (put state device taken) other ≡ taken_at state other
+pub taken_other : (state : State) (device other : ℕ) (taken : Taken) → (other ≡ device → ⊥) → taken_at (put state device taken) other ≡ taken_at state other
 taken_other state device other taken differ = get_or-set_other state device other taken none_taken differ
 
 -- The three ways to make a chunk ready
@@ -26,7 +26,7 @@ pub data Readied (state : State) (device chunk : ℕ) (step : Step) : Type 0 whe
   Took : (taken_at state device).valid ≡ true → number_in chunk (taken_at state device).chunks ≡ None → (units : List BlockUnit) → step ≡ keep units (put state device (with_chunk (taken_at state device) chunk)) → Readied state device chunk step
   Lost : step ≡ keep [] (put state device (lost (taken_at state device))) → Readied state device chunk step
 
-none_of : (o : Option ℕ) → is_some o ≡ false → o ≡ None
+pub none_of : (o : Option ℕ) → is_some o ≡ false → o ≡ None
 none_of None e = refl
 none_of (Some i) e = absurd cc
 

@@ -35,12 +35,12 @@ use Rattle.dm_map.proofs.UnitRows.{row_same}
 -- What lies below a sector of a store
 
 -- a sector of one that is a level less deep, whatever is said of snapshots
-record LiesInStore (stack : Description) (levels : ℕ) (below : (FoundSnapshot → ℕ → Below) → Below) : Type 0 where
-  to : Lower
-  at : ℕ
-  is : (over : FoundSnapshot → ℕ → Below) → below over ≡ Lies to at
-  store : is_store_to stack levels to ≡ true
-  inside : at < lower_len stack to
+pub record LiesInStore (stack : Description) (levels : ℕ) (below : (FoundSnapshot → ℕ → Below) → Below) : Type 0 where
+  pub to : Lower
+  pub at : ℕ
+  pub is : (over : FoundSnapshot → ℕ → Below) → below over ≡ Lies to at
+  pub store : is_store_to stack levels to ≡ true
+  pub inside : at < lower_len stack to
 
 each_true : {X : Type 0} (test : X → Bool) (xs : List X) → list_all test xs ≡ true → AllByRecursion (λ x. test x ≡ true) xs
 each_true test [] all = tt
@@ -103,7 +103,7 @@ found_on stack device sector line is sound inside =
     let f = sector_found stack device sector sound (device_there stack device sector inside) inside in
     subst (λ (o : Option FoundLine). OnFound o (λ l. HoldsSoundly stack device l sector)) (sym f.is ∙ is) f.soundly
 
-below_store : (stack : Description) (levels device sector : ℕ) → IsSound stack → is_store_to stack (suc levels) (Device device) ≡ true → sector < device_len stack device → LiesInStore stack levels (λ over. below over stack device sector)
+pub below_store : (stack : Description) (levels device sector : ℕ) → IsSound stack → is_store_to stack (suc levels) (Device device) ≡ true → sector < device_len stack device → LiesInStore stack levels (λ over. below over stack device sector)
 unfolding is_store_to
 below_store stack levels device sector sound store inside =
     let parts = and_parts (not (is_ro_at stack device)) (list_all (λ l. is_plain l.target && list_all (λ span. is_store_to stack levels (lower_of stack span.to)) (spans l)) (lines_at stack device)) store in

@@ -43,7 +43,7 @@ state_at chunks valid (first ∷ rest) (suc device) table is = state_at chunks v
 
 -- The places of a number among those of a list that fits
 
-number_within : (chunk : ℕ) (chunks : List ℕ) (number : ℕ) → number_in chunk chunks ≡ Some number → number < length chunks
+pub number_within : (chunk : ℕ) (chunks : List ℕ) (number : ℕ) → number_in chunk chunks ≡ Some number → number < length chunks
 number_within chunk [] number is = absurd cc
 number_within chunk (first ∷ rest) number is = number_after (first == chunk) (number_in chunk rest) (length rest) number (λ later found. number_within chunk rest later found) is
   where

@@ -1,12 +1,17 @@
+pub mod Blocks
 pub mod Bound
+pub mod Contents
 pub mod Counts
+pub mod Fitting
 pub mod Homes
 pub mod KeptLaws
 pub mod Mapper
 pub mod Mapping
+pub mod Own
 pub mod Path
 pub mod PieceList
 pub mod Reads
+pub mod Runs
 pub mod Sink
 pub mod SnapshotWrites
 pub mod Snapshots
@@ -17,3 +22,4 @@ pub mod Tables
 pub mod Units
 pub mod Usage
 pub mod Walk
+pub mod Ways

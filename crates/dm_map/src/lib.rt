@@ -7,11 +7,14 @@
 mod chunk;
 mod levels;
 mod mapper;
+mod own;
 mod piece;
 mod piece_list;
 mod places;
 mod plain_taken;
+mod play;
 mod ready;
+mod run_taken;
 mod sink;
 mod stretch;
 mod stripe;
@@ -23,10 +26,13 @@ mod walker;
 
 pub use levels::levels_are_enough;
 pub use mapper::{MapFault, Mapper};
+pub use own::tops_are_alone;
 pub use piece::Piece;
 pub use piece_list::PieceList;
 pub use places::places_are_apart;
 pub use plain_taken::PlainTaken;
+pub use play::play_goes_on;
+pub use run_taken::RunTaken;
 pub use sink::Sink;
 pub use taken::Taken;
 pub use usage::Usage;

@@ -1,3 +1,4 @@
+pub mod Apart
 pub mod ChunkLemmas
 pub mod ClaimLemmas
 pub mod CrowdLemmas
@@ -14,6 +15,7 @@ pub mod TidyLemmas
 pub mod TopLemmas
 pub mod MeetLemmas
 pub mod OneFault
+pub mod Parts
 pub mod Passes
 pub mod SweepLemmas
 pub mod PairLemmas

@@ -1,0 +1,226 @@
+-- Where no claims meet: what leads to a sector that a line or a store's snapshot has, and what leads nowhere.
+use Rattle.std.proofs.Common.{◌≡◌, ℕ, ◌+◌, ◌-◌, ◌*◌, ◌/◌, ◌%◌, ◌<◌, true, false, Option, Some, None, length, refl, sym, ap, subst, ◌∙◌, arith}
+use Rattle.std.specs.Prelude.{slice_get}
+use Rattle.std.proofs.lemmas.Bool.{leb-true}
+use Rattle.dm_table.specs.declared.table.Line.{Line}
+use Rattle.dm_stack.specs.declared.found.FoundColumn.{FoundColumn}
+use Rattle.dm_stack.specs.declared.found.FoundLine.{FoundLine}
+use Rattle.dm_stack.specs.declared.found.FoundSnapshot.{FoundSnapshot}
+use Rattle.dm_stack.specs.declared.found.FoundTarget.{FoundTarget}
+use Rattle.dm_stack.specs.declared.found.FoundTarget.TheVariants as founds
+use Rattle.dm_stack.specs.declared.id.Lower.{Lower}
+use Rattle.dm_stack.specs.declared.id.Lower.TheVariants.{Device}
+use Rattle.dm_stack.specs.Below.{AreStripes, IsTargetSound, Lies, below_line, column_of, found_at, found_line, found_target, in_column}
+use Rattle.dm_stack.specs.Claims.{IsTidy, IsTop}
+use Rattle.dm_stack.specs.Description.{Description, device_len, lower_len}
+use Rattle.dm_stack.specs.Soundness.{IsSound}
+use Rattle.dm_stack.proofs.Apart.{IsVia, IsNamed, one_via, top_named}
+use Rattle.dm_map.specs.Fitting.{IsFitting}
+use Rattle.dm_map.specs.Reads.{read_below}
+use Rattle.dm_map.specs.Snapshots.{kept_at, number_in, read_over}
+use Rattle.dm_map.specs.State.{State, taken_at}
+use Rattle.dm_map.specs.Tables.{snapshot_at}
+use Rattle.dm_map.proofs.FoundLines.{line_sound, snapshot_sound}
+use Rattle.dm_map.proofs.How.{How, ByLine, ByStore, ByRead, IsColumnStep, column_at, columns_of, within_at}
+use Rattle.dm_map.proofs.Numbers.{kept_inside, stripe_back}
+use Rattle.dm_map.proofs.TableLemmas.{number_within}
+use Rattle.dm_map.proofs.Vias.{IsLineVia, column_inside, via_line, via_snapshot}
+
+-- A sector of a line is told by its column and its place there
+
+distance_one : (stack : Description) (device start len : ℕ) (target : FoundTarget) (d e : ℕ) (column : FoundColumn) → IsTargetSound stack device start len target → slice_get (columns_of target) (column_at target d) ≡ Some column
+    → column_at target d ≡ column_at target e → within_at target d ≡ within_at target e → d ≡ e
+distance_one stack device start len (founds.Linear to offset) d e column sound is columns within = within
+distance_one stack device start len (founds.Striped chunk columns) d e column sound is same within =
+    let stripes : AreStripes stack len chunk columns = sound in
+    let n = length columns in
+    sym (stripe_back chunk n d stripes.chunk_some)
+    ∙ ap (λ (w : ℕ). (w / chunk * n + column_of chunk n d) * chunk + w % chunk) within
+    ∙ ap (λ (i : ℕ). (in_column chunk n e / chunk * n + i) * chunk + in_column chunk n e % chunk) same
+    ∙ stripe_back chunk n e stripes.chunk_some
+distance_one stack device start len founds.Zero d e column sound is columns within = absurd cc
+distance_one stack device start len founds.Error d e column sound is columns within = absurd cc
+distance_one stack device start len (founds.Snapshot snapshot) d e column sound is columns within = absurd cc
+
+column_is : (a b : FoundColumn) → Some a ≡ Some b → a ≡ b
+column_is a b e = cc
+
+-- one column and one sector below are one distance
+step_one : (stack : Description) (device start len : ℕ) (target : FoundTarget) (d e : ℕ) (lower : Lower) (at : ℕ) → IsTargetSound stack device start len target → IsColumnStep target d lower at → IsColumnStep target e lower at → column_at target d ≡ column_at target e → d ≡ e
+step_one stack device start len target d e lower at sound a b same =
+    let columns = column_is a.column b.column (sym a.is ∙ ap (slice_get (columns_of target)) same ∙ b.is) in
+    let offsets : a.column.offset ≡ b.column.offset = ap (λ (c : FoundColumn). c.offset) columns in
+    let on_a = a.sector in let on_b = b.sector in
+    distance_one stack device start len target d e a.column sound a.is same (omega (arith, offsets, on_a, on_b))
+
+-- a snapshot's line has no columns
+no_column : (target : FoundTarget) (distance : ℕ) (lower : Lower) (at : ℕ) (snapshot : FoundSnapshot) → target ≡ founds.Snapshot snapshot → IsColumnStep target distance lower at → ⊥
+no_column target distance lower at snapshot is step = none (sym (ap (λ (t : FoundTarget). slice_get (columns_of t) (column_at t distance)) is) ∙ step.is)
+  where
+    none : None ≡ Some step.column → ⊥
+    none e = cc
+
+line_no_snapshot : (stack : Description) (device sector : ℕ) (line : FoundLine) (lower : Lower) (at : ℕ) (l m : Line) (snapshot : FoundSnapshot) → found_line stack l ≡ line → IsColumnStep line.target (sector - line.start) lower at → l ≡ m → found_target stack m.target ≡ founds.Snapshot snapshot → ⊥
+line_no_snapshot stack device sector line lower at l m snapshot is step same target =
+    no_column line.target (sector - line.start) lower at snapshot (sym (ap (λ (x : FoundLine). x.target) is) ∙ ap (λ (x : Line). found_target stack x.target) same ∙ target) step
+
+-- What a taken chunk's number is inside of
+
+pub fits : (stack : Description) (state : State) (device sector number : ℕ) (snapshot : FoundSnapshot) → IsSound stack → IsFitting stack state → snapshot_at stack device ≡ Some snapshot → number_in (sector / snapshot.chunk) (taken_at state device).chunks ≡ Some number
+    → kept_at snapshot number sector < lower_len stack snapshot.store
+fits stack state device sector number snapshot sound fitting at is =
+    let over = snapshot_sound stack device snapshot sound at in
+    kept_inside snapshot number sector (lower_len stack snapshot.store) over.soundly.chunk_some
+    (leb-true _ _ (fitting.places device number snapshot at (number_within (sector / snapshot.chunk) (taken_at state device).chunks number is)))
+
+-- a read of the origin is inside of it
+read_inside : (stack : Description) (state : State) (device sector : ℕ) (snapshot : FoundSnapshot) → IsSound stack → snapshot_at stack device ≡ Some snapshot → sector < device_len stack device → sector < lower_len stack snapshot.origin
+read_inside stack state device sector snapshot sound at inside = let over = (snapshot_sound stack device snapshot sound at).soundly.origin in omega (arith, over, inside)
+
+-- what goes on is inside its device
+inside_of : (stack : Description) (state : State) (device sector : ℕ) (lower : Lower) (at : ℕ) (line : Option FoundLine) → IsSound stack → found_at stack device sector ≡ line → below_line (read_over (taken_at state device)) line sector ≡ Lies lower at → sector < device_len stack device
+inside_of stack state device sector lower at None sound is e = absurd cc
+inside_of stack state device sector lower at (Some line) sound is e = (line_sound stack device sector line sound is).inside
+
+pub goes_on_inside : (stack : Description) (state : State) (device sector : ℕ) (lower : Lower) (at : ℕ) → IsSound stack → read_below stack state device sector ≡ Lies lower at → sector < device_len stack device
+goes_on_inside stack state device sector lower at sound e = inside_of stack state device sector lower at (found_at stack device sector) sound refl e
+
+-- What leads to a sector
+
+pub record IsAt (d s e u : ℕ) : Type 0 where
+  pub device : d ≡ e
+  pub sector : s ≡ u
+
+two_columns : (i j : ℕ) → i ≡ 0 → j ≡ 1 → i ≡ j → ⊥
+two_columns i j first second same = omega (arith, first, second, same)
+
+-- to one that a line's column has: that line's sector
+pub back_line : (stack : Description) (state : State) (d s e t : ℕ) (lower : Lower) (at : ℕ) (line : FoundLine) → IsSound stack → IsFitting stack state → IsTidy stack → t < device_len stack e
+    → found_at stack d s ≡ Some line → IsColumnStep line.target (s - line.start) lower at → How stack state e t lower at → IsAt e t d s
+back_line stack state d s e t lower at line sound fitting tidy inside is step (ByLine other is_other step_other) =
+    let a = via_line stack d s line lower at sound is step in let b = via_line stack e t other lower at sound is_other step_other in
+    let one = one_via stack d e a.place b.place (column_at line.target (s - line.start)) (column_at other.target (t - other.start)) a.it b.it lower at false tidy a.via b.via in
+    let same : line ≡ other = sym a.is ∙ ap (found_line stack) one.lines ∙ b.is in
+    let of = (line_sound stack d s line sound is).soundly in let of_other = (line_sound stack e t other sound is_other).soundly in
+    let starts : line.start ≡ other.start = ap (λ (l : FoundLine). l.start) same in
+    let moved : IsColumnStep line.target (t - other.start) lower at = subst (λ (l : FoundLine). IsColumnStep l.target (t - other.start) lower at) (sym same) step_other in
+    let columns : column_at line.target (s - line.start) ≡ column_at line.target (t - other.start) = one.columns ∙ ap (λ (l : FoundLine). column_at l.target (t - other.start)) (sym same) in
+    let distances = step_one stack d line.start line.len line.target (s - line.start) (t - other.start) lower at of.target step moved columns in
+    let from = of.from in let from_other = of_other.from in
+    record { device = sym one.devices; sector = omega (arith, distances, starts, from, from_other) }
+back_line stack state d s e t lower at line sound fitting tidy inside is step (ByStore snapshot number over valid n lower_is at_is) =
+    let a = via_line stack d s line lower at sound is step in let b = via_snapshot stack e snapshot sound over in
+    let below : at < lower_len stack snapshot.store = subst (λ (x : ℕ). x < lower_len stack snapshot.store) (sym at_is) (fits stack state e t number snapshot sound fitting over n) in
+    let via : IsVia stack e b.place 0 b.it lower at false = subst (λ (x : Lower). IsVia stack e b.place 0 b.it x at false) (sym lower_is) (b.store at below) in
+    let one = one_via stack d e a.place b.place (column_at line.target (s - line.start)) 0 a.it b.it lower at false tidy a.via via in
+    absurd (line_no_snapshot stack d s line lower at a.it b.it snapshot a.is step one.lines b.target)
+back_line stack state d s e t lower at line sound fitting tidy inside is step (ByRead snapshot over valid n lower_is at_is) =
+    let a = via_line stack d s line lower at sound is step in let b = via_snapshot stack e snapshot sound over in
+    let below : at < lower_len stack snapshot.origin = subst (λ (x : ℕ). x < lower_len stack snapshot.origin) (sym at_is) (read_inside stack state e t snapshot sound over inside) in
+    let via : IsVia stack e b.place 1 b.it lower at true = subst (λ (x : Lower). IsVia stack e b.place 1 b.it x at true) (sym lower_is) (b.origin at below) in
+    let one = one_via stack d e a.place b.place (column_at line.target (s - line.start)) 1 a.it b.it lower at true tidy a.via via in
+    absurd (line_no_snapshot stack d s line lower at a.it b.it snapshot a.is step one.lines b.target)
+
+-- to one of a store: its snapshot, by a taken chunk
+pub record IsKept (state : State) (device : ℕ) (snapshot : FoundSnapshot) (at e t : ℕ) : Type 0 where
+  pub same : e ≡ device
+  pub number : ℕ
+  pub is : number_in (t / snapshot.chunk) (taken_at state device).chunks ≡ Some number
+  pub sector : at ≡ kept_at snapshot number t
+
+snapshot_is : (a b : FoundSnapshot) → founds.Snapshot a ≡ founds.Snapshot b → a ≡ b
+snapshot_is a b e = cc
+
+pub back_store : (stack : Description) (state : State) (d e t at : ℕ) (snapshot : FoundSnapshot) → IsSound stack → IsFitting stack state → IsTidy stack → t < device_len stack e
+    → snapshot_at stack d ≡ Some snapshot → at < lower_len stack snapshot.store → How stack state e t snapshot.store at → IsKept state d snapshot at e t
+back_store stack state d e t at snapshot sound fitting tidy inside over below (ByLine line is step) =
+    let a = via_line stack e t line snapshot.store at sound is step in let b = via_snapshot stack d snapshot sound over in
+    let one = one_via stack e d a.place b.place (column_at line.target (t - line.start)) 0 a.it b.it snapshot.store at false tidy a.via (b.store at below) in
+    absurd (line_no_snapshot stack e t line snapshot.store at a.it b.it snapshot a.is step one.lines b.target)
+back_store stack state d e t at snapshot sound fitting tidy inside over below (ByStore other number over_other valid n store_is at_is) =
+    let a = via_snapshot stack d snapshot sound over in let b = via_snapshot stack e other sound over_other in
+    let below_other : at < lower_len stack other.store = subst (λ (x : Lower). at < lower_len stack x) store_is below in
+    let via : IsVia stack e b.place 0 b.it snapshot.store at false = subst (λ (x : Lower). IsVia stack e b.place 0 b.it x at false) (sym store_is) (b.store at below_other) in
+    let one = one_via stack d e a.place b.place 0 0 a.it b.it snapshot.store at false tidy (a.store at below) via in
+    let same : snapshot ≡ other = snapshot_is snapshot other (sym a.target ∙ ap (λ (l : Line). found_target stack l.target) one.lines ∙ b.target) in
+    record { same = sym one.devices; number = number; is = rw (same, one.devices) n; sector = rw same at_is }
+back_store stack state d e t at snapshot sound fitting tidy inside over below (ByRead other over_other valid n store_is at_is) =
+    let a = via_snapshot stack d snapshot sound over in let b = via_snapshot stack e other sound over_other in
+    let below_other : at < lower_len stack other.origin = subst (λ (x : ℕ). x < lower_len stack other.origin) (sym at_is) (read_inside stack state e t other sound over_other inside) in
+    let via : IsVia stack e b.place 1 b.it snapshot.store at true = subst (λ (x : Lower). IsVia stack e b.place 1 b.it x at true) (sym store_is) (b.origin at below_other) in
+    let one = one_via stack d e a.place b.place 0 1 a.it b.it snapshot.store at true tidy (a.store at below) via in
+    absurd (two_columns 0 1 refl refl one.columns)
+
+-- Roots: no line leads into them, and they are no store
+
+pub record IsNoLines (stack : Description) (lower : Lower) : Type 0 where
+  pub none : (device sector : ℕ) (line : FoundLine) (at : ℕ) → found_at stack device sector ≡ Some line → IsColumnStep line.target (sector - line.start) lower at → ⊥
+
+pub record IsNoStore (stack : Description) (lower : Lower) : Type 0 where
+  pub none : (device : ℕ) (snapshot : FoundSnapshot) → snapshot_at stack device ≡ Some snapshot → lower ≡ snapshot.store → ⊥
+
+-- no line leads into a store or an origin, and no store is an origin
+
+step_inside : (stack : Description) (device sector : ℕ) (line : FoundLine) (lower : Lower) (at : ℕ) → IsSound stack → found_at stack device sector ≡ Some line → IsColumnStep line.target (sector - line.start) lower at → at < lower_len stack lower
+step_inside stack device sector line lower at sound is step =
+    let of = (line_sound stack device sector line sound is).soundly in
+    let from = of.from in let before = of.before in
+    column_inside stack device line.start line.len line.target (sector - line.start) lower at of.target step (omega (arith, from, before))
+
+pub store_no_lines : (stack : Description) (device : ℕ) (snapshot : FoundSnapshot) → IsSound stack → IsTidy stack → snapshot_at stack device ≡ Some snapshot → IsNoLines stack snapshot.store
+store_no_lines stack device snapshot sound tidy over = record {
+  none = λ e t line at is step.
+      let a = via_line stack e t line snapshot.store at sound is step in let b = via_snapshot stack device snapshot sound over in
+      let one = one_via stack e device a.place b.place (column_at line.target (t - line.start)) 0 a.it b.it snapshot.store at false tidy a.via (b.store at (step_inside stack e t line snapshot.store at sound is step)) in
+      line_no_snapshot stack e t line snapshot.store at a.it b.it snapshot a.is step one.lines b.target;
+}
+
+pub origin_no_lines : (stack : Description) (device : ℕ) (snapshot : FoundSnapshot) → IsSound stack → IsTidy stack → snapshot_at stack device ≡ Some snapshot → IsNoLines stack snapshot.origin
+origin_no_lines stack device snapshot sound tidy over = record {
+  none = λ e t line at is step.
+      let a = via_line stack e t line snapshot.origin at sound is step in let b = via_snapshot stack device snapshot sound over in
+      let one = one_via stack e device a.place b.place (column_at line.target (t - line.start)) 1 a.it b.it snapshot.origin at true tidy a.via (b.origin at (step_inside stack e t line snapshot.origin at sound is step)) in
+      line_no_snapshot stack e t line snapshot.origin at a.it b.it snapshot a.is step one.lines b.target;
+}
+
+pub origin_no_store : (stack : Description) (device : ℕ) (snapshot : FoundSnapshot) → IsSound stack → IsTidy stack → snapshot_at stack device ≡ Some snapshot → IsNoStore stack snapshot.origin
+origin_no_store stack device snapshot sound tidy over = record {
+  none = λ e other over_other same.
+      let of = snapshot_sound stack device snapshot sound over in
+      let whole = of.soundly.origin in let some = of.some in
+      let below : 0 < lower_len stack snapshot.origin = omega (arith, whole, some) in
+      let a = via_snapshot stack device snapshot sound over in let b = via_snapshot stack e other sound over_other in
+      let via : IsVia stack e b.place 0 b.it snapshot.origin 0 false = subst (λ (x : Lower). IsVia stack e b.place 0 b.it x 0 false) (sym same) (b.store 0 (subst (λ (x : Lower). 0 < lower_len stack x) same below)) in
+      let one = one_via stack e device b.place a.place 0 1 b.it a.it snapshot.origin 0 true tidy via (a.origin 0 below) in
+      two_columns 0 1 refl refl one.columns;
+}
+
+-- Top devices: nothing leads to them
+
+line_named : (stack : Description) (device sector : ℕ) (line : FoundLine) (lower : Lower) (at : ℕ) (via : IsLineVia stack device sector line lower at) → IsNamed stack device via.place (column_at line.target (sector - line.start)) via.it lower
+line_named stack device sector line lower at via = record { there = via.via.there; line_at = via.via.line_at; span = via.via.span; span_at = via.via.span_at; on = via.via.on }
+
+pub record IsRoot (stack : Description) (lower : Lower) : Type 0 where
+  pub lines : IsNoLines stack lower
+  pub stores : IsNoStore stack lower
+
+pub origin_root : (stack : Description) (device : ℕ) (snapshot : FoundSnapshot) → IsSound stack → IsTidy stack → snapshot_at stack device ≡ Some snapshot → IsRoot stack snapshot.origin
+origin_root stack device snapshot sound tidy over = record { lines = origin_no_lines stack device snapshot sound tidy over; stores = origin_no_store stack device snapshot sound tidy over }
+
+pub top_root : (stack : Description) (top : ℕ) → IsSound stack → IsTop stack top → IsRoot stack (Device top)
+top_root stack top sound is_top = record {
+  lines = record {
+    none = λ e t line at is step.
+        let a = via_line stack e t line (Device top) at sound is step in
+        top_named stack top e a.place (column_at line.target (t - line.start)) a.it (Device top) is_top (line_named stack e t line (Device top) at a) refl;
+  };
+  stores = record {
+    none = λ e snapshot over same. let b = via_snapshot stack e snapshot sound over in top_named stack top e b.place 0 b.it snapshot.store is_top b.store_named (sym same);
+  };
+}
+
+pub top_back : (stack : Description) (state : State) (top e t at : ℕ) → IsSound stack → IsTop stack top → How stack state e t (Device top) at → ⊥
+top_back stack state top e t at sound is_top (ByLine line is step) = (top_root stack top sound is_top).lines.none e t line at is step
+top_back stack state top e t at sound is_top (ByStore snapshot number over valid n same at_is) = (top_root stack top sound is_top).stores.none e snapshot over same
+top_back stack state top e t at sound is_top (ByRead snapshot over valid n same at_is) =
+    let b = via_snapshot stack e snapshot sound over in top_named stack top e b.place 1 b.it snapshot.origin is_top b.origin_named (sym same)

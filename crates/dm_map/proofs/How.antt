@@ -1,0 +1,124 @@
+-- How a read goes on from a sector of a device: by a line's column, or by a snapshot's store or origin.
+use Rattle.std.proofs.Common.{◌≡◌, ℕ, ◌+◌, ◌-◌, ◌/◌, Bool, true, false, cond, List, [], ◌∷◌, Option, Some, None, length, refl, sym, subst, arith}
+use Rattle.std.specs.Prelude.{slice_get}
+use Rattle.dm_stack.specs.declared.id.Lower.{Lower}
+use Rattle.dm_stack.specs.declared.found.FoundColumn.{FoundColumn}
+use Rattle.dm_stack.specs.declared.found.FoundLine.{FoundLine}
+use Rattle.dm_stack.specs.declared.found.FoundSnapshot.{FoundSnapshot}
+use Rattle.dm_stack.specs.declared.found.FoundTarget.{FoundTarget}
+use Rattle.dm_stack.specs.declared.found.FoundTarget.TheVariants as founds
+use Rattle.dm_stack.specs.Below.{Lies, IsError, below, below_column, below_line, below_target, column_of, found_at, in_column}
+use Rattle.dm_stack.specs.Description.{Description}
+use Rattle.dm_stack.specs.Soundness.{IsSound}
+use Rattle.dm_map.specs.Reads.{read_below}
+use Rattle.dm_map.specs.Snapshots.{kept_at, number_in, read_numbered, read_over}
+use Rattle.dm_map.specs.State.{State, taken_at}
+use Rattle.dm_map.specs.Tables.{snapshot_at}
+use Rattle.dm_map.proofs.FoundLines.{line_snapshot}
+
+-- The columns of a linear or striped line: a linear one is all in one
+
+abbrev pub columns_of : FoundTarget → List FoundColumn
+columns_of (founds.Linear to offset) = record { to = to; offset = offset } ∷ []
+columns_of (founds.Striped chunk columns) = columns
+columns_of founds.Zero = []
+columns_of founds.Error = []
+columns_of (founds.Snapshot snapshot) = []
+
+-- the column that has the sector at a distance from the line's start, and which of the column's it is
+abbrev pub column_at : FoundTarget → (distance : ℕ) → ℕ
+column_at (founds.Linear to offset) distance = 0
+column_at (founds.Striped chunk columns) distance = column_of chunk (length columns) distance
+column_at founds.Zero distance = 0
+column_at founds.Error distance = 0
+column_at (founds.Snapshot snapshot) distance = 0
+
+abbrev pub within_at : FoundTarget → (distance : ℕ) → ℕ
+within_at (founds.Linear to offset) distance = distance
+within_at (founds.Striped chunk columns) distance = in_column chunk (length columns) distance
+within_at founds.Zero distance = 0
+within_at founds.Error distance = 0
+within_at (founds.Snapshot snapshot) distance = 0
+
+-- the sector at a distance lies there by its column
+pub record IsColumnStep (target : FoundTarget) (distance : ℕ) (lower : Lower) (at : ℕ) : Type 0 where
+  pub column : FoundColumn
+  pub is : slice_get (columns_of target) (column_at target distance) ≡ Some column
+  pub to : column.to ≡ lower
+  pub sector : at ≡ column.offset + within_at target distance
+
+pub data How (stack : Description) (state : State) (device sector : ℕ) (lower : Lower) (at : ℕ) : Type 0 where
+  ByLine : (line : FoundLine) → found_at stack device sector ≡ Some line → IsColumnStep line.target (sector - line.start) lower at → How stack state device sector lower at
+  ByStore : (snapshot : FoundSnapshot) (number : ℕ) → snapshot_at stack device ≡ Some snapshot → (taken_at state device).valid ≡ true → number_in (sector / snapshot.chunk) (taken_at state device).chunks ≡ Some number
+      → lower ≡ snapshot.store → at ≡ kept_at snapshot number sector → How stack state device sector lower at
+  ByRead : (snapshot : FoundSnapshot) → snapshot_at stack device ≡ Some snapshot → (taken_at state device).valid ≡ true → number_in (sector / snapshot.chunk) (taken_at state device).chunks ≡ None
+      → lower ≡ snapshot.origin → at ≡ sector → How stack state device sector lower at
+
+lower_is : (a b : Lower) (s t : ℕ) → Lies a s ≡ Lies b t → a ≡ b
+lower_is a b s t e = cc
+
+sector_is : (a b : Lower) (s t : ℕ) → Lies a s ≡ Lies b t → s ≡ t
+sector_is a b s t e = cc
+
+pub column_step : (target : FoundTarget) (distance : ℕ) (found : Option FoundColumn) (lower : Lower) (at : ℕ) → slice_get (columns_of target) (column_at target distance) ≡ found → below_column found (within_at target distance) ≡ Lies lower at → IsColumnStep target distance lower at
+column_step target distance None lower at is e = absurd cc
+column_step target distance (Some column) lower at is e = record { column = column; is = is; to = lower_is _ _ _ _ e; sector = sym (sector_is _ _ _ _ e) }
+
+how_snapshot : (stack : Description) (state : State) (device sector : ℕ) (lower : Lower) (at : ℕ) (snapshot : FoundSnapshot) (valid : Bool) (number : Option ℕ) → snapshot_at stack device ≡ Some snapshot
+    → (taken_at state device).valid ≡ valid → number_in (sector / snapshot.chunk) (taken_at state device).chunks ≡ number → cond valid (read_numbered snapshot number sector) IsError ≡ Lies lower at → How stack state device sector lower at
+how_snapshot stack state device sector lower at snapshot false number over v n e = absurd cc
+how_snapshot stack state device sector lower at snapshot true (Some i) over v n e = ByStore snapshot i over v n (sym (lower_is _ _ _ _ e)) (sym (sector_is _ _ _ _ e))
+how_snapshot stack state device sector lower at snapshot true None over v n e = ByRead snapshot over v n (sym (lower_is _ _ _ _ e)) (sym (sector_is _ _ _ _ e))
+
+how_target : (stack : Description) (state : State) (device sector : ℕ) (lower : Lower) (at : ℕ) (line : FoundLine) (target : FoundTarget) → IsSound stack → found_at stack device sector ≡ Some line → line.target ≡ target
+    → below_target (read_over (taken_at state device)) target (sector - line.start) ≡ Lies lower at → How stack state device sector lower at
+how_target stack state device sector lower at line (founds.Linear to offset) sound is t e =
+    ByLine line is (subst (λ (x : FoundTarget). IsColumnStep x (sector - line.start) lower at) (sym t) (column_step (founds.Linear to offset) (sector - line.start) (Some (record { to = to; offset = offset })) lower at refl e))
+how_target stack state device sector lower at line (founds.Striped chunk columns) sound is t e =
+    ByLine line is (subst (λ (x : FoundTarget). IsColumnStep x (sector - line.start) lower at) (sym t)
+    (column_step (founds.Striped chunk columns) (sector - line.start) (slice_get columns (column_of chunk (length columns) (sector - line.start))) lower at refl e))
+how_target stack state device sector lower at line founds.Zero sound is t e = absurd cc
+how_target stack state device sector lower at line founds.Error sound is t e = absurd cc
+how_target stack state device sector lower at line (founds.Snapshot snapshot) sound is t e =
+    let over = line_snapshot stack device sector line snapshot sound is t in
+    let same : sector - line.start ≡ sector = omega (arith, over.0) in
+    let there : read_over (taken_at state device) snapshot sector ≡ Lies lower at = subst (λ (s : ℕ). read_over (taken_at state device) snapshot s ≡ Lies lower at) same e in
+    how_snapshot stack state device sector lower at snapshot (taken_at state device).valid (number_in (sector / snapshot.chunk) (taken_at state device).chunks) over.1 refl refl there
+
+how_line : (stack : Description) (state : State) (device sector : ℕ) (lower : Lower) (at : ℕ) (line : Option FoundLine) → IsSound stack → found_at stack device sector ≡ line
+    → below_line (read_over (taken_at state device)) line sector ≡ Lies lower at → How stack state device sector lower at
+how_line stack state device sector lower at None sound is e = absurd cc
+how_line stack state device sector lower at (Some line) sound is e = how_target stack state device sector lower at line line.target sound is refl e
+
+pub how : (stack : Description) (state : State) (device sector : ℕ) (lower : Lower) (at : ℕ) → IsSound stack → read_below stack state device sector ≡ Lies lower at → How stack state device sector lower at
+how stack state device sector lower at sound e = how_line stack state device sector lower at (found_at stack device sector) sound refl e
+
+-- a step that no snapshot has a part in
+pub record IsLineStep (stack : Description) (device sector : ℕ) (lower : Lower) (at : ℕ) : Type 0 where
+  pub line : FoundLine
+  pub is : found_at stack device sector ≡ Some line
+  pub step : IsColumnStep line.target (sector - line.start) lower at
+
+plain_target : (stack : Description) (device sector : ℕ) (lower : Lower) (at : ℕ) (line : FoundLine) (target : FoundTarget) → found_at stack device sector ≡ Some line → line.target ≡ target
+    → below_target (λ snapshot place. IsError) target (sector - line.start) ≡ Lies lower at → IsLineStep stack device sector lower at
+plain_target stack device sector lower at line (founds.Linear to offset) is t e = record {
+  line = line;
+  is = is;
+  step = subst (λ (x : FoundTarget). IsColumnStep x (sector - line.start) lower at) (sym t) (column_step (founds.Linear to offset) (sector - line.start) (Some (record { to = to; offset = offset })) lower at refl e);
+}
+plain_target stack device sector lower at line (founds.Striped chunk columns) is t e = record {
+  line = line;
+  is = is;
+  step = subst (λ (x : FoundTarget). IsColumnStep x (sector - line.start) lower at) (sym t)
+      (column_step (founds.Striped chunk columns) (sector - line.start) (slice_get columns (column_of chunk (length columns) (sector - line.start))) lower at refl e);
+}
+plain_target stack device sector lower at line founds.Zero is t e = absurd cc
+plain_target stack device sector lower at line founds.Error is t e = absurd cc
+plain_target stack device sector lower at line (founds.Snapshot snapshot) is t e = absurd cc
+
+plain_line : (stack : Description) (device sector : ℕ) (lower : Lower) (at : ℕ) (line : Option FoundLine) → found_at stack device sector ≡ line → below_line (λ snapshot place. IsError) line sector ≡ Lies lower at → IsLineStep stack device sector lower at
+plain_line stack device sector lower at None is e = absurd cc
+plain_line stack device sector lower at (Some line) is e = plain_target stack device sector lower at line line.target is refl e
+
+pub line_step : (stack : Description) (device sector : ℕ) (lower : Lower) (at : ℕ) → below (λ snapshot place. IsError) stack device sector ≡ Lies lower at → IsLineStep stack device sector lower at
+line_step stack device sector lower at e = plain_line stack device sector lower at (found_at stack device sector) refl e

@@ -1,0 +1,12 @@
+-- States that a stack can be in.
+use Rattle.std.specs.Prelude.{ℕ, ◌≡◌, ◌<◌, true, Some, length}
+use Rattle.dm_stack.specs.declared.found.FoundSnapshot.{FoundSnapshot}
+use Rattle.dm_stack.specs.Description.{Description}
+use Rattle.dm_map.specs.SnapshotWrites.{has_place}
+use Rattle.dm_map.specs.State.{State, taken_at}
+use Rattle.dm_map.specs.Tables.{snapshot_at}
+
+-- a list of taken chunks for each device, no longer than the store of a snapshot has places
+pub record IsFitting (stack : Description) (state : State) : Type 0 where
+  pub count : length state ≡ length stack.devices
+  pub places : (device number : ℕ) (snapshot : FoundSnapshot) → snapshot_at stack device ≡ Some snapshot → number < length (taken_at state device).chunks → has_place stack snapshot number ≡ true

@@ -1,0 +1,40 @@
+use Rattle.std.proofs.Common.{◌≡◌, ◌∷◌, ◌++◌, [], ℕ, false, List, refl, sym, ap, ◌∙◌, subst}
+use Rattle.dm_stack.specs.Description.{Description, device_id}
+use Rattle.dm_replay.specs.Histories.{Asked, asked_answers, world_after}
+use Rattle.dm_replay.specs.Replay.{HasTop, IsGoing, Replaying, asked_request, whole_request}
+use Rattle.dm_replay.specs.Runs.{flat}
+use Rattle.dm_replay.proofs.NamedLemmas.{named_id}
+use Rattle.dm_replay.proofs.WorldLemmas.{answers_after, going_next}
+use Rattle.dm_replay.proofs.replay.Replay.request.Goals as goal
+
+pub returns-in_default-push-clause-fault : goal.returns-in_default-push-clause-fault
+returns-in_default-push-clause-fault g c =
+    let found = c.in-Some.ensures.some in (
+      ap (λ (r : Replaying). r.stopped) (sym c.self.view_is) ∙ c.if-self.false,
+      subst (λ (r : Replaying). HasTop r.stack c.args.request.now.device.now) c.self.view_is (record { id = c.in-Some.device; named = found.0; top = found.1 }),
+      refl,
+    )
+
+pub invariant_of-self-2 : goal.invariant_of-self-2
+invariant_of-self-2 g c =
+    let inside = c.self.inside in let request = c.args.request.now in let did = c.in-Ok.ensures in
+    let newer = c.play_request.new.player in
+    record {
+      tidy = c.self.invariant.tidy;
+      going = λ _. subst (λ (all : List Asked). IsGoing inside.stack.now c.play_request.new.mapper newer.stack.now newer.playing.values.patches.items all)
+          (ap (λ (asked : Asked). inside.asked.items ++ asked ∷ []) (sym c.new.ensures) ∙ sym c.in-Ok-push.ensures.items)
+          (going_next inside.stack.now inside.player.stack.now newer.stack.now inside.mapper c.play_request.new.mapper inside.player.playing.values.patches.items newer.playing.values.patches.items inside.asked.items request c.in-Some.device
+          (c.self.invariant.going c.if-self.false) did.going did.stack did.same_stack did.state did.values did.disks);
+    }
+
+pub returns-clause-answers : goal.returns-clause-answers
+returns-clause-answers g c =
+    let inside = c.self.inside in let request = c.args.request.now in let did = c.in-Ok.ensures in
+    answers_after inside.stack.now inside.player.stack.now inside.mapper inside.player.playing.values.patches.items inside.asked.items request c.in-Some.device c.in-Ok.runs.items (c.self.invariant.going c.if-self.false) did.answers
+    ∙ ap (λ (id : ℕ). asked_answers inside.stack.now (world_after inside.stack.now inside.asked.items) (whole_request request id)) (named_id inside.stack.now request.device.now c.in-Some.device c.in-Some.ensures.some.0)
+    ∙ ap (λ (r : Replaying). asked_answers r.stack (world_after r.stack r.asked) (asked_request r.stack request)) c.self.view_is
+
+pub returns-clause-top : goal.returns-clause-top
+returns-clause-top g c =
+    let found = c.in-Some.ensures.some in
+    subst (λ (r : Replaying). HasTop r.stack c.args.request.now.device.now) c.self.view_is (record { id = c.in-Some.device; named = found.0; top = found.1 })

@@ -1,0 +1,10 @@
+-- the lines so far are written, and nothing failed
+use Rattle.std.proofs.Common.{take, Ok}
+use Rattle.dm_table.specs.CanonicalText.{Wrote}
+use Rattle.dm_table.specs.declared.device_io.OutFault.{OutFault}
+use Rattle.dm_replay.specs.RunText.{runs_text}
+use Rattle.dm_replay.proofs.run_text.write_runs.Given as goal
+
+abbrev pub invariant-loop-run : goal.invariant-loop-run
+invariant-loop-run g l =
+    Wrote {E = OutFault} g.W.Output.written g.W.Output.waiting g.W.Output.faults g.W.Output.flushes l.fn.writer l.writer (Ok tt) (runs_text l.stack l.number (take l.run-index l.runs))

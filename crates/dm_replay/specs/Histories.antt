@@ -1,0 +1,69 @@
+-- What the disks of a stack hold after requests, and what a request answers then.
+use Rattle.std.specs.Prelude.{ℕ, ◌+◌, List, [], ◌∷◌, Option, Some, None, nat_lt, take, if◌then◌else◌}
+use Rattle.dm_table.specs.declared.request.Op.{Op}
+use Rattle.dm_stack.specs.declared.graph.TheConstants.{MOST_DEPTH}
+use Rattle.dm_stack.specs.declared.id.Lower.TheVariants.{Device}
+use Rattle.dm_stack.specs.Description.{Description, device_len}
+use Rattle.dm_map.specs.Mapping.{request_step, sector_step}
+use Rattle.dm_map.specs.State.{State, start_state}
+use Rattle.dm_map.specs.Steps.{Step, steps}
+use Rattle.dm_map.specs.Units.{BlockUnit}
+use Rattle.dm_replay.specs.Values.{Answer, Values, old_values, played, played_answers, sector_past}
+
+-- a request that was accepted, of a device by its id; it was played whole, or stopped after so many of its units
+pub record Asked : Type 0 where
+  pub number : ℕ
+  pub op : Op
+  pub device : ℕ
+  pub start : ℕ
+  pub len : ℕ
+  pub stopped_after : Option ℕ
+
+-- what becomes of it in a state
+abbrev pub asked_step : Description → Asked → State → Step
+asked_step stack asked state = request_step stack asked.op asked.device asked.start asked.len state
+
+-- the first units that are played of all
+abbrev pub played_of : Option ℕ → List BlockUnit → List BlockUnit
+played_of None units = units
+played_of (Some count) units = take count units
+
+abbrev pub asked_units : Description → Asked → State → List BlockUnit
+asked_units stack asked state = played_of asked.stopped_after (asked_step stack asked state).units
+
+-- the state after the first sectors of a request: one that passes the device's end changes nothing
+abbrev pub state_past : Description → Asked → (sectors : ℕ) → State → State
+state_past stack asked sectors state =
+    if nat_lt (device_len stack asked.device) (asked.start + asked.len) then state
+    else (steps (sector_step stack asked.op MOST_DEPTH (Device asked.device)) state asked.start sectors).state
+
+-- the state that it leaves: that after all its sectors, or after those whose units were all played
+abbrev pub left_state : Description → Option ℕ → Asked → State → State
+left_state stack None asked state = (asked_step stack asked state).state
+left_state stack (Some count) asked state = state_past stack asked (sector_past (take count (asked_step stack asked state).units) 0) state
+
+-- the state of a stack, and what its disks hold
+pub record World : Type 0 where
+  pub state : State
+  pub values : Values
+
+abbrev pub first_world : Description → World
+first_world stack = record { state = start_state stack; values = old_values }
+
+-- the world after a request, and what the request answers
+abbrev pub next_world : Description → World → Asked → World
+next_world stack world asked = record {
+  state = left_state stack asked.stopped_after asked world.state;
+  values = played asked.number asked.start (asked_units stack asked world.state) world.values;
+}
+
+abbrev pub asked_answers : Description → World → Asked → List Answer
+asked_answers stack world asked = played_answers asked.number asked.start (asked_units stack asked world.state) world.values
+
+-- the world after requests, one after the other
+unfoldable pub world_from : Description → World → List Asked → World
+world_from stack world [] = world
+world_from stack world (asked ∷ later) = world_from stack (next_world stack world asked) later
+
+abbrev pub world_after : Description → List Asked → World
+world_after stack all = world_from stack (first_world stack) all

@@ -1,0 +1,12 @@
+pub mod Histories
+pub mod OfDiskLaws
+pub mod OfDisks
+pub mod Patches
+pub mod PlayLaws
+pub mod Player
+pub mod Ranges
+pub mod Replay
+pub mod Rows
+pub mod RunText
+pub mod Runs
+pub mod Values

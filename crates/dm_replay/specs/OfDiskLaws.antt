@@ -1,0 +1,8 @@
+-- Units on a stack's disks, in two parts. It is here because a sink's impl cites it.
+use Rattle.std.proofs.Common.{ℕ, List, [], ◌∷◌, ◌++◌}
+use Rattle.dm_map.specs.Units.{BlockUnit}
+use Rattle.dm_replay.specs.OfDisks.{AreUnitsOf}
+
+pub units_of-append : (disks : ℕ) (units more : List BlockUnit) → AreUnitsOf disks units → AreUnitsOf disks more → AreUnitsOf disks (units ++ more)
+units_of-append disks [] more first second = second
+units_of-append disks (unit ∷ units) more first second = (first.0, units_of-append disks units more first.1 second)

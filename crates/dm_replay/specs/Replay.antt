@@ -1,0 +1,65 @@
+-- A replay, and what its results say.
+use Rattle.std.specs.Prelude.{◌≡◌, ℕ, Bool, true, false, List, [], None, Some, length, position}
+use Rattle.dm_table.specs.declared.request.Request.{Request}
+use Rattle.dm_stack.specs.declared.clash.Clash.{Clash}
+use Rattle.dm_stack.specs.Claims.{IsClash, IsTidy, IsTop, claims}
+use Rattle.dm_stack.specs.Description.{Description, device_id, is_same}
+use Rattle.dm_map.specs.Mapper.{Mapping}
+use Rattle.dm_map.specs.State.{State}
+use Rattle.dm_replay.specs.declared.patch.Patch.{Patch}
+use Rattle.dm_replay.specs.declared.replay_fault.ReplayFault.{ReplayFault}
+use Rattle.dm_replay.specs.declared.replay_fault.ReplayFault.TheVariants as faults
+use Rattle.dm_replay.specs.Histories.{Asked, World, world_after}
+use Rattle.dm_replay.specs.OfDisks.{AreValuesOf}
+use Rattle.dm_replay.specs.Patches.{values_in}
+
+-- a replay: its stack, the requests that it accepted, and whether it stopped
+pub record Replaying : Type 0 where
+  pub stack : Description
+  pub asked : List Asked
+  pub stopped : Bool
+
+abbrev pub new_replay : Description → Replaying
+new_replay of = record { stack = of; asked = []; stopped = false }
+
+-- a request of a device that is played to its end
+abbrev pub whole_request : Request → (id : ℕ) → Asked
+whole_request request id = record { number = request.number; op = request.op; device = id; start = request.start; len = request.len; stopped_after = None }
+
+-- the same, of the device that it names
+abbrev pub asked_request : Description → Request → Asked
+asked_request stack request = whole_request request (device_id stack request.device.now)
+
+-- a top device has the name
+pub record HasTop (of : Description) (name : List ℕ) : Type 0 where
+  pub id : ℕ
+  pub named : position (λ device. is_same device.name name) of.devices ≡ Some id
+  pub top : IsTop of id
+
+-- why there is no new replay: a clash, or no memory
+abbrev pub IsNotBegun : ReplayFault → Description → Type 0
+IsNotBegun faults.Untidy of = (clash : Clash) × IsClash (claims of) clash
+IsNotBegun faults.Memory of = Unit {0}
+IsNotBegun faults.NotTop of = ⊥
+IsNotBegun faults.Stopped of = ⊥
+
+-- why a request for the device of a name was not answered, and what the replay is then
+abbrev pub IsNotAnswered : ReplayFault → List ℕ → (old new : Replaying) → Type 0
+IsNotAnswered faults.Untidy name old new = ⊥
+IsNotAnswered faults.Memory name old new = (old.stopped ≡ false) × HasTop old.stack name × (new.stopped ≡ true)
+IsNotAnswered faults.NotTop name old new = (old.stopped ≡ false) × (HasTop old.stack name → ⊥) × (new ≡ old)
+IsNotAnswered faults.Stopped name old new = (old.stopped ≡ true) × (new ≡ old)
+
+-- what a replay keeps is the world after its requests
+pub record IsGoing (of : Description) (mapper : Mapping) (disks : Description) (patches : List Patch) (all : List Asked) : Type 0 where
+  pub maps : mapper.stopped ≡ false
+  pub mapper_stack : mapper.stack ≡ of
+  pub player_stack : disks ≡ of
+  pub state_is : mapper.state ≡ (world_after of all).state
+  pub values_are : (disk sector : ℕ) → values_in patches disk sector ≡ (world_after of all).values disk sector
+  pub disks_are : AreValuesOf (length of.disks) (values_in patches)
+
+-- unless it stopped; no claims of its stack meet
+pub record IsReplay (of : Description) (mapper : Mapping) (disks : Description) (patches : List Patch) (all : List Asked) (ended : Bool) : Type 0 where
+  pub tidy : IsTidy of
+  pub going : ended ≡ false → IsGoing of mapper disks patches all

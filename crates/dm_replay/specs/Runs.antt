@@ -1,0 +1,56 @@
+-- Runs of answers: consecutive sectors whose answers go on, as one.
+use Rattle.std.specs.Prelude.{◌≡◌, ℕ, zero, suc, ◌+◌, ◌<◌, List, [], ◌∷◌}
+use Rattle.std.specs.List.{AllByRecursion, flat_map}
+use Rattle.dm_replay.specs.declared.value.Value.TheVariants as value
+use Rattle.dm_replay.specs.declared.value_run.ValueRun.{ValueRun}
+use Rattle.dm_replay.specs.declared.value_run.ValueRun.TheVariants as runs
+use Rattle.dm_replay.specs.Values.{Answer, Gives, Failed, next_value, further}
+
+-- the answer of a run's first sector, and how many sectors it has
+abbrev pub first_answer : ValueRun → Answer
+first_answer (runs.Old disk start len) = Gives (value.Old disk start)
+first_answer (runs.Wrote request start len) = Gives (value.Wrote request start)
+first_answer (runs.Zero len) = Gives value.Zero
+first_answer (runs.Error len) = Failed
+
+abbrev pub run_len : ValueRun → ℕ
+run_len (runs.Old disk start len) = len
+run_len (runs.Wrote request start len) = len
+run_len (runs.Zero len) = len
+run_len (runs.Error len) = len
+
+-- the answer of the next sector, and of that len sectors further on, where they go on from an answer
+abbrev pub next_answer : Answer → Answer
+next_answer (Gives first) = Gives (next_value first)
+next_answer Failed = Failed
+
+abbrev pub further_answer : Answer → (len : ℕ) → Answer
+further_answer (Gives first) len = Gives (further first len)
+further_answer Failed len = Failed
+
+-- len answers, each going on from the one before
+abbrev pub answers_in : Answer → (len : ℕ) → List Answer
+answers_in first zero = []
+answers_in first (suc len) = first ∷ answers_in (next_answer first) len
+
+abbrev pub run_answers : ValueRun → List Answer
+run_answers run = answers_in (first_answer run) (run_len run)
+
+-- the answers of runs, sector by sector
+abbrev pub flat : List ValueRun → List Answer
+flat all = flat_map run_answers all
+
+-- the second run goes on where the first ends, so that they could be one
+abbrev pub Joins : ValueRun → ValueRun → Type 0
+Joins run after = further_answer (first_answer run) (run_len run) ≡ first_answer after
+
+-- no run joins the one before it
+abbrev pub AreApart : List ValueRun → Type 0
+AreApart [] = Unit {0}
+AreApart (run ∷ []) = Unit {0}
+AreApart (run ∷ after ∷ rest) = (Joins run after → ⊥) × AreApart (after ∷ rest)
+
+-- maximal runs: none is empty, and none joins the one before it
+pub record AreMaximal (all : List ValueRun) : Type 0 where
+  pub some : AllByRecursion (λ run. 0 < run_len run) all
+  pub apart : AreApart all

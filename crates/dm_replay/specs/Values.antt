@@ -1,0 +1,84 @@
+-- What the sectors of disks hold, and what units do to it.
+use Rattle.std.specs.Prelude.{ℕ, zero, suc, ◌+◌, ◌&&◌, ◌==◌, List, [], ◌∷◌, ◌++◌, if◌then◌else◌}
+use Rattle.dm_map.specs.Units.{BlockUnit, ReadOf, WriteOf, Zeros, Drops, Fails, CopyOf, FillOf}
+use Rattle.dm_replay.specs.declared.value.Value.{Value}
+use Rattle.dm_replay.specs.declared.value.Value.TheVariants as value
+
+-- what each sector of each disk holds
+abbrev pub Values : Type 0
+Values = (disk sector : ℕ) → Value
+
+-- at the start each holds what was there before
+abbrev pub old_values : Values
+old_values disk sector = value.Old disk sector
+
+-- what one sector of a request answers
+pub data Answer : Type 0 where
+  Gives : Value → Answer
+  Failed : Answer
+
+-- a value at one sector, all others as they were
+abbrev pub stored : Values → (disk sector : ℕ) → Value → Values
+stored values on at new disk sector = if disk == on && sector == at then new else values disk sector
+
+-- what a unit of a request leaves, where the sector that is answered next is given: a copy moves the value, a fill stores zeros, and a write stores that the request wrote the sector
+abbrev pub played_unit : (request sector : ℕ) → BlockUnit → Values → Values
+played_unit request sector (ReadOf disk at) values = values
+played_unit request sector (WriteOf disk at) values = stored values disk at (value.Wrote request sector)
+played_unit request sector Zeros values = values
+played_unit request sector Drops values = values
+played_unit request sector Fails values = values
+played_unit request sector (CopyOf disk at to to_at) values = stored values to to_at (values disk at)
+played_unit request sector (FillOf disk at) values = stored values disk at value.Zero
+
+-- what it answers: copies and fills answer nothing
+abbrev pub unit_answers : (request sector : ℕ) → BlockUnit → Values → List Answer
+unit_answers request sector (ReadOf disk at) values = Gives (values disk at) ∷ []
+unit_answers request sector (WriteOf disk at) values = Gives (value.Wrote request sector) ∷ []
+unit_answers request sector Zeros values = Gives value.Zero ∷ []
+unit_answers request sector Drops values = Gives value.Zero ∷ []
+unit_answers request sector Fails values = Failed ∷ []
+unit_answers request sector (CopyOf disk at to to_at) values = []
+unit_answers request sector (FillOf disk at) values = []
+
+-- the sector that is answered after it
+abbrev pub sector_after : BlockUnit → ℕ → ℕ
+sector_after (ReadOf disk at) sector = suc sector
+sector_after (WriteOf disk at) sector = suc sector
+sector_after Zeros sector = suc sector
+sector_after Drops sector = suc sector
+sector_after Fails sector = suc sector
+sector_after (CopyOf disk at to to_at) sector = sector
+sector_after (FillOf disk at) sector = sector
+
+-- units in order, from the sector on that the first of them to answer answers
+
+unfoldable pub played : (request sector : ℕ) → List BlockUnit → Values → Values
+played request sector [] values = values
+played request sector (unit ∷ units) values = played request (sector_after unit sector) units (played_unit request sector unit values)
+
+unfoldable pub played_answers : (request sector : ℕ) → List BlockUnit → Values → List Answer
+played_answers request sector [] values = []
+played_answers request sector (unit ∷ units) values =
+    unit_answers request sector unit values ++ played_answers request (sector_after unit sector) units (played_unit request sector unit values)
+
+unfoldable pub sector_past : List BlockUnit → ℕ → ℕ
+sector_past [] sector = sector
+sector_past (unit ∷ units) sector = sector_past units (sector_after unit sector)
+
+-- the value of the next sector, and of that len sectors further on, where they go on from a value
+abbrev pub next_value : Value → Value
+next_value (value.Old disk sector) = value.Old disk (suc sector)
+next_value value.Zero = value.Zero
+next_value (value.Wrote request sector) = value.Wrote request (suc sector)
+
+abbrev pub further : Value → (len : ℕ) → Value
+further (value.Old disk sector) len = value.Old disk (sector + len)
+further value.Zero len = value.Zero
+further (value.Wrote request sector) len = value.Wrote request (sector + len)
+
+-- the sector after that of len values that go on from one; zeros have none
+abbrev pub value_end : Value → (len : ℕ) → ℕ
+value_end (value.Old disk sector) len = sector + len
+value_end value.Zero len = 0
+value_end (value.Wrote request sector) len = sector + len

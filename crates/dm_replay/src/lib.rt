@@ -1,0 +1,25 @@
+//! Requests played on the values of disks.
+//!
+//! A `Replay` plays the units of requests, one request after the other, on disks whose sectors hold
+//! what was there before, and answers what each sector of a request reads or stores. No table of
+//! sectors is made: what it keeps grows with the pieces that were stored.
+#![tactic(auto)]
+
+mod asked_request;
+mod disk_values;
+mod patch;
+mod playback;
+mod player;
+mod playing;
+mod replay;
+mod replay_fault;
+mod run_text;
+mod stretch;
+mod value;
+mod value_run;
+mod value_runs;
+
+pub use replay::Replay;
+pub use replay_fault::ReplayFault;
+pub use run_text::write_runs;
+pub use value_run::ValueRun;

@@ -1,0 +1,52 @@
+//! The playback of one request: its units, through a mapper, on the values of disks.
+
+ghost use Rattle.std.specs.Prelude.{◌≡◌, ℕ, ◌<◌, false, length, IfOk, OnOk};
+ghost use Rattle.std.specs.List.{AllByRecursion};
+ghost use Rattle.dm_map.specs.Mapping.{request_step};
+ghost use Rattle.dm_replay.specs.OfDisks.{AreValuesOf, IsRunOf};
+ghost use Rattle.dm_replay.specs.Patches.{values_in};
+ghost use Rattle.dm_replay.specs.Runs.{AreMaximal, flat};
+ghost use Rattle.dm_replay.specs.Values.{played, played_answers};
+
+use crate::player::Player;
+use crate::value_run::ValueRun;
+use dm_map::{Mapper, Taken};
+use dm_stack::DeviceId;
+use dm_table::Request;
+use std::alloc::{AllocError, Global};
+
+/// Plays a request of a device of the stack, and returns what it answered.
+///
+/// # Errors
+///
+/// `AllocError` where it is out of memory: a part of the request may have been played.
+pub(crate) fn play_request<T: Taken>(
+    alloc: Global,
+    mapper: &mut Mapper<'_, T>,
+    player: &mut Player<'_>,
+    request: &Request<'_>,
+    device: DeviceId,
+) -> Result<Vec<ValueRun>, AllocError>
+    requires going { mapper.old.stopped ≡ false }
+    requires stack { player.old.stack.now ≡ mapper.old.stack }
+    requires device { device < length mapper.old.stack.devices }
+    requires disks { AreValuesOf (length mapper.old.stack.disks) (values_in player.old.playing.values.patches.items) }
+    ensures stack { mapper.new.stack ≡ mapper.old.stack }
+    ensures same_stack { OnOk result (player.new.stack.now ≡ player.old.stack.now) }
+    ensures going { OnOk result (mapper.new.stopped ≡ false) }
+    ensures state { OnOk result (mapper.new.state ≡ (request_step mapper.old.stack request.now.op device request.now.start request.now.len mapper.old.state).state) }
+    ensures values { OnOk result ((disk sector : ℕ) → values_in player.new.playing.values.patches.items disk sector
+        ≡ played request.now.number request.now.start (request_step mapper.old.stack request.now.op device request.now.start request.now.len mapper.old.state).units (values_in player.old.playing.values.patches.items) disk sector) }
+    ensures answers { IfOk result (λ runs. flat runs.items
+        ≡ played_answers request.now.number request.now.start (request_step mapper.old.stack request.now.op device request.now.start request.now.len mapper.old.state).units (values_in player.old.playing.values.patches.items)) }
+    ensures maximal { IfOk result (λ runs. AreMaximal runs.items) }
+    ensures disks { OnOk result (AreValuesOf (length mapper.old.stack.disks) (values_in player.new.playing.values.patches.items)) }
+    ensures runs_disks { IfOk result (λ runs. AllByRecursion (IsRunOf (length mapper.old.stack.disks)) runs.items) }
+{
+    let first = request.start.min(player.stack.len(device));
+    player.begin(alloc, request.number, first);
+    match mapper.request(request, device, player) {
+        Ok(()) => Ok(player.take_runs(alloc)),
+        Err(_) => Err(AllocError),
+    }
+}

@@ -1,0 +1,167 @@
+//! The player: a sink that plays the pieces of a request on the values of disks.
+//!
+//! Its relation speaks of values sector by sector, so nothing above knows that they are kept as
+//! ranges. Nothing is said of a player that failed.
+
+ghost use Rattle.std.specs.Prelude.{◌≡◌, ◌+◌, ◌<◌, ◌≤◌, ◌^◌, [], OnOk};
+ghost use Rattle.dm_map.specs.Units.{IsOnDisk, IsOnDisks, piece_len, units_of};
+ghost use Rattle.dm_replay.specs.Player.{HasPlayed};
+ghost use Rattle.dm_replay.specs.Runs.{AreMaximal};
+
+use crate::disk_values::DiskValues;
+use crate::playing::Playing;
+use crate::value_run::ValueRun;
+use crate::value_runs::ValueRuns;
+use dm_map::{Piece, Sink};
+use dm_stack::{DiskId, Stack};
+use dm_table::Tally;
+use std::alloc::{AllocError, Global};
+use std::mem::replace;
+
+/// Plays pieces on the disks of a stack.
+#[derive(Drop)]
+pub(crate) struct Player<'s> {
+    pub stack: &'s Stack,
+    pub playing: Playing,
+    pub faults: Tally,
+}
+
+impl<'s> Player<'s> {
+    /// A player on the disks of a stack, as they are at the start. No memory is taken.
+    pub(crate) fn new(alloc: Global, stack: &'s Stack) -> Player<'s>
+        ensures stack { result.stack.now ≡ stack.now }
+        ensures patches { result.playing.values.patches.items ≡ [] }
+    {
+        Player {
+            stack,
+            playing: Playing {
+                values: DiskValues::new(alloc),
+                number: 0,
+                next: 0,
+                runs: ValueRuns::new(alloc),
+            },
+            faults: Tally::new(),
+        }
+    }
+
+    /// Sets the number of the request that comes next, and the sector of its device that is answered
+    /// first. Nothing is answered yet.
+    pub(crate) fn begin(&mut self, alloc: Global, number: u64, first: u64)
+        ensures playing { self.new.playing ≡ record { values = self.old.playing.values; number = number; next = first; runs = [] } }
+        ensures stack { self.new.stack ≡ self.old.stack }
+    {
+        self.playing.number = number;
+        self.playing.next = first;
+        self.playing.runs = ValueRuns::new(alloc);
+    }
+
+    /// What was answered since a request began; it is not kept.
+    pub(crate) fn take_runs(&mut self, alloc: Global) -> Vec<ValueRun>
+        ensures runs { result.items ≡ self.old.playing.runs }
+        ensures maximal { AreMaximal result.items }
+        ensures values { self.new.playing.values ≡ self.old.playing.values }
+        ensures stack { self.new.stack ≡ self.old.stack }
+    {
+        replace(&mut self.playing.runs, ValueRuns::new(alloc)).into_vec()
+    }
+
+    /// Plays a piece.
+    fn play(&mut self, piece: Piece) -> Result<(), AllocError>
+        requires some { 1 ≤ piece_len piece }
+        requires lies { IsOnDisks self.old.stack.now piece }
+        ensures played { OnOk result (HasPlayed self.old.playing (units_of piece) self.new.playing) }
+        ensures stack { self.new.stack ≡ self.old.stack }
+        ensures faults { self.new.faults ≡ self.old.faults }
+    {
+        match piece {
+            Piece::Read { disk, start, len } => {
+                is_small(self.stack, disk, start, len);
+                self.playing.read(disk, start, len)
+            }
+            Piece::Write { disk, start, len } => {
+                is_small(self.stack, disk, start, len);
+                self.playing.write(disk, start, len)
+            }
+            Piece::Zero { len } => {
+                self.playing.answer(ValueRun::Zero { len })?;
+                Ok(())
+            }
+            Piece::Drop { len } => {
+                self.playing.answer(ValueRun::Zero { len })?;
+                Ok(())
+            }
+            Piece::Error { len } => {
+                self.playing.answer(ValueRun::Error { len })?;
+                Ok(())
+            }
+            Piece::Copy {
+                disk,
+                start,
+                len,
+                to,
+                to_start,
+            } => {
+                is_small(self.stack, disk, start, len);
+                is_small(self.stack, to, to_start, len);
+                self.playing.copy(disk, start, len, to, to_start)
+            }
+            Piece::Fill { len, disk, start } => {
+                is_small(self.stack, disk, start, len);
+                self.playing.fill(disk, start, len)
+            }
+        }
+    }
+}
+
+/// No disk is longer than 2^50 sectors.
+fn is_small(stack: &Stack, disk: DiskId, start: u64, len: u64)
+    requires { IsOnDisk stack.now disk start len }
+    ensures { start + len ≤ 2 ^ 50 }
+{
+    prove!(stack.disk_len(disk) <= 1 << 50);
+}
+
+impl Sink for Player<'_> {
+    ghost use Rattle.std.specs.Prelude.{◌^◌};
+    ghost use Rattle.dm_replay.specs.Player.{HasPlayed};
+    ghost use Rattle.std.specs.Prelude.{◌≡◌, length};
+    ghost use Rattle.std.proofs.Common.{refl, subst, ◌∙◌};
+    ghost use Rattle.dm_stack.specs.Description.{Description};
+    ghost use Rattle.dm_replay.specs.OfDisks.{AreUnitsOf};
+    ghost use Rattle.dm_replay.specs.OfDiskLaws.{units_of-append};
+    ghost use Rattle.dm_replay.specs.PlayLaws.{played_nothing, played_both};
+
+    type Fault = AllocError;
+
+    ghost stack = { λ player. player.stack.now };
+
+    ghost room = { λ player. 2 ^ 64 };
+
+    ghost faults = { λ player. player.faults };
+
+    ghost took = { λ old units new. HasPlayed old.playing units new.playing
+        × AreUnitsOf (length old.stack.now.disks) units × (new.stack.now ≡ old.stack.now) };
+
+    ghost left = { λ old units new. Unit {0} };
+
+    /// Plays the piece, or fails where it is out of memory.
+    fn piece(&mut self, piece: Piece) -> Result<(), AllocError> {
+        match self.play(piece) {
+            Ok(()) => Ok(()),
+            Err(fault) => {
+                self.faults.raise();
+                Err(fault)
+            }
+        }
+    }
+
+    ghost took_nothing = { λ s. (played_nothing s.playing, tt, refl) };
+
+    ghost took_then_took = { λ a b c us vs first second. (
+      played_both a.playing b.playing c.playing us vs first.0 second.0,
+      units_of-append (length a.stack.now.disks) us vs first.1 (subst (λ (stack : Description). AreUnitsOf (length stack.disks) vs) first.2 second.1),
+      second.2 ∙ first.2,
+    ) };
+
+    ghost took_then_left = { λ a b c us vs first second. tt };
+}

@@ -1,0 +1,134 @@
+//! Playing: what the pieces of a request do to the values of disks, and answer.
+
+ghost use Rattle.std.specs.Prelude.{◌≡◌, ◌+◌, ◌<◌, ◌≤◌, ◌^◌, ◌∷◌, ◌++◌, [], OnOk};
+ghost use Rattle.dm_map.specs.Units.{ReadOf, WriteOf, CopyOf, FillOf, units_in};
+ghost use Rattle.dm_replay.specs.Ranges.{AreApart};
+ghost use Rattle.dm_replay.specs.Player.{HasPlayed};
+ghost use Rattle.dm_replay.specs.Runs.{flat, run_answers, run_len};
+
+use crate::disk_values::DiskValues;
+use crate::value::Value;
+use crate::value_run::ValueRun;
+use crate::value_runs::ValueRuns;
+use dm_stack::DiskId;
+use std::alloc::{AllocError, Global};
+
+/// The values of disks, and the request that is played on them: its number, the sector of its device
+/// that is answered next, and the answers so far.
+#[derive(Drop)]
+pub(crate) struct Playing {
+    pub values: DiskValues,
+    pub number: u64,
+    pub next: u64,
+    pub runs: ValueRuns,
+}
+
+impl Playing {
+    /// Answers the next sectors by a run.
+    ///
+    /// # Errors
+    ///
+    /// `AllocError` where it is out of memory, or the sectors would be numbered beyond 2^64.
+    pub(crate) fn answer(&mut self, run: ValueRun) -> Result<(), AllocError>
+        requires { 0 < run_len run }
+        ensures values { OnOk result (self.new.values ≡ self.old.values) }
+        ensures runs { OnOk result (flat self.new.runs ≡ flat self.old.runs ++ run_answers run) }
+        ensures next { OnOk result (self.new.next ≡ self.old.next + run_len run) }
+        ensures small { OnOk result (self.old.next + run_len run < 2 ^ 64) }
+        ensures number { OnOk result (self.new.number ≡ self.old.number) }
+    {
+        let Some(next) = self.next.checked_add(run.len()) else {
+            return Err(AllocError);
+        };
+        self.runs.add(run)?;
+        self.next = next;
+        Ok(())
+    }
+
+    /// Reads sectors of a disk.
+    pub(crate) fn read(&mut self, disk: DiskId, start: u64, len: u64) -> Result<(), AllocError>
+        requires small { start + len < 2 ^ 64 }
+        ensures { OnOk result (HasPlayed self.old (units_in (ReadOf disk start) len) self.new) }
+    {
+        let mut at = start;
+        let mut left = len;
+        while left > 0 {
+            let stretch = self.values.first_stretch(disk, at, left);
+            self.answer(stretch.first.run(stretch.len))?;
+            at += stretch.len;
+            left -= stretch.len;
+        }
+        Ok(())
+    }
+
+    /// Writes the next sectors of the request to a disk.
+    pub(crate) fn write(&mut self, disk: DiskId, start: u64, len: u64) -> Result<(), AllocError>
+        requires some { 0 < len }
+        requires small { start + len < 2 ^ 64 }
+        ensures { OnOk result (HasPlayed self.old (units_in (WriteOf disk start) len) self.new) }
+    {
+        let (number, sector) = (self.number, self.next);
+        self.answer(ValueRun::Wrote {
+            request: number,
+            start: sector,
+            len,
+        })?;
+        let first = Value::Wrote {
+            request: number,
+            sector,
+        };
+        self.values.store(disk, start, len, first)?;
+        Ok(())
+    }
+
+    /// Writes zeros to sectors of a disk.
+    pub(crate) fn fill(&mut self, disk: DiskId, start: u64, len: u64) -> Result<(), AllocError>
+        requires small { start + len < 2 ^ 64 }
+        ensures { OnOk result (HasPlayed self.old (units_in (FillOf disk start) len) self.new) }
+    {
+        self.values.store(disk, start, len, Value::Zero)?;
+        Ok(())
+    }
+
+    /// Copies sectors of a disk to another place, one after the other.
+    pub(crate) fn copy(
+        &mut self,
+        disk: DiskId,
+        start: u64,
+        len: u64,
+        to: DiskId,
+        to_start: u64,
+    ) -> Result<(), AllocError>
+        requires small { start + len < 2 ^ 64 }
+        requires to_small { to_start + len < 2 ^ 64 }
+        ensures { OnOk result (HasPlayed self.old (units_in (CopyOf disk start to to_start) len) self.new) }
+    {
+        let mut at = start;
+        let mut to_at = to_start;
+        let mut left = len;
+        while left > 0 {
+            let part = apart_len(disk, at, to, to_at, left);
+            let stretch = self.values.first_stretch(disk, at, part);
+            self.values.store(to, to_at, stretch.len, stretch.first)?;
+            at += stretch.len;
+            to_at += stretch.len;
+            left -= stretch.len;
+        }
+        Ok(())
+    }
+}
+
+/// How many of `len` sectors can be copied at once: where the target begins inside the source, later
+/// sectors are read after earlier ones were written there.
+fn apart_len(disk: DiskId, start: u64, to: DiskId, to_start: u64, len: u64) -> u64
+    requires { 1 ≤ len }
+    ensures some { 1 ≤ result }
+    ensures most { result ≤ len }
+    ensures apart { AreApart disk start to to_start result }
+{
+    if disk == to && start < to_start {
+        len.min(to_start - start)
+    } else {
+        len
+    }
+}

@@ -1,0 +1,124 @@
+//! The lines of runs, written to an output.
+
+ghost use Rattle.std.specs.Prelude.{◌≡◌, ◌++◌, ◌+◌, ◌<◌, ◌≤◌, ◌∷◌, [], length, take, decimal};
+ghost use Rattle.std.specs.List.{AllByRecursion};
+ghost use Rattle.dm_stack.specs.Description.{disk_name_at};
+ghost use Rattle.dm_table.specs.CanonicalText.{Wrote};
+ghost use Rattle.dm_replay.specs.OfDisks.{IsRunOf};
+ghost use Rattle.dm_replay.specs.RunText.{run_line, run_text, runs_text};
+
+use crate::value_run::ValueRun;
+use dm_stack::Stack;
+use dm_table::{OutFault, Output, Text, put_bytes, put_digits};
+use std::marker::Model;
+
+/// The line of a run of a stack, under the number of its request.
+#[derive(Drop)]
+struct RunLine<'a> {
+    stack: &'a Stack,
+    number: u64,
+    run: &'a ValueRun,
+}
+
+impl<'a> Model for RunLine<'a> {
+    ghost use Rattle.std.specs.Prelude.{ℕ, List, length};
+    ghost use Rattle.dm_replay.specs.OfDisks.{IsRunOf};
+    ghost use Rattle.dm_replay.specs.RunText.{run_line};
+
+    ghost Value = { List ℕ };
+
+    ghost view = { λ line. run_line line.stack.now line.number line.run.now };
+
+    ghost invariant = { λ line. IsRunOf (length line.stack.now.disks) line.run.now };
+}
+
+impl<'a> Text for RunLine<'a> {
+    ghost text = { λ line. line };
+
+    fn put_into(&self, block: &mut [u8], at: usize) -> usize {
+        let at = put_digits(block, at, self.number);
+        let at = put_bytes(block, at, b" ");
+        let at = put_run(block, at, self.stack, self.run);
+        put_bytes(block, at, b"\n")
+    }
+}
+
+/// Puts a run at a place of a block, and returns where it ends.
+fn put_run(block: &mut [u8], at: usize, stack: &Stack, run: &ValueRun) -> usize
+    requires room { at + 400 ≤ length block.old }
+    requires disks { IsRunOf (length stack.now.disks) run.now }
+    ensures few { result ≤ at + 350 }
+    ensures end { result ≡ at + length (run_text stack.now run.now) }
+    ensures text { take result block.new ≡ take at block.old ++ run_text stack.now run.now }
+{
+    match *run {
+        ValueRun::Old { disk, start, len } => {
+            let at = put_bytes(block, at, b"old ");
+            let at = put_bytes(block, at, stack.disk_name(disk).as_bytes());
+            put_range(block, at, start, len)
+        }
+        ValueRun::Wrote {
+            request,
+            start,
+            len,
+        } => {
+            let at = put_bytes(block, at, b"wrote ");
+            let at = put_digits(block, at, request);
+            put_range(block, at, start, len)
+        }
+        ValueRun::Zero { len } => {
+            let at = put_bytes(block, at, b"zero ");
+            put_digits(block, at, len)
+        }
+        ValueRun::Error { len } => {
+            let at = put_bytes(block, at, b"error ");
+            put_digits(block, at, len)
+        }
+    }
+}
+
+/// Puts a start and a length at a place of a block, each after a space.
+fn put_range(block: &mut [u8], at: usize, start: u64, len: u64) -> usize
+    requires room { at + 60 ≤ length block.old }
+    ensures few { result ≤ at + 42 }
+    ensures end { result ≡ at + length (32 ∷ decimal start ++ 32 ∷ decimal len) }
+    ensures text { take result block.new ≡ take at block.old ++ 32 ∷ decimal start ++ 32 ∷ decimal len }
+{
+    let at = put_bytes(block, at, b" ");
+    let at = put_digits(block, at, start);
+    let at = put_bytes(block, at, b" ");
+    put_digits(block, at, len)
+}
+
+/// Writes what a request of this number answered: a line `N old DISK START LEN`, `N wrote K START
+/// LEN`, `N zero LEN` or `N error LEN` for each run.
+///
+/// The runs name disks of the stack alone. After a fault a beginning of the text is written, and
+/// nothing is tried again. Takes no memory, and makes a write for each line.
+pub fn write_runs<W: Output>(
+    stack: &Stack,
+    number: u64,
+    runs: &[ValueRun],
+    writer: &mut W,
+) -> Result<(), OutFault>
+    requires { AllByRecursion (IsRunOf (length stack.now.disks)) runs.now }
+    ensures { Wrote W.written W.waiting W.faults W.flushes writer.old writer.new result (runs_text stack.now number runs.now) }
+{
+    for run in runs {
+        write_run(stack, number, run, &mut *writer)?;
+    }
+    Ok(())
+}
+
+/// Writes the line of a run.
+fn write_run<W: Output>(
+    stack: &Stack,
+    number: u64,
+    run: &ValueRun,
+    writer: &mut W,
+) -> Result<(), OutFault>
+    requires { IsRunOf (length stack.now.disks) run.now }
+    ensures { Wrote W.written W.waiting W.faults W.flushes writer.old writer.new result (run_line stack.now number run.now) }
+{
+    writer.put(&RunLine { stack, number, run })
+}

@@ -1,0 +1,59 @@
+//! Values: what a sector of a disk holds.
+
+ghost use Rattle.std.specs.Prelude.{◌≡◌, ◌+◌, ◌<◌, ◌≤◌, ◌^◌};
+ghost use Rattle.dm_replay.specs.Runs.{first_answer, run_len};
+ghost use Rattle.dm_replay.specs.Values.{Gives, further, value_end};
+
+use crate::value_run::ValueRun;
+use dm_stack::DiskId;
+
+/// What a sector of a disk holds.
+#[derive(Clone, Copy, Debug, PartialEq, Eq, Drop)]
+pub(crate) enum Value {
+    /// What a sector of a disk held at the start.
+    Old { disk: DiskId, sector: u64 },
+    /// Zeros.
+    Zero,
+    /// What a request wrote to a sector of its device.
+    Wrote { request: u64, sector: u64 },
+}
+
+impl Value {
+    /// The value `len` sectors further on, where the values go on from this one.
+    pub(crate) fn further(self, len: u64) -> Value
+        requires { value_end self len < 2 ^ 64 }
+        ensures { result ≡ further self len }
+    {
+        match self {
+            Value::Old { disk, sector } => Value::Old {
+                disk,
+                sector: sector + len,
+            },
+            Value::Zero => Value::Zero,
+            Value::Wrote { request, sector } => Value::Wrote {
+                request,
+                sector: sector + len,
+            },
+        }
+    }
+
+    /// The run of `len` values that go on from this one.
+    pub(crate) fn run(self, len: u64) -> ValueRun
+        ensures first { first_answer result ≡ Gives self }
+        ensures len { run_len result ≡ len }
+    {
+        match self {
+            Value::Old { disk, sector } => ValueRun::Old {
+                disk,
+                start: sector,
+                len,
+            },
+            Value::Zero => ValueRun::Zero { len },
+            Value::Wrote { request, sector } => ValueRun::Wrote {
+                request,
+                start: sector,
+                len,
+            },
+        }
+    }
+}

@@ -1,0 +1,70 @@
+//! Runs in a row, as long as can be.
+
+ghost use Rattle.std.specs.Prelude.{◌≡◌, ◌<◌, ◌++◌, [], OnOk};
+ghost use Rattle.dm_replay.specs.Runs.{AreMaximal, flat, run_answers, run_len};
+
+use crate::value_run::ValueRun;
+use std::alloc::{AllocError, Global};
+use std::marker::Model;
+
+/// Runs, none of which is empty or joins the one before it.
+#[derive(Drop)]
+pub(crate) struct ValueRuns {
+    runs: Vec<ValueRun>,
+}
+
+impl Model for ValueRuns {
+    ghost use Rattle.std.specs.Prelude.{List};
+    ghost use Rattle.dm_replay.specs.declared.value_run.ValueRun.{ValueRun};
+    ghost use Rattle.dm_replay.specs.Runs.{AreMaximal};
+
+    ghost Value = { List ValueRun };
+
+    ghost view = { λ all. all.runs.items };
+
+    ghost invariant = { λ all. AreMaximal all.runs.items };
+}
+
+impl ValueRuns {
+    /// No runs. No memory is taken.
+    pub(crate) fn new(alloc: Global) -> ValueRuns
+        ensures { result ≡ [] }
+    {
+        ValueRuns {
+            runs: Vec::new(alloc),
+        }
+    }
+
+    /// Adds a run at the end, to the last one if it joins that.
+    ///
+    /// # Errors
+    ///
+    /// `AllocError` where it is out of memory, or the last run would have 2^64 sectors or more.
+    pub(crate) fn add(&mut self, run: ValueRun) -> Result<(), AllocError>
+        requires { 0 < run_len run }
+        ensures { OnOk result (flat self.new ≡ flat self.old ++ run_answers run) }
+    {
+        let Some(last) = self.runs.pop() else {
+            self.runs.push(run)?;
+            return Ok(());
+        };
+        if !last.joins(&run) {
+            self.runs.push(last)?;
+            self.runs.push(run)?;
+            return Ok(());
+        }
+        let Some(len) = last.len().checked_add(run.len()) else {
+            return Err(AllocError);
+        };
+        self.runs.push(last.with_len(len))?;
+        Ok(())
+    }
+
+    /// The runs. No memory is taken.
+    pub(crate) fn into_vec(self) -> Vec<ValueRun>
+        ensures runs { result.items ≡ self }
+        ensures maximal { AreMaximal result.items }
+    {
+        self.runs
+    }
+}
