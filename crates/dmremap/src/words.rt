@@ -2,7 +2,7 @@
 //! A job holds what the words say and nothing that a file says, so that words are refused before a
 //! file is opened. A new command is a function beside `split_command`, the definition of its
 //! arguments and a variant of `Task`; one that loads files is a line in `program` and in
-//! `Task::of_matches`. A new format is a variant of `Format` and a word of `FORMATS`.
+//! `Task::of_command`. A new format is a variant of `Format` and a word of `FORMATS`.
 ghost use Rattle.std.specs.Prelude.{◌≡◌, IfErr, IfOk, Some, codes, false, option_and_then};
 ghost use Rattle.std.specs.Prelude.{option_map};
 ghost use Rattle.clap.specs.Walk.{texts};
