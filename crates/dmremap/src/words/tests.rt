@@ -156,8 +156,8 @@ static REFUSED: [(&[&str], &str); 21] = [
         "invalid value 'lvm2' for '<FORMAT>'",
     ),
     (
-        &["dmremap", "check", "table", "a", "b"],
-        "unrecognized subcommand 'check'",
+        &["dmremap", "replay", "table", "a", "b"],
+        "unrecognized subcommand 'replay'",
     ),
     (
         &["dmremap", "map", "table", "a", "b", "--status", "--status"],
