@@ -24,6 +24,9 @@ REFUSED = [
     ["splitname", "--status", "a-b"],
     ["table", "table", "TABLE", "DISKS", "--status"],
     ["concise", "--status", "table", "TABLE", "DISKS"],
+    ["--status"],
+    ["--status", "table", "table", "TABLE", "DISKS"],
+    ["--status", "map", "table", "TABLE", "DISKS", "--status"],
     ["map", "table", "TABLE", "DISKS", "--status", "--status"],
     ["map", "--status", "table", "TABLE", "DISKS", "--status"],
     ["map", "table", "--", "TABLE", "DISKS", "--status"],
@@ -42,6 +45,7 @@ REFUSED = [
 
 # Words that ask for status lines, of a stack without a snapshot.
 STATUS = [
+    ["--status", "map", "table", "TABLE", "DISKS"],
     ["map", "table", "TABLE", "DISKS", "--status"],
     ["map", "--status", "table", "TABLE", "DISKS"],
     ["map", "table", "--status", "TABLE", "--", "DISKS"],

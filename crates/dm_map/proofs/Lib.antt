@@ -13,6 +13,7 @@ pub mod Losses
 pub mod Made
 pub mod Numbers
 pub mod OneLevel
+pub mod OwnRequests
 pub mod OwnWrites
 pub mod Paths
 pub mod Plays

@@ -23,7 +23,7 @@ use Rattle.dm_map.proofs.Takes.{IsTake, chunk_copies, new_number, taken_state}
 
 -- A read gives one of three units
 
-data IsRead (unit : BlockUnit) : Type 0 where
+pub data IsRead (unit : BlockUnit) : Type 0 where
   Sector : (disk sector : ℕ) → unit ≡ ReadOf disk sector → IsRead unit
   Nothing : unit ≡ Zeros → IsRead unit
   Fault : unit ≡ Fails → IsRead unit
@@ -33,7 +33,7 @@ is_read_below (Lies to at) f each = each to at
 is_read_below IsZero f each = Nothing refl
 is_read_below IsError f each = Fault refl
 
-is_read : (stack : Description) (state : State) (levels : ℕ) (lower : Lower) (sector : ℕ) → IsRead (read_unit stack state levels lower sector)
+pub is_read : (stack : Description) (state : State) (levels : ℕ) (lower : Lower) (sector : ℕ) → IsRead (read_unit stack state levels lower sector)
 unfolding read_unit
 is_read stack state levels (Disk disk) sector = Sector disk sector refl
 is_read stack state zero (Device device) sector = Fault refl

@@ -8,6 +8,7 @@ pub mod KeptLaws
 pub mod Mapper
 pub mod Mapping
 pub mod Own
+pub mod OwnRows
 pub mod Path
 pub mod PieceList
 pub mod Reads

@@ -1,5 +1,5 @@
 -- Worlds after one request more.
-use Rattle.std.proofs.Common.{◌≡◌, ℕ, Bool, true, false, List, [], ◌∷◌, ◌++◌, length, refl, sym, ap, subst, ◌∙◌}
+use Rattle.std.proofs.Common.{◌≡◌, ℕ, false, List, [], ◌∷◌, ◌++◌, length, refl, sym, ap, subst, ◌∙◌}
 use Rattle.dm_table.specs.declared.request.Request.{Request}
 use Rattle.dm_stack.specs.Description.{Description}
 use Rattle.dm_map.specs.Mapper.{Mapping}
@@ -14,7 +14,7 @@ use Rattle.dm_replay.specs.Patches.{values_in}
 use Rattle.dm_replay.specs.PlayLaws.{answers_cong, played_cong}
 use Rattle.dm_replay.specs.Replay.{IsGoing, whole_request}
 use Rattle.dm_replay.specs.Runs.{flat}
-use Rattle.dm_replay.specs.Values.{Values, old_values, played, played_answers}
+use Rattle.dm_replay.specs.Values.{played, played_answers}
 use Rattle.dm_replay.proofs.OfDiskLemmas.{old_of}
 
 from-push : (stack : Description) (world : World) (all : List Asked) (asked : Asked) → world_from stack world (all ++ asked ∷ []) ≡ next_world stack (world_from stack world all) asked

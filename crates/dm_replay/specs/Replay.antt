@@ -5,11 +5,10 @@ use Rattle.dm_stack.specs.declared.clash.Clash.{Clash}
 use Rattle.dm_stack.specs.Claims.{IsClash, IsTidy, IsTop, claims}
 use Rattle.dm_stack.specs.Description.{Description, device_id, is_same}
 use Rattle.dm_map.specs.Mapper.{Mapping}
-use Rattle.dm_map.specs.State.{State}
 use Rattle.dm_replay.specs.declared.patch.Patch.{Patch}
 use Rattle.dm_replay.specs.declared.replay_fault.ReplayFault.{ReplayFault}
 use Rattle.dm_replay.specs.declared.replay_fault.ReplayFault.TheVariants as faults
-use Rattle.dm_replay.specs.Histories.{Asked, World, world_after}
+use Rattle.dm_replay.specs.Histories.{Asked, world_after}
 use Rattle.dm_replay.specs.OfDisks.{AreValuesOf}
 use Rattle.dm_replay.specs.Patches.{values_in}
 

@@ -57,9 +57,11 @@ one_in_device : (stack : Description) (device p q i j : ℕ) (l m : Line) (x y :
     → slice_get (line_claims stack device l) i ≡ Some x → slice_get (line_claims stack device m) j ≡ Some y → (AreApart x y → ⊥) → (AreApart y x → ⊥) → (l ≡ m) × (i ≡ j)
 one_in_device stack device p q i j l m x y pairs on_p on_q at_i at_j never neither =
     let places : p ≡ q = same_part AreApart (line_claims stack device) (lines_at stack device) p q i j l m x y pairs on_p on_q at_i at_j never neither in
-    let lines : l ≡ m = line_is l m (sym on_p ∙ ap (slice_get (lines_at stack device)) places ∙ on_q) in
-    (lines, same_place AreApart (line_claims stack device l) i j x y (pairs_part AreApart (line_claims stack device) (lines_at stack device) p l pairs on_p)
-    at_i (subst (λ (z : Line). slice_get (line_claims stack device z) j ≡ Some y) (sym lines) at_j) never neither)
+    let lines : l ≡ m = line_is l m (sym on_p ∙ ap (slice_get (lines_at stack device)) places ∙ on_q) in (
+      lines,
+      same_place AreApart (line_claims stack device l) i j x y (pairs_part AreApart (line_claims stack device) (lines_at stack device) p l pairs on_p)
+          at_i (subst (λ (z : Line). slice_get (line_claims stack device z) j ≡ Some y) (sym lines) at_j) never neither,
+    )
 
 pub record AreOne (d e i j : ℕ) (l m : Line) : Type 0 where
   pub devices : d ≡ e

@@ -3,6 +3,7 @@ use Rattle.std.specs.Prelude.{ℕ, List, [], ◌∷◌, ◌++◌, codes, decimal
 use Rattle.std.specs.List.{flat_map}
 use Rattle.dm_stack.specs.Description.{Description, disk_name_at}
 use Rattle.dm_map.specs.Units.{BlockUnit, ReadOf, WriteOf, Zeros, Drops, Fails, CopyOf, FillOf}
+use Rattle.dm_map.specs.declared.piece.Piece as code
 use Rattle.dm_stream.specs.Pieces.{Piece}
 
 -- a place on a disk: its name and a sector
@@ -18,6 +19,12 @@ unit_text stack Drops len = codes "drop " ++ decimal len
 unit_text stack Fails len = codes "error " ++ decimal len
 unit_text stack (CopyOf disk sector to to_sector) len = codes "copy " ++ place_text stack disk sector ++ 32 ∷ decimal len ++ 32 ∷ place_text stack to to_sector
 unit_text stack (FillOf disk sector) len = codes "fill " ++ decimal len ++ 32 ∷ place_text stack disk sector
+
+-- a piece that is no read and no write of a request
+abbrev pub IsOther : code.Piece → Type 0
+IsOther (code.TheVariants.Read disk start len) = ⊥
+IsOther (code.TheVariants.Write disk start len) = ⊥
+IsOther _ = Unit {0}
 
 -- the line of a piece under a request's number
 abbrev pub piece_text : Description → ℕ → Piece → List ℕ

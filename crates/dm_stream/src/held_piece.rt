@@ -125,27 +125,39 @@ impl<'s> HeldPiece<'s> {
 fn goes_on(held: &Piece, piece: &Piece) -> bool
     ensures { result ≡ is_after (first_unit held.now) (piece_len held.now) (first_unit piece.now) }
 {
-    match *held {
-        Piece::Read { disk, start, len } => {
-            matches!(*piece, Piece::Read { disk: other, start: next, .. } if other == disk && follows(start, len, next))
+    match *piece {
+        Piece::Read {
+            disk,
+            start: next,
+            ..
+        } => {
+            matches!(*held, Piece::Read { disk: other, start, len } if other == disk && follows(start, len, next))
         }
-        Piece::Write { disk, start, len } => {
-            matches!(*piece, Piece::Write { disk: other, start: next, .. } if other == disk && follows(start, len, next))
+        Piece::Write {
+            disk,
+            start: next,
+            ..
+        } => {
+            matches!(*held, Piece::Write { disk: other, start, len } if other == disk && follows(start, len, next))
         }
-        Piece::Zero { .. } => matches!(*piece, Piece::Zero { .. }),
-        Piece::Drop { .. } => matches!(*piece, Piece::Drop { .. }),
-        Piece::Error { .. } => matches!(*piece, Piece::Error { .. }),
+        Piece::Zero { .. } => matches!(*held, Piece::Zero { .. }),
+        Piece::Drop { .. } => matches!(*held, Piece::Drop { .. }),
+        Piece::Error { .. } => matches!(*held, Piece::Error { .. }),
         Piece::Copy {
             disk,
-            start,
-            len,
+            start: next,
             to,
-            to_start,
+            to_start: next_to,
+            ..
         } => {
-            matches!(*piece, Piece::Copy { disk: other, start: next, to: other_to, to_start: next_to, .. } if other == disk && follows(start, len, next) && other_to == to && follows(to_start, len, next_to))
+            matches!(*held, Piece::Copy { disk: other, start, len, to: other_to, to_start } if other == disk && follows(start, len, next) && other_to == to && follows(to_start, len, next_to))
         }
-        Piece::Fill { len, disk, start } => {
-            matches!(*piece, Piece::Fill { disk: other, start: next, .. } if other == disk && follows(start, len, next))
+        Piece::Fill {
+            disk,
+            start: next,
+            ..
+        } => {
+            matches!(*held, Piece::Fill { len, disk: other, start } if other == disk && follows(start, len, next))
         }
     }
 }

@@ -61,7 +61,7 @@ impl KeptRange {
             self.len = len;
             self.end = 0;
         } else if self.end == 0 {
-            self.end = keep(&mut self.text, start, len);
+            self.end = put_range(&mut self.text, 0, start, len);
         }
     }
 
@@ -80,18 +80,8 @@ impl KeptRange {
     }
 }
 
-/// Puts the text of a range at the front of a room, and returns where it ends.
-#[inline(never)]
-fn keep(text: &mut [u8], start: u64, len: u64) -> usize
-    requires { length text.old ≡ ROOM }
-    ensures within { result ≤ ROOM }
-    ensures text { take result text.new ≡ range_text start len }
-{
-    put_range(text, 0, start, len)
-}
-
 /// Puts a start, a length and a newline at a place of a block, and returns where they end.
-#[inline(always)]
+#[inline(never)]
 fn put_range(block: &mut [u8], at: usize, start: u64, len: u64) -> usize
     requires { at + ROOM ≤ length block.old }
     ensures few { result ≤ at + 43 }

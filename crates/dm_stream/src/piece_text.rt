@@ -1,7 +1,7 @@
 //! The line of a piece, as a text that puts itself into a block.
 //!
 //! Reads and writes come by the hundreds of millions, so they are put in line; the other kinds go
-//! through functions of their own. A new kind of piece is an arm of `put_piece` here and of
+//! through a function of their own. A new kind of piece is an arm of `put_other` here and of
 //! `unit_text` in `specs/PieceText`.
 
 ghost use Rattle.std.specs.Prelude.{◌≡◌, ◌++◌, ◌+◌, ◌<◌, ◌≤◌, ◌∷◌, [], length, take, decimal};
@@ -9,7 +9,7 @@ ghost use Rattle.dm_stack.specs.Description.{disk_name_at};
 ghost use Rattle.dm_stack.specs.Loaded.{disk_text};
 ghost use Rattle.dm_map.specs.Units.{CopyOf, FillOf, IsOnDisks, first_unit, piece_len};
 ghost use Rattle.dm_stream.specs.Pending.{piece_view};
-ghost use Rattle.dm_stream.specs.PieceText.{piece_text, place_text, unit_text};
+ghost use Rattle.dm_stream.specs.PieceText.{IsOther, piece_text, place_text, unit_text};
 
 use crate::kept_range::KeptRange;
 use crate::number_prefix::NumberPrefix;
@@ -90,6 +90,26 @@ fn put_piece(block: &mut [u8], at: usize, range: &KeptRange, stack: &Stack, piec
             let at = put_named(block, at, b"W ", stack, disk);
             range.put_into(block, at, start, len)
         }
+        Piece::Zero { .. }
+        | Piece::Drop { .. }
+        | Piece::Error { .. }
+        | Piece::Copy { .. }
+        | Piece::Fill { .. } => put_other(block, at, stack, piece),
+    }
+}
+
+/// The same for a piece that is no read and no write. It is never inlined, since these are rare.
+#[inline(never)]
+fn put_other(block: &mut [u8], at: usize, stack: &Stack, piece: &Piece) -> usize
+    requires room { at + 800 ≤ length block.old }
+    requires lies { IsOnDisks stack.now piece.now }
+    requires other { IsOther piece.now }
+    ensures few { result ≤ at + 800 }
+    ensures end { result ≡ at + length (unit_text stack.now (first_unit piece.now) (piece_len piece.now) ++ 10 ∷ []) }
+    ensures text { take result block.new ≡ take at block.old ++ unit_text stack.now (first_unit piece.now) (piece_len piece.now) ++ 10 ∷ [] }
+{
+    match *piece {
+        Piece::Read { .. } | Piece::Write { .. } => unreachable!(),
         Piece::Zero { len } => put_counted(block, at, b"zero ", len),
         Piece::Drop { len } => put_counted(block, at, b"drop ", len),
         Piece::Error { len } => put_counted(block, at, b"error ", len),
@@ -105,7 +125,6 @@ fn put_piece(block: &mut [u8], at: usize, range: &KeptRange, stack: &Stack, piec
 }
 
 /// Puts what a copy is and a newline at a place of a block.
-#[inline(never)]
 fn put_copy(
     block: &mut [u8],
     at: usize,
@@ -133,15 +152,7 @@ fn put_copy(
 }
 
 /// Puts what a fill is and a newline at a place of a block.
-#[inline(never)]
-fn put_fill(
-    block: &mut [u8],
-    at: usize,
-    stack: &Stack,
-    disk: DiskId,
-    start: u64,
-    len: u64,
-) -> usize
+fn put_fill(block: &mut [u8], at: usize, stack: &Stack, disk: DiskId, start: u64, len: u64) -> usize
     requires room { at + 800 ≤ length block.old }
     requires there { disk < length stack.now.disks }
     ensures few { result ≤ at + 400 }
@@ -170,7 +181,6 @@ fn put_named(block: &mut [u8], at: usize, word: &[u8], stack: &Stack, disk: Disk
 }
 
 /// Puts a word, a number and a newline at a place of a block.
-#[inline(never)]
 fn put_counted(block: &mut [u8], at: usize, word: &[u8], number: u64) -> usize
     requires room { at + 300 ≤ length block.old }
     requires short { length word.now ≤ 9 }
@@ -184,7 +194,6 @@ fn put_counted(block: &mut [u8], at: usize, word: &[u8], number: u64) -> usize
 }
 
 /// Puts a place at a place of a block: the name of a disk of the stack and a sector.
-#[inline(never)]
 fn put_place(block: &mut [u8], at: usize, stack: &Stack, disk: DiskId, sector: u64) -> usize
     requires room { at + 300 ≤ length block.old }
     requires there { disk < length stack.now.disks }

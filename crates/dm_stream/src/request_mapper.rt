@@ -24,6 +24,7 @@ use dm_table::{OutFault, Output, Request};
 use std::marker::PhantomData;
 
 /// Joins the units of a request of a device of the stack, and writes them. Nothing is held before.
+#[inline(always)]
 fn map_request<T: Taken, W: Output>(
     mapper: &mut Mapper<'_, T>,
     request: &Request<'_>,
@@ -110,6 +111,7 @@ impl<'s, T: Taken, W: Output> Handler for RequestMapper<'_, 's, T, W> {
       second.5,
     ) };
 
+    #[inline(always)]
     fn handle(
         &mut self,
         mapper: &mut Mapper<'s, T>,

@@ -78,6 +78,7 @@ fn before_read<H: Handler>(handler: &mut H, lines: &Lines)
 /// # Errors
 ///
 /// The fault with which the handler stopped at one of the requests. Nothing is read after that.
+#[inline(never)]
 pub fn handle_requests<R: Input, H: Handler>(
     requests: &mut R,
     handler: &mut H,

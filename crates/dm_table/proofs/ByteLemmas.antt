@@ -78,15 +78,22 @@ disk_space b h = grind (arith, nat_tests)
 disk_ascii : (b : ℕ) → is_disk_byte b ≡ true → b < 128
 disk_ascii b h = grind (arith, nat_tests)
 
--- a disk's name is text, no space and ASCII
-pub is_text-disk_name : (text : List ℕ) → is_disk_name text ≡ true → is_text text ≡ true
-is_text-disk_name text h = list_all-weaker is_disk_byte (λ b. nat_le 32 b && nat_le b 126) disk_text text (disk_name_parts text h).bytes
+-- the bytes of a disk's name are text, no space and ASCII
+pub record IsPlain (text : List ℕ) : Type 0 where
+  pub printed : is_text text ≡ true
+  pub clear : IsClearOf 32 text
+  pub ascii : IsAscii text
 
-pub disk_name-clear : (text : List ℕ) → is_disk_name text ≡ true → IsClearOf 32 text
-disk_name-clear text h = All-list_all is_disk_byte (λ b. eqb b 32 ≡ false) disk_space text (disk_name_parts text h).bytes
+plain : (text : List ℕ) → list_all is_disk_byte text ≡ true → IsPlain text
+plain text h =
+    record {
+      printed = list_all-weaker is_disk_byte (λ b. nat_le 32 b && nat_le b 126) disk_text text h;
+      clear = All-list_all is_disk_byte (λ b. eqb b 32 ≡ false) disk_space text h;
+      ascii = IsAscii-from_all text (All-list_all is_disk_byte (λ b. b < 128) disk_ascii text h);
+    }
 
-pub IsAscii-disk_name : (text : List ℕ) → is_disk_name text ≡ true → IsAscii text
-IsAscii-disk_name text h = IsAscii-from_all text (All-list_all is_disk_byte (λ b. b < 128) disk_ascii text (disk_name_parts text h).bytes)
+pub plain-disk_name : (text : List ℕ) → is_disk_name text ≡ true → IsPlain text
+plain-disk_name text h = plain text (disk_name_parts text h).bytes
 
 -- what the test of a device's name says
 pub record IsDeviceName (text : List ℕ) : Type 0 where
@@ -99,24 +106,12 @@ device_name_parts text h =
     let b = and_parts (nat_le (length text) 127) (list_all is_device_byte text) a.1 in
     record { some = a.0; bytes = b.1 }
 
-device_text : (b : ℕ) → is_device_byte b ≡ true → (nat_le 32 b && nat_le b 126) ≡ true
-device_text b h = grind (arith, nat_tests)
+-- and each byte of a device's name is one of a disk's
+device_disk : (b : ℕ) → is_device_byte b ≡ true → is_disk_byte b ≡ true
+device_disk b h = grind (arith, nat_tests)
 
-device_space : (b : ℕ) → is_device_byte b ≡ true → eqb b 32 ≡ false
-device_space b h = grind (arith, nat_tests)
-
-device_ascii : (b : ℕ) → is_device_byte b ≡ true → b < 128
-device_ascii b h = grind (arith, nat_tests)
-
--- a device's name is text, no space and ASCII
-pub is_text-device_name : (text : List ℕ) → is_device_name text ≡ true → is_text text ≡ true
-is_text-device_name text h = list_all-weaker is_device_byte (λ b. nat_le 32 b && nat_le b 126) device_text text (device_name_parts text h).bytes
-
-pub device_name-clear : (text : List ℕ) → is_device_name text ≡ true → IsClearOf 32 text
-device_name-clear text h = All-list_all is_device_byte (λ b. eqb b 32 ≡ false) device_space text (device_name_parts text h).bytes
-
-pub IsAscii-device_name : (text : List ℕ) → is_device_name text ≡ true → IsAscii text
-IsAscii-device_name text h = IsAscii-from_all text (All-list_all is_device_byte (λ b. b < 128) device_ascii text (device_name_parts text h).bytes)
+pub plain-device_name : (text : List ℕ) → is_device_name text ≡ true → IsPlain text
+plain-device_name text h = plain text (list_all-weaker is_device_byte is_disk_byte device_disk text (device_name_parts text h).bytes)
 
 -- The bytes before the first that fails a test
 

@@ -1,5 +1,6 @@
 -- A text of the concise form in which no check finds anything describes the devices that are read from it, and one that describes devices is read as them.
-use Rattle.std.proofs.Common.{◌≡◌, ◌⊎◌, inl, inr, ℕ, suc, ◌≤◌, Bool, true, false, not, eqb, List, [], ◌∷◌, ◌++◌, length, take, get_or, ◌-◌, Some, None, Ok, Err, refl, sym, ap, subst, ◌∙◌, arith}
+use Rattle.std.proofs.Common.{◌≡◌, ◌⊎◌, inl, inr, ℕ, suc, ◌≤◌, Bool, true, false, not, eqb, List, [], ◌∷◌, ◌++◌, length, take, get_or, ◌-◌, None, Result, refl, sym, ap, ◌∙◌, arith}
+use Rattle.std.specs.Global.{Vec}
 use Rattle.std.specs.List.{list_all, join_with_byte, AllByRecursion}
 use Rattle.std.proofs.lemmas.Bool.{and_parts, cases_Bool, not-true, not-false, not_from_true, eqb-true}
 use Rattle.std.proofs.lemmas.List.{length-append}
@@ -8,11 +9,13 @@ use Rattle.dm_table.specs.declared.place.Part.TheVariants.{Source}
 use Rattle.dm_table.specs.declared.load_fault.LoadKind.TheVariants.{NotText, Syntax, Field, Name}
 use Rattle.dm_table.specs.declared.load_fault.LoadFault.{LoadFault}
 use Rattle.dm_table.specs.Fields.{parts_at, front, back}
-use Rattle.dm_table.specs.LoadFault.{first_fault, faults_from}
+use Rattle.dm_table.specs.LoadFault.{Answers, first_fault, faults_from}
+use Rattle.dm_table.specs.Parsed.{IsParsed}
 use Rattle.dm_table.specs.ConciseText.{SaysDevices, DescribesConcise, lacks, without_newline, parts_of, devices_of, is_printed, is_device, has_values, has_names, concise_checks}
 use Rattle.dm_table.specs.ConciseReading.{devices_from, parts_reading, read_concise}
 use Rattle.dm_table.proofs.ByteLemmas.{All-list_all, list_all-weaker}
-use Rattle.dm_table.proofs.FaultLemmas.{first_fault-none, first_fault-all, faults_from-nil, faults_from-good, unless-ok, unless-err}
+use Rattle.dm_table.proofs.FaultLemmas.{first_fault-none, first_fault-all, faults_from-nil, faults_from-good}
+use Rattle.dm_table.proofs.Parsing.{parsed}
 use Rattle.dm_table.proofs.FieldLemmas.{IsClearOf, join-parts_at, parts_at-join, front-push, back-push}
 use Rattle.dm_table.proofs.TableFields.{take-front, get_or-back}
 use Rattle.dm_table.proofs.ConciseRows.{is_entry_byte, entry_semicolon, entry_newline, entry_printed, join_passes, device_said, device_bytes, device_some, device_again}
@@ -141,7 +144,7 @@ checks_of parts =
     ∷ faults_from Source Name (λ device. not (has_names device)) 1 parts
     ∷ []
 
-again : (text : List ℕ) (ds : List DeviceSpec) → DescribesConcise text ds → (first_fault (concise_checks text) ≡ None) × (devices_from 1 (devices_of text) ≡ ds)
+pub again : (text : List ℕ) (ds : List DeviceSpec) → DescribesConcise text ds → (first_fault (concise_checks text) ≡ None) × (devices_from 1 (devices_of text) ≡ ds)
 again text ds d =
     let read = are_read 1 d.parts ds d.said in
     let whole = join_with_byte 59 d.parts in
@@ -164,25 +167,12 @@ again text ds d =
     ) in
     (rw parts none, ap (devices_from 1) parts ∙ read.again)
 
--- a text describes no other devices
-pub one_description : (text : List ℕ) (a b : List DeviceSpec) → DescribesConcise text a → DescribesConcise text b → a ≡ b
-one_description text a b d e = sym (again text a d).1 ∙ (again text b e).1
-
 -- How a text is read
 
-pub read_if_described : (text : List ℕ) (ds : List DeviceSpec) → DescribesConcise text ds → read_concise text ≡ Ok ds
+pub read_as_promised : (text : List ℕ) (answer : Result (Vec DeviceSpec) LoadFault) → Answers Source (λ v. v.items) answer (read_concise text)
+    → IsParsed Source (DescribesConcise text) (concise_checks text) answer
 unfolding read_concise
-read_if_described text ds d = let a = again text ds d in rw (a.0, a.1) refl
-
-pub described_if_read : (text : List ℕ) (ds : List DeviceSpec) → read_concise text ≡ Ok ds → (first_fault (concise_checks text) ≡ None) × DescribesConcise text ds
-unfolding read_concise
-described_if_read text ds h =
-    let a = unless-ok (first_fault (concise_checks text)) (devices_from 1 (devices_of text)) ds h in
-    (a.0, subst (λ (x : List DeviceSpec). DescribesConcise text x) a.1 (described text a.0))
-
-pub fault_if_refused : (text : List ℕ) (f : LoadFault) → read_concise text ≡ Err f → first_fault (concise_checks text) ≡ Some f
-unfolding read_concise
-fault_if_refused text f h = unless-err (first_fault (concise_checks text)) (devices_from 1 (devices_of text)) f h
+read_as_promised text answer h = parsed Source (DescribesConcise text) (concise_checks text) (devices_from 1 (devices_of text)) answer (described text) (again text) h
 
 -- a text is read by its parts
 pub read_concise-parts : (text bare : List ℕ) (parts : List (List ℕ)) → bare ≡ without_newline text → parts ≡ parts_of bare → parts_reading parts ≡ read_concise text

@@ -3,7 +3,7 @@ use Rattle.std.proofs.Common.{◌≡◌, ◌≢◌, OnOk, ℕ, suc, ◌+◌, ◌
 use Rattle.std.specs.Prelude.{slice_index_or}
 use Rattle.std.specs.List.{list_all, AllByRecursion}
 use Rattle.std.specs.declared.alloc.AllocError.{AllocError}
-use Rattle.std.proofs.lemmas.Bool.{and_parts, not-false}
+use Rattle.std.proofs.lemmas.Bool.{and_parts}
 use Rattle.std.proofs.lemmas.List.{take_rest, append-nil, drop_more, drop_all}
 use denote.Ref.{Bor}
 use Rattle.dm_table.specs.declared.table.Line.{Line}
@@ -22,9 +22,9 @@ use Rattle.dm_table.specs.RowFaults.{value_fault, row_fault, read_unless, Reads,
 use Rattle.dm_table.specs.LineBody.{is_body_row, is_body, has_body_names}
 use Rattle.dm_table.specs.ConciseText.{place_of, lacks, is_uuid, is_ro, entries, body_fields, is_printed, is_label, is_known, is_named, is_device, has_values, has_names}
 use Rattle.dm_table.specs.ConciseReading.{worse, fault_of_body, fault_of_bodies, fault_of_entries, fault_of_device, line_in, lines_in, device_of, entries_reading, device_reading, bodies_reading, with_reading, with_devices, devices_from, part_checks, parts_reading}
-use Rattle.dm_table.proofs.FaultLemmas.{first_or-passed, first_fault-none, faults_from-nil, faults_from-text, first_fault-text}
-use Rattle.dm_table.proofs.RowFaultLemmas.{noted_checks}
-use Rattle.dm_table.proofs.TargetRows.{read_fault, read_none, read_value, and_false}
+use Rattle.dm_table.proofs.FaultLemmas.{first_or-passed}
+use Rattle.dm_table.proofs.RowFaultLemmas.{checks_of, names_true, noted_faulty, noted_none, noted_refused}
+use Rattle.dm_table.proofs.TargetRows.{read_fault, read_value, and_false}
 
 -- The worse of two
 
@@ -151,12 +151,6 @@ entries_read n on_a_line (a ∷ b ∷ c ∷ d ∷ es) k e lines label h is r =
     let v = read_value (worse (label_of on_a_line (texts (a ∷ b ∷ c ∷ d ∷ es))) (fault_of_bodies (texts es))) (lines_in (place_of n) (texts es)) lines (rw (take_rest (a ∷ b ∷ c ∷ d ∷ es) 4, is) at r) in
     rw (v.0, v.1) refl
 
-names_true : (row known named : Bool) → row_fault row (value_fault known named) ≡ None → named ≡ true
-names_true true true true h = refl
-names_true true true false h = absurd cc
-names_true true false named h = absurd cc
-names_true false known named h = absurd cc
-
 -- the first entry is a name where lines are read
 pub entries_named : (n : ℕ) (on_a_line : Bool) (es : List (Bor (List ℕ))) (k : Bor (List ℕ)) (bodies : List (List ℕ)) (lines : List Line) (label : Option RowFault) → 4 ≤ length es → label ≡ label_of on_a_line (texts es)
     → bodies_reading (place_of n) label bodies ≡ Ok lines → is_device_name (slice_index_or es 0 k).now ≡ true
@@ -178,23 +172,10 @@ with_read ds n [] h = sym (append-nil ds)
 with_read ds n (text ∷ parts) h =
     rw h.0 (with_read (ds ++ device_of n (entries text) ∷ []) (suc n) parts h.1 ∙ append_assoc ds (device_of n (entries text) ∷ []) (devices_from (suc n) parts))
 
-are_read : (parts : List (List ℕ)) → AllByRecursion (λ text. not (is_device text) ≡ false) parts → AllByRecursion (λ text. not (has_values text) ≡ false) parts → AllByRecursion (λ text. not (has_names text) ≡ false) parts → AreRead parts
-are_read [] r l h = tt
-are_read (text ∷ parts) r l h = (rw (not-false _ r.0, not-false _ l.0, not-false _ h.0) refl, are_read parts r.1 l.1 h.1)
-
-parts_clear : (parts : List (List ℕ)) → first_fault (part_checks parts) ≡ None → AreRead parts
-parts_clear parts h =
-    let none = first_fault-none (part_checks parts) h in
-    are_read parts
-    (faults_from-nil Source kinds.Syntax (λ text. not (is_device text)) 1 parts none.0)
-    (faults_from-nil Source kinds.Field (λ text. not (has_values text)) 1 parts none.1.0)
-    (faults_from-nil Source kinds.Name (λ text. not (has_names text)) 1 parts none.1.1.0)
-
--- the faults that were noted are those of the checks
-noted_parts : (parts : List (List ℕ)) → first_noted (noted_rows Source fault_of_device no_faults 1 parts) ≡ first_fault (part_checks parts)
-noted_parts parts =
-    noted_checks Source is_device has_values has_names parts []
-    ∙ ap (λ (syntax : List LoadFault). first_fault (syntax ∷ drop 1 (part_checks parts))) (append-nil (faults_from Source kinds.Syntax (λ text. not (is_device text)) 1 parts))
+-- the checks of rows, with no rest after the last part
+as_checks : (parts : List (List ℕ)) → first_fault (checks_of Source is_device has_values has_names parts []) ≡ first_fault (part_checks parts)
+as_checks parts =
+    ap (λ (syntax : List LoadFault). first_fault (syntax ∷ drop 1 (part_checks parts))) (append-nil (faults_from Source kinds.Syntax (λ text. not (is_device text)) 1 parts))
 
 -- where all bytes are text, these checks are all that is left
 pub parts_after : (parts : List (List ℕ)) → None ≡ first_or (faults_from Source kinds.NotText (λ text. not (is_printed text)) 1 parts) None
@@ -205,28 +186,30 @@ parts_after parts none =
 pub parts_refused : (parts : List (List ℕ)) (fault : LoadFault) → first_noted (noted_rows Source fault_of_device no_faults 1 parts) ≡ Some fault
     → (fault.kind ≢ kinds.Memory) × (unless (first_fault (part_checks parts)) (devices_from 1 parts) ≡ Err fault)
 parts_refused parts fault h =
-    let found : first_fault (part_checks parts) ≡ Some fault = sym (noted_parts parts) ∙ h in
-    let syntax = faults_from-text Source kinds.Syntax (λ text. not (is_device text)) 1 parts (λ e. cc) in
-    let field = faults_from-text Source kinds.Field (λ text. not (has_values text)) 1 parts (λ e. cc) in
-    let name = faults_from-text Source kinds.Name (λ text. not (has_names text)) 1 parts (λ e. cc) in
-    (first_fault-text (part_checks parts) fault (syntax, (field, (name, tt))) found, rw found refl)
+    let a = noted_refused Source is_device has_values has_names parts [] fault h in
+    (a.0, ap (λ (found : Option LoadFault). unless found (devices_from 1 parts)) (sym (as_checks parts) ∙ a.1))
 
 pub parts_taken : (parts : List (List ℕ)) → first_noted (noted_rows Source fault_of_device no_faults 1 parts) ≡ None
     → unless (first_fault (part_checks parts)) (devices_from 1 parts) ≡ Ok (with_devices [] 1 parts)
 parts_taken parts h =
-    let clear : first_fault (part_checks parts) ≡ None = sym (noted_parts parts) ∙ h in
-    rw clear (ap Ok (sym (with_read [] 1 parts (parts_clear parts clear))))
+    let a = noted_none Source is_device has_values has_names parts [] h in
+    ap (λ (found : Option LoadFault). unless found (devices_from 1 parts)) (sym (as_checks parts) ∙ a.0) ∙ ap Ok (sym (with_read [] 1 parts a.1))
 
 -- a device that is read has no fault, and one that is not has it noted, where memory is left
 pub read_faultless : (n : ℕ) (text : List ℕ) (device : DeviceSpec) → device_reading n text ≡ Ok device → fault_of_device text ≡ None
 read_faultless n text device h = (read_value (fault_of_device text) (device_of n (entries text)) device h).0
 
+left_out : (r : Result (Unit {0}) AllocError) (n : ℕ) (text : List ℕ) (devices : List DeviceSpec) (fault : RowFault) → OnOk r (fault ≢ Memory)
+    → (fault ≢ Memory → device_reading n text ≡ Err fault) → OnOk r (devices ≡ with_reading devices (device_reading n text))
+left_out (Ok x) n text devices fault other reading = rw (reading other) refl
+left_out (Err e) n text devices fault other reading = tt
+
 pub read_faulty : (r : Result (Unit {0}) AllocError) (n : ℕ) (text : List ℕ) (devices : List DeviceSpec) (old new : FirstFaults) (fault : RowFault) → OnOk r (new ≡ noted Source old n fault) → OnOk r (fault ≢ Memory)
     → (fault ≢ Memory → device_reading n text ≡ Err fault) → OnOk r (devices ≡ with_reading devices (device_reading n text)) × OnOk r (new ≡ noted_at Source old n (fault_of_device text))
-read_faulty (Ok x) n text devices old new fault is other reading =
-    let faulty : device_reading n text ≡ Err fault = reading other in
-    (rw faulty refl, is ∙ ap (noted_at Source old n) (sym (read_none (fault_of_device text) (device_of n (entries text)) fault faulty)))
-read_faulty (Err e) n text devices old new fault is other reading = (tt, tt)
+read_faulty r n text devices old new fault is other reading = (
+  left_out r n text devices fault other reading,
+  noted_faulty r Source n (fault_of_device text) (device_of n (entries text)) old new fault is other reading,
+)
 
 -- Bodies one after the other
 

@@ -1,5 +1,6 @@
 -- What no check finds fault with describes its disks, and what describes disks no check finds fault with.
-use Rattle.std.proofs.Common.{◌≡◌, ◌≢◌, ℕ, Bool, suc, ◌+◌, ◌^◌, ◌<◌, true, false, nat_le, not, ◌&&◌, List, [], ◌∷◌, ◌++◌, length, map, Option, Some, None, Ok, Err, refl, sym, ap, subst, ◌∙◌}
+use Rattle.std.proofs.Common.{◌≡◌, ◌≢◌, ℕ, Bool, suc, ◌+◌, ◌^◌, ◌<◌, true, false, nat_le, not, ◌&&◌, List, [], ◌∷◌, ◌++◌, length, map, Option, Some, None, Result, Ok, Err, refl, sym, ap, ◌∙◌}
+use Rattle.std.specs.Global.{Vec}
 use Rattle.std.specs.Prelude.{decimal, is_some}
 use Rattle.std.specs.List.{flat_map, join_with_byte, AllByRecursion}
 use Rattle.std.proofs.lemmas.Bool.{and_from, not-false, not_from_true, lt-ltb}
@@ -11,14 +12,16 @@ use Rattle.dm_table.specs.declared.row_faults.RowFault.TheVariants as rows
 use Rattle.dm_table.specs.Number.{number_of}
 use Rattle.dm_table.specs.Name.{is_disk_name}
 use Rattle.dm_table.specs.Fields.{texts, parts_at, lines_of, rest_of, lines_and_rest, fields}
-use Rattle.dm_table.specs.LoadFault.{first_or, first_fault, faults_from, unless, is_text, not_text, unended}
+use Rattle.dm_table.specs.LoadFault.{Answers, first_or, first_fault, faults_from, unless, is_text, not_text, unended}
+use Rattle.dm_table.specs.Parsed.{IsParsed}
 use Rattle.dm_table.specs.DiskList.{disk_line, AreListed, DescribesDisks, is_pair, has_sectors, has_name, second, bad_syntax, bad_field, bad_name, disk_checks, disk_fault, disk_of, disk_reading, disks_from, disks_read, read_disk_rows, read_disks}
 use Rattle.dm_table.specs.RowFaults.{no_faults, noted_rows, noted_rest, first_noted}
 use Rattle.dm_table.proofs.RowFaultLemmas.{noted_none, noted_refused}
 use Rattle.dm_table.proofs.NumberLemmas.{Spells-number_of, number_of-decimal, decimal_digits, decimal_some, Some-is_some}
-use Rattle.dm_table.proofs.ByteLemmas.{list_all-both, disk_name_parts, is_text-clear, is_text-digits, is_text-disk_name, digits-clear, disk_name-clear}
+use Rattle.dm_table.proofs.ByteLemmas.{list_all-both, disk_name_parts, is_text-clear, is_text-digits, digits-clear, plain-disk_name}
 use Rattle.dm_table.proofs.FieldLemmas.{IsClearOf, parts_at-first, parts_at-clear, join-parts_at, lines_of-whole, parts_at-lines, lines_of-lines, rest_of-lines}
-use Rattle.dm_table.proofs.FaultLemmas.{first_or-none, first_fault-all, faults_from-nil, faults_from-good, append-nil_both, unended-nil, unless-ok, unless-err, unless-passed}
+use Rattle.dm_table.proofs.FaultLemmas.{first_or-none, first_fault-all, faults_from-nil, faults_from-good, append-nil_both, unended-nil, unless-passed}
+use Rattle.dm_table.proofs.Parsing.{parsed}
 use denote.Ref.{Bor}
 
 -- the tests of the checks
@@ -88,11 +91,11 @@ named n [] listed = tt
 named n (disk ∷ disks) listed = ((listed.0.name, listed.0.len), named (suc n) disks listed.1)
 
 line_text : (disk : Disk) → is_disk_name disk.name ≡ true → disk.len < 10 ^ 19 → is_text (disk_line disk) ≡ true
-line_text disk name len = list_all-both (λ b. nat_le 32 b && nat_le b 126) disk.name (32 ∷ decimal disk.len) (is_text-disk_name disk.name name) (is_text-digits (decimal disk.len) (decimal_digits disk.len len))
+line_text disk name len = list_all-both (λ b. nat_le 32 b && nat_le b 126) disk.name (32 ∷ decimal disk.len) (plain-disk_name disk.name name).printed (is_text-digits (decimal disk.len) (decimal_digits disk.len len))
 
 line_fields : (disk : Disk) → is_disk_name disk.name ≡ true → disk.len < 10 ^ 19 → fields (disk_line disk) ≡ disk_row disk
 line_fields disk name len =
-    parts_at-first 32 disk.name (decimal disk.len) (disk_name-clear disk.name name)
+    parts_at-first 32 disk.name (decimal disk.len) (plain-disk_name disk.name name).clear
     ∙ ap (λ (more : List (List ℕ)). disk.name ∷ more) (parts_at-clear 32 (decimal disk.len) (digits-clear (decimal disk.len) (decimal_digits disk.len len)))
 
 rows_again : (disks : List Disk) → AreNamed disks → map fields (map disk_line disks) ≡ map disk_row disks
@@ -134,12 +137,8 @@ abbrev checks_of : List LoadFault → List (List (List ℕ)) → List ℕ → Li
 checks_of bytes rows rest = bytes ∷ bad_syntax rows rest ∷ bad_field rows ∷ bad_name rows ∷ []
 
 -- what is written as lines of disks passes all checks, and gives them back
-record IsReadAs (text : List ℕ) (disks : List Disk) : Type 0 where
-  passed : first_fault (disk_checks text) ≡ None
-  rows : disks_from 1 (map fields (lines_of text)) ≡ disks
-
-read_as : (text : List ℕ) (disks : List Disk) → DescribesDisks text disks → IsReadAs text disks
-read_as text disks describes =
+pub again : (text : List ℕ) (disks : List Disk) → DescribesDisks text disks → (first_fault (disk_checks text) ≡ None) × (disks_from 1 (map fields (lines_of text)) ≡ disks)
+again text disks describes =
     let names = named 1 disks describes.listed in
     let clear = lines_clear disks names in
     let whole : text ≡ flat_map (λ line. line ++ 10 ∷ []) (map disk_line disks) = describes.spelled ∙ over_lines disks in
@@ -152,36 +151,21 @@ read_as text disks describes =
     let no_field : bad_field (map disk_row disks) ≡ [] = faults_from-good Disks Field no_number 1 (map disk_row disks) (numbers_pass disks names) in
     let no_named : bad_name (map disk_row disks) ≡ [] = faults_from-good Disks Name no_name 1 (map disk_row disks) (names_pass disks names) in
     let same : disk_checks text ≡ not_text Disks text ∷ bad_syntax (map disk_row disks) [] ∷ bad_field (map disk_row disks) ∷ bad_name (map disk_row disks) ∷ [] =
-    ap (λ (r : List (List (List ℕ))). checks_of (not_text Disks text) r (rest_of text)) rows ∙ ap (checks_of (not_text Disks text) (map disk_row disks)) rest in
-    record {
-      passed = ap first_fault same ∙ first_fault-all (not_text Disks text ∷ bad_syntax (map disk_row disks) [] ∷ bad_field (map disk_row disks) ∷ bad_name (map disk_row disks) ∷ []) (no_byte, (no_syntax, (no_field, (no_named, tt))));
-      rows = ap (disks_from 1) rows ∙ disks_again 1 disks describes.listed;
-    }
+    ap (λ (r : List (List (List ℕ))). checks_of (not_text Disks text) r (rest_of text)) rows ∙ ap (checks_of (not_text Disks text) (map disk_row disks)) rest in (
+      ap first_fault same ∙ first_fault-all (not_text Disks text ∷ bad_syntax (map disk_row disks) [] ∷ bad_field (map disk_row disks) ∷ bad_name (map disk_row disks) ∷ []) (no_byte, (no_syntax, (no_field, (no_named, tt)))),
+      ap (disks_from 1) rows ∙ disks_again 1 disks describes.listed,
+    )
 
 -- How a text is read
 
--- what describes disks is read as them
-pub read_disks-described : (text : List ℕ) (disks : List Disk) → DescribesDisks text disks → read_disks text ≡ Ok disks
+pub read_as_promised : (text : List ℕ) (answer : Result (Vec Disk) LoadFault) → Answers Disks (λ v. v.items) answer (read_disks text)
+    → IsParsed Disks (DescribesDisks text) (disk_checks text) answer
 unfolding read_disks
-read_disks-described text disks describes =
-    let a = read_as text disks describes in
-    rw (a.passed, a.rows) refl
-
--- and what is read as disks describes them, having passed all checks
-pub read_disks-ok : (text : List ℕ) (disks : List Disk) → read_disks text ≡ Ok disks → (first_fault (disk_checks text) ≡ None) × DescribesDisks text disks
-unfolding read_disks
-read_disks-ok text disks h =
-    let a = unless-ok (first_fault (disk_checks text)) (disks_from 1 (map fields (lines_of text))) disks h in
-    (a.0, subst (λ (x : List Disk). DescribesDisks text x) a.1 (disk_checks-none text a.0))
-
--- what is refused fails a check
-pub read_disks-err : (text : List ℕ) (fault : LoadFault) → read_disks text ≡ Err fault → first_fault (disk_checks text) ≡ Some fault
-unfolding read_disks
-read_disks-err text fault h = unless-err (first_fault (disk_checks text)) (disks_from 1 (map fields (lines_of text))) fault h
+read_as_promised text answer h = parsed Disks (DescribesDisks text) (disk_checks text) (disks_from 1 (map fields (lines_of text))) answer (disk_checks-none text) (again text) h
 
 -- a text describes at most one list of disks
 pub DescribesDisks-unique : (text : List ℕ) (a b : List Disk) → DescribesDisks text a → DescribesDisks text b → a ≡ b
-DescribesDisks-unique text a b is_a is_b = sym (read_as text a is_a).rows ∙ (read_as text b is_b).rows
+DescribesDisks-unique text a b is_a is_b = sym (again text a is_a).1 ∙ (again text b is_b).1
 
 -- a text whose bytes are all text is read by its rows and its rest
 pub read_disks-rows : (text : List ℕ) (lines : List (List ℕ)) (rest : List ℕ) → unless (first_or (not_text Disks text) None) (lines_and_rest text) ≡ Ok (lines, rest) → read_disks text ≡ read_disk_rows (map fields lines) rest

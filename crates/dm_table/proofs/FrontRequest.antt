@@ -12,7 +12,7 @@ use Rattle.dm_table.specs.Name.{is_device_name}
 use Rattle.dm_table.specs.Number.{number_of}
 use Rattle.dm_table.specs.Fields.{parts_at}
 use Rattle.dm_table.specs.RequestLine.{RequestValues, DescribesRequest, request_text, op_text}
-use Rattle.dm_table.proofs.ByteLemmas.{is_text-clear, is_text-device_name, is_text-digits, list_all-both}
+use Rattle.dm_table.proofs.ByteLemmas.{is_text-clear, is_text-digits, list_all-both, plain-device_name}
 use Rattle.dm_table.proofs.FieldLemmas.{IsClearOf, parts_at-first}
 use Rattle.dm_table.proofs.NumberLemmas.{Spells-number_of, decimal_digits}
 
@@ -47,7 +47,7 @@ request-clear op device s l named small small' =
     let ink : ℕ → Bool = λ b. nat_le 32 b && nat_le b 126 in
     let numbers : is_text (decimal s ++ 32 ∷ decimal l) ≡ true =
     list_all-both ink (decimal s) (32 ∷ decimal l) (is_text-digits (decimal s) (decimal_digits s small)) (is_text-digits (decimal l) (decimal_digits l small')) in
-    let all : is_text (device ++ 32 ∷ (decimal s ++ 32 ∷ decimal l)) ≡ true = list_all-both ink device (32 ∷ (decimal s ++ 32 ∷ decimal l)) (is_text-device_name device named) numbers in
+    let all : is_text (device ++ 32 ∷ (decimal s ++ 32 ∷ decimal l)) ≡ true = list_all-both ink device (32 ∷ (decimal s ++ 32 ∷ decimal l)) (plain-device_name device named).printed numbers in
     is_text-clear (request_text (values_with op device s l)) (ap is_text (flat op device s l) ∙ op_text-is_text op (device ++ 32 ∷ (decimal s ++ 32 ∷ decimal l)) all)
 
 request-short : (op : Op) (device : List ℕ) (s l : ℕ) → is_device_name device ≡ true → s < 10 ^ 19 → l < 10 ^ 19 → length (request_text (values_with op device s l)) ≤ 200

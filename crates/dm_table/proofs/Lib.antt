@@ -2,6 +2,7 @@ pub mod NumberLemmas
 pub mod ByteLemmas
 pub mod FieldLemmas
 pub mod FaultLemmas
+pub mod Parsing
 pub mod RequestLemmas
 pub mod FrontRequest
 mod Portions

@@ -15,7 +15,7 @@ use Rattle.dm_table.specs.Name.{is_device_name, is_device_byte}
 use Rattle.dm_table.specs.Number.{number_of}
 use Rattle.dm_table.specs.Fields.{fields}
 use Rattle.dm_table.specs.RequestLine.{RequestValues, AreNumbers, are_two, is_length, DescribesRequest, request_text, row_of, op_text, is_op, has_form, has_numbers, has_length, request_fault, op_in, request_values}
-use Rattle.dm_table.proofs.ByteLemmas.{StandsFirst, stands_first, device_name_parts, All-list_all, device_name-clear, digits-clear}
+use Rattle.dm_table.proofs.ByteLemmas.{StandsFirst, stands_first, device_name_parts, All-list_all, digits-clear, plain-device_name}
 use Rattle.dm_table.proofs.FieldLemmas.{IsClearOf, parts_at-first, parts_at-clear, join-parts_at}
 use Rattle.dm_table.proofs.NumberLemmas.{Spells-number_of, number_of-decimal, decimal_digits, decimal_some}
 
@@ -63,7 +63,7 @@ fields_are line values said =
     let first : fields (op ++ 32 ∷ (values.device ++ 32 ∷ (start ++ 32 ∷ len))) ≡ op ∷ fields (values.device ++ 32 ∷ (start ++ 32 ∷ len)) =
     parts_at-first 32 op (values.device ++ 32 ∷ (start ++ 32 ∷ len)) (op_clear values.op) in
     let second : fields (values.device ++ 32 ∷ (start ++ 32 ∷ len)) ≡ values.device ∷ fields (start ++ 32 ∷ len) =
-    parts_at-first 32 values.device (start ++ 32 ∷ len) (device_name-clear values.device said.device) in
+    parts_at-first 32 values.device (start ++ 32 ∷ len) (plain-device_name values.device said.device).clear in
     let third : fields (start ++ 32 ∷ len) ≡ start ∷ fields len = parts_at-first 32 start len (digits-clear start (decimal_digits values.start said.start)) in
     let fourth : fields len ≡ len ∷ [] = parts_at-clear 32 len (digits-clear len (decimal_digits values.len (omega (arith, said.most)))) in
     ap fields text ∙ rw (first, second, third, fourth) refl

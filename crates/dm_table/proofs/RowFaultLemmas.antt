@@ -1,5 +1,5 @@
 -- Rows read once, and the checks that run over all of them one after another: the first fault is the same.
-use Rattle.std.proofs.Common.{◌≡◌, ◌≢◌, OnOk, inl, inr, ℕ, suc, ◌+◌, Bool, false, not, List, [], ◌∷◌, ◌++◌, length, Option, Some, None, Result, Ok, Err, refl, sym, ap, ◌∙◌, arith}
+use Rattle.std.proofs.Common.{◌≡◌, ◌≢◌, OnOk, inl, inr, ℕ, suc, ◌+◌, Bool, true, false, not, List, [], ◌∷◌, ◌++◌, length, Option, Some, None, Result, Ok, Err, refl, sym, ap, ◌∙◌, arith}
 use Rattle.std.specs.List.{AllByRecursion}
 use Rattle.std.specs.declared.alloc.AllocError.{AllocError}
 use Rattle.std.proofs.lemmas.Bool.{cases_Bool, not-false}
@@ -63,7 +63,7 @@ noted_checks part is_row is_line has_names rows rest =
 
 -- What the kept faults say: one of them is no fault of memory, and none of them is one in no row
 
-abbrev checks_of : {X : Type 0} → Part → (is_row is_line has_names : X → Bool) → List X → List ℕ → List (List LoadFault)
+abbrev pub checks_of : {X : Type 0} → Part → (is_row is_line has_names : X → Bool) → List X → List ℕ → List (List LoadFault)
 checks_of part is_row is_line has_names rows rest =
     (faults_from part Syntax (λ x. not (is_row x)) 1 rows ++ unended part (length rows + 1) rest) ∷ faults_from part Field (λ x. not (is_line x)) 1 rows ∷ faults_from part Name (λ x. not (has_names x)) 1 rows ∷ []
 
@@ -93,6 +93,13 @@ noted_none part is_row is_line has_names rows rest h =
     (none, no_faults_in is_row is_line has_names rows (faults_from-nil part Syntax (λ x. not (is_row x)) 1 rows syntax.0) (faults_from-nil part Field (λ x. not (is_line x)) 1 rows each.1.0) (faults_from-nil part Name (λ x. not (has_names x)) 1 rows each.1.1.0))
 
 -- One row
+
+-- a row without a fault has its names
+pub names_true : (is_row is_line has_names : Bool) → row_fault is_row (value_fault is_line has_names) ≡ None → has_names ≡ true
+names_true true true true h = refl
+names_true true true false h = absurd cc
+names_true true false has_names h = absurd cc
+names_true false is_line has_names h = absurd cc
 
 -- a row that has a fault is noted, where memory is left
 pub noted_faulty : {X : Type 0} (r : Result (Unit {0}) AllocError) (part : Part) (n : ℕ) (found : Option RowFault) (x : X) (old new : FirstFaults) (fault : RowFault)

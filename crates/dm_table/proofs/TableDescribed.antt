@@ -1,5 +1,6 @@
 -- Table text in which no check finds anything describes the devices that are read from it, and text that describes devices is read as them.
-use Rattle.std.proofs.Common.{◌≡◌, ℕ, suc, ◌+◌, Bool, true, false, not, List, [], ◌∷◌, ◌++◌, length, map, Some, None, Ok, Err, refl, sym, ap, subst, ◌∙◌}
+use Rattle.std.proofs.Common.{◌≡◌, ℕ, suc, ◌+◌, Bool, true, false, not, List, [], ◌∷◌, ◌++◌, length, map, None, Result, Ok, refl, sym, ap, ◌∙◌}
+use Rattle.std.specs.Global.{Vec}
 use Rattle.std.specs.List.{AllByRecursion}
 use Rattle.std.proofs.lemmas.Bool.{not-false, not_from_true}
 use Rattle.dm_table.specs.declared.table.DeviceSpec.{DeviceSpec}
@@ -7,11 +8,13 @@ use Rattle.dm_table.specs.declared.place.Part.TheVariants.{Source}
 use Rattle.dm_table.specs.declared.load_fault.LoadKind.TheVariants.{NotText, Syntax, Field, Name}
 use Rattle.dm_table.specs.declared.load_fault.LoadFault.{LoadFault}
 use Rattle.dm_table.specs.Fields.{parts_at, front, back, lines_of, rest_of, lines_and_rest}
-use Rattle.dm_table.specs.LoadFault.{first_or, first_fault, faults_from, unless, is_text, not_text, unended}
+use Rattle.dm_table.specs.LoadFault.{Answers, first_or, first_fault, faults_from, unless, is_text, not_text, unended}
+use Rattle.dm_table.specs.Parsed.{IsParsed}
 use Rattle.dm_table.specs.TableText.{NamedLine, Says, DescribesTable, named_lines, row_of, is_row, is_line, has_names, table_checks}
 use Rattle.dm_table.specs.TableReading.{named_in, named_from, joined, devices_from, rows_of, bad_syntax, bad_field, bad_name, read_rows, read_table}
 use Rattle.dm_table.proofs.ByteLemmas.{is_text-clear}
-use Rattle.dm_table.proofs.FaultLemmas.{first_fault-none, first_fault-all, faults_from-nil, faults_from-good, append-nil_both, unended-nil, unless-ok, unless-err, unless-passed}
+use Rattle.dm_table.proofs.FaultLemmas.{first_fault-none, first_fault-all, faults_from-nil, faults_from-good, append-nil_both, unended-nil, unless-passed}
+use Rattle.dm_table.proofs.Parsing.{parsed}
 use Rattle.dm_table.proofs.FieldLemmas.{IsClearOf, lines_of-whole, parts_at-lines, front-push, back-push}
 use Rattle.dm_table.proofs.TableGroups.{lines_of_joined, each_joined, apart_joined, devices_again}
 use Rattle.dm_table.proofs.TableRows.{row_for, row_said, line_writes, row_written, text_written, row_passes, line_passes, names_pass, line_again}
@@ -116,25 +119,12 @@ again text ds d =
     let no_syntax : faults_from Source Syntax (λ row. not (is_row row)) 1 (rows text) ++ unended Source (length (rows text) + 1) (rest_of text) ≡ [] = rw (no_rows, rest) refl in
     (first_fault-all (table_checks text) (no_bytes, (no_syntax, (no_lines, (no_names, tt)))), ap (devices_from 1) rs ∙ ap joined (named_again 1 d.lines ns d.said) ∙ devices_again ds d.each d.apart)
 
--- a text describes no other devices
-pub one_description : (text : List ℕ) (a b : List DeviceSpec) → DescribesTable text a → DescribesTable text b → a ≡ b
-one_description text a b d e = sym (again text a d).1 ∙ (again text b e).1
-
 -- How a text is read
 
-pub read_if_described : (text : List ℕ) (ds : List DeviceSpec) → DescribesTable text ds → read_table text ≡ Ok ds
+pub read_as_promised : (text : List ℕ) (answer : Result (Vec DeviceSpec) LoadFault) → Answers Source (λ v. v.items) answer (read_table text)
+    → IsParsed Source (DescribesTable text) (table_checks text) answer
 unfolding read_table
-read_if_described text ds d = let a = again text ds d in rw (a.0, a.1) refl
-
-pub described_if_read : (text : List ℕ) (ds : List DeviceSpec) → read_table text ≡ Ok ds → (first_fault (table_checks text) ≡ None) × DescribesTable text ds
-unfolding read_table
-described_if_read text ds h =
-    let a = unless-ok (first_fault (table_checks text)) (devices_from 1 (rows text)) ds h in
-    (a.0, subst (λ (x : List DeviceSpec). DescribesTable text x) a.1 (described text a.0))
-
-pub fault_if_refused : (text : List ℕ) (f : LoadFault) → read_table text ≡ Err f → first_fault (table_checks text) ≡ Some f
-unfolding read_table
-fault_if_refused text f h = unless-err (first_fault (table_checks text)) (devices_from 1 (rows text)) f h
+read_as_promised text answer h = parsed Source (DescribesTable text) (table_checks text) (devices_from 1 (rows text)) answer (described text) (again text) h
 
 -- a text whose bytes are all text is read by its rows and its rest
 pub read_table-rows : (text : List ℕ) (lines : List (List ℕ)) (rest : List ℕ) (rs : List (List (List ℕ))) → unless (first_or (not_text Source text) None) (lines_and_rest text) ≡ Ok (lines, rest) → rs ≡ rows_of lines

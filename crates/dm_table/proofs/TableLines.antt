@@ -1,5 +1,5 @@
 -- Lines of table text added one after the other: the devices are those of all of them, where no row has a fault.
-use Rattle.std.proofs.Common.{◌≡◌, ◌≢◌, OnOk, inl, inr, ℕ, suc, ◌+◌, Bool, true, false, nat_eq, List, [], ◌∷◌, ◌++◌, length, Option, Some, None, Result, Ok, Err, refl, sym, ap, ◌∙◌, append_assoc}
+use Rattle.std.proofs.Common.{◌≡◌, ◌≢◌, OnOk, inl, inr, ℕ, suc, ◌+◌, true, false, nat_eq, List, [], ◌∷◌, ◌++◌, length, Option, Some, None, Result, Ok, Err, refl, sym, ap, ◌∙◌, append_assoc}
 use Rattle.std.specs.Cmp.Lexicographic.{pointwise}
 use Rattle.std.specs.List.{AllByRecursion}
 use Rattle.std.proofs.lemmas.Bool.{and_parts, cases_Bool}
@@ -12,11 +12,11 @@ use Rattle.dm_table.specs.declared.row_faults.RowFault.{RowFault}
 use Rattle.dm_table.specs.declared.row_faults.RowFault.TheVariants as rows
 use Rattle.std.specs.declared.alloc.AllocError.{AllocError}
 use Rattle.dm_table.specs.Name.{is_device_name}
-use Rattle.dm_table.specs.RowFaults.{value_fault, row_fault, no_faults, noted_rows, noted_rest, first_noted}
+use Rattle.dm_table.specs.RowFaults.{no_faults, noted_rows, noted_rest, first_noted}
 use Rattle.dm_table.specs.LineBody.{has_body_names}
 use Rattle.dm_table.specs.TableText.{NamedLine, name_in, is_row, is_line, has_names}
 use Rattle.dm_table.specs.TableReading.{named_in, named_from, alone, join_line, joined, add_line, fault_of_row, row_reading, with_reading, with_rows, read_rows}
-use Rattle.dm_table.proofs.RowFaultLemmas.{noted_none, noted_refused}
+use Rattle.dm_table.proofs.RowFaultLemmas.{names_true, noted_none, noted_refused}
 use Rattle.dm_table.proofs.TableGroups.{same_name, is_same_name, other_name, is_other_name}
 use Rattle.dm_table.proofs.TargetRows.{read_value}
 
@@ -86,12 +86,6 @@ pub rows_taken : (rows : List (List (List ℕ))) (rest : List ℕ) → kept_faul
 rows_taken rows rest h = let a = noted_none Source is_row is_line has_names rows rest h in rw a.0 (ap Ok (sym (with_read [] 1 rows a.1)))
 
 -- a row that is read has no fault, and its name is one of a device
-names_true : (is_row is_line has_names : Bool) → row_fault is_row (value_fault is_line has_names) ≡ None → has_names ≡ true
-names_true true true true h = refl
-names_true true true false h = absurd cc
-names_true true false has_names h = absurd cc
-names_true false is_line has_names h = absurd cc
-
 pub read_faultless : (n : ℕ) (row : List (List ℕ)) (named : NamedLine) → row_reading n row ≡ Ok named → fault_of_row row ≡ None
 read_faultless n row named h = (read_value (fault_of_row row) (named_in n row) named h).0
 

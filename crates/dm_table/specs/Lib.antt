@@ -4,6 +4,7 @@ pub mod Name
 pub mod Fields
 pub mod Gathered
 pub mod LoadFault
+pub mod Parsed
 pub mod LoadMessage
 pub mod DiskList
 pub mod RowFaults

@@ -12,8 +12,9 @@ ghost use Rattle.dm_table.specs.declared.table.DeviceSpec.{DeviceSpec};
 ghost use Rattle.dm_table.specs.Fields.{texts};
 ghost use Rattle.dm_table.specs.LoadFault.{Answers, IsMemoryFault, faults_from, first_or, first_fault};
 ghost use Rattle.dm_table.specs.RowFaults.{no_faults, noted_at, noted_rows};
+ghost use Rattle.dm_table.specs.Parsed.{IsParsed};
 ghost use Rattle.dm_table.specs.ConciseText.{DescribesConcise, without_newline, parts_of, is_printed, concise_checks};
-ghost use Rattle.dm_table.specs.ConciseReading.{fault_of_device, device_reading, with_reading, with_devices, parts_reading, read_concise};
+ghost use Rattle.dm_table.specs.ConciseReading.{fault_of_device, device_reading, with_reading, with_devices, parts_reading};
 
 use crate::concise_device::read_device;
 use crate::fields::cut;
@@ -57,7 +58,7 @@ pub fn parse_concise(alloc: Global, text: &[u8]) -> Result<Vec<DeviceSpec>, Load
 }
 
 fn read(alloc: Global, text: &[u8]) -> Result<Vec<DeviceSpec>, LoadFault>
-    ensures { Answers Source (λ v. v.items) result (read_concise text.now) }
+    ensures { IsParsed Source (DescribesConcise text.now) (concise_checks text.now) result }
 {
     match parts_of(alloc, without_newline(text)) {
         Ok(parts) => read_parts(alloc, &parts),

@@ -11,7 +11,8 @@ ghost use Rattle.dm_table.specs.declared.load_fault.LoadKind.TheVariants.{Memory
 ghost use Rattle.dm_table.specs.Fields.{fields, texts};
 ghost use Rattle.dm_table.specs.LoadFault.{Answers, IsMemoryFault, first_fault};
 ghost use Rattle.dm_table.specs.RowFaults.{Reads, no_faults, noted_at, noted_rows};
-ghost use Rattle.dm_table.specs.DiskList.{DescribesDisks, disk_checks, disk_fault, disk_in, disk_reading, disks_read, read_disk_rows, read_disks};
+ghost use Rattle.dm_table.specs.Parsed.{IsParsed};
+ghost use Rattle.dm_table.specs.DiskList.{DescribesDisks, disk_checks, disk_fault, disk_in, disk_reading, disks_read, read_disk_rows};
 
 use crate::disk::Disk;
 use crate::disk_name::{DiskName, is_disk_name};
@@ -54,7 +55,7 @@ pub fn parse_disks(alloc: Global, text: &[u8]) -> Result<Vec<Disk>, LoadFault>
 }
 
 fn read(alloc: Global, text: &[u8]) -> Result<Vec<Disk>, LoadFault>
-    ensures { Answers Disks (λ v. v.items) result (read_disks text.now) }
+    ensures { IsParsed Disks (DescribesDisks text.now) (disk_checks text.now) result }
 {
     let cut = text_lines(alloc, Part::Disks, text)?;
     read_lines(alloc, &cut.lines, cut.rest)

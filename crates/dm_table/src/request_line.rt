@@ -163,6 +163,16 @@ pub fn parse_request<'a>(line: &'a [u8], number: u64) -> Result<Request<'a>, Req
     })
 }
 
+/// The number that a longer text begins with, and what follows its space.
+#[inline(always)]
+fn front_number<'a>(text: &'a [u8]) -> Option<(u64, &'a [u8])>
+    ensures text { IfSome result (λ cut. (field : List ℕ) × (text.now ≡ field ++ 32 ∷ cut.1.now) × (number_of field ≡ Some cut.0)) }
+{
+    let (number, len) = number::leading_within(text)?;
+    let rest = after_space(text, len)?;
+    Some((number, rest))
+}
+
 /// The length that a text begins with, and how many bytes stand before the newline after it.
 #[inline(always)]
 fn last_number(text: &[u8]) -> Option<(u64, usize)>
@@ -170,7 +180,7 @@ fn last_number(text: &[u8]) -> Option<(u64, usize)>
     ensures newline { IfSome result (λ read. text.now ≡ take read.1 text.now ++ 10 ∷ drop (read.1 + 1) text.now) }
     ensures number { IfSome result (λ read. number_of (take read.1 text.now) ≡ Some read.0) }
 {
-    let (number, len) = number::leading(text)?;
+    let (number, len) = number::leading_within(text)?;
     if len < text.len() && text[len] == b'\n' {
         Some((number, len))
     } else {
@@ -182,7 +192,7 @@ fn last_number(text: &[u8]) -> Option<(u64, usize)>
 /// way for line `number` of a stream, which is read where it stands and not cut off first.
 ///
 /// `None` says nothing of the text: the line is not whole, says no request, or none that is met this
-/// way. It is [`parse_request`] that finds its fault.
+/// way, as at the end of a text. It is [`parse_request`] that finds its fault.
 ///
 /// Cost: no memory, and one pass over each field.
 pub fn front_request<'a>(text: &'a [u8], number: u64) -> Option<(Request<'a>, usize)>
@@ -194,7 +204,7 @@ pub fn front_request<'a>(text: &'a [u8], number: u64) -> Option<(Request<'a>, us
     ensures numbered { IfSome result (λ front. front.0.number ≡ number) }
 {
     let (op, device, rest) = head(text)?;
-    let (start, rest) = first_number(rest)?;
+    let (start, rest) = front_number(rest)?;
     let (len, digits) = last_number(rest)?;
     if len < 1 || MOST_SECTORS < len {
         return None;

@@ -12,8 +12,9 @@ ghost use Rattle.dm_table.specs.Fields.{texts};
 ghost use Rattle.dm_table.specs.LoadFault.{Answers, IsMemoryFault, first_fault};
 ghost use Rattle.dm_table.specs.Name.{is_device_name};
 ghost use Rattle.dm_table.specs.RowFaults.{no_faults, noted_at, noted_rows};
+ghost use Rattle.dm_table.specs.Parsed.{IsParsed};
 ghost use Rattle.dm_table.specs.TableText.{DescribesTable, table_checks};
-ghost use Rattle.dm_table.specs.TableReading.{named_of, alone, add_line, fault_of_row, row_reading, with_reading, with_rows, rows_of, read_rows, read_table};
+ghost use Rattle.dm_table.specs.TableReading.{named_of, alone, add_line, fault_of_row, row_reading, with_reading, with_rows, rows_of, read_rows};
 
 use crate::load_fault::LoadFault;
 use crate::name::Name;
@@ -54,7 +55,7 @@ pub fn parse_table(alloc: Global, text: &[u8]) -> Result<Vec<DeviceSpec>, LoadFa
 }
 
 fn read(alloc: Global, text: &[u8]) -> Result<Vec<DeviceSpec>, LoadFault>
-    ensures { Answers Source (λ v. v.items) result (read_table text.now) }
+    ensures { IsParsed Source (DescribesTable text.now) (table_checks text.now) result }
 {
     let cut = text_lines(alloc, Part::Source, text)?;
     read_lines(alloc, &cut.lines, cut.rest)

@@ -1,14 +1,14 @@
 -- What clap's clauses say of the program's own command line.
 use Rattle.std.proofs.Common.{◌≡◌, ◌∙◌, Bool, List, Option, Some, None, is_some, [], ◌∷◌, true, false, true≢false, ap, refl, subst, sym, inl, inr, cond, option_and_then}
 use Rattle.clap.specs.Kinds.{HasKind, IsAmong, Kinds, or_else}
-use Rattle.clap.specs.Words.{App, HasMatchesOf, Text, fault_of, is_simple, is_simple_and_free, kind_of, subcommand_of, subcommand_rows_of}
+use Rattle.clap.specs.Words.{App, HasMatchesOf, Row, Text, fault_of, found_of, is_simple, is_simple_and_free, kind_of, matches_of, rows_of, subcommand_of, subcommand_rows_of}
 use Rattle.clap.specs.declared.builder.value_parser.ValueParser.{ValueParser}
 use Rattle.clap.specs.declared.error.Error.{Error}
 use Rattle.clap.specs.declared.parser.matches.ArgMatches.{ArgMatches}
 use Rattle.clap.specs.declared.error.kind.ErrorKind.{ErrorKind}
 use Rattle.clap.specs.declared.error.kind.ErrorKind.TheVariants as kind
 use Rattle.clap.proofs.OnLiterals.{clap_on_literals}
-use Rattle.dmremap.specs.Words.{IsFaultOf, IsRefused, IsTaken, TakesFormats, JobWords, command_line, fault_from, has_lone_hyphen, is_memory, refusal_of, job_in, job_of}
+use Rattle.dmremap.specs.Words.{IsFaultOf, IsRefused, IsTaken, TakesFormats, JobWords, command_line, fault_from, has_lone_hyphen, has_status, is_memory, refusal_of, job_in, job_of}
 use Rattle.dmremap.specs.declared.words.WordsFault.TheVariants.{Words, Memory}
 
 -- clap's matches are those that the definitions compute, whatever the parser of FORMAT
@@ -44,32 +44,42 @@ refused parser words error no_hyphen formats has_kind = go (is_memory (kind_of e
       no_memory = λ memory. true≢false (sym (ap is_memory memory) ∙ e);
     }
 
+-- the job that matches of the words give, by what these are
+job_of_matches : (line : App) (words : List Text) (matches : ArgMatches) (job : Option JobWords) → rows_of (found_of matches) ≡ matches_of line words → subcommand_rows_of matches ≡ subcommand_of line words
+    → job ≡ option_and_then (λ met. job_of (has_status (rows_of (found_of matches))) met.0 met.1) (subcommand_rows_of matches) → job ≡ job_in line words
+job_of_matches line words matches job top sub job_is =
+    job_is ∙ ap (λ (rows : List Row). option_and_then (λ met. job_of (has_status rows) met.0 met.1) (subcommand_rows_of matches)) top
+    ∙ ap (option_and_then (λ met. job_of (has_status (matches_of line words)) met.0 met.1)) sub
+
+-- the same of the command line of the program
+job_of_line : (parser : ValueParser) (line : App) (words : List Text) (matches : ArgMatches) (job : Option JobWords) → line ≡ command_line parser → HasMatchesOf line words matches
+    → job ≡ option_and_then (λ met. job_of (has_status (rows_of (found_of matches))) met.0 met.1) (subcommand_rows_of matches) → job_in (command_line parser) words ≡ job
+job_of_line parser line words matches job line_is has_matches job_is =
+    let met = has_matches (ap is_simple line_is ∙ simple parser) in
+    sym (job_of_matches line words matches job met.0 met.1 job_is ∙ ap (λ (a : App). job_in a words) line_is)
+
 -- words that clap takes, and whose matches give a job, are taken with that job
 pub taken : (parser : ValueParser) (line : App) (words : List Text) (job : JobWords) (matches : ArgMatches) → TakesFormats parser → line ≡ command_line parser
     → (is_simple_and_free line ≡ true → fault_of line words ≡ []) → HasMatchesOf line words matches
-    → Some job ≡ option_and_then (λ met. job_of met.0 met.1) (subcommand_rows_of matches) → IsTaken words job
-taken parser line words job matches formats line_is kinds has_matches job_is =
-    let met : subcommand_rows_of matches ≡ subcommand_of line words = (has_matches (ap is_simple line_is ∙ simple parser)).1 in
-    record {
-      parser = parser;
-      formats = formats;
-      taken = ap (λ (a : App). fault_of a words) (sym line_is) ∙ kinds (ap is_simple_and_free line_is ∙ simple_and_free parser);
-      job = sym (job_is ∙ ap (option_and_then (λ met. job_of met.0 met.1)) (met ∙ ap (λ (a : App). subcommand_of a words) line_is));
-    }
+    → Some job ≡ option_and_then (λ met. job_of (has_status (rows_of (found_of matches))) met.0 met.1) (subcommand_rows_of matches) → IsTaken words job
+taken parser line words job matches formats line_is kinds has_matches job_is = record {
+  parser = parser;
+  formats = formats;
+  taken = ap (λ (a : App). fault_of a words) (sym line_is) ∙ kinds (ap is_simple_and_free line_is ∙ simple_and_free parser);
+  job = job_of_line parser line words matches (Some job) line_is has_matches job_is;
+}
 
--- words that clap takes, and whose matches give no job, lack a word
+-- words that clap takes, and whose matches give no job, have an argument in a wrong place
 pub lacking : (parser : ValueParser) (line : App) (words : List Text) (error : Error) (matches : ArgMatches) → has_lone_hyphen words ≡ false
     → TakesFormats parser → line ≡ command_line parser → (is_simple_and_free line ≡ true → fault_of line words ≡ []) → HasMatchesOf line words matches
-    → None ≡ option_and_then (λ met. job_of met.0 met.1) (subcommand_rows_of matches) → kind_of error ≡ kind.MissingRequiredArgument → IsRefused words error
+    → None ≡ option_and_then (λ met. job_of (has_status (rows_of (found_of matches))) met.0 met.1) (subcommand_rows_of matches) → kind_of error ≡ kind.UnknownArgument → IsRefused words error
 lacking parser line words error matches no_hyphen formats line_is kinds has_matches job_is kind_is =
-    let met : subcommand_rows_of matches ≡ subcommand_of line words = (has_matches (ap is_simple line_is ∙ simple parser)).1 in
     let no_fault : fault_of (command_line parser) words ≡ [] =
     ap (λ (a : App). fault_of a words) (sym line_is) ∙ kinds (ap is_simple_and_free line_is ∙ simple_and_free parser) in
-    let no_job : job_in (command_line parser) words ≡ None =
-    sym (job_is ∙ ap (option_and_then (λ met. job_of met.0 met.1)) (met ∙ ap (λ (a : App). subcommand_of a words) line_is)) in
-    let lacks : refusal_of (command_line parser) words ≡ kind.MissingRequiredArgument ∷ [] =
-    ap (λ (ks : Kinds). or_else ks (cond (is_some (job_in (command_line parser) words)) [] (kind.MissingRequiredArgument ∷ []))) no_fault
-    ∙ ap (λ (j : Option JobWords). cond (is_some j) [] (kind.MissingRequiredArgument ∷ [])) no_job in
+    let no_job : job_in (command_line parser) words ≡ None = job_of_line parser line words matches None line_is has_matches job_is in
+    let lacks : refusal_of (command_line parser) words ≡ kind.UnknownArgument ∷ [] =
+    ap (λ (ks : Kinds). or_else ks (cond (is_some (job_in (command_line parser) words)) [] (kind.UnknownArgument ∷ []))) no_fault
+    ∙ ap (λ (j : Option JobWords). cond (is_some j) [] (kind.UnknownArgument ∷ [])) no_job in
     record {
       hyphen = no_hyphen;
       parser = parser;

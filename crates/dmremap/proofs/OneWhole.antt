@@ -8,9 +8,9 @@ use Rattle.dm_table.specs.LoadFault.{first_or, first_fault}
 use Rattle.dm_table.specs.DiskList.{disk_checks}
 use Rattle.dm_table.specs.DeviceIo.{Delivery}
 use Rattle.dm_table.proofs.FaultLemmas.{first_or-none}
-use Rattle.dm_table.proofs.ConciseDescribed.{described_if_read, read_if_described, one_description as one_concise}
-use Rattle.dm_table.proofs.TableDescribed.{again, one_description}
-use Rattle.dm_table.proofs.DiskLemmas.{read_disks-described, read_disks-ok, DescribesDisks-unique}
+use Rattle.dm_table.proofs.ConciseDescribed.{again as again_concise}
+use Rattle.dm_table.proofs.TableDescribed.{again}
+use Rattle.dm_table.proofs.DiskLemmas.{again as again_disks, DescribesDisks-unique}
 use Rattle.dm_table.specs.PartInput.{PartRead, TextOf, Refuses, Unread, part_read}
 use Rattle.dmremap.specs.declared.words.Format.{Format}
 use Rattle.dmremap.specs.declared.words.Format.TheVariants.{Concise, Lvm, Table}
@@ -29,12 +29,12 @@ abbrev described_as : List DeviceSpec → List Disk → Description
 described_as devices disks = record { devices = devices; disks = disks }
 
 one_list : (form : Form) (text : List ℕ) (a b : List DeviceSpec) → DescribesDevices form text a → DescribesDevices form text b → a ≡ b
-one_list forms.Table text a b is_a is_b = one_description text a b is_a is_b
-one_list forms.Concise text a b is_a is_b = one_concise text a b is_a is_b
+one_list forms.Table text a b is_a is_b = sym (again text a is_a).1 ∙ (again text b is_b).1
+one_list forms.Concise text a b is_a is_b = sym (again_concise text a is_a).1 ∙ (again_concise text b is_b).1
 
 no_fault_of_devices : (form : Form) (text : List ℕ) (devices : List DeviceSpec) → DescribesDevices form text devices → first_fault (device_checks form text) ≡ None
 no_fault_of_devices forms.Table text devices is = (again text devices is).0
-no_fault_of_devices forms.Concise text devices is = (described_if_read text devices (read_if_described text devices is)).0
+no_fault_of_devices forms.Concise text devices is = (again_concise text devices is).0
 
 pub one_description_of : (form : Form) (source list : List ℕ) (a b : Description) → Describes form source list a → Describes form source list b → a ≡ b
 one_description_of form source list a b is_a is_b =
@@ -52,7 +52,7 @@ none_both (check ∷ checks) more a b =
 pub no_fault_of_texts : (form : Form) (source list : List ℕ) (description : Description) → Describes form source list description → first_fault (device_checks form source ++ disk_checks list) ≡ None
 no_fault_of_texts form source list description is =
     none_both (device_checks form source) (disk_checks list) (no_fault_of_devices form source description.devices is.devices)
-    (read_disks-ok list description.disks (read_disks-described list description.disks is.disks)).0
+    (again_disks list description.disks is.disks).0
 
 -- What they give
 

@@ -1,6 +1,6 @@
 -- The command line of the program, and the job or the refusal that words have by it.
 use Rattle.std.specs.Prelude.{◌≡◌, ◌≢◌, ◌⊎◌, ◌∷◌, [], ℕ, Bool, true, false, List, Option, Some, ⊤}
-use Rattle.std.specs.Prelude.{◌&&◌, None, codes, drop, is_some, map, not, option_and_then, option_map}
+use Rattle.std.specs.Prelude.{◌&&◌, ◌||◌, None, codes, drop, is_some, map, not, option_and_then, option_map}
 use Rattle.std.specs.Prelude.{if◌then◌else◌}
 use Rattle.std.specs.Borrow.{Bor}
 use Rattle.std.specs.List.{before_first, list_any}
@@ -9,7 +9,7 @@ use Rattle.std.specs.Str.{bytes_eq}
 use Rattle.clap.specs.Kinds.{IsAmong, Kinds, or_else}
 use Rattle.clap.specs.Simple.{on_top}
 use Rattle.clap.specs.Words.{AddsSubcommand, App, Row, Rule, Text, app_of, fault_of, first_of, kind_of}
-use Rattle.clap.specs.Words.{new_app, new_rule, subcommand_of, with_rule, with_subcommand}
+use Rattle.clap.specs.Words.{matches_of, new_app, new_rule, subcommand_of, with_rule, with_subcommand}
 use Rattle.clap.specs.declared.builder.command.Command.{Command}
 use Rattle.clap.specs.declared.builder.ArgAction.TheVariants.{SetTrue}
 use Rattle.clap.specs.declared.builder.value_parser.ValueParser.{ValueParser}
@@ -59,14 +59,14 @@ format_rule parser = record (required_rule (codes "format")) { parser = Some par
 abbrev pub optional_rule : Text → Rule
 optional_rule id = record (new_rule id) { value_names = 1 }
 
+-- a flag, `--NAME`, which may stand once
+abbrev pub flag_rule : Text → Rule
+flag_rule id = record (new_rule id) { long = Some id; action = Some SetTrue }
+
 -- a command that loads files, `NAME FORMAT FILE [DISKS]`: clap lets DISKS be left out, since the formats differ in it
 abbrev pub source_app : Text → ValueParser → App
 source_app name parser = with_rule (with_rule (with_rule (new_app name) (format_rule parser))
     (required_rule (codes "file"))) (optional_rule (codes "disks"))
-
--- a flag, `--NAME`, which may stand once
-abbrev pub flag_rule : Text → Rule
-flag_rule id = record (new_rule id) { long = Some id; action = Some SetTrue }
 
 -- `map FORMAT FILE [DISKS] [--status]`
 abbrev pub map_app : ValueParser → App
@@ -82,9 +82,13 @@ abbrev pub split_app : App
 split_app = with_rule (new_app (codes "splitname")) (required_rule (codes "name"))
 
 -- the program by itself, which asks for a command and without a word shows its help
-abbrev pub program_app : App
-program_app = on_top (λ s. record s { subcommand_required = true; arg_required_else_help = true })
+abbrev pub bare_app : App
+bare_app = on_top (λ s. record s { subcommand_required = true; arg_required_else_help = true })
     (new_app (codes "dmremap"))
+
+-- the program with what may stand before the command
+abbrev pub program_app : App
+program_app = with_rule bare_app (flag_rule (codes "status"))
 
 -- the program with these commands
 abbrev pub with_commands : App → List App → App
@@ -176,17 +180,23 @@ task_of command rows =
 abbrev pub has_flag : Text → List Row → Bool
 has_flag id rows = option_map_or (λ text. bytes_eq text (codes "true")) (first_of id rows) false
 
--- status lines are asked for by the flag of `map`, the only command that has it
-abbrev pub asks_status : Text → List Row → Bool
-asks_status command rows = bytes_eq command (codes "map") && has_flag (codes "status") rows
+-- the flag that asks for status lines was given
+abbrev pub has_status : List Row → Bool
+has_status rows = has_flag (codes "status") rows
 
--- the job that the matches of a command give
-abbrev pub job_of : Text → List Row → Option JobWords
-job_of command rows = option_map (λ task. record { task = task; status = asks_status command rows }) (task_of command rows)
+-- it may stand before the command `map` that does not have it among its words
+abbrev pub takes_status : Text → List Row → Bool
+takes_status command rows = bytes_eq command (codes "map") && not (has_status rows)
+
+-- the job that a command and its matches give, where the flag stands before them or not
+abbrev pub job_of : (before : Bool) → Text → List Row → Option JobWords
+job_of before command rows = if before && not (takes_status command rows) then None
+    else option_map (λ task. record { task = task; status = before || has_status rows }) (task_of command rows)
 
 -- the job that clap's matches of the words give
 abbrev pub job_in : App → List Text → Option JobWords
-job_in line words = option_and_then (λ met. job_of met.0 met.1) (subcommand_of line words)
+job_in line words =
+    option_and_then (λ met. job_of (has_status (matches_of line words)) met.0 met.1) (subcommand_of line words)
 
 -- the files that a task loads, if it loads any
 abbrev pub files_of : TaskWords → Option FileWords
@@ -221,11 +231,11 @@ lone_hyphen_in words = list_any (λ w. bytes_eq w (codes "-"))
 abbrev pub has_lone_hyphen : List Text → Bool
 has_lone_hyphen words = lone_hyphen_in (drop 1 words)
 
--- the kinds of a refusal: clap's, and a missing argument at words that clap takes and that give no
+-- the kinds of a refusal: clap's, and an unknown argument at words that clap takes and that give no
 -- job
 abbrev pub refusal_of : App → List Text → Kinds
 refusal_of line words = or_else (fault_of line words)
-    (if is_some (job_in line words) then [] else kind.MissingRequiredArgument ∷ [])
+    (if is_some (job_in line words) then [] else kind.UnknownArgument ∷ [])
 
 -- clap takes the words, and its matches give this job
 pub record IsTaken (words : List Text) (asked : JobWords) : Type 0 where

@@ -32,7 +32,7 @@ mod tests;
 
 use crate::load::load;
 use crate::words::Format;
-use dm_map::{Mapper, PlainTaken};
+use dm_map::{Mapper, RunTaken};
 use dm_stack::Stack;
 use dm_stream::{Ending, run, tell};
 use dm_table::{Input, LoadFault, LoadKind, Output, Part};
@@ -195,7 +195,7 @@ fn map_requests<Q: Input, W: Output, M: Output>(
     ensures output { OutputWritten W.written W.waiting W.faults W.flushes result output.old output.new }
     ensures messages { MessageWritten M.written M.faults M.flushes (exit_message result) messages.old messages.new }
 {
-    match Mapper::<PlainTaken>::new(alloc, stack.looker()) {
+    match Mapper::<RunTaken>::new(alloc, stack.looker()) {
         Ok(mut mapper) => { Exit::Ran(run(stack, &mut mapper, requests, output, messages, status)) }
         Err(_) => refuse(LoadFault::memory(Part::Source), messages),
     }

@@ -10,7 +10,7 @@ ghost use Rattle.clap.specs.Words.{App, app_of, found_of, kind_of, rows_of, rule
 ghost use Rattle.clap.specs.Words.{subcommand_rows_of, with_subcommand};
 ghost use Rattle.dmremap.specs.Words.{IsCommand, TakesFormats, command_line, format_named};
 ghost use Rattle.dmremap.specs.Words.{IsFaultOf, IsJobOf, IsNotText, fault_from, file_words, files_in, files_of, format_rule, has_disk_list};
-ghost use Rattle.dmremap.specs.Words.{asks_status, flag_rule, has_flag, has_its_disks, has_lone_hyphen, job_of, job_words, map_app, name_app, name_in, optional_rule};
+ghost use Rattle.dmremap.specs.Words.{flag_rule, has_flag, has_status, takes_status, has_its_disks, has_lone_hyphen, job_of, job_words, map_app, name_app, name_in, optional_rule};
 ghost use Rattle.dmremap.specs.Words.{required_rule, source_app, split_app, split_in, status_of, task_has_its_disks, task_of, words_of};
 ghost use Rattle.clap.specs.declared.error.kind.ErrorKind.TheVariants as kind;
 ghost use Rattle.dmremap.specs.declared.words.WordsFault.TheVariants as fault;
@@ -244,6 +244,8 @@ const DISKS_HELP: &str =
 
 const STATUS_HELP: &str = "After all pieces, print how much of each snapshot's store is used";
 
+const BEFORE_HELP: &str = "For `map`, whose help says what it prints";
+
 const VG_HELP: &str = "The volume group";
 
 const LV_HELP: &str = "The logical volume";
@@ -363,32 +365,42 @@ impl<'a> Task<'a> {
 }
 
 impl<'a> Job<'a> {
-    // The job of the command that clap found.
+    // The job of the command that clap found, unless the flag before it does not go with it.
     fn of_matches(matches: &ArgMatches<'a>) -> Option<Job<'a>>
         ensures { option_map job_words result
-            ≡ option_and_then (λ met. job_of met.0 met.1) (subcommand_rows_of matches.now) }
+            ≡ option_and_then (λ met. job_of (has_status (rows_of (found_of matches.now))) met.0 met.1) (subcommand_rows_of matches.now) }
     {
         let (command, given) = matches.subcommand()?;
-        Job::of_command(command, given)
+        Job::of_command(has_status(matches), command, given)
     }
 
-    // The job of a command with its arguments.
-    fn of_command(command: &str, given: &ArgMatches<'a>) -> Option<Job<'a>>
-        ensures { option_map job_words result ≡ job_of command.now (rows_of (found_of given.now)) }
+    // The job of a command with its arguments, where the flag stands before them or not.
+    fn of_command(before: bool, command: &str, given: &ArgMatches<'a>) -> Option<Job<'a>>
+        ensures { option_map job_words result ≡ job_of before command.now (rows_of (found_of given.now)) }
     {
+        if before && !takes_status(command, given) {
+            return None;
+        }
         let task = Task::of_command(command, given)?;
         Some(Job {
             task,
-            status: asks_status(command, given),
+            status: before || has_status(given),
         })
     }
 }
 
-// Whether a command with its arguments asks for status lines: `map` alone has the flag.
-fn asks_status(command: &str, given: &ArgMatches<'_>) -> bool
-    ensures { result ≡ asks_status command.now (rows_of (found_of given.now)) }
+// Whether the flag that asks for status lines was given.
+fn has_status(given: &ArgMatches<'_>) -> bool
+    ensures { result ≡ has_status (rows_of (found_of given.now)) }
 {
-    command == "map" && has_flag(given, "status")
+    has_flag(given, "status")
+}
+
+// Whether that flag may stand before a command with its arguments: before `map`, which has it once.
+fn takes_status(command: &str, given: &ArgMatches<'_>) -> bool
+    ensures { result ≡ takes_status command.now (rows_of (found_of given.now)) }
+{
+    command == "map" && !has_status(given)
 }
 
 // Whether a flag was given.
@@ -569,7 +581,8 @@ fn program<'a>(alloc: Global) -> Result<Command<'a>, AllocError>
         .about(ABOUT)
         .after_help(NOTES)
         .subcommand_required(true)
-        .arg_required_else_help(true);
+        .arg_required_else_help(true)
+        .arg(flag(alloc, "status", BEFORE_HELP))?;
     let line = with_command(line, map_command(alloc, parser))?;
     let line = with_command(
         line,
@@ -638,8 +651,8 @@ pub fn read_words<'a>(alloc: Global, words: &'a [&'a str]) -> Result<Job<'a>, Wo
     let matches = program.try_get_matches_from_mut(words)?;
     let Some(job) = Job::of_matches(&matches) else {
         let error = program.error(
-            ErrorKind::MissingRequiredArgument,
-            "the command lacks a word",
+            ErrorKind::UnknownArgument,
+            "unexpected argument '--status' found: `map` alone takes it, once",
         )?;
         return Err(WordsFault::Words(error));
     };

@@ -76,14 +76,15 @@ fn tasks(rt: HostRuntime) {
     }
 }
 
-/// Words that ask for status lines too: before, among and after those of the files.
-static STATUS: [&[&str]; 4] = [
+/// Words that ask for status lines too, before, among and after the others.
+static STATUS: [&[&str]; 5] = [
     &["dmremap", "map", "table", "a.table", "a.disks", "--status"],
     &["dmremap", "map", "--status", "table", "a.table", "a.disks"],
     &[
         "dmremap", "map", "table", "--status", "a.table", "--", "a.disks",
     ],
     &["dmremap", "map", "lvm", "--status", "vg0.backup"],
+    &["dmremap", "--status", "map", "table", "a.table", "a.disks"],
 ];
 
 #[test]
@@ -129,7 +130,7 @@ fn disks_go_with_tables_alone(rt: HostRuntime) {
 }
 
 /// Words that are refused, and what is told of them.
-static REFUSED: [(&[&str], &str); 21] = [
+static REFUSED: [(&[&str], &str); 22] = [
     (&["dmremap", "name", "vg0"], "<LV>"),
     (&["dmremap", "name", "a", "-b"], "unexpected argument '-b'"),
     (
@@ -148,8 +149,8 @@ static REFUSED: [(&[&str], &str); 21] = [
         &["dmremap", "concise", "tabel", "a", "b"],
         "a similar value exists: 'table'",
     ),
-    (&[], "Usage: dmremap <COMMAND>"),
-    (&["dmremap"], "Usage: dmremap <COMMAND>"),
+    (&[], "Usage: dmremap [OPTIONS] <COMMAND>"),
+    (&["dmremap"], "Usage: dmremap [OPTIONS] <COMMAND>"),
     (&["dmremap", "map"], "<FORMAT> <FILE>"),
     (
         &["dmremap", "map", "lvm2", "a"],
@@ -176,7 +177,11 @@ static REFUSED: [(&[&str], &str); 21] = [
         "unexpected argument '--status'",
     ),
     (
-        &["dmremap", "--status", "map", "table", "a", "b"],
+        &["dmremap", "--status", "map", "table", "a", "b", "--status"],
+        "unexpected argument '--status'",
+    ),
+    (
+        &["dmremap", "--status", "table", "lvm", "a"],
         "unexpected argument '--status'",
     ),
     (
@@ -214,17 +219,17 @@ fn other_words_are_refused(rt: HostRuntime) {
 static HELP: [(&[&str], &str, &str); 10] = [
     (
         &["dmremap", "--help"],
-        "Usage: dmremap <COMMAND>",
+        "Usage: dmremap [OPTIONS] <COMMAND>",
         "  splitname  Prints",
     ),
     (
         &["dmremap", "-h"],
-        "Usage: dmremap <COMMAND>",
+        "Usage: dmremap [OPTIONS] <COMMAND>",
         "  concise    Checks",
     ),
     (
         &["dmremap", "help"],
-        "Usage: dmremap <COMMAND>",
+        "Usage: dmremap [OPTIONS] <COMMAND>",
         "  6  out of memory",
     ),
     (

@@ -1,4 +1,4 @@
-use Rattle.std.proofs.Common.{◌≡◌, length, min, ap, ◌∙◌, subst}
+use Rattle.std.proofs.Common.{length, min, ap, ◌∙◌, subst}
 use Rattle.dm_stack.specs.Description.{Description, device_len}
 use Rattle.dm_replay.specs.OfDisks.{AreUnitsOf}
 use Rattle.dm_replay.specs.Patches.{values_in}

@@ -1,4 +1,4 @@
-use Rattle.std.proofs.Common.{◌≡◌, ℕ, ◌+◌, ◌<◌, length, get_or, List, ◌++◌, drop, take, refl, sym, subst}
+use Rattle.std.proofs.Common.{ℕ, ◌+◌, length, List, ◌++◌, drop, take, refl}
 use Rattle.std.specs.List.{flat_map}
 use Rattle.std.proofs.lemmas.Result.{err_from_is_err_and}
 use Rattle.dm_table.proofs.WriteLemmas.{stopped, and_then, flat_map_at, flat_map_next}

@@ -1,13 +1,17 @@
-use Rattle.std.proofs.Common.{List, Result, subst}
+use Rattle.std.proofs.Common.{List, Result, Err, ap, subst}
 use Rattle.dm_table.specs.declared.table.DeviceSpec.{DeviceSpec}
 use Rattle.dm_table.specs.declared.place.Part.TheVariants.{Source}
 use Rattle.dm_table.specs.declared.load_fault.LoadFault.{LoadFault}
 use Rattle.dm_table.specs.Fields.{texts}
 use Rattle.dm_table.specs.LoadFault.{Answers}
-use Rattle.dm_table.proofs.ConciseDescribed.{read_concise-parts}
+use Rattle.dm_table.proofs.ConciseDescribed.{read_as_promised, read_concise-parts}
 use Rattle.dm_table.proofs.concise_text.read.Goals as goal
 
 pub returns-in-Ok : goal.returns-in-Ok
 returns-in-Ok c =
     let same = read_concise-parts c.args.text.now c.without_newline.result.now (texts c.deref.result.now) c.without_newline.ensures (rw c.deref.ensures.value c.in-Ok.ensures) in
-    subst (λ (x : Result (List DeviceSpec) LoadFault). Answers Source (λ v. v.items) c.read_parts.result x) same c.read_parts.ensures
+    read_as_promised c.args.text.now c.read_parts.result (subst (λ (x : Result (List DeviceSpec) LoadFault). Answers Source (λ v. v.items) c.read_parts.result x) same c.read_parts.ensures)
+
+pub returns-in-Err : goal.returns-in-Err
+returns-in-Err c =
+    read_as_promised c.args.text.now (Err c.memory.result) (λ memory. c.memory.ensures, λ other. absurd (other (ap (λ (f : LoadFault). f.kind) c.memory.ensures)))

@@ -8,7 +8,7 @@ use Rattle.dm_table.specs.Fields.{cut_text, fields, lines_and_rest, lines_of, re
 use Rattle.dm_table.specs.LoadFault.{not_text, first_fault}
 use Rattle.dm_table.specs.DiskList.{bad_syntax, bad_field, bad_name, disks_from, read_disks}
 use Rattle.dm_table.proofs.FaultLemmas.{Answers-refused}
-use Rattle.dm_table.proofs.DiskLemmas.{read_disks-rows}
+use Rattle.dm_table.proofs.DiskLemmas.{read_as_promised, read_disks-rows}
 use Rattle.dm_table.proofs.disk_list.read.Goals as goal
 
 pub returns-in_err-cut : goal.returns-in_err-cut
@@ -17,11 +17,11 @@ returns-in_err-cut c =
     let p = err_from_is_err_and c.from_residual.result c.from_residual.ensures.1 in
     let text = c.args.text.now in
     let rows = map fields (lines_of text) in
-    rw (p.1, p.2) (Answers-refused Disks cut_text (λ (v : Vec Disk Global). v.items) c.in_err-cut.field-0.0 (not_text Disks text) (first_fault (bad_syntax rows (rest_of text) ∷ bad_field rows ∷ bad_name rows ∷ [])) (lines_and_rest text) (disks_from 1 rows) c.in_err-cut.ensures)
+    rw (p.1, p.2) (read_as_promised text _ (Answers-refused Disks cut_text (λ (v : Vec Disk Global). v.items) c.in_err-cut.field-0.0 (not_text Disks text) (first_fault (bad_syntax rows (rest_of text) ∷ bad_field rows ∷ bad_name rows ∷ [])) (lines_and_rest text) (disks_from 1 rows) c.in_err-cut.ensures))
 
 pub returns : goal.returns
 returns c =
     let text = c.args.text.now in
     let cut = c.in_ok-cut.cut in
     let whole = read_disks-rows text (texts cut.lines.items) cut.rest.now c.in_ok-cut.ensures in
-    rw whole (rw c.deref.ensures.value at c.read_lines.ensures)
+    read_as_promised text c.read_lines.result (rw whole (rw c.deref.ensures.value at c.read_lines.ensures))

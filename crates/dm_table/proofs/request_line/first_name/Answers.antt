@@ -1,7 +1,7 @@
 -- A name that a space ends is the first field, and no other first field is one.
 use Rattle.std.proofs.Common.{take, ap, ◌∙◌}
 use Rattle.dm_table.specs.Fields.{fields}
-use Rattle.dm_table.proofs.ByteLemmas.{device_name-clear}
+use Rattle.dm_table.proofs.ByteLemmas.{plain-device_name}
 use Rattle.dm_table.proofs.FieldLemmas.{parts_at-first}
 use Rattle.dm_table.proofs.RequestLemmas.{name_stands}
 use Rattle.dm_table.proofs.request_line.first_name.Goals as goal
@@ -21,4 +21,4 @@ pub returns-clause-cut : goal.returns-clause-cut
 returns-clause-cut c =
     let text = c.args.text.now in
     let name = take c.in_ok-len.len text in
-    rw c.ascii_str.ensures (ap fields c.in_ok-rest.ensures.cut ∙ parts_at-first 32 name c.in_ok-rest.rest.now (device_name-clear name c.in_ok-len.ensures.name))
+    rw c.ascii_str.ensures (ap fields c.in_ok-rest.ensures.cut ∙ parts_at-first 32 name c.in_ok-rest.rest.now (plain-device_name name c.in_ok-len.ensures.name).clear)

@@ -1,11 +1,11 @@
-use Rattle.std.proofs.Common.{ap, codes, true, Result, Ok, Err, ◌≡◌, ◌∙◌}
+use Rattle.std.proofs.Common.{ap, ap₂, codes, true, Result, Ok, Err, ◌≡◌, ◌∙◌}
 use Rattle.std.specs.Prelude.{IfOk}
 use Rattle.std.specs.declared.alloc.AllocError.{AllocError}
 use Rattle.clap.specs.Simple.{app_of_fields, on_top}
-use Rattle.clap.specs.Words.{App, app_of, new_app, with_subcommand}
+use Rattle.clap.specs.Words.{App, app_of, new_app, with_rule, with_subcommand}
 use Rattle.clap.specs.declared.builder.command.Command.{Command}
 use Rattle.clap.specs.declared.builder.value_parser.ValueParser.{ValueParser}
-use Rattle.dmremap.specs.Words.{TakesFormats, command_line, map_app, name_app, program_app, source_app, split_app}
+use Rattle.dmremap.specs.Words.{TakesFormats, bare_app, command_line, map_app, name_app, program_app, source_app, split_app}
 use Rattle.dmremap.proofs.words.program.Goals as goal
 
 -- what the last command is added to, and what that gives
@@ -21,14 +21,15 @@ returns c =
     ap app_of_fields c.after_help.ensures ∙ ap app_of_fields c.about.ensures ∙ c.new.ensures.app in
     let asks : app_of c.subcommand_required.result ≡ on_top (λ s. record s { subcommand_required = true }) (app_of c.after_help.result) =
     ap app_of_fields c.subcommand_required.ensures in
-    let shows : app_of c.arg_required_else_help-line.result ≡ on_top (λ s. record s { arg_required_else_help = true }) (app_of c.subcommand_required.result) =
-    ap app_of_fields c.arg_required_else_help-line.ensures in
-    let bare : app_of c.arg_required_else_help-line.result ≡ program_app = shows
+    let shows : app_of c.arg_required_else_help.result ≡ on_top (λ s. record s { arg_required_else_help = true }) (app_of c.subcommand_required.result) =
+    ap app_of_fields c.arg_required_else_help.ensures in
+    let alone : app_of c.arg_required_else_help.result ≡ bare_app = shows
     ∙ ap (on_top (λ s. record s { arg_required_else_help = true })) (asks ∙ ap (on_top (λ s. record s { subcommand_required = true })) named) in
-    whole parser (app_of c.in_ok-line-5.line) c.with_command-6.result c.format_parser-parser.ensures (ap (λ (a : App). with_subcommand a split_app.top)
-    (c.in_ok-line-5.ensures name_app c.name_command.ensures ∙ ap (λ (a : App). with_subcommand a name_app.top)
-    (c.in_ok-line-4.ensures (source_app (codes "check") parser) c.source_command-3.ensures ∙ ap (λ (a : App). with_subcommand a (source_app (codes "check") parser).top)
-    (c.in_ok-line-3.ensures (source_app (codes "concise") parser) c.source_command-2.ensures ∙ ap (λ (a : App). with_subcommand a (source_app (codes "concise") parser).top)
-    (c.in_ok-line-2.ensures (source_app (codes "table") parser) c.source_command.ensures ∙ ap (λ (a : App). with_subcommand a (source_app (codes "table") parser).top)
-    (c.in_ok-line.ensures (map_app parser) c.map_command.ensures ∙ ap (λ (a : App). with_subcommand a (map_app parser).top) bare))))))
+    let bare : app_of c.in_ok-line.line ≡ program_app = c.in_ok-line.ensures.shape c.flag.ensures.local ∙ ap₂ with_rule alone c.flag.ensures.rule in
+    whole parser (app_of c.in_ok-line-6.line) c.with_command-6.result c.format_parser-parser.ensures (ap (λ (a : App). with_subcommand a split_app.top)
+    (c.in_ok-line-6.ensures name_app c.name_command.ensures ∙ ap (λ (a : App). with_subcommand a name_app.top)
+    (c.in_ok-line-5.ensures (source_app (codes "check") parser) c.source_command-3.ensures ∙ ap (λ (a : App). with_subcommand a (source_app (codes "check") parser).top)
+    (c.in_ok-line-4.ensures (source_app (codes "concise") parser) c.source_command-2.ensures ∙ ap (λ (a : App). with_subcommand a (source_app (codes "concise") parser).top)
+    (c.in_ok-line-3.ensures (source_app (codes "table") parser) c.source_command.ensures ∙ ap (λ (a : App). with_subcommand a (source_app (codes "table") parser).top)
+    (c.in_ok-line-2.ensures (map_app parser) c.map_command.ensures ∙ ap (λ (a : App). with_subcommand a (map_app parser).top) bare))))))
     (c.with_command-6.ensures split_app c.split_command.ensures)

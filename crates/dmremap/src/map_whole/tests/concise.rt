@@ -4,7 +4,7 @@
 //! as; a row of `REFUSED` is a text, the kind of its fault and the number of the device.
 
 use super::*;
-use dm_table::{LoadKind, parse_concise, write_concise, write_table};
+use dm_table::{DeviceSpec, LoadKind, parse_concise, write_concise, write_table};
 
 /// Flags and their absence, spaces around lines, an end with a newline and without, and no devices.
 static TEXTS: [(&str, &str, &str); 8] = [
@@ -42,24 +42,39 @@ static TEXTS: [(&str, &str, &str); 8] = [
     ),
 ];
 
+/// Asserts that each device, and each of its lines, has the device's number as its place.
+fn check_places(rt: &impl Abort, devices: &[DeviceSpec]) {
+    for (index, device) in devices.iter().enumerate() {
+        let number = index as u64 + 1;
+        assert_eq!(rt; device.at.number, number);
+        for line in device.lines.as_slice() {
+            assert_eq!(rt; line.at.number, number);
+        }
+    }
+}
+
+/// Asserts what devices are written as.
+fn check_written(
+    rt: &impl Abort,
+    alloc: Global,
+    devices: &[DeviceSpec],
+    table: &str,
+    concise: &str,
+) {
+    let mut output = ShortOut::new(alloc, PLENTY, PLENTY).expect(rt, "an output");
+    assert!(rt; write_table(devices, &mut output).is_ok(), "{table}");
+    assert_eq!(rt; output.as_slice(), table.as_bytes());
+    let mut output = ShortOut::new(alloc, 1, PLENTY).expect(rt, "an output");
+    assert!(rt; write_concise(devices, &mut output).is_ok(), "{concise}");
+    assert_eq!(rt; output.as_slice(), concise.as_bytes());
+}
+
 #[test]
 fn texts(rt: HostRuntime) {
-    let alloc = rt.alloc();
     for &(text, table, concise) in &TEXTS {
-        let devices = parse_concise(alloc, text.as_bytes()).expect(&rt, "devices");
-        for (index, device) in devices.iter().enumerate() {
-            let number = index as u64 + 1;
-            assert_eq!(&rt; device.at.number, number, "{text}");
-            for line in device.lines.as_slice() {
-                assert_eq!(&rt; line.at.number, number, "{text}");
-            }
-        }
-        let mut output = ShortOut::new(alloc, PLENTY, PLENTY).expect(&rt, "an output");
-        assert!(&rt; write_table(&devices, &mut output).is_ok(), "{text}");
-        assert_eq!(&rt; output.as_slice(), table.as_bytes());
-        let mut output = ShortOut::new(alloc, 1, PLENTY).expect(&rt, "an output");
-        assert!(&rt; write_concise(&devices, &mut output).is_ok(), "{text}");
-        assert_eq!(&rt; output.as_slice(), concise.as_bytes());
+        let devices = parse_concise(rt.alloc(), text.as_bytes()).expect(&rt, "devices");
+        check_places(&rt, &devices);
+        check_written(&rt, rt.alloc(), &devices, table, concise);
     }
 }
 

@@ -60,23 +60,40 @@ fn stack_of(rt: &impl Abort, alloc: Global, source: &str, ro: bool) -> Stack {
 /// Two devices, the lower of which comes first.
 const TWO_DEVICES: &str = "a: 0 8 linear sda 0\nb: 0 8 linear /dev/mapper/a 0\n";
 
+/// Asserts what is counted of the two devices and the two disks.
+fn check_counts(rt: &impl Abort, stack: &Stack) {
+    assert_eq!(rt; stack.device_count(), 2);
+    assert_eq!(rt; stack.disk_count(), 2);
+    assert_eq!(rt; stack.depth(), 2);
+    assert!(rt; stack.device("sda").is_none(), "a disk is no device");
+}
+
+/// Asserts what is told of a device of eight sectors.
+fn check_device(rt: &impl Abort, stack: &Stack, name: &str, is_ro: bool) {
+    let device = stack.device(name).expect(rt, "a device");
+    assert_eq!(rt; stack.is_ro(device), is_ro);
+    assert_eq!(rt; stack.len(device), 8);
+    assert_eq!(rt; stack.name(device), name);
+}
+
+/// Asserts what a search finds in a device of one line, and what it costs.
+fn check_look(rt: &impl Abort, stack: &Stack, name: &str) {
+    let device = stack.device(name).expect(rt, "a device");
+    let mut looker = stack.looker();
+    assert_eq!(rt; looker.depth(), 2);
+    assert_eq!(rt; looker.len(device), 8);
+    let line = looker.look(device, 7);
+    assert_eq!(rt; (line.start, line.len), (0, 8));
+    assert_eq!(rt; (looker.searches(), looker.comparisons()), (1, 0));
+}
+
 #[test]
 fn a_stack(rt: HostRuntime) {
     let stack = stack_of(&rt, rt.alloc(), TWO_DEVICES, true);
-    assert_eq!(&rt; stack.device_count(), 2);
-    assert_eq!(&rt; stack.disk_count(), 2);
-    assert_eq!(&rt; stack.depth(), 2);
-    assert!(&rt; stack.device("sda").is_none(), "a disk is no device");
-    let a = stack.device("a").expect(&rt, "the lower device");
-    let b = stack.device("b").expect(&rt, "the upper device");
-    assert!(&rt; stack.is_ro(a) && !stack.is_ro(b), "read-only");
-    assert_eq!(&rt; stack.len(b), 8);
-    assert_eq!(&rt; stack.name(b), "b");
-    let mut looker = stack.looker();
-    let line = looker.look(b, 7);
-    assert_eq!(&rt; (line.start, line.len), (0, 8));
-    assert_eq!(&rt; (looker.searches(), looker.comparisons()), (1, 0));
-    assert_eq!(&rt; looker.depth(), 2);
+    check_counts(&rt, &stack);
+    check_device(&rt, &stack, "a", true);
+    check_device(&rt, &stack, "b", false);
+    check_look(&rt, &stack, "b");
 }
 
 /// Runs requests to a stack, and asserts what is written.

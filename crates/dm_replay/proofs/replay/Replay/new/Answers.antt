@@ -1,4 +1,4 @@
-use Rattle.std.proofs.Common.{◌≡◌, List, sym, ap, ◌∙◌, subst}
+use Rattle.std.proofs.Common.{List, sym, ap, ◌∙◌, subst}
 use Rattle.dm_map.specs.State.{start_state}
 use Rattle.dm_replay.specs.Histories.{Asked}
 use Rattle.dm_replay.specs.Replay.{IsGoing}

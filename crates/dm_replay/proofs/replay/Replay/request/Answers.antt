@@ -1,8 +1,6 @@
-use Rattle.std.proofs.Common.{◌≡◌, ◌∷◌, ◌++◌, [], ℕ, false, List, refl, sym, ap, ◌∙◌, subst}
-use Rattle.dm_stack.specs.Description.{Description, device_id}
+use Rattle.std.proofs.Common.{◌∷◌, ◌++◌, [], ℕ, List, refl, sym, ap, ◌∙◌, subst}
 use Rattle.dm_replay.specs.Histories.{Asked, asked_answers, world_after}
 use Rattle.dm_replay.specs.Replay.{HasTop, IsGoing, Replaying, asked_request, whole_request}
-use Rattle.dm_replay.specs.Runs.{flat}
 use Rattle.dm_replay.proofs.NamedLemmas.{named_id}
 use Rattle.dm_replay.proofs.WorldLemmas.{answers_after, going_next}
 use Rattle.dm_replay.proofs.replay.Replay.request.Goals as goal

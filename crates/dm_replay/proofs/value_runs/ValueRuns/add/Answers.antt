@@ -1,4 +1,4 @@
-use Rattle.std.proofs.Common.{◌≡◌, ◌+◌, ◌++◌, ◌∷◌, [], sym, ap, ◌∙◌, subst, List, arith}
+use Rattle.std.proofs.Common.{◌++◌, sym, ap, ◌∙◌, subst, List, arith}
 use Rattle.dm_replay.specs.declared.value_run.ValueRun.{ValueRun}
 use Rattle.dm_replay.specs.Runs.{AreMaximal, flat, run_answers}
 use Rattle.dm_replay.proofs.RunLemmas.{flat_longer, maximal_front, maximal_longer, maximal_push}

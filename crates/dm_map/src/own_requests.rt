@@ -1,0 +1,26 @@
+//! The law that each top device is like a disk of its own, whatever is asked of any of them.
+
+ghost use Rattle.std.specs.Prelude.{ℕ};
+ghost use Rattle.dm_table.specs.declared.request.Op.{Op};
+ghost use Rattle.dm_stack.specs.Claims.{IsTidy, IsTop};
+ghost use Rattle.dm_map.specs.Contents.{Values, played};
+ghost use Rattle.dm_map.specs.Mapping.{request_step};
+ghost use Rattle.dm_map.specs.OwnRows.{AreOwn, Rows, first_rows, rows_played};
+ghost use Rattle.dm_map.specs.State.{State, start_state};
+
+use dm_stack::Stack;
+
+/// Requests of top devices of a tidy stack: each top device has what it would have if it were alone
+/// on a disk of its own, which only its own writes change, or errors. That is so at the start, and
+/// stays so after each request. It does nothing and returns nothing: its contract is the law.
+#[tactic(auto, using(crate::proofs::OwnRequests::first_own))]
+pub fn requests_are_alone<V>(stack: &Stack)
+    ensures start { (zeros : V) (values : Values V) → AreOwn zeros stack.now (start_state stack.now) values (first_rows zeros stack.now values) }
+    ensures request { (zeros : V) (written : ℕ → V) (op : Op) (state : State) (top start len : ℕ) (values : Values V) (rows : Rows V) → IsTidy stack.now → IsTop stack.now top → AreOwn zeros stack.now state values rows
+        → AreOwn zeros stack.now (request_step stack.now op top start len state).state
+        (played zeros written start (request_step stack.now op top start len state).units values)
+        (rows_played written top start (request_step stack.now op top start len state).units rows) }
+{
+    // Called because its contract says that the stack is sound.
+    stack.depth();
+}
