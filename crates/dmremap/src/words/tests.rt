@@ -157,8 +157,8 @@ static REFUSED: [(&[&str], &str); 22] = [
         "invalid value 'lvm2' for '<FORMAT>'",
     ),
     (
-        &["dmremap", "check", "table", "a", "b"],
-        "unrecognized subcommand 'check'",
+        &["dmremap", "replay", "table", "a", "b"],
+        "unrecognized subcommand 'replay'",
     ),
     (
         &["dmremap", "map", "table", "a", "b", "--status", "--status"],
