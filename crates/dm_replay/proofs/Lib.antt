@@ -1,5 +1,7 @@
 pub mod NamedLemmas
 pub mod OfDiskLemmas
+pub mod OwnReads
+pub mod OwnWorlds
 pub mod PatchLemmas
 pub mod Playbacks
 pub mod PlayedLemmas
