@@ -8,4 +8,5 @@ pub mod PlayedLemmas
 pub mod RunLemmas
 pub mod RunTextLemmas
 pub mod UnitPlays
+pub mod WorkedReplays
 pub mod WorldLemmas
