@@ -205,3 +205,11 @@ parts_pass test within c says (b ∷ text) h =
 
 pub printed_text : (b : ℕ) → (eqb b 10 || (nat_le 32 b && nat_le b 126)) ≡ true → eqb b 10 ≡ false → (nat_le 32 b && nat_le b 126) ≡ true
 printed_text b h other = grind (arith, nat_tests)
+
+-- The greatest lengths of names
+
+pub device_name_len : (text : List ℕ) → is_device_name text ≡ true → length text ≤ 127
+device_name_len text h = leb-true _ _ (and_parts (nat_le (length text) 127) _ (and_parts (nat_le 1 (length text)) _ h).1).0
+
+pub disk_name_len : (text : List ℕ) → is_disk_name text ≡ true → length text ≤ 255
+disk_name_len text h = leb-true _ _ (and_parts (nat_le (length text) 255) _ (and_parts (nat_le 1 (length text)) _ h).1).0

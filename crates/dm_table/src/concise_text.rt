@@ -89,11 +89,7 @@ fn parts_of(alloc: Global, text: &[u8]) -> Result<Vec<&[u8]>, AllocError>
 }
 
 /// The devices of a text that is cut into these parts.
-fn read_parts(
-    alloc: Global,
-    text: &[u8],
-    parts: &[&[u8]],
-) -> Result<Vec<DeviceSpec>, LoadFault>
+fn read_parts(alloc: Global, text: &[u8], parts: &[&[u8]]) -> Result<Vec<DeviceSpec>, LoadFault>
     requires { texts parts.now ≡ parts_of text.now }
     ensures { Answers Source (λ v. v.items) result (parts_reading (texts parts.now)) }
 {
