@@ -19,6 +19,7 @@ mod fields;
 mod gathered;
 mod history;
 mod line_body;
+mod line_head;
 mod listed;
 mod load_fault;
 mod load_message;
