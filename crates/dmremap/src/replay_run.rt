@@ -165,7 +165,8 @@ pub(crate) fn play_requests<'s, Q: Input, W: Output>(
     };
     let ended = play_lines(requests, replay, &mut player);
     let RequestPlayer {
-        output: _output, ..
+        output: _output,
+        ..
     } = player;
     ended
 }

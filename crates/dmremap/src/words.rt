@@ -374,10 +374,8 @@ impl<'a> Task<'a> {
         ensures { option_map file_words result ≡ files_of (words_of self.entry) }
     {
         match self {
-            Task::Map(files)
-            | Task::Print(_, files)
-            | Task::Check(files)
-            | Task::Replay(files) => Some(files),
+            Task::Map(files) | Task::Print(_, files) | Task::Check(files) | Task::Replay(files) =>
+                Some(files),
             Task::Name { .. } | Task::SplitName(_) => None,
         }
     }
@@ -387,10 +385,8 @@ impl<'a> Task<'a> {
         ensures { result ≡ task_has_its_disks (words_of self.entry) }
     {
         match self {
-            Task::Map(files)
-            | Task::Print(_, files)
-            | Task::Check(files)
-            | Task::Replay(files) => files.has_its_disks(),
+            Task::Map(files) | Task::Print(_, files) | Task::Check(files) | Task::Replay(files) =>
+                files.has_its_disks(),
             Task::Name { .. } | Task::SplitName(_) => true,
         }
     }

@@ -65,10 +65,7 @@ fn disks_of<'a>(task: Task<'_>, text: &'a str) -> Option<ShortIn<'a>>
     ensures { is_some result ≡ has_list (words_of task.entry) }
 {
     match task {
-        Task::Map(files)
-        | Task::Print(_, files)
-        | Task::Check(files)
-        | Task::Replay(files) => {
+        Task::Map(files) | Task::Print(_, files) | Task::Check(files) | Task::Replay(files) => {
             if files.format.has_disk_list() {
                 Some(ShortIn::new(text.as_bytes(), 1))
             } else {

@@ -48,7 +48,11 @@ fn check(
         &mut messages,
     );
     assert_eq!(rt; written.as_slice(), output, "the output of {requests}");
-    assert_eq!(rt; messages.as_slice(), message.as_bytes(), "the message of {requests}");
+    assert_eq!(rt;
+        messages.as_slice(),
+        message.as_bytes(),
+        "the message of {requests}"
+    );
     assert_eq!(rt; got, status, "the status of {requests}");
 }
 
@@ -154,14 +158,7 @@ static ROWS: [(&str, &str, &str, &str, &str, u8); 14] = [
         "dmremap: replay: untidy\n",
         1,
     ),
-    (
-        OVERLAP,
-        "sda 16\n",
-        "x",
-        "",
-        "dmremap: replay: untidy\n",
-        1,
-    ),
+    (OVERLAP, "sda 16\n", "x", "", "dmremap: replay: untidy\n", 1),
     // A load that is refused is refused as it is for `map`, also where claims meet.
     (
         "a: 0 8 linear sda 0\nb: 0 8 linear sda 4\n",
