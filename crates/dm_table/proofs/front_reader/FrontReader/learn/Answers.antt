@@ -1,4 +1,4 @@
-use Rattle.std.proofs.Common.{rules, ◌≡◌, ◌+◌, ◌<◌, ◌≤◌, ◌∷◌, List, ℕ, ◌∙◌, take, length, length-append, length-take-le, ap, sym, arith}
+use Rattle.std.proofs.Common.{rules, ◌≡◌, ◌+◌, ◌≤◌, ◌∷◌, ℕ, ◌∙◌, take, length, length-append, length-take-le, ap, sym, arith}
 use Rattle.std.proofs.lemmas.List.Sums.{prefix_len-le-length}
 use Rattle.dm_table.specs.Name.{is_device_byte}
 use Rattle.dm_table.proofs.FrontNames.{name_space, space_front}
