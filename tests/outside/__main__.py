@@ -28,6 +28,7 @@ import loads
 import lookers
 import printing
 import ranges
+import replays
 import request_lines
 import snapshots
 import streams
@@ -48,7 +49,7 @@ def main():
         # As root the cases of unreadable files run as nobody, who has to come to the program.
         os.chmod(room, 0o755)
         program = Program(shutil.copy(built, os.path.join(room, "dmremap")), room)
-        for part in (words, files, loads, backups, groups, printing, request_lines, ranges, snapshots, streams, limits):
+        for part in (words, files, loads, backups, groups, printing, request_lines, ranges, snapshots, replays, streams, limits):
             part.check(tally, program)
         launcher.check(tally, program, TOP, built == BUILT)
         documents.check(tally, program, TOP)

@@ -23,6 +23,7 @@ RUNS = [
     ("name vg0 lv-1", None),
     ("splitname vg0-lv--1", None),
     ("check table overlap.table overlap-disks.txt", None),
+    ("replay table snapshot.table snapshot-disks.txt", "snapshot-requests.txt"),
 ]
 
 

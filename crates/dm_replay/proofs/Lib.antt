@@ -1,9 +1,12 @@
 pub mod NamedLemmas
 pub mod OfDiskLemmas
+pub mod OwnReads
+pub mod OwnWorlds
 pub mod PatchLemmas
 pub mod Playbacks
 pub mod PlayedLemmas
 pub mod RunLemmas
 pub mod RunTextLemmas
 pub mod UnitPlays
+pub mod WorkedReplays
 pub mod WorldLemmas

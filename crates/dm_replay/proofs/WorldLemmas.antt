@@ -1,7 +1,9 @@
 -- Worlds after one request more.
 use Rattle.std.proofs.Common.{◌≡◌, ℕ, false, List, [], ◌∷◌, ◌++◌, length, refl, sym, ap, subst, ◌∙◌}
 use Rattle.dm_table.specs.declared.request.Request.{Request}
+use Rattle.dm_stack.specs.Claims.{IsTop}
 use Rattle.dm_stack.specs.Description.{Description}
+use Rattle.dm_stack.proofs.HandedOn.{all_append}
 use Rattle.dm_map.specs.Mapper.{Mapping}
 use Rattle.dm_map.specs.Mapping.{request_step}
 use Rattle.dm_map.specs.State.{State, start_state}
@@ -12,7 +14,7 @@ use Rattle.dm_replay.specs.Histories.{Asked, World, asked_answers, first_world, 
 use Rattle.dm_replay.specs.OfDisks.{AreValuesOf}
 use Rattle.dm_replay.specs.Patches.{values_in}
 use Rattle.dm_replay.specs.PlayLaws.{answers_cong, played_cong}
-use Rattle.dm_replay.specs.Replay.{IsGoing, whole_request}
+use Rattle.dm_replay.specs.Replay.{IsGoing, IsWholeOfTop, whole_request}
 use Rattle.dm_replay.specs.Runs.{flat}
 use Rattle.dm_replay.specs.Values.{played, played_answers}
 use Rattle.dm_replay.proofs.OfDiskLemmas.{old_of}
@@ -38,15 +40,16 @@ going_first stack disks mapper patches maps of state_is disks_is none = record {
   state_is = state_is;
   values_are = λ disk sector. ap (λ (ps : List Patch). values_in ps disk sector) none;
   disks_are = subst (λ (ps : List Patch). AreValuesOf (length stack.disks) (values_in ps)) (sym none) (old_of (length stack.disks));
+  asked_are = tt;
 }
 
 -- and after one request more
-pub going_next : (stack disks later_disks : Description) (mapper later : Mapping) (patches newer : List Patch) (all : List Asked) (request : Request) (device : ℕ) → IsGoing stack mapper disks patches all
+pub going_next : (stack disks later_disks : Description) (mapper later : Mapping) (patches newer : List Patch) (all : List Asked) (request : Request) (device : ℕ) → IsTop stack device → IsGoing stack mapper disks patches all
     → later.stopped ≡ false → later.stack ≡ mapper.stack → later_disks ≡ disks → later.state ≡ (request_step mapper.stack request.op device request.start request.len mapper.state).state
     → ((disk sector : ℕ) → values_in newer disk sector ≡ played request.number request.start (step_units mapper.stack request device mapper.state) (values_in patches) disk sector)
     → AreValuesOf (length mapper.stack.disks) (values_in newer)
     → IsGoing stack later later_disks newer (all ++ whole_request request device ∷ [])
-going_next stack disks later_disks mapper later patches newer all request device was maps same same_disks state_is values_is disks_is =
+going_next stack disks later_disks mapper later patches newer all request device top was maps same same_disks state_is values_is disks_is =
     let asked = whole_request request device in let before = world_after stack all in
     record {
       maps = maps;
@@ -63,6 +66,7 @@ going_next stack disks later_disks mapper later patches newer all request device
           ∙ played_cong request.number request.start (step_units stack request device before.state) (values_in patches) before.values was.values_are disk sector
           ∙ ap (λ (world : World). world.values disk sector) (sym (world-push stack all asked));
       disks_are = subst (λ (of : Description). AreValuesOf (length of.disks) (values_in newer)) was.mapper_stack disks_is;
+      asked_are = all_append (IsWholeOfTop stack) all (asked ∷ []) was.asked_are (record { top = top; whole = refl }, tt);
     }
 
 -- what a request answers is what it answers in the world before it

@@ -1,5 +1,6 @@
 -- A replay, and what its results say.
 use Rattle.std.specs.Prelude.{◌≡◌, ℕ, Bool, true, false, List, [], None, Some, length, position}
+use Rattle.std.specs.List.{AllByRecursion}
 use Rattle.dm_table.specs.declared.request.Request.{Request}
 use Rattle.dm_stack.specs.declared.clash.Clash.{Clash}
 use Rattle.dm_stack.specs.Claims.{IsClash, IsTidy, IsTop, claims}
@@ -49,6 +50,11 @@ IsNotAnswered faults.Memory name old new = (old.stopped ≡ false) × HasTop old
 IsNotAnswered faults.NotTop name old new = (old.stopped ≡ false) × (HasTop old.stack name → ⊥) × (new ≡ old)
 IsNotAnswered faults.Stopped name old new = (old.stopped ≡ true) × (new ≡ old)
 
+-- a request of a top device that was played to its end
+pub record IsWholeOfTop (of : Description) (asked : Asked) : Type 0 where
+  pub top : IsTop of asked.device
+  pub whole : asked.stopped_after ≡ None
+
 -- what a replay keeps is the world after its requests
 pub record IsGoing (of : Description) (mapper : Mapping) (disks : Description) (patches : List Patch) (all : List Asked) : Type 0 where
   pub maps : mapper.stopped ≡ false
@@ -57,6 +63,7 @@ pub record IsGoing (of : Description) (mapper : Mapping) (disks : Description) (
   pub state_is : mapper.state ≡ (world_after of all).state
   pub values_are : (disk sector : ℕ) → values_in patches disk sector ≡ (world_after of all).values disk sector
   pub disks_are : AreValuesOf (length of.disks) (values_in patches)
+  pub asked_are : AllByRecursion (IsWholeOfTop of) all
 
 -- unless it stopped; no claims of its stack meet
 pub record IsReplay (of : Description) (mapper : Mapping) (disks : Description) (patches : List Patch) (all : List Asked) (ended : Bool) : Type 0 where

@@ -1,5 +1,5 @@
 -- What each device would hold if it were alone on disks of its own: one row of answers, which only writes to it change.
-use Rattle.std.specs.Prelude.{ℕ, ◌&&◌, ◌==◌, List, [], ◌∷◌, if◌then◌else◌}
+use Rattle.std.specs.Prelude.{◌≡◌, ◌⊎◌, ℕ, suc, ◌&&◌, ◌==◌, List, [], ◌∷◌, if◌then◌else◌}
 use Rattle.dm_stack.specs.declared.id.Lower.TheVariants.{Device}
 use Rattle.dm_stack.specs.Description.{Description}
 use Rattle.dm_map.specs.SnapshotWrites.{read}
@@ -52,3 +52,8 @@ rows_from stack world (asked ∷ later) rows =
 
 abbrev pub rows_after : Description → List Asked → Rows
 rows_after stack all = rows_from stack (first_world stack) all (first_rows stack)
+
+-- each answer of a device, from a sector on, is its row's or an error
+abbrev pub AreOfRow : Rows → (device sector : ℕ) → List Answer → Type 0
+AreOfRow rows device sector [] = Unit {0}
+AreOfRow rows device sector (answer ∷ answers) = ((answer ≡ rows device sector) ⊎ (answer ≡ Failed)) × AreOfRow rows device (suc sector) answers

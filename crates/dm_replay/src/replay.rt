@@ -5,11 +5,13 @@
 
 ghost use Rattle.std.specs.Prelude.{◌≡◌, ◌∷◌, ◌++◌, [], IfErr, IfOk, IfSome, None, OnOk, Option, Some, false, length, position};
 ghost use Rattle.std.specs.List.{AllByRecursion};
+ghost use Rattle.dm_table.specs.declared.request.Op.TheVariants.{Read};
 ghost use Rattle.dm_stack.specs.Claims.{IsTidy, IsTop};
-ghost use Rattle.dm_stack.specs.Description.{is_same};
+ghost use Rattle.dm_stack.specs.Description.{device_id, is_same};
 ghost use Rattle.dm_replay.specs.Histories.{asked_answers, world_after};
 ghost use Rattle.dm_replay.specs.OfDisks.{IsRunOf};
 ghost use Rattle.dm_replay.specs.Replay.{HasTop, IsNotAnswered, IsNotBegun, asked_request, new_replay};
+ghost use Rattle.dm_replay.specs.Rows.{AreOfRow, rows_after};
 ghost use Rattle.dm_replay.specs.Runs.{AreMaximal, flat};
 
 #[cfg(test)]
@@ -19,8 +21,9 @@ use crate::asked_request::AskedRequest;
 use crate::playback::play_request;
 use crate::player::Player;
 use crate::replay_fault::ReplayFault;
+use crate::value::Value;
 use crate::value_run::ValueRun;
-use dm_map::{Mapper, Taken};
+use dm_map::{Mapper, Taken, requests_are_alone};
 use dm_stack::{DeviceId, Stack};
 use dm_table::Request;
 use std::alloc::Global;
@@ -95,6 +98,7 @@ impl<'s, T: Taken> Replay<'s, T> {
     ) -> Result<Vec<ValueRun>, ReplayFault>
         ensures stack { self.new.stack ≡ self.old.stack }
         ensures answers { IfOk result (λ runs. flat runs.items ≡ asked_answers self.old.stack (world_after self.old.stack self.old.asked) (asked_request self.old.stack request.now)) }
+        ensures own { IfOk result (λ runs. request.now.op ≡ Read → AreOfRow (rows_after self.old.stack self.old.asked) (device_id self.old.stack request.now.device.now) request.now.start (flat runs.items)) }
         ensures runs { IfOk result (λ runs. AreMaximal runs.items) }
         ensures disks { IfOk result (λ runs. AllByRecursion (IsRunOf (length self.old.stack.disks)) runs.items) }
         ensures top { OnOk result (HasTop self.old.stack request.now.device.now) }
@@ -108,6 +112,8 @@ impl<'s, T: Taken> Replay<'s, T> {
         let Some(device) = top_device(self.stack, request.device) else {
             return Err(ReplayFault::NotTop);
         };
+        // Called because its contract is the law that top devices are like disks of their own.
+        requests_are_alone::<Value>(self.stack);
         // What fails on the way leaves it stopped.
         self.stopped = true;
         let Ok(runs) = play_request(alloc, &mut self.mapper, &mut self.player, request, device)

@@ -26,7 +26,7 @@ pub use handler::Handler;
 pub use join::Join;
 pub use lines::{Lines, MOST_LINE_BYTES, Next};
 pub use map_run::run;
-pub use message::tell;
+pub use message::{Message, message_of, tell};
 pub use requests::{MOST_REQUESTS, handle_requests};
 
 // For the program's own messages, which are put together as those of a run are.

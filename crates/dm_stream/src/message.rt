@@ -12,7 +12,7 @@ use arrayvec::ArrayVec;
 use dm_table::{Output, put, put_number, write_all};
 
 /// A message of a run.
-pub(crate) type Message = ArrayVec<u8, 64>;
+pub type Message = ArrayVec<u8, 64>;
 
 /// Writes a message, as far as its stream takes it. Nothing is flushed.
 pub fn tell<E: Output>(messages: &mut E, message: &[u8])
@@ -25,8 +25,8 @@ pub fn tell<E: Output>(messages: &mut E, message: &[u8])
     let _ = write_all(messages, message);
 }
 
-/// The message of an ending: empty if all requests were answered.
-pub(crate) fn message_of(ending: Ending) -> Message
+/// The message of an ending: a line, or empty if all requests were answered. Takes no memory.
+pub fn message_of(ending: Ending) -> Message
     ensures { result.items ≡ ending_message ending }
 {
     let mut text = ArrayVec::new();

@@ -1,9 +1,9 @@
 -- What the tests of bytes say of whole texts.
-use Rattle.std.proofs.Common.{◌≡◌, ◌≢◌, ℕ, suc, ◌+◌, ◌<◌, ◌≤◌, ◌⊎◌, inl, inr, Bool, true, false, cond, eqb, nat_le, nat_lt, not, ◌&&◌, List, [], ◌∷◌, ◌++◌, length, take, take_all, drop, All, refl, sym, ap, ◌∙◌, arith}
+use Rattle.std.proofs.Common.{◌≡◌, ◌≢◌, ℕ, suc, ◌+◌, ◌<◌, ◌≤◌, ◌⊎◌, inl, inr, Bool, true, false, cond, eqb, nat_le, nat_lt, not, ◌&&◌, ◌||◌, List, [], ◌∷◌, ◌++◌, length, take, take_all, drop, All, refl, sym, ap, ◌∙◌, arith}
 use Rattle.std.specs.Char.{is_ascii_digit}
-use Rattle.std.specs.List.{list_all, AllByRecursion, prefix_len, join_with_byte}
+use Rattle.std.specs.List.{list_all, AllByRecursion, prefix_len, join_with_byte, onto_first}
 use Rattle.std.specs.Str.{IsAscii}
-use Rattle.std.proofs.lemmas.Bool.{and_parts, and_from, le-leb, leb-true, false_from_ne_true, eq-eqb, ne_eqb, cases_eq}
+use Rattle.std.proofs.lemmas.Bool.{and_parts, and_from, not-false, not_from_true, cases_Bool, le-leb, leb-true, false_from_ne_true, eq-eqb, ne_eqb, cases_eq}
 use Rattle.std.proofs.lemmas.Bool.Decides.{nat_tests}
 use Rattle.std.proofs.Math.Seq.{take-append_seam, drop-append_seam}
 use Rattle.std.proofs.lemmas.List.Folds.{length-prefix_len, list_all_at}
@@ -183,3 +183,33 @@ stands_first test text field next more cut all other =
       rest = rest;
       behind = rw (whole, prefix_at test field rest all other) (drop-append_seam field (32 ∷ rest));
     }
+
+-- Parts of a text of which each byte passes a test
+
+onto_pass : (test : ℕ → Bool) (b : ℕ) (parts : List (List ℕ)) → test b ≡ true → AllByRecursion (λ part. not (list_all test part) ≡ false) parts
+    → AllByRecursion (λ part. not (list_all test part) ≡ false) (onto_first b parts)
+onto_pass test b [] h more = (not_from_true _ (and_from (test b) true h refl), tt)
+onto_pass test b (part ∷ parts) h more = (not_from_true _ (and_from (test b) (list_all test part) h (not-false _ more.0)), more.1)
+
+-- they pass one that such a byte passes where it isn't that at which the text is cut
+pub parts_pass : (test within : ℕ → Bool) (c : ℕ) → ((b : ℕ) → test b ≡ true → eqb b c ≡ false → within b ≡ true)
+    → (text : List ℕ) → list_all test text ≡ true → AllByRecursion (λ part. not (list_all within part) ≡ false) (parts_at c text)
+parts_pass test within c says [] h = (refl, tt)
+parts_pass test within c says (b ∷ text) h =
+    let a = and_parts (test b) (list_all test text) h in
+    let more = parts_pass test within c says text a.1 in
+    elim (cases_Bool (eqb b c)) [
+      | inl e ↦ rw e (refl, more)
+      | inr e ↦ rw e (onto_pass within b (parts_at c text) (says b a.0 e) more)
+    ]
+
+pub printed_text : (b : ℕ) → (eqb b 10 || (nat_le 32 b && nat_le b 126)) ≡ true → eqb b 10 ≡ false → (nat_le 32 b && nat_le b 126) ≡ true
+printed_text b h other = grind (arith, nat_tests)
+
+-- The greatest lengths of names
+
+pub device_name_len : (text : List ℕ) → is_device_name text ≡ true → length text ≤ 127
+device_name_len text h = leb-true _ _ (and_parts (nat_le (length text) 127) _ (and_parts (nat_le 1 (length text)) _ h).1).0
+
+pub disk_name_len : (text : List ℕ) → is_disk_name text ≡ true → length text ≤ 255
+disk_name_len text h = leb-true _ _ (and_parts (nat_le (length text) 255) _ (and_parts (nat_le 1 (length text)) _ h).1).0

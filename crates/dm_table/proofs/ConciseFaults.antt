@@ -1,5 +1,5 @@
 -- What is wrong with the parts of a device of the concise form, and with the device.
-use Rattle.std.proofs.Common.{◌≡◌, ◌≢◌, OnOk, ℕ, suc, ◌+◌, ◌-◌, ◌<◌, ◌≤◌, Bool, true, false, not, ◌&&◌, List, [], ◌∷◌, ◌++◌, length, take, drop, get_or, Option, Some, None, Result, Ok, Err, refl, sym, ap, subst, ◌∙◌, append_assoc, arith}
+use Rattle.std.proofs.Common.{◌≡◌, ◌≢◌, OnOk, ℕ, suc, ◌+◌, ◌-◌, ◌<◌, ◌≤◌, Bool, true, false, not, eqb, nat_le, ◌&&◌, ◌||◌, List, [], ◌∷◌, ◌++◌, length, take, drop, get_or, Option, Some, None, Result, Ok, Err, refl, sym, ap, subst, ◌∙◌, append_assoc, arith}
 use Rattle.std.specs.Prelude.{slice_index_or}
 use Rattle.std.specs.List.{list_all, AllByRecursion}
 use Rattle.std.specs.declared.alloc.AllocError.{AllocError}
@@ -20,8 +20,9 @@ use Rattle.dm_table.specs.Name.{is_device_name}
 use Rattle.dm_table.specs.LoadFault.{faults_from, first_or, first_fault, unless}
 use Rattle.dm_table.specs.RowFaults.{value_fault, row_fault, read_unless, Reads, no_faults, noted, noted_at, noted_rows, first_noted}
 use Rattle.dm_table.specs.LineBody.{is_body_row, is_body, has_body_names}
-use Rattle.dm_table.specs.ConciseText.{place_of, lacks, is_uuid, is_ro, entries, body_fields, is_printed, is_label, is_known, is_named, is_device, has_values, has_names}
+use Rattle.dm_table.specs.ConciseText.{place_of, parts_of, lacks, is_uuid, is_ro, entries, body_fields, is_printed, is_label, is_known, is_named, is_device, has_values, has_names}
 use Rattle.dm_table.specs.ConciseReading.{worse, fault_of_body, fault_of_bodies, fault_of_entries, fault_of_device, line_in, lines_in, device_of, entries_reading, device_reading, bodies_reading, with_reading, with_devices, devices_from, part_checks, parts_reading}
+use Rattle.dm_table.proofs.ByteLemmas.{parts_pass}
 use Rattle.dm_table.proofs.FaultLemmas.{first_or-passed}
 use Rattle.dm_table.proofs.RowFaultLemmas.{checks_of, names_true, noted_faulty, noted_none, noted_refused}
 use Rattle.dm_table.proofs.TargetRows.{read_fault, read_value, and_false}
@@ -176,6 +177,13 @@ with_read ds n (text ∷ parts) h =
 as_checks : (parts : List (List ℕ)) → first_fault (checks_of Source is_device has_values has_names parts []) ≡ first_fault (part_checks parts)
 as_checks parts =
     ap (λ (syntax : List LoadFault). first_fault (syntax ∷ drop 1 (part_checks parts))) (append-nil (faults_from Source kinds.Syntax (λ text. not (is_device text)) 1 parts))
+
+-- where all bytes of a text are printed, those of its parts are
+pub printed_parts : (text : List ℕ) (parts : List (List ℕ)) → parts ≡ parts_of text → is_printed text ≡ true → AllByRecursion (λ part. not (is_printed part) ≡ false) parts
+printed_parts [] parts cut h = rw cut tt
+printed_parts (byte ∷ text) parts cut h =
+    let test : ℕ → Bool = λ b. eqb b 10 || (nat_le 32 b && nat_le b 126) in
+    rw cut (parts_pass test test 59 (λ b passes other. passes) (byte ∷ text) h)
 
 -- where all bytes are text, these checks are all that is left
 pub parts_after : (parts : List (List ℕ)) → None ≡ first_or (faults_from Source kinds.NotText (λ text. not (is_printed text)) 1 parts) None

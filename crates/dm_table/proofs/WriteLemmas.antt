@@ -4,10 +4,15 @@ use Rattle.std.specs.List.{flat_map, join_with_byte}
 use Rattle.std.proofs.Math.Seq.{take-add}
 use Rattle.std.proofs.lemmas.Grind.{flat_map-append}
 use Rattle.std.proofs.lemmas.List.{drop_more, append-nil, take_rest}
-use Rattle.std.specs.Prelude.{OnErr}
+use Rattle.std.specs.Prelude.{OnErr, decimal}
 use Rattle.dm_table.specs.DeviceIo.{since}
 use Rattle.dm_table.specs.WriteAll.{IsBeginning, IsCutShort}
 use Rattle.dm_table.specs.CanonicalText.{Wrote}
+use Rattle.dm_table.specs.declared.table.Line.{Line}
+use Rattle.dm_table.specs.declared.table.Target.{Target}
+use Rattle.dm_table.specs.declared.table.Target.TheVariants.{Linear, Striped, Zero, Error, Snapshot}
+use Rattle.dm_table.specs.LineBody.{column_text, target_text, body_text}
+use Rattle.dm_table.specs.LineHead.{target_head, body_head, columns_of}
 use Rattle.dm_table.proofs.Growth.{since_more, grows_more}
 
 -- a fault in the first part
@@ -90,3 +95,18 @@ joined_slice byte f (y ∷ ys) x h is = rw (take_rest (y ∷ ys) 1, is) (joined_
 pub cut_beginning : {T E : Type 0} (result : Result T E) (text front : List ℕ) → OnErr result (IsCutShort text front) → OnErr result (IsBeginning text front)
 cut_beginning (Ok x) text front h = tt
 cut_beginning (Err e) text front h = (h.0 ∷ h.1, h.2)
+
+-- a line after its label, in the two parts that it is written in
+body_split : (before : List ℕ) (target : Target) → before ++ target_text target ≡ (before ++ target_head target) ++ flat_map column_text (columns_of target)
+body_split before (Linear to offset) = sym (append-nil _)
+body_split before (Striped chunk columns) = simp append_assoc
+body_split before Zero = sym (append-nil _)
+body_split before Error = sym (append-nil _)
+body_split before (Snapshot origin store chunk) = sym (append-nil _)
+
+pub line_split : (name mark : List ℕ) (line : Line) → name ++ mark ++ body_text line ≡ (name ++ mark ++ body_head line) ++ flat_map column_text (columns_of line.target)
+line_split name mark line =
+    let before = name ++ mark ++ decimal line.start ++ 32 ∷ decimal line.len ++ 32 ∷ [] in
+    let whole : name ++ mark ++ body_text line ≡ before ++ target_text line.target = simp append_assoc in
+    let head : before ++ target_head line.target ≡ name ++ mark ++ body_head line = simp append_assoc in
+    whole ∙ body_split before line.target ∙ ap (λ (t : List ℕ). t ++ flat_map column_text (columns_of line.target)) head

@@ -9,6 +9,7 @@ pub mod LoadMessage
 pub mod DiskList
 pub mod RowFaults
 pub mod LineBody
+pub mod LineHead
 pub mod LineReading
 pub mod TableText
 pub mod TableReading

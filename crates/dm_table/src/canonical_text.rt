@@ -2,24 +2,25 @@
 //! written as.
 //!
 //! Texts go to the output part by part, with no memory taken; an output that is slow for small
-//! writes wants a buffer before it. A new target is an arm in `write_target` and in `target_text`
-//! of `specs/LineBody.antt`.
+//! writes wants a buffer before it. A line is one part, save the columns of a striped one and the
+//! newline. A new target is an arm in `line_head` and in `target_text` of `specs/LineBody.antt`.
 
-ghost use Rattle.std.specs.Prelude.{◌≡◌, ℕ, List, ◌+◌, ◌∷◌, ◌++◌, OnOk, OnErr, decimal, map};
+ghost use Rattle.std.specs.Prelude.{◌≡◌, ◌<◌, ◌≤◌, ℕ, List, ◌+◌, ◌∷◌, ◌++◌, OnOk, OnErr, length, map};
 ghost use Rattle.std.specs.List.{flat_map, join_with_byte};
 ghost use Rattle.dm_table.specs.DeviceIo.{since, fault_of};
 ghost use Rattle.dm_table.specs.WriteAll.{IsBeginning, IsCutShort};
-ghost use Rattle.dm_table.specs.LineBody.{dev_text, column_text, target_text, body_text};
+ghost use Rattle.dm_table.specs.LineBody.{column_text, body_text};
+ghost use Rattle.dm_table.specs.LineHead.{columns_of};
 ghost use Rattle.dm_table.specs.TableText.{line_text, DescribesTable};
 ghost use Rattle.dm_table.specs.ConciseText.{DescribesConcise};
 ghost use Rattle.dm_table.specs.declared.table.DeviceSpec.{DeviceSpec};
 ghost use Rattle.dm_table.specs.CanonicalText.{Wrote, as_table, lines_text, table_text, flag_text, concise_device, concise_text, as_concise};
 
 use crate::device_io::{OutFault, Output};
-use crate::number_text::{MOST_DIGITS, put_number};
-use crate::table::{Column, DevRef, DeviceSpec, Line, Target};
+use crate::line_head::{ColumnText, LineHead};
+use crate::table::{Column, DeviceSpec, Line, Target};
+use crate::text::Text;
 use crate::writing::write_all;
-use arrayvec::ArrayVec;
 
 /// Writes these bytes.
 fn write<W: Output>(writer: &mut W, bytes: &[u8]) -> Result<(), OutFault>
@@ -28,117 +29,58 @@ fn write<W: Output>(writer: &mut W, bytes: &[u8]) -> Result<(), OutFault>
     write_all(writer, bytes)
 }
 
-/// Writes a number in decimal digits, after what comes before it.
-fn write_number<W: Output>(writer: &mut W, before: &[u8], number: u64) -> Result<(), OutFault>
-    ensures { Wrote W.written W.waiting W.faults W.flushes writer.old writer.new result (before.now ++ decimal number) }
+/// Writes a text that isn't empty.
+#[inline(always)]
+fn put<W: Output, T: Text>(writer: &mut W, text: &T) -> Result<(), OutFault>
+    requires { 0 < length (T.text text.now) }
+    ensures { Wrote W.written W.waiting W.faults W.flushes writer.old writer.new result (T.text text.now) }
 {
-    let mut text = ArrayVec::<u8, MOST_DIGITS>::new();
-    put_number(&mut text, number);
-    write(&mut *writer, before)?;
-    write(writer, text.as_slice())
-}
-
-/// Writes the name of a lower device, after what comes before it.
-fn write_dev<W: Output>(writer: &mut W, before: &[u8], dev: &DevRef) -> Result<(), OutFault>
-    ensures { Wrote W.written W.waiting W.faults W.flushes writer.old writer.new result (before.now ++ dev_text dev.now) }
-{
-    write(&mut *writer, before)?;
-    match dev {
-        DevRef::Device(name) => {
-            write(&mut *writer, b"/dev/mapper/")?;
-            write(writer, name.as_str().as_bytes())
-        }
-        DevRef::Disk(name) => write(writer, name.as_str().as_bytes()),
-    }
-}
-
-/// Writes a lower device and an offset in it, after what comes before them.
-fn write_extent<W: Output>(
-    writer: &mut W,
-    before: &[u8],
-    to: &DevRef,
-    offset: u64,
-) -> Result<(), OutFault>
-    ensures { Wrote W.written W.waiting W.faults W.flushes writer.old writer.new result (before.now ++ dev_text to.now ++ 32 ∷ decimal offset) }
-{
-    write_dev(&mut *writer, before, to)?;
-    write_number(writer, b" ", offset)
+    writer.put(text)
 }
 
 fn write_columns<W: Output>(writer: &mut W, columns: &[Column]) -> Result<(), OutFault>
     ensures { Wrote W.written W.waiting W.faults W.flushes writer.old writer.new result (flat_map column_text columns.now) }
 {
     for column in columns {
-        write_extent(&mut *writer, b" ", &column.to, column.offset)?;
+        put(&mut *writer, &ColumnText::new(column))?;
     }
     Ok(())
 }
 
-/// Writes two numbers with a space between them, after what comes before them.
-fn write_numbers<W: Output>(
-    writer: &mut W,
-    before: &[u8],
-    first: u64,
-    second: u64,
-) -> Result<(), OutFault>
-    ensures { Wrote W.written W.waiting W.faults W.flushes writer.old writer.new result (before.now ++ decimal first ++ 32 ∷ decimal second) }
-{
-    write_number(&mut *writer, before, first)?;
-    write_number(writer, b" ", second)
-}
-
-/// Writes two lower devices with a space between them, after what comes before them.
-fn write_devs<W: Output>(
-    writer: &mut W,
-    before: &[u8],
-    first: &DevRef,
-    second: &DevRef,
-) -> Result<(), OutFault>
-    ensures { Wrote W.written W.waiting W.faults W.flushes writer.old writer.new result (before.now ++ dev_text first.now ++ 32 ∷ dev_text second.now) }
-{
-    write_dev(&mut *writer, before, first)?;
-    write_dev(writer, b" ", second)
-}
-
-fn write_target<W: Output>(writer: &mut W, target: &Target) -> Result<(), OutFault>
-    ensures { Wrote W.written W.waiting W.faults W.flushes writer.old writer.new result (target_text target.now) }
+/// Writes the columns of a target, which only a striped one has.
+fn write_columns_of<W: Output>(writer: &mut W, target: &Target) -> Result<(), OutFault>
+    ensures { Wrote W.written W.waiting W.faults W.flushes writer.old writer.new result (flat_map column_text (columns_of target.now)) }
 {
     match target {
-        Target::Linear { to, offset } => write_extent(writer, b"linear ", to, *offset),
-        Target::Striped { chunk, columns } => {
-            let columns = columns.as_slice();
-            write_numbers(&mut *writer, b"striped ", columns.len() as u64, *chunk)?;
-            write_columns(writer, columns)
-        }
-        Target::Zero => write(writer, b"zero"),
-        Target::Error => write(writer, b"error"),
-        Target::Snapshot {
-            origin,
-            store,
-            chunk,
-        } => {
-            write_devs(&mut *writer, b"snapshot ", origin, store)?;
-            write_number(writer, b" P ", *chunk)
+        Target::Striped { columns, .. } => write_columns(writer, columns.as_slice()),
+        Target::Linear { .. } | Target::Zero | Target::Error | Target::Snapshot { .. } => {
+            write(writer, b"")
         }
     }
 }
 
-/// Writes the body of a line, after what comes before it.
-fn write_body<W: Output>(writer: &mut W, before: &[u8], line: &Line) -> Result<(), OutFault>
-    ensures { Wrote W.written W.waiting W.faults W.flushes writer.old writer.new result (before.now ++ body_text line.now) }
+/// Writes the body of a line after a label: a name and what stands behind it.
+fn write_body<W: Output>(
+    writer: &mut W,
+    name: &[u8],
+    mark: &[u8],
+    line: &Line,
+) -> Result<(), OutFault>
+    requires name { length name.now ≤ 127 }
+    requires mark { length mark.now ≤ 2 }
+    ensures { Wrote W.written W.waiting W.faults W.flushes writer.old writer.new result (name.now ++ mark.now ++ body_text line.now) }
 {
-    write_numbers(&mut *writer, before, line.start, line.len)?;
-    write(&mut *writer, b" ")?;
-    write_target(writer, &line.target)
+    put(&mut *writer, &LineHead::new(name, mark, line))?;
+    write_columns_of(writer, &line.target)
 }
 
 /// Writes the lines of a device as table text.
 fn write_lines<W: Output>(writer: &mut W, name: &[u8], lines: &[Line]) -> Result<(), OutFault>
+    requires { length name.now ≤ 127 }
     ensures { Wrote W.written W.waiting W.faults W.flushes writer.old writer.new result (lines_text name.now lines.now) }
 {
     for line in lines {
-        write(&mut *writer, name)?;
-        write_body(&mut *writer, b": ", line)?;
+        write_body(&mut *writer, name, b": ", line)?;
         write(&mut *writer, b"\n")?;
     }
     Ok(())
@@ -169,6 +111,7 @@ pub fn write_table<W: Output>(devices: &[DeviceSpec], writer: &mut W) -> Result<
 }
 
 /// Writes the lines of each device as table text.
+#[tactic(auto, using(crate::proofs::ByteLemmas::device_name_len))]
 fn write_every_line<W: Output>(writer: &mut W, devices: &[DeviceSpec]) -> Result<(), OutFault>
     ensures { Wrote W.written W.waiting W.faults W.flushes writer.old writer.new result (table_text devices.now) }
 {
@@ -187,7 +130,7 @@ fn write_more_bodies<W: Output>(writer: &mut W, lines: &[Line]) -> Result<(), Ou
     ensures { Wrote W.written W.waiting W.faults W.flushes writer.old writer.new result (flat_map (λ line. 44 ∷ body_text line) lines.now) }
 {
     for line in lines {
-        write_body(&mut *writer, b",", line)?;
+        write_body(&mut *writer, b"", b",", line)?;
     }
     Ok(())
 }
@@ -198,7 +141,7 @@ fn write_bodies<W: Output>(writer: &mut W, lines: &[Line]) -> Result<(), OutFaul
 {
     match lines {
         [first, rest @ ..] => {
-            write_body(&mut *writer, b"", first)?;
+            write_body(&mut *writer, b"", b"", first)?;
             write_more_bodies(writer, rest)
         }
         [] => write(writer, b""),

@@ -22,6 +22,7 @@ use crate::load_fault::{LoadFault, LoadKind};
 use crate::place::Part;
 use crate::row_faults::FirstFaults;
 use crate::table::DeviceSpec;
+use crate::text_checks::is_printed;
 use std::alloc::{AllocError, Global};
 
 /// The devices of a text in the concise form, in its order: `NAME,UUID,MINOR,FLAGS` and the lines of
@@ -60,8 +61,9 @@ pub fn parse_concise(alloc: Global, text: &[u8]) -> Result<Vec<DeviceSpec>, Load
 fn read(alloc: Global, text: &[u8]) -> Result<Vec<DeviceSpec>, LoadFault>
     ensures { IsParsed Source (DescribesConcise text.now) (concise_checks text.now) result }
 {
-    match parts_of(alloc, without_newline(text)) {
-        Ok(parts) => read_parts(alloc, &parts),
+    let text = without_newline(text);
+    match parts_of(alloc, text) {
+        Ok(parts) => read_parts(alloc, text, &parts),
         Err(_) => Err(LoadFault::memory(Part::Source)),
     }
 }
@@ -86,10 +88,12 @@ fn parts_of(alloc: Global, text: &[u8]) -> Result<Vec<&[u8]>, AllocError>
     cut(alloc, b';', text)
 }
 
-fn read_parts(alloc: Global, parts: &[&[u8]]) -> Result<Vec<DeviceSpec>, LoadFault>
+/// The devices of a text that is cut into these parts.
+fn read_parts(alloc: Global, text: &[u8], parts: &[&[u8]]) -> Result<Vec<DeviceSpec>, LoadFault>
+    requires { texts parts.now ≡ parts_of text.now }
     ensures { Answers Source (λ v. v.items) result (parts_reading (texts parts.now)) }
 {
-    if let Some(fault) = not_text(parts) {
+    if let Some(fault) = not_text(text, parts) {
         return Err(fault);
     }
     let reading = match read_devices(alloc, parts) {
@@ -103,7 +107,20 @@ fn read_parts(alloc: Global, parts: &[&[u8]]) -> Result<Vec<DeviceSpec>, LoadFau
 }
 
 /// The first part with a byte that is neither a newline nor one from 0x20 to 0x7E.
-fn not_text(parts: &[&[u8]]) -> Option<LoadFault>
+fn not_text(text: &[u8], parts: &[&[u8]]) -> Option<LoadFault>
+    requires { texts parts.now ≡ parts_of text.now }
+    ensures value { result ≡ first_or (faults_from Source NotText (λ part. not (is_printed part)) 1 (texts parts.now)) None }
+    ensures kind { IfSome result (λ fault. fault.kind ≢ Memory) }
+{
+    // Most texts have no such byte, and the whole is asked faster than part after part.
+    if is_printed(text) {
+        return None;
+    }
+    bad_part(parts)
+}
+
+/// The first of parts with a byte that is neither a newline nor one from 0x20 to 0x7E.
+fn bad_part(parts: &[&[u8]]) -> Option<LoadFault>
     ensures value { result ≡ first_or (faults_from Source NotText (λ part. not (is_printed part)) 1 (texts parts.now)) None }
     ensures kind { IfSome result (λ fault. fault.kind ≢ Memory) }
 {
@@ -113,13 +130,6 @@ fn not_text(parts: &[&[u8]]) -> Option<LoadFault>
         }
     }
     None
-}
-
-fn is_printed(text: &[u8]) -> bool
-    ensures { result ≡ is_printed text.now }
-{
-    text.iter()
-        .all(|byte| *byte == 10 || (32 <= *byte && *byte <= 126))
 }
 
 /// What was read of the devices so far. Of devices with faults beside them nothing comes.

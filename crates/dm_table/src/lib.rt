@@ -20,6 +20,7 @@ mod front_reader;
 mod gathered;
 mod history;
 mod line_body;
+mod line_head;
 mod listed;
 mod load_fault;
 mod load_message;

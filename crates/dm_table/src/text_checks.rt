@@ -5,7 +5,8 @@
 
 ghost use Rattle.std.specs.Prelude.{◌≡◌, ◌≢◌, None, not, IfSome};
 ghost use Rattle.dm_table.specs.declared.load_fault.LoadKind.TheVariants.{NotText, Memory};
-ghost use Rattle.dm_table.specs.Fields.{texts, cut_text, lines_and_rest};
+ghost use Rattle.dm_table.specs.ConciseText.{is_printed};
+ghost use Rattle.dm_table.specs.Fields.{texts, parts_at, cut_text, lines_and_rest};
 ghost use Rattle.dm_table.specs.LoadFault.{Answers, unless, first_or, faults_from, is_text, not_text};
 
 use crate::fields::{Lines, cut, without_rest};
@@ -23,14 +24,27 @@ pub(crate) fn text_lines<'a>(
     ensures { Answers part cut_text result (unless (first_or (not_text part text.now) None) (lines_and_rest text.now)) }
 {
     let parts = cut(alloc, b'\n', text).map_err(|_| LoadFault::memory(part))?;
-    if let Some(fault) = not_text(part, &parts) {
+    if let Some(fault) = not_text(part, text, &parts) {
         return Err(fault);
     }
     Ok(without_rest(parts))
 }
 
 /// The first part of a text cut at newlines that has a byte outside 0x20 to 0x7E.
-pub(crate) fn not_text(part: Part, parts: &[&[u8]]) -> Option<LoadFault>
+fn not_text(part: Part, text: &[u8], parts: &[&[u8]]) -> Option<LoadFault>
+    requires { texts parts.now ≡ parts_at 10 text.now }
+    ensures value { result ≡ first_or (not_text part text.now) None }
+    ensures kind { IfSome result (λ fault. fault.kind ≢ Memory) }
+{
+    // Most texts have no such byte, and the whole is asked faster than line after line.
+    if is_printed(text) {
+        return None;
+    }
+    bad_line(part, parts)
+}
+
+/// The first of lines that has a byte outside 0x20 to 0x7E.
+fn bad_line(part: Part, parts: &[&[u8]]) -> Option<LoadFault>
     ensures value { result ≡ first_or (faults_from part NotText (λ line. not (is_text line)) 1 (texts parts.now)) None }
     ensures kind { IfSome result (λ fault. fault.kind ≢ Memory) }
 {
@@ -46,4 +60,16 @@ fn is_text(line: &[u8]) -> bool
     ensures { result ≡ is_text line.now }
 {
     line.iter().all(|byte| 32 <= *byte && *byte <= 126)
+}
+
+/// Whether each byte is a newline or one from 0x20 to 0x7E. It never stops early, so that many bytes
+/// are asked at once.
+pub(crate) fn is_printed(text: &[u8]) -> bool
+    ensures { result ≡ is_printed text.now }
+{
+    let mut printed = true;
+    for byte in text {
+        printed &= *byte == 10 || (32 <= *byte && *byte <= 126);
+    }
+    printed
 }

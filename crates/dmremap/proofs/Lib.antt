@@ -3,3 +3,4 @@ pub mod ExitLemmas
 pub mod LoadLemmas
 pub mod OneWhole
 pub mod PrintLemmas
+pub mod ReplayLemmas

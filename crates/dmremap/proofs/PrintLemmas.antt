@@ -17,7 +17,7 @@ use Rattle.dmremap.specs.Load.{Load, PartsGive, RefusedBy, SoundAs}
 use Rattle.dmremap.specs.Whole.{Whole}
 use Rattle.dm_stack.proofs.TopLemmas.{one_report}
 use Rattle.dm_stack.specs.Description.{Description}
-use Rattle.dmremap.specs.Words.{TaskWords, map_words, print_words, check_words, name_words, split_words}
+use Rattle.dmremap.specs.Words.{TaskWords, map_words, print_words, check_words, replay_words, name_words, split_words}
 use Rattle.dmremap.proofs.ExitLemmas.{no_write_fault, refused_kind}
 use Rattle.dmremap.proofs.OneWhole.{one_load}
 
@@ -122,6 +122,7 @@ one_report_said (SoundAs description) a b x y = sym x.2 ∙ ap Prints (one_repor
 
 one_said : (asked : TaskWords) (source disks : Delivery) (a b : Said) → TaskSays asked source disks a → TaskSays asked source disks b → a ≡ b
 one_said (map_words files) source disks a b x y = absurd x
+one_said (replay_words files) source disks a b x y = absurd x
 one_said (print_words form files) source disks a b x y = sym x.is ∙ ap (devices_said form) (one_load files.format source disks x.load y.load x.loaded y.loaded) ∙ y.is
 one_said (check_words files) source disks a b x y =
     one_report_said y.load a b (subst (λ (load : Load). ReportSays load a) (one_load files.format source disks x.load y.load x.loaded y.loaded) x.says) y.says

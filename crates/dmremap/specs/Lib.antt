@@ -2,6 +2,10 @@ pub mod Exit
 pub mod Inputs
 pub mod Load
 pub mod OtherWhole
+pub mod Played
+pub mod PlayedLaws
+pub mod ReplayOutcome
+pub mod ReplayWhole
 pub mod Status
 pub mod Whole
 pub mod Words

@@ -1,4 +1,4 @@
--- What the commands but `map` give: what they print, their message and their exit status, by their words and by what was delivered.
+-- What the commands without requests give: what they print, their message and their exit status, by their words and by what was delivered.
 use Rattle.std.specs.Prelude.{◌≡◌, ◌≢◌, ◌↔◌, ℕ, ◌+◌, ◌<◌, ◌≤◌, Bool, true, false, List, [], ◌∷◌, ◌++◌, Result, Ok, Err, is_some}
 use Rattle.std.specs.Option.{option_map_or}
 use Rattle.dm_table.specs.declared.table.DeviceSpec.{DeviceSpec}
@@ -20,7 +20,7 @@ use Rattle.dmremap.specs.Exit.{FailedOutput}
 use Rattle.dmremap.specs.Load.{Load, PartsGive, RefusedBy, SoundAs}
 use Rattle.dmremap.specs.Status.{load_status}
 use Rattle.dmremap.specs.Whole.{Whole}
-use Rattle.dmremap.specs.Words.{TaskWords, map_words, print_words, check_words, name_words, split_words, files_of, has_disk_list}
+use Rattle.dmremap.specs.Words.{TaskWords, map_words, print_words, check_words, replay_words, name_words, split_words, files_of, has_disk_list}
 
 -- ---- what there is to print
 
@@ -70,9 +70,10 @@ abbrev pub SplitSays : List ℕ → Said → Type 0
 SplitSays name (Prints text) = (parts : List ℕ) × IsSpaced name parts × (line parts ≡ text)
 SplitSays name (Refuses message) = ((p : NameParts) → Builds p name → ⊥) × (split_message ≡ message)
 
--- a task says this, by what its files delivered; `map` is none of these tasks
+-- a task says this, by what its files delivered; `map` and `replay` are none of these tasks
 abbrev pub TaskSays : TaskWords → (source disks : Delivery) → Said → Type 0
 TaskSays (map_words files) source disks said = ⊥
+TaskSays (replay_words files) source disks said = ⊥
 TaskSays (print_words form files) source disks said = FilesSay form files.format source disks said
 TaskSays (check_words files) source disks said = CheckSays files.format source disks said
 TaskSays (name_words parts) source disks said = name_said (built parts) ≡ said
@@ -93,9 +94,10 @@ pub record GiveOther (asked : TaskWords) (source disks : Delivery) (whole : Whol
 
 -- ---- which inputs a task has
 
--- the task is another than `map`
+-- the task is another than `map` and `replay`, and has no requests
 abbrev pub is_other : TaskWords → Bool
 is_other (map_words files) = false
+is_other (replay_words files) = false
 is_other _ = true
 
 -- the task loads a source

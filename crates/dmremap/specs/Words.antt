@@ -99,7 +99,7 @@ with_commands line (command ∷ commands) = with_commands (with_subcommand line 
 abbrev pub command_line : ValueParser → App
 command_line parser = with_commands program_app
     (map_app parser ∷ source_app (codes "table") parser ∷ source_app (codes "concise") parser
-    ∷ source_app (codes "check") parser ∷ name_app ∷ split_app ∷ [])
+    ∷ source_app (codes "check") parser ∷ source_app (codes "replay") parser ∷ name_app ∷ split_app ∷ [])
 
 -- as a subcommand, the command is this one
 abbrev pub IsCommand : App → Command → Type 0
@@ -119,6 +119,7 @@ pub data TaskWords : Type 0 where
   map_words : FileWords → TaskWords
   print_words : Form → FileWords → TaskWords
   check_words : FileWords → TaskWords
+  replay_words : FileWords → TaskWords
   name_words : NameParts → TaskWords
   split_words : Text → TaskWords
 
@@ -131,6 +132,7 @@ abbrev pub words_of : Task → TaskWords
 words_of (task.Map files) = map_words (file_words files)
 words_of (task.Print form files) = print_words form (file_words files)
 words_of (task.Check files) = check_words (file_words files)
+words_of (task.Replay files) = replay_words (file_words files)
 words_of (task.Name vg lv layer) = name_words (record { vg = vg.now; lv = lv.now; layer = option_map (λ l. l.now) layer })
 words_of (task.SplitName name) = split_words name.now
 
@@ -173,8 +175,9 @@ task_of command rows =
     else (if bytes_eq command (codes "table") then option_map (print_words forms.Table) (files_in rows)
     else (if bytes_eq command (codes "concise") then option_map (print_words forms.Concise) (files_in rows)
     else (if bytes_eq command (codes "check") then option_map check_words (files_in rows)
+    else (if bytes_eq command (codes "replay") then option_map replay_words (files_in rows)
     else (if bytes_eq command (codes "name") then name_in rows
-    else (if bytes_eq command (codes "splitname") then split_in rows else None)))))
+    else (if bytes_eq command (codes "splitname") then split_in rows else None))))))
 
 -- a flag that was given has this text, and one that was not has another
 abbrev pub has_flag : Text → List Row → Bool
@@ -203,6 +206,7 @@ abbrev pub files_of : TaskWords → Option FileWords
 files_of (map_words files) = Some files
 files_of (print_words form files) = Some files
 files_of (check_words files) = Some files
+files_of (replay_words files) = Some files
 files_of (name_words parts) = None
 files_of (split_words name) = None
 

@@ -1,7 +1,7 @@
 //! dmremap maps block requests through device-mapper tables to the disks below.
 //!
-//! This file is the table of contents: `words` reads the command line, `map_whole` and `other_whole`
-//! do the work, and `main` joins them to the real files and streams and does nothing else.
+//! This file is the table of contents: `words` reads the command line, `map_whole`, `replay_whole` and
+//! `other_whole` do the work, and `main` joins them to the real files and streams and does nothing else.
 #![tactic(auto)]
 
 ghost use Rattle.std.specs.Prelude.{◌≡◌, is_some, true};
@@ -12,12 +12,15 @@ mod load;
 mod map_whole;
 mod other_whole;
 mod part_file;
+mod replay_run;
+mod replay_whole;
 mod words;
 
 use dm_table::{Counted, Gathered};
 use map_whole::map_whole;
 use other_whole::other_whole;
 use part_file::PartFile;
+use replay_whole::replay_whole;
 use std::fs::File;
 use std::io;
 use std::process::ExitCode;
@@ -41,6 +44,7 @@ fn answer(rt: &HostRuntime) -> Result<u8, WordsFault> {
     let job = read_words(rt.alloc(), words.as_slice())?;
     match job.task {
         Task::Map(files) => Ok(map_files(rt, files, job.status)),
+        Task::Replay(files) => Ok(replay_files(rt, files)),
         _ => Ok(print_job(rt, &job)),
     }
 }
@@ -74,7 +78,26 @@ fn map_files(rt: &HostRuntime, files: Files<'_>, status: bool) -> u8
     )
 }
 
-/// Does a job that maps no requests.
+/// Replays the requests of the standard input on the disks of files.
+fn replay_files(rt: &HostRuntime, files: Files<'_>) -> u8
+    requires disks { has_its_disks (file_words files) ≡ true }
+{
+    let mut disks = match files.disks {
+        Some(path) => Some(open(rt, path)),
+        None => None,
+    };
+    replay_whole(
+        rt.alloc(),
+        files.format,
+        &mut open(rt, files.file),
+        &mut disks,
+        &mut Counted::new(rt.stdin()),
+        &mut Gathered::new(Counted::new(rt.stdout())),
+        &mut Counted::new(rt.stderr()),
+    )
+}
+
+/// Does a job that has no requests.
 fn print_job(rt: &HostRuntime, job: &Job<'_>) -> u8
     requires other { is_other (words_of job.now.task) ≡ true }
     requires disks { task_has_its_disks (words_of job.now.task) ≡ true }

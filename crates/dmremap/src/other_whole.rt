@@ -1,4 +1,4 @@
-//! The commands but `map`: they print what a load gives or what a name says, and ask for no requests.
+//! The commands without requests: they print what a load gives or what a name says.
 //!
 //! What comes out goes by the words and by the bytes that were delivered, and by nothing else. A new
 //! command is an arm of `print` here and of `TaskSays` in `specs/OtherWhole.antt`.
@@ -46,7 +46,7 @@ pub(crate) enum Printing {
     WriteFault,
 }
 
-/// Does what a command but `map` asks for: prints the devices of a source in a form, once they are
+/// Does what a command without requests asks for: prints the devices of a source in a form, once they are
 /// checked as for `map`; or the report of a check; or the name of a volume; or the parts of one. It
 /// returns the exit status.
 ///
@@ -144,7 +144,7 @@ fn print<S: Input, D: Input, W: Output>(
     ensures output { OutputPrinted W.written W.waiting W.faults W.flushes result output.old output.new }
 {
     match task {
-        Task::Map(_) => unreachable!(),
+        Task::Map(_) | Task::Replay(_) => unreachable!(),
         Task::Print(form, files) => {
             print_devices(alloc, form, files.format, source, disks, output)
         }

@@ -62,6 +62,8 @@ pub enum Task<'a> {
     Print(Form, Files<'a>),
     /// Check the devices of these files, and print whether two of their lines claim one sector.
     Check(Files<'a>),
+    /// Replay the requests of the standard input on the disks of these files.
+    Replay(Files<'a>),
     /// Print the device mapper's name of a volume, or of a layer of it.
     Name {
         vg: &'a str,
@@ -204,6 +206,29 @@ Exit status
 Example
   dmremap check table stack.table disks.txt";
 
+const REPLAY_ABOUT: &str = "Plays the requests of the standard input on the disks of FILE";
+
+const REPLAY_NOTES: &str = "\
+FILE, DISKS and the requests are those of `dmremap map`; each request is of a device that no line
+uses, and `dmremap check` has to print `tidy`. For each request N is printed what its sectors read
+or hold then:
+  N old DISK START LEN      what was there before, at START of the disk
+  N wrote K START LEN       what the request in line K wrote, from START of its device on
+  N zero LEN                zeros, or writes that are thrown away
+  N error LEN               sectors that fail
+
+Exit status
+  0  all requests were answered
+  1  FILE or DISKS was refused, or two lines claim one sector
+  2  the words were refused
+  3  a request was bad, or of no such device
+  4  the requests could not be read
+  5  the output could not be written
+  6  out of memory
+
+Example
+  dmremap replay table stack.table disks.txt < requests.txt";
+
 const NAME_ABOUT: &str = "Prints the device mapper's name of a logical volume";
 
 const NAME_NOTES: &str = "\
@@ -318,6 +343,7 @@ impl<'a> Task<'a> {
             "table" => Some(Task::Print(Form::Table, Files::of_matches(given)?)),
             "concise" => Some(Task::Print(Form::Concise, Files::of_matches(given)?)),
             "check" => Some(Task::Check(Files::of_matches(given)?)),
+            "replay" => Some(Task::Replay(Files::of_matches(given)?)),
             "name" => Task::of_name(given),
             "splitname" => Task::of_split(given),
             _ => None,
@@ -348,7 +374,10 @@ impl<'a> Task<'a> {
         ensures { option_map file_words result ≡ files_of (words_of self.entry) }
     {
         match self {
-            Task::Map(files) | Task::Print(_, files) | Task::Check(files) => Some(files),
+            Task::Map(files)
+            | Task::Print(_, files)
+            | Task::Check(files)
+            | Task::Replay(files) => Some(files),
             Task::Name { .. } | Task::SplitName(_) => None,
         }
     }
@@ -358,7 +387,10 @@ impl<'a> Task<'a> {
         ensures { result ≡ task_has_its_disks (words_of self.entry) }
     {
         match self {
-            Task::Map(files) | Task::Print(_, files) | Task::Check(files) => files.has_its_disks(),
+            Task::Map(files)
+            | Task::Print(_, files)
+            | Task::Check(files)
+            | Task::Replay(files) => files.has_its_disks(),
             Task::Name { .. } | Task::SplitName(_) => true,
         }
     }
@@ -595,6 +627,10 @@ fn program<'a>(alloc: Global) -> Result<Command<'a>, AllocError>
     let line = with_command(
         line,
         source_command(alloc, "check", CHECK_ABOUT, CHECK_NOTES, parser),
+    )?;
+    let line = with_command(
+        line,
+        source_command(alloc, "replay", REPLAY_ABOUT, REPLAY_NOTES, parser),
     )?;
     let line = with_command(line, name_command(alloc))?;
     with_command(line, split_command(alloc))

@@ -53,10 +53,9 @@ fn source_of<'a>(task: Task<'_>, text: &'a str) -> Option<ShortIn<'a>>
     ensures { is_some result ≡ has_source (words_of task.entry) }
 {
     match task {
-        Task::Map(_) | Task::Print(_, _) | Task::Check(_) => Some(ShortIn::new(
-            text.as_bytes(),
-            PLENTY,
-        )),
+        Task::Map(_) | Task::Print(_, _) | Task::Check(_) | Task::Replay(_) => {
+            Some(ShortIn::new(text.as_bytes(), PLENTY))
+        }
         Task::Name { .. } | Task::SplitName(_) => None,
     }
 }
@@ -66,7 +65,10 @@ fn disks_of<'a>(task: Task<'_>, text: &'a str) -> Option<ShortIn<'a>>
     ensures { is_some result ≡ has_list (words_of task.entry) }
 {
     match task {
-        Task::Map(files) | Task::Print(_, files) | Task::Check(files) => {
+        Task::Map(files)
+        | Task::Print(_, files)
+        | Task::Check(files)
+        | Task::Replay(files) => {
             if files.format.has_disk_list() {
                 Some(ShortIn::new(text.as_bytes(), 1))
             } else {

@@ -15,7 +15,7 @@ const TABLE: &str = r#"Files { format: Table, file: "a.table", disks: Some("a.di
 const BACKUP: &str = r#"Files { format: Lvm, file: "vg0.backup", disks: None }"#;
 
 /// Words, how the task that they ask for begins, and its texts.
-static TASKS: [(&[&str], &str, &str); 11] = [
+static TASKS: [(&[&str], &str, &str); 12] = [
     (
         &["dmremap", "map", "table", "a.table", "a.disks"],
         "Map(",
@@ -45,6 +45,11 @@ static TASKS: [(&[&str], &str, &str); 11] = [
     (
         &["dmremap", "check", "table", "a.table", "a.disks"],
         "Check(",
+        TABLE,
+    ),
+    (
+        &["dmremap", "replay", "table", "a.table", "a.disks"],
+        "Replay(",
         TABLE,
     ),
     (
@@ -157,8 +162,8 @@ static REFUSED: [(&[&str], &str); 22] = [
         "invalid value 'lvm2' for '<FORMAT>'",
     ),
     (
-        &["dmremap", "replay", "table", "a", "b"],
-        "unrecognized subcommand 'replay'",
+        &["dmremap", "explain", "table", "a", "b"],
+        "unrecognized subcommand 'explain'",
     ),
     (
         &["dmremap", "map", "table", "a", "b", "--status", "--status"],
@@ -216,7 +221,7 @@ fn other_words_are_refused(rt: HostRuntime) {
 }
 
 /// Words that ask for help, and what it tells.
-static HELP: [(&[&str], &str, &str); 10] = [
+static HELP: [(&[&str], &str, &str); 11] = [
     (
         &["dmremap", "--help"],
         "Usage: dmremap [OPTIONS] <COMMAND>",
@@ -256,6 +261,11 @@ static HELP: [(&[&str], &str, &str); 10] = [
         &["dmremap", "check", "-h"],
         "check <FORMAT> <FILE> [DISKS]",
         "clash LOWER SECTOR FIRST SECOND",
+    ),
+    (
+        &["dmremap", "replay", "-h"],
+        "replay <FORMAT> <FILE> [DISKS]",
+        "dmremap replay table",
     ),
     (
         &["dmremap", "name", "-h"],

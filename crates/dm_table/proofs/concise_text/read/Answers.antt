@@ -9,7 +9,7 @@ use Rattle.dm_table.proofs.concise_text.read.Goals as goal
 
 pub returns-in-Ok : goal.returns-in-Ok
 returns-in-Ok c =
-    let same = read_concise-parts c.args.text.now c.without_newline.result.now (texts c.deref.result.now) c.without_newline.ensures (rw c.deref.ensures.value c.in-Ok.ensures) in
+    let same = read_concise-parts c.args.text.now c.without_newline-text.result.now (texts c.deref.result.now) c.without_newline-text.ensures (rw c.deref.ensures.value c.in-Ok.ensures) in
     read_as_promised c.args.text.now c.read_parts.result (subst (λ (x : Result (List DeviceSpec) LoadFault). Answers Source (λ v. v.items) c.read_parts.result x) same c.read_parts.ensures)
 
 pub returns-in-Err : goal.returns-in-Err

@@ -26,10 +26,11 @@ returns c =
     let alone : app_of c.arg_required_else_help.result ≡ bare_app = shows
     ∙ ap (on_top (λ s. record s { arg_required_else_help = true })) (asks ∙ ap (on_top (λ s. record s { subcommand_required = true })) named) in
     let bare : app_of c.in_ok-line.line ≡ program_app = c.in_ok-line.ensures.shape c.flag.ensures.local ∙ ap₂ with_rule alone c.flag.ensures.rule in
-    whole parser (app_of c.in_ok-line-6.line) c.with_command-6.result c.format_parser-parser.ensures (ap (λ (a : App). with_subcommand a split_app.top)
-    (c.in_ok-line-6.ensures name_app c.name_command.ensures ∙ ap (λ (a : App). with_subcommand a name_app.top)
+    whole parser (app_of c.in_ok-line-7.line) c.with_command-7.result c.format_parser-parser.ensures (ap (λ (a : App). with_subcommand a split_app.top)
+    (c.in_ok-line-7.ensures name_app c.name_command.ensures ∙ ap (λ (a : App). with_subcommand a name_app.top)
+    (c.in_ok-line-6.ensures (source_app (codes "replay") parser) c.source_command-4.ensures ∙ ap (λ (a : App). with_subcommand a (source_app (codes "replay") parser).top)
     (c.in_ok-line-5.ensures (source_app (codes "check") parser) c.source_command-3.ensures ∙ ap (λ (a : App). with_subcommand a (source_app (codes "check") parser).top)
     (c.in_ok-line-4.ensures (source_app (codes "concise") parser) c.source_command-2.ensures ∙ ap (λ (a : App). with_subcommand a (source_app (codes "concise") parser).top)
     (c.in_ok-line-3.ensures (source_app (codes "table") parser) c.source_command.ensures ∙ ap (λ (a : App). with_subcommand a (source_app (codes "table") parser).top)
-    (c.in_ok-line-2.ensures (map_app parser) c.map_command.ensures ∙ ap (λ (a : App). with_subcommand a (map_app parser).top) bare))))))
-    (c.with_command-6.ensures split_app c.split_command.ensures)
+    (c.in_ok-line-2.ensures (map_app parser) c.map_command.ensures ∙ ap (λ (a : App). with_subcommand a (map_app parser).top) bare)))))))
+    (c.with_command-7.ensures split_app c.split_command.ensures)

@@ -1,7 +1,12 @@
 use Rattle.std.proofs.Common.{◌∷◌, ◌++◌, [], ℕ, List, refl, sym, ap, ◌∙◌, subst}
+use Rattle.dm_stack.specs.Description.{device_id}
 use Rattle.dm_replay.specs.Histories.{Asked, asked_answers, world_after}
 use Rattle.dm_replay.specs.Replay.{HasTop, IsGoing, Replaying, asked_request, whole_request}
+use Rattle.dm_replay.specs.Rows.{AreOfRow, rows_after}
+use Rattle.dm_replay.specs.Runs.{flat}
+use Rattle.dm_replay.specs.Values.{Answer}
 use Rattle.dm_replay.proofs.NamedLemmas.{named_id}
+use Rattle.dm_replay.proofs.OwnReads.{own_answers}
 use Rattle.dm_replay.proofs.WorldLemmas.{answers_after, going_next}
 use Rattle.dm_replay.proofs.replay.Replay.request.Goals as goal
 
@@ -21,7 +26,7 @@ invariant_of-self-2 g c =
       tidy = c.self.invariant.tidy;
       going = λ _. subst (λ (all : List Asked). IsGoing inside.stack.now c.play_request.new.mapper newer.stack.now newer.playing.values.patches.items all)
           (ap (λ (asked : Asked). inside.asked.items ++ asked ∷ []) (sym c.new.ensures) ∙ sym c.in-Ok-push.ensures.items)
-          (going_next inside.stack.now inside.player.stack.now newer.stack.now inside.mapper c.play_request.new.mapper inside.player.playing.values.patches.items newer.playing.values.patches.items inside.asked.items request c.in-Some.device
+          (going_next inside.stack.now inside.player.stack.now newer.stack.now inside.mapper c.play_request.new.mapper inside.player.playing.values.patches.items newer.playing.values.patches.items inside.asked.items request c.in-Some.device c.in-Some.ensures.some.1
           (c.self.invariant.going c.if-self.false) did.going did.stack did.same_stack did.state did.values did.disks);
     }
 
@@ -36,3 +41,13 @@ pub returns-clause-top : goal.returns-clause-top
 returns-clause-top g c =
     let found = c.in-Some.ensures.some in
     subst (λ (r : Replaying). HasTop r.stack c.args.request.now.device.now) c.self.view_is (record { id = c.in-Some.device; named = found.0; top = found.1 })
+
+pub returns-clause-own : goal.returns-clause-own
+returns-clause-own g c reads =
+    let inside = c.self.inside in let request = c.args.request.now in let did = c.in-Ok.ensures in let going = c.self.invariant.going c.if-self.false in
+    let asked = whole_request request c.in-Some.device in
+    subst (λ (r : Replaying). AreOfRow (rows_after r.stack r.asked) (device_id r.stack request.device.now) request.start (flat c.in-Ok.runs.items)) c.self.view_is
+    (subst (λ (id : ℕ). AreOfRow (rows_after inside.stack.now inside.asked.items) id request.start (flat c.in-Ok.runs.items)) (named_id inside.stack.now request.device.now c.in-Some.device c.in-Some.ensures.some.0)
+    (subst (λ (answers : List Answer). AreOfRow (rows_after inside.stack.now inside.asked.items) c.in-Some.device request.start answers)
+    (sym (answers_after inside.stack.now inside.player.stack.now inside.mapper inside.player.playing.values.patches.items inside.asked.items request c.in-Some.device c.in-Ok.runs.items going did.answers))
+    (own_answers inside.stack.now inside.asked.items asked c.requests_are_alone.ensures.start c.requests_are_alone.ensures.request c.self.invariant.tidy going.asked_are (record { top = c.in-Some.ensures.some.1; whole = refl }) reads)))

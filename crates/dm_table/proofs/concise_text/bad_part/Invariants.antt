@@ -5,7 +5,7 @@ use Rattle.dm_table.specs.declared.load_fault.LoadKind.TheVariants.{NotText}
 use Rattle.dm_table.specs.Fields.{texts}
 use Rattle.dm_table.specs.LoadFault.{faults_from}
 use Rattle.dm_table.specs.ConciseText.{is_printed}
-use Rattle.dm_table.proofs.concise_text.not_text.Given as goal
+use Rattle.dm_table.proofs.concise_text.bad_part.Given as goal
 
 abbrev pub invariant-loop-index : goal.invariant-loop-index
 invariant-loop-index l =

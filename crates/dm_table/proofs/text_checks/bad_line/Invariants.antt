@@ -3,7 +3,7 @@ use Rattle.std.proofs.Common.{◌≡◌, ◌+◌, not, drop}
 use Rattle.dm_table.specs.declared.load_fault.LoadKind.TheVariants.{NotText}
 use Rattle.dm_table.specs.Fields.{texts}
 use Rattle.dm_table.specs.LoadFault.{faults_from, is_text}
-use Rattle.dm_table.proofs.text_checks.not_text.Given as goal
+use Rattle.dm_table.proofs.text_checks.bad_line.Given as goal
 
 abbrev pub invariant-loop-index : goal.invariant-loop-index
 invariant-loop-index l =

@@ -1,0 +1,86 @@
+-- What a read of a top device answers, where no claims meet: what the device would hold alone, or an error.
+use Rattle.std.proofs.Common.{◌≡◌, ◌⊎◌, inl, inr, ℕ, zero, suc, ◌+◌, Bool, true, false, cond, List, [], ◌∷◌, Option, nat_lt, replicate, refl, sym, ap, subst}
+use Rattle.std.specs.List.{AllByRecursion}
+use Rattle.dm_table.specs.declared.request.Op.TheVariants as ops
+use Rattle.dm_stack.specs.declared.graph.TheConstants.{MOST_DEPTH}
+use Rattle.dm_stack.specs.declared.id.Lower.TheVariants.{Device}
+use Rattle.dm_stack.specs.Claims.{IsTidy, IsTop}
+use Rattle.dm_stack.specs.Description.{Description, device_len}
+use Rattle.dm_map.specs.Contents.{Stays, content}
+use Rattle.dm_map.specs.Mapping.{request_step, sector_step}
+use Rattle.dm_map.specs.SnapshotWrites.{read}
+use Rattle.dm_map.specs.State.{State}
+use Rattle.dm_map.specs.Steps.{keep, steps}
+use Rattle.dm_map.specs.Units.{BlockUnit, ReadOf, Zeros, Fails}
+use Rattle.dm_map.proofs.Made.{IsRead, Sector, Nothing, Fault, is_read}
+use Rattle.dm_replay.specs.declared.value.Value.{Value}
+use Rattle.dm_replay.specs.declared.value.Value.TheVariants as value
+use Rattle.dm_replay.specs.Histories.{Asked, World, asked_answers, world_after}
+use Rattle.dm_replay.specs.Replay.{IsWholeOfTop}
+use Rattle.dm_replay.specs.Rows.{AreOfRow, Rows, read_answer, rows_after}
+use Rattle.dm_replay.specs.Values.{Gives, Failed, Values, played_answers}
+use Rattle.dm_replay.proofs.OwnWorlds.{BeginsOwn, IsOwn, StaysOwn, answer_of, own_after, read_same}
+
+-- one sector after the other
+abbrev AreRead : Description → State → Values → Rows → (device : ℕ) → Type 0
+AreRead stack state values rows device = (sector : ℕ) → (read_answer (read stack state (Device device) sector) values ≡ rows device sector) ⊎ (read_answer (read stack state (Device device) sector) values ≡ Failed)
+
+read_of : (row given : Option Value) → Stays row given → (answer_of given ≡ answer_of row) ⊎ (answer_of given ≡ Failed)
+read_of row given (inl same) = inl (ap answer_of same)
+read_of row given (inr gone) = inr (ap answer_of gone)
+
+are_read : (stack : Description) (world : World) (rows : Rows) (device : ℕ) → IsTop stack device → IsOwn stack world rows → AreRead stack world.state world.values rows device
+are_read stack world rows device top is sector =
+    let unit = read stack world.state (Device device) sector in
+    rw (is.same device sector, read_same unit world.values) (read_of (is.kept device sector) (content value.Zero stack world.state world.values (Device device) sector) (is.own.tops device sector top))
+
+first_of_row : (number device sector : ℕ) (unit : BlockUnit) (units : List BlockUnit) (values : Values) (rows : Rows) → IsRead unit → (read_answer unit values ≡ rows device sector) ⊎ (read_answer unit values ≡ Failed)
+    → AreOfRow rows device (suc sector) (played_answers number (suc sector) units values) → AreOfRow rows device sector (played_answers number sector (unit ∷ units) values)
+unfolding played_answers
+first_of_row number device sector unit units values rows (Sector disk at is) first later =
+    subst (λ (u : BlockUnit). AreOfRow rows device sector (played_answers number sector (u ∷ units) values)) (sym is)
+    (on_disk (subst (λ (u : BlockUnit). (read_answer u values ≡ rows device sector) ⊎ (read_answer u values ≡ Failed)) is first))
+  where
+    on_disk : (Gives (values disk at) ≡ rows device sector) ⊎ (Gives (values disk at) ≡ Failed) → AreOfRow rows device sector (played_answers number sector (ReadOf disk at ∷ units) values)
+    on_disk here = (here, later)
+first_of_row number device sector unit units values rows (Nothing is) first later =
+    subst (λ (u : BlockUnit). AreOfRow rows device sector (played_answers number sector (u ∷ units) values)) (sym is)
+    (of_zeros (subst (λ (u : BlockUnit). (read_answer u values ≡ rows device sector) ⊎ (read_answer u values ≡ Failed)) is first))
+  where
+    of_zeros : (Gives value.Zero ≡ rows device sector) ⊎ (Gives value.Zero ≡ Failed) → AreOfRow rows device sector (played_answers number sector (Zeros ∷ units) values)
+    of_zeros here = (here, later)
+first_of_row number device sector unit units values rows (Fault is) first later =
+    subst (λ (u : BlockUnit). AreOfRow rows device sector (played_answers number sector (u ∷ units) values)) (sym is) of_nothing
+  where
+    of_nothing : AreOfRow rows device sector (played_answers number sector (Fails ∷ units) values)
+    of_nothing = (inr refl, later)
+
+reads_of_row : (stack : Description) (state : State) (number device start len : ℕ) (values : Values) (rows : Rows) → AreRead stack state values rows device
+    → AreOfRow rows device start (played_answers number start (steps (sector_step stack ops.Read MOST_DEPTH (Device device)) state start len).units values)
+unfolding played_answers
+reads_of_row stack state number device start zero values rows each = none_of_row
+  where
+    none_of_row : AreOfRow rows device start (played_answers number start [] values)
+    none_of_row = tt
+reads_of_row stack state number device start (suc len) values rows each =
+    first_of_row number device start (read stack state (Device device) start) (steps (sector_step stack ops.Read MOST_DEPTH (Device device)) state (suc start) len).units values rows
+    (is_read stack state MOST_DEPTH (Device device) start) (each start) (reads_of_row stack state number device (suc start) len values rows each)
+
+errors_of_row : (number device start len : ℕ) (values : Values) (rows : Rows) → AreOfRow rows device start (played_answers number start (replicate len Fails) values)
+unfolding played_answers
+errors_of_row number device start zero values rows = tt
+errors_of_row number device start (suc len) values rows = (inr refl, errors_of_row number device (suc start) len values rows)
+
+request_of_row : (stack : Description) (state : State) (number device start len : ℕ) (values : Values) (rows : Rows) → AreRead stack state values rows device
+    → AreOfRow rows device start (played_answers number start (request_step stack ops.Read device start len state).units values)
+request_of_row stack state number device start len values rows each = by_end (nat_lt (device_len stack device) (start + len))
+  where
+    by_end : (past : Bool) → AreOfRow rows device start (played_answers number start (cond past (keep (replicate len Fails) state) (steps (sector_step stack ops.Read MOST_DEPTH (Device device)) state start len)).units values)
+    by_end true = errors_of_row number device start len values rows
+    by_end false = reads_of_row stack state number device start len values rows each
+
+pub own_answers : (stack : Description) (all : List Asked) (asked : Asked) → BeginsOwn stack → StaysOwn stack → IsTidy stack → AllByRecursion (IsWholeOfTop stack) all → IsWholeOfTop stack asked → asked.op ≡ ops.Read
+    → AreOfRow (rows_after stack all) asked.device asked.start (asked_answers stack (world_after stack all) asked)
+own_answers stack all asked begins stays tidy each of reads =
+    let world = world_after stack all in let rows = rows_after stack all in
+    rw (of.whole, reads) (request_of_row stack world.state asked.number asked.device asked.start asked.len world.values rows (are_read stack world rows asked.device of.top (own_after stack all begins stays tidy each)))

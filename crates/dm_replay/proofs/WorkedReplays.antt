@@ -1,0 +1,65 @@
+-- Replays worked by hand, against which the definitions are checked.
+use Rattle.std.proofs.Common.{◌≡◌, ℕ, false, List, [], ◌∷◌, None, refl}
+use Rattle.dm_table.specs.declared.request.Op.{Op}
+use Rattle.dm_table.specs.declared.request.Op.TheVariants.{Read, Write}
+use Rattle.dm_table.specs.declared.table.DevRef.TheVariants as refs
+use Rattle.dm_table.specs.declared.table.Target.TheVariants as targets
+use Rattle.dm_stack.specs.Description.{Description}
+use Rattle.dm_map.specs.Homes.{home_to}
+use Rattle.dm_map.specs.Mapping.{write_step}
+use Rattle.dm_map.specs.Reads.{read_unit}
+use Rattle.dm_map.proofs.WorkedRows.{device, disk, line}
+use Rattle.dm_replay.specs.declared.value.Value.TheVariants as value
+use Rattle.dm_replay.specs.Histories.{Asked, asked_answers, world_after, world_from}
+use Rattle.dm_replay.specs.Rows.{row_units, rows_after, rows_from}
+use Rattle.dm_replay.specs.Values.{Gives, Failed, played, played_answers}
+
+-- s, of four sectors, and t, of two, over disk 0; the store of s is disk 1 and has a place for one chunk, that of t is disk 2
+abbrev sample : Description
+sample = record {
+  devices = device 115 false (line 0 4 (targets.Snapshot (refs.Disk (48 ∷ [])) (refs.Disk (49 ∷ [])) 2) ∷ [])
+      ∷ device 116 false (line 0 2 (targets.Snapshot (refs.Disk (48 ∷ [])) (refs.Disk (50 ∷ [])) 2) ∷ []) ∷ [];
+  disks = disk 48 4 ∷ disk 49 6 ∷ disk 50 6 ∷ [];
+}
+
+abbrev request : (number : ℕ) → Op → (device start len : ℕ) → Asked
+request number op device start len = record { number = number; op = op; device = device; start = start; len = len; stopped_after = None }
+
+-- request 1 writes the first sector of s, and request 2 that of t
+abbrev written : List Asked
+written = request 1 Write 0 0 1 ∷ request 2 Write 1 0 1 ∷ []
+
+-- neither reads what the other wrote, and each is like its row
+own_read : asked_answers sample (world_after sample written) (request 3 Read 0 0 3) ≡ Gives (value.Wrote 1 0) ∷ Gives (value.Old 0 1) ∷ Gives (value.Old 0 2) ∷ []
+unfolding world_from played played_answers write_step read_unit home_to
+own_read = refl
+
+other_read : asked_answers sample (world_after sample written) (request 3 Read 1 0 2) ≡ Gives (value.Wrote 2 0) ∷ Gives (value.Old 0 1) ∷ []
+unfolding world_from played played_answers write_step read_unit home_to
+other_read = refl
+
+own_row : rows_after sample written 0 0 ≡ Gives (value.Wrote 1 0)
+unfolding rows_from row_units write_step read_unit home_to
+own_row = refl
+
+other_row : rows_after sample written 1 0 ≡ Gives (value.Wrote 2 0)
+unfolding rows_from row_units write_step read_unit home_to
+other_row = refl
+
+-- request 3 takes a second chunk of s, for which there is no place
+abbrev overfull : List Asked
+overfull = request 1 Write 0 0 1 ∷ request 2 Write 1 0 1 ∷ request 3 Write 0 2 1 ∷ []
+
+-- s is lost: its row stays, and its sectors are errors
+lost_read : asked_answers sample (world_after sample overfull) (request 4 Read 0 0 3) ≡ Failed ∷ Failed ∷ Failed ∷ []
+unfolding world_from played played_answers write_step read_unit home_to
+lost_read = refl
+
+lost_row : rows_after sample overfull 0 0 ≡ Gives (value.Wrote 1 0)
+unfolding rows_from row_units write_step read_unit home_to
+lost_row = refl
+
+-- the write that failed is in no row
+failed_row : rows_after sample overfull 0 2 ≡ Gives (value.Old 0 2)
+unfolding rows_from row_units write_step read_unit home_to
+failed_row = refl

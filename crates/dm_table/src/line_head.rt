@@ -1,0 +1,163 @@
+//! The line of a table as texts that put themselves into a block: all but the columns of a striped
+//! line, and one column.
+//!
+//! Such a text has a greatest length, and a striped line has none. A new target is an arm of
+//! `put_target` here, and of `target_head` in `specs/LineHead.antt`.
+
+ghost use Rattle.std.specs.Prelude.{◌≡◌, ◌++◌, ◌+◌, ◌<◌, ◌≤◌, ◌∷◌, length, take, decimal};
+ghost use Rattle.dm_table.specs.LineBody.{column_text, dev_text};
+ghost use Rattle.dm_table.specs.LineHead.{body_head, target_head};
+
+use crate::block::{put_bytes, put_digits};
+use crate::table::{Column, DevRef, Line, Target};
+use crate::text::Text;
+use std::marker::Model;
+
+/// A line after its label, without its columns.
+#[derive(Drop)]
+pub(crate) struct LineHead<'a> {
+    name: &'a [u8],
+    mark: &'a [u8],
+    line: &'a Line,
+}
+
+impl<'a> Model for LineHead<'a> {
+    ghost use Rattle.std.specs.Prelude.{ℕ, List, length, ◌≤◌, ◌++◌};
+    ghost use Rattle.dm_table.specs.LineHead.{body_head};
+
+    ghost Value = { List ℕ };
+
+    ghost view = { λ head. head.name.now ++ head.mark.now ++ body_head head.line.now };
+
+    ghost invariant = { λ head. (length head.name.now ≤ 127) × (length head.mark.now ≤ 2) };
+}
+
+impl<'a> LineHead<'a> {
+    /// A line after a label: a name and what stands behind it.
+    #[inline(always)]
+    pub(crate) fn new(name: &'a [u8], mark: &'a [u8], line: &'a Line) -> LineHead<'a>
+        requires name { length name.now ≤ 127 }
+        requires mark { length mark.now ≤ 2 }
+        ensures text { result ≡ name.now ++ mark.now ++ body_head line.now }
+        ensures some { 0 < length result }
+    {
+        LineHead { name, mark, line }
+    }
+}
+
+impl<'a> Text for LineHead<'a> {
+    ghost text = { λ head. head };
+
+    #[inline(always)]
+    fn put_into(&self, block: &mut [u8], at: usize) -> usize {
+        let at = put_bytes(block, at, self.name);
+        let at = put_bytes(block, at, self.mark);
+        put_head(block, at, self.line)
+    }
+}
+
+/// A column after a space.
+#[derive(Drop)]
+pub(crate) struct ColumnText<'a> {
+    column: &'a Column,
+}
+
+impl<'a> Model for ColumnText<'a> {
+    ghost use Rattle.std.specs.Prelude.{ℕ, List};
+    ghost use Rattle.dm_table.specs.LineBody.{column_text};
+
+    ghost Value = { List ℕ };
+
+    ghost view = { λ text. column_text text.column.now };
+}
+
+impl<'a> ColumnText<'a> {
+    #[inline(always)]
+    pub(crate) fn new(column: &'a Column) -> ColumnText<'a>
+        ensures text { result ≡ column_text column.now }
+        ensures some { 0 < length result }
+    {
+        ColumnText { column }
+    }
+}
+
+impl<'a> Text for ColumnText<'a> {
+    ghost text = { λ text. text };
+
+    fn put_into(&self, block: &mut [u8], at: usize) -> usize {
+        let at = put_bytes(block, at, b" ");
+        let at = put_dev(block, at, &self.column.to);
+        let at = put_bytes(block, at, b" ");
+        put_digits(block, at, self.column.offset)
+    }
+}
+
+/// Puts a body without its columns at a place of a block, and returns where it ends.
+#[inline(always)]
+fn put_head(block: &mut [u8], at: usize, line: &Line) -> usize
+    requires room { at + 650 ≤ length block.old }
+    ensures few { result ≤ at + 650 }
+    ensures end { result ≡ at + length (body_head line.now) }
+    ensures text { take result block.new ≡ take at block.old ++ body_head line.now }
+{
+    let at = put_digits(block, at, line.start);
+    let at = put_bytes(block, at, b" ");
+    let at = put_digits(block, at, line.len);
+    let at = put_bytes(block, at, b" ");
+    put_target(block, at, &line.target)
+}
+
+/// Puts a target without its columns.
+#[inline(always)]
+fn put_target(block: &mut [u8], at: usize, target: &Target) -> usize
+    requires room { at + 600 ≤ length block.old }
+    ensures few { result ≤ at + 600 }
+    ensures end { result ≡ at + length (target_head target.now) }
+    ensures text { take result block.new ≡ take at block.old ++ target_head target.now }
+{
+    match target {
+        Target::Linear { to, offset } => {
+            let at = put_bytes(block, at, b"linear ");
+            let at = put_dev(block, at, to);
+            let at = put_bytes(block, at, b" ");
+            put_digits(block, at, *offset)
+        }
+        Target::Striped { chunk, columns } => {
+            let at = put_bytes(block, at, b"striped ");
+            let at = put_digits(block, at, columns.as_slice().len() as u64);
+            let at = put_bytes(block, at, b" ");
+            put_digits(block, at, *chunk)
+        }
+        Target::Zero => put_bytes(block, at, b"zero"),
+        Target::Error => put_bytes(block, at, b"error"),
+        Target::Snapshot {
+            origin,
+            store,
+            chunk,
+        } => {
+            let at = put_bytes(block, at, b"snapshot ");
+            let at = put_dev(block, at, origin);
+            let at = put_bytes(block, at, b" ");
+            let at = put_dev(block, at, store);
+            let at = put_bytes(block, at, b" P ");
+            put_digits(block, at, *chunk)
+        }
+    }
+}
+
+/// Puts the name of a lower device.
+#[tactic(auto, using(crate::proofs::ByteLemmas::device_name_len, crate::proofs::ByteLemmas::disk_name_len))]
+fn put_dev(block: &mut [u8], at: usize, dev: &DevRef) -> usize
+    requires room { at + 255 ≤ length block.old }
+    ensures few { result ≤ at + 255 }
+    ensures end { result ≡ at + length (dev_text dev.now) }
+    ensures text { take result block.new ≡ take at block.old ++ dev_text dev.now }
+{
+    match dev {
+        DevRef::Device(name) => {
+            let at = put_bytes(block, at, b"/dev/mapper/");
+            put_bytes(block, at, name.as_str().as_bytes())
+        }
+        DevRef::Disk(name) => put_bytes(block, at, name.as_str().as_bytes()),
+    }
+}

@@ -1,0 +1,63 @@
+use Rattle.std.proofs.Common.{◌≡◌, ◌∙◌, refl, sym, ap, subst, rules, Err}
+use Rattle.dm_stack.specs.Description.{Description}
+use Rattle.dm_stream.specs.ProgressLaws.{written_none}
+use Rattle.dm_stream.specs.Requests.{numbered}
+use Rattle.dm_table.specs.DeviceIo.{since}
+use Rattle.dm_table.specs.WriteAll.{IsCutShort}
+use Rattle.dm_replay.specs.declared.replay_fault.ReplayFault.TheVariants as faults
+use Rattle.dm_replay.specs.Replay.{IsNotAnswered}
+use Rattle.dm_replay.specs.RunText.{runs_text}
+use Rattle.dmremap.specs.ReplayOutcome.{IsOfNone, IsOfTop}
+use Rattle.dmremap.proofs.ReplayLemmas.{at_fault, one_cut, one_played, one_stopped}
+use Rattle.dmremap.proofs.replay_run.RequestPlayerHandler.handle.Goals as goal
+
+pub returns-in-Ok-write_runs-clause-answered : goal.returns-in-Ok-write_runs-clause-answered
+returns-in-Ok-write_runs-clause-answered g c =
+    let replay = c.args.replay.now in
+    let request = numbered c.args.request.now in
+    let did = c.in-Ok.ensures in
+    let wrote = c.in-Ok-write_runs.ensures in
+    let same : c.deref.result.now ≡ c.in-Ok.runs.items = search rules in (
+      one_played replay.stack replay.asked c.request.new.self.asked request c.in-Ok.runs.items (g.W.Output.written c.args.self.now.output.now) (g.W.Output.written c.write_runs.new.writer) did.top did.runs did.answers did.asked
+          (wrote.ok ∙ ap (λ (stack : Description). runs_text stack request.number c.deref.result.now) (sym c.requires.0) ∙ ap (runs_text replay.stack request.number) same),
+      record { appends = wrote.appends; waits = wrote.waits; fails = wrote.failed; unflushed = wrote.flushed },
+      did.stack,
+      refl,
+    )
+
+pub returns-in-Ok-clause-stopped : goal.returns-in-Ok-clause-stopped
+returns-in-Ok-clause-stopped g c =
+    let replay = c.args.replay.now in
+    let request = numbered c.args.request.now in
+    let did = c.in-Ok.ensures in
+    let wrote = c.in-Err.ensures in
+    let text = since (g.W.Output.written c.args.self.now.output.now) (g.W.Output.written c.write_runs.new.writer) in
+    let same : c.deref.result.now ≡ c.in-Ok.runs.items = search rules in (
+      one_cut replay.stack replay.asked request c.in-Ok.runs.items text did.top did.runs did.answers
+          (subst (λ items. IsCutShort (runs_text replay.stack request.number items) text) same
+          (subst (λ (stack : Description). IsCutShort (runs_text stack request.number c.deref.result.now) text) (sym c.requires.0) wrote.left)),
+      record { appends = wrote.appends; waits = wrote.waits; fails = wrote.failed; unflushed = wrote.flushed },
+      refl,
+    )
+
+pub returns-in-Err-NotTop-clause-stopped : goal.returns-in-Err-NotTop-clause-stopped
+returns-in-Err-NotTop-clause-stopped g c =
+    let replay = c.args.replay.now in
+    let request = numbered c.args.request.now in
+    let output = c.args.self.now.output.now in
+    let why = at_fault c.request.result faults.NotTop (λ fault. IsNotAnswered fault request.values.device replay c.request.new.self) (c.in-Err-NotTop.is ∙ ap Err c.in-Err-NotTop.field-0-is) c.request.ensures.fault in (
+      one_stopped (IsOfNone replay.stack request.number) replay.stack replay.asked request (g.W.Output.written output) (record { of_number = refl; none = why.1 }),
+      written_none g.W.Output.written g.W.Output.waiting g.W.Output.faults g.W.Output.flushes output,
+      refl,
+    )
+
+pub returns-in-Err-Memory-clause-stopped : goal.returns-in-Err-Memory-clause-stopped
+returns-in-Err-Memory-clause-stopped g c =
+    let replay = c.args.replay.now in
+    let request = numbered c.args.request.now in
+    let output = c.args.self.now.output.now in
+    let why = at_fault c.request.result faults.Memory (λ fault. IsNotAnswered fault request.values.device replay c.request.new.self) (c.in-Err-Memory.is ∙ ap Err c.in-Err-Memory.field-0-is) c.request.ensures.fault in (
+      one_stopped (IsOfTop replay.stack) replay.stack replay.asked request (g.W.Output.written output) why.1,
+      written_none g.W.Output.written g.W.Output.waiting g.W.Output.faults g.W.Output.flushes output,
+      refl,
+    )

@@ -1,0 +1,8 @@
+use Rattle.dmremap.proofs.replay_whole.replay_stack.Goals as goal
+
+pub returns-in-Ok-clause-exit : goal.returns-in-Ok-clause-exit
+returns-in-Ok-clause-exit g c =
+    (c.in-Ok.ensures.tidy, (c.close.ensures.closed _ _ _ c.play_requests-ended.ensures.writes c.play_requests-ended.ensures.played).0)
+
+pub returns-in-Ok-clause-output : goal.returns-in-Ok-clause-output
+returns-in-Ok-clause-output g c = (c.close.ensures.closed _ _ _ c.play_requests-ended.ensures.writes c.play_requests-ended.ensures.played).1

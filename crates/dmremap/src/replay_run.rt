@@ -1,0 +1,171 @@
+//! Playing requests to an output: the handler of a replay, and the run of its lines.
+//!
+//! `specs/ReplayOutcome.antt` says what is written and where it ends, and `specs/Played.antt` what one
+//! request adds to it.
+
+ghost use Rattle.std.specs.Prelude.{◌≡◌, ◌∷◌, [], false, length, IfErr, OnOk, OnErr};
+ghost use Rattle.dm_table.specs.DeviceIo.{delivery, since};
+ghost use Rattle.dm_stream.specs.Progress.{HasRead, HasWritten};
+ghost use Rattle.dm_stream.specs.ProgressLaws.{written_none, written_more};
+ghost use Rattle.dm_stream.specs.Requests.{numbered, requests_of};
+ghost use Rattle.dm_replay.specs.Replay.{new_replay};
+ghost use Rattle.dmremap.specs.Played.{HasPlayed, HasStopped, end_for, failed_writes};
+ghost use Rattle.dmremap.specs.PlayedLaws.{played_none, played_more, stopped_more};
+ghost use Rattle.dmremap.specs.ReplayOutcome.{HasMetEnd, IsPlayed, end_faults};
+ghost use Rattle.std.proofs.Common.{refl, ap, sym, subst, ◌∙◌};
+
+use dm_map::RunTaken;
+use dm_replay::{Replay, ReplayFault, write_runs};
+use dm_stack::Stack;
+use dm_stream::{Ending, Handler, handle_requests};
+use dm_table::{Input, OutFault, Output, Request};
+use std::alloc::Global;
+
+/// Where a replay of requests ends.
+#[derive(Clone, Copy, PartialEq, Eq)]
+pub(crate) enum ReplayEnd {
+    /// At the end of the requests, at a bad line, or where reading or writing failed.
+    Ran(Ending),
+    /// The request of this number names no top device; those before it were answered.
+    NotTop(u64),
+    /// Memory ran out at a request; those before it were answered.
+    Memory,
+}
+
+/// Why a request was not played, or its answer not written.
+#[derive(Clone, Copy)]
+pub(crate) enum NotPlayed {
+    /// The request of this number names no top device.
+    NotTop(u64),
+    /// Memory ran out.
+    Memory,
+    /// Writing the answer failed.
+    Output,
+}
+
+/// Plays requests, and writes what their sectors answer.
+#[derive(Drop)]
+struct RequestPlayer<'m, 's, W> {
+    alloc: Global,
+    stack: &'s Stack,
+    output: &'m mut W,
+}
+
+impl<'s, W: Output> Handler for RequestPlayer<'_, 's, W> {
+    type Source = Replay<'s, RunTaken>;
+
+    type Fault = NotPlayed;
+
+    ghost ready = { λ h replay. (replay.stack ≡ h.stack.now) × (replay.stopped ≡ false) };
+
+    ghost answered = { λ old before requests new after.
+        HasPlayed before.stack before.asked after.asked requests (W.written old.output.now) (W.written new.output.now)
+        × HasWritten W.written W.waiting W.faults W.flushes old.output.now new.output.now 0
+        × (after.stack ≡ before.stack)
+        × (new.output.ghost_name ≡ old.output.ghost_name) };
+
+    ghost stopped = { λ old before requests fault new after.
+        HasStopped before.stack fault before.asked requests (W.written old.output.now) (W.written new.output.now)
+        × HasWritten W.written W.waiting W.faults W.flushes old.output.now new.output.now (failed_writes fault)
+        × (new.output.ghost_name ≡ old.output.ghost_name) };
+
+    ghost answered_none = { λ h replay. (
+      played_none replay.stack replay.asked (W.written h.output.now),
+      written_none W.written W.waiting W.faults W.flushes h.output.now,
+      refl,
+      refl,
+    ) };
+
+    ghost answered_then_answered = { λ a b c s t u us vs first second. (
+      played_more s.stack s.asked t.asked u.asked us vs _ _ _ first.1.appends second.1.appends first.0
+          (subst (λ stack. HasPlayed stack t.asked u.asked vs (W.written b.output.now) (W.written c.output.now)) first.2 second.0),
+      written_more W.written W.waiting W.faults W.flushes a.output.now b.output.now c.output.now 0 first.1 second.1,
+      second.2 ∙ first.2,
+      second.3 ∙ first.3,
+    ) };
+
+    ghost answered_then_stopped = { λ a b c s t u us vs fault first second. (
+      stopped_more s.stack fault s.asked t.asked us vs _ _ _ first.1.appends second.1.appends first.0
+          (subst (λ stack. HasStopped stack fault t.asked vs (W.written b.output.now) (W.written c.output.now)) first.2 second.0),
+      written_more W.written W.waiting W.faults W.flushes a.output.now b.output.now c.output.now (failed_writes fault) first.1 second.1,
+      second.2 ∙ first.3,
+    ) };
+
+    fn handle(
+        &mut self,
+        replay: &mut Replay<'s, RunTaken>,
+        request: &Request<'_>,
+    ) -> Result<(), NotPlayed> {
+        match replay.request(self.alloc, request) {
+            Ok(runs) => match write_runs(self.stack, request.number, &runs, &mut *self.output) {
+                Ok(()) => Ok(()),
+                Err(OutFault) => Err(NotPlayed::Output),
+            },
+            Err(ReplayFault::NotTop) => Err(NotPlayed::NotTop(request.number)),
+            Err(ReplayFault::Memory) => Err(NotPlayed::Memory),
+            Err(ReplayFault::Untidy | ReplayFault::Stopped) => unreachable!(),
+        }
+    }
+
+    fn before_read(&mut self) {
+        self.output.hand_on();
+    }
+}
+
+/// Where a replay ends that stopped.
+fn end_of(cause: NotPlayed) -> ReplayEnd
+    ensures { result ≡ end_for cause }
+{
+    match cause {
+        NotPlayed::NotTop(number) => ReplayEnd::NotTop(number),
+        NotPlayed::Memory => ReplayEnd::Memory,
+        NotPlayed::Output => ReplayEnd::Ran(Ending::WriteFault),
+    }
+}
+
+/// Plays requests through a player, up to the first bad one, an end or a fault. Nothing is flushed.
+fn play_lines<'s, Q: Input, W: Output>(
+    requests: &mut Q,
+    replay: &mut Replay<'s, RunTaken>,
+    player: &mut RequestPlayer<'_, 's, W>,
+) -> ReplayEnd
+    requires new { replay.old ≡ new_replay player.old.stack.now }
+    ensures same_output { player.new.output.ghost_name ≡ player.old.output.ghost_name }
+    ensures reads { HasRead Q.handed Q.faults Q.ends requests.old requests.new }
+    ensures met { HasMetEnd result (Q.faults requests.old) (Q.faults requests.new) }
+    ensures writes { HasWritten W.written W.waiting W.faults W.flushes player.old.output.now player.new.output.now (end_faults result) }
+    ensures played { IsPlayed player.old.stack.now (requests_of (delivery Q.handed Q.faults Q.ends requests.old requests.new))
+        (since (W.written player.old.output.now) (W.written player.new.output.now)) result }
+{
+    match handle_requests(requests, player, replay) {
+        Ok(ending) => ReplayEnd::Ran(ending),
+        Err(cause) => end_of(cause),
+    }
+}
+
+/// The same for a replay of a stack and an output, which the caller has back afterwards.
+pub(crate) fn play_requests<'s, Q: Input, W: Output>(
+    alloc: Global,
+    stack: &'s Stack,
+    replay: &mut Replay<'s, RunTaken>,
+    requests: &mut Q,
+    output: &mut W,
+) -> ReplayEnd
+    requires new { replay.old ≡ new_replay stack.now }
+    ensures reads { HasRead Q.handed Q.faults Q.ends requests.old requests.new }
+    ensures met { HasMetEnd result (Q.faults requests.old) (Q.faults requests.new) }
+    ensures writes { HasWritten W.written W.waiting W.faults W.flushes output.old output.new (end_faults result) }
+    ensures played { IsPlayed stack.now (requests_of (delivery Q.handed Q.faults Q.ends requests.old requests.new))
+        (since (W.written output.old) (W.written output.new)) result }
+{
+    let mut player = RequestPlayer {
+        alloc,
+        stack,
+        output,
+    };
+    let ended = play_lines(requests, replay, &mut player);
+    let RequestPlayer {
+        output: _output, ..
+    } = player;
+    ended
+}
