@@ -62,11 +62,7 @@ impl<'s, T: Taken> Replay<'s, T> {
         ensures tidy { OnOk result (IsTidy stack.now) }
         ensures fault { IfErr result (λ fault. IsNotBegun fault stack.now) }
     {
-        match stack.tidy(alloc) {
-            Ok(None) => {}
-            Ok(Some(_)) => return Err(ReplayFault::Untidy),
-            Err(_) => return Err(ReplayFault::Memory),
-        }
+        refuse_clash(alloc, stack)?;
         match Mapper::new(alloc, stack.looker()) {
             Ok(mapper) => Ok(Replay {
                 stack,
@@ -125,6 +121,18 @@ impl<'s, T: Taken> Replay<'s, T> {
         };
         self.stopped = false;
         Ok(runs)
+    }
+}
+
+/// Refuses a stack of which two claims meet.
+fn refuse_clash(alloc: Global, stack: &Stack) -> Result<(), ReplayFault>
+    ensures tidy { OnOk result (IsTidy stack.now) }
+    ensures fault { IfErr result (λ fault. IsNotBegun fault stack.now) }
+{
+    match stack.tidy(alloc) {
+        Ok(None) => Ok(()),
+        Ok(Some(_)) => Err(ReplayFault::Untidy),
+        Err(_) => Err(ReplayFault::Memory),
     }
 }
 

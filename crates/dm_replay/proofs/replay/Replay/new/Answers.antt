@@ -9,7 +9,7 @@ pub invariant_of-result : goal.invariant_of-result
 invariant_of-result g c =
     let stack = c.args.stack.now in let made = c.in-Ok.ensures in let player = c.new-in-Ok in
     record {
-      tidy = rw c.in-Ok-None.field-0-is at c.in-Ok-None.ensures.clash;
+      tidy = c.in_ok-refuse_clash.ensures.tidy;
       going = λ _. subst (λ (all : List Asked). IsGoing stack c.in-Ok.mapper player.result.stack.now player.result.playing.values.patches.items all) (sym c.new-in-Ok-2.ensures.items)
           (going_first stack player.result.stack.now c.in-Ok.mapper player.result.playing.values.patches.items made.going (made.stack ∙ c.looker.ensures.stack) (made.state ∙ ap start_state c.looker.ensures.stack) player.ensures.stack player.ensures.patches);
     }
