@@ -105,6 +105,7 @@ impl<'s, T: Taken> Mapper<'s, T> {
     ///
     /// `Sink` if the sink failed: it took a beginning of the units, and the mapper is stopped from
     /// then on. `Stopped` if the mapper was stopped before: nothing changes.
+    #[inline(always)]
     pub fn request<S: Sink>(
         &mut self,
         request: &Request<'_>,

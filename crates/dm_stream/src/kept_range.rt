@@ -4,7 +4,7 @@
 //! a second time, and then copied whole; before that, its digits are written where they belong.
 
 ghost use Rattle.std.specs.Prelude.{◌≡◌, ◌++◌, ◌+◌, ◌<◌, ◌≤◌, length, take};
-ghost use Rattle.dm_stream.specs.KeptRange.{range_text};
+ghost use Rattle.dm_stream.specs.KeptRange.{range_text, IsKept, IsKeptOf};
 
 use dm_map::Piece;
 use dm_table::{put_bytes, put_digits, put_room};
@@ -24,12 +24,12 @@ pub(crate) struct KeptRange {
 }
 
 impl Model for KeptRange {
-    ghost use Rattle.std.specs.Prelude.{◌≡◌, ◌<◌, ◌≤◌, take};
+    ghost use Rattle.std.specs.Prelude.{◌≡◌, ◌<◌, ◌≤◌, ℕ, List, take};
     ghost use Rattle.dm_stream.specs.KeptRange.{range_text};
 
-    ghost Value = { Unit {0} };
+    ghost Value = { List ℕ };
 
-    ghost view = { λ range. tt };
+    ghost view = { λ range. take range.end range.text };
 
     ghost invariant = { λ range. (range.end ≤ 48) × (0 < range.end → take range.end range.text ≡ range_text range.start range.len) };
 }
@@ -45,9 +45,12 @@ impl KeptRange {
         }
     }
 
-    /// Notes the range of the line of a piece, if it ends with one.
+    /// Notes the range of the line of a piece, if it ends with one. What is kept of it afterwards is
+    /// of that range.
     #[inline(always)]
-    pub(crate) fn note(&mut self, piece: &Piece) {
+    pub(crate) fn note(&mut self, piece: &Piece)
+        ensures kept { IsKeptOf self.new piece.now }
+    {
         if let Piece::Read { start, len, .. } | Piece::Write { start, len, .. } = *piece {
             self.note_range(start, len);
         }
@@ -55,7 +58,9 @@ impl KeptRange {
 
     /// Keeps the text of a range if it came last, too.
     #[inline(always)]
-    fn note_range(&mut self, start: u64, len: u64) {
+    fn note_range(&mut self, start: u64, len: u64)
+        ensures kept { IsKept self.new start len }
+    {
         if self.start != start || self.len != len {
             self.start = start;
             self.len = len;
@@ -65,15 +70,16 @@ impl KeptRange {
         }
     }
 
-    /// Puts a range at a place of a block, and returns where it ends.
+    /// Puts the range that was noted at a place of a block, and returns where it ends.
     #[inline(always)]
     pub(crate) fn put_into(&self, block: &mut [u8], at: usize, start: u64, len: u64) -> usize
-        requires { at + ROOM ≤ length block.old }
+        requires room { at + ROOM ≤ length block.old }
+        requires kept { IsKept self.now start len }
         ensures few { result ≤ at + ROOM }
         ensures end { result ≡ at + length (range_text start len) }
         ensures text { take result block.new ≡ take at block.old ++ range_text start len }
     {
-        if self.end > 0 && self.start == start && self.len == len {
+        if self.end > 0 {
             return put_room(block, at, &self.text, self.end);
         }
         put_range(block, at, start, len)

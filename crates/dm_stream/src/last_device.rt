@@ -40,6 +40,7 @@ impl<'s> LastDevice<'s> {
     }
 
     /// The device of a name.
+    #[inline(always)]
     pub(crate) fn find(&mut self, name: &str) -> Option<DeviceId>
         ensures found { result ≡ device_of self.old name.now }
         ensures same { self.new ≡ self.old }

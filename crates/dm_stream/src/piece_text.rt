@@ -8,6 +8,7 @@ ghost use Rattle.std.specs.Prelude.{◌≡◌, ◌++◌, ◌+◌, ◌<◌, ◌�
 ghost use Rattle.dm_stack.specs.Description.{disk_name_at};
 ghost use Rattle.dm_stack.specs.Loaded.{disk_text};
 ghost use Rattle.dm_map.specs.Units.{CopyOf, FillOf, IsOnDisks, first_unit, piece_len};
+ghost use Rattle.dm_stream.specs.KeptRange.{IsKeptOf};
 ghost use Rattle.dm_stream.specs.Pending.{piece_view};
 ghost use Rattle.dm_stream.specs.PieceText.{IsOther, piece_text, place_text, unit_text};
 
@@ -30,6 +31,7 @@ pub(crate) struct PieceLine<'a> {
 impl<'a> Model for PieceLine<'a> {
     ghost use Rattle.std.specs.Prelude.{ℕ, List};
     ghost use Rattle.dm_map.specs.Units.{IsOnDisks};
+    ghost use Rattle.dm_stream.specs.KeptRange.{IsKeptOf};
     ghost use Rattle.dm_stream.specs.Pending.{piece_view};
     ghost use Rattle.dm_stream.specs.PieceText.{piece_text};
 
@@ -37,11 +39,11 @@ impl<'a> Model for PieceLine<'a> {
 
     ghost view = { λ line. piece_text line.stack.now line.prefix.now (piece_view line.piece.now) };
 
-    ghost invariant = { λ line. IsOnDisks line.stack.now line.piece.now };
+    ghost invariant = { λ line. IsOnDisks line.stack.now line.piece.now × IsKeptOf line.range.now line.piece.now };
 }
 
 impl<'a> PieceLine<'a> {
-    /// The line of a piece. The range may be that of any line.
+    /// The line of a piece, whose range was noted.
     #[inline(always)]
     pub(crate) fn new(
         prefix: &'a NumberPrefix,
@@ -49,7 +51,8 @@ impl<'a> PieceLine<'a> {
         stack: &'a Stack,
         piece: &'a Piece,
     ) -> PieceLine<'a>
-        requires { IsOnDisks stack.now piece.now }
+        requires lies { IsOnDisks stack.now piece.now }
+        requires kept { IsKeptOf range.now piece.now }
         ensures text { result ≡ piece_text stack.now prefix.now (piece_view piece.now) }
         ensures some { 0 < length result }
     {
@@ -77,6 +80,7 @@ impl<'a> Text for PieceLine<'a> {
 fn put_piece(block: &mut [u8], at: usize, range: &KeptRange, stack: &Stack, piece: &Piece) -> usize
     requires room { at + 800 ≤ length block.old }
     requires lies { IsOnDisks stack.now piece.now }
+    requires kept { IsKeptOf range.now piece.now }
     ensures few { result ≤ at + 800 }
     ensures end { result ≡ at + length (unit_text stack.now (first_unit piece.now) (piece_len piece.now) ++ 10 ∷ []) }
     ensures text { take result block.new ≡ take at block.old ++ unit_text stack.now (first_unit piece.now) (piece_len piece.now) ++ 10 ∷ [] }

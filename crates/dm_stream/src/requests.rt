@@ -13,7 +13,7 @@ ghost use Rattle.dm_stream.specs.Requests.{HasMet, IsAmong, Requests, after_requ
 use crate::ending::{Ending, RequestWord};
 use crate::handler::Handler;
 use crate::lines::{Lines, Next};
-use dm_table::{Input, Request, RequestFault, front_request, parse_request};
+use dm_table::{FrontReader, Input, Request, RequestFault, parse_request};
 
 /// The most requests of a run.
 pub const MOST_REQUESTS: u64 = 1_000_000_000_000;
@@ -46,7 +46,11 @@ fn request_of(line: &[u8], number: u64) -> Result<Request<'_>, RequestWord>
 
 /// The request of line `number`, where the held bytes begin with it and it is quickly read.
 #[inline(always)]
-fn front_of(held: &[u8], number: u64) -> Option<(Request<'_>, usize)>
+fn front_of<'a>(
+    fronts: &mut FrontReader,
+    held: &'a [u8],
+    number: u64,
+) -> Option<(Request<'a>, usize)>
     ensures good { IfSome result (λ front. (rest : Requests) → line_requests number (take front.1 held.now) rest ≡ after_requests (numbered front.0 ∷ []) rest) }
     ensures line { IfSome result (λ front. line_parts held.now ≡ take front.1 held.now ∷ line_parts (drop (front.1 + 1) held.now)) }
     ensures within { IfSome result (λ front. front.1 < length held.now) }
@@ -56,7 +60,7 @@ fn front_of(held: &[u8], number: u64) -> Option<(Request<'_>, usize)>
     if number > MOST_REQUESTS {
         return None;
     }
-    let (request, len) = front_request(held, number)?;
+    let (request, len) = fronts.read(held, number)?;
     Some((request, len))
 }
 
@@ -97,10 +101,11 @@ pub fn handle_requests<R: Input, H: Handler>(
         (requests_of (delivery R.handed R.faults R.ends requests.old requests.new)).all) }
 {
     let mut lines = Lines::new();
+    let mut fronts = FrontReader::new();
     let mut number = 0;
     'lines: loop {
         number += 1;
-        if let Some((request, len)) = front_of(lines.held(), number) {
+        if let Some((request, len)) = front_of(&mut fronts, lines.held(), number) {
             if let Err(fault) = handler.handle(&mut *source, &request) {
                 return Err(fault);
             }

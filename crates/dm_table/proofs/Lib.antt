@@ -5,6 +5,7 @@ pub mod FaultLemmas
 pub mod Parsing
 pub mod RequestLemmas
 pub mod FrontRequest
+pub mod FrontNames
 mod Portions
 pub mod DiskLemmas
 pub mod TableGroups

@@ -18,7 +18,7 @@ use memchr::memchr;
 
 /// What follows the space after the first `len` bytes of a text.
 #[inline(always)]
-fn after_space<'a>(text: &'a [u8], len: usize) -> Option<&'a [u8]>
+pub(crate) fn after_space<'a>(text: &'a [u8], len: usize) -> Option<&'a [u8]>
     requires { len ≤ length text.now }
     ensures cut { IfSome result (λ rest. text.now ≡ take len text.now ++ 32 ∷ rest.now) }
     ensures other { IfNone result ((rest : List ℕ) → drop len text.now ≢ 32 ∷ rest) }
@@ -44,7 +44,7 @@ fn op_of(letter: u8) -> Option<Op>
 
 /// The operation that a line begins with, and what follows its space.
 #[inline(always)]
-fn first_op<'a>(line: &'a [u8]) -> Option<(Op, &'a [u8])>
+pub(crate) fn first_op<'a>(line: &'a [u8]) -> Option<(Op, &'a [u8])>
     ensures cut { IfSome result (λ cut. fields line.now ≡ (op_text cut.0 ∷ []) ∷ fields cut.1.now) }
     ensures text { IfSome result (λ cut. line.now ≡ op_text cut.0 ∷ 32 ∷ cut.1.now) }
     ensures other { IfNone result (has_form (fields line.now) ≡ false) }
@@ -188,6 +188,39 @@ fn last_number(text: &[u8]) -> Option<(u64, usize)>
     }
 }
 
+/// The request of an operation on a device that a text begins with, and the bytes of its line without
+/// the newline, where the numbers are still to be read.
+#[inline(always)]
+pub(crate) fn front_behind<'a>(
+    text: &'a [u8],
+    rest: &'a [u8],
+    number: u64,
+    op: Op,
+    device: &'a str,
+) -> Option<(Request<'a>, usize)>
+    requires text { text.now ≡ op_text op ∷ 32 ∷ (device.now ++ 32 ∷ rest.now) }
+    requires named { is_device_name device.now ≡ true }
+    ensures described { IfSome result (λ front. DescribesRequest (take front.1 text.now) (values_of front.0)) }
+    ensures line { IfSome result (λ front. parts_at 10 text.now ≡ take front.1 text.now ∷ parts_at 10 (drop (front.1 + 1) text.now)) }
+    ensures within { IfSome result (λ front. front.1 < length text.now) }
+    ensures short { IfSome result (λ front. front.1 ≤ 200) }
+    ensures numbered { IfSome result (λ front. front.0.number ≡ number) }
+{
+    let (start, last) = front_number(rest)?;
+    let (len, digits) = last_number(last)?;
+    if len < 1 || MOST_SECTORS < len {
+        return None;
+    }
+    let request = Request {
+        number,
+        op,
+        device,
+        start,
+        len,
+    };
+    Some((request, text.len() - last.len() + digits))
+}
+
 /// The request that a text begins with, and the bytes of its line without the newline: the quick
 /// way for line `number` of a stream, which is read where it stands and not cut off first.
 ///
@@ -204,17 +237,5 @@ pub fn front_request<'a>(text: &'a [u8], number: u64) -> Option<(Request<'a>, us
     ensures numbered { IfSome result (λ front. front.0.number ≡ number) }
 {
     let (op, device, rest) = head(text)?;
-    let (start, rest) = front_number(rest)?;
-    let (len, digits) = last_number(rest)?;
-    if len < 1 || MOST_SECTORS < len {
-        return None;
-    }
-    let request = Request {
-        number,
-        op,
-        device,
-        start,
-        len,
-    };
-    Some((request, text.len() - rest.len() + digits))
+    front_behind(text, rest, number, op, device)
 }

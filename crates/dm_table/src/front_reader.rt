@@ -1,0 +1,94 @@
+//! Requests where they stand, at the fronts of texts; the name of the last one's device is remembered.
+//!
+//! Successive requests mostly name the same device, and comparing its name takes a fraction of the
+//! time of asking whether each of its bytes is one of a name. Clauses don't see what is remembered.
+
+ghost use Rattle.std.specs.Prelude.{◌≡◌, ◌+◌, ◌<◌, ◌≤◌, ◌∷◌, ◌++◌, length, take, drop, true, IfSome};
+ghost use Rattle.dm_table.specs.Fields.{parts_at};
+ghost use Rattle.dm_table.specs.Name.{is_device_name};
+ghost use Rattle.dm_table.specs.RequestLine.{DescribesRequest, values_of};
+
+use crate::block::put_bytes;
+use crate::name::{ascii_str, leading_name};
+use crate::request::Request;
+use crate::request_line::{after_space, first_op, front_behind};
+use std::marker::Model;
+
+/// The bytes of the longest name, and a space.
+const ROOM: usize = 128;
+
+/// Reads requests at the fronts of texts, one after the other.
+#[derive(Drop)]
+pub struct FrontReader {
+    /// Begins with the name of the last request's device and a space.
+    text: [u8; ROOM],
+    /// Where the name ends.
+    len: usize,
+}
+
+impl Model for FrontReader {
+    ghost use Rattle.std.specs.Prelude.{◌≡◌, ◌+◌, ◌<◌, ◌∷◌, ◌++◌, [], ℕ, List, take, true};
+    ghost use Rattle.dm_table.specs.Name.{is_device_name};
+
+    ghost Value = { Unit {0} };
+
+    ghost view = { λ reader. tt };
+
+    ghost invariant = { λ reader. (reader.len < 128) × ((name : List ℕ) × (take (reader.len + 1) reader.text ≡ name ++ 32 ∷ []) × (is_device_name name ≡ true)) };
+}
+
+impl FrontReader {
+    /// One that read nothing yet. It begins with some name, since any will do.
+    pub fn new() -> FrontReader {
+        let mut text = [b' '; ROOM];
+        text[0] = b'-';
+        FrontReader { text, len: 1 }
+    }
+
+    /// The request that a text begins with, as [`front_request`](crate::front_request) returns it.
+    ///
+    /// `None` says nothing of the text. Cost: as there, and less for the device of the request
+    /// before.
+    #[inline(always)]
+    pub fn read<'a>(&mut self, text: &'a [u8], number: u64) -> Option<(Request<'a>, usize)>
+        // The line says the request, and ends there.
+        ensures described { IfSome result (λ front. DescribesRequest (take front.1 text.now) (values_of front.0)) }
+        ensures line { IfSome result (λ front. parts_at 10 text.now ≡ take front.1 text.now ∷ parts_at 10 (drop (front.1 + 1) text.now)) }
+        ensures within { IfSome result (λ front. front.1 < length text.now) }
+        ensures short { IfSome result (λ front. front.1 ≤ 200) }
+        ensures numbered { IfSome result (λ front. front.0.number ≡ number) }
+    {
+        let (op, rest) = first_op(text)?;
+        let len = self.name_len(rest)?;
+        let device = ascii_str(&rest[..len]);
+        front_behind(text, &rest[len + 1..], number, op, device)
+    }
+
+    /// How long the device's name is that a text begins with, where a space follows it.
+    #[inline(always)]
+    fn name_len(&mut self, text: &[u8]) -> Option<usize>
+        ensures within { IfSome result (λ len. len < length text.now) }
+        ensures named { IfSome result (λ len. is_device_name (take len text.now) ≡ true) }
+        ensures space { IfSome result (λ len. text.now ≡ take len text.now ++ 32 ∷ drop (len + 1) text.now) }
+    {
+        let end = self.len + 1;
+        if end <= text.len() && &text[..end] == &self.text[..end] {
+            return Some(self.len);
+        }
+        self.learn(text)
+    }
+
+    /// The same for a name that is not the last one. It is remembered.
+    #[inline(never)]
+    fn learn(&mut self, text: &[u8]) -> Option<usize>
+        ensures within { IfSome result (λ len. len < length text.now) }
+        ensures named { IfSome result (λ len. is_device_name (take len text.now) ≡ true) }
+        ensures space { IfSome result (λ len. text.now ≡ take len text.now ++ 32 ∷ drop (len + 1) text.now) }
+    {
+        let len = leading_name(text)?;
+        let _rest = after_space(text, len)?;
+        let _end = put_bytes(&mut self.text, 0, &text[..len + 1]);
+        self.len = len;
+        Some(len)
+    }
+}
