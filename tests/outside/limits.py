@@ -15,6 +15,7 @@ def check(tally, program):
     check_sizes(tally, program)
     check_many_requests(tally, program)
     check_memory(tally, program)
+    check_replay_memory(tally, program)
 
 
 def check_counts(tally, program):
@@ -112,6 +113,30 @@ def check_memory(tally, program):
         tally.same("too little memory", (wrong or little)[0], 6, "", "dmremap: memory\n")
     else:
         tally.skip("status 6", "no limit here leaves room to start and too little to load")
+
+
+def check_replay_memory(tally, program):
+    """A replay out of memory has answered the requests before, in full."""
+    number = 100000
+    table, disks = "a: 0 %d linear sda 0\n" % (2 * number), "sda %d\n" % (2 * number)
+    words = ["replay", "table", program.file("table", table), program.file("disks", disks)]
+    given = "".join("W a %d 1\n" % (2 * it) for it in range(number))
+    answers = "".join("%d wrote %d %d 1\n" % (it + 1, it + 1, 2 * it) for it in range(number)).encode()
+    tally.same("a replay with memory enough", program.run(words, given=given), 0, answers)
+    limit, little = 1 << 20, None
+    while limit < 1 << 28:
+        got = program.run(words, given=given, before=lambda: limit_memory(limit))
+        if got.status == 0:
+            break
+        if got.out:
+            little = got
+        limit += limit >> 3
+    if little:
+        answered = little.out.endswith(b"\n") and answers.startswith(little.out)
+        tally.holds("a replay with too little memory", answered, "it doesn't end after an answer")
+        tally.same("how that replay ends", little, 6, little.out, "dmremap: memory\n")
+    else:
+        tally.skip("status 6 at a request", "no limit here leaves room to load and too little to replay")
 
 
 def limit_memory(limit):
