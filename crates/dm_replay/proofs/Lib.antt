@@ -1,5 +1,6 @@
 pub mod NamedLemmas
 pub mod OfDiskLemmas
+pub mod OneRuns
 pub mod OwnReads
 pub mod OwnWorlds
 pub mod PatchLemmas

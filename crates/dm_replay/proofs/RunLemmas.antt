@@ -10,11 +10,11 @@ use Rattle.dm_replay.proofs.PatchLemmas.{further_next, further_none}
 
 -- What they answer
 
-answer_next : (first : Answer) (n : ℕ) → further_answer (next_answer first) n ≡ further_answer first (suc n)
+pub answer_next : (first : Answer) (n : ℕ) → further_answer (next_answer first) n ≡ further_answer first (suc n)
 answer_next (Gives first) n = ap Gives (further_next first n)
 answer_next Failed n = refl
 
-answer_none : (first : Answer) → further_answer first 0 ≡ first
+pub answer_none : (first : Answer) → further_answer first 0 ≡ first
 answer_none (Gives first) = ap Gives (further_none first)
 answer_none Failed = refl
 

@@ -3,11 +3,12 @@
 //! `specs/Histories.antt` says what the disks hold after the requests that were accepted, and what a
 //! request answers then; `specs/Rows.antt` says what each device would hold if it were alone.
 
-ghost use Rattle.std.specs.Prelude.{◌≡◌, ◌∷◌, ◌++◌, [], IfErr, IfOk, IfSome, None, OnOk, Option, Some, false, length, position};
+ghost use Rattle.std.specs.Prelude.{◌≡◌, ◌∷◌, ◌++◌, [], IfErr, IfOk, IfSome, List, None, OnOk, Option, Some, false, length, position};
 ghost use Rattle.std.specs.List.{AllByRecursion};
 ghost use Rattle.dm_table.specs.declared.request.Op.TheVariants.{Read};
 ghost use Rattle.dm_stack.specs.Claims.{IsTidy, IsTop};
 ghost use Rattle.dm_stack.specs.Description.{device_id, is_same};
+ghost use Rattle.dm_replay.specs.declared.value_run.ValueRun.{ValueRun};
 ghost use Rattle.dm_replay.specs.Histories.{asked_answers, world_after};
 ghost use Rattle.dm_replay.specs.OfDisks.{IsRunOf};
 ghost use Rattle.dm_replay.specs.Replay.{HasTop, IsNotAnswered, IsNotBegun, asked_request, new_replay};
@@ -96,6 +97,7 @@ impl<'s, T: Taken> Replay<'s, T> {
         ensures answers { IfOk result (λ runs. flat runs.items ≡ asked_answers self.old.stack (world_after self.old.stack self.old.asked) (asked_request self.old.stack request.now)) }
         ensures own { IfOk result (λ runs. request.now.op ≡ Read → AreOfRow (rows_after self.old.stack self.old.asked) (device_id self.old.stack request.now.device.now) request.now.start (flat runs.items)) }
         ensures runs { IfOk result (λ runs. AreMaximal runs.items) }
+        ensures one { IfOk result (λ runs. (others : List ValueRun) → AreMaximal others → flat others ≡ flat runs.items → others ≡ runs.items) }
         ensures disks { IfOk result (λ runs. AllByRecursion (IsRunOf (length self.old.stack.disks)) runs.items) }
         ensures top { OnOk result (HasTop self.old.stack request.now.device.now) }
         ensures asked { OnOk result (self.new.asked ≡ self.old.asked ++ asked_request self.old.stack request.now ∷ []) }

@@ -6,6 +6,7 @@ use Rattle.dm_replay.specs.Rows.{AreOfRow, rows_after}
 use Rattle.dm_replay.specs.Runs.{flat}
 use Rattle.dm_replay.specs.Values.{Answer}
 use Rattle.dm_replay.proofs.NamedLemmas.{named_id}
+use Rattle.dm_replay.proofs.OneRuns.{one_runs}
 use Rattle.dm_replay.proofs.OwnReads.{own_answers}
 use Rattle.dm_replay.proofs.WorldLemmas.{answers_after, going_next}
 use Rattle.dm_replay.proofs.replay.Replay.request.Goals as goal
@@ -51,3 +52,6 @@ returns-clause-own g c reads =
     (subst (λ (answers : List Answer). AreOfRow (rows_after inside.stack.now inside.asked.items) c.in-Some.device request.start answers)
     (sym (answers_after inside.stack.now inside.player.stack.now inside.mapper inside.player.playing.values.patches.items inside.asked.items request c.in-Some.device c.in-Ok.runs.items going did.answers))
     (own_answers inside.stack.now inside.asked.items asked c.requests_are_alone.ensures.start c.requests_are_alone.ensures.request c.self.invariant.tidy going.asked_are (record { top = c.in-Some.ensures.some.1; whole = refl }) reads)))
+
+pub returns-clause-one : goal.returns-clause-one
+returns-clause-one g c = λ others are same. one_runs others c.in-Ok.runs.items are c.in-Ok.ensures.maximal same
