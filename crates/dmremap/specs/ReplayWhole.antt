@@ -50,6 +50,10 @@ replay_status (exits.Refused fault) = load_status fault.kind
 replay_status exits.Untidy = 1
 replay_status (exits.Ended ended) = end_status ended
 
+-- neither the output failed nor memory ran out
+abbrev pub IsPlain : ReplayExit → Type 0
+IsPlain exit = (replay_status exit ≢ 5) × (replay_status exit ≢ 6)
+
 -- ---- what is given
 
 -- the output failed: at a write, or at the flush after all that there was to write

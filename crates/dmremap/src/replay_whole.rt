@@ -3,8 +3,8 @@
 //! What comes out goes by the bytes that were delivered, save where memory runs out. `replay_run` plays
 //! the requests; here are the load before it, and the flush and the message after it.
 
-ghost use Rattle.std.specs.Prelude.{◌≡◌, ◌≢◌, ◌+◌, ◌<◌, ◌≤◌, ◌++◌, ◌↔◌, [], ℕ, is_some};
-ghost use Rattle.dm_table.specs.DeviceIo.{delivery, since};
+ghost use Rattle.std.specs.Prelude.{◌≡◌, ◌≢◌, ◌+◌, ◌<◌, ◌≤◌, ◌++◌, ◌↔◌, List, [], ℕ, is_some};
+ghost use Rattle.dm_table.specs.DeviceIo.{Delivery, delivery, since};
 ghost use Rattle.dm_table.specs.LoadMessage.{memory_message};
 ghost use Rattle.dm_table.specs.PartInput.{IsReadOn};
 ghost use Rattle.dm_stream.specs.Messages.{IsTold, write_message};
@@ -13,10 +13,11 @@ ghost use Rattle.dm_stream.specs.Requests.{Requests, requests_of};
 ghost use Rattle.dm_stack.specs.Claims.{IsTidy};
 ghost use Rattle.dm_stack.specs.Description.{Description};
 ghost use Rattle.dmremap.specs.declared.replay_whole.ReplayExit.{ReplayExit};
+ghost use Rattle.dmremap.specs.declared.words.Format.{Format};
 ghost use Rattle.dmremap.specs.Exit.{MessageWritten};
 ghost use Rattle.dmremap.specs.Inputs.{IsReadOnIf, IsUnchanged, delivery_if};
 ghost use Rattle.dmremap.specs.ReplayOutcome.{HasMetEnd, IsPlayed, end_faults};
-ghost use Rattle.dmremap.specs.ReplayWhole.{IsReplayed, OutputReplayed, ReplayGives, RequestsReplayed, StackGives, not_top_message, replay_message, replay_status};
+ghost use Rattle.dmremap.specs.ReplayWhole.{IsPlain, IsReplayed, OutputReplayed, ReplayGives, RequestsReplayed, StackGives, not_top_message, replay_message, replay_status};
 ghost use Rattle.dmremap.specs.Words.{has_disk_list};
 
 #[cfg(test)]
@@ -81,6 +82,10 @@ pub fn replay_whole<S: Input, D: Input, Q: Input, W: Output, M: Output>(
         × OutputReplayed W.written W.waiting W.faults W.flushes exit output.old output.new
         × (result ≡ replay_status exit)
         × IsTold (replay_message exit) (since (M.written messages.old) (M.written messages.new)) (M.faults messages.old) (M.faults messages.new) }
+
+    // Save where the output failed or memory ran out, the deliveries give one exit and one output.
+    ensures one { (f : Format) (s d q : Delivery) (a b : ReplayExit) (x y : List ℕ) (old new before after : ℕ) → IsPlain a → IsPlain b
+        → ReplayGives f s d q x old new a → ReplayGives f s d q y before after b → (a ≡ b) × (x ≡ y) }
 
     // The output failed in the call: that takes precedence over all else.
     ensures write_fault { W.faults output.old < W.faults output.new ↔ (result ≡ 5) }

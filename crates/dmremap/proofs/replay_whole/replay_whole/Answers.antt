@@ -1,3 +1,4 @@
+use Rattle.dmremap.proofs.OneReplay.{one_replay}
 use Rattle.dmremap.proofs.replay_whole.replay_whole.Goals as goal
 
 pub returns-clause-replayed : goal.returns-clause-replayed
@@ -9,3 +10,6 @@ returns-clause-replayed g c = (
   c.status_of.ensures,
   c.tell_of.ensures.told,
 )
+
+pub returns-clause-one : goal.returns-clause-one
+returns-clause-one g c = one_replay
