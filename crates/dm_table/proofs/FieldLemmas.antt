@@ -6,7 +6,7 @@ use Rattle.std.specs.List.{flat_map, join_with_byte, AllByRecursion}
 use Rattle.std.proofs.lemmas.Bool.{eq-eqb, false_from_ne_true}
 use Rattle.std.proofs.lemmas.Grind.{elements, common_steps}
 use Rattle.std.proofs.lemmas.List.{take-append-drop, take_rest, drop-drop, map_push, map-append, append-nil}
-use Rattle.std.proofs.lemmas.List.Splits.{slice_split_at, slice_split_none, join_with_byte-slice_split}
+use Rattle.std.proofs.lemmas.List.Splits.{length-slice_split, slice_split_at, slice_split_none, join_with_byte-slice_split}
 use Rattle.memchr.specs.Find.{Nowhere, Passes, is_byte, IsFirstByte}
 use Rattle.dm_table.specs.Fields.{texts, parts_at, front, back, lines_of, rest_of}
 use denote.Ref.{Bor}
@@ -96,6 +96,37 @@ join_lines : (c : ℕ) (parts : List (List ℕ)) → join_with_byte c parts ≡ 
 join_lines c [] = refl
 join_lines c (part ∷ []) = refl
 join_lines c (part ∷ next ∷ parts) = rw (join_lines c (next ∷ parts)) (simp append_assoc)
+
+-- the parts of a text are never none
+front_more : {X : Type 0} (x : X) (xs : List X) → 0 < length xs → front (x ∷ xs) ≡ x ∷ front xs
+front_more x [] h = absurd (omega arith)
+front_more x (y ∷ xs) h = refl
+
+back_more : {X : Type 0} (d x : X) (xs : List X) → 0 < length xs → back d (x ∷ xs) ≡ back d xs
+back_more d x [] h = absurd (omega arith)
+back_more d x (y ∷ xs) h = refl
+
+some_parts : (c : ℕ) (text : List ℕ) → 0 < length (parts_at c text)
+some_parts c text = omega (arith, length-slice_split (λ b. eqb b c) text)
+
+-- the first line of a text, where a search found its newline, and what comes after it
+pub line_found : (text after : List ℕ) (n : ℕ) → IsFirstByte (is_byte 10) text (Some n) → after ≡ drop n text
+    → (lines_of text ≡ take n text ∷ lines_of (take (length after - 1) (drop 1 after))) × (rest_of text ≡ rest_of (take (length after - 1) (drop 1 after))) × (length (take (length after - 1) (drop 1 after)) < length text)
+line_found text after n found is_after =
+    let more = drop (n + 1) text in
+    let left : take (length after - 1) (drop 1 after) ≡ more = take_rest after 1 ∙ ap (drop 1) is_after ∙ drop-drop 1 n text in
+    let parts : parts_at 10 text ≡ take n text ∷ parts_at 10 more = parts_at-found 10 text n found in
+    let below : n < length text = found.0.high in
+    let shorter : length more < length text = grind (arith, common_steps) in
+    rw left (
+      ap front parts ∙ front_more (take n text) (parts_at 10 more) (some_parts 10 more),
+      ap (back []) parts ∙ back_more [] (take n text) (parts_at 10 more) (some_parts 10 more),
+      shorter,
+    )
+
+-- and a text without a newline
+pub no_line_found : (text : List ℕ) → IsFirstByte (is_byte 10) text None → (lines_of text ≡ []) × (rest_of text ≡ text)
+no_line_found text none = let parts = parts_at-nowhere 10 text none in (ap front parts, ap (back []) parts)
 
 -- a text is its lines, each with its newline, and its rest
 pub lines_of-rest_of : (text : List ℕ) → text ≡ flat_map (λ line. line ++ 10 ∷ []) (lines_of text) ++ rest_of text

@@ -1,5 +1,5 @@
 -- Table text in which no check finds anything describes the devices that are read from it, and text that describes devices is read as them.
-use Rattle.std.proofs.Common.{◌≡◌, ℕ, suc, ◌+◌, Bool, true, false, not, List, [], ◌∷◌, ◌++◌, length, map, None, Result, Ok, refl, sym, ap, ◌∙◌}
+use Rattle.std.proofs.Common.{◌≡◌, ℕ, suc, ◌+◌, Bool, true, false, not, List, [], ◌∷◌, ◌++◌, length, map, None, Result, Ok, refl, ap, ◌∙◌}
 use Rattle.std.specs.Global.{Vec}
 use Rattle.std.specs.List.{AllByRecursion}
 use Rattle.std.proofs.lemmas.Bool.{not-false, not_from_true}
@@ -127,10 +127,8 @@ unfolding read_table
 read_as_promised text answer h = parsed Source (DescribesTable text) (table_checks text) (devices_from 1 (rows text)) answer (described text) (again text) h
 
 -- a text whose bytes are all text is read by its rows and its rest
-pub read_table-rows : (text : List ℕ) (lines : List (List ℕ)) (rest : List ℕ) (rs : List (List (List ℕ))) → unless (first_or (not_text Source text) None) (lines_and_rest text) ≡ Ok (lines, rest) → rs ≡ rows_of lines
-    → read_table text ≡ read_rows rs rest
+pub read_table-rows : (text : List ℕ) → unless (first_or (not_text Source text) None) (lines_and_rest text) ≡ Ok (lines_and_rest text) → read_table text ≡ read_rows (rows_of (lines_of text)) (rest_of text)
 unfolding read_table
-read_table-rows text lines rest rs passed is_rows =
+read_table-rows text passed =
     let own = rows text in
-    let a = unless-passed (not_text Source text) (first_fault (bad_syntax own (rest_of text) ∷ bad_field own ∷ bad_name own ∷ [])) (lines_and_rest text) (lines, rest) (devices_from 1 own) passed in
-    a.1 ∙ ap (λ (cut : List (List ℕ) × List ℕ). read_rows (rows_of cut.0) cut.1) a.0 ∙ ap (λ (r : List (List (List ℕ))). read_rows r rest) (sym is_rows)
+    (unless-passed (not_text Source text) (first_fault (bad_syntax own (rest_of text) ∷ bad_field own ∷ bad_name own ∷ [])) (lines_and_rest text) (lines_and_rest text) (devices_from 1 own) passed).1

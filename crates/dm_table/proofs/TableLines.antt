@@ -1,40 +1,56 @@
 -- Lines of table text added one after the other: the devices are those of all of them, where no row has a fault.
-use Rattle.std.proofs.Common.{◌≡◌, ◌≢◌, OnOk, inl, inr, ℕ, suc, ◌+◌, true, false, nat_eq, List, [], ◌∷◌, ◌++◌, length, Option, Some, None, Result, Ok, Err, refl, sym, ap, ◌∙◌, append_assoc}
+use Rattle.std.proofs.Common.{◌≡◌, ◌≢◌, OnOk, inl, inr, ℕ, zero, suc, ◌+◌, true, false, nat_eq, List, [], ◌∷◌, ◌++◌, length, Option, Some, None, Result, Ok, Err, refl, sym, ap, ◌∙◌, append_assoc, arith}
 use Rattle.std.specs.Cmp.Lexicographic.{pointwise}
+use Rattle.std.specs.Prelude.{slice_index_or, slice_set}
 use Rattle.std.specs.List.{AllByRecursion}
 use Rattle.std.proofs.lemmas.Bool.{and_parts, cases_Bool}
 use Rattle.std.proofs.lemmas.List.{append-nil}
+use Rattle.dm_table.specs.declared.table.Line.{Line}
 use Rattle.dm_table.specs.declared.table.DeviceSpec.{DeviceSpec}
 use Rattle.dm_table.specs.declared.place.Part.TheVariants.{Source}
 use Rattle.dm_table.specs.declared.load_fault.LoadKind.TheVariants.{Memory}
 use Rattle.dm_table.specs.declared.load_fault.LoadFault.{LoadFault}
 use Rattle.dm_table.specs.declared.row_faults.RowFault.{RowFault}
+use Rattle.dm_table.specs.declared.row_faults.FirstFaults.{FirstFaults}
 use Rattle.dm_table.specs.declared.row_faults.RowFault.TheVariants as rows
 use Rattle.std.specs.declared.alloc.AllocError.{AllocError}
 use Rattle.dm_table.specs.Name.{is_device_name}
-use Rattle.dm_table.specs.RowFaults.{no_faults, noted_rows, noted_rest, first_noted}
+use Rattle.dm_table.specs.RowFaults.{no_faults, noted_at, noted_rows, noted_rest, first_noted}
 use Rattle.dm_table.specs.LineBody.{has_body_names}
-use Rattle.dm_table.specs.TableText.{NamedLine, name_in, is_row, is_line, has_names}
-use Rattle.dm_table.specs.TableReading.{named_in, named_from, alone, join_line, joined, add_line, fault_of_row, row_reading, with_reading, with_rows, read_rows}
+use Rattle.dm_table.specs.TableText.{NamedLine, name_in, row_of, is_row, is_line, has_names}
+use Rattle.dm_table.specs.TableReading.{named_in, named_from, alone, join_line, joined, add_line, fault_of_row, row_reading, with_reading, with_rows, rows_of, read_rows}
 use Rattle.dm_table.proofs.RowFaultLemmas.{names_true, noted_none, noted_refused}
 use Rattle.dm_table.proofs.TableGroups.{same_name, is_same_name, other_name, is_other_name}
 use Rattle.dm_table.proofs.TargetRows.{read_value}
 
 -- A line after devices
 
--- the last device takes it, or it begins one
-pub add_last : (ds : List DeviceSpec) (d : DeviceSpec) (named : NamedLine) → add_line (ds ++ d ∷ []) named ≡ ds ++ add_line (d ∷ []) named
-add_last [] d named = refl
-add_last (e ∷ []) d named = refl
-add_last (e ∷ f ∷ ds) d named = ap (λ (more : List DeviceSpec). e ∷ more) (add_last (f ∷ ds) d named)
+-- a line that the last device takes, by its place
+set_last : (ds : List DeviceSpec) (n : ℕ) (d : DeviceSpec) (named : NamedLine) → n + 1 ≡ length ds → slice_index_or ds n d ≡ d → pointwise nat_eq named.name d.name ≡ true
+    → slice_set ds n (record d { lines = d.lines ++ named.line ∷ [] }) ≡ add_line ds named
+set_last [] n d named len last same = absurd (omega arith)
+set_last (e ∷ []) zero d named len last same = rw (last, same) refl
+set_last (e ∷ []) (suc n) d named len last same = absurd (omega arith)
+set_last (e ∷ f ∷ ds) zero d named len last same = absurd (omega arith)
+set_last (e ∷ f ∷ ds) (suc n) d named len last same = ap (λ (more : List DeviceSpec). e ∷ more) (set_last (f ∷ ds) n d named (omega arith) last same)
 
-pub add_same : (ds : List DeviceSpec) (d : DeviceSpec) (named : NamedLine) → pointwise nat_eq named.name d.name ≡ true
-    → add_line (ds ++ d ∷ []) named ≡ ds ++ record d { lines = d.lines ++ named.line ∷ [] } ∷ []
-add_same ds d named e = add_last ds d named ∙ rw e refl
+pub add_same : (r : Result (Unit {0}) AllocError) (ds : List DeviceSpec) (n : ℕ) (d : DeviceSpec) (lines : List Line) (named : NamedLine) → n + 1 ≡ length ds → d ≡ slice_index_or ds n d → pointwise nat_eq named.name d.name ≡ true
+    → OnOk r (lines ≡ d.lines ++ named.line ∷ []) → OnOk r (slice_set ds n (record d { lines = lines }) ≡ add_line ds named)
+add_same (Ok x) ds n d lines named len last same added = rw added (set_last ds n d named len (sym last) same)
+add_same (Err e) ds n d lines named len last same added = tt
 
-pub add_other : (ds : List DeviceSpec) (d : DeviceSpec) (named : NamedLine) → pointwise nat_eq named.name d.name ≡ false
-    → add_line (ds ++ d ∷ []) named ≡ (ds ++ d ∷ []) ++ alone named ∷ []
-add_other ds d named e = add_last ds d named ∙ rw e (sym (append_assoc ds (d ∷ []) (alone named ∷ [])))
+-- and one that comes behind it
+pub add_other : (ds : List DeviceSpec) (n : ℕ) (d : DeviceSpec) (named : NamedLine) → n + 1 ≡ length ds → d ≡ slice_index_or ds n d → pointwise nat_eq named.name d.name ≡ false
+    → slice_set ds n (record d { lines = d.lines }) ++ alone named ∷ [] ≡ add_line ds named
+add_other [] n d named len last other = absurd (omega arith)
+add_other (e ∷ []) zero d named len last other = rw (sym last, other) refl
+add_other (e ∷ []) (suc n) d named len last other = absurd (omega arith)
+add_other (e ∷ f ∷ ds) zero d named len last other = absurd (omega arith)
+add_other (e ∷ f ∷ ds) (suc n) d named len last other = ap (λ (more : List DeviceSpec). e ∷ more) (add_other (f ∷ ds) n d named (omega arith) last other)
+
+pub add_first : (ds : List DeviceSpec) (named : NamedLine) → length ds ≡ 0 → ds ++ alone named ∷ [] ≡ add_line ds named
+add_first [] named none = refl
+add_first (d ∷ ds) named none = absurd (omega arith)
 
 -- a line before and a line after
 add_join : (one : NamedLine) (ds : List DeviceSpec) (named : NamedLine) → add_line (join_line one ds) named ≡ join_line one (add_line ds named)
@@ -106,3 +122,12 @@ read_named n (label ∷ fs) named h =
     let a = read_value (fault_of_row (label ∷ fs)) (named_in n (label ∷ fs)) named h in
     let b = and_parts (is_device_name (name_in label)) (has_body_names fs) (names_true (is_row (label ∷ fs)) (is_line (label ∷ fs)) (has_names (label ∷ fs)) a.0) in
     rw (← a.1) b.0
+
+-- a line that was read, and those that are left
+pub devices_left : (lines more : List (List ℕ)) (line : List ℕ) (n m : ℕ) (row : List (List ℕ)) (devices new all : List DeviceSpec) → lines ≡ line ∷ more → m ≡ suc n → row ≡ row_of line → new ≡ with_reading devices (row_reading n row)
+    → with_rows devices n (rows_of lines) ≡ all → with_rows new m (rows_of more) ≡ all
+devices_left lines more line n m row devices new all is_first is_next is_row is_read so_far = rw (is_next, is_read, is_row) (rw is_first at so_far)
+
+pub faults_left : (lines more : List (List ℕ)) (line : List ℕ) (n m : ℕ) (row : List (List ℕ)) (seen new all : FirstFaults) → lines ≡ line ∷ more → m ≡ suc n → row ≡ row_of line → new ≡ noted_at Source seen n (fault_of_row row)
+    → noted_rows Source fault_of_row seen n (rows_of lines) ≡ all → noted_rows Source fault_of_row new m (rows_of more) ≡ all
+faults_left lines more line n m row seen new all is_first is_next is_row is_read so_far = rw (is_next, is_read, is_row) (rw is_first at so_far)

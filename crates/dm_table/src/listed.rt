@@ -3,8 +3,9 @@
 //! A contract compares lists, but not where a `Vec` lies in memory; so what others own holds this in
 //! place of a `Vec`.
 
-ghost use Rattle.std.specs.Prelude.{◌≡◌};
+ghost use Rattle.std.specs.Prelude.{◌≡◌, ◌++◌, ◌∷◌, [], OnOk};
 
+use std::alloc::AllocError;
 use std::marker::Model;
 
 /// Values in their order. A clause sees them as a list.
@@ -41,5 +42,15 @@ impl<T> Listed<T> {
         ensures { result.now ≡ self.now }
     {
         self.items.as_slice()
+    }
+}
+
+impl<T: Drop> Listed<T> {
+    /// Adds a value behind the others.
+    pub(crate) fn push(&mut self, value: T) -> Result<(), AllocError>
+        ensures { OnOk result (self.new ≡ self.old ++ value ∷ []) }
+    {
+        self.items.push(value)?;
+        Ok(())
     }
 }

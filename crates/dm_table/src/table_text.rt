@@ -4,14 +4,14 @@
 //! them is kept until the end, where the checks take precedence in the order of the definitions. A
 //! new target type belongs in `line_body`.
 
-ghost use Rattle.std.specs.Prelude.{◌≡◌, ◌≢◌, List, [], ◌∷◌, ◌++◌, None, Some, Ok, IfOk, IfErr, OnOk, IsTrue};
+ghost use Rattle.std.specs.Prelude.{◌≡◌, ◌≢◌, ◌+◌, List, [], length, None, Some, Ok, IfOk, IfErr, OnOk, IsTrue};
 ghost use Rattle.dm_table.specs.declared.place.Part.TheVariants.{Source};
 ghost use Rattle.dm_table.specs.declared.load_fault.LoadKind.TheVariants.{Memory};
 ghost use Rattle.dm_table.specs.declared.table.DeviceSpec.{DeviceSpec};
-ghost use Rattle.dm_table.specs.Fields.{texts};
+ghost use Rattle.dm_table.specs.Fields.{texts, lines_of, rest_of};
 ghost use Rattle.dm_table.specs.LoadFault.{Answers, IsMemoryFault, first_fault};
 ghost use Rattle.dm_table.specs.Name.{is_device_name};
-ghost use Rattle.dm_table.specs.RowFaults.{no_faults, noted_at, noted_rows};
+ghost use Rattle.dm_table.specs.RowFaults.{no_faults, noted_at, noted_rest, noted_rows};
 ghost use Rattle.dm_table.specs.Parsed.{IsParsed};
 ghost use Rattle.dm_table.specs.TableText.{DescribesTable, table_checks};
 ghost use Rattle.dm_table.specs.TableReading.{named_of, alone, add_line, fault_of_row, row_reading, with_reading, with_rows, rows_of, read_rows};
@@ -20,9 +20,10 @@ use crate::load_fault::LoadFault;
 use crate::name::Name;
 use crate::place::Part;
 use crate::row_faults::FirstFaults;
-use crate::table::{DeviceSpec, Line, Table};
+use crate::table::{DeviceSpec, Table};
 use crate::table_row::{Row, cut_row, read_row};
-use crate::text_checks::text_lines;
+use crate::text_checks::check_text;
+use memchr::memchr;
 use std::alloc::{AllocError, Global};
 
 /// The devices of table text, in its order. Neighbouring lines of one name are one device, whose
@@ -57,20 +58,19 @@ pub fn parse_table(alloc: Global, text: &[u8]) -> Result<Vec<DeviceSpec>, LoadFa
 fn read(alloc: Global, text: &[u8]) -> Result<Vec<DeviceSpec>, LoadFault>
     ensures { IsParsed Source (DescribesTable text.now) (table_checks text.now) result }
 {
-    let cut = text_lines(alloc, Part::Source, text)?;
-    read_lines(alloc, &cut.lines, cut.rest)
+    match check_text(alloc, Part::Source, text) {
+        Ok(()) => read_lines(alloc, text),
+        Err(fault) => Err(fault),
+    }
 }
 
-fn read_lines(alloc: Global, lines: &[&[u8]], rest: &[u8]) -> Result<Vec<DeviceSpec>, LoadFault>
-    ensures { Answers Source (λ v. v.items) result (read_rows (rows_of (texts lines.now)) rest.now) }
+fn read_lines(alloc: Global, text: &[u8]) -> Result<Vec<DeviceSpec>, LoadFault>
+    ensures { Answers Source (λ v. v.items) result (read_rows (rows_of (lines_of text.now)) (rest_of text.now)) }
 {
-    let mut reading = match read_rows(alloc, lines) {
+    let reading = match read_rows(alloc, text) {
         Ok(reading) => reading,
         Err(_) => return Err(LoadFault::memory(Part::Source)),
     };
-    reading
-        .faults
-        .note_rest(Part::Source, lines.len() as u64 + 1, rest);
     match reading.faults.first() {
         Some(fault) => Err(fault),
         None => Ok(reading.devices),
@@ -84,22 +84,29 @@ struct Reading {
     faults: FirstFaults,
 }
 
-/// Reads each line, with one list of fields for all of them.
-fn read_rows(alloc: Global, lines: &[&[u8]]) -> Result<Reading, AllocError>
+/// Reads each line where it stands, with one list of fields for all of them, and then what stands
+/// after the last newline.
+fn read_rows(alloc: Global, text: &[u8]) -> Result<Reading, AllocError>
     ensures devices { IfOk result (λ reading. reading.devices.items
-        ≡ with_rows [] 1 (rows_of (texts lines.now))) }
-    ensures faults { IfOk result (λ reading. reading.faults
-        ≡ noted_rows Source fault_of_row no_faults 1 (rows_of (texts lines.now))) }
+        ≡ with_rows [] 1 (rows_of (lines_of text.now))) }
+    ensures faults { IfOk result (λ reading. reading.faults ≡ noted_rest Source
+        (noted_rows Source fault_of_row no_faults 1 (rows_of (lines_of text.now))) (length (lines_of text.now) + 1) (rest_of text.now)) }
 {
     let mut reading = Reading {
         devices: Vec::new(alloc),
         faults: FirstFaults::new(),
     };
     let mut fields = Vec::new(alloc);
-    for (index, line) in lines.iter().enumerate() {
-        cut_row(&mut fields, *line)?;
-        reading.read_row(alloc, &fields, index as u64 + 1)?;
+    let mut number = 1u64;
+    let mut rest = text;
+    while let Some(end) = memchr(b'\n', rest) {
+        let (line, after) = rest.split_at(end);
+        cut_row(&mut fields, line)?;
+        reading.read_row(alloc, &fields, number)?;
+        number += 1;
+        rest = &after[1..];
     }
+    reading.faults.note_rest(Part::Source, number, rest);
     Ok(reading)
 }
 
@@ -123,16 +130,11 @@ fn add_line(alloc: Global, devices: &mut Vec<DeviceSpec>, row: Row<'_>) -> Resul
     requires { IsTrue (is_device_name row.name.now) }
     ensures { OnOk result (devices.new.items ≡ add_line devices.old.items (named_of row.entry)) }
 {
-    let Some(last) = devices.pop() else {
-        devices.push(device_of(alloc, row)?)?;
-        return Ok(());
-    };
-    if row.name == last.name.as_str().as_bytes() {
-        let longer = with_line(last, row.line)?;
-        devices.push(longer)?;
-        return Ok(());
+    if let Some(last) = devices.last_mut() {
+        if row.name == last.name.as_str().as_bytes() {
+            return last.lines.push(row.line);
+        }
     }
-    devices.push(last)?;
     devices.push(device_of(alloc, row)?)?;
     Ok(())
 }
@@ -151,19 +153,5 @@ fn device_of(alloc: Global, row: Row<'_>) -> Result<DeviceSpec, AllocError>
         ro: false,
         lines: Table::from_vec(lines),
         at,
-    })
-}
-
-/// The device with one more line.
-fn with_line(device: DeviceSpec, line: Line) -> Result<DeviceSpec, AllocError>
-    ensures { IfOk result (λ longer. longer ≡ record device { lines = device.lines ++ line ∷ [] }) }
-{
-    let mut lines = device.lines.into_vec();
-    lines.push(line)?;
-    Ok(DeviceSpec {
-        name: device.name,
-        ro: device.ro,
-        lines: Table::from_vec(lines),
-        at: device.at,
     })
 }

@@ -1,12 +1,12 @@
 //! The check that all texts of lines share and that runs first: bytes that are no text.
 //!
-//! What it finds comes before what is wrong with a row, so a text is cut and checked before its rows
-//! are read.
+//! What it finds comes before what is wrong with a row, so a text is checked before its rows are
+//! read.
 
 ghost use Rattle.std.specs.Prelude.{◌≡◌, ◌≢◌, None, not, IfSome};
 ghost use Rattle.dm_table.specs.declared.load_fault.LoadKind.TheVariants.{NotText, Memory};
 ghost use Rattle.dm_table.specs.ConciseText.{is_printed};
-ghost use Rattle.dm_table.specs.Fields.{texts, parts_at, cut_text, lines_and_rest};
+ghost use Rattle.dm_table.specs.Fields.{texts, cut_text, lines_and_rest};
 ghost use Rattle.dm_table.specs.LoadFault.{Answers, unless, first_or, faults_from, is_text, not_text};
 
 use crate::fields::{Lines, cut, without_rest};
@@ -15,7 +15,7 @@ use crate::place::Part;
 use std::alloc::Global;
 
 /// The lines of a text and what stands after its last newline, unless a byte of it is no text.
-/// One pass to cut the text, one to check it.
+/// One pass to check the text, one to cut it.
 pub(crate) fn text_lines<'a>(
     alloc: Global,
     part: Part,
@@ -23,24 +23,30 @@ pub(crate) fn text_lines<'a>(
 ) -> Result<Lines<'a>, LoadFault>
     ensures { Answers part cut_text result (unless (first_or (not_text part text.now) None) (lines_and_rest text.now)) }
 {
-    let parts = cut(alloc, b'\n', text).map_err(|_| LoadFault::memory(part))?;
-    if let Some(fault) = not_text(part, text, &parts) {
+    if let Err(fault) = check_text(alloc, part, text) {
         return Err(fault);
     }
-    Ok(without_rest(parts))
+    match cut(alloc, b'\n', text) {
+        Ok(parts) => Ok(without_rest(parts)),
+        Err(_) => Err(LoadFault::memory(part)),
+    }
 }
 
-/// The first part of a text cut at newlines that has a byte outside 0x20 to 0x7E.
-fn not_text(part: Part, text: &[u8], parts: &[&[u8]]) -> Option<LoadFault>
-    requires { texts parts.now ≡ parts_at 10 text.now }
-    ensures value { result ≡ first_or (not_text part text.now) None }
-    ensures kind { IfSome result (λ fault. fault.kind ≢ Memory) }
+/// Refuses a text with a byte that is no text. One pass, and some more over a text that is refused.
+pub(crate) fn check_text(alloc: Global, part: Part, text: &[u8]) -> Result<(), LoadFault>
+    ensures { Answers part (λ _. lines_and_rest text.now) result (unless (first_or (not_text part text.now) None) (lines_and_rest text.now)) }
 {
     // Most texts have no such byte, and the whole is asked faster than line after line.
     if is_printed(text) {
-        return None;
+        return Ok(());
     }
-    bad_line(part, parts)
+    let Ok(parts) = cut(alloc, b'\n', text) else {
+        return Err(LoadFault::memory(part));
+    };
+    match bad_line(part, &parts) {
+        Some(fault) => Err(fault),
+        None => Ok(()),
+    }
 }
 
 /// The first of lines that has a byte outside 0x20 to 0x7E.
