@@ -106,12 +106,7 @@ token_again : (t : Token) (after : List ℕ) → IsToken t after → piece_at (t
 unfolding piece_at
 token_again (Word w) after h = word_again' w after h
 token_again (Text t) after h = ap (λ (xs : List ℕ). piece_at (34 ∷ xs)) (append_assoc t (34 ∷ []) after) ∙ text_again t after h
-token_again Open after h = refl
-token_again Close after h = refl
-token_again ListOpen after h = refl
-token_again ListClose after h = refl
-token_again Equals after h = refl
-token_again Comma after h = refl
+token_again _ after h = refl
 
 spelled_again : (p : Piece) (after : List ℕ) → IsPiece p after → piece_at (spelling p ++ after) ≡ Some (p, after)
 spelled_again (White b) after h = white_again b after h

@@ -118,12 +118,7 @@ comment_newlines c h = omega (arith, newlines-append c (10 ∷ []), line_newline
 pub token_newlines : (t : Token) (after : List ℕ) → IsToken t after → newlines (token_spelling t) ≡ 0
 token_newlines (Word w) after h = word_newlines w h.bytes
 token_newlines (Text t) after h = omega (arith, newlines-append t (34 ∷ []), raw_newlines t h)
-token_newlines Open after h = refl
-token_newlines Close after h = refl
-token_newlines ListOpen after h = refl
-token_newlines ListClose after h = refl
-token_newlines Equals after h = refl
-token_newlines Comma after h = refl
+token_newlines _ after h = refl
 
 most_lines : (t : Bool) (a b : ℕ) → a ≤ b → cond t (suc a) a ≤ suc b
 most_lines true a b h = omega arith

@@ -7,7 +7,7 @@ use Rattle.lvm_text.specs.Token.{Token, Word, Open, Close, ListOpen, ListClose, 
 use Rattle.lvm_text.specs.Tree.{Scalar, Values, Nothing, Section, Single, Several, Tree}
 use Rattle.lvm_text.specs.Grammar.{scalar_of, ReadsList, ReadsMore, Reads, IsText, IsFront, IsBreak, IsSyntaxLine}
 use Rattle.lvm_text.specs.Build.{begins_key}
-use Rattle.lvm_text.specs.Spelling.{Spells, newlines}
+use Rattle.lvm_text.specs.Spelling.{Spells, IsBadToken, newlines}
 use Rattle.lvm_text.specs.Checks.{fault_of}
 use Rattle.lvm_text.specs.Reading.{Describes, IsBadSyntax, IsUnsound, HasFault, Answers}
 use Rattle.lvm_text.specs.declared.fault.TextFault.{TextFault}
@@ -194,60 +194,41 @@ syntax_one text m n h k =
 pub no_fault : (text : List ℕ) (t : Tree) (f : TextFault) → Describes text t → HasFault text f → ⊥
 no_fault text t (fault.Token n) h k = spelled_no_bad text h.tokens n h.spelled k
 no_fault text t (fault.Syntax n) h k = syntax_read text n h.tokens t.values k (described_read text t h)
-no_fault text t (fault.Deep n) h k = sound_unsound text t (fault.Deep n) h k
-no_fault text t (fault.Number n) h k = sound_unsound text t (fault.Number n) h k
-no_fault text t (fault.KeyTwice n) h k = sound_unsound text t (fault.KeyTwice n) h k
 no_fault text t fault.Memory h k = k
+no_fault text t f h k = sound_unsound text t f h k
+
+-- a bad token, bad syntax or an unsound text is the one fault
+token_first : (text : List ℕ) (m : ℕ) (g : TextFault) → IsBadToken text m → HasFault text g → fault.Token m ≡ g
+token_first text m (fault.Token n) h k = ap (λ (l : ℕ). fault.Token l) (one_bad text m n h k)
+token_first text m fault.Memory h k = absurd k
+token_first text m _ h k = absurd (spelled_no_bad text k.tokens m k.spelled h)
+
+syntax_first : (text : List ℕ) (m : ℕ) (g : TextFault) → IsBadSyntax text m → HasFault text g → fault.Syntax m ≡ g
+syntax_first text m (fault.Token n) h k = absurd (spelled_no_bad text h.tokens n h.spelled k)
+syntax_first text m (fault.Syntax n) h k = ap (λ (l : ℕ). fault.Syntax l) (syntax_one text m n h k)
+syntax_first text m fault.Memory h k = absurd k
+syntax_first text m g h k = absurd (syntax_read text m k.tokens k.values h (unsound_read text g k))
+
+unsound_first : (text : List ℕ) (f g : TextFault) → IsUnsound text f → HasFault text g → f ≡ g
+unsound_first text f (fault.Token n) h k = absurd (spelled_no_bad text h.tokens n h.spelled k)
+unsound_first text f (fault.Syntax n) h k = absurd (syntax_read text n h.tokens h.values k (unsound_read text f h))
+unsound_first text f fault.Memory h k = absurd k
+unsound_first text f g h k = unsound_one text f g h k
 
 pub one_fault : (text : List ℕ) (f g : TextFault) → HasFault text f → HasFault text g → f ≡ g
-one_fault text (fault.Token m) (fault.Token n) h k = ap (λ (l : ℕ). fault.Token l) (one_bad text m n h k)
-one_fault text (fault.Syntax m) (fault.Syntax n) h k = ap (λ (l : ℕ). fault.Syntax l) (syntax_one text m n h k)
-one_fault text (fault.Token m) (fault.Syntax n) h k = absurd (spelled_no_bad text k.tokens m k.spelled h)
-one_fault text (fault.Syntax m) (fault.Token n) h k = absurd (spelled_no_bad text h.tokens n h.spelled k)
-one_fault text (fault.Token m) (fault.Deep n) h k = absurd (spelled_no_bad text k.tokens m k.spelled h)
-one_fault text (fault.Deep m) (fault.Token n) h k = absurd (spelled_no_bad text h.tokens n h.spelled k)
-one_fault text (fault.Syntax m) (fault.Deep n) h k = absurd (syntax_read text m k.tokens k.values h (unsound_read text (fault.Deep n) k))
-one_fault text (fault.Deep m) (fault.Syntax n) h k = absurd (syntax_read text n h.tokens h.values k (unsound_read text (fault.Deep m) h))
-one_fault text (fault.Deep m) (fault.Deep n) h k = unsound_one text (fault.Deep m) (fault.Deep n) h k
-one_fault text (fault.Deep m) (fault.Number n) h k = unsound_one text (fault.Deep m) (fault.Number n) h k
-one_fault text (fault.Deep m) (fault.KeyTwice n) h k = unsound_one text (fault.Deep m) (fault.KeyTwice n) h k
-one_fault text (fault.Token m) (fault.Number n) h k = absurd (spelled_no_bad text k.tokens m k.spelled h)
-one_fault text (fault.Number m) (fault.Token n) h k = absurd (spelled_no_bad text h.tokens n h.spelled k)
-one_fault text (fault.Syntax m) (fault.Number n) h k = absurd (syntax_read text m k.tokens k.values h (unsound_read text (fault.Number n) k))
-one_fault text (fault.Number m) (fault.Syntax n) h k = absurd (syntax_read text n h.tokens h.values k (unsound_read text (fault.Number m) h))
-one_fault text (fault.Number m) (fault.Deep n) h k = unsound_one text (fault.Number m) (fault.Deep n) h k
-one_fault text (fault.Number m) (fault.Number n) h k = unsound_one text (fault.Number m) (fault.Number n) h k
-one_fault text (fault.Number m) (fault.KeyTwice n) h k = unsound_one text (fault.Number m) (fault.KeyTwice n) h k
-one_fault text (fault.Token m) (fault.KeyTwice n) h k = absurd (spelled_no_bad text k.tokens m k.spelled h)
-one_fault text (fault.KeyTwice m) (fault.Token n) h k = absurd (spelled_no_bad text h.tokens n h.spelled k)
-one_fault text (fault.Syntax m) (fault.KeyTwice n) h k = absurd (syntax_read text m k.tokens k.values h (unsound_read text (fault.KeyTwice n) k))
-one_fault text (fault.KeyTwice m) (fault.Syntax n) h k = absurd (syntax_read text n h.tokens h.values k (unsound_read text (fault.KeyTwice m) h))
-one_fault text (fault.KeyTwice m) (fault.Deep n) h k = unsound_one text (fault.KeyTwice m) (fault.Deep n) h k
-one_fault text (fault.KeyTwice m) (fault.Number n) h k = unsound_one text (fault.KeyTwice m) (fault.Number n) h k
-one_fault text (fault.KeyTwice m) (fault.KeyTwice n) h k = unsound_one text (fault.KeyTwice m) (fault.KeyTwice n) h k
-one_fault text (fault.Token m) fault.Memory h k = absurd k
-one_fault text (fault.Syntax m) fault.Memory h k = absurd k
-one_fault text (fault.Deep m) fault.Memory h k = absurd k
-one_fault text (fault.Number m) fault.Memory h k = absurd k
-one_fault text (fault.KeyTwice m) fault.Memory h k = absurd k
+one_fault text (fault.Token m) g h k = token_first text m g h k
+one_fault text (fault.Syntax m) g h k = syntax_first text m g h k
 one_fault text fault.Memory g h k = absurd h
+one_fault text f g h k = unsound_first text f g h k
 
 -- What is answered truly is the one answer
 
 pub only_tree : (text : List ℕ) (r : Result Tree TextFault) → IfOk r (Describes text) → IfErr r (λ f. f ≢ fault.Memory → HasFault text f) → (t : Tree) → Describes text t → Answers r (Ok t)
 only_tree text (Ok s) a b t h = ap (λ (x : Tree). Ok x) (one_tree text s t a h)
-only_tree text (Err (fault.Token n)) a b t h = absurd (no_fault text t (fault.Token n) h (b (λ e. cc)))
-only_tree text (Err (fault.Syntax n)) a b t h = absurd (no_fault text t (fault.Syntax n) h (b (λ e. cc)))
-only_tree text (Err (fault.Deep n)) a b t h = absurd (no_fault text t (fault.Deep n) h (b (λ e. cc)))
-only_tree text (Err (fault.Number n)) a b t h = absurd (no_fault text t (fault.Number n) h (b (λ e. cc)))
-only_tree text (Err (fault.KeyTwice n)) a b t h = absurd (no_fault text t (fault.KeyTwice n) h (b (λ e. cc)))
 only_tree text (Err fault.Memory) a b t h = tt
+only_tree text (Err e) a b t h = absurd (no_fault text t e h (b (λ wrong. cc)))
 
 pub only_fault : (text : List ℕ) (r : Result Tree TextFault) → IfOk r (Describes text) → IfErr r (λ f. f ≢ fault.Memory → HasFault text f) → (f : TextFault) → HasFault text f → Answers r (Err f)
 only_fault text (Ok s) a b f h = absurd (no_fault text s f a h)
-only_fault text (Err (fault.Token n)) a b f h = ap (λ (x : TextFault). Err x) (one_fault text (fault.Token n) f (b (λ e. cc)) h)
-only_fault text (Err (fault.Syntax n)) a b f h = ap (λ (x : TextFault). Err x) (one_fault text (fault.Syntax n) f (b (λ e. cc)) h)
-only_fault text (Err (fault.Deep n)) a b f h = ap (λ (x : TextFault). Err x) (one_fault text (fault.Deep n) f (b (λ e. cc)) h)
-only_fault text (Err (fault.Number n)) a b f h = ap (λ (x : TextFault). Err x) (one_fault text (fault.Number n) f (b (λ e. cc)) h)
-only_fault text (Err (fault.KeyTwice n)) a b f h = ap (λ (x : TextFault). Err x) (one_fault text (fault.KeyTwice n) f (b (λ e. cc)) h)
 only_fault text (Err fault.Memory) a b f h = tt
+only_fault text (Err e) a b f h = ap (λ (x : TextFault). Err x) (one_fault text e f (b (λ wrong. cc)) h)
