@@ -96,16 +96,7 @@ pub fn write_table<W: Output>(devices: &[DeviceSpec], writer: &mut W) -> Result<
     ensures reads_back { (text : List ℕ) (said : List DeviceSpec) → DescribesTable text said
         → as_table 1 said ≡ as_table 1 devices.now
         → DescribesTable (table_text devices.now) (as_table 1 devices.now) }
-    ensures appends { W.written writer.new
-        ≡ W.written writer.old ++ since (W.written writer.old) (W.written writer.new) }
-    ensures ok { OnOk result (since (W.written writer.old) (W.written writer.new) ≡ table_text devices.now) }
-    ensures err { OnErr result (IsBeginning (table_text devices.now) (since (W.written writer.old) (W.written writer.new))) }
-    // A write fails only where something is left to write.
-    ensures left { OnErr result (IsCutShort (table_text devices.now) (since (W.written writer.old) (W.written writer.new))) }
-    ensures waiting { W.waiting writer.new
-        ≡ W.waiting writer.old ++ since (W.written writer.old) (W.written writer.new) }
-    ensures faults { W.faults writer.new ≡ W.faults writer.old + fault_of result }
-    ensures flushes { W.flushes writer.new ≡ W.flushes writer.old }
+    ensures wrote { Wrote W.written W.waiting W.faults W.flushes writer.old writer.new result (table_text devices.now) }
 {
     write_every_line(writer, devices)
 }
@@ -206,16 +197,7 @@ pub fn write_concise<W: Output>(devices: &[DeviceSpec], writer: &mut W) -> Resul
     ensures reads_back { (text : List ℕ) (said : List DeviceSpec) → DescribesConcise text said
         → as_concise 1 said ≡ as_concise 1 devices.now
         → DescribesConcise (concise_text devices.now) (as_concise 1 devices.now) }
-    ensures appends { W.written writer.new
-        ≡ W.written writer.old ++ since (W.written writer.old) (W.written writer.new) }
-    ensures ok { OnOk result (since (W.written writer.old) (W.written writer.new) ≡ concise_text devices.now) }
-    ensures err { OnErr result (IsBeginning (concise_text devices.now) (since (W.written writer.old) (W.written writer.new))) }
-    // A write fails only where something is left to write.
-    ensures left { OnErr result (IsCutShort (concise_text devices.now) (since (W.written writer.old) (W.written writer.new))) }
-    ensures waiting { W.waiting writer.new
-        ≡ W.waiting writer.old ++ since (W.written writer.old) (W.written writer.new) }
-    ensures faults { W.faults writer.new ≡ W.faults writer.old + fault_of result }
-    ensures flushes { W.flushes writer.new ≡ W.flushes writer.old }
+    ensures wrote { Wrote W.written W.waiting W.faults W.flushes writer.old writer.new result (concise_text devices.now) }
 {
     write_ended(writer, devices)
 }
