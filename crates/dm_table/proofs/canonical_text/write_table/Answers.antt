@@ -2,4 +2,4 @@ use Rattle.dm_table.proofs.CanonicalTable.{table_reads_back}
 use Rattle.dm_table.proofs.canonical_text.write_table.Goals as goal
 
 pub returns-clause-reads_back : goal.returns-clause-reads_back
-returns-clause-reads_back g c = λ text said describes same. table_reads_back text said c.args.devices.now describes same
+returns-clause-reads_back g c = table_reads_back c.args.devices.now
