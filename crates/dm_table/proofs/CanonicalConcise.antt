@@ -7,7 +7,7 @@ use Rattle.dm_table.specs.declared.table.DeviceSpec.{DeviceSpec}
 use Rattle.dm_table.specs.declared.place.Place.{Place}
 use Rattle.dm_table.specs.LineBody.{body_text}
 use Rattle.dm_table.specs.ConciseText.{place_of, is_ro, is_flags, SaysLines, SaysDevice, SaysDevices, DescribesConcise}
-use Rattle.dm_table.specs.CanonicalText.{flag_text, concise_device, concise_text, lines_at, as_concise}
+use Rattle.dm_table.specs.CanonicalText.{ReadsBack, flag_text, concise_device, concise_text, lines_at, as_concise}
 
 -- Places are not written
 
@@ -91,7 +91,7 @@ written_says text said d = record {
 }
 
 -- and so of devices that differ from those in places alone
-pub concise_reads_back : (text : List ℕ) (said devices : List DeviceSpec) → DescribesConcise text said → as_concise 1 said ≡ as_concise 1 devices → DescribesConcise (concise_text devices) (as_concise 1 devices)
-concise_reads_back text said devices d same =
+pub concise_reads_back : (devices : List DeviceSpec) → ReadsBack DescribesConcise (as_concise 1) concise_text devices
+concise_reads_back devices text said d same =
     let texts : concise_text said ≡ concise_text devices = sym (text_as 1 said) ∙ ap concise_text same ∙ text_as 1 devices in
     rw (← texts, ← same) (written_says text said d)

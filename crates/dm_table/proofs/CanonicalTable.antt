@@ -10,7 +10,7 @@ use Rattle.dm_table.specs.declared.place.Part.TheVariants.{Source}
 use Rattle.dm_table.specs.Name.{is_device_name}
 use Rattle.dm_table.specs.LineBody.{IsBody}
 use Rattle.dm_table.specs.TableText.{NamedLine, line_text, Says, named_lines, HasPlaceOf, IsDescribed, AreApart, DescribesTable}
-use Rattle.dm_table.specs.CanonicalText.{lines_text, table_text, placed_lines, as_table}
+use Rattle.dm_table.specs.CanonicalText.{ReadsBack, lines_text, table_text, placed_lines, as_table}
 use Rattle.dm_table.proofs.TableGroups.{named_of}
 
 -- Places and flags are not written
@@ -103,7 +103,7 @@ written_says text said d = record {
 }
 
 -- and so of devices that differ from those in places and flags alone
-pub table_reads_back : (text : List ℕ) (said devices : List DeviceSpec) → DescribesTable text said → as_table 1 said ≡ as_table 1 devices → DescribesTable (table_text devices) (as_table 1 devices)
-table_reads_back text said devices d same =
+pub table_reads_back : (devices : List DeviceSpec) → ReadsBack DescribesTable (as_table 1) table_text devices
+table_reads_back devices text said d same =
     let texts : table_text said ≡ table_text devices = sym (text_as 1 said) ∙ ap table_text same ∙ text_as 1 devices in
     rw (← texts, ← same) (written_says text said d)

@@ -36,36 +36,28 @@ worse-none (Some Field) = refl
 worse-none (Some Name) = refl
 worse-none (Some Memory) = refl
 
+-- a fault of a field hides what it hides once, and is none behind that of a name
+field_again : (c : Option RowFault) → (worse (Some Field) (worse (Some Field) c) ≡ worse (Some Field) c) × (worse (Some Name) (worse (Some Field) c) ≡ worse (Some Field) c)
+field_again None = (refl, refl)
+field_again (Some Syntax) = (refl, refl)
+field_again (Some Field) = (refl, refl)
+field_again (Some Name) = (refl, refl)
+field_again (Some Memory) = (refl, refl)
+
 pub worse-more : (a b c : Option RowFault) → b ≢ Some Memory → worse (worse a b) c ≡ worse a (worse b c)
 worse-more None b c h = refl
-worse-more (Some Syntax) b c h = refl
-worse-more (Some Memory) b c h = refl
-worse-more (Some Field) None c h = refl
+worse-more (Some a) None c h = rw (worse-none (Some a)) refl
+worse-more (Some a) (Some Memory) c h = absurd (h refl)
+worse-more (Some Syntax) (Some b) c h = refl
+worse-more (Some Memory) (Some b) c h = refl
 worse-more (Some Field) (Some Syntax) c h = refl
-worse-more (Some Field) (Some Field) None h = refl
-worse-more (Some Field) (Some Field) (Some Syntax) h = refl
-worse-more (Some Field) (Some Field) (Some Field) h = refl
-worse-more (Some Field) (Some Field) (Some Name) h = refl
-worse-more (Some Field) (Some Field) (Some Memory) h = refl
+worse-more (Some Field) (Some Field) c h = sym (field_again c).0
 worse-more (Some Field) (Some Name) None h = refl
-worse-more (Some Field) (Some Name) (Some Syntax) h = refl
-worse-more (Some Field) (Some Name) (Some Field) h = refl
-worse-more (Some Field) (Some Name) (Some Name) h = refl
-worse-more (Some Field) (Some Name) (Some Memory) h = refl
-worse-more (Some Field) (Some Memory) c h = absurd (h refl)
-worse-more (Some Name) None c h = refl
+worse-more (Some Field) (Some Name) (Some other) h = refl
 worse-more (Some Name) (Some Syntax) c h = refl
-worse-more (Some Name) (Some Field) None h = refl
-worse-more (Some Name) (Some Field) (Some Syntax) h = refl
-worse-more (Some Name) (Some Field) (Some Field) h = refl
-worse-more (Some Name) (Some Field) (Some Name) h = refl
-worse-more (Some Name) (Some Field) (Some Memory) h = refl
+worse-more (Some Name) (Some Field) c h = sym (field_again c).1
 worse-more (Some Name) (Some Name) None h = refl
-worse-more (Some Name) (Some Name) (Some Syntax) h = refl
-worse-more (Some Name) (Some Name) (Some Field) h = refl
-worse-more (Some Name) (Some Name) (Some Name) h = refl
-worse-more (Some Name) (Some Name) (Some Memory) h = refl
-worse-more (Some Name) (Some Memory) c h = refl
+worse-more (Some Name) (Some Name) (Some other) h = refl
 
 never_memory : (row known named : Bool) → row_fault row (value_fault known named) ≢ Some Memory
 never_memory true true true e = absurd cc

@@ -1,11 +1,13 @@
 -- Checks that find something, and checks that find nothing.
-use Rattle.std.proofs.Common.{◌≡◌, ◌≢◌, inl, inr, ℕ, suc, Bool, true, false, cond, List, [], ◌∷◌, ◌++◌, map, Option, Some, None, Ok, Err, refl, ap, ◌∙◌}
+use Rattle.std.proofs.Common.{◌≡◌, ◌≢◌, ◌≤◌, length, arith, inl, inr, ℕ, suc, Bool, true, false, cond, List, [], ◌∷◌, ◌++◌, map, Option, Some, None, Ok, Err, refl, ap, ◌∙◌}
 use Rattle.std.specs.List.{AllByRecursion}
 use Rattle.std.proofs.lemmas.Bool.{cases_Bool}
 use Rattle.dm_table.specs.declared.place.Part.{Part}
+use Rattle.dm_table.specs.declared.place.Part.TheVariants.{Source, Disks}
 use Rattle.dm_table.specs.declared.load_fault.LoadKind.{LoadKind}
 use Rattle.dm_table.specs.declared.load_fault.LoadKind.TheVariants.{Memory}
 use Rattle.dm_table.specs.declared.load_fault.LoadFault.{LoadFault}
+use Rattle.dm_table.specs.LoadMessage.{part_word}
 use Rattle.dm_table.specs.LoadFault.{Answers, fault_at, first_or, first_fault, faults_from, unless, unended}
 
 -- One check before others
@@ -124,3 +126,9 @@ pub first_fault-text : (checks : List (List LoadFault)) (fault : LoadFault) → 
 first_fault-text [] fault h e = absurd cc
 first_fault-text ([] ∷ checks) fault h e = first_fault-text checks fault h.1 e
 first_fault-text ((other ∷ faults) ∷ checks) fault h e = let same : other ≡ fault = cc in rw (← same) h.0.0
+
+-- The words of a message
+
+pub part_short : (part : Part) → length (part_word part) ≤ 6
+part_short Source = omega arith
+part_short Disks = omega arith

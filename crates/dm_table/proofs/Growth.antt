@@ -1,5 +1,5 @@
 -- Lists that only grow, told by what is new.
-use Rattle.std.proofs.Common.{Result, Ok, Err, OnErr, [], ◌∷◌, ◌≡◌, ◌<◌, ◌≤◌, ℕ, ◌+◌, ◌-◌, List, ◌++◌, length, take, drop, sym, ap, ◌∙◌, append_assoc, take-append-drop, arith}
+use Rattle.std.proofs.Common.{Result, Ok, Err, OnErr, [], ◌∷◌, ◌≡◌, ◌<◌, ◌≤◌, ℕ, ◌+◌, ◌-◌, List, ◌++◌, length, take, drop, sym, ap, ◌∙◌, add-zero, append_assoc, take-append-drop, arith}
 use Rattle.std.proofs.Math.Seq.{take-add, drop-append_seam}
 use Rattle.std.proofs.lemmas.List.{take_rest, append-nil, drop-drop, length-drop}
 use Rattle.dm_table.specs.DeviceIo.{since}
@@ -66,6 +66,31 @@ write_step old mid new bytes rest n within few is e f =
     f ∙ ap (λ xs. mid ++ take n xs) is ∙ ap (λ xs. xs ++ take n (drop at bytes)) e
     ∙ append_assoc old (take at bytes) (take n (drop at bytes)) ∙ ap (λ xs. old ++ xs) (sym (take-add at n bytes))
     ∙ ap (λ at. old ++ take at bytes) (sym (before_behind bytes rest n within few))
+
+-- how far some bytes are written: those before a rest of them, and nothing failed
+abbrev pub IsSent : {X : Type 0} (written waiting : X → List ℕ) (faults flushes : X → ℕ) (old new : X) (bytes rest : List ℕ) → Type 0
+IsSent written waiting faults flushes old new bytes rest =
+    let at = before bytes rest in
+    record {
+      within : length rest ≤ length bytes;
+      rest : rest ≡ drop at bytes;
+      written : written new ≡ written old ++ take at bytes;
+      waiting : waiting new ≡ waiting old ++ take at bytes;
+      faults : faults new ≡ faults old;
+      flushes : flushes new ≡ flushes old;
+    }
+
+-- a write further on
+pub sent_further : {X : Type 0} (written waiting : X → List ℕ) (faults flushes : X → ℕ) (old mid new : X) (bytes rest : List ℕ) (n : ℕ) → IsSent written waiting faults flushes old mid bytes rest → n ≤ length rest
+    → written new ≡ written mid ++ take n rest → waiting new ≡ waiting mid ++ take n rest → faults new ≡ faults mid + 0 → flushes new ≡ flushes mid → IsSent written waiting faults flushes old new bytes (behind rest n)
+sent_further written waiting faults flushes old mid new bytes rest n so_far few more held failed flushed = record {
+  within = behind_within bytes rest n so_far.within;
+  rest = rest_step bytes rest n so_far.within few so_far.rest;
+  written = write_step _ _ _ bytes rest n so_far.within few so_far.rest so_far.written more;
+  waiting = write_step _ _ _ bytes rest n so_far.within few so_far.rest so_far.waiting held;
+  faults = failed ∙ add-zero _ ∙ so_far.faults;
+  flushes = flushed ∙ so_far.flushes;
+}
 
 -- a fact is one at an error
 pub on_err : {T E : Type 0} (r : Result T E) (P : Type 0) → P → OnErr r P

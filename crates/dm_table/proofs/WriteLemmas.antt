@@ -1,12 +1,12 @@
 -- Texts written part by part.
-use Rattle.std.proofs.Common.{◌≡◌, ℕ, ◌+◌, ◌-◌, ◌<◌, ◌≤◌, map, arith, List, [], ◌∷◌, ◌++◌, length, take, drop, get_or, Result, Ok, Err, sym, ap, ◌∙◌, append_assoc, add-zero, take-append-drop}
+use Rattle.std.proofs.Common.{◌≡◌, ℕ, ◌+◌, ◌-◌, ◌<◌, ◌≤◌, map, arith, List, [], ◌∷◌, ◌++◌, length, take, drop, get_or, Result, Ok, Err, IsErrAnd, refl, sym, ap, ◌∙◌, append_assoc, add-zero, take-append-drop}
 use Rattle.std.specs.List.{flat_map, join_with_byte}
 use Rattle.std.proofs.Math.Seq.{take-add}
 use Rattle.std.proofs.lemmas.Grind.{flat_map-append}
 use Rattle.std.proofs.lemmas.List.{drop_more, append-nil, take_rest}
-use Rattle.std.specs.Prelude.{OnErr, decimal}
+use Rattle.std.proofs.lemmas.Result.{err_from_is_err_and}
+use Rattle.std.specs.Prelude.{decimal}
 use Rattle.dm_table.specs.DeviceIo.{since}
-use Rattle.dm_table.specs.WriteAll.{IsBeginning, IsCutShort}
 use Rattle.dm_table.specs.CanonicalText.{Wrote}
 use Rattle.dm_table.specs.declared.table.Line.{Line}
 use Rattle.dm_table.specs.declared.table.Target.{Target}
@@ -69,6 +69,11 @@ pub and_then : {X E : Type 0} {written waiting : X → List ℕ} {faults flushes
 and_then {written = written} {waiting = waiting} {faults = faults} {flushes = flushes} {old = old} {mid = mid} {new = new} {result = result} {text = text} first next is a b =
     wrote_then written waiting faults flushes old mid new result first next text is a b
 
+-- the fault of a part as a function returns it
+pub fault_in : {X E : Type 0} {written waiting : X → List ℕ} {faults flushes : X → ℕ} {old new : X} {fault : E} {text : List ℕ} (result : Result (Unit {0}) E) → IsErrAnd result (λ given. given ≡ fault)
+    → Wrote written waiting faults flushes old new (Err fault) text → Wrote written waiting faults flushes old new result text
+fault_in result is h = let given = err_from_is_err_and result is in rw (given.1, given.2) h
+
 -- what is written of the elements of a list, up to one of them, of it, and of the others
 pub flat_map_at : {X : Type 0} (f : X → List ℕ) (xs : List X) (i : ℕ) (x : X) → i < length xs → x ≡ get_or xs i x → flat_map f xs ≡ flat_map f (take i xs) ++ (f x ++ flat_map f (drop (i + 1) xs))
 flat_map_at f xs i x below is =
@@ -81,6 +86,20 @@ flat_map_next f xs i x below is =
     let rest : drop i xs ≡ x ∷ drop (i + 1) xs = drop_more xs i x below ∙ ap (λ y. y ∷ drop (i + 1) xs) (sym is) in
     ap (flat_map f) (take-add i 1 xs ∙ ap (λ ys. take i xs ++ take 1 ys) rest) ∙ flat_map-append f (take i xs) (x ∷ []) ∙ ap (λ ys. flat_map f (take i xs) ++ ys) (append-nil (f x))
 
+-- a fault at one of the elements
+pub each_stopped : {A X E : Type 0} {written waiting : X → List ℕ} {faults flushes : X → ℕ} {old mid new : X} {fault : E} (f : A → List ℕ) (xs : List A) (i : ℕ) (x : A) (result : Result (Unit {0}) E)
+    → i < length xs → x ≡ get_or xs i x → IsErrAnd result (λ given. given ≡ fault)
+    → Wrote {E = E} written waiting faults flushes old mid (Ok tt) (flat_map f (take i xs)) → Wrote written waiting faults flushes mid new (Err fault) (f x) → Wrote written waiting faults flushes old new result (flat_map f xs)
+each_stopped f xs i x result below is given so_far h =
+    let rest = flat_map f (drop (i + 1) xs) in
+    fault_in result given (and_then (flat_map f (take i xs)) (f x ++ rest) (flat_map_at f xs i x below is) so_far (stopped (f x) rest refl h))
+
+-- one element more
+pub each_further : {A X E : Type 0} {written waiting : X → List ℕ} {faults flushes : X → ℕ} {old mid new : X} (f : A → List ℕ) (xs : List A) (i : ℕ) (x : A) → i < length xs → x ≡ get_or xs i x
+    → Wrote {E = E} written waiting faults flushes old mid (Ok tt) (flat_map f (take i xs)) → Wrote {E = E} written waiting faults flushes mid new (Ok tt) (f x)
+    → Wrote {E = E} written waiting faults flushes old new (Ok tt) (flat_map f (take (i + 1) xs))
+each_further f xs i x below is so_far h = and_then (flat_map f (take i xs)) (f x) (flat_map_next f xs i x below is) so_far h
+
 -- elements with a byte between them: the first, and each of the others after the byte
 pub joined_first : {X : Type 0} (byte : ℕ) (f : X → List ℕ) (x : X) (xs : List X) → join_with_byte byte (map f (x ∷ xs)) ≡ f x ++ flat_map (λ y. byte ∷ f y) xs
 joined_first byte f x [] = sym (append-nil (f x))
@@ -91,10 +110,17 @@ pub joined_slice : {X : Type 0} (byte : ℕ) (f : X → List ℕ) (xs : List X) 
 joined_slice byte f [] x h is = absurd (omega arith)
 joined_slice byte f (y ∷ ys) x h is = rw (take_rest (y ∷ ys) 1, is) (joined_first byte f y ys)
 
--- a text that is cut short begins so
-pub cut_beginning : {T E : Type 0} (result : Result T E) (text front : List ℕ) → OnErr result (IsCutShort text front) → OnErr result (IsBeginning text front)
-cut_beginning (Ok x) text front h = tt
-cut_beginning (Err e) text front h = (h.0 ∷ h.1, h.2)
+-- a fault at the first of them
+pub joined_stopped : {A X E : Type 0} {written waiting : X → List ℕ} {faults flushes : X → ℕ} {old new : X} {fault : E} (byte : ℕ) (f : A → List ℕ) (xs : List A) (x : A) (result : Result (Unit {0}) E)
+    → 1 ≤ length xs → x ≡ get_or xs 0 x → IsErrAnd result (λ given. given ≡ fault)
+    → Wrote written waiting faults flushes old new (Err fault) (f x) → Wrote written waiting faults flushes old new result (join_with_byte byte (map f xs))
+joined_stopped byte f xs x result some is given h = fault_in result given (stopped (f x) _ (joined_slice byte f xs x some is) h)
+
+-- the first, and what comes of the others
+pub joined_then : {A X E : Type 0} {written waiting : X → List ℕ} {faults flushes : X → ℕ} {old mid new : X} {result : Result (Unit {0}) E} (byte : ℕ) (f : A → List ℕ) (xs : List A) (x : A) → 1 ≤ length xs → x ≡ get_or xs 0 x
+    → Wrote {E = E} written waiting faults flushes old mid (Ok tt) (f x) → Wrote written waiting faults flushes mid new result (flat_map (λ y. byte ∷ f y) (take (length xs - 1) (drop 1 xs)))
+    → Wrote written waiting faults flushes old new result (join_with_byte byte (map f xs))
+joined_then byte f xs x some is h more = and_then (f x) _ (joined_slice byte f xs x some is) h more
 
 -- a line after its label, in the two parts that it is written in
 body_split : (before : List ℕ) (target : Target) → before ++ target_text target ≡ (before ++ target_head target) ++ flat_map column_text (columns_of target)

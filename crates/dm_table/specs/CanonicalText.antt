@@ -58,6 +58,10 @@ as_concise n [] = []
 as_concise n (device ∷ devices) =
     record { name = device.name; ro = device.ro; lines = lines_at (place_of n) device.lines; at = place_of n } ∷ as_concise (suc n) devices
 
+-- where some text says devices, as far as such a text can say them, the text that is written says them
+abbrev pub ReadsBack : (describes : List ℕ → List DeviceSpec → Type 0) (sayable : List DeviceSpec → List DeviceSpec) (text_of : List DeviceSpec → List ℕ) (devices : List DeviceSpec) → Type 0
+ReadsBack describes sayable text_of devices = (text : List ℕ) (said : List DeviceSpec) → describes text said → sayable said ≡ sayable devices → describes (text_of devices) (sayable devices)
+
 -- What calls of an output did that write a text: all of it, or, at a fault, a beginning of it that lacks a byte
 
 pub record Wrote {X E : Type 0} (written waiting : X → List ℕ) (faults flushes : X → ℕ) (old new : X) (result : Result (Unit {0}) E) (text : List ℕ) : Type 0 where

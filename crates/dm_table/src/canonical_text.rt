@@ -5,16 +5,13 @@
 //! writes wants a buffer before it. A line is one part, save the columns of a striped one and the
 //! newline. A new target is an arm in `line_head` and in `target_text` of `specs/LineBody.antt`.
 
-ghost use Rattle.std.specs.Prelude.{◌≡◌, ◌<◌, ◌≤◌, ℕ, List, ◌+◌, ◌∷◌, ◌++◌, OnOk, OnErr, length, map};
+ghost use Rattle.std.specs.Prelude.{◌≡◌, ◌<◌, ◌≤◌, ◌∷◌, ◌++◌, length, map};
 ghost use Rattle.std.specs.List.{flat_map, join_with_byte};
-ghost use Rattle.dm_table.specs.DeviceIo.{since, fault_of};
-ghost use Rattle.dm_table.specs.WriteAll.{IsBeginning, IsCutShort};
 ghost use Rattle.dm_table.specs.LineBody.{column_text, body_text};
 ghost use Rattle.dm_table.specs.LineHead.{columns_of};
-ghost use Rattle.dm_table.specs.TableText.{line_text, DescribesTable};
+ghost use Rattle.dm_table.specs.TableText.{DescribesTable};
 ghost use Rattle.dm_table.specs.ConciseText.{DescribesConcise};
-ghost use Rattle.dm_table.specs.declared.table.DeviceSpec.{DeviceSpec};
-ghost use Rattle.dm_table.specs.CanonicalText.{Wrote, as_table, lines_text, table_text, flag_text, concise_device, concise_text, as_concise};
+ghost use Rattle.dm_table.specs.CanonicalText.{ReadsBack, Wrote, as_table, lines_text, table_text, flag_text, concise_device, concise_text, as_concise};
 
 use crate::device_io::{OutFault, Output};
 use crate::line_head::{ColumnText, LineHead};
@@ -93,19 +90,8 @@ fn write_lines<W: Output>(writer: &mut W, name: &[u8], lines: &[Line]) -> Result
 /// makes a few writes for each line.
 pub fn write_table<W: Output>(devices: &[DeviceSpec], writer: &mut W) -> Result<(), OutFault>
     // Where some table text says the devices, places and flags aside, the text written says them.
-    ensures reads_back { (text : List ℕ) (said : List DeviceSpec) → DescribesTable text said
-        → as_table 1 said ≡ as_table 1 devices.now
-        → DescribesTable (table_text devices.now) (as_table 1 devices.now) }
-    ensures appends { W.written writer.new
-        ≡ W.written writer.old ++ since (W.written writer.old) (W.written writer.new) }
-    ensures ok { OnOk result (since (W.written writer.old) (W.written writer.new) ≡ table_text devices.now) }
-    ensures err { OnErr result (IsBeginning (table_text devices.now) (since (W.written writer.old) (W.written writer.new))) }
-    // A write fails only where something is left to write.
-    ensures left { OnErr result (IsCutShort (table_text devices.now) (since (W.written writer.old) (W.written writer.new))) }
-    ensures waiting { W.waiting writer.new
-        ≡ W.waiting writer.old ++ since (W.written writer.old) (W.written writer.new) }
-    ensures faults { W.faults writer.new ≡ W.faults writer.old + fault_of result }
-    ensures flushes { W.flushes writer.new ≡ W.flushes writer.old }
+    ensures reads_back { ReadsBack DescribesTable (as_table 1) table_text devices.now }
+    ensures wrote { Wrote W.written W.waiting W.faults W.flushes writer.old writer.new result (table_text devices.now) }
 {
     write_every_line(writer, devices)
 }
@@ -203,19 +189,8 @@ fn write_devices<W: Output>(writer: &mut W, devices: &[DeviceSpec]) -> Result<()
 /// makes a few writes for each line.
 pub fn write_concise<W: Output>(devices: &[DeviceSpec], writer: &mut W) -> Result<(), OutFault>
     // Where some concise text says the devices, places aside, the text written says them.
-    ensures reads_back { (text : List ℕ) (said : List DeviceSpec) → DescribesConcise text said
-        → as_concise 1 said ≡ as_concise 1 devices.now
-        → DescribesConcise (concise_text devices.now) (as_concise 1 devices.now) }
-    ensures appends { W.written writer.new
-        ≡ W.written writer.old ++ since (W.written writer.old) (W.written writer.new) }
-    ensures ok { OnOk result (since (W.written writer.old) (W.written writer.new) ≡ concise_text devices.now) }
-    ensures err { OnErr result (IsBeginning (concise_text devices.now) (since (W.written writer.old) (W.written writer.new))) }
-    // A write fails only where something is left to write.
-    ensures left { OnErr result (IsCutShort (concise_text devices.now) (since (W.written writer.old) (W.written writer.new))) }
-    ensures waiting { W.waiting writer.new
-        ≡ W.waiting writer.old ++ since (W.written writer.old) (W.written writer.new) }
-    ensures faults { W.faults writer.new ≡ W.faults writer.old + fault_of result }
-    ensures flushes { W.flushes writer.new ≡ W.flushes writer.old }
+    ensures reads_back { ReadsBack DescribesConcise (as_concise 1) concise_text devices.now }
+    ensures wrote { Wrote W.written W.waiting W.faults W.flushes writer.old writer.new result (concise_text devices.now) }
 {
     write_ended(writer, devices)
 }

@@ -8,7 +8,7 @@ ghost use Rattle.std.specs.List.{list_all};
 ghost use Rattle.std.specs.String.{string_bytes};
 ghost use Rattle.dm_table.specs.Name.{is_disk_byte, is_disk_name, names_device};
 
-use crate::name::{CheckFault, ascii_str};
+use crate::name::{CheckFault, ascii_str, checked};
 use std::alloc::{AllocError, Global};
 use std::fmt;
 use std::marker::Model;
@@ -42,11 +42,8 @@ impl DiskName {
         ensures form { (result ≡ Err CheckFault.Form) ↔ (is_disk_name text.now ≡ false) }
         ensures tested { OnOk result (IsTrue (is_disk_name text.now)) }
     {
-        if !is_disk_name(text.as_bytes()) {
-            return Err(CheckFault::Form);
-        }
         Ok(DiskName {
-            text: String::from_str(alloc, text)?,
+            text: checked(alloc, text, is_disk_name(text.as_bytes()))?,
         })
     }
 

@@ -6,7 +6,7 @@
 
 ghost use Rattle.std.specs.Prelude.{◌≡◌, ◌++◌, ◌+◌, ◌<◌, ◌≤◌, ◌∷◌, length, take, decimal};
 ghost use Rattle.dm_table.specs.LineBody.{column_text, dev_text};
-ghost use Rattle.dm_table.specs.LineHead.{body_head, target_head};
+ghost use Rattle.dm_table.specs.LineHead.{IsPut, body_head, target_head};
 
 use crate::block::{put_bytes, put_digits};
 use crate::table::{Column, DevRef, Line, Target};
@@ -85,24 +85,19 @@ impl<'a> Text for ColumnText<'a> {
     ghost text = { λ text. text };
 
     fn put_into(&self, block: &mut [u8], at: usize) -> usize {
-        let at = put_bytes(block, at, b" ");
-        let at = put_dev(block, at, &self.column.to);
-        let at = put_bytes(block, at, b" ");
-        put_digits(block, at, self.column.offset)
+        let at = put_dev(block, at, b" ", &self.column.to);
+        put_number(block, at, b" ", self.column.offset)
     }
 }
 
 /// Puts a body without its columns at a place of a block, and returns where it ends.
 #[inline(always)]
 fn put_head(block: &mut [u8], at: usize, line: &Line) -> usize
-    requires room { at + 650 ≤ length block.old }
-    ensures few { result ≤ at + 650 }
-    ensures end { result ≡ at + length (body_head line.now) }
-    ensures text { take result block.new ≡ take at block.old ++ body_head line.now }
+    requires room { at + 700 ≤ length block.old }
+    ensures { IsPut (body_head line.now) 700 at block.old block.new result }
 {
     let at = put_digits(block, at, line.start);
-    let at = put_bytes(block, at, b" ");
-    let at = put_digits(block, at, line.len);
+    let at = put_number(block, at, b" ", line.len);
     let at = put_bytes(block, at, b" ");
     put_target(block, at, &line.target)
 }
@@ -111,22 +106,16 @@ fn put_head(block: &mut [u8], at: usize, line: &Line) -> usize
 #[inline(always)]
 fn put_target(block: &mut [u8], at: usize, target: &Target) -> usize
     requires room { at + 600 ≤ length block.old }
-    ensures few { result ≤ at + 600 }
-    ensures end { result ≡ at + length (target_head target.now) }
-    ensures text { take result block.new ≡ take at block.old ++ target_head target.now }
+    ensures { IsPut (target_head target.now) 600 at block.old block.new result }
 {
     match target {
         Target::Linear { to, offset } => {
-            let at = put_bytes(block, at, b"linear ");
-            let at = put_dev(block, at, to);
-            let at = put_bytes(block, at, b" ");
-            put_digits(block, at, *offset)
+            let at = put_dev(block, at, b"linear ", to);
+            put_number(block, at, b" ", *offset)
         }
         Target::Striped { chunk, columns } => {
-            let at = put_bytes(block, at, b"striped ");
-            let at = put_digits(block, at, columns.as_slice().len() as u64);
-            let at = put_bytes(block, at, b" ");
-            put_digits(block, at, *chunk)
+            let at = put_number(block, at, b"striped ", columns.as_slice().len() as u64);
+            put_number(block, at, b" ", *chunk)
         }
         Target::Zero => put_bytes(block, at, b"zero"),
         Target::Error => put_bytes(block, at, b"error"),
@@ -135,23 +124,40 @@ fn put_target(block: &mut [u8], at: usize, target: &Target) -> usize
             store,
             chunk,
         } => {
-            let at = put_bytes(block, at, b"snapshot ");
-            let at = put_dev(block, at, origin);
-            let at = put_bytes(block, at, b" ");
-            let at = put_dev(block, at, store);
-            let at = put_bytes(block, at, b" P ");
-            put_digits(block, at, *chunk)
+            let at = put_dev(block, at, b"snapshot ", origin);
+            let at = put_dev(block, at, b" ", store);
+            put_number(block, at, b" P ", *chunk)
         }
     }
 }
 
+/// Puts a number behind a few bytes.
+#[inline(always)]
+fn put_number(block: &mut [u8], at: usize, before: &[u8], number: u64) -> usize
+    requires room { at + 30 ≤ length block.old }
+    requires before { length before.now ≤ 9 }
+    ensures { IsPut (before.now ++ decimal number) 30 at block.old block.new result }
+{
+    let at = put_bytes(block, at, before);
+    put_digits(block, at, number)
+}
+
+/// Puts the name of a lower device behind a few bytes.
+#[inline(always)]
+fn put_dev(block: &mut [u8], at: usize, before: &[u8], dev: &DevRef) -> usize
+    requires room { at + 264 ≤ length block.old }
+    requires before { length before.now ≤ 9 }
+    ensures { IsPut (before.now ++ dev_text dev.now) 264 at block.old block.new result }
+{
+    let at = put_bytes(block, at, before);
+    put_name(block, at, dev)
+}
+
 /// Puts the name of a lower device.
 #[tactic(auto, using(crate::proofs::ByteLemmas::device_name_len, crate::proofs::ByteLemmas::disk_name_len))]
-fn put_dev(block: &mut [u8], at: usize, dev: &DevRef) -> usize
+fn put_name(block: &mut [u8], at: usize, dev: &DevRef) -> usize
     requires room { at + 255 ≤ length block.old }
-    ensures few { result ≤ at + 255 }
-    ensures end { result ≡ at + length (dev_text dev.now) }
-    ensures text { take result block.new ≡ take at block.old ++ dev_text dev.now }
+    ensures { IsPut (dev_text dev.now) 255 at block.old block.new result }
 {
     match dev {
         DevRef::Device(name) => {

@@ -3,75 +3,96 @@
 //! One type serves all readers and checks, so that a caller tells a user about any of them alike.
 //! The kinds stand in the order in which the documents number them; add none in between.
 
-ghost use Rattle.std.specs.Prelude.{◌≡◌, ◌+◌, ◌^◌, ◌<◌};
+ghost use Rattle.std.specs.Prelude.{◌≡◌, ◌+◌, ◌^◌, ◌<◌, ◌≤◌, Some, length};
 ghost use Rattle.dm_table.specs.LoadFault.{IsMemoryFault, fault_at};
+ghost use Rattle.dm_table.specs.LoadMessage.{kind_word};
 
 use crate::place::{Part, Place};
+use std::fmt;
 use thiserror::Error;
 
 /// What a check found.
 #[derive(Clone, Copy, Debug, PartialEq, Eq, Error)]
 pub enum LoadKind {
     /// The part could not be read to its end.
-    #[error("read")]
     Read,
     /// The part has more than 1,048,576 bytes.
-    #[error("long")]
     Long,
     /// A byte that is no text.
-    #[error("text")]
     NotText,
     /// A text that is not built as its form asks.
-    #[error("syntax")]
     Syntax,
     /// A field that is no number, an unknown target, or wrong arguments.
-    #[error("field")]
     Field,
     /// A text that is no name of a device or of a disk.
-    #[error("name")]
     Name,
     /// A name that stands twice.
-    #[error("twice")]
     Twice,
     /// A device without lines, or a length of 0.
-    #[error("empty")]
     Empty,
     /// A line that starts after the end of the one before.
-    #[error("gap")]
     Gap,
     /// A line that starts before the end of the one before.
-    #[error("overlap")]
     Overlap,
     /// A line that names no device or disk.
-    #[error("unknown")]
     Unknown,
     /// A device that reaches itself.
-    #[error("cycle")]
     Cycle,
     /// A device of too great a depth.
-    #[error("deep")]
     Deep,
     /// A line that passes the end of what lies below.
-    #[error("range")]
     Range,
     /// Stripes that do not fit their line.
-    #[error("stripe")]
     Stripe,
     /// A snapshot that does not fit its origin.
-    #[error("snapshot")]
     Snapshot,
     /// A store that cannot keep a snapshot's exceptions.
-    #[error("store")]
     Store,
     /// Extents that do not fit their volume.
-    #[error("extents")]
     Extents,
     /// A number or a count above its limit.
-    #[error("limit")]
     Limit,
     /// An allocation was refused.
-    #[error("memory")]
     Memory,
+}
+
+impl LoadKind {
+    /// The word of the kind.
+    pub(crate) fn word(self) -> &'static str
+        ensures word { result.now ≡ kind_word self }
+        ensures short { length result.now ≤ 8 }
+    {
+        match self {
+            LoadKind::Read => "read",
+            LoadKind::Long => "long",
+            LoadKind::NotText => "text",
+            LoadKind::Syntax => "syntax",
+            LoadKind::Field => "field",
+            LoadKind::Name => "name",
+            LoadKind::Twice => "twice",
+            LoadKind::Empty => "empty",
+            LoadKind::Gap => "gap",
+            LoadKind::Overlap => "overlap",
+            LoadKind::Unknown => "unknown",
+            LoadKind::Cycle => "cycle",
+            LoadKind::Deep => "deep",
+            LoadKind::Range => "range",
+            LoadKind::Stripe => "stripe",
+            LoadKind::Snapshot => "snapshot",
+            LoadKind::Store => "store",
+            LoadKind::Extents => "extents",
+            LoadKind::Limit => "limit",
+            LoadKind::Memory => "memory",
+        }
+    }
+}
+
+impl fmt::Display for LoadKind {
+    ghost output = { λ kind. Some (kind_word kind) };
+
+    fn fmt<W: fmt::Write>(&self, f: &mut fmt::Formatter<W>) -> fmt::Result {
+        f.write_str(self.word())
+    }
 }
 
 /// A refused load: the kind, and its place. The number of `Read`, `Long` and `Memory` is 0.

@@ -1,14 +1,13 @@
 //! The message of a refused load: one line.
 //!
 //! The words are fixed by `specs/LoadMessage.antt`, since users match on them. A new kind of refusal
-//! is an arm here and there.
+//! is an arm there and of `LoadKind::word`.
 
-ghost use Rattle.std.specs.Prelude.{◌≡◌, ◌≤◌, length};
-ghost use Rattle.dm_table.specs.LoadMessage.{kind_word, load_message, part_word};
+ghost use Rattle.std.specs.Prelude.{◌≡◌};
+ghost use Rattle.dm_table.specs.LoadMessage.{load_message};
 
 use crate::load_fault::{LoadFault, LoadKind};
 use crate::number_text::{put, put_number};
-use crate::place::Part;
 use arrayvec::ArrayVec;
 
 /// The message of a refused load, which has at most 96 bytes with its newline.
@@ -18,6 +17,7 @@ impl LoadFault {
     /// The message of the refused load: the program's name, the part, the kind, and the number of
     /// its place, which a part that was not read has none of. `Memory` names no part. Takes no
     /// memory.
+    #[tactic(auto, using(crate::proofs::FaultLemmas::part_short))]
     pub fn message(self) -> LoadMessage
         ensures { result.items ≡ load_message self }
     {
@@ -27,9 +27,9 @@ impl LoadFault {
             put(&mut text, b"memory\n");
             return text;
         }
-        put(&mut text, part_word(self.at.part));
+        put(&mut text, self.at.part.word().as_bytes());
         put(&mut text, b": ");
-        put(&mut text, kind_word(self.kind));
+        put(&mut text, self.kind.word().as_bytes());
         match self.kind {
             LoadKind::Read | LoadKind::Long => {}
             _ => {
@@ -39,43 +39,5 @@ impl LoadFault {
         }
         put(&mut text, b"\n");
         text
-    }
-}
-
-fn part_word(part: Part) -> &'static [u8]
-    ensures word { result.now ≡ part_word part }
-    ensures short { length result.now ≤ 6 }
-{
-    match part {
-        Part::Source => b"source",
-        Part::Disks => b"disks",
-    }
-}
-
-fn kind_word(kind: LoadKind) -> &'static [u8]
-    ensures word { result.now ≡ kind_word kind }
-    ensures short { length result.now ≤ 8 }
-{
-    match kind {
-        LoadKind::Read => b"read",
-        LoadKind::Long => b"long",
-        LoadKind::NotText => b"text",
-        LoadKind::Syntax => b"syntax",
-        LoadKind::Field => b"field",
-        LoadKind::Name => b"name",
-        LoadKind::Twice => b"twice",
-        LoadKind::Empty => b"empty",
-        LoadKind::Gap => b"gap",
-        LoadKind::Overlap => b"overlap",
-        LoadKind::Unknown => b"unknown",
-        LoadKind::Cycle => b"cycle",
-        LoadKind::Deep => b"deep",
-        LoadKind::Range => b"range",
-        LoadKind::Stripe => b"stripe",
-        LoadKind::Snapshot => b"snapshot",
-        LoadKind::Store => b"store",
-        LoadKind::Extents => b"extents",
-        LoadKind::Limit => b"limit",
-        LoadKind::Memory => b"memory",
     }
 }

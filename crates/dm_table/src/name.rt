@@ -8,7 +8,6 @@ ghost use Rattle.std.specs.List.{list_all, prefix_len};
 ghost use Rattle.std.specs.Str.{IsAscii};
 ghost use Rattle.std.specs.String.{string_bytes};
 ghost use Rattle.dm_table.specs.Name.{is_device_byte, is_device_name};
-ghost use Rattle.dm_table.specs.declared.name.CheckFault.TheVariants.{Memory};
 
 use std::alloc::{AllocError, Global};
 use std::fmt;
@@ -24,14 +23,6 @@ pub enum CheckFault {
     /// An allocation was refused.
     #[error("out of memory")]
     Memory,
-}
-
-impl From<AllocError> for CheckFault {
-    ghost from_gives = { λ _ fault. fault ≡ Memory };
-
-    fn from(_error: AllocError) -> CheckFault {
-        CheckFault::Memory
-    }
 }
 
 /// The name of a device: 1 to 127 ASCII letters, digits and `#+-.:=@_`.
@@ -62,11 +53,8 @@ impl Name {
         ensures form { (result ≡ Err CheckFault.Form) ↔ (is_device_name text.now ≡ false) }
         ensures tested { OnOk result (IsTrue (is_device_name text.now)) }
     {
-        if !is_device_name(text.as_bytes()) {
-            return Err(CheckFault::Form);
-        }
         Ok(Name {
-            text: String::from_str(alloc, text)?,
+            text: checked(alloc, text, is_device_name(text.as_bytes()))?,
         })
     }
 
@@ -102,6 +90,21 @@ impl fmt::Display for Name {
 
     fn fmt<W: fmt::Write>(&self, f: &mut fmt::Formatter<W>) -> fmt::Result {
         f.write_str(self.as_str())
+    }
+}
+
+/// A copy of a text, where it is a name.
+pub(crate) fn checked(alloc: Global, text: &str, is_name: bool) -> Result<String, CheckFault>
+    ensures kept { IfOk result (λ copy. string_bytes copy ≡ text.now) }
+    ensures form { (result ≡ Err CheckFault.Form) ↔ (is_name ≡ false) }
+    ensures tested { OnOk result (IsTrue is_name) }
+{
+    if !is_name {
+        return Err(CheckFault::Form);
+    }
+    match String::from_str(alloc, text) {
+        Ok(copy) => Ok(copy),
+        Err(AllocError) => Err(CheckFault::Memory),
     }
 }
 

@@ -3,6 +3,9 @@
 //! Devices, lines and disks keep their place, so that a fault found later still names it.
 //! Add a part here when a load reads one more text.
 
+ghost use Rattle.std.specs.Prelude.{◌≡◌, Some};
+ghost use Rattle.dm_table.specs.LoadMessage.{part_word};
+
 use std::fmt;
 
 /// What a load reads.
@@ -14,12 +17,23 @@ pub enum Part {
     Disks,
 }
 
-impl fmt::Display for Part {
-    fn fmt<W: fmt::Write>(&self, f: &mut fmt::Formatter<W>) -> fmt::Result {
+impl Part {
+    /// The word of the part.
+    pub(crate) fn word(self) -> &'static str
+        ensures { result.now ≡ part_word self }
+    {
         match self {
-            Part::Source => write!(f, "source"),
-            Part::Disks => write!(f, "disks"),
+            Part::Source => "source",
+            Part::Disks => "disks",
         }
+    }
+}
+
+impl fmt::Display for Part {
+    ghost output = { λ part. Some (part_word part) };
+
+    fn fmt<W: fmt::Write>(&self, f: &mut fmt::Formatter<W>) -> fmt::Result {
+        f.write_str(self.word())
     }
 }
 

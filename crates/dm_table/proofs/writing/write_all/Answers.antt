@@ -1,6 +1,6 @@
-use Rattle.std.proofs.Common.{◌<◌, ◌∙◌, add-zero, length, rules}
+use Rattle.std.proofs.Common.{◌<◌, ◌∙◌, length, rules}
 use Rattle.std.proofs.lemmas.List.{append-nil}
-use Rattle.dm_table.proofs.Growth.{before, behind_within, rest_step, write_step, front_beginning, front_cut, on_err}
+use Rattle.dm_table.proofs.Growth.{before, sent_further, front_beginning, front_cut, on_err}
 use Rattle.dm_table.proofs.writing.write_all.Goals as goal
 
 pub returns-in_err-taken-clause-err : goal.returns-in_err-taken-clause-err
@@ -15,13 +15,5 @@ returns-in_err-taken-clause-left g c =
 
 pub loop-rest-preserved : goal.loop-rest-preserved
 loop-rest-preserved g c =
-    let bytes = c.args.bytes.now in let rest = c.loop-rest.rest.now in let n = c.in_ok-taken.taken in
-    let so_far = c.loop-rest.invariant in
-    record {
-      within = behind_within bytes rest n so_far.within;
-      rest = rest_step bytes rest n so_far.within c.in_ok-taken.ensures.within so_far.rest;
-      written = write_step _ _ _ bytes rest n so_far.within c.in_ok-taken.ensures.within so_far.rest so_far.written c.in_ok-taken.ensures.bytes;
-      waiting = write_step _ _ _ bytes rest n so_far.within c.in_ok-taken.ensures.within so_far.rest so_far.waiting c.in_ok-taken.ensures.waiting;
-      faults = c.in_ok-taken.ensures.faults ∙ add-zero _ ∙ so_far.faults;
-      flushes = c.in_ok-taken.ensures.flushes ∙ so_far.flushes;
-    }
+    let taken = c.in_ok-taken.ensures in
+    sent_further g.W.Output.written g.W.Output.waiting g.W.Output.faults g.W.Output.flushes _ _ _ c.args.bytes.now c.loop-rest.rest.now c.in_ok-taken.taken c.loop-rest.invariant taken.within taken.bytes taken.waiting taken.faults taken.flushes
