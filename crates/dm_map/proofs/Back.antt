@@ -1,5 +1,5 @@
 -- Where no claims meet: what leads to a sector that a line or a store's snapshot has, and what leads nowhere.
-use Rattle.std.proofs.Common.{◌≡◌, ℕ, ◌+◌, ◌-◌, ◌*◌, ◌/◌, ◌%◌, ◌<◌, true, false, Option, Some, None, length, refl, sym, ap, subst, ◌∙◌, arith}
+use Rattle.std.proofs.Common.{◌≡◌, ℕ, ◌+◌, ◌-◌, ◌*◌, ◌/◌, ◌%◌, ◌<◌, Bool, true, false, Option, Some, None, length, refl, sym, ap, subst, ◌∙◌, arith}
 use Rattle.std.specs.Prelude.{slice_get}
 use Rattle.std.proofs.lemmas.Bool.{leb-true}
 use Rattle.dm_table.specs.declared.table.Line.{Line}
@@ -24,7 +24,7 @@ use Rattle.dm_map.proofs.FoundLines.{line_sound, snapshot_sound}
 use Rattle.dm_map.proofs.How.{How, ByLine, ByStore, ByRead, IsColumnStep, column_at, columns_of, within_at}
 use Rattle.dm_map.proofs.Numbers.{kept_inside, stripe_back}
 use Rattle.dm_map.proofs.TableLemmas.{number_within}
-use Rattle.dm_map.proofs.Vias.{IsLineVia, column_inside, via_line, via_snapshot}
+use Rattle.dm_map.proofs.Vias.{IsLineVia, IsSnapshotVia, column_inside, via_line, via_snapshot}
 
 -- A sector of a line is told by its column and its place there
 
@@ -167,21 +167,21 @@ step_inside stack device sector line lower at sound is step =
     let from = of.from in let before = of.before in
     column_inside stack device line.start line.len line.target (sector - line.start) lower at of.target step (omega (arith, from, before))
 
-pub store_no_lines : (stack : Description) (device : ℕ) (snapshot : FoundSnapshot) → IsSound stack → IsTidy stack → snapshot_at stack device ≡ Some snapshot → IsNoLines stack snapshot.store
-store_no_lines stack device snapshot sound tidy over = record {
+-- nor into what a snapshot's line names at a column
+named_no_lines : (stack : Description) (device column : ℕ) (snapshot : FoundSnapshot) (lower : Lower) (reading : Bool) → IsSound stack → IsTidy stack → (b : IsSnapshotVia stack device snapshot)
+    → ((at : ℕ) → at < lower_len stack lower → IsVia stack device b.place column b.it lower at reading) → IsNoLines stack lower
+named_no_lines stack device column snapshot lower reading sound tidy b via = record {
   none = λ e t line at is step.
-      let a = via_line stack e t line snapshot.store at sound is step in let b = via_snapshot stack device snapshot sound over in
-      let one = one_via stack e device a.place b.place (column_at line.target (t - line.start)) 0 a.it b.it snapshot.store at false tidy a.via (b.store at (step_inside stack e t line snapshot.store at sound is step)) in
-      line_no_snapshot stack e t line snapshot.store at a.it b.it snapshot a.is step one.lines b.target;
+      let a = via_line stack e t line lower at sound is step in
+      let one = one_via stack e device a.place b.place (column_at line.target (t - line.start)) column a.it b.it lower at reading tidy a.via (via at (step_inside stack e t line lower at sound is step)) in
+      line_no_snapshot stack e t line lower at a.it b.it snapshot a.is step one.lines b.target;
 }
 
+pub store_no_lines : (stack : Description) (device : ℕ) (snapshot : FoundSnapshot) → IsSound stack → IsTidy stack → snapshot_at stack device ≡ Some snapshot → IsNoLines stack snapshot.store
+store_no_lines stack device snapshot sound tidy over = let b = via_snapshot stack device snapshot sound over in named_no_lines stack device 0 snapshot snapshot.store false sound tidy b b.store
+
 pub origin_no_lines : (stack : Description) (device : ℕ) (snapshot : FoundSnapshot) → IsSound stack → IsTidy stack → snapshot_at stack device ≡ Some snapshot → IsNoLines stack snapshot.origin
-origin_no_lines stack device snapshot sound tidy over = record {
-  none = λ e t line at is step.
-      let a = via_line stack e t line snapshot.origin at sound is step in let b = via_snapshot stack device snapshot sound over in
-      let one = one_via stack e device a.place b.place (column_at line.target (t - line.start)) 1 a.it b.it snapshot.origin at true tidy a.via (b.origin at (step_inside stack e t line snapshot.origin at sound is step)) in
-      line_no_snapshot stack e t line snapshot.origin at a.it b.it snapshot a.is step one.lines b.target;
-}
+origin_no_lines stack device snapshot sound tidy over = let b = via_snapshot stack device snapshot sound over in named_no_lines stack device 1 snapshot snapshot.origin true sound tidy b b.origin
 
 pub origin_no_store : (stack : Description) (device : ℕ) (snapshot : FoundSnapshot) → IsSound stack → IsTidy stack → snapshot_at stack device ≡ Some snapshot → IsNoStore stack snapshot.origin
 origin_no_store stack device snapshot sound tidy over = record {

@@ -1,5 +1,5 @@
 -- Where no claims meet, each top device has what it would have alone, or errors, after any request of a top device.
-use Rattle.std.proofs.Common.{◌≡◌, ◌⊎◌, inl, inr, ℕ, zero, suc, ◌+◌, ◌<◌, ◌≤◌, Bool, true, false, cond, List, [], ◌∷◌, ◌++◌, append_assoc, Option, Some, None, length, nat_lt, replicate, refl, sym, ap, subst, ◌∙◌}
+use Rattle.std.proofs.Common.{◌≡◌, ◌⊎◌, inl, inr, ℕ, zero, suc, ◌+◌, Bool, true, false, cond, List, [], ◌∷◌, ◌++◌, append_assoc, Some, nat_lt, replicate, refl, sym, ap, subst, ◌∙◌}
 use Rattle.std.specs.List.{AllByRecursion}
 use Rattle.std.proofs.lemmas.Bool.{cases_eq}
 use Rattle.dm_table.specs.declared.request.Op.{Op}
@@ -9,7 +9,7 @@ use Rattle.dm_stack.specs.declared.id.Lower.TheVariants.{Device}
 use Rattle.dm_stack.specs.Claims.{IsTidy, IsTop}
 use Rattle.dm_stack.specs.Description.{Description, device_len}
 use Rattle.dm_stack.specs.Soundness.{IsSound}
-use Rattle.dm_map.specs.Contents.{Values, Stays, answers, content, played, played_unit, sector_after, stored, value_read}
+use Rattle.dm_map.specs.Contents.{Values, answers, played, played_unit, sector_after, stored, value_read}
 use Rattle.dm_map.specs.Homes.{Home}
 use Rattle.dm_map.specs.Mapping.{request_step, sector_step}
 use Rattle.dm_map.specs.Own.{IsOwnWrite, write}
@@ -17,22 +17,17 @@ use Rattle.dm_map.specs.OwnRows.{AreOwn, Rows, first_rows, row_unit, rows_played
 use Rattle.dm_map.specs.SnapshotWrites.{read}
 use Rattle.dm_map.specs.State.{State, start_state}
 use Rattle.dm_map.specs.Steps.{Step, keep, steps}
-use Rattle.dm_map.specs.Units.{BlockUnit, ReadOf, WriteOf, Zeros, Drops, Fails, CopyOf, FillOf}
+use Rattle.dm_map.specs.Units.{BlockUnit, ReadOf, WriteOf, Fails, CopyOf, FillOf}
 use Rattle.dm_map.proofs.Losses.{stays_as, stays_on}
 use Rattle.dm_map.proofs.Made.{IsRead, Sector, Nothing, Fault, is_read}
 use Rattle.dm_map.proofs.OwnWrites.{own_write, start_fits}
-use Rattle.dm_map.proofs.Plays.{home_at, played_on, stored_other, stored_same}
+use Rattle.dm_map.proofs.Plays.{played_on, stored_other, stored_same}
 
 -- Units before the one that answers
 
 row_still : {V : Type 0} (written : V) (device sector : ℕ) (unit : BlockUnit) (rows : Rows V) → answers unit ≡ false → row_unit written device sector unit rows ≡ rows
-row_still written device sector (ReadOf disk at) rows moves = absurd cc
 row_still written device sector (WriteOf disk at) rows moves = absurd cc
-row_still written device sector Zeros rows moves = absurd cc
-row_still written device sector Drops rows moves = absurd cc
-row_still written device sector Fails rows moves = absurd cc
-row_still written device sector (CopyOf disk at to to_at) rows moves = refl
-row_still written device sector (FillOf disk at) rows moves = refl
+row_still written device sector unit rows moves = refl
 
 after_false : (unit : BlockUnit) (sector : ℕ) → answers unit ≡ false → sector_after unit sector ≡ sector
 after_false unit sector moves = rw moves refl
@@ -73,22 +68,14 @@ data Answering (V : Type 0) (unit : BlockUnit) : Type 0 where
   Still : ((zeros written : V) (values : Values V) → played_unit zeros written unit values ≡ values) → ((written : V) (device sector : ℕ) (rows : Rows V) → row_unit written device sector unit rows ≡ rows) → Answering V unit
 
 answering : (V : Type 0) (unit : BlockUnit) → answers unit ≡ true → Answering V unit
-answering V (ReadOf disk at) answered = Still (λ zeros written values. refl) (λ written device sector rows. refl)
 answering V (WriteOf disk at) answered = WritesTo disk at refl
-answering V Zeros answered = Still (λ zeros written values. refl) (λ written device sector rows. refl)
-answering V Drops answered = Still (λ zeros written values. refl) (λ written device sector rows. refl)
-answering V Fails answered = Still (λ zeros written values. refl) (λ written device sector rows. refl)
 answering V (CopyOf disk at to to_at) answered = absurd cc
 answering V (FillOf disk at) answered = absurd cc
+answering V unit answered = Still (λ zeros written values. refl) (λ written device sector rows. refl)
 
 value_other : {V : Type 0} (zeros : V) (values : Values V) (disk at : ℕ) (value : V) (unit : BlockUnit) → (unit ≡ ReadOf disk at → ⊥) → value_read zeros (stored values disk at value) unit ≡ value_read zeros values unit
 value_other zeros values disk at value (ReadOf k x) differ = ap Some (stored_other values disk at k x value (λ e. differ (sym (ap (λ (h : Home). ReadOf h.disk h.sector) e))))
-value_other zeros values disk at value (WriteOf k x) differ = refl
-value_other zeros values disk at value Zeros differ = refl
-value_other zeros values disk at value Drops differ = refl
-value_other zeros values disk at value Fails differ = refl
-value_other zeros values disk at value (CopyOf k x to to_at) differ = refl
-value_other zeros values disk at value (FillOf k x) differ = refl
+value_other zeros values disk at value unit differ = refl
 
 same_or_not : (a b c d : ℕ) → ((a ≡ c) × (b ≡ d)) ⊎ ((a ≡ c) × (b ≡ d) → ⊥)
 same_or_not a b c d = elim (cases_eq a c) [

@@ -6,7 +6,7 @@ use Rattle.std.proofs.lemmas.Bool.{and_parts, eqb-true, eq-eqb, cases_lt}
 use Rattle.dm_map.specs.Contents.{Values, answers, played, played_unit, sector_after, stored, value_read}
 use Rattle.dm_map.specs.Homes.{Home}
 use Rattle.dm_map.specs.SnapshotWrites.{copy_to, row}
-use Rattle.dm_map.specs.Units.{BlockUnit, ReadOf, WriteOf, Zeros, Drops, Fails, CopyOf, FillOf}
+use Rattle.dm_map.specs.Units.{BlockUnit, ReadOf, WriteOf, Zeros, CopyOf, FillOf}
 
 abbrev pub home_at : (disk sector : ℕ) → Home
 home_at disk sector = record { disk = disk; sector = sector }
@@ -36,12 +36,7 @@ pub data IsReadable (unit : BlockUnit) : Type 0 where
 -- what a copy of what a unit reads stores
 abbrev pub value_of : {V : Type 0} → (zeros : V) → Values V → BlockUnit → V
 value_of zeros values (ReadOf disk sector) = values disk sector
-value_of zeros values (WriteOf disk sector) = zeros
-value_of zeros values Zeros = zeros
-value_of zeros values Drops = zeros
-value_of zeros values Fails = zeros
-value_of zeros values (CopyOf disk sector to to_sector) = zeros
-value_of zeros values (FillOf disk sector) = zeros
+value_of zeros values unit = zeros
 
 pub some_value : {V : Type 0} (zeros : V) (values : Values V) (unit : BlockUnit) → IsReadable unit → Some (value_of zeros values unit) ≡ value_read zeros values unit
 some_value zeros values unit (Reads disk sector is) = rw is refl
@@ -51,12 +46,7 @@ played_copy : {V : Type 0} (zeros : V) (written : ℕ → V) (at : ℕ) (unit : 
     → played zeros written at (copy_to unit to ∷ rest) values ≡ played zeros written at rest (stored values to.disk to.sector (value_of zeros values unit))
 unfolding played
 played_copy zeros written at (ReadOf disk sector) to rest values = refl
-played_copy zeros written at (WriteOf disk sector) to rest values = refl
-played_copy zeros written at Zeros to rest values = refl
-played_copy zeros written at Drops to rest values = refl
-played_copy zeros written at Fails to rest values = refl
-played_copy zeros written at (CopyOf disk sector other other_sector) to rest values = refl
-played_copy zeros written at (FillOf disk sector) to rest values = refl
+played_copy zeros written at unit to rest values = refl
 
 abbrev pub copy_units : (ℕ → BlockUnit) → (ℕ → Home) → (sector len : ℕ) → List BlockUnit
 copy_units from to sector len = row (λ u. copy_to (from u) (to u)) sector len
@@ -73,12 +63,7 @@ copies_keep {V = V} zeros written at from to s (suc n) values disk sector apart 
 
 value_kept : {V : Type 0} (zeros : V) (values others : Values V) (unit : BlockUnit) → ((disk sector : ℕ) → unit ≡ ReadOf disk sector → others disk sector ≡ values disk sector) → value_of zeros others unit ≡ value_of zeros values unit
 value_kept zeros values others (ReadOf disk sector) same = same disk sector refl
-value_kept zeros values others (WriteOf disk sector) same = refl
-value_kept zeros values others Zeros same = refl
-value_kept zeros values others Drops same = refl
-value_kept zeros values others Fails same = refl
-value_kept zeros values others (CopyOf disk sector to to_sector) same = refl
-value_kept zeros values others (FillOf disk sector) same = refl
+value_kept zeros values others unit same = refl
 
 -- no two targets are one sector, and no target is a source
 pub record AreApart (reads : ℕ → BlockUnit) (homes : ℕ → Home) (s n : ℕ) : Type 0 where
@@ -133,13 +118,10 @@ stored_cong : {V : Type 0} (values others : Values V) (to to_sector disk sector 
 stored_cong {V = V} values others to to_sector disk sector a b e same = ap (λ (v : V). cond (disk == to && sector == to_sector) v (values disk sector)) e ∙ ap (λ (v : V). cond (disk == to && sector == to_sector) b v) (same disk sector)
 
 unit_cong : {V : Type 0} (zeros written : V) (unit : BlockUnit) (values others : Values V) → ((k x : ℕ) → values k x ≡ others k x) → (k x : ℕ) → played_unit zeros written unit values k x ≡ played_unit zeros written unit others k x
-unit_cong zeros written (ReadOf disk sector) values others same k x = same k x
 unit_cong zeros written (WriteOf disk sector) values others same k x = stored_cong values others disk sector k x written written refl same
-unit_cong zeros written Zeros values others same k x = same k x
-unit_cong zeros written Drops values others same k x = same k x
-unit_cong zeros written Fails values others same k x = same k x
 unit_cong zeros written (CopyOf disk sector to to_sector) values others same k x = stored_cong values others to to_sector k x (values disk sector) (others disk sector) (same disk sector) same
 unit_cong zeros written (FillOf disk sector) values others same k x = stored_cong values others disk sector k x zeros zeros refl same
+unit_cong zeros written unit values others same k x = same k x
 
 pub played_cong : {V : Type 0} (zeros : V) (written : ℕ → V) (at : ℕ) (units : List BlockUnit) (values others : Values V) → ((k x : ℕ) → values k x ≡ others k x) → (k x : ℕ) → played zeros written at units values k x ≡ played zeros written at units others k x
 unfolding played

@@ -16,7 +16,7 @@ use Rattle.dm_map.specs.SnapshotWrites.{copy_to, count_of, first_of, home_kept, 
 use Rattle.dm_map.specs.State.{State, Taken, taken_at}
 use Rattle.dm_map.specs.Steps.{Step, keep, and_then}
 use Rattle.dm_map.specs.Tables.{snapshot_at}
-use Rattle.dm_map.specs.Units.{BlockUnit, ReadOf, WriteOf, Zeros, Drops, Fails, CopyOf, FillOf}
+use Rattle.dm_map.specs.Units.{BlockUnit, ReadOf}
 use Rattle.dm_map.specs.Ways.{Node, node, Touches}
 use Rattle.dm_map.proofs.Back.{IsRoot}
 use Rattle.dm_map.proofs.FoundLines.{snapshot_sound}
@@ -34,21 +34,11 @@ use Rattle.dm_map.proofs.WayLemmas.{read_touches}
 
 copy_moves : (from : BlockUnit) (to : Home) → answers (copy_to from to) ≡ false
 copy_moves (ReadOf disk sector) to = refl
-copy_moves (WriteOf disk sector) to = refl
-copy_moves Zeros to = refl
-copy_moves Drops to = refl
-copy_moves Fails to = refl
-copy_moves (CopyOf disk sector other other_sector) to = refl
-copy_moves (FillOf disk sector) to = refl
+copy_moves unit to = refl
 
 copy_only : {V : Type 0} (zeros written : V) (from : BlockUnit) (to : Home) (values : Values V) (disk sector : ℕ) → (to ≡ home_at disk sector → ⊥) → played_unit zeros written (copy_to from to) values disk sector ≡ values disk sector
 copy_only zeros written (ReadOf k x) to values disk sector differ = stored_other values to.disk to.sector disk sector (values k x) differ
-copy_only zeros written (WriteOf k x) to values disk sector differ = stored_other values to.disk to.sector disk sector zeros differ
-copy_only zeros written Zeros to values disk sector differ = stored_other values to.disk to.sector disk sector zeros differ
-copy_only zeros written Drops to values disk sector differ = stored_other values to.disk to.sector disk sector zeros differ
-copy_only zeros written Fails to values disk sector differ = stored_other values to.disk to.sector disk sector zeros differ
-copy_only zeros written (CopyOf k x j y) to values disk sector differ = stored_other values to.disk to.sector disk sector zeros differ
-copy_only zeros written (FillOf k x) to values disk sector differ = stored_other values to.disk to.sector disk sector zeros differ
+copy_only zeros written unit to values disk sector differ = stored_other values to.disk to.sector disk sector zeros differ
 
 -- one that writes what no root touches in a state
 pub record IsFresh (stack : Description) (state : State) (unit : BlockUnit) : Type 0 where
@@ -89,12 +79,7 @@ fresh_keep {V = V} zeros written at stack state a (u ∷ us) values disk sector 
 
 value_kept : {V : Type 0} (zeros : V) (values later : Values V) (unit : BlockUnit) → ((disk sector : ℕ) → unit ≡ ReadOf disk sector → later disk sector ≡ values disk sector) → value_read zeros later unit ≡ value_read zeros values unit
 value_kept zeros values later (ReadOf disk sector) same = ap Some (same disk sector refl)
-value_kept zeros values later (WriteOf disk sector) same = refl
-value_kept zeros values later Zeros same = refl
-value_kept zeros values later Drops same = refl
-value_kept zeros values later Fails same = refl
-value_kept zeros values later (CopyOf disk sector to to_sector) same = refl
-value_kept zeros values later (FillOf disk sector) same = refl
+value_kept zeros values later unit same = refl
 
 pub fresh_stays : {V : Type 0} (zeros : V) (written : ℕ → V) (at : ℕ) (stack : Description) (state : State) (lower : Lower) (sector : ℕ) (us : List BlockUnit) (values : Values V) → IsSound stack → IsRoot stack lower → AllByRecursion (IsFresh stack state) us
     → content zeros stack state (played zeros written at us values) lower sector ≡ content zeros stack state values lower sector

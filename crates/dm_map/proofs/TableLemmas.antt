@@ -3,6 +3,7 @@ use Rattle.std.proofs.Common.{◌≡◌, ◌↔◌, ℕ, zero, suc, ◌+◌, ◌
 use Rattle.std.specs.Prelude.{◌==◌, filter, find, is_none, option_map, slice_get, IfSome}
 use Rattle.std.specs.List.{AllByRecursion, list_any, position_or_len, range_with_len}
 use Rattle.std.proofs.lemmas.Bool.{cases_eq, eq-eqb, leb-true, le-leb, ne_eqb, lt-ltb, le-ltb, ltb-true, ltb_from_iff, or_left, or_parts, or_right}
+use Rattle.std.proofs.lemmas.List.Folds.{find_at}
 use Rattle.std.proofs.lemmas.List.{get_or-replicate, length-set, replicate-append-replicate, set-get_or}
 use Rattle.std.proofs.lemmas.Option.{slice_get_read, slice_get_within}
 use Rattle.dm_table.specs.declared.load_fault.LoadKind.TheVariants.{Unknown}
@@ -234,13 +235,12 @@ known_at : (stack : Description) (device : ℕ) (spec : DeviceSpec) → IsSound 
 known_at stack device spec sound at =
     of_device (λ line. is_unknown stack line ≡ false) stack.devices device spec (faults_by_none Unknown (λ line. line.at) (is_unknown stack) (all_lines stack.devices) (passes_before stack sound.before).known) at
 
-place_step : {X : Type 0} (x : X) (later : Option X) (place end : ℕ) (here : Bool) → is_none (cond here (Some x) later) ≡ false → (is_none later ≡ false → place < end) → cond (not here) (1 + place) 0 < suc end
-place_step x later place end true e more = omega arith
-place_step x later place end false e more = omega (arith, more e)
-
 place_before : {X : Type 0} (test : X → Bool) (xs : List X) → is_none (find test xs) ≡ false → position_or_len test xs < length xs
-place_before test [] e = absurd cc
-place_before test (x ∷ xs) e = place_step x (find test xs) (position_or_len test xs) (length xs) (test x) e (place_before test xs)
+place_before {X = X} test xs some = by_found (find test xs) refl some
+  where
+    by_found : (found : Option X) → find test xs ≡ found → is_none found ≡ false → position_or_len test xs < length xs
+    by_found None is e = absurd cc
+    by_found (Some x) is e = slice_get_within xs (position_or_len test xs) x (sym (find_at test xs) ∙ is)
 
 lower_some : (stack : Description) (to : DevRef) → IsSound stack → is_unknown_ref stack to ≡ false → 0 < lower_len stack (lower_of stack to)
 lower_some stack (refs.Device name) sound known = device_some stack (device_id stack name) sound (place_before (λ device. is_same device.name name) stack.devices known)

@@ -12,7 +12,7 @@ use Rattle.dm_map.specs.Sink.{OfBeginning}
 use Rattle.dm_map.specs.SnapshotWrites.{row, read, is_error, any_error, copy_to, write_to}
 use Rattle.dm_map.specs.State.{State}
 use Rattle.dm_map.specs.Steps.{Step, keep}
-use Rattle.dm_map.specs.Units.{BlockUnit, ReadOf, WriteOf, Zeros, Drops, Fails, CopyOf, FillOf, next_unit, units_in}
+use Rattle.dm_map.specs.Units.{BlockUnit, ReadOf, WriteOf, Fails, next_unit, units_in}
 use Rattle.dm_map.specs.Walk.{range_step}
 
 -- Rows
@@ -90,13 +90,8 @@ errors_go_on unit zero good = refl
 errors_go_on unit (suc n) good = or_from (is_error unit) _ good (errors_go_on (next_unit unit) n (next_good unit good))
   where
     next_good : (unit : BlockUnit) → is_error unit ≡ false → is_error (next_unit unit) ≡ false
-    next_good (ReadOf disk sector) good = refl
-    next_good (WriteOf disk sector) good = refl
-    next_good Zeros good = refl
-    next_good Drops good = refl
     next_good Fails good = good
-    next_good (CopyOf disk sector to to_sector) good = refl
-    next_good (FillOf disk sector) good = refl
+    next_good unit good = refl
 
 -- a row without an error goes on without one
 pub good_on : (f : ℕ → BlockUnit) (sector m n : ℕ) (unit : BlockUnit) → any_error (row f sector m) ≡ false → row f (sector + m) n ≡ units_in unit n → is_error unit ≡ false → any_error (row f sector (m + n)) ≡ false
@@ -135,12 +130,7 @@ write_row homes sector disk start (suc n) each =
 -- a copy goes on where both sides do
 copy_goes_on : (unit : BlockUnit) (disk sector : ℕ) → copy_to (next_unit unit) (record { disk = disk; sector = suc sector }) ≡ next_unit (copy_to unit (record { disk = disk; sector = sector }))
 copy_goes_on (ReadOf from at) disk sector = refl
-copy_goes_on (WriteOf from at) disk sector = refl
-copy_goes_on Zeros disk sector = refl
-copy_goes_on Drops disk sector = refl
-copy_goes_on Fails disk sector = refl
-copy_goes_on (CopyOf from at to to_at) disk sector = refl
-copy_goes_on (FillOf to at) disk sector = refl
+copy_goes_on unit disk sector = refl
 
 pub copy_row : (reads : ℕ → BlockUnit) (homes : ℕ → Home) (sector n : ℕ) (unit : BlockUnit) (disk start : ℕ) → row reads sector n ≡ units_in unit n → GoOn homes sector disk start n
     → row (λ s. copy_to (reads s) (homes s)) sector n ≡ units_in (copy_to unit (record { disk = disk; sector = start })) n

@@ -1,5 +1,5 @@
 -- How a step of a read goes through a claim: through a column of its line, or through the store or the origin of its snapshot.
-use Rattle.std.proofs.Common.{◌≡◌, ℕ, zero, suc, ◌+◌, ◌-◌, ◌/◌, ◌%◌, ◌<◌, ◌≤◌, true, false, List, [], ◌∷◌, Option, Some, None, length, refl, sym, ap, subst, ◌∙◌, arith}
+use Rattle.std.proofs.Common.{Bool, ◌≡◌, ℕ, zero, suc, ◌+◌, ◌-◌, ◌/◌, ◌%◌, ◌<◌, ◌≤◌, true, false, List, [], ◌∷◌, Option, Some, None, length, refl, sym, ap, subst, ◌∙◌, arith}
 use Rattle.std.specs.Prelude.{option_map, slice_get}
 use Rattle.std.proofs.lemmas.List.{length-map}
 use Rattle.std.proofs.lemmas.Option.{slice_get-map}
@@ -171,8 +171,26 @@ snapshot_spans stack len (targets.Snapshot origin store chunk) snapshot is =
     snapshot_is : (a b : FoundSnapshot) → founds.Snapshot a ≡ founds.Snapshot b → a ≡ b
     snapshot_is a b e = cc
 
-named_whole : (stack : Description) (to : DevRef) (lower : Lower) (at : ℕ) → lower_of stack to ≡ lower → at < lower_len stack lower → at < lower_len stack (lower_of stack to)
-named_whole stack to lower at is below = subst (λ (l : Lower). at < lower_len stack l) (sym is) below
+-- what a line names as a whole: each sector of it is one that the line leads to
+record IsWholeVia (stack : Description) (device place column : ℕ) (it : Line) (lower : Lower) (reading : Bool) : Type 0 where
+  named : IsNamed stack device place column it lower
+  via : (at : ℕ) → at < lower_len stack lower → IsVia stack device place column it lower at reading
+
+whole_via : (stack : Description) (device place column : ℕ) (it : Line) (lower : Lower) (reading : Bool) (to : DevRef) → device < length stack.devices → slice_get (lines_at stack device) place ≡ Some it
+    → slice_get (target_spans it.len it.target) column ≡ Some (whole_span to reading) → lower_of stack to ≡ lower → IsWholeVia stack device place column it lower reading
+whole_via stack device place column it lower reading to there line_at span_at on = record {
+  named = record { there = there; line_at = line_at; span = whole_span to reading; span_at = span_at; on = on };
+  via = λ at below. record {
+    there = there;
+    line_at = line_at;
+    span = whole_span to reading;
+    span_at = span_at;
+    on = on;
+    from = omega arith;
+    before = subst (λ (l : Lower). at < lower_len stack l) (sym on) below;
+    for_reading = refl;
+  };
+}
 
 pub via_snapshot : (stack : Description) (device : ℕ) (snapshot : FoundSnapshot) → IsSound stack → snapshot_at stack device ≡ Some snapshot → IsSnapshotVia stack device snapshot
 via_snapshot stack device snapshot sound at =
@@ -182,32 +200,16 @@ via_snapshot stack device snapshot sound at =
     let target : found_target stack raw.0.target ≡ founds.Snapshot snapshot = ap (λ (l : FoundLine). l.target) raw.2 ∙ first.2 in
     let named = snapshot_spans stack raw.0.len raw.0.target snapshot target in
     let there = (snapshot_sound stack device snapshot sound at).there in
+    let store = whole_via stack device place.0 0 raw.0 snapshot.store false named.0 there place.1 (ap (λ (all : List Span). slice_get all 0) named.2) named.3 in
+    let origin = whole_via stack device place.0 1 raw.0 snapshot.origin true named.1 there place.1 (ap (λ (all : List Span). slice_get all 1) named.2) named.4 in
     record {
       place = place.0;
       it = raw.0;
       target = target;
-      store_named = record { there = there; line_at = place.1; span = whole_span named.0 false; span_at = ap (λ (all : List Span). slice_get all 0) named.2; on = named.3 };
-      origin_named = record { there = there; line_at = place.1; span = whole_span named.1 true; span_at = ap (λ (all : List Span). slice_get all 1) named.2; on = named.4 };
-      store = λ at below. record {
-        there = there;
-        line_at = place.1;
-        span = whole_span named.0 false;
-        span_at = ap (λ (all : List Span). slice_get all 0) named.2;
-        on = named.3;
-        from = omega arith;
-        before = named_whole stack named.0 snapshot.store at named.3 below;
-        for_reading = refl;
-      };
-      origin = λ at below. record {
-        there = there;
-        line_at = place.1;
-        span = whole_span named.1 true;
-        span_at = ap (λ (all : List Span). slice_get all 1) named.2;
-        on = named.4;
-        from = omega arith;
-        before = named_whole stack named.1 snapshot.origin at named.4 below;
-        for_reading = refl;
-      };
+      store_named = store.named;
+      origin_named = origin.named;
+      store = store.via;
+      origin = origin.via;
     }
 
 -- a step by a column of a sound line goes to a sector that is there

@@ -81,20 +81,9 @@ path_down : path sample start MOST_DEPTH (Device 3) 4 ≡ passed 3 0 ∷ passed 
 unfolding path
 path_down = refl
 
-lines_stretches : read_stretches sample start 0 3 5 ≡ 3
+stretches : (read_stretches sample start 0 3 5 ≡ 3) × (read_stretches sample start 3 3 3 ≡ 2) × (read_stretches sample start 1 1 6 ≡ 4) × (read_stretches sample start 0 6 3 ≡ 0)
 unfolding path
-lines_stretches = refl
-
-below_stretches : read_stretches sample start 3 3 3 ≡ 2
-unfolding path
-below_stretches = refl
-
-chunks_stretches : read_stretches sample start 1 1 6 ≡ 4
-unfolding path
-chunks_stretches = refl
-
-no_stretches : read_stretches sample start 0 6 3 ≡ 0
-no_stretches = refl
+stretches = (refl, refl, refl, refl)
 
 -- A snapshot of disk 0 with its store on disk 1: chunk 3 was taken first, and then chunk 1
 

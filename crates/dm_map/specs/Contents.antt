@@ -4,7 +4,7 @@ use Rattle.dm_stack.specs.declared.id.Lower.{Lower}
 use Rattle.dm_stack.specs.Description.{Description}
 use Rattle.dm_map.specs.SnapshotWrites.{read}
 use Rattle.dm_map.specs.State.{State}
-use Rattle.dm_map.specs.Units.{BlockUnit, ReadOf, WriteOf, Zeros, Drops, Fails, CopyOf, FillOf}
+use Rattle.dm_map.specs.Units.{BlockUnit, ReadOf, WriteOf, Zeros, Drops, CopyOf, FillOf}
 
 -- the values of the sectors of disks
 abbrev pub Values : Type 0 → Type 0
@@ -16,23 +16,16 @@ stored values to to_sector value disk sector = if disk == to && sector == to_sec
 
 -- whether a unit answers a sector of a request: all but copies and fills do
 abbrev pub answers : BlockUnit → Bool
-answers (ReadOf disk sector) = true
-answers (WriteOf disk sector) = true
-answers Zeros = true
-answers Drops = true
-answers Fails = true
 answers (CopyOf disk sector to to_sector) = false
 answers (FillOf disk sector) = false
+answers unit = true
 
 -- what a unit makes of the values: a copy moves one, a fill stores that of zeros, and a write stores what is written
 abbrev pub played_unit : {V : Type 0} → (zeros written : V) → BlockUnit → Values V → Values V
-played_unit zeros written (ReadOf disk sector) values = values
 played_unit zeros written (WriteOf disk sector) values = stored values disk sector written
-played_unit zeros written Zeros values = values
-played_unit zeros written Drops values = values
-played_unit zeros written Fails values = values
 played_unit zeros written (CopyOf disk sector to to_sector) values = stored values to to_sector (values disk sector)
 played_unit zeros written (FillOf disk sector) values = stored values disk sector zeros
+played_unit zeros written unit values = values
 
 -- the sector of a request that the unit after this one is for
 abbrev pub sector_after : BlockUnit → (sector : ℕ) → ℕ
@@ -46,12 +39,9 @@ played zeros written sector (unit ∷ units) values = played zeros written (sect
 -- what the unit of a read gives: a value, or none where it is an error
 abbrev pub value_read : {V : Type 0} → (zeros : V) → Values V → BlockUnit → Option V
 value_read zeros values (ReadOf disk sector) = Some (values disk sector)
-value_read zeros values (WriteOf disk sector) = None
 value_read zeros values Zeros = Some zeros
 value_read zeros values Drops = Some zeros
-value_read zeros values Fails = None
-value_read zeros values (CopyOf disk sector to to_sector) = None
-value_read zeros values (FillOf disk sector) = None
+value_read zeros values unit = None
 
 -- what a sector has in a state: what its read gives
 abbrev pub content : {V : Type 0} → (zeros : V) → Description → State → Values V → Lower → (sector : ℕ) → Option V

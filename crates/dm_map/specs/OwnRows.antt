@@ -6,7 +6,7 @@ use Rattle.dm_stack.specs.Description.{Description}
 use Rattle.dm_map.specs.Contents.{Values, Stays, content, sector_after, stored}
 use Rattle.dm_map.specs.Fitting.{IsFitting}
 use Rattle.dm_map.specs.State.{State, start_state}
-use Rattle.dm_map.specs.Units.{BlockUnit, ReadOf, WriteOf, Zeros, Drops, Fails, CopyOf, FillOf}
+use Rattle.dm_map.specs.Units.{BlockUnit, WriteOf}
 
 -- what each sector of each device has, none where that is an error
 abbrev pub Rows : Type 0 → Type 0
@@ -14,13 +14,8 @@ Rows V = Values (Option V)
 
 -- a sector that is answered by a write has what was written, and no other unit changes a row
 abbrev pub row_unit : {V : Type 0} → (written : V) → (device sector : ℕ) → BlockUnit → Rows V → Rows V
-row_unit written device sector (ReadOf disk at) rows = rows
 row_unit written device sector (WriteOf disk at) rows = stored rows device sector (Some written)
-row_unit written device sector Zeros rows = rows
-row_unit written device sector Drops rows = rows
-row_unit written device sector Fails rows = rows
-row_unit written device sector (CopyOf disk at to to_at) rows = rows
-row_unit written device sector (FillOf disk at) rows = rows
+row_unit written device sector unit rows = rows
 
 -- the rows after the units of a request of a device, from the one for a sector on
 unfoldable pub rows_played : {V : Type 0} → (written : ℕ → V) → (device sector : ℕ) → List BlockUnit → Rows V → Rows V

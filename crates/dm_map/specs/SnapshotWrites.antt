@@ -11,7 +11,7 @@ use Rattle.dm_stack.specs.Places.{place}
 use Rattle.dm_map.specs.Snapshots.{number_in, kept_at}
 use Rattle.dm_map.specs.State.{Taken, State, taken_at}
 use Rattle.dm_map.specs.Steps.{Step, keep, and_then}
-use Rattle.dm_map.specs.Units.{BlockUnit, ReadOf, WriteOf, Zeros, Drops, Fails, CopyOf, FillOf}
+use Rattle.dm_map.specs.Units.{BlockUnit, ReadOf, WriteOf, Fails, CopyOf, FillOf}
 
 -- The state after a change
 
@@ -44,13 +44,8 @@ read stack state lower sector = read_unit stack state MOST_DEPTH lower sector
 -- Whether a chunk can be taken
 
 abbrev pub is_error : BlockUnit → Bool
-is_error (ReadOf disk sector) = false
-is_error (WriteOf disk sector) = false
-is_error Zeros = false
-is_error Drops = false
 is_error Fails = true
-is_error (CopyOf disk sector to to_sector) = false
-is_error (FillOf disk sector) = false
+is_error unit = false
 
 abbrev pub any_error : List BlockUnit → Bool
 any_error [] = false
@@ -69,12 +64,7 @@ reads_all stack state lower sector len = not (any_error (row (read stack state l
 -- what is read of the origin, put to its home: where it reads zeros, they are filled in; other units are not read
 abbrev pub copy_to : BlockUnit → Home → BlockUnit
 copy_to (ReadOf disk sector) to = CopyOf disk sector to.disk to.sector
-copy_to (WriteOf disk sector) to = FillOf to.disk to.sector
-copy_to Zeros to = FillOf to.disk to.sector
-copy_to Drops to = FillOf to.disk to.sector
-copy_to Fails to = FillOf to.disk to.sector
-copy_to (CopyOf disk sector other other_sector) to = FillOf to.disk to.sector
-copy_to (FillOf disk sector) to = FillOf to.disk to.sector
+copy_to unit to = FillOf to.disk to.sector
 
 abbrev pub home_kept : Description → FoundSnapshot → (number sector : ℕ) → Home
 home_kept stack snapshot number sector = home stack snapshot.store (kept_at snapshot number sector)

@@ -4,11 +4,14 @@ use Rattle.dm_stack.specs.declared.found.FoundColumn.{FoundColumn}
 use Rattle.dm_stack.specs.declared.id.Lower.{Lower}
 use Rattle.dm_stack.specs.Below.{found_at}
 use Rattle.dm_stack.specs.Description.{Description, lower_len}
+use Rattle.dm_map.specs.declared.stretch.Ground.{Ground}
+use Rattle.dm_map.specs.declared.stretch.Ground.TheVariants as grounds
+use Rattle.dm_map.specs.declared.stretch.Stretch.{Stretch}
 use Rattle.dm_map.specs.declared.stripe.ChunkPlace.{ChunkPlace}
 use Rattle.dm_map.specs.Steps.{Step, keep}
-use Rattle.dm_map.specs.Stretch.{ground_unit, IsThere}
+use Rattle.dm_map.specs.Stretch.{ground_unit, IsFirst, IsThere}
 use Rattle.dm_map.specs.Units.{units_in}
-use Rattle.dm_map.specs.Walk.{Scene, line_step, range_step, scene, stripes_step, AreInStripes, IsPlace}
+use Rattle.dm_map.specs.Walk.{Scene, Walking, line_step, range_step, scene, stripes_step, AreInStripes, IsPlace}
 use Rattle.dm_map.proofs.Ranges.{range_deepest, range_disk, range_line, line_errors, line_linear, line_striped, line_zeros, stripes_chunk}
 use Rattle.dm_map.proofs.Chunks.{chunk_read, in_one_chunk, in_snapshot, lost_read}
 use Rattle.dm_map.proofs.Stripes.{column_inside}
@@ -16,32 +19,29 @@ use Rattle.dm_map.proofs.Rows.{added_then, none_added}
 use Rattle.dm_map.proofs.There.{device_there, disk_there}
 use Rattle.dm_map.proofs.stretch.+stretch.Goals as goal
 
+-- A first stretch that is known without a look-up, and one that goes on from a stretch below
+
+known : (walk : Walking) (reads : ℕ → Step) (n len : ℕ) (ground : Ground) → 1 ≤ n → n ≤ len → reads n ≡ keep (units_in (ground_unit ground) n) walk.state → IsThere walk.stack ground n → IsFirst walk walk reads len (record { ground = ground; len = n })
+known walk reads n len ground some most read lies = record { some = some; most = most; read = read; lies = lies; same = refl; looked = none_added walk.looked }
+
+below : (before after : Walking) (reads reads_below : ℕ → Step) (part len : ℕ) (stretch : Stretch) → IsFirst before after reads_below part stretch → part ≤ len → reads stretch.len ≡ reads_below stretch.len → IsFirst before after reads len stretch
+below before after reads reads_below part len stretch s few is = record { some = s.some; most = omega (arith, s.most, few); read = is ∙ s.read; lies = s.lies; same = s.same; looked = s.looked }
+
 -- A disk, and a device
 
 pub first_stretch-returns-in-Disk : goal.first_stretch-returns-in-Disk
 first_stretch-returns-in-Disk g t c =
     let a = c.args in let w = a.walker.now in
     let inside = subst (λ (lower : Lower). a.sector + a.len ≤ lower_len w.stack lower) c.in-Disk.is c.requires.inside in
-    record {
-      some = c.requires.some;
-      most = omega arith;
-      read = ap (λ (lower : Lower). range_step w.stack Read a.levels lower w.state a.sector a.len) c.in-Disk.is ∙ range_disk w.stack Read a.levels c.in-Disk.disk a.sector a.len w.state;
-      lies = record { there = disk_there w.stack c.in-Disk.disk a.sector (omega (arith, inside, c.requires.some)); inside = inside };
-      same = refl;
-      looked = none_added w.looked;
-    }
+    known w _ a.len a.len (grounds.Disk c.in-Disk.disk a.sector) c.requires.some (omega arith)
+    (ap (λ (lower : Lower). range_step w.stack Read a.levels lower w.state a.sector a.len) c.in-Disk.is ∙ range_disk w.stack Read a.levels c.in-Disk.disk a.sector a.len w.state)
+    (record { there = disk_there w.stack c.in-Disk.disk a.sector (omega (arith, inside, c.requires.some)); inside = inside })
 
 pub first_stretch-returns-then-levels-eq0 : goal.first_stretch-returns-then-levels-eq0
 first_stretch-returns-then-levels-eq0 g t c =
     let a = c.args in let w = a.walker.now in
-    record {
-      some = c.requires.some;
-      most = omega arith;
-      read = ap (λ (lower : Lower). range_step w.stack Read a.levels lower w.state a.sector a.len) c.in-Device.is ∙ range_deepest w.stack Read a.levels c.in-Device.device a.sector a.len w.state c.if-levels-eq0.true;
-      lies = tt;
-      same = refl;
-      looked = none_added w.looked;
-    }
+    known w _ a.len a.len grounds.Fails c.requires.some (omega arith)
+    (ap (λ (lower : Lower). range_step w.stack Read a.levels lower w.state a.sector a.len) c.in-Device.is ∙ range_deepest w.stack Read a.levels c.in-Device.device a.sector a.len w.state c.if-levels-eq0.true) tt
 
 pub first_stretch-look-line-requires-clause-device : goal.first_stretch-look-line-requires-clause-device
 first_stretch-look-line-requires-clause-device g t c =
@@ -71,53 +71,29 @@ first_stretch-returns-else-levels-eq0 g t c =
 
 pub line_stretch-returns-in-Linear : goal.line_stretch-returns-in-Linear
 line_stretch-returns-in-Linear g t c =
-    let a = c.args in let device = a.device in let w = a.walker.now in let s = c.first_stretch.ensures in let n = c.first_stretch.result.len in
-    record {
-      some = s.some;
-      most = s.most;
-      read = ap (λ target. line_step w.stack Read a.levels device target w.state a.distance n) c.in-Linear.is ∙ line_linear w.stack Read a.levels device c.in-Linear.to c.in-Linear.offset a.distance n w.state
-          ∙ ap (λ (p : ℕ). range_step w.stack Read a.levels c.in-Linear.to w.state p n) (sym c.sector_at-sector.ensures) ∙ s.read;
-      lies = s.lies;
-      same = s.same;
-      looked = s.looked;
-    }
+    let a = c.args in let device = a.device in let w = a.walker.now in let n = c.first_stretch.result.len in
+    below w _ _ _ a.len a.len _ c.first_stretch.ensures (omega arith)
+    (ap (λ target. line_step w.stack Read a.levels device target w.state a.distance n) c.in-Linear.is ∙ line_linear w.stack Read a.levels device c.in-Linear.to c.in-Linear.offset a.distance n w.state
+    ∙ ap (λ (p : ℕ). range_step w.stack Read a.levels c.in-Linear.to w.state p n) (sym c.sector_at-sector.ensures))
 
 pub line_stretch-returns-in-Striped : goal.line_stretch-returns-in-Striped
 line_stretch-returns-in-Striped g t c =
-    let a = c.args in let device = a.device in let w = a.walker.now in let s = c.stripes_stretch.ensures in let n = c.stripes_stretch.result.len in
-    record {
-      some = s.some;
-      most = s.most;
-      read = ap (λ target. line_step w.stack Read a.levels device target w.state a.distance n) c.in-Striped.is ∙ line_striped w.stack Read a.levels device c.in-Striped.chunk c.in-Striped.columns a.distance n w.state
-          ∙ ap (λ columns. stripes_step w.stack Read a.levels c.in-Striped.chunk columns w.state a.distance n) (sym c.as_slice-columns.ensures) ∙ s.read;
-      lies = s.lies;
-      same = s.same;
-      looked = s.looked;
-    }
+    let a = c.args in let device = a.device in let w = a.walker.now in let n = c.stripes_stretch.result.len in
+    below w _ _ _ a.len a.len _ c.stripes_stretch.ensures (omega arith)
+    (ap (λ target. line_step w.stack Read a.levels device target w.state a.distance n) c.in-Striped.is ∙ line_striped w.stack Read a.levels device c.in-Striped.chunk c.in-Striped.columns a.distance n w.state
+    ∙ ap (λ columns. stripes_step w.stack Read a.levels c.in-Striped.chunk columns w.state a.distance n) (sym c.as_slice-columns.ensures))
 
 pub line_stretch-returns-in-Zero : goal.line_stretch-returns-in-Zero
 line_stretch-returns-in-Zero g t c =
-    let a = c.args in let device = a.device in let w = a.walker.now in
-    record {
-      some = c.requires.some;
-      most = omega arith;
-      read = ap (λ target. line_step w.stack Read a.levels device target w.state a.distance a.len) c.in-Zero.is ∙ line_zeros w.stack Read a.levels device a.distance a.len w.state;
-      lies = tt;
-      same = refl;
-      looked = none_added w.looked;
-    }
+    let a = c.args in let w = a.walker.now in
+    known w _ a.len a.len grounds.Zeros c.requires.some (omega arith)
+    (ap (λ target. line_step w.stack Read a.levels a.device target w.state a.distance a.len) c.in-Zero.is ∙ line_zeros w.stack Read a.levels a.device a.distance a.len w.state) tt
 
 pub line_stretch-returns-in-Error : goal.line_stretch-returns-in-Error
 line_stretch-returns-in-Error g t c =
-    let a = c.args in let device = a.device in let w = a.walker.now in
-    record {
-      some = c.requires.some;
-      most = omega arith;
-      read = ap (λ target. line_step w.stack Read a.levels device target w.state a.distance a.len) c.in-Error.is ∙ line_errors w.stack Read a.levels device a.distance a.len w.state;
-      lies = tt;
-      same = refl;
-      looked = none_added w.looked;
-    }
+    let a = c.args in let w = a.walker.now in
+    known w _ a.len a.len grounds.Fails c.requires.some (omega arith)
+    (ap (λ target. line_step w.stack Read a.levels a.device target w.state a.distance a.len) c.in-Error.is ∙ line_errors w.stack Read a.levels a.device a.distance a.len w.state) tt
 
 -- Stripes
 
@@ -146,15 +122,9 @@ stripes_stretch-first_stretch-requires g t c =
 pub stripes_stretch-returns : goal.stripes_stretch-returns
 stripes_stretch-returns g t c =
     let a = c.args in let w = a.walker.now in let place = c.place_at-place.result in let column = c.index-columns-place.result in let s = c.first_stretch.ensures in let n = c.first_stretch.result.len in let stripes = c.requires.inside.stripes in
-    record {
-      some = s.some;
-      most = omega (arith, s.most, c.min-part.ensures);
-      read = stripes_chunk w.stack Read a.levels a.chunk a.distance n a.columns.now w.state column place stripes.some stripes.chunk_some c.place_at-place.ensures (omega (arith, c.min-part.ensures, s.most)) c.index-columns-place.is
-          ∙ ap (λ (p : ℕ). range_step w.stack Read a.levels column.to w.state p n) (sym c.sector_at-sector.ensures) ∙ s.read;
-      lies = s.lies;
-      same = s.same;
-      looked = s.looked;
-    }
+    below w _ _ _ c.min-part.result a.len _ s (omega (arith, c.min-part.ensures))
+    (stripes_chunk w.stack Read a.levels a.chunk a.distance n a.columns.now w.state column place stripes.some stripes.chunk_some c.place_at-place.ensures (omega (arith, c.min-part.ensures, s.most)) c.index-columns-place.is
+    ∙ ap (λ (p : ℕ). range_step w.stack Read a.levels column.to w.state p n) (sym c.sector_at-sector.ensures))
 
 -- A snapshot
 
@@ -166,15 +136,8 @@ line_stretch-snapshot_stretch-requires g t c =
 
 pub line_stretch-returns-in-Snapshot : goal.line_stretch-returns-in-Snapshot
 line_stretch-returns-in-Snapshot g t c =
-    let a = c.args in let device = a.device in let w = a.walker.now in let s = c.snapshot_stretch.ensures in let n = c.snapshot_stretch.result.len in
-    record {
-      some = s.some;
-      most = s.most;
-      read = ap (λ target. line_step w.stack Read a.levels device target w.state a.distance n) c.in-Snapshot.is ∙ s.read;
-      lies = s.lies;
-      same = s.same;
-      looked = s.looked;
-    }
+    let a = c.args in let w = a.walker.now in let n = c.snapshot_stretch.result.len in
+    below w _ _ _ a.len a.len _ c.snapshot_stretch.ensures (omega arith) (ap (λ target. line_step w.stack Read a.levels a.device target w.state a.distance n) c.in-Snapshot.is)
 
 pub snapshot_stretch-read_place-requires : goal.snapshot_stretch-read_place-requires
 snapshot_stretch-read_place-requires g t c =
@@ -193,23 +156,11 @@ snapshot_stretch-first_stretch-requires g t c =
 pub snapshot_stretch-returns-in-Some : goal.snapshot_stretch-returns-in-Some
 snapshot_stretch-returns-in-Some g t c =
     let a = c.args in let w = a.walker.now in let s = c.first_stretch.ensures in let n = c.first_stretch.result.len in
-    record {
-      some = s.some;
-      most = omega (arith, s.most, c.part_of_chunk-part.ensures);
-      read = chunk_read w.stack a.levels a.device a.sector n c.part_of_chunk-part.result a.snapshot.now w.state c.in-Some.place c.in-Some.ensures.place s.most ∙ s.read;
-      lies = s.lies;
-      same = s.same;
-      looked = s.looked;
-    }
+    below w _ _ _ c.part_of_chunk-part.result a.len _ s (omega (arith, c.part_of_chunk-part.ensures))
+    (chunk_read w.stack a.levels a.device a.sector n c.part_of_chunk-part.result a.snapshot.now w.state c.in-Some.place c.in-Some.ensures.place s.most)
 
 pub snapshot_stretch-returns-in-None : goal.snapshot_stretch-returns-in-None
 snapshot_stretch-returns-in-None g t c =
     let a = c.args in let w = a.walker.now in let part = c.part_of_chunk-part.ensures in
-    record {
-      some = omega (arith, part, c.requires.some, c.requires.inside.sound.chunk_some);
-      most = omega (arith, part);
-      read = lost_read w.stack a.levels a.device a.sector c.part_of_chunk-part.result a.snapshot.now w.state c.in-None.ensures.lost;
-      lies = tt;
-      same = refl;
-      looked = none_added w.looked;
-    }
+    known w _ c.part_of_chunk-part.result a.len grounds.Fails (omega (arith, part, c.requires.some, c.requires.inside.sound.chunk_some)) (omega (arith, part))
+    (lost_read w.stack a.levels a.device a.sector c.part_of_chunk-part.result a.snapshot.now w.state c.in-None.ensures.lost) tt

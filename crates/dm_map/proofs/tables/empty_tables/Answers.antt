@@ -20,36 +20,40 @@ loop-next-init g c =
       looked = omega arith;
     }
 
+-- the snapshot that is looked up next
+record IsNext (stack : Description) (next device : ℕ) : Type 0 where
+  within : next < length (snapshots stack)
+  is : device ≡ get_or (snapshots stack) next device
+  there : device < length stack.devices
+
+next_snapshot : (stack seen : Description) (ids counted : List ℕ) (next device : ℕ) → seen ≡ stack → ids ≡ snapshots seen → counted ≡ snapshots stack → next < length counted → device ≡ get_or ids next device → IsNext stack next device
+next_snapshot stack seen ids counted next device same ids_are counted_are before is_in =
+    let within : next < length (snapshots stack) = subst (λ (xs : List ℕ). next < length xs) counted_are before in
+    let is : device ≡ get_or (snapshots stack) next device = is_in ∙ ap (λ (xs : List ℕ). get_or xs next device) (ids_are ∙ ap snapshots same) in
+    record { within = within; is = is; there = subst (λ (x : ℕ). x < length stack.devices) (sym is) (snapshot_there stack next device within) }
+
 pub places_of-requires : goal.places_of-requires
 places_of-requires g c =
-    let stack = c.args.looker.now.stack in let l = c.loop-next in let d = c.index-snapshots-next.result in
-    let ids : c.snapshots.result.now ≡ snapshots stack = c.snapshots.ensures.ids ∙ ap snapshots l.invariant.same in
-    let within : l.next < length (snapshots stack) = omega (arith, c.loop-next-test.true, ap (λ (xs : List ℕ). length xs) c.snapshots-count.ensures.ids) in
-    let is : d ≡ get_or (snapshots stack) l.next d = c.index-snapshots-next.is ∙ ap (λ (xs : List ℕ). get_or xs l.next d) ids in
-    subst (λ (s : Description). d < length s.devices) (sym l.invariant.same) (subst (λ (x : ℕ). x < length stack.devices) (sym is) (snapshot_there stack l.next d within))
+    let l = c.loop-next in
+    let it = next_snapshot c.args.looker.now.stack l.looker.stack c.snapshots.result.now c.snapshots-count.result.now l.next c.index-snapshots-next.result l.invariant.same c.snapshots.ensures.ids c.snapshots-count.ensures.ids c.loop-next-test.true c.index-snapshots-next.is in
+    subst (λ (s : Description). c.index-snapshots-next.result < length s.devices) (sym l.invariant.same) it.there
 
 pub index_mut-requires : goal.index_mut-requires
 index_mut-requires g c =
-    let stack = c.args.looker.now.stack in let l = c.loop-next in let d = c.index-snapshots-next.result in
-    let ids : c.snapshots.result.now ≡ snapshots stack = c.snapshots.ensures.ids ∙ ap snapshots l.invariant.same in
-    let within : l.next < length (snapshots stack) = omega (arith, c.loop-next-test.true, ap (λ (xs : List ℕ). length xs) c.snapshots-count.ensures.ids) in
-    let is : d ≡ get_or (snapshots stack) l.next d = c.index-snapshots-next.is ∙ ap (λ (xs : List ℕ). get_or xs l.next d) ids in
-    let low : d < length stack.devices = subst (λ (x : ℕ). x < length stack.devices) (sym is) (snapshot_there stack l.next d within) in
-    omega (arith, low, l.invariant.count, c.index.ensures)
+    let l = c.loop-next in
+    let it = next_snapshot c.args.looker.now.stack l.looker.stack c.snapshots.result.now c.snapshots-count.result.now l.next c.index-snapshots-next.result l.invariant.same c.snapshots.ensures.ids c.snapshots-count.ensures.ids c.loop-next-test.true c.index-snapshots-next.is in
+    omega (arith, it.there, l.invariant.count, c.index.ensures)
 
 pub loop-next-preserved : goal.loop-next-preserved
 loop-next-preserved g c =
     let stack = c.args.looker.now.stack in let l = c.loop-next in let d = c.index-snapshots-next.result in let table = c.in_ok-table.table in let made = c.in_ok-table.ensures in
-    let ids : c.snapshots.result.now ≡ snapshots stack = c.snapshots.ensures.ids ∙ ap snapshots l.invariant.same in
-    let within : l.next < length (snapshots stack) = omega (arith, c.loop-next-test.true, ap (λ (xs : List ℕ). length xs) c.snapshots-count.ensures.ids) in
-    let is : d ≡ get_or (snapshots stack) l.next d = c.index-snapshots-next.is ∙ ap (λ (xs : List ℕ). get_or xs l.next d) ids in
-    let low : d < length stack.devices = subst (λ (x : ℕ). x < length stack.devices) (sym is) (snapshot_there stack l.next d within) in
+    let it = next_snapshot stack l.looker.stack c.snapshots.result.now c.snapshots-count.result.now l.next d l.invariant.same c.snapshots.ensures.ids c.snapshots-count.ensures.ids c.loop-next-test.true c.index-snapshots-next.is in
     let room : (number : ℕ) → nat_lt number (g.T.Taken.places table) ≡ has_room stack d number = λ number.
     ap (λ (n : ℕ). nat_lt number n) made.places ∙ c.places_of.ensures.places number ∙ ap (λ (s : Description). has_room s d number) l.invariant.same in
     record {
       count = length-set l.tables.items c.index.result table ∙ l.invariant.count;
-      room = next_rooms g.T.Taken.places stack l.tables.items l.next d c.index.result table within is c.index.ensures room l.invariant.room;
-      state = state_new g.T.Taken.chunks g.T.Taken.valid l.tables.items c.index.result (length stack.devices) table (omega (arith, low, c.index.ensures)) l.invariant.state made.chunks made.valid;
+      room = next_rooms g.T.Taken.places stack l.tables.items l.next d c.index.result table it.within it.is c.index.ensures room l.invariant.room;
+      state = state_new g.T.Taken.chunks g.T.Taken.valid l.tables.items c.index.result (length stack.devices) table (omega (arith, it.there, c.index.ensures)) l.invariant.state made.chunks made.valid;
       same = c.places_of.ensures.stack ∙ l.invariant.same;
       looked = omega (arith, c.places_of.ensures.one, l.invariant.looked);
     }
