@@ -46,7 +46,7 @@ impl<T> Listed<T> {
 }
 
 impl<T: Drop> Listed<T> {
-    /// Adds a value behind the others.
+    /// Adds a value at the end.
     pub(crate) fn push(&mut self, value: T) -> Result<(), AllocError>
         ensures { OnOk result (self.new ≡ self.old ++ value ∷ []) }
     {
