@@ -1,12 +1,14 @@
 -- The sectors of a chunk in a store, their copies and their writes.
-use Rattle.std.proofs.Common.{◌≡◌, ℕ, ◌+◌, ◌*◌, ◌%◌, ◌<◌, ◌≤◌, sym, ap, ◌∙◌, arith}
+use Rattle.std.proofs.Common.{◌≡◌, ℕ, ◌+◌, ◌-◌, ◌*◌, ◌%◌, ◌<◌, ◌≤◌, sym, ap, ◌∙◌, arith}
 use Rattle.dm_table.specs.declared.request.Op.TheVariants.{Read}
 use Rattle.dm_stack.specs.declared.found.FoundSnapshot.{FoundSnapshot}
 use Rattle.dm_stack.specs.declared.graph.TheConstants.{MOST_DEPTH}
 use Rattle.dm_stack.specs.declared.id.Lower.{Lower}
+use Rattle.dm_stack.specs.Description.{Description}
 use Rattle.dm_stack.specs.Places.{place}
 use Rattle.dm_map.specs.declared.ready.HomeStretch.{HomeStretch}
 use Rattle.dm_map.specs.declared.stretch.Ground.{Ground}
+use Rattle.dm_map.specs.Counts.{AreAdded}
 use Rattle.dm_map.specs.Homes.{GoOn, IsFirstHomes, home}
 use Rattle.dm_map.specs.Snapshots.{kept_at}
 use Rattle.dm_map.specs.SnapshotWrites.{copy_to, home_kept, read, row, write_to}
@@ -16,6 +18,14 @@ use Rattle.dm_map.specs.Units.{WriteOf, units_in}
 use Rattle.dm_map.specs.Walk.{Scene, Walking, range_step, scene}
 use Rattle.dm_map.proofs.Stripes.{in_chunk}
 use Rattle.dm_map.proofs.UnitRows.{copy_row, first_reads, row_front, write_row}
+
+-- between pieces, a sink and a walk are where they were, but for the units that the sink took and what was looked up
+pub record IsGoingOn {S : Type 0} (stack_of : S → Description) (room_of faults_of : S → ℕ) (old new : S) (before after : Walking) : Type 0 where
+  pub same : scene after ≡ scene before
+  pub looked : AreAdded before.looked after.looked
+  pub stack : stack_of new ≡ stack_of old
+  pub room : room_of old ≤ room_of new
+  pub faults : faults_of new ≡ faults_of old
 
 -- the sectors of a chunk go on in its place
 pub kept_on : (snapshot : FoundSnapshot) (number sector i : ℕ) → 0 < snapshot.chunk → sector % snapshot.chunk + i < snapshot.chunk → kept_at snapshot number (sector + i) ≡ kept_at snapshot number sector + i
@@ -50,9 +60,10 @@ copy_part before now snapshot number sector done from to m ground first some par
     copy_row origin (home_kept before.stack snapshot number) (sector + done) first.len (ground_unit ground) first.disk first.start read_part home_part
 
 -- and so is a write
-pub next_writes : (before now : Walking) (store : Lower) (sector done at left : ℕ) (first : HomeStretch) → scene now ≡ scene before → at ≡ sector + done → IsFirstHomes now.stack store at left first
-    → row (λ s. write_to (home before.stack store s)) (sector + done) first.len ≡ units_in (WriteOf first.disk first.start) first.len
-next_writes before now store sector done at left first same at_is is =
-    ap (λ (s : ℕ). row (λ u. write_to (home before.stack store u)) s first.len) (sym at_is)
+pub next_writes : (before now : Walking) (store : Lower) (sector len at left : ℕ) (first : HomeStretch) → scene now ≡ scene before → left ≤ len → at + left ≡ sector + len → IsFirstHomes now.stack store at left first
+    → row (λ s. write_to (home before.stack store s)) (sector + (len - left)) first.len ≡ units_in (WriteOf first.disk first.start) first.len
+next_writes before now store sector len at left first same within place is =
+    let at_is : sector + (len - left) ≡ at = omega (arith, within, place) in
+    ap (λ (s : ℕ). row (λ u. write_to (home before.stack store u)) s first.len) at_is
     ∙ ap (λ (w : Scene). row (λ u. write_to (home w.stack store u)) at first.len) (sym same)
     ∙ write_row (home now.stack store) at first.disk first.start first.len is.homes

@@ -117,7 +117,7 @@ played_on zeros written at (u ∷ us) vs values each =
 stored_cong : {V : Type 0} (values others : Values V) (to to_sector disk sector : ℕ) (a b : V) → a ≡ b → ((k x : ℕ) → values k x ≡ others k x) → stored values to to_sector a disk sector ≡ stored others to to_sector b disk sector
 stored_cong {V = V} values others to to_sector disk sector a b e same = ap (λ (v : V). cond (disk == to && sector == to_sector) v (values disk sector)) e ∙ ap (λ (v : V). cond (disk == to && sector == to_sector) b v) (same disk sector)
 
-unit_cong : {V : Type 0} (zeros written : V) (unit : BlockUnit) (values others : Values V) → ((k x : ℕ) → values k x ≡ others k x) → (k x : ℕ) → played_unit zeros written unit values k x ≡ played_unit zeros written unit others k x
+pub unit_cong : {V : Type 0} (zeros written : V) (unit : BlockUnit) (values others : Values V) → ((k x : ℕ) → values k x ≡ others k x) → (k x : ℕ) → played_unit zeros written unit values k x ≡ played_unit zeros written unit others k x
 unit_cong zeros written (WriteOf disk sector) values others same k x = stored_cong values others disk sector k x written written refl same
 unit_cong zeros written (CopyOf disk sector to to_sector) values others same k x = stored_cong values others to to_sector k x (values disk sector) (others disk sector) (same disk sector) same
 unit_cong zeros written (FillOf disk sector) values others same k x = stored_cong values others disk sector k x zeros zeros refl same

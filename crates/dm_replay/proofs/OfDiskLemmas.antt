@@ -5,25 +5,22 @@ use Rattle.std.specs.List.{AllByRecursion}
 use Rattle.dm_stack.specs.Description.{Description}
 use Rattle.dm_map.specs.declared.piece.Piece.{Piece}
 use Rattle.dm_map.specs.declared.piece.Piece.TheVariants as pieces
-use Rattle.dm_map.specs.Units.{BlockUnit, ReadOf, WriteOf, Zeros, Drops, Fails, CopyOf, FillOf, IsOnDisks, first_unit, next_unit, piece_len, units_in, units_of}
+use Rattle.dm_map.specs.Contents.{stored, sector_after, played as contents_played}
+use Rattle.dm_map.specs.Units.{BlockUnit, ReadOf, WriteOf, CopyOf, FillOf, IsOnDisks, first_unit, next_unit, piece_len, units_in, units_of}
 use Rattle.dm_replay.specs.declared.value.Value.{Value}
 use Rattle.dm_replay.specs.declared.value.Value.TheVariants as value
 use Rattle.dm_replay.specs.declared.value_run.ValueRun.{ValueRun}
 use Rattle.dm_replay.specs.declared.value_run.ValueRun.TheVariants as runs
 use Rattle.dm_replay.specs.OfDisks.{AreUnitsOf, AreValuesOf, IsAnswerOf, IsRunOf, IsUnitOf, IsValueOf}
 use Rattle.dm_replay.specs.Runs.{answers_in, first_answer, flat, run_answers, run_len}
-use Rattle.dm_replay.specs.Values.{Answer, Values, old_values, played, played_answers, played_unit, sector_after, stored, unit_answers}
+use Rattle.dm_replay.specs.Values.{Answer, Values, old_values, played, played_answers, played_unit, unit_answers}
 
 -- Units
 
 next_of : (disks : ℕ) (unit : BlockUnit) → IsUnitOf disks unit → IsUnitOf disks (next_unit unit)
 next_of disks (ReadOf disk sector) is = is
-next_of disks (WriteOf disk sector) is = tt
-next_of disks Zeros is = tt
-next_of disks Drops is = tt
-next_of disks Fails is = tt
 next_of disks (CopyOf disk sector to to_sector) is = is
-next_of disks (FillOf disk sector) is = tt
+next_of disks unit is = tt
 
 units_in_of : (disks : ℕ) (unit : BlockUnit) (len : ℕ) → IsUnitOf disks unit → AreUnitsOf disks (units_in unit len)
 units_in_of disks unit zero is = tt
@@ -31,12 +28,8 @@ units_in_of disks unit (suc len) is = (is, units_in_of disks (next_unit unit) le
 
 first_of : (stack : Description) (piece : Piece) → IsOnDisks stack piece → IsUnitOf (length stack.disks) (first_unit piece)
 first_of stack (pieces.Read disk start len) lies = lies.there
-first_of stack (pieces.Write disk start len) lies = tt
-first_of stack (pieces.Zero len) lies = tt
-first_of stack (pieces.Drop len) lies = tt
-first_of stack (pieces.Error len) lies = tt
 first_of stack (pieces.Copy disk start len to to_start) lies = lies.0.there
-first_of stack (pieces.Fill len disk start) lies = tt
+first_of stack piece lies = tt
 
 -- those of a piece on the stack's disks
 pub piece_of : (stack : Description) (piece : Piece) → IsOnDisks stack piece → AreUnitsOf (length stack.disks) (units_of piece)
@@ -52,16 +45,13 @@ stored_of : (disks : ℕ) (values : Values) (on at : ℕ) (new : Value) → AreV
 stored_of disks values on at new were is disk sector there = either disks (disk == on && sector == at) new (values disk sector) is (were disk sector there)
 
 unit_of : (disks request sector : ℕ) (unit : BlockUnit) (values : Values) → IsUnitOf disks unit → AreValuesOf disks values → AreValuesOf disks (played_unit request sector unit values)
-unit_of disks request sector (ReadOf disk at) values is were = were
 unit_of disks request sector (WriteOf disk at) values is were = stored_of disks values disk at (value.Wrote request sector) were tt
-unit_of disks request sector Zeros values is were = were
-unit_of disks request sector Drops values is were = were
-unit_of disks request sector Fails values is were = were
 unit_of disks request sector (CopyOf disk at to to_at) values is were = stored_of disks values to to_at (values disk at) were (were disk at is)
 unit_of disks request sector (FillOf disk at) values is were = stored_of disks values disk at value.Zero were tt
+unit_of disks request sector unit values is were = were
 
 pub played_of : (disks request sector : ℕ) (units : List BlockUnit) (values : Values) → AreUnitsOf disks units → AreValuesOf disks values → AreValuesOf disks (played request sector units values)
-unfolding played
+unfolding contents_played
 played_of disks request sector [] values are were = were
 played_of disks request sector (unit ∷ units) values are were = played_of disks request (sector_after unit sector) units (played_unit request sector unit values) are.1 (unit_of disks request sector unit values are.0 were)
 
@@ -82,12 +72,9 @@ answers-append disks (x ∷ first) rest are were = (are.0, answers-append disks 
 
 answer_of : (disks request sector : ℕ) (unit : BlockUnit) (values : Values) → IsUnitOf disks unit → AreValuesOf disks values → AreAnswersOf disks (unit_answers request sector unit values)
 answer_of disks request sector (ReadOf disk at) values is were = (were disk at is, tt)
-answer_of disks request sector (WriteOf disk at) values is were = (tt, tt)
-answer_of disks request sector Zeros values is were = (tt, tt)
-answer_of disks request sector Drops values is were = (tt, tt)
-answer_of disks request sector Fails values is were = (tt, tt)
 answer_of disks request sector (CopyOf disk at to to_at) values is were = tt
 answer_of disks request sector (FillOf disk at) values is were = tt
+answer_of disks request sector unit values is were = (tt, tt)
 
 answers_of : (disks request sector : ℕ) (units : List BlockUnit) (values : Values) → AreUnitsOf disks units → AreValuesOf disks values → AreAnswersOf disks (played_answers request sector units values)
 unfolding played_answers
@@ -107,9 +94,7 @@ answers_rest disks (x ∷ first) rest are = answers_rest disks first rest are.1
 
 run_of : (disks : ℕ) (run : ValueRun) → IsAnswerOf disks (first_answer run) → IsRunOf disks run
 run_of disks (runs.Old disk start len) is = is
-run_of disks (runs.Wrote request start len) is = tt
-run_of disks (runs.Zero len) is = tt
-run_of disks (runs.Error len) is = tt
+run_of disks run is = tt
 
 runs_of : (disks : ℕ) (all : List ValueRun) → AllByRecursion (λ run. 0 < run_len run) all → AreAnswersOf disks (flat all) → AllByRecursion (IsRunOf disks) all
 runs_of disks [] some are = tt

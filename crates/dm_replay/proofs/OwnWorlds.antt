@@ -1,22 +1,22 @@
 -- Worlds in which each top device has what it would have alone, or errors: they stay so where no claims meet.
-use Rattle.std.proofs.Common.{◌≡◌, ℕ, suc, ◌==◌, ◌&&◌, Bool, true, false, cond, List, [], ◌∷◌, Option, Some, None, refl, sym, subst}
+use Rattle.std.proofs.Common.{◌≡◌, ℕ, suc, ◌==◌, ◌&&◌, Bool, true, false, cond, List, [], ◌∷◌, Option, Some, None, refl}
 use Rattle.std.specs.List.{AllByRecursion}
 use Rattle.dm_table.specs.declared.request.Op.{Op}
 use Rattle.dm_stack.specs.declared.id.Lower.TheVariants.{Device}
 use Rattle.dm_stack.specs.Claims.{IsTidy, IsTop}
 use Rattle.dm_stack.specs.Description.{Description}
-use Rattle.dm_map.specs.Contents.{value_read, played as contents_played}
+use Rattle.dm_map.specs.Contents.{played, sector_after, value_read}
 use Rattle.dm_map.specs.Mapping.{request_step}
 use Rattle.dm_map.specs.OwnRows.{AreOwn, Rows as Kept, first_rows as first_kept, row_unit as kept_unit, rows_played}
 use Rattle.dm_map.specs.SnapshotWrites.{read}
 use Rattle.dm_map.specs.State.{State, start_state}
-use Rattle.dm_map.specs.Units.{BlockUnit, ReadOf, WriteOf, Zeros, Drops, Fails, CopyOf, FillOf}
+use Rattle.dm_map.specs.Units.{BlockUnit, ReadOf, WriteOf}
 use Rattle.dm_replay.specs.declared.value.Value.{Value}
 use Rattle.dm_replay.specs.declared.value.Value.TheVariants as value
 use Rattle.dm_replay.specs.Histories.{Asked, World, asked_units, first_world, next_world, world_after, world_from}
 use Rattle.dm_replay.specs.Replay.{IsWholeOfTop}
 use Rattle.dm_replay.specs.Rows.{Rows, read_answer, row_unit, row_units, rows_after, rows_from}
-use Rattle.dm_replay.specs.Values.{Answer, Gives, Failed, Values, old_values, played, played_unit}
+use Rattle.dm_replay.specs.Values.{Answer, Gives, Failed, Values, old_values}
 
 -- The law of requests, at the values of a replay
 
@@ -26,21 +26,10 @@ BeginsOwn stack = (zeros : Value) (values : Values) → AreOwn zeros stack (star
 abbrev pub StaysOwn : Description → Type 0
 StaysOwn stack = (zeros : Value) (written : ℕ → Value) (op : Op) (state : State) (top start len : ℕ) (values : Values) (rows : Kept Value) → IsTidy stack → IsTop stack top → AreOwn zeros stack state values rows
     → AreOwn zeros stack (request_step stack op top start len state).state
-    (contents_played zeros written start (request_step stack op top start len state).units values)
+    (played zeros written start (request_step stack op top start len state).units values)
     (rows_played written top start (request_step stack op top start len state).units rows)
 
--- Play and rows, as that law says them
-
-play_same : (request sector : ℕ) (units : List BlockUnit) (values : Values) → played request sector units values ≡ contents_played value.Zero (value.Wrote request) sector units values
-unfolding played contents_played
-play_same request sector [] values = refl
-play_same request sector (ReadOf disk at ∷ units) values = play_same request (suc sector) units values
-play_same request sector (WriteOf disk at ∷ units) values = play_same request (suc sector) units (played_unit request sector (WriteOf disk at) values)
-play_same request sector (Zeros ∷ units) values = play_same request (suc sector) units values
-play_same request sector (Drops ∷ units) values = play_same request (suc sector) units values
-play_same request sector (Fails ∷ units) values = play_same request (suc sector) units values
-play_same request sector (CopyOf disk at to to_at ∷ units) values = play_same request sector units (played_unit request sector (CopyOf disk at to to_at) values)
-play_same request sector (FillOf disk at ∷ units) values = play_same request sector units (played_unit request sector (FillOf disk at) values)
+-- Rows, as that law says them
 
 abbrev pub answer_of : Option Value → Answer
 answer_of (Some given) = Gives given
@@ -59,23 +48,13 @@ put_same number device sector disk at rows kept same of s = by_place (of == devi
 rows_same : (number device sector : ℕ) (units : List BlockUnit) (rows : Rows) (kept : Kept Value) → AreSame rows kept → AreSame (row_units number device sector units rows) (rows_played (value.Wrote number) device sector units kept)
 unfolding row_units rows_played
 rows_same number device sector [] rows kept same = same
-rows_same number device sector (ReadOf disk at ∷ units) rows kept same = rows_same number device (suc sector) units rows kept same
 rows_same number device sector (WriteOf disk at ∷ units) rows kept same =
     rows_same number device (suc sector) units (row_unit number device sector (WriteOf disk at) rows) (kept_unit (value.Wrote number sector) device sector (WriteOf disk at) kept) (put_same number device sector disk at rows kept same)
-rows_same number device sector (Zeros ∷ units) rows kept same = rows_same number device (suc sector) units rows kept same
-rows_same number device sector (Drops ∷ units) rows kept same = rows_same number device (suc sector) units rows kept same
-rows_same number device sector (Fails ∷ units) rows kept same = rows_same number device (suc sector) units rows kept same
-rows_same number device sector (CopyOf disk at to to_at ∷ units) rows kept same = rows_same number device sector units rows kept same
-rows_same number device sector (FillOf disk at ∷ units) rows kept same = rows_same number device sector units rows kept same
+rows_same number device sector (unit ∷ units) rows kept same = rows_same number device (sector_after unit sector) units rows kept same
 
 pub read_same : (unit : BlockUnit) (values : Values) → read_answer unit values ≡ answer_of (value_read value.Zero values unit)
 read_same (ReadOf disk at) values = refl
-read_same (WriteOf disk at) values = refl
-read_same Zeros values = refl
-read_same Drops values = refl
-read_same Fails values = refl
-read_same (CopyOf disk at to to_at) values = refl
-read_same (FillOf disk at) values = refl
+read_same unit values = refl
 
 -- Worlds in which each top device has its row, or errors
 
@@ -90,8 +69,7 @@ own_next stack world asked rows stays tidy of was =
     let step = request_step stack asked.op asked.device asked.start asked.len world.state in
     rw of.whole (record {
       kept = rows_played (value.Wrote asked.number) asked.device asked.start step.units was.kept;
-      own = subst (λ (values : Values). AreOwn value.Zero stack step.state values (rows_played (value.Wrote asked.number) asked.device asked.start step.units was.kept)) (sym (play_same asked.number asked.start step.units world.values))
-          (stays value.Zero (value.Wrote asked.number) asked.op world.state asked.device asked.start asked.len world.values was.kept tidy of.top was.own);
+      own = stays value.Zero (value.Wrote asked.number) asked.op world.state asked.device asked.start asked.len world.values was.kept tidy of.top was.own;
       same = rows_same asked.number asked.device asked.start step.units rows was.kept was.same;
     })
 

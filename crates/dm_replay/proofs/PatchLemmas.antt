@@ -3,12 +3,13 @@ use Rattle.std.proofs.Common.{◌≡◌, ℕ, suc, ◌+◌, ◌-◌, ◌<◌, �
 use Rattle.std.proofs.Math.Seq.{take-suc}
 use Rattle.std.specs.Prelude.{◌==◌, ◌&&◌, nat_le, nat_lt}
 use Rattle.std.proofs.lemmas.Bool.Decides.{nat_tests}
+use Rattle.dm_map.specs.Contents.{stored}
 use Rattle.dm_replay.specs.declared.patch.Patch.{Patch}
 use Rattle.dm_replay.specs.declared.value.Value.{Value}
 use Rattle.dm_replay.specs.declared.value.Value.TheVariants as value
 use Rattle.dm_replay.specs.Patches.{overlaid, patched, values_in}
 use Rattle.dm_replay.specs.Ranges.{HoldOn, is_within, ranged}
-use Rattle.dm_replay.specs.Values.{Values, further, next_value, old_values, stored}
+use Rattle.dm_replay.specs.Values.{Values, further, next_value, old_values}
 
 pub further_next : (first : Value) (n : ℕ) → further (next_value first) n ≡ further first (suc n)
 further_next (value.Old disk sector) n = ap (λ (s : ℕ). value.Old disk s) (let e : suc sector + n ≡ sector + suc n = omega arith in e)

@@ -1,33 +1,34 @@
 -- What units in a row do to the values of disks, and answer.
 use Rattle.std.proofs.Common.{◌≡◌, ℕ, zero, suc, ◌+◌, ◌<◌, ◌≤◌, List, [], ◌∷◌, refl, sym, ap, ◌∙◌, arith}
+use Rattle.dm_map.specs.Contents.{stored, played as contents_played}
 use Rattle.dm_map.specs.Units.{ReadOf, WriteOf, Zeros, Drops, Fails, CopyOf, FillOf, units_in}
 use Rattle.dm_replay.specs.declared.value.Value.{Value}
 use Rattle.dm_replay.specs.declared.value.Value.TheVariants as value
 use Rattle.dm_replay.specs.Ranges.{AreApart, HoldOn, ranged}
 use Rattle.dm_replay.specs.PlayLaws.{AreSame}
 use Rattle.dm_replay.specs.Runs.{answers_in}
-use Rattle.dm_replay.specs.Values.{Answer, Gives, Failed, Values, next_value, played, played_answers, sector_past, stored}
+use Rattle.dm_replay.specs.Values.{Answer, Gives, Failed, Values, next_value, played, played_answers, sector_past}
 use Rattle.dm_replay.proofs.PatchLemmas.{hold_here, hold_later, ranged_none, ranged_step, stored_other}
 
 -- Units that change nothing
 
 pub reads_played : (request sector disk start n : ℕ) (values : Values) → played request sector (units_in (ReadOf disk start) n) values ≡ values
-unfolding played
+unfolding contents_played
 reads_played request sector disk start zero values = refl
 reads_played request sector disk start (suc n) values = reads_played request (suc sector) disk (suc start) n values
 
 pub zeros_played : (request sector n : ℕ) (values : Values) → played request sector (units_in Zeros n) values ≡ values
-unfolding played
+unfolding contents_played
 zeros_played request sector zero values = refl
 zeros_played request sector (suc n) values = zeros_played request (suc sector) n values
 
 pub drops_played : (request sector n : ℕ) (values : Values) → played request sector (units_in Drops n) values ≡ values
-unfolding played
+unfolding contents_played
 drops_played request sector zero values = refl
 drops_played request sector (suc n) values = drops_played request (suc sector) n values
 
 pub fails_played : (request sector n : ℕ) (values : Values) → played request sector (units_in Fails n) values ≡ values
-unfolding played
+unfolding contents_played
 fails_played request sector zero values = refl
 fails_played request sector (suc n) values = fails_played request (suc sector) n values
 
@@ -117,19 +118,19 @@ copies_past disk start to to_start (suc n) sector = copies_past disk (suc start)
 -- Units that store
 
 pub writes_played : (request sector on at n : ℕ) (values : Values) → AreSame (played request sector (units_in (WriteOf on at) n) values) (ranged values on at n (value.Wrote request sector))
-unfolding played
+unfolding contents_played
 writes_played request sector on at zero values disk s = sym (ranged_none values on at (value.Wrote request sector) disk s)
 writes_played request sector on at (suc n) values disk s =
     writes_played request (suc sector) on (suc at) n (stored values on at (value.Wrote request sector)) disk s ∙ ranged_step values on at n (value.Wrote request sector) disk s
 
 pub fills_played : (request sector on at n : ℕ) (values : Values) → AreSame (played request sector (units_in (FillOf on at) n) values) (ranged values on at n value.Zero)
-unfolding played
+unfolding contents_played
 fills_played request sector on at zero values disk s = sym (ranged_none values on at value.Zero disk s)
 fills_played request sector on at (suc n) values disk s = fills_played request sector on (suc at) n (stored values on at value.Zero) disk s ∙ ranged_step values on at n value.Zero disk s
 
 pub copies_played : (request sector disk start to to_start n : ℕ) (values : Values) (first : Value) → HoldOn values disk start n first → AreApart disk start to to_start n
     → AreSame (played request sector (units_in (CopyOf disk start to to_start) n) values) (ranged values to to_start n first)
-unfolding played
+unfolding contents_played
 copies_played request sector disk start to to_start zero values first hold apart on s = sym (ranged_none values to to_start first on s)
 copies_played request sector disk start to to_start (suc n) values first hold apart on s =
     let here = hold_here values disk start n first hold in

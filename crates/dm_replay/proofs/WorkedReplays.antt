@@ -6,13 +6,14 @@ use Rattle.dm_table.specs.declared.table.DevRef.TheVariants as refs
 use Rattle.dm_table.specs.declared.table.Target.TheVariants as targets
 use Rattle.dm_stack.specs.Description.{Description}
 use Rattle.dm_map.specs.Homes.{home_to}
+use Rattle.dm_map.specs.Contents.{played as contents_played}
 use Rattle.dm_map.specs.Mapping.{write_step}
 use Rattle.dm_map.specs.Reads.{read_unit}
 use Rattle.dm_map.proofs.WorkedRows.{device, disk, line}
 use Rattle.dm_replay.specs.declared.value.Value.TheVariants as value
 use Rattle.dm_replay.specs.Histories.{Asked, asked_answers, world_after, world_from}
 use Rattle.dm_replay.specs.Rows.{row_units, rows_after, rows_from}
-use Rattle.dm_replay.specs.Values.{Gives, Failed, played, played_answers}
+use Rattle.dm_replay.specs.Values.{Gives, Failed, played_answers}
 
 -- s, of four sectors, and t, of two, over disk 0; the store of s is disk 1 and has a place for one chunk, that of t is disk 2
 abbrev sample : Description
@@ -31,11 +32,11 @@ written = request 1 Write 0 0 1 ∷ request 2 Write 1 0 1 ∷ []
 
 -- neither reads what the other wrote, and each is like its row
 own_read : asked_answers sample (world_after sample written) (request 3 Read 0 0 3) ≡ Gives (value.Wrote 1 0) ∷ Gives (value.Old 0 1) ∷ Gives (value.Old 0 2) ∷ []
-unfolding world_from played played_answers write_step read_unit home_to
+unfolding world_from contents_played played_answers write_step read_unit home_to
 own_read = refl
 
 other_read : asked_answers sample (world_after sample written) (request 3 Read 1 0 2) ≡ Gives (value.Wrote 2 0) ∷ Gives (value.Old 0 1) ∷ []
-unfolding world_from played played_answers write_step read_unit home_to
+unfolding world_from contents_played played_answers write_step read_unit home_to
 other_read = refl
 
 own_row : rows_after sample written 0 0 ≡ Gives (value.Wrote 1 0)
@@ -52,7 +53,7 @@ overfull = request 1 Write 0 0 1 ∷ request 2 Write 1 0 1 ∷ request 3 Write 0
 
 -- s is lost: its row stays, and its sectors are errors
 lost_read : asked_answers sample (world_after sample overfull) (request 4 Read 0 0 3) ≡ Failed ∷ Failed ∷ Failed ∷ []
-unfolding world_from played played_answers write_step read_unit home_to
+unfolding world_from contents_played played_answers write_step read_unit home_to
 lost_read = refl
 
 lost_row : rows_after sample overfull 0 0 ≡ Gives (value.Wrote 1 0)

@@ -1,7 +1,7 @@
 -- Units, values and answers that name only disks of a stack, of which there are so many.
 use Rattle.std.specs.Prelude.{ℕ, ◌<◌, List}
 use Rattle.std.specs.List.{AllByRecursion}
-use Rattle.dm_map.specs.Units.{BlockUnit, ReadOf, WriteOf, Zeros, Drops, Fails, CopyOf, FillOf}
+use Rattle.dm_map.specs.Units.{BlockUnit, ReadOf, CopyOf}
 use Rattle.dm_replay.specs.declared.value.Value.{Value}
 use Rattle.dm_replay.specs.declared.value.Value.TheVariants as value
 use Rattle.dm_replay.specs.declared.value_run.ValueRun.{ValueRun}
@@ -10,8 +10,7 @@ use Rattle.dm_replay.specs.Values.{Answer, Gives, Failed, Values}
 
 abbrev pub IsValueOf : (disks : ℕ) → Value → Type 0
 IsValueOf disks (value.Old disk sector) = disk < disks
-IsValueOf disks value.Zero = Unit {0}
-IsValueOf disks (value.Wrote request sector) = Unit {0}
+IsValueOf disks other = Unit {0}
 
 abbrev pub IsAnswerOf : (disks : ℕ) → Answer → Type 0
 IsAnswerOf disks (Gives given) = IsValueOf disks given
@@ -19,19 +18,13 @@ IsAnswerOf disks Failed = Unit {0}
 
 abbrev pub IsRunOf : (disks : ℕ) → ValueRun → Type 0
 IsRunOf disks (runs.Old disk start len) = disk < disks
-IsRunOf disks (runs.Wrote request start len) = Unit {0}
-IsRunOf disks (runs.Zero len) = Unit {0}
-IsRunOf disks (runs.Error len) = Unit {0}
+IsRunOf disks run = Unit {0}
 
 -- what a unit reads or copies is on one of them
 abbrev pub IsUnitOf : (disks : ℕ) → BlockUnit → Type 0
 IsUnitOf disks (ReadOf disk sector) = disk < disks
-IsUnitOf disks (WriteOf disk sector) = Unit {0}
-IsUnitOf disks Zeros = Unit {0}
-IsUnitOf disks Drops = Unit {0}
-IsUnitOf disks Fails = Unit {0}
 IsUnitOf disks (CopyOf disk sector to to_sector) = disk < disks
-IsUnitOf disks (FillOf disk sector) = Unit {0}
+IsUnitOf disks unit = Unit {0}
 
 abbrev pub AreUnitsOf : (disks : ℕ) → List BlockUnit → Type 0
 AreUnitsOf disks units = AllByRecursion (IsUnitOf disks) units

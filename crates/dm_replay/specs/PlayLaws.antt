@@ -1,46 +1,27 @@
 -- Laws of play: in parts, and on values that are the same. They are here because a sink's impl cites them.
-use Rattle.std.proofs.Common.{◌≡◌, ℕ, cond, List, [], ◌∷◌, ◌++◌, append_assoc, refl, sym, ap, ◌∙◌}
+use Rattle.std.proofs.Common.{◌≡◌, ℕ, List, [], ◌∷◌, ◌++◌, append_assoc, refl, sym, ap, ◌∙◌}
 use Rattle.std.proofs.lemmas.List.{append-nil}
-use Rattle.std.specs.Prelude.{◌==◌, ◌&&◌}
-use Rattle.dm_map.specs.Units.{BlockUnit, ReadOf, WriteOf, Zeros, Drops, Fails, CopyOf, FillOf}
+use Rattle.dm_map.specs.Contents.{sector_after, played as contents_played}
+use Rattle.dm_map.specs.Units.{BlockUnit, ReadOf}
+use Rattle.dm_map.proofs.Plays.{unit_cong, played_cong as values_cong}
 use Rattle.dm_replay.specs.declared.playing.Playing.{Playing}
 use Rattle.dm_replay.specs.declared.value.Value.{Value}
+use Rattle.dm_replay.specs.declared.value.Value.TheVariants as value
 use Rattle.dm_replay.specs.Patches.{values_in}
 use Rattle.dm_replay.specs.Player.{HasPlayed}
 use Rattle.dm_replay.specs.Runs.{flat}
-use Rattle.dm_replay.specs.Values.{Answer, Gives, Values, stored, played_unit, unit_answers, sector_after, played, played_answers, sector_past}
+use Rattle.dm_replay.specs.Values.{Answer, Gives, Values, played_unit, unit_answers, played, played_answers, sector_past}
 
 -- values that are the same, sector by sector
 abbrev pub AreSame : Values → Values → Type 0
 AreSame values others = (disk sector : ℕ) → values disk sector ≡ others disk sector
 
-stored_cong : (values others : Values) (on at : ℕ) (new newer : Value) → new ≡ newer → AreSame values others → AreSame (stored values on at new) (stored others on at newer)
-stored_cong values others on at new newer e same disk sector =
-    ap (λ (x : Value). cond (disk == on && sector == at) x (values disk sector)) e ∙ ap (λ (x : Value). cond (disk == on && sector == at) newer x) (same disk sector)
-
-unit_cong : (request sector : ℕ) (unit : BlockUnit) (values others : Values) → AreSame values others → AreSame (played_unit request sector unit values) (played_unit request sector unit others)
-unit_cong request sector (ReadOf disk at) values others same = same
-unit_cong request sector (WriteOf disk at) values others same = stored_cong values others disk at _ _ refl same
-unit_cong request sector Zeros values others same = same
-unit_cong request sector Drops values others same = same
-unit_cong request sector Fails values others same = same
-unit_cong request sector (CopyOf disk at to to_at) values others same = stored_cong values others to to_at _ _ (same disk at) same
-unit_cong request sector (FillOf disk at) values others same = stored_cong values others disk at _ _ refl same
-
 pub played_cong : (request sector : ℕ) (units : List BlockUnit) (values others : Values) → AreSame values others → AreSame (played request sector units values) (played request sector units others)
-unfolding played
-played_cong request sector [] values others same = same
-played_cong request sector (unit ∷ units) values others same =
-    played_cong request (sector_after unit sector) units (played_unit request sector unit values) (played_unit request sector unit others) (unit_cong request sector unit values others same)
+played_cong request = values_cong value.Zero (value.Wrote request)
 
 answer_cong : (request sector : ℕ) (unit : BlockUnit) (values others : Values) → AreSame values others → unit_answers request sector unit values ≡ unit_answers request sector unit others
 answer_cong request sector (ReadOf disk at) values others same = ap (λ (x : Value). Gives x ∷ []) (same disk at)
-answer_cong request sector (WriteOf disk at) values others same = refl
-answer_cong request sector Zeros values others same = refl
-answer_cong request sector Drops values others same = refl
-answer_cong request sector Fails values others same = refl
-answer_cong request sector (CopyOf disk at to to_at) values others same = refl
-answer_cong request sector (FillOf disk at) values others same = refl
+answer_cong request sector unit values others same = refl
 
 pub answers_cong : (request sector : ℕ) (units : List BlockUnit) (values others : Values) → AreSame values others → played_answers request sector units values ≡ played_answers request sector units others
 unfolding played_answers
@@ -48,16 +29,16 @@ answers_cong request sector [] values others same = refl
 answers_cong request sector (unit ∷ units) values others same =
     ap (λ (first : List Answer). first ++ played_answers request (sector_after unit sector) units (played_unit request sector unit values)) (answer_cong request sector unit values others same)
     ∙ ap (λ (rest : List Answer). unit_answers request sector unit others ++ rest)
-    (answers_cong request (sector_after unit sector) units (played_unit request sector unit values) (played_unit request sector unit others) (unit_cong request sector unit values others same))
+    (answers_cong request (sector_after unit sector) units (played_unit request sector unit values) (played_unit request sector unit others) (unit_cong value.Zero (value.Wrote request sector) unit values others same))
 
 pub played-append : (request sector : ℕ) (units more : List BlockUnit) (values : Values) → played request sector (units ++ more) values ≡ played request (sector_past units sector) more (played request sector units values)
-unfolding played sector_past
+unfolding contents_played sector_past
 played-append request sector [] more values = refl
 played-append request sector (unit ∷ units) more values = played-append request (sector_after unit sector) units more (played_unit request sector unit values)
 
 pub answers-append : (request sector : ℕ) (units more : List BlockUnit) (values : Values)
     → played_answers request sector (units ++ more) values ≡ played_answers request sector units values ++ played_answers request (sector_past units sector) more (played request sector units values)
-unfolding played_answers played sector_past
+unfolding played_answers contents_played sector_past
 answers-append request sector [] more values = refl
 answers-append request sector (unit ∷ units) more values =
     let rest = played_unit request sector unit values in
@@ -72,7 +53,7 @@ sector_past-append (unit ∷ units) more sector = sector_past-append units more 
 -- a player that plays nothing, and one that goes on
 
 pub played_nothing : (a : Playing) → HasPlayed a [] a
-unfolding played played_answers sector_past
+unfolding contents_played played_answers sector_past
 played_nothing a = record { values_are = λ disk sector. refl; answers_are = sym (append-nil (flat a.runs)); next_is = refl; number_is = refl }
 
 pub played_both : (a b c : Playing) (units more : List BlockUnit) → HasPlayed a units b → HasPlayed b more c → HasPlayed a (units ++ more) c

@@ -1,13 +1,14 @@
 -- What each device would hold if it were alone on disks of its own: one row of answers, which only writes to it change.
-use Rattle.std.specs.Prelude.{◌≡◌, ◌⊎◌, ℕ, suc, ◌&&◌, ◌==◌, List, [], ◌∷◌, if◌then◌else◌}
+use Rattle.std.specs.Prelude.{◌≡◌, ◌⊎◌, ℕ, suc, List, [], ◌∷◌}
 use Rattle.dm_stack.specs.declared.id.Lower.TheVariants.{Device}
 use Rattle.dm_stack.specs.Description.{Description}
+use Rattle.dm_map.specs.Contents.{sector_after, stored}
 use Rattle.dm_map.specs.SnapshotWrites.{read}
 use Rattle.dm_map.specs.State.{start_state}
-use Rattle.dm_map.specs.Units.{BlockUnit, ReadOf, WriteOf, Zeros, Drops, Fails, CopyOf, FillOf}
+use Rattle.dm_map.specs.Units.{BlockUnit, ReadOf, WriteOf, Zeros, Drops}
 use Rattle.dm_replay.specs.declared.value.Value.TheVariants as value
 use Rattle.dm_replay.specs.Histories.{Asked, World, asked_units, first_world, next_world}
-use Rattle.dm_replay.specs.Values.{Answer, Gives, Failed, Values, old_values, sector_after}
+use Rattle.dm_replay.specs.Values.{Answer, Gives, Failed, Values, old_values}
 
 -- the answer of each sector of each device
 abbrev pub Rows : Type 0
@@ -16,29 +17,18 @@ Rows = (device sector : ℕ) → Answer
 -- what a read answers
 abbrev pub read_answer : BlockUnit → Values → Answer
 read_answer (ReadOf disk at) values = Gives (values disk at)
-read_answer (WriteOf disk at) values = Failed
 read_answer Zeros values = Gives value.Zero
 read_answer Drops values = Gives value.Zero
-read_answer Fails values = Failed
-read_answer (CopyOf disk at to to_at) values = Failed
-read_answer (FillOf disk at) values = Failed
+read_answer unit values = Failed
 
 -- at the start, what each sector reads
 abbrev pub first_rows : Description → Rows
 first_rows stack device sector = read_answer (read stack (start_state stack) (Device device) sector) old_values
 
-abbrev pub row_put : Rows → (of at : ℕ) → Answer → Rows
-row_put rows of at new device sector = if device == of && sector == at then new else rows device sector
-
 -- a write of a sector that reached a disk is what the sector holds; no other unit changes a row
 abbrev pub row_unit : (number device sector : ℕ) → BlockUnit → Rows → Rows
-row_unit number device sector (ReadOf disk at) rows = rows
-row_unit number device sector (WriteOf disk at) rows = row_put rows device sector (Gives (value.Wrote number sector))
-row_unit number device sector Zeros rows = rows
-row_unit number device sector Drops rows = rows
-row_unit number device sector Fails rows = rows
-row_unit number device sector (CopyOf disk at to to_at) rows = rows
-row_unit number device sector (FillOf disk at) rows = rows
+row_unit number device sector (WriteOf disk at) rows = stored rows device sector (Gives (value.Wrote number sector))
+row_unit number device sector unit rows = rows
 
 unfoldable pub row_units : (number device sector : ℕ) → List BlockUnit → Rows → Rows
 row_units number device sector [] rows = rows

@@ -1,12 +1,14 @@
 -- What the sectors of disks hold, and what units do to it.
-use Rattle.std.specs.Prelude.{ℕ, suc, ◌+◌, ◌&&◌, ◌==◌, List, [], ◌∷◌, ◌++◌, if◌then◌else◌}
-use Rattle.dm_map.specs.Units.{BlockUnit, ReadOf, WriteOf, Zeros, Drops, Fails, CopyOf, FillOf}
+use Rattle.std.specs.Prelude.{ℕ, suc, ◌+◌, List, [], ◌∷◌, ◌++◌}
+use Rattle.dm_map.specs.Contents as contents
+use Rattle.dm_map.specs.Contents.{sector_after}
+use Rattle.dm_map.specs.Units.{BlockUnit, ReadOf, WriteOf, Zeros, Drops, Fails}
 use Rattle.dm_replay.specs.declared.value.Value.{Value}
 use Rattle.dm_replay.specs.declared.value.Value.TheVariants as value
 
 -- what each sector of each disk holds
 abbrev pub Values : Type 0
-Values = (disk sector : ℕ) → Value
+Values = contents.Values Value
 
 -- at the start each holds what was there before
 abbrev pub old_values : Values
@@ -17,19 +19,9 @@ pub data Answer : Type 0 where
   Gives : Value → Answer
   Failed : Answer
 
--- a value at one sector, all others as they were
-abbrev pub stored : Values → (disk sector : ℕ) → Value → Values
-stored values on at new disk sector = if disk == on && sector == at then new else values disk sector
-
--- what a unit of a request leaves, where the sector that is answered next is given: a copy moves the value, a fill stores zeros, and a write stores that the request wrote the sector
+-- what a unit of a request leaves, where the sector that is answered next is given: a fill stores zeros, and a write stores that the request wrote the sector
 abbrev pub played_unit : (request sector : ℕ) → BlockUnit → Values → Values
-played_unit request sector (ReadOf disk at) values = values
-played_unit request sector (WriteOf disk at) values = stored values disk at (value.Wrote request sector)
-played_unit request sector Zeros values = values
-played_unit request sector Drops values = values
-played_unit request sector Fails values = values
-played_unit request sector (CopyOf disk at to to_at) values = stored values to to_at (values disk at)
-played_unit request sector (FillOf disk at) values = stored values disk at value.Zero
+played_unit request sector = contents.played_unit value.Zero (value.Wrote request sector)
 
 -- what it answers: copies and fills answer nothing
 abbrev pub unit_answers : (request sector : ℕ) → BlockUnit → Values → List Answer
@@ -38,24 +30,12 @@ unit_answers request sector (WriteOf disk at) values = Gives (value.Wrote reques
 unit_answers request sector Zeros values = Gives value.Zero ∷ []
 unit_answers request sector Drops values = Gives value.Zero ∷ []
 unit_answers request sector Fails values = Failed ∷ []
-unit_answers request sector (CopyOf disk at to to_at) values = []
-unit_answers request sector (FillOf disk at) values = []
+unit_answers request sector unit values = []
 
--- the sector that is answered after it
-abbrev pub sector_after : BlockUnit → ℕ → ℕ
-sector_after (ReadOf disk at) sector = suc sector
-sector_after (WriteOf disk at) sector = suc sector
-sector_after Zeros sector = suc sector
-sector_after Drops sector = suc sector
-sector_after Fails sector = suc sector
-sector_after (CopyOf disk at to to_at) sector = sector
-sector_after (FillOf disk at) sector = sector
+-- units in order, from the sector on that the first of them to answer answers: what they leave, what they answer, and the sector that is answered after them
 
--- units in order, from the sector on that the first of them to answer answers
-
-unfoldable pub played : (request sector : ℕ) → List BlockUnit → Values → Values
-played request sector [] values = values
-played request sector (unit ∷ units) values = played request (sector_after unit sector) units (played_unit request sector unit values)
+abbrev pub played : (request sector : ℕ) → List BlockUnit → Values → Values
+played request = contents.played value.Zero (value.Wrote request)
 
 unfoldable pub played_answers : (request sector : ℕ) → List BlockUnit → Values → List Answer
 played_answers request sector [] values = []

@@ -8,6 +8,7 @@ ghost use Rattle.dm_stream.specs.LastDevice.{IsFoundByName};
 ghost use Rattle.dm_stream.specs.Outcome.{device_of};
 
 use dm_stack::{DeviceId, Stack};
+use dm_table::are_same;
 use std::marker::Model;
 
 /// Finds the devices of a stack by their names.
@@ -46,7 +47,7 @@ impl<'s> LastDevice<'s> {
         ensures same { self.new ≡ self.old }
     {
         match self.device {
-            Some(device) if self.stack.name(device) == name => {}
+            Some(device) if are_same(self.stack.name(device).as_bytes(), name.as_bytes()) => {}
             _ => self.device = device_named(self.stack, name),
         }
         self.device

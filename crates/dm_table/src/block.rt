@@ -43,7 +43,7 @@ fn copy_room<const ROOM: usize>(block: &mut [u8], at: usize, room: &[u8; ROOM])
 
 /// Bytes of a known length, as a room.
 #[inline(always)]
-fn as_room<const ROOM: usize>(bytes: &[u8]) -> &[u8; ROOM]
+pub(crate) fn as_room<const ROOM: usize>(bytes: &[u8]) -> &[u8; ROOM]
     requires { length bytes.now ≡ ROOM }
     ensures { result.now ≡ bytes.now }
 {

@@ -12,6 +12,7 @@ use crate::block::put_bytes;
 use crate::name::{ascii_str, leading_name};
 use crate::request::Request;
 use crate::request_line::{after_space, first_op, front_behind};
+use crate::same_bytes::are_same;
 use std::marker::Model;
 
 /// The bytes of the longest name, and a space.
@@ -72,7 +73,7 @@ impl FrontReader {
         ensures space { IfSome result (λ len. text.now ≡ take len text.now ++ 32 ∷ drop (len + 1) text.now) }
     {
         let end = self.len + 1;
-        if end <= text.len() && &text[..end] == &self.text[..end] {
+        if end <= text.len() && are_same(&text[..end], &self.text[..end]) {
             return Some(self.len);
         }
         self.learn(text)

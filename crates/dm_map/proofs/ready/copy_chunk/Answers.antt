@@ -28,12 +28,15 @@ kept_at-to-requires-clause-small g c =
 next_place : (place chunk : ℕ) → (place + 1) * chunk ≡ place * chunk + chunk
 next_place place chunk = omega arith
 
+abbrev copy_of : Walking → FoundSnapshot → (number : ℕ) → ℕ → BlockUnit
+copy_of walk snapshot number u = copy_to (read walk.stack walk.state snapshot.origin u) (home_kept walk.stack snapshot number u)
+
 -- what a piece copies is the next part of the row
 copy_next : (before now then : Walking) (snapshot : FoundSnapshot) (number sector len left from to : ℕ) (source : Stretch) (first : HomeStretch) → 0 < snapshot.chunk → sector % snapshot.chunk + len ≤ snapshot.chunk → left ≤ len → scene now ≡ scene before
-    → from ≡ sector + (len - left) → to ≡ kept_at snapshot number sector + (len - left) → IsFirst now then (range_step now.stack Read MOST_DEPTH snapshot.origin now.state from) left source → IsFirstHomes then.stack snapshot.store to source.len first
-    → row (λ u. copy_to (read before.stack before.state snapshot.origin u) (home_kept before.stack snapshot number u)) (sector + (len - left)) first.len ≡ units_in (copy_to (ground_unit source.ground) (record { disk = first.disk; sector = first.start })) first.len
+    → from + left ≡ sector + len → to + left ≡ kept_at snapshot number sector + len → IsFirst now then (range_step now.stack Read MOST_DEPTH snapshot.origin now.state from) left source → IsFirstHomes then.stack snapshot.store to source.len first
+    → row (copy_of before snapshot number) (sector + (len - left)) first.len ≡ units_in (copy_to (ground_unit source.ground) (record { disk = first.disk; sector = first.start })) first.len
 copy_next before now then snapshot number sector len left from to source first some part within same from_is to_is stretch homes =
-    copy_part before now snapshot number sector (len - left) from to source.len source.ground first some (omega (arith, part, within, homes.most, stretch.most)) same from_is to_is stretch.read homes.most
+    copy_part before now snapshot number sector (len - left) from to source.len source.ground first some (omega (arith, part, within, homes.most, stretch.most)) same (omega (arith, from_is, within)) (omega (arith, to_is, within)) stretch.read homes.most
     (λ i more. ap (λ (v : Scene). home v.stack snapshot.store (to + i)) (sym (stretch.same ∙ same)) ∙ homes.homes i more)
 
 pub loop-left-init : goal.loop-left-init
@@ -45,25 +48,24 @@ loop-left-init g c =
       within = omega arith;
       from = refl;
       to = ap (λ (s : ℕ). s + a.len) c.kept_at-to.ensures;
-      same = refl;
-      looked = none_added a.walker.now.looked;
-      stack = refl;
-      room = omega arith;
-      faults = refl;
+      going_on = record {
+        same = refl;
+        looked = none_added a.walker.now.looked;
+        stack = refl;
+        room = omega arith;
+        faults = refl;
+      };
     }
 
 pub returns-in_err-piece : goal.returns-in_err-piece
 returns-in_err-piece g c =
     let a = c.args in let w = a.walker.now in let l = c.loop-left in let s = c.first_stretch-source in let h = c.first_homes-target in let n = h.result.len in let done = a.len - l.left in
-    let copy : ℕ → BlockUnit = λ u. copy_to (read w.stack w.state a.snapshot.now.origin u) (home_kept w.stack a.snapshot.now a.number u) in
-    let from : l.from ≡ a.sector + done = omega (arith, l.invariant.from, l.invariant.within) in
-    let to : l.to ≡ kept_at a.snapshot.now a.number a.sector + done = omega (arith, l.invariant.to, l.invariant.within) in
-    let next = copy_next c.args.walker.now l.walker s.new.walker a.snapshot.now a.number a.sector a.len l.left l.from l.to s.result h.result c.requires.chunk c.requires.part l.invariant.within l.invariant.same from to s.ensures h.ensures.is in
+    let next = copy_next c.args.walker.now l.walker s.new.walker a.snapshot.now a.number a.sector a.len l.left l.from l.to s.result h.result c.requires.chunk c.requires.part l.invariant.within l.invariant.going_on.same l.invariant.from l.invariant.to s.ensures h.ensures.is in
     walked_cut g.S.Sink.took g.S.Sink.left g.S.Sink.stack g.S.Sink.room g.S.Sink.faults c.from_residual.result a.sink.now c.piece.new.self w h.new.walker (keep (copies w.stack w.state a.snapshot.now a.number a.sector a.len) w.state) 0 c.from_residual.ensures.0
-    (left_row g.S.Sink.took g.S.Sink.left g.met.S.Sink.took_then_left a.sink.now l.sink c.piece.new.self copy a.sector done n a.len (units_of c.copy_piece.result)
+    (left_row g.S.Sink.took g.S.Sink.left g.met.S.Sink.took_then_left a.sink.now l.sink c.piece.new.self (copy_of w a.snapshot.now a.number) a.sector done n a.len (units_of c.copy_piece.result)
     (omega (arith, h.ensures.is.most, s.ensures.most, l.invariant.within)) (next ∙ sym c.copy_piece.ensures.units) l.invariant.taken c.in_err-piece.ensures.left)
-    (omega (arith, c.in_err-piece.ensures.faults, l.invariant.faults)) (ap (λ (v : Scene). v.stack) (h.ensures.same ∙ s.ensures.same ∙ l.invariant.same))
-    (added_then w.looked l.walker.looked h.new.walker.looked l.invariant.looked (added_then l.walker.looked s.new.walker.looked h.new.walker.looked s.ensures.looked h.ensures.looked))
+    (omega (arith, c.in_err-piece.ensures.faults, l.invariant.going_on.faults)) (ap (λ (v : Scene). v.stack) (h.ensures.same ∙ s.ensures.same ∙ l.invariant.going_on.same))
+    (added_then w.looked l.walker.looked h.new.walker.looked l.invariant.going_on.looked (added_then l.walker.looked s.new.walker.looked h.new.walker.looked s.ensures.looked h.ensures.looked))
 
 pub overflow_add-from : goal.overflow_add-from
 overflow_add-from g c =
@@ -81,20 +83,19 @@ overflow_add-to g c =
 pub loop-left-preserved : goal.loop-left-preserved
 loop-left-preserved g c =
     let a = c.args in let w = a.walker.now in let l = c.loop-left in let s = c.first_stretch-source in let h = c.first_homes-target in let n = h.result.len in let done = a.len - l.left in
-    let copy : ℕ → BlockUnit = λ u. copy_to (read w.stack w.state a.snapshot.now.origin u) (home_kept w.stack a.snapshot.now a.number u) in
-    let from : l.from ≡ a.sector + done = omega (arith, l.invariant.from, l.invariant.within) in
-    let to : l.to ≡ kept_at a.snapshot.now a.number a.sector + done = omega (arith, l.invariant.to, l.invariant.within) in
-    let next = copy_next c.args.walker.now l.walker s.new.walker a.snapshot.now a.number a.sector a.len l.left l.from l.to s.result h.result c.requires.chunk c.requires.part l.invariant.within l.invariant.same from to s.ensures h.ensures.is in
+    let next = copy_next c.args.walker.now l.walker s.new.walker a.snapshot.now a.number a.sector a.len l.left l.from l.to s.result h.result c.requires.chunk c.requires.part l.invariant.within l.invariant.going_on.same l.invariant.from l.invariant.to s.ensures h.ensures.is in
     let on : done + n ≡ a.len - (l.left - n) = omega (arith, h.ensures.is.most, s.ensures.most, l.invariant.within) in
-    let taken = took_row g.S.Sink.took g.met.S.Sink.took_then_took a.sink.now l.sink c.piece.new.self copy a.sector done n (units_of c.copy_piece.result) (next ∙ sym c.copy_piece.ensures.units) l.invariant.taken c.in_ok-piece.ensures.took in
+    let taken = took_row g.S.Sink.took g.met.S.Sink.took_then_took a.sink.now l.sink c.piece.new.self (copy_of w a.snapshot.now a.number) a.sector done n (units_of c.copy_piece.result) (next ∙ sym c.copy_piece.ensures.units) l.invariant.taken c.in_ok-piece.ensures.took in
     record {
       taken = rw on at taken;
       within = omega (arith, l.invariant.within);
       from = omega (arith, l.invariant.from, h.ensures.is.most, s.ensures.most);
       to = omega (arith, l.invariant.to, h.ensures.is.most, s.ensures.most);
-      same = h.ensures.same ∙ s.ensures.same ∙ l.invariant.same;
-      looked = added_then w.looked l.walker.looked h.new.walker.looked l.invariant.looked (added_then l.walker.looked s.new.walker.looked h.new.walker.looked s.ensures.looked h.ensures.looked);
-      stack = c.in_ok-piece.ensures.stack ∙ l.invariant.stack;
-      room = omega (arith, c.in_ok-piece.ensures.room, l.invariant.room, c.copy_piece.ensures.diskless);
-      faults = omega (arith, c.in_ok-piece.ensures.faults, l.invariant.faults);
+      going_on = record {
+        same = h.ensures.same ∙ s.ensures.same ∙ l.invariant.going_on.same;
+        looked = added_then w.looked l.walker.looked h.new.walker.looked l.invariant.going_on.looked (added_then l.walker.looked s.new.walker.looked h.new.walker.looked s.ensures.looked h.ensures.looked);
+        stack = c.in_ok-piece.ensures.stack ∙ l.invariant.going_on.stack;
+        room = omega (arith, c.in_ok-piece.ensures.room, l.invariant.going_on.room, c.copy_piece.ensures.diskless);
+        faults = omega (arith, c.in_ok-piece.ensures.faults, l.invariant.going_on.faults);
+      };
     }

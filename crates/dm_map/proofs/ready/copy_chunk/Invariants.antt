@@ -1,8 +1,7 @@
 use Rattle.std.proofs.Common.{◌≡◌, ◌+◌, ◌-◌, ◌≤◌}
 use Rattle.dm_map.specs.Snapshots.{kept_at}
-use Rattle.dm_map.specs.Counts.{AreAdded}
 use Rattle.dm_map.specs.SnapshotWrites.{copies}
-use Rattle.dm_map.specs.Walk.{scene}
+use Rattle.dm_map.proofs.ChunkCopies.{IsGoingOn}
 use Rattle.dm_map.proofs.ready.copy_chunk.Given as goal
 
 abbrev pub invariant-loop-left : goal.invariant-loop-left
@@ -11,11 +10,7 @@ invariant-loop-left g l = record {
   within : l.left ≤ l.len;
   from : l.from + l.left ≡ l.sector + l.len;
   to : l.to + l.left ≡ kept_at l.snapshot l.number l.sector + l.len;
-  same : scene l.walker ≡ scene l.fn.walker;
-  looked : AreAdded l.fn.walker.looked l.walker.looked;
-  stack : g.S.Sink.stack l.sink ≡ g.S.Sink.stack l.fn.sink;
-  room : g.S.Sink.room l.fn.sink ≤ g.S.Sink.room l.sink;
-  faults : g.S.Sink.faults l.sink ≡ g.S.Sink.faults l.fn.sink;
+  going_on : IsGoingOn g.S.Sink.stack g.S.Sink.room g.S.Sink.faults l.fn.sink l.sink l.fn.walker l.walker;
 }
 
 abbrev pub decreases-loop-left : goal.decreases-loop-left
