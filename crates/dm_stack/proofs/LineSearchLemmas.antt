@@ -1,6 +1,7 @@
 -- Counts of comparisons against binary digits, and the line of a sector by the starts of lines in a row.
 use Rattle.std.proofs.Common.{◌≡◌, ℕ, zero, suc, ◌+◌, ◌*◌, ◌/◌, ◌^◌, ◌<◌, ◌≤◌, Bool, true, false, List, [], ◌∷◌, ◌++◌, Some, drop, length, length-append, get_or, map, refl, sym, ap, subst, ◌∙◌, add-one, arith}
-use Rattle.std.specs.Prelude.{◌==◌, option_map, slice_get}
+use Rattle.std.specs.Prelude.{◌==◌, ◌-◌, option_map, slice_get}
+use Rattle.std.specs.List.{AllByRecursion}
 use Rattle.std.proofs.lemmas.Nat.{pow_pos}
 use Rattle.std.proofs.lemmas.List.{length-drop}
 use Rattle.std.proofs.lemmas.Bool.{eqb-true}
@@ -13,12 +14,12 @@ use Rattle.dm_table.specs.declared.table.Line.{Line}
 use Rattle.dm_stack.specs.declared.found.FoundLine.{FoundLine}
 use Rattle.dm_stack.specs.Below.{found_at, found_line, found_lines, line_of}
 use Rattle.dm_stack.specs.Description.{Description, device_len, end_of, lines_at}
-use Rattle.dm_stack.specs.LineSearch.{StartsAfter, StartsBy, binary_digits, digits_to}
+use Rattle.dm_stack.specs.LineSearch.{EndsAt, StartsAfter, StartsBy, binary_digits, digits_to}
 use Rattle.dm_stack.specs.Soundness.{IsSound, all_lines, past}
 use Rattle.dm_stack.proofs.LayoutLemmas.{AreInRow}
 use Rattle.dm_stack.proofs.Passes.{append_none, passes_before}
 use Rattle.dm_stack.proofs.SameLine.{holds_none}
-use Rattle.dm_stack.proofs.SoundLines.{holds_from, device_sound, lines_there, there}
+use Rattle.dm_stack.proofs.SoundLines.{holds_from, device_sound, lines_filled, lines_there, positive, there}
 
 -- Binary digits
 
@@ -108,6 +109,20 @@ in_row_held stack end (line ∷ other ∷ lines) (suc index) sector row inside f
     in_row_held stack (line.start + line.len) (other ∷ lines) index sector row.1 inside from next
     ∙ sym (not_held stack line (other ∷ lines) sector (past_end stack (line.start + line.len) (other ∷ lines) index sector row.1 from))
 
+-- what comes right after a line is in the next one
+in_row_next : (stack : Description) (end : ℕ) (lines : List Line) (index sector : ℕ) → AreInRow end lines → AllByRecursion (λ line. (line.len == 0) ≡ false) lines → sector < end_of lines
+    → EndsAt (map (found_line stack) lines) index sector
+    → StartsBy (map (found_line stack) lines) (suc index) sector × StartsAfter (map (found_line stack) lines) (suc (suc index)) sector
+in_row_next stack end [] index sector row filled inside ends = absurd ends
+in_row_next stack end (line ∷ []) zero sector row filled inside ends = absurd (omega (arith, inside, ends))
+in_row_next stack end (line ∷ []) (suc index) sector row filled inside ends = absurd ends
+in_row_next stack end (line ∷ other ∷ []) zero sector row filled inside ends = (omega (arith, row.1.0, ends), tt)
+in_row_next stack end (line ∷ other ∷ third ∷ lines) zero sector row filled inside ends =
+    let some = positive other.len filled.1.0 in
+    (omega (arith, row.1.0, ends), omega (arith, row.1.0, row.1.1.0, ends, some))
+in_row_next stack end (line ∷ other ∷ lines) (suc index) sector row filled inside ends =
+    in_row_next stack (line.start + line.len) (other ∷ lines) index sector row.1 filled.1 inside ends
+
 -- The lines of a device
 
 none_dropped : (lines : List Line) → faults_by Limit (λ line. line.at) (λ line. true) lines ≡ [] → lines ≡ []
@@ -166,3 +181,15 @@ line_there stack id index sector sound within inside from next =
     in_row_held stack 0 (lines_at stack id) index sector
     (subst (λ (ls : List Line). AreInRow 0 ls) same (device_sound stack id d.it sound d.at).placed)
     inside from next
+
+pub next_there : (stack : Description) (id next sector : ℕ) → IsSound stack → id < length stack.devices → sector < device_len stack id → 0 < next → EndsAt (found_lines stack id) (next - 1) sector
+    → StartsBy (found_lines stack id) next sector × StartsAfter (found_lines stack id) (next + 1) sector
+next_there stack id zero sector sound within inside some ends = absurd (omega (arith, some))
+next_there stack id (suc index) sector sound within inside some ends =
+    let d = there stack.devices id within in
+    let same = sym (lines_there stack id d.it d.at) in
+    let before : suc index - 1 ≡ index = omega arith in
+    let both = in_row_next stack 0 (lines_at stack id) index sector
+        (subst (λ (ls : List Line). AreInRow 0 ls) same (device_sound stack id d.it sound d.at).placed)
+        (lines_filled stack id sound within) inside (subst (λ (n : ℕ). EndsAt (found_lines stack id) n sector) before ends) in
+    (both.0, subst (λ (n : ℕ). StartsAfter (found_lines stack id) n sector) (sym (add-one (suc index))) both.1)

@@ -79,7 +79,7 @@ of_device P (first ∷ devices) (suc id) device h e = of_device P devices id dev
 
 -- Targets within what they name
 
-positive : (n : ℕ) → (n == 0) ≡ false → 0 < n
+pub positive : (n : ℕ) → (n == 0) ≡ false → 0 < n
 positive zero e = absurd cc
 positive (suc n) e = omega arith
 
@@ -256,6 +256,14 @@ device_some stack id sound within =
     let parts = append_none (without_lines d.it d.it.lines) _ s.filled in
     subst (λ (ls : List Line). 0 < end_of ls) (sym (lines_there stack id d.it d.at))
     (filled_lines d.it d.it.lines parts.0 (faults_by_none Empty (λ line. line.at) (λ line. line.len == 0) d.it.lines parts.1))
+
+pub lines_filled : (stack : Description) (id : ℕ) → IsSound stack → id < length stack.devices → AllByRecursion (λ line. (line.len == 0) ≡ false) (lines_at stack id)
+lines_filled stack id sound within =
+    let d = there stack.devices id within in
+    let s = device_sound stack id d.it sound d.at in
+    let parts = append_none (without_lines d.it d.it.lines) _ s.filled in
+    subst (λ (ls : List Line). AllByRecursion (λ line. (line.len == 0) ≡ false) ls) (sym (lines_there stack id d.it d.at))
+    (faults_by_none Empty (λ line. line.at) (λ line. line.len == 0) d.it.lines parts.1)
 
 pub device_small : (stack : Description) (id : ℕ) → IsSound stack → id < length stack.devices → device_len stack id ≤ 2 ^ 50
 device_small stack id sound within =

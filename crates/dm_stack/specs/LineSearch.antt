@@ -1,5 +1,5 @@
 -- The line of a sector, found by the starts of lines.
-use Rattle.std.specs.Prelude.{ℕ, zero, suc, ◌/◌, ◌==◌, ◌≤◌, ◌<◌, ⊤, List, MatchOption, slice_get, if◌then◌else◌}
+use Rattle.std.specs.Prelude.{◌≡◌, ℕ, zero, suc, ◌+◌, ◌/◌, ◌==◌, ◌≤◌, ◌<◌, ⊤, List, MatchOption, slice_get, if◌then◌else◌}
 use Rattle.dm_stack.specs.declared.found.FoundLine.{FoundLine}
 
 -- there is a line at an index, and it starts at a sector or before it
@@ -9,6 +9,10 @@ StartsBy lines index sector = MatchOption (slice_get lines index) ⊥ (λ line. 
 -- the line at an index starts after a sector, or there is none
 abbrev pub StartsAfter : List FoundLine → (index sector : ℕ) → Type 0
 StartsAfter lines index sector = MatchOption (slice_get lines index) ⊤ (λ line. sector < line.start)
+
+-- there is a line at an index, and a sector is the first after it
+abbrev pub EndsAt : List FoundLine → (index sector : ℕ) → Type 0
+EndsAt lines index sector = MatchOption (slice_get lines index) ⊥ (λ line. line.start + line.len ≡ sector)
 
 -- the binary digits of a number that has at most so many
 abbrev pub digits_to : (most number : ℕ) → ℕ

@@ -2,16 +2,58 @@
 //!
 //! This is the one place where lines are found, and each comparison of a start with the sector is
 //! counted here. The first line is never compared, since every sector is at its start or after it; so
-//! up to three lines this is a walk.
+//! up to three lines this is a walk. Nor is any line where the sector comes right after the line that
+//! was found last: it is in the next one, as when a range goes over many lines.
 
-ghost use Rattle.std.specs.Prelude.{◌+◌, ◌<◌, ◌≤◌, length};
-ghost use Rattle.dm_stack.specs.LineSearch.{StartsAfter, StartsBy, binary_digits};
+ghost use Rattle.std.specs.Prelude.{◌≡◌, ◌+◌, ◌-◌, ◌<◌, ◌≤◌, length, true};
+ghost use Rattle.dm_stack.specs.LineSearch.{EndsAt, StartsAfter, StartsBy, binary_digits};
 
 use crate::found::FoundLine;
 
 /// The index of a line that starts at the sector or before it, where the next one starts after it,
 /// and how many starts were compared with the sector.
-pub(crate) fn search(lines: &[FoundLine], sector: u64) -> (usize, u64)
+///
+/// The line before the index `next` may be the one that was found last, and that index becomes the one
+/// after the line that is found. A device of one line leaves it as it is.
+pub(crate) fn find(lines: &[FoundLine], next: &mut usize, sector: u64) -> (usize, u64)
+    requires first { StartsBy lines.now 0 sector }
+    requires follows { 0 < next.old → EndsAt lines.now (next.old - 1) sector
+        → StartsBy lines.now next.old sector × StartsAfter lines.now (next.old + 1) sector }
+    ensures within { result.0 < length lines.now }
+    ensures from { StartsBy lines.now result.0 sector }
+    ensures next { StartsAfter lines.now (result.0 + 1) sector }
+    ensures few { result.1 ≤ binary_digits (length lines.now) }
+{
+    if lines.len() < 2 {
+        return search(lines, sector);
+    }
+    if ends_before(lines, *next, sector) {
+        let index = *next;
+        *next = index + 1;
+        return (index, 0);
+    }
+    let (index, comparisons) = search(lines, sector);
+    *next = index + 1;
+    (index, comparisons)
+}
+
+/// Whether there is a line of this index after one that ends at the sector.
+fn ends_before(lines: &[FoundLine], next: usize, sector: u64) -> bool
+    ensures some { result ≡ true → 0 < next }
+    ensures within { result ≡ true → next < length lines.now }
+    ensures ends { result ≡ true → EndsAt lines.now (next - 1) sector }
+{
+    if next == 0 || next >= lines.len() {
+        return false;
+    }
+    let line = &lines[next - 1];
+    match sector.checked_sub(line.start) {
+        Some(distance) => distance == line.len,
+        None => false,
+    }
+}
+
+fn search(lines: &[FoundLine], sector: u64) -> (usize, u64)
     requires { StartsBy lines.now 0 sector }
     ensures within { result.0 < length lines.now }
     ensures from { StartsBy lines.now result.0 sector }

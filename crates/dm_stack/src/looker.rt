@@ -21,6 +21,8 @@ pub struct Looker<'s> {
     stack: &'s Stack,
     searches: u64,
     comparisons: u64,
+    /// The index after that of the line that was found last, of those in devices of many lines.
+    next: usize,
 }
 
 impl<'s> Model for Looker<'s> {
@@ -42,13 +44,15 @@ impl<'s> Looker<'s> {
             stack,
             searches: 0,
             comparisons: 0,
+            next: 0,
         }
     }
 
     /// The line of a sector of a device, with ids for names: also that of each other sector that it
     /// holds. The search is counted, and so is each comparison of a line's start with the sector: at
-    /// most as many as the number of the device's lines has binary digits, and so at most 17. Once the
-    /// searches are at the greatest number, neither count grows.
+    /// most as many as the number of the device's lines has binary digits, and so at most 17; none
+    /// where the sector comes right after the line that was found last. Once the searches are at the
+    /// greatest number, neither count grows.
     ///
     /// The id is one of the stack, and the sector is below the device's length. No memory is taken.
     pub fn look(&mut self, device: DeviceId, sector: u64) -> Found<'s>
@@ -64,7 +68,7 @@ impl<'s> Looker<'s> {
         ensures most { self.new.comparisons ≤ self.old.comparisons + 17 * (self.new.searches - self.old.searches) }
     {
         let stack = self.stack;
-        let (line, comparisons) = stack.find_line(device, sector);
+        let (line, comparisons) = stack.find_line(device, sector, &mut self.next);
         // Both or neither: no comparison is counted without its search.
         if self.searches < u64::MAX {
             self.searches += 1;

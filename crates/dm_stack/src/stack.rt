@@ -27,7 +27,7 @@ use crate::found::{Found, FoundLine, FoundTable};
 use crate::id::{DeviceId, DiskId};
 use crate::indexed::Indexed;
 use crate::layout::end_of;
-use crate::line_search::search;
+use crate::line_search::find;
 use crate::load::check;
 use crate::looker::Looker;
 use crate::name_index::NameIndex;
@@ -309,8 +309,14 @@ impl Stack {
         self.tables[device.index()].as_slice()
     }
 
-    /// The line of a sector, and how many starts of lines were compared with it.
-    pub(crate) fn find_line(&self, device: DeviceId, sector: u64) -> (Found<'_>, u64)
+    /// The line of a sector, and how many starts of lines were compared with it: none where it comes
+    /// right after the line before the index `next`, which becomes that after the line that is found.
+    pub(crate) fn find_line(
+        &self,
+        device: DeviceId,
+        sector: u64,
+        next: &mut usize,
+    ) -> (Found<'_>, u64)
         requires device { device < length self.now.devices }
         requires sector { sector < device_len self.now device }
         ensures line { found_at self.now device sector ≡ Some result.0.now }
@@ -320,7 +326,7 @@ impl Stack {
         ensures most { result.1 ≤ 17 }
     {
         let lines = self.lines(device);
-        let (index, comparisons) = search(lines, sector);
+        let (index, comparisons) = find(lines, next, sector);
         (&lines[index], comparisons)
     }
 }
