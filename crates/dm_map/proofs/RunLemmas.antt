@@ -203,3 +203,16 @@ goes_on_at runs n chunk kept is on =
       | inl e ↦ e
       | inr other ↦ let no : true ≡ false = rw (begins_elsewhere runs n chunk kept is other) at on in absurd cc
     ]
+
+-- a chunk after which another would go on is the last one
+pub number_of_last : (runs : List Run) (chunk : ℕ) → AreRuns runs → IsDistinct nat_eq (chunks_in runs) → true ≡ not (begins (last_after None (chunks_in runs)) (chunk + 1)) → number_in chunk (chunks_in runs) ≡ Some (length (chunks_in runs) - 1)
+number_of_last runs chunk kept distinct on =
+    let n = length runs - 1 in
+    let some = some_to_go_on runs (chunk + 1) on in
+    let is : n + 1 ≡ length runs = omega (arith, some) in
+    let within : n < length runs = omega (arith, is) in
+    let end = goes_on_at runs n (chunk + 1) kept is on in
+    let long = kept.some n within in
+    let count = count_last runs n kept is in
+    let number : (run_at runs n).number + (chunk - (run_at runs n).first) ≡ length (chunks_in runs) - 1 = omega (arith, end, long, count) in
+    number_in_run runs n chunk kept distinct within (omega (arith, end, long)) (omega (arith, end)) ∙ ap Some number

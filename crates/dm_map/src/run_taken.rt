@@ -28,8 +28,9 @@ use std::alloc::{AllocError, Global};
 
 /// The chunks as runs.
 ///
-/// A chunk is found by at most as many comparisons as the number of runs has binary digits. A chunk
-/// that comes right after the one before it, as in a disk that is written from its front, is taken in
+/// A chunk is found by at most as many comparisons as the number of runs has binary digits; `find`
+/// knows the chunk that was taken last without them, since a write asks for it again. A chunk that
+/// comes right after the one before it, as in a disk that is written from its front, is taken in
 /// constant time; any other is put between the runs that there are, which moves at most 4,096 ids of
 /// runs, and one for each 8,192 more.
 ///
@@ -128,6 +129,10 @@ impl Taken for RunTaken {
     }
 
     fn find(&self, chunk: u64) -> Option<usize> {
+        // The chunk that was taken last is the one that the next chunk would go on from.
+        if chunk < u64::MAX && goes_on(self.runs.as_slice(), chunk + 1) {
+            return Some(self.count() - 1);
+        }
         let mut comparisons = 0;
         self.find_counted(chunk, &mut comparisons)
     }

@@ -3,10 +3,8 @@
 //! `build_name` and a word of `specs/NameMessage`.
 
 ghost use Rattle.std.specs.Prelude.{◌≡◌};
-ghost use Rattle.lvm_volume.specs.declared.fault.NameFault.TheVariants.{Memory};
 ghost use Rattle.lvm_volume.specs.NameMessage.{name_message};
 
-use std::alloc::AllocError;
 use thiserror::Error;
 
 /// Why a name was not built.
@@ -27,14 +25,6 @@ pub enum NameFault {
     /// An allocation was refused.
     #[error("out of memory")]
     Memory,
-}
-
-impl From<AllocError> for NameFault {
-    ghost from_gives = { λ _ fault. fault ≡ Memory };
-
-    fn from(_error: AllocError) -> NameFault {
-        NameFault::Memory
-    }
 }
 
 impl NameFault {

@@ -124,7 +124,9 @@ pub fn build_name(alloc: Global, vg: &str, lv: &str, layer: Option<&str>) -> Res
     if let Some(fault) = parts_fault(vg, lv, layer) {
         return Err(fault);
     }
-    let text = joined(alloc, vg, lv, layer)?;
+    let Ok(text) = joined(alloc, vg, lv, layer) else {
+        return Err(NameFault::Memory);
+    };
     // Each letter is one of a device's name, so its length alone can be wrong.
     match Name::new(alloc, text.as_str()) {
         Ok(name) => Ok(name),

@@ -33,27 +33,27 @@ pub(crate) fn volumes_in(
 {
     let mut volumes = Vec::new(alloc);
     for section in sections {
-        volumes.push(volume_of(alloc, places, section.0, section.1)?)?;
+        volumes.push(volume_of(alloc, places, *section)?)?;
     }
     Ok(volumes)
 }
 
-/// The volume that a section says.
+/// The volume that a section with its key says.
 #[tactic(auto, unfolding(crate::specs::Group::volume_of))]
 fn volume_of(
     alloc: Global,
     places: &Places<'_>,
-    key: &str,
-    section: &Section<'_>,
+    section: (&str, &Section<'_>),
 ) -> Result<Volume, AllocError>
-    ensures { IfOk result (λ volume. volume ≡ volume_of places.now (key.now, section.now)) }
+    ensures { IfOk result (λ volume. volume ≡ volume_of places.now (item_view section.entry)) }
 {
-    let segments = segments_of(alloc, section)?;
+    let (key, volume) = section;
+    let segments = segments_of(alloc, volume)?;
     Ok(Volume {
         name: Key::new(alloc, key)?,
-        ro: !is_writable(section),
+        ro: !is_writable(volume),
         segments: segments_in(alloc, places, &segments)?,
-        line: section.line(),
+        line: volume.line(),
     })
 }
 

@@ -81,8 +81,7 @@ impl VolumeGroup {
         let Ok(sections) = sections_of(alloc, top) else {
             return Err(LoadFault::memory(Part::Source));
         };
-        let (key, group) = only(&sections);
-        read_group(alloc, top, key, group)
+        read_group(alloc, top, only(&sections))
     }
 }
 
@@ -94,24 +93,23 @@ fn only<'s, 'a>(sections: &[(&'a str, &'s Section<'a>)]) -> (&'a str, &'s Sectio
     sections[0]
 }
 
-/// The group of a section, by the checks after the one of fields.
+/// The group of a section with its key, by the checks after the one of fields.
 fn read_group(
     alloc: Global,
     top: &Section<'_>,
-    key: &str,
-    group: &Section<'_>,
+    group: (&str, &Section<'_>),
 ) -> Result<VolumeGroup, LoadFault>
-    requires one { tree.sections_of top.now.values ≡ (key.now, group.now) ∷ [] }
+    requires one { tree.sections_of top.now.values ≡ item_view group ∷ [] }
     requires fields { first_or (faults_of_fields Fields top.now) None ≡ None }
     ensures { Answers Source (λ group. group) result (unless (first_fault (later_checks top.now)) (group_of top.now)) }
 {
-    let extent_size = number_at(group, "extent_size");
+    let extent_size = number_at(group.1, "extent_size");
     match walk::first_fault(alloc, Check::Limits { extent_size }, top) {
         Ok(None) => {}
         Ok(Some(fault)) => return Err(fault),
         Err(_) => return Err(LoadFault::memory(Part::Source)),
     }
-    let parts = match parts_in(alloc, key, group) {
+    let parts = match parts_in(alloc, group) {
         Ok(parts) => parts,
         Err(fault) => return Err(fault),
     };
@@ -120,7 +118,7 @@ fn read_group(
         Ok(Some(fault)) => return Err(fault),
         Err(_) => return Err(LoadFault::memory(Part::Source)),
     }
-    let Ok(name) = Key::new(alloc, key) else {
+    let Ok(name) = Key::new(alloc, group.0) else {
         return Err(LoadFault::memory(Part::Source));
     };
     Ok(VolumeGroup {
@@ -132,18 +130,18 @@ fn read_group(
 }
 
 /// The parts of a group, unless a disk gets no name.
-fn parts_in(alloc: Global, key: &str, group: &Section<'_>) -> Result<Parts, LoadFault>
-    ensures { let said = group_in (key.now, group.now) in
+fn parts_in(alloc: Global, group: (&str, &Section<'_>)) -> Result<Parts, LoadFault>
+    ensures { let said = group_in (item_view group.entry) in
         Answers Source parts_view result (unless (first_or (name_faults said.physicals) None) (said.physicals, said.volumes)) }
 {
-    let Ok(sections) = sections_at(alloc, group, "physical_volumes") else {
+    let Ok(sections) = sections_at(alloc, group.1, "physical_volumes") else {
         return Err(LoadFault::memory(Part::Source));
     };
     let physicals = match physicals_in(alloc, &sections) {
         Ok(physicals) => physicals,
         Err(fault) => return Err(fault),
     };
-    match volumes_of(alloc, group, &sections) {
+    match volumes_of(alloc, group.1, &sections) {
         Ok(volumes) => Ok(Parts { physicals, volumes }),
         Err(_) => Err(LoadFault::memory(Part::Source)),
     }

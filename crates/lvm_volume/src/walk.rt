@@ -151,59 +151,59 @@ fn segments_fault(check: Check, segments: &[&Section<'_>]) -> Option<LoadFault>
     None
 }
 
-/// The first fault that a check finds at a volume and its segments.
-#[tactic(auto, unfolding(crate::specs::Fields::volume_faults))]
-fn volume_fault(
+/// A walk by a check, with the allocator for the lists of what it goes over.
+#[derive(Clone, Copy)]
+struct FieldWalk {
     alloc: Global,
     check: Check,
-    volume: &Section<'_>,
-) -> Result<Option<LoadFault>, AllocError>
-    ensures { IfOk result (λ fault. fault ≡ first_or (volume_faults check volume.now) None) }
-{
-    if let Some(fault) = fields_fault(check, volume, &volume_fields()) {
-        return Ok(Some(fault));
-    }
-    if let Some(fault) = keys_fault(alloc, check, volume)? {
-        return Ok(Some(fault));
-    }
-    let segments = segments_of(alloc, volume)?;
-    Ok(segments_fault(check, &segments))
 }
 
-/// The first fault that a check finds at the volumes.
-fn volumes_fault(
-    alloc: Global,
-    check: Check,
-    volumes: &[(&str, &Section<'_>)],
-) -> Result<Option<LoadFault>, AllocError>
-    ensures { IfOk result (λ fault. fault ≡ first_or (flat_map (λ volume. volume_faults check volume.1) (map item_view volumes.now)) None) }
-{
-    for volume in volumes {
-        if let Some(fault) = volume_fault(alloc, check, volume.1)? {
+impl FieldWalk {
+    /// The first fault that a check finds at a volume and its segments.
+    #[tactic(auto, unfolding(crate::specs::Fields::volume_faults))]
+    fn volume_fault(self, volume: &Section<'_>) -> Result<Option<LoadFault>, AllocError>
+        ensures { IfOk result (λ fault. fault ≡ first_or (volume_faults self.check volume.now) None) }
+    {
+        if let Some(fault) = fields_fault(self.check, volume, &volume_fields()) {
             return Ok(Some(fault));
         }
+        if let Some(fault) = keys_fault(self.alloc, self.check, volume)? {
+            return Ok(Some(fault));
+        }
+        let segments = segments_of(self.alloc, volume)?;
+        Ok(segments_fault(self.check, &segments))
     }
-    Ok(None)
-}
 
-/// The first fault that a check finds at a group.
-#[tactic(auto, unfolding(crate::specs::Fields::group_faults))]
-fn group_fault(
-    alloc: Global,
-    check: Check,
-    group: &Section<'_>,
-) -> Result<Option<LoadFault>, AllocError>
-    ensures { IfOk result (λ fault. fault ≡ first_or (group_faults check group.now) None) }
-{
-    if let Some(fault) = fields_fault(check, group, &group_fields()) {
-        return Ok(Some(fault));
+    /// The first fault that a check finds at the volumes.
+    fn volumes_fault(
+        self,
+        volumes: &[(&str, &Section<'_>)],
+    ) -> Result<Option<LoadFault>, AllocError>
+        ensures { IfOk result (λ fault. fault ≡ first_or (flat_map (λ volume. volume_faults self.check volume.1) (map item_view volumes.now)) None) }
+    {
+        for volume in volumes {
+            if let Some(fault) = self.volume_fault(volume.1)? {
+                return Ok(Some(fault));
+            }
+        }
+        Ok(None)
     }
-    let physicals = sections_at(alloc, group, "physical_volumes")?;
-    if let Some(fault) = physicals_fault(check, &physicals) {
-        return Ok(Some(fault));
+
+    /// The first fault that a check finds at a group.
+    #[tactic(auto, unfolding(crate::specs::Fields::group_faults))]
+    fn group_fault(self, group: &Section<'_>) -> Result<Option<LoadFault>, AllocError>
+        ensures { IfOk result (λ fault. fault ≡ first_or (group_faults self.check group.now) None) }
+    {
+        if let Some(fault) = fields_fault(self.check, group, &group_fields()) {
+            return Ok(Some(fault));
+        }
+        let physicals = sections_at(self.alloc, group, "physical_volumes")?;
+        if let Some(fault) = physicals_fault(self.check, &physicals) {
+            return Ok(Some(fault));
+        }
+        let volumes = sections_at(self.alloc, group, "logical_volumes")?;
+        self.volumes_fault(&volumes)
     }
-    let volumes = sections_at(alloc, group, "logical_volumes")?;
-    volumes_fault(alloc, check, &volumes)
 }
 
 /// The first fault that a check finds at all fields that are read.
@@ -223,7 +223,7 @@ pub(crate) fn first_fault(
     let sections = sections_of(alloc, top)?;
     match sections.as_slice() {
         [] => Ok(missing(check, top.line())),
-        [group] => group_fault(alloc, check, group.1),
+        [group] => FieldWalk { alloc, check }.group_fault(group.1),
         [_, second, ..] => Ok(missing(check, second.1.line())),
     }
 }

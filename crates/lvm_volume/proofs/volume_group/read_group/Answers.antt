@@ -1,9 +1,11 @@
 use Rattle.std.proofs.Common.{◌≡◌, ℕ, List, [], ◌∷◌, Option, None, Ok, codes, sym, ap, subst, ◌∙◌, refl}
 use Rattle.lvm_text.specs.Tree.{Tree, sections_of}
+use Rattle.lvm_text.specs.Iterate.{item_view}
 use Rattle.dm_table.specs.declared.load_fault.LoadFault.{LoadFault}
-use Rattle.dm_table.specs.LoadFault.{first_fault, first_or}
+use Rattle.dm_table.specs.LoadFault.{first_fault, first_or, unless}
 use Rattle.lvm_volume.specs.declared.physical.Physical.{Physical}
 use Rattle.lvm_volume.specs.declared.volume.Volume.{Volume}
+use Rattle.lvm_volume.specs.declared.volume_group.Parts.{Parts}
 use Rattle.lvm_volume.specs.declared.check.Check.TheVariants.{Limits}
 use Rattle.lvm_volume.specs.Extents.{name_faults}
 use Rattle.lvm_volume.specs.Fields.{faults_of_fields, number_at}
@@ -14,67 +16,84 @@ use Rattle.lvm_volume.proofs.Sound.{one-in_limits, sound_group}
 use Rattle.lvm_volume.proofs.GroupLemmas.{ok_is, at_limits, at_names, at_parts, accepted}
 use Rattle.lvm_volume.proofs.volume_group.read_group.Goals as goal
 
+-- what the check of limits finds first, at a group of extents of this size
 abbrev at_size : Tree → ℕ → Option LoadFault
 at_size top size = first_or (faults_of_fields (Limits size) top) None
 
--- the group, with the parts that were made
-made : (top : Tree) (group : Keyed) → sections_of top.values ≡ group ∷ [] → group_of top ≡ group_in group
-made top group one = ap (λ (sections : List Keyed). group_in (first_section sections)) one
+-- the same of the size that the group says
+size_said : (top : Tree) (group : Keyed) (size : ℕ) (found fault : Option LoadFault) → size ≡ number_at (codes "extent_size") group.1 → found ≡ at_size top size → found ≡ fault → at_size top (group_in group).extent_size ≡ fault
+size_said top group size found fault is_size checked is = sym (ap (at_size top) is_size) ∙ sym checked ∙ is
+
+-- the group of the one section at the top
+one_group : (top : Tree) (group : Keyed) → sections_of top.values ≡ group ∷ [] → group_of top ≡ group_in group
+one_group top group one = ap (λ (sections : List Keyed). group_in (first_section sections)) one
+
+-- the physical volumes and the volumes that a section says
+abbrev said_parts : Keyed → List Physical × List Volume
+said_parts group = ((group_in group).physicals, (group_in group).volumes)
+
+-- a group of parts that were made
+abbrev group_with : List ℕ → ℕ → Parts → Group
+group_with name size parts = record { name = name; extent_size = size; physicals = parts.physicals.items; volumes = parts.volumes.items }
+
+same_group : (group : Keyed) (size : ℕ) (parts : Parts) → size ≡ number_at (codes "extent_size") group.1 → said_parts group ≡ parts_view parts → group_in group ≡ group_with group.0 size parts
+same_group group size parts is_size is =
+    let physicals : (group_in group).physicals ≡ parts.physicals.items = ap (λ (p : List Physical × List Volume). p.0) is in
+    let volumes : (group_in group).volumes ≡ parts.volumes.items = ap (λ (p : List Physical × List Volume). p.1) is in
+    rw (is_size, physicals, volumes) refl
+
+-- parts that were made of the one section at the top, with no fault so far
+record Made (top : Tree) (group : Keyed) (size : ℕ) (parts : Parts) : Type 0 where
+  is : group_of top ≡ group_in group
+  limits : at_size top (group_in group).extent_size ≡ None
+  names : first_or (name_faults (group_in group).physicals) None ≡ None
+  same : group_in group ≡ group_with group.0 size parts
+
+made : (top : Tree) (group : Keyed) (size : ℕ) (parts : Parts) (found : Option LoadFault) → sections_of top.values ≡ group ∷ [] → size ≡ number_at (codes "extent_size") group.1 → found ≡ at_size top size → found ≡ None
+    → unless (first_or (name_faults (group_in group).physicals) None) (said_parts group) ≡ Ok (parts_view parts) → Made top group size parts
+made top group size parts found one is_size checked none got =
+    let h = ok_is (first_or (name_faults (group_in group).physicals) None) (said_parts group) (parts_view parts) got in
+    record { is = one_group top group one; limits = size_said top group size found None is_size checked none; names = h.0; same = same_group group size parts is_size h.1 }
+
+-- what the checks of the parts find is found in the group
+found_in : {top : Tree} {group : Keyed} {size : ℕ} {parts : Parts} (h : Made top group size parts) (found fault : Option LoadFault) → found ≡ first_fault (checks_of_parts (group_with group.0 size parts)) → found ≡ fault → first_fault (checks_of_parts (group_in group)) ≡ fault
+found_in h found fault checked is = ap (λ (g : Group). first_fault (checks_of_parts g)) h.same ∙ sym checked ∙ is
+
+-- the group with a copy of its key as its name
+with_name : {top : Tree} {group : Keyed} {size : ℕ} {parts : Parts} (h : Made top group size parts) (name : List ℕ) → name ≡ group.0 → group_in group ≡ group_with name size parts
+with_name {top} {group} {size} {parts} h name is = h.same ∙ ap (λ (n : List ℕ). group_with n size parts) (sym is)
 
 pub returns-in-Ok-Some : goal.returns-in-Ok-Some
 returns-in-Ok-Some c =
-    let group : Keyed = (c.args.key.now, c.args.group.now) in
-    at_limits c.args.top.now (group_in group) c.in-Ok-Some.fault (made c.args.top.now group c.requires.one) (sym (ap (at_size c.args.top.now) c.number_at-extent_size.ensures) ∙ sym c.in-Ok-Some.ensures ∙ c.in-Ok-Some.field-0-is)
+    let top = c.args.top.now in
+    let group = item_view c.args.group in
+    at_limits top (group_in group) c.in-Ok-Some.fault (one_group top group c.requires.one) (size_said top group _ _ _ c.number_at-extent_size.ensures c.in-Ok-Some.ensures c.in-Ok-Some.field-0-is)
 
 pub returns-in-Err-parts_in : goal.returns-in-Err-parts_in
 returns-in-Err-parts_in c =
-    let group : Keyed = (c.args.key.now, c.args.group.now) in
-    let g = group_in group in
-    let limits = sym (ap (at_size c.args.top.now) c.number_at-extent_size.ensures) ∙ sym c.in-Ok-None.ensures ∙ c.in-Ok-None.field-0-is in
-    let pair : List Physical × List Volume = (g.physicals, g.volumes) in
-    at_names c.args.top.now g pair c.in-Err-parts_in.fault (made c.args.top.now group c.requires.one) limits c.in-Err-parts_in.ensures
-
-abbrev named : List ℕ → ℕ → List Physical → List Volume → Group
-named name size physicals volumes = record { name = name; extent_size = size; physicals = physicals; volumes = volumes }
-
-same_group : (group : Keyed) (size : ℕ) (physicals : List Physical) (volumes : List Volume) → size ≡ number_at (codes "extent_size") group.1 → ((group_in group).physicals ≡ physicals) × ((group_in group).volumes ≡ volumes)
-    → group_in group ≡ record { name = group.0; extent_size = size; physicals = physicals; volumes = volumes }
-same_group group size physicals volumes is_size parts = rw (is_size, parts.0, parts.1) refl
-
-pair_parts : (a c : List Physical) (b d : List Volume) → let x : List Physical × List Volume = (a, b) in let y : List Physical × List Volume = (c, d) in x ≡ y → (a ≡ c) × (b ≡ d)
-pair_parts a c b d e = (ap (λ (p : List Physical × List Volume). p.0) e, ap (λ (p : List Physical × List Volume). p.1) e)
+    let top = c.args.top.now in
+    let group = item_view c.args.group in
+    let limits = size_said top group _ _ _ c.number_at-extent_size.ensures c.in-Ok-None.ensures c.in-Ok-None.field-0-is in
+    at_names top (group_in group) (said_parts group) c.in-Err-parts_in.fault (one_group top group c.requires.one) limits c.in-Err-parts_in.ensures
 
 pub returns-in-Ok-Some-parts_fault : goal.returns-in-Ok-Some-parts_fault
 returns-in-Ok-Some-parts_fault c =
-    let group : Keyed = (c.args.key.now, c.args.group.now) in
-    let g = group_in group in
-    let pair : List Physical × List Volume = (g.physicals, g.volumes) in
-    let limits = sym (ap (at_size c.args.top.now) c.number_at-extent_size.ensures) ∙ sym c.in-Ok-None.ensures ∙ c.in-Ok-None.field-0-is in
-    let got = ok_is (first_or (name_faults g.physicals) None) pair (parts_view c.in-Ok.parts) c.in-Ok.ensures in
-    let same = same_group group c.number_at-extent_size.result c.in-Ok.parts.physicals.items c.in-Ok.parts.volumes.items c.number_at-extent_size.ensures (pair_parts g.physicals _ g.volumes _ got.1) in
-    let found = ap (λ (h : Group). first_fault (checks_of_parts h)) same ∙ sym (c.in-Ok-Some-parts_fault.ensures c.args.key.now) ∙ c.in-Ok-Some-parts_fault.field-0-is in
-    at_parts c.args.top.now g c.in-Ok-Some-parts_fault.fault (made c.args.top.now group c.requires.one) limits got.0 found
+    let top = c.args.top.now in
+    let group = item_view c.args.group in
+    let h = made top group _ c.in-Ok.parts _ c.requires.one c.number_at-extent_size.ensures c.in-Ok-None.ensures c.in-Ok-None.field-0-is c.in-Ok.ensures in
+    at_parts top (group_in group) c.in-Ok-Some-parts_fault.fault h.is h.limits h.names (found_in h _ _ (c.in-Ok-Some-parts_fault.ensures group.0) c.in-Ok-Some-parts_fault.field-0-is)
 
 pub invariant_of-result : goal.invariant_of-result
 invariant_of-result c =
-    let group : Keyed = (c.args.key.now, c.args.group.now) in
-    let g = group_in group in
-    let pair : List Physical × List Volume = (g.physicals, g.volumes) in
-    let limits = sym (ap (at_size c.args.top.now) c.number_at-extent_size.ensures) ∙ sym c.in-Ok-None.ensures ∙ c.in-Ok-None.field-0-is in
-    let got = ok_is (first_or (name_faults g.physicals) None) pair (parts_view c.in-Ok.parts) c.in-Ok.ensures in
-    let same = same_group group c.number_at-extent_size.result c.in-Ok.parts.physicals.items c.in-Ok.parts.volumes.items c.number_at-extent_size.ensures (pair_parts g.physicals _ g.volumes _ got.1) in
-    let none = ap (λ (h : Group). first_fault (checks_of_parts h)) same ∙ sym (c.in-Ok-None-parts_fault.ensures c.args.key.now) ∙ c.in-Ok-None-parts_fault.field-0-is in
-    let sound = sound_group group (one-in_limits g.extent_size c.args.top.now group c.requires.one limits) none in
-    subst IsSoundGroup (same ∙ ap (λ (name : List ℕ). named name c.number_at-extent_size.result c.in-Ok.parts.physicals.items c.in-Ok.parts.volumes.items) (sym c.in-Ok-new.ensures)) sound
+    let top = c.args.top.now in
+    let group = item_view c.args.group in
+    let h = made top group _ c.in-Ok.parts _ c.requires.one c.number_at-extent_size.ensures c.in-Ok-None.ensures c.in-Ok-None.field-0-is c.in-Ok.ensures in
+    let none = found_in h _ _ (c.in-Ok-None-parts_fault.ensures group.0) c.in-Ok-None-parts_fault.field-0-is in
+    subst IsSoundGroup (with_name h _ c.in-Ok-new.ensures) (sound_group group (one-in_limits (group_in group).extent_size top group c.requires.one h.limits) none)
 
 pub returns : goal.returns
 returns c =
-    let group : Keyed = (c.args.key.now, c.args.group.now) in
-    let g = group_in group in
-    let pair : List Physical × List Volume = (g.physicals, g.volumes) in
-    let limits = sym (ap (at_size c.args.top.now) c.number_at-extent_size.ensures) ∙ sym c.in-Ok-None.ensures ∙ c.in-Ok-None.field-0-is in
-    let got = ok_is (first_or (name_faults g.physicals) None) pair (parts_view c.in-Ok.parts) c.in-Ok.ensures in
-    let same = same_group group c.number_at-extent_size.result c.in-Ok.parts.physicals.items c.in-Ok.parts.volumes.items c.number_at-extent_size.ensures (pair_parts g.physicals _ g.volumes _ got.1) in
-    let none = ap (λ (h : Group). first_fault (checks_of_parts h)) same ∙ sym (c.in-Ok-None-parts_fault.ensures c.args.key.now) ∙ c.in-Ok-None-parts_fault.field-0-is in
-    accepted c.args.top.now g (made c.args.top.now group c.requires.one) limits got.0 none
-    ∙ ap (λ (h : Group). Ok h) (same ∙ ap (λ (name : List ℕ). named name c.number_at-extent_size.result c.in-Ok.parts.physicals.items c.in-Ok.parts.volumes.items) (sym c.in-Ok-new.ensures))
+    let group = item_view c.args.group in
+    let h = made c.args.top.now group _ c.in-Ok.parts _ c.requires.one c.number_at-extent_size.ensures c.in-Ok-None.ensures c.in-Ok-None.field-0-is c.in-Ok.ensures in
+    accepted c.args.top.now (group_in group) h.is h.limits h.names (found_in h _ _ (c.in-Ok-None-parts_fault.ensures group.0) c.in-Ok-None-parts_fault.field-0-is)
+    ∙ ap (λ (g : Group). Ok g) (with_name h _ c.in-Ok-new.ensures)

@@ -3,9 +3,9 @@ use Rattle.std.specs.List.{flat_map}
 use Rattle.dm_table.specs.LoadFault.{first_or}
 use Rattle.lvm_text.specs.Iterate.{item_view}
 use Rattle.lvm_volume.specs.Fields.{volume_faults}
-use Rattle.lvm_volume.proofs.walk.volumes_fault.Given as goal
+use Rattle.lvm_volume.proofs.walk.FieldWalk.volumes_fault.Given as goal
 
 abbrev pub invariant-loop-volume : goal.invariant-loop-volume
 invariant-loop-volume l =
-    first_or (flat_map (λ volume. volume_faults l.check volume.1) (map item_view (drop l.volume-index l.volumes))) None
-    ≡ first_or (flat_map (λ volume. volume_faults l.check volume.1) (map item_view l.volumes)) None
+    first_or (flat_map (λ volume. volume_faults l.self.check volume.1) (map item_view (drop l.volume-index l.volumes))) None
+    ≡ first_or (flat_map (λ volume. volume_faults l.self.check volume.1) (map item_view l.volumes)) None

@@ -8,7 +8,7 @@ use Rattle.lvm_volume.specs.Fields.{Field, fields_faults, group_fields, group_fa
 use Rattle.dm_table.specs.declared.load_fault.LoadFault.{LoadFault}
 use Rattle.lvm_volume.specs.declared.check.Check.{Check}
 use Rattle.lvm_volume.proofs.Faults.{then_here, then_after}
-use Rattle.lvm_volume.proofs.walk.group_fault.Goals as goal
+use Rattle.lvm_volume.proofs.walk.FieldWalk.group_fault.Goals as goal
 
 abbrev at_fields : Check → Tree → List Field → Option LoadFault
 at_fields check group fields = first_or (fields_faults check group fields) None
@@ -22,7 +22,7 @@ at_volumes check volumes = first_or (flat_map (λ volume. volume_faults check vo
 pub returns-in-Some-physicals_fault : goal.returns-in-Some-physicals_fault
 unfolding group_faults
 returns-in-Some-physicals_fault c =
-    let check = c.args.check in
+    let check = c.args.self.check in
     let group = c.args.group.now in
     let fields = sym (ap (at_fields check group) c.group_fields.ensures) ∙ sym c.fields_fault.ensures ∙ c.in_default.is in
     let physicals = sym (ap (at_physicals check) (ap (map item_view) c.deref.ensures.value ∙ c.in_ok-physicals.ensures)) ∙ sym c.physicals_fault.ensures ∙ c.in-Some-physicals_fault.is in
@@ -31,7 +31,7 @@ returns-in-Some-physicals_fault c =
 pub returns : goal.returns
 unfolding group_faults
 returns c =
-    let check = c.args.check in
+    let check = c.args.self.check in
     let group = c.args.group.now in
     let fields = sym (ap (at_fields check group) c.group_fields.ensures) ∙ sym c.fields_fault.ensures ∙ c.in_default.is in
     let physicals = sym (ap (at_physicals check) (ap (map item_view) c.deref.ensures.value ∙ c.in_ok-physicals.ensures)) ∙ sym c.physicals_fault.ensures ∙ c.in_default-physicals_fault.is in
