@@ -67,13 +67,13 @@ one (run ∷ rest) [] some apart some' apart' e = absurd (begins_with (first_ans
 one (run ∷ rest) (other ∷ others) some apart some' apart' e =
     let first : first_answer other ≡ first_answer run = begins_as (first_answer other) (first_answer run) (run_len other) (flat others) some'.0 (begins_with (first_answer run) (run_len run) (flat rest) (flat (other ∷ others)) some.0 e) in
     let len : run_len run ≡ run_len other = same_len (first_answer run) (run_len run) (run_len other) (flat rest) (flat others)
-        (e ∙ ap (λ (x : Answer). answers_in x (run_len other) ++ flat others) first)
-        (ends_there run rest some.1 apart)
-        (λ begins. ends_there other others some'.1 apart' (subst (λ (x : Answer). Begins (flat others) (further_answer x (run_len other))) (sym first) begins)) in
+    (e ∙ ap (λ (x : Answer). answers_in x (run_len other) ++ flat others) first)
+    (ends_there run rest some.1 apart)
+    (λ begins. ends_there other others some'.1 apart' (subst (λ (x : Answer). Begins (flat others) (further_answer x (run_len other))) (sym first) begins)) in
     let same : run ≡ other = same_run run other (sym first) len in
     ap (λ (x : ValueRun). x ∷ rest) same
     ∙ ap (λ (xs : List ValueRun). other ∷ xs) (one rest others some.1 (apart_rest run rest apart) some'.1 (apart_rest other others apart')
-      (append_cancel_left (run_answers run) (flat rest) (flat others) (e ∙ ap (λ (x : ValueRun). run_answers x ++ flat others) (sym same))))
+    (append_cancel_left (run_answers run) (flat rest) (flat others) (e ∙ ap (λ (x : ValueRun). run_answers x ++ flat others) (sym same))))
 
 pub one_runs : (a b : List ValueRun) → AreMaximal a → AreMaximal b → flat a ≡ flat b → a ≡ b
 one_runs a b are others e = one a b are.some are.apart others.some others.apart e

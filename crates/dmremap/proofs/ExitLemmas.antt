@@ -61,17 +61,18 @@ failed_at_five format flag source disks requests output old new (Ran endings.Rea
 failed_at_five format flag source disks requests output old new (Ran endings.WriteFault) exits five =
     let ran = exits.2 in (exits.0, exits.1, record { beginning = ran.served; left = ran.left refl; failed_flush = ran.failed_flush refl })
 
+-- an ending of requests has neither status of a refused load
+ran_status : (ending : Ending) → (ending_status ending ≢ 1) × (ending_status ending ≢ 6)
+ran_status endings.Done = (λ one. omega (arith, one), λ six. omega (arith, six))
+ran_status (endings.BadRequest number word) = (λ one. omega (arith, one), λ six. omega (arith, six))
+ran_status endings.ReadFault = (λ one. omega (arith, one), λ six. omega (arith, six))
+ran_status endings.WriteFault = (λ one. omega (arith, one), λ six. omega (arith, six))
+
 -- requests are not asked for where the load is refused
 pub unasked_one : (exit : Exit) (P : Type 0) → OnRefused exit P → exit_status exit ≡ 1 → P
 unasked_one (Refused fault) P h one = h
-unasked_one (Ran endings.Done) P h one = absurd (omega arith)
-unasked_one (Ran (endings.BadRequest number word)) P h one = absurd (omega arith)
-unasked_one (Ran endings.ReadFault) P h one = absurd (omega arith)
-unasked_one (Ran endings.WriteFault) P h one = absurd (omega arith)
+unasked_one (Ran ending) P h one = absurd ((ran_status ending).0 one)
 
 pub unasked_six : (exit : Exit) (P : Type 0) → OnRefused exit P → exit_status exit ≡ 6 → P
 unasked_six (Refused fault) P h six = h
-unasked_six (Ran endings.Done) P h six = absurd (omega arith)
-unasked_six (Ran (endings.BadRequest number word)) P h six = absurd (omega arith)
-unasked_six (Ran endings.ReadFault) P h six = absurd (omega arith)
-unasked_six (Ran endings.WriteFault) P h six = absurd (omega arith)
+unasked_six (Ran ending) P h six = absurd ((ran_status ending).1 six)

@@ -73,9 +73,10 @@ one_stop : (stack : Description) (requests : List NumberedRequest) (number other
     → (number ≡ other) × (a ≡ b)
 one_stop stack requests number other a b is_a is_b =
     let same = same_front stack is_a.first is_b.first is_a.later is_b.later is_a.last is_b.last (sym is_a.split ∙ is_b.split)
-        (told_tops stack [] is_a.first a is_a.told) (told_tops stack [] is_b.first b is_b.told) is_a.cause.none is_b.cause.none in
-    (sym is_a.cause.of_number ∙ ap (λ (r : NumberedRequest). r.number) same.1 ∙ is_b.cause.of_number,
-     one_told stack [] is_b.first a b (subst (λ (first : List NumberedRequest). AreAnswered stack [] first a) same.0 is_a.told) is_b.told)
+    (told_tops stack [] is_a.first a is_a.told) (told_tops stack [] is_b.first b is_b.told) is_a.cause.none is_b.cause.none in (
+      sym is_a.cause.of_number ∙ ap (λ (r : NumberedRequest). r.number) same.1 ∙ is_b.cause.of_number,
+      one_told stack [] is_b.first a b (subst (λ (first : List NumberedRequest). AreAnswered stack [] first a) same.0 is_a.told) is_b.told,
+    )
 
 -- Where it ends
 
@@ -136,5 +137,5 @@ one_replay format source disks requests (exits.Ended e) (exits.Ended e') x y fx 
     let load = one_load format source disks (SoundAs stack) (SoundAs stack') gives gives' in
     let same : stack ≡ stack' = cc in
     let one = one_end stack' (requests_of requests) e e' x y fx gx fy gy plain plain'
-        (subst (λ (s : Description). IsReplayed s (requests_of requests) x fx gx e) same played) played' in
+    (subst (λ (s : Description). IsReplayed s (requests_of requests) x fx gx e) same played) played' in
     (ap exits.Ended one.0, one.1)

@@ -24,7 +24,7 @@ use Rattle.dmremap.specs.ReplayWhole.{FailedReplay, IsEndFlushed, IsReplayed, en
 -- ---- one request
 
 -- what a fault says
-pub at_fault : {T : Type 0} (r : Result T ReplayFault) (fault : ReplayFault) (Says : ReplayFault → Type 0) → r ≡ Err fault → IfErr r Says → Says fault
+at_fault : {T : Type 0} (r : Result T ReplayFault) (fault : ReplayFault) (Says : ReplayFault → Type 0) → r ≡ Err fault → IfErr r Says → Says fault
 at_fault r fault Says is h = subst (λ (x : Result _ ReplayFault). IfErr x Says) is h
 
 -- the answer to one request is what is written for it alone
@@ -51,8 +51,13 @@ one_cut stack old request runs text named longest are short = record {
 }
 
 -- it is not answered
-pub one_stopped : (IsCause : NumberedRequest → Type 0) (stack : Description) (old : List Asked) (request : NumberedRequest) (w : List ℕ) → IsCause request → StopsAt IsCause stack old (request ∷ []) (since w w)
+one_stopped : (IsCause : NumberedRequest → Type 0) (stack : Description) (old : List Asked) (request : NumberedRequest) (w : List ℕ) → IsCause request → StopsAt IsCause stack old (request ∷ []) (since w w)
 one_stopped IsCause stack old request w why = record { first = []; last = request; later = []; split = refl; told = sym (since-same w); cause = why }
+
+-- the same by the fault of a request
+pub stopped_by : {T : Type 0} (Says : ReplayFault → Type 0) (IsCause : NumberedRequest → Type 0) (stack : Description) (old : List Asked) (request : NumberedRequest) (w : List ℕ) (r : Result T ReplayFault) (fault : ReplayFault)
+    → r ≡ Err fault → IfErr r Says → (Says fault → IsCause request) → StopsAt IsCause stack old (request ∷ []) (since w w)
+stopped_by Says IsCause stack old request w r fault is h why = one_stopped IsCause stack old request w (why (at_fault r fault Says is h))
 
 -- ---- all requests
 

@@ -62,10 +62,7 @@ fn arguments_of(rt: &HostRuntime) -> Result<Vec<String>, WordsFault> {
 fn map_files(rt: &HostRuntime, files: Files<'_>, status: bool) -> u8
     requires disks { has_its_disks (file_words files) ≡ true }
 {
-    let mut disks = match files.disks {
-        Some(path) => Some(open(rt, path)),
-        None => None,
-    };
+    let mut disks = open_disks(rt, files);
     map_whole(
         rt.alloc(),
         files.format,
@@ -82,10 +79,7 @@ fn map_files(rt: &HostRuntime, files: Files<'_>, status: bool) -> u8
 fn replay_files(rt: &HostRuntime, files: Files<'_>) -> u8
     requires disks { has_its_disks (file_words files) ≡ true }
 {
-    let mut disks = match files.disks {
-        Some(path) => Some(open(rt, path)),
-        None => None,
-    };
+    let mut disks = open_disks(rt, files);
     replay_whole(
         rt.alloc(),
         files.format,
@@ -121,6 +115,15 @@ fn open(rt: &HostRuntime, path: &str) -> Counted<PartFile<File>> {
     Counted::new(PartFile::new(File::open(rt, path)))
 }
 
+fn open_disks(rt: &HostRuntime, files: Files<'_>) -> Option<Counted<PartFile<File>>>
+    ensures { is_some result ≡ is_some files.entry.disks }
+{
+    match files.disks {
+        Some(path) => Some(open(rt, path)),
+        None => None,
+    }
+}
+
 fn open_files(
     rt: &HostRuntime,
     files: Files<'_>,
@@ -131,11 +134,7 @@ fn open_files(
     ensures source { is_some result.0 ≡ true }
     ensures disks { is_some result.1 ≡ is_some files.entry.disks }
 {
-    let disks = match files.disks {
-        Some(path) => Some(open(rt, path)),
-        None => None,
-    };
-    (Some(open(rt, files.file)), disks)
+    (Some(open(rt, files.file)), open_disks(rt, files))
 }
 
 /// Prints why there is no job, and returns its exit status, whether or not it could be printed.

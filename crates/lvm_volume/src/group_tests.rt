@@ -31,8 +31,14 @@ fn answer(alloc: Global, text: &str) -> Result<String, Fail> {
     }
 }
 
+/// A fault and its line. All are of the source, so rows leave out the word that says so.
 fn fault_text(alloc: Global, fault: LoadFault) -> Result<String, Fail> {
-    Ok(format!(in alloc; "{fault}")?)
+    let text = format!(in alloc; "{fault}")?;
+    let told = text
+        .as_str()
+        .strip_prefix("source: ")
+        .ok_or("another part")?;
+    Ok(String::from_str(alloc, told)?)
 }
 
 fn tables_text(alloc: Global, devices: &[DeviceSpec], disks: &[Disk]) -> Result<String, Fail> {
@@ -120,6 +126,19 @@ fn check_changed(
     Ok(())
 }
 
+/// Asserts what becomes of a text with each of the lines in place of its own.
+fn check_rows(
+    rt: &impl Abort,
+    alloc: Global,
+    text: &str,
+    rows: &[(usize, &str, &str)],
+) -> Result<(), Fail> {
+    for &(number, line, wanted) in rows {
+        check_changed(rt, alloc, text, number, line, wanted)?;
+    }
+    Ok(())
+}
+
 /// A line of the text of one volume, what stands in its place, and what becomes of the text.
 static ACCEPTED: [(usize, &str, &str); 13] = [
     // Line 0 is no line: nothing is changed.
@@ -192,10 +211,7 @@ static ACCEPTED: [(usize, &str, &str); 13] = [
 
 #[test]
 fn accepted_lines(rt: HostRuntime) -> Result<(), Fail> {
-    for &(number, line, wanted) in &ACCEPTED {
-        check_changed(&rt, rt.alloc(), ONE, number, line, wanted)?;
-    }
-    Ok(())
+    check_rows(&rt, rt.alloc(), ONE, &ACCEPTED)
 }
 
 /// The same of the text of both volumes.
@@ -205,117 +221,82 @@ static BOTH: [(usize, &str, &str); 3] = [
         "",
         "vg0-lv0 rw 14: 17: 0 204800 linear /dev/sda1 2048\nvg0-lv--1 ro 25: 28: 0 32768 striped 2 128 /dev/sda1 206848 /dev/sda1 223232\n/dev/sda1 1050624 6\n",
     ),
-    (
-        34,
-        "stripes = [\"pv0\", 24, \"pv0\", 27]",
-        "source: extents at 28",
-    ),
-    (
-        34,
-        "stripes = [\"pv0\", 27, \"pv0\", 26]",
-        "source: extents at 28",
-    ),
+    (34, "stripes = [\"pv0\", 24, \"pv0\", 27]", "extents at 28"),
+    (34, "stripes = [\"pv0\", 27, \"pv0\", 26]", "extents at 28"),
 ];
 
 #[test]
 fn both_volumes(rt: HostRuntime) -> Result<(), Fail> {
-    let alloc = rt.alloc();
-    let both = with_line(alloc, ONE, 24, SECOND)?;
-    for &(number, line, wanted) in &BOTH {
-        check_changed(&rt, alloc, both.as_str(), number, line, wanted)?;
-    }
-    Ok(())
+    let both = with_line(rt.alloc(), ONE, 24, SECOND)?;
+    check_rows(&rt, rt.alloc(), both.as_str(), &BOTH)
 }
 
-/// A line of the text of one volume, and the fault that it makes: missing and wrong fields, and what later checks find.
-static FAULTS: [(usize, &str, &str); 50] = [
-    (1, "", "source: field at 1"),
-    (1, "contents = \"Text Format\"", "source: field at 1"),
-    (2, "", "source: field at 1"),
-    (2, "version = 2", "source: field at 2"),
-    (2, "version = \"1\"", "source: field at 2"),
-    (2, "version = 1.0", "source: syntax at 2"),
-    (26, "} vg1 { }", "source: field at 26"),
-    (4, "", "source: field at 3"),
-    (4, "extent_size = 0", "source: field at 4"),
-    (5, "physical_volume {", "source: field at 3"),
-    (7, "", "source: field at 6"),
-    (7, "device = 1", "source: field at 7"),
-    (8, "", "source: field at 6"),
-    (9, "pe_start = \"0\"", "source: field at 9"),
-    (10, "", "source: field at 6"),
-    (15, "", "source: field at 14"),
-    (15, "status = \"WRITE\"", "source: field at 15"),
-    (15, "status = [\"WRITE\", 1]", "source: field at 15"),
-    (16, "", "source: field at 14"),
-    (16, "segment_count = 2", "source: field at 14"),
+/// A line of the text of one volume, what stands in its place, and the fault that it makes: missing and wrong fields,
+/// the faults of the text itself, and what later checks find.
+static FAULTS: [(usize, &str, &str); 52] = [
+    (1, "", "field at 1"),
+    (1, "contents = \"Text Format\"", "field at 1"),
+    (2, "", "field at 1"),
+    (2, "version = 2", "field at 2"),
+    (2, "version = \"1\"", "field at 2"),
+    (26, "} vg1 { }", "field at 26"),
+    (4, "", "field at 3"),
+    (4, "extent_size = 0", "field at 4"),
+    (5, "physical_volume {", "field at 3"),
+    (7, "", "field at 6"),
+    (7, "device = 1", "field at 7"),
+    (8, "", "field at 6"),
+    (9, "pe_start = \"0\"", "field at 9"),
+    (10, "", "field at 6"),
+    (15, "", "field at 14"),
+    (15, "status = \"WRITE\"", "field at 15"),
+    (15, "status = [\"WRITE\", 1]", "field at 15"),
+    (16, "", "field at 14"),
+    (16, "segment_count = 2", "field at 14"),
+    (16, "segment_count = 9223372036854775807", "field at 14"),
+    (18, "", "field at 17"),
+    (18, "start_extent = 12345678901234567890", "field at 18"),
+    (19, "extent_count = \"25\"", "field at 19"),
+    (20, "", "field at 17"),
+    (20, "type = \"mirror\"", "field at 20"),
+    (20, "type = \"snapshot\"", "field at 20"),
+    (21, "", "field at 17"),
+    (21, "stripe_count = 0", "field at 21"),
+    (21, "stripe_count = 2", "field at 22"),
+    (21, "stripe_count = 4611686018427387905", "field at 22"),
+    (22, "", "field at 17"),
+    (22, "stripes = [\"pv0\"]", "field at 22"),
+    (22, "stripes = [0, \"pv0\"]", "field at 22"),
+    (22, "stripes = [\"pv0\", 0, \"pv0\", 9]", "field at 22"),
+    // Faults of the text.
+    (2, "version = 1 ?", "syntax at 2"),
+    (2, "version = 1.0", "syntax at 2"),
+    (14, "-lv {", "syntax at 14"),
+    (21, "stripes = 1", "twice at 22"),
     (
-        16,
-        "segment_count = 9223372036854775807",
-        "source: field at 14",
-    ),
-    (18, "", "source: field at 17"),
-    (19, "extent_count = \"25\"", "source: field at 19"),
-    (20, "", "source: field at 17"),
-    (20, "type = \"mirror\"", "source: field at 20"),
-    (20, "type = \"snapshot\"", "source: field at 20"),
-    (21, "", "source: field at 17"),
-    (21, "stripe_count = 0", "source: field at 21"),
-    (21, "stripe_count = 2", "source: field at 22"),
-    (
-        21,
-        "stripe_count = 4611686018427387905",
-        "source: field at 22",
-    ),
-    (22, "", "source: field at 17"),
-    (22, "stripes = [\"pv0\"]", "source: field at 22"),
-    (22, "stripes = [0, \"pv0\"]", "source: field at 22"),
-    (
-        22,
-        "stripes = [\"pv0\", 0, \"pv0\", 9]",
-        "source: field at 22",
-    ),
-    (
-        18,
-        "start_extent = 12345678901234567890",
-        "source: field at 18",
+        4,
+        "x{x{x{x{x{x{x{x{x{x{x{x{x{x{x{x{}}}}}}}}}}}}}}}}",
+        "deep at 4",
     ),
     // Later checks.
-    (4, "extent_size = 1125899906842625", "source: limit at 4"),
-    (8, "dev_size = 1125899906842625", "source: limit at 8"),
-    (9, "pe_start = 9223372036854775807", "source: limit at 9"),
-    (10, "pe_count = 137438953473", "source: limit at 10"),
-    (10, "pe_count = 9223372036854775807", "source: limit at 10"),
-    (
-        18,
-        "start_extent = 9223372036854775807",
-        "source: limit at 18",
-    ),
-    (19, "extent_count = 137438953473", "source: limit at 19"),
-    (
-        22,
-        "stripes = [\"pv0\", 1125899906842625]",
-        "source: limit at 22",
-    ),
-    (22, "stripes = [\"pv1\", 0]", "source: unknown at 17"),
-    (8, "dev_size = 1050623", "source: extents at 6"),
-    (18, "start_extent = 1", "source: extents at 17"),
-    (19, "extent_count = 0", "source: extents at 17"),
-    (22, "stripes = [\"pv0\", 104]", "source: extents at 17"),
-    (
-        21,
-        "stripe_count = 2 stripe_size = 8 stripes = [\"pv0\", 0, \"pv0\", 50]",
-        "source: twice at 22",
-    ),
-    (14, "-lv {", "source: syntax at 14"),
+    (4, "extent_size = 1125899906842625", "limit at 4"),
+    (8, "dev_size = 1125899906842625", "limit at 8"),
+    (9, "pe_start = 9223372036854775807", "limit at 9"),
+    (10, "pe_count = 137438953473", "limit at 10"),
+    (10, "pe_count = 9223372036854775807", "limit at 10"),
+    (18, "start_extent = 9223372036854775807", "limit at 18"),
+    (19, "extent_count = 137438953473", "limit at 19"),
+    (22, "stripes = [\"pv0\", 1125899906842625]", "limit at 22"),
+    (22, "stripes = [\"pv1\", 0]", "unknown at 17"),
+    (8, "dev_size = 1050623", "extents at 6"),
+    (18, "start_extent = 1", "extents at 17"),
+    (19, "extent_count = 0", "extents at 17"),
+    (22, "stripes = [\"pv0\", 104]", "extents at 17"),
 ];
 
 #[test]
 fn faults(rt: HostRuntime) -> Result<(), Fail> {
-    for &(number, line, wanted) in &FAULTS {
-        check_changed(&rt, rt.alloc(), ONE, number, line, wanted)?;
-    }
-    Ok(())
+    check_rows(&rt, rt.alloc(), ONE, &FAULTS)
 }
 
 /// Two changed lines, and the fault of the text: each check goes over the whole text before the next one begins.
@@ -325,35 +306,35 @@ static TWO_FAULTS: [(usize, &str, usize, &str, &str); 5] = [
         "extent_size = 1125899906842625",
         20,
         "type = 1",
-        "source: field at 20",
+        "field at 20",
     ),
     (
         8,
         "dev_size = 1",
         18,
         "start_extent = 1125899906842625",
-        "source: limit at 18",
+        "limit at 18",
     ),
     (
         17,
         "segment2 { start_extent = 0 extent_count = 1 type = \"striped\" stripe_count = 1 stripes = [\"pv8\", 0] }\n segment1 {",
         16,
         "segment_count = 2",
-        "source: unknown at 17",
+        "unknown at 17",
     ),
     (
         8,
         "dev_size = 1",
         22,
         "stripes = [\"pv1\", 0]",
-        "source: unknown at 17",
+        "unknown at 17",
     ),
     (
         14,
         "lv0_________________________________________________________________________________________________________________________________ {",
         18,
         "start_extent = 1",
-        "source: extents at 17",
+        "extents at 17",
     ),
 ];
 
@@ -367,10 +348,7 @@ fn order_of_checks(rt: HostRuntime) -> Result<(), Fail> {
 }
 
 /// A line that begins with many letters, how many, and the fault.
-static LONG_NAMES: [(usize, usize, &str); 2] = [
-    (6, 256, "source: name at 6"),
-    (14, 124, "source: name at 14"),
-];
+static LONG_NAMES: [(usize, usize, &str); 2] = [(6, 256, "name at 6"), (14, 124, "name at 14")];
 
 #[test]
 fn names(rt: HostRuntime) -> Result<(), Fail> {
@@ -387,19 +365,9 @@ fn names(rt: HostRuntime) -> Result<(), Fail> {
     Ok(())
 }
 
-static TEXT_FAULTS: [(TextFault, &str); 6] = [
-    (TextFault::Token(3), "source: syntax at 3"),
-    (TextFault::Syntax(4), "source: syntax at 4"),
-    (TextFault::KeyTwice(5), "source: twice at 5"),
-    (TextFault::Deep(6), "source: deep at 6"),
-    (TextFault::Number(7), "source: field at 7"),
-    (TextFault::Memory, "source: memory at 0"),
-];
-
 #[test]
-fn text_faults(rt: HostRuntime) -> Result<(), Fail> {
-    for &(fault, wanted) in &TEXT_FAULTS {
-        assert_eq!(rt; fault_text(rt.alloc(), text_fault(fault))?.as_str(), wanted);
-    }
+fn out_of_memory(rt: HostRuntime) -> Result<(), Fail> {
+    let told = fault_text(rt.alloc(), text_fault(TextFault::Memory))?;
+    assert_eq!(rt; told.as_str(), "memory at 0");
     Ok(())
 }

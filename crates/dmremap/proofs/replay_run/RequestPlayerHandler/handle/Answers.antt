@@ -8,7 +8,7 @@ use Rattle.dm_replay.specs.declared.replay_fault.ReplayFault.TheVariants as faul
 use Rattle.dm_replay.specs.Replay.{IsNotAnswered}
 use Rattle.dm_replay.specs.RunText.{runs_text}
 use Rattle.dmremap.specs.ReplayOutcome.{IsOfNone, IsOfTop}
-use Rattle.dmremap.proofs.ReplayLemmas.{at_fault, one_cut, one_played, one_stopped}
+use Rattle.dmremap.proofs.ReplayLemmas.{one_cut, one_played, stopped_by}
 use Rattle.dmremap.proofs.replay_run.RequestPlayerHandler.handle.Goals as goal
 
 pub returns-in-Ok-write_runs-clause-answered : goal.returns-in-Ok-write_runs-clause-answered
@@ -41,23 +41,17 @@ returns-in-Ok-clause-stopped g c =
     )
 
 pub returns-in-Err-NotTop-clause-stopped : goal.returns-in-Err-NotTop-clause-stopped
-returns-in-Err-NotTop-clause-stopped g c =
-    let replay = c.args.replay.now in
-    let request = numbered c.args.request.now in
-    let output = c.args.self.now.output.now in
-    let why = at_fault c.request.result faults.NotTop (λ fault. IsNotAnswered fault request.values.device replay c.request.new.self) (c.in-Err-NotTop.is ∙ ap Err c.in-Err-NotTop.field-0-is) c.request.ensures.fault in (
-      one_stopped (IsOfNone replay.stack request.number) replay.stack replay.asked request (g.W.Output.written output) (record { of_number = refl; none = why.1 }),
-      written_none g.W.Output.written g.W.Output.waiting g.W.Output.faults g.W.Output.flushes output,
-      refl,
-    )
+returns-in-Err-NotTop-clause-stopped g c = (
+  stopped_by (λ fault. IsNotAnswered fault (numbered c.args.request.now).values.device c.args.replay.now c.request.new.self) (IsOfNone c.args.replay.now.stack (numbered c.args.request.now).number) c.args.replay.now.stack c.args.replay.now.asked (numbered c.args.request.now)
+      (g.W.Output.written c.args.self.now.output.now) c.request.result faults.NotTop (c.in-Err-NotTop.is ∙ ap Err c.in-Err-NotTop.field-0-is) c.request.ensures.fault (λ why. record { of_number = refl; none = why.1 }),
+  written_none g.W.Output.written g.W.Output.waiting g.W.Output.faults g.W.Output.flushes c.args.self.now.output.now,
+  refl,
+)
 
 pub returns-in-Err-Memory-clause-stopped : goal.returns-in-Err-Memory-clause-stopped
-returns-in-Err-Memory-clause-stopped g c =
-    let replay = c.args.replay.now in
-    let request = numbered c.args.request.now in
-    let output = c.args.self.now.output.now in
-    let why = at_fault c.request.result faults.Memory (λ fault. IsNotAnswered fault request.values.device replay c.request.new.self) (c.in-Err-Memory.is ∙ ap Err c.in-Err-Memory.field-0-is) c.request.ensures.fault in (
-      one_stopped (IsOfTop replay.stack) replay.stack replay.asked request (g.W.Output.written output) why.1,
-      written_none g.W.Output.written g.W.Output.waiting g.W.Output.faults g.W.Output.flushes output,
-      refl,
-    )
+returns-in-Err-Memory-clause-stopped g c = (
+  stopped_by (λ fault. IsNotAnswered fault (numbered c.args.request.now).values.device c.args.replay.now c.request.new.self) (IsOfTop c.args.replay.now.stack) c.args.replay.now.stack c.args.replay.now.asked (numbered c.args.request.now)
+      (g.W.Output.written c.args.self.now.output.now) c.request.result faults.Memory (c.in-Err-Memory.is ∙ ap Err c.in-Err-Memory.field-0-is) c.request.ensures.fault (λ why. why.1),
+  written_none g.W.Output.written g.W.Output.waiting g.W.Output.faults g.W.Output.flushes c.args.self.now.output.now,
+  refl,
+)
