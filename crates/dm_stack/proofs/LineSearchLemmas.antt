@@ -190,6 +190,6 @@ next_there stack id (suc index) sector sound within inside some ends =
     let same = sym (lines_there stack id d.it d.at) in
     let before : suc index - 1 ≡ index = omega arith in
     let both = in_row_next stack 0 (lines_at stack id) index sector
-        (subst (λ (ls : List Line). AreInRow 0 ls) same (device_sound stack id d.it sound d.at).placed)
-        (lines_filled stack id sound within) inside (subst (λ (n : ℕ). EndsAt (found_lines stack id) n sector) before ends) in
+    (subst (λ (ls : List Line). AreInRow 0 ls) same (device_sound stack id d.it sound d.at).placed)
+    (lines_filled stack id sound within) inside (subst (λ (n : ℕ). EndsAt (found_lines stack id) n sector) before ends) in
     (both.0, subst (λ (n : ℕ). StartsAfter (found_lines stack id) n sector) (sym (add-one (suc index))) both.1)
