@@ -2,8 +2,8 @@
 //!
 //! This is the one place where lines are found, and each comparison of a start with the sector is
 //! counted here. The first line is never compared, since every sector is at its start or after it; so
-//! up to three lines this is a walk. Nor is any line where the sector comes right after the line that
-//! was found last: it is in the next one, as when a range goes over many lines.
+//! up to three lines this is a walk. Of more, none is compared where the sector comes right after the
+//! line that was found last: it is in the next one, as when a range goes over many lines.
 
 ghost use Rattle.std.specs.Prelude.{◌≡◌, ◌+◌, ◌-◌, ◌<◌, ◌≤◌, length, true};
 ghost use Rattle.dm_stack.specs.LineSearch.{EndsAt, StartsAfter, StartsBy, binary_digits};
@@ -14,7 +14,7 @@ use crate::found::FoundLine;
 /// and how many starts were compared with the sector.
 ///
 /// The line before the index `next` may be the one that was found last, and that index becomes the one
-/// after the line that is found. A device of one line leaves it as it is.
+/// after the line that is found. Up to three lines are walked, and leave it as it is.
 pub(crate) fn find(lines: &[FoundLine], next: &mut usize, sector: u64) -> (usize, u64)
     requires first { StartsBy lines.now 0 sector }
     requires follows { 0 < next.old → EndsAt lines.now (next.old - 1) sector
@@ -24,9 +24,24 @@ pub(crate) fn find(lines: &[FoundLine], next: &mut usize, sector: u64) -> (usize
     ensures next { StartsAfter lines.now (result.0 + 1) sector }
     ensures few { result.1 ≤ binary_digits (length lines.now) }
 {
-    if lines.len() < 2 {
-        return search(lines, sector);
+    if lines.len() < 4 {
+        search(lines, sector)
+    } else {
+        find_among(lines, next, sector)
     }
+}
+
+/// The same among many lines, out of the way of those that have few.
+#[inline(never)]
+fn find_among(lines: &[FoundLine], next: &mut usize, sector: u64) -> (usize, u64)
+    requires first { StartsBy lines.now 0 sector }
+    requires follows { 0 < next.old → EndsAt lines.now (next.old - 1) sector
+        → StartsBy lines.now next.old sector × StartsAfter lines.now (next.old + 1) sector }
+    ensures within { result.0 < length lines.now }
+    ensures from { StartsBy lines.now result.0 sector }
+    ensures next { StartsAfter lines.now (result.0 + 1) sector }
+    ensures few { result.1 ≤ binary_digits (length lines.now) }
+{
     if ends_before(lines, *next, sector) {
         let index = *next;
         *next = index + 1;

@@ -39,8 +39,9 @@ fn is_unknown(stack: &Indexed, line: &Line) -> bool
 pub(crate) fn tables(alloc: Global, stack: &Indexed) -> Result<Vec<FoundTable>, AllocError>
     ensures { IfOk result (λ tables. tables.items ≡ map (found_table stack.now) stack.now.devices) }
 {
-    let mut tables = Vec::new(alloc);
-    for device in stack.devices() {
+    let devices = stack.devices();
+    let mut tables = Vec::with_capacity(alloc, devices.len())?;
+    for device in devices {
         tables.push(table(alloc, stack, device.lines.as_slice())?)?;
     }
     Ok(tables)
@@ -49,7 +50,7 @@ pub(crate) fn tables(alloc: Global, stack: &Indexed) -> Result<Vec<FoundTable>, 
 fn table(alloc: Global, stack: &Indexed, lines: &[Line]) -> Result<FoundTable, AllocError>
     ensures { IfOk result (λ table. table ≡ map (found_line stack.now) lines.now) }
 {
-    let mut by_ids = Vec::new(alloc);
+    let mut by_ids = Vec::with_capacity(alloc, lines.len())?;
     for line in lines {
         let target = target(alloc, stack, &line.target)?;
         by_ids.push(FoundLine {
