@@ -16,7 +16,8 @@ static ROWS: [(&str, &str, &str, (u64, u64)); 8] = [
         "R b 0 1048576",
         (2, 0),
     ),
-    // One line of four, by two halvings; all of them; and none for what passes the end.
+    // One line of four, by two halvings; all of them, of which those after the first are not compared; and
+    // none for what passes the end.
     (
         "a: 0 1 zero\na: 1 1 zero\na: 2 1 zero\na: 3 1 zero\n",
         "",
@@ -27,7 +28,7 @@ static ROWS: [(&str, &str, &str, (u64, u64)); 8] = [
         "a: 0 1 zero\na: 1 1 zero\na: 2 1 zero\na: 3 1 zero\n",
         "",
         "R a 0 4",
-        (4, 8),
+        (4, 2),
     ),
     (
         "a: 0 1 zero\na: 1 1 zero\na: 2 1 zero\na: 3 1 zero\n",
