@@ -50,9 +50,9 @@ impl<'s> Looker<'s> {
 
     /// The line of a sector of a device, with ids for names: also that of each other sector that it
     /// holds. The search is counted, and so is each comparison of a line's start with the sector: at
-    /// most as many as the number of the device's lines has binary digits, and so at most 17; none
-    /// where the sector comes right after the line that was found last. Once the searches are at the
-    /// greatest number, neither count grows.
+    /// most as many as the number of the device's lines has binary digits, and so at most 17; of more
+    /// than three lines, none where the sector comes right after the line that was found last. Once the
+    /// searches are at the greatest number, neither count grows.
     ///
     /// The id is one of the stack, and the sector is below the device's length. No memory is taken.
     pub fn look(&mut self, device: DeviceId, sector: u64) -> Found<'s>

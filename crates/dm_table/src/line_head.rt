@@ -131,7 +131,7 @@ fn put_target(block: &mut [u8], at: usize, target: &Target) -> usize
     }
 }
 
-/// Puts a number behind a few bytes.
+/// Puts a few bytes, and then a number.
 #[inline(always)]
 fn put_number(block: &mut [u8], at: usize, before: &[u8], number: u64) -> usize
     requires room { at + 30 ≤ length block.old }
@@ -142,7 +142,7 @@ fn put_number(block: &mut [u8], at: usize, before: &[u8], number: u64) -> usize
     put_digits(block, at, number)
 }
 
-/// Puts the name of a lower device behind a few bytes.
+/// Puts a few bytes, and then the name of a lower device.
 #[inline(always)]
 fn put_dev(block: &mut [u8], at: usize, before: &[u8], dev: &DevRef) -> usize
     requires room { at + 264 ≤ length block.old }
