@@ -1,5 +1,5 @@
 -- Checks that find something, and checks that find nothing.
-use Rattle.std.proofs.Common.{◌≡◌, ◌≢◌, ◌≤◌, length, arith, inl, inr, ℕ, suc, Bool, true, false, cond, List, [], ◌∷◌, ◌++◌, map, Option, Some, None, Ok, Err, refl, ap, ◌∙◌}
+use Rattle.std.proofs.Common.{◌≡◌, ◌≢◌, ◌≤◌, length, arith, inl, inr, ℕ, suc, Bool, true, false, cond, List, [], ◌∷◌, ◌++◌, map, Option, Some, None, Result, Ok, Err, refl, ap, ◌∙◌}
 use Rattle.std.specs.List.{AllByRecursion}
 use Rattle.std.proofs.lemmas.Bool.{cases_Bool}
 use Rattle.dm_table.specs.declared.place.Part.{Part}
@@ -92,6 +92,12 @@ Answers-refused part view whole fault faults later y w h = (
   h.0,
   λ other. let found = first_or-found faults later fault (unless-err (first_or faults None) y fault (h.1 other)) in rw found refl,
 )
+
+-- what is returned unless a fault was found is the reading that this fault refuses, and that none takes
+pub Answers-unless : {X Y : Type 0} (part : Part) (view : X → Y) (found : Option LoadFault) (x : X) (answer : Result X LoadFault) (reading : Result Y LoadFault) → answer ≡ unless found x
+    → ((fault : LoadFault) → found ≡ Some fault → (fault.kind ≢ Memory) × (reading ≡ Err fault)) → (found ≡ None → reading ≡ Ok (view x)) → Answers part view answer reading
+Answers-unless part view None x answer reading is refused taken = rw is (taken refl)
+Answers-unless part view (Some fault) x answer reading is refused taken = let r = refused fault refl in rw is (λ memory. absurd (r.0 memory), λ other. r.1)
 
 -- what a first step takes, the whole call returns what the steps after it do
 pub unless-passed : {Y W : Type 0} (faults : List LoadFault) (later : Option LoadFault) (y taken : Y) (w : W)

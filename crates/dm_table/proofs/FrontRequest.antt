@@ -11,17 +11,10 @@ use Rattle.dm_table.specs.LoadFault.{is_text}
 use Rattle.dm_table.specs.Name.{is_device_name}
 use Rattle.dm_table.specs.Number.{number_of}
 use Rattle.dm_table.specs.Fields.{parts_at}
-use Rattle.dm_table.specs.RequestLine.{RequestValues, DescribesRequest, request_text, op_text}
+use Rattle.dm_table.specs.RequestLine.{RequestValues, IsFront, request_text, op_text}
 use Rattle.dm_table.proofs.ByteLemmas.{is_text-clear, is_text-digits, list_all-both, plain-device_name}
 use Rattle.dm_table.proofs.FieldLemmas.{IsClearOf, parts_at-first}
 use Rattle.dm_table.proofs.NumberLemmas.{Spells-number_of, decimal_digits}
-
--- the line of a request at the front of a text
-pub record IsFront (text : List ℕ) (values : RequestValues) (end : ℕ) : Type 0 where
-  pub described : DescribesRequest (take end text) values
-  pub line : parts_at 10 text ≡ take end text ∷ parts_at 10 (drop (end + 1) text)
-  pub within : end < length text
-  pub short : end ≤ 200
 
 abbrev values_with : Op → List ℕ → ℕ → ℕ → RequestValues
 values_with op device start len = record { op = op; device = device; start = start; len = len }

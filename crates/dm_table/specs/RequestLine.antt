@@ -1,5 +1,5 @@
 -- Request lines: R DEV START LEN and W DEV START LEN, without the newline.
-use Rattle.std.specs.Prelude.{◌≡◌, ℕ, ◌^◌, ◌<◌, ◌≤◌, ◌==◌, Bool, true, false, ◌&&◌, ◌||◌, List, [], ◌∷◌, ◌++◌, length, decimal, Option, Some, None, nat_le, is_some, unwrap_or, if◌then◌else◌, nat_eq}
+use Rattle.std.specs.Prelude.{◌≡◌, ℕ, ◌+◌, ◌^◌, ◌<◌, ◌≤◌, ◌==◌, Bool, true, false, ◌&&◌, ◌||◌, List, [], ◌∷◌, ◌++◌, length, take, drop, decimal, Option, Some, None, nat_le, is_some, unwrap_or, if◌then◌else◌, nat_eq}
 use Rattle.std.specs.Cmp.Lexicographic.{pointwise}
 use Rattle.dm_table.specs.declared.request.TheConstants.{MOST_SECTORS}
 use Rattle.dm_table.specs.declared.request.Op.{Op}
@@ -9,7 +9,7 @@ use Rattle.dm_table.specs.declared.request.RequestFault.{RequestFault}
 use Rattle.dm_table.specs.declared.request.RequestFault.TheVariants.{Form, Number, Length}
 use Rattle.dm_table.specs.Name.{is_device_name}
 use Rattle.dm_table.specs.Number.{number_of}
-use Rattle.dm_table.specs.Fields.{fields}
+use Rattle.dm_table.specs.Fields.{fields, parts_at}
 
 -- the four values of a request
 pub record RequestValues : Type 0 where
@@ -42,6 +42,13 @@ pub record DescribesRequest (line : List ℕ) (values : RequestValues) : Type 0 
   pub start : values.start < 10 ^ 19
   pub least : 1 ≤ values.len
   pub most : values.len ≤ MOST_SECTORS
+
+-- the line of a request at the front of a text, up to a newline
+pub record IsFront (text : List ℕ) (values : RequestValues) (end : ℕ) : Type 0 where
+  pub described : DescribesRequest (take end text) values
+  pub line : parts_at 10 text ≡ take end text ∷ parts_at 10 (drop (end + 1) text)
+  pub within : end < length text
+  pub short : end ≤ 200
 
 -- Its checks
 

@@ -5,12 +5,12 @@
 //! end, where the checks take precedence in the order of the definitions. What a device says is read
 //! by `concise_device`; a new target type belongs in `line_body`.
 
-ghost use Rattle.std.specs.Prelude.{◌≡◌, ◌≢◌, List, [], None, Some, Ok, IfOk, IfErr, IfSome, OnOk, not};
+ghost use Rattle.std.specs.Prelude.{◌≡◌, ◌≢◌, [], None, Some, Ok, IfOk, IfSome, OnOk, not};
 ghost use Rattle.dm_table.specs.declared.place.Part.TheVariants.{Source};
 ghost use Rattle.dm_table.specs.declared.load_fault.LoadKind.TheVariants.{Memory, NotText};
 ghost use Rattle.dm_table.specs.declared.table.DeviceSpec.{DeviceSpec};
 ghost use Rattle.dm_table.specs.Fields.{texts};
-ghost use Rattle.dm_table.specs.LoadFault.{Answers, IsMemoryFault, faults_from, first_or, first_fault};
+ghost use Rattle.dm_table.specs.LoadFault.{Answers, faults_from, first_or};
 ghost use Rattle.dm_table.specs.RowFaults.{no_faults, noted_at, noted_rows};
 ghost use Rattle.dm_table.specs.Parsed.{IsParsed};
 ghost use Rattle.dm_table.specs.ConciseText.{DescribesConcise, without_newline, parts_of, is_printed, concise_checks};
@@ -20,7 +20,7 @@ use crate::concise_device::read_device;
 use crate::fields::cut;
 use crate::load_fault::{LoadFault, LoadKind};
 use crate::place::Part;
-use crate::row_faults::FirstFaults;
+use crate::reading::Reading;
 use crate::table::DeviceSpec;
 use crate::text_checks::is_printed;
 use std::alloc::{AllocError, Global};
@@ -40,25 +40,8 @@ use std::alloc::{AllocError, Global};
 /// disk, or no uuid, which has up to 128 of the bytes of a device's name. Or `Memory`, of number 0,
 /// where an allocation was refused. The time is linear in the text.
 pub fn parse_concise(alloc: Global, text: &[u8]) -> Result<Vec<DeviceSpec>, LoadFault>
-    // What is accepted describes these devices.
-    ensures accepted { IfOk result (λ v. DescribesConcise text.now v.items) }
-    // What describes devices is read as them, unless memory runs out.
-    ensures only { (devices : List DeviceSpec) → DescribesConcise text.now devices
-        → Answers Source (λ v. v.items) result (Ok devices) }
-    // A text describes no two lists of devices.
-    ensures unique { (a b : List DeviceSpec) → DescribesConcise text.now a → DescribesConcise text.now b
-        → a ≡ b }
-
-    // A refusal is the first fault of the first check that finds any.
-    ensures sound { OnOk result (first_fault (concise_checks text.now) ≡ None) }
-    ensures fault { IfErr result (λ f. f.kind ≢ Memory
-        → first_fault (concise_checks text.now) ≡ Some f) }
-    ensures memory { IfErr result (λ f. f.kind ≡ Memory → IsMemoryFault Source f) }
-{
-    read(alloc, text)
-}
-
-fn read(alloc: Global, text: &[u8]) -> Result<Vec<DeviceSpec>, LoadFault>
+    // Accepted is what describes devices, as these, and a refusal is the first fault of the first check
+    // that finds any.
     ensures { IsParsed Source (DescribesConcise text.now) (concise_checks text.now) result }
 {
     let text = without_newline(text);
@@ -96,13 +79,9 @@ fn read_parts(alloc: Global, text: &[u8], parts: &[&[u8]]) -> Result<Vec<DeviceS
     if let Some(fault) = not_text(text, parts) {
         return Err(fault);
     }
-    let reading = match read_devices(alloc, parts) {
-        Ok(reading) => reading,
-        Err(_) => return Err(LoadFault::memory(Part::Source)),
-    };
-    match reading.faults.first() {
-        Some(fault) => Err(fault),
-        None => Ok(reading.devices),
+    match read_devices(alloc, parts) {
+        Ok(reading) => reading.finish(),
+        Err(_) => Err(LoadFault::memory(Part::Source)),
     }
 }
 
@@ -132,24 +111,14 @@ fn bad_part(parts: &[&[u8]]) -> Option<LoadFault>
     None
 }
 
-/// What was read of the devices so far. Of devices with faults beside them nothing comes.
-#[derive(Drop)]
-struct Reading {
-    devices: Vec<DeviceSpec>,
-    faults: FirstFaults,
-}
-
 /// Reads each device, with two lists of slices for all of them.
-fn read_devices(alloc: Global, parts: &[&[u8]]) -> Result<Reading, AllocError>
-    ensures devices { IfOk result (λ reading. reading.devices.items
+fn read_devices(alloc: Global, parts: &[&[u8]]) -> Result<Reading<DeviceSpec>, AllocError>
+    ensures devices { IfOk result (λ reading. reading.values.items
         ≡ with_devices [] 1 (texts parts.now)) }
     ensures faults { IfOk result (λ reading. reading.faults
         ≡ noted_rows Source fault_of_device no_faults 1 (texts parts.now)) }
 {
-    let mut reading = Reading {
-        devices: Vec::new(alloc),
-        faults: FirstFaults::new(),
-    };
+    let mut reading = Reading::new(alloc);
     let mut entries = Vec::new(alloc);
     let mut fields = Vec::new(alloc);
     for (index, part) in parts.iter().enumerate() {
@@ -158,7 +127,7 @@ fn read_devices(alloc: Global, parts: &[&[u8]]) -> Result<Reading, AllocError>
     Ok(reading)
 }
 
-impl Reading {
+impl Reading<DeviceSpec> {
     /// Reads the part that is device `number` of the text.
     fn read_part<'a>(
         &mut self,
@@ -168,14 +137,14 @@ impl Reading {
         part: &'a [u8],
         number: u64,
     ) -> Result<(), AllocError>
-        ensures devices { OnOk result (self.new.devices.items
-            ≡ with_reading self.old.devices.items (device_reading number part.now)) }
+        ensures devices { OnOk result (self.new.values.items
+            ≡ with_reading self.old.values.items (device_reading number part.now)) }
         ensures faults { OnOk result (self.new.faults
             ≡ noted_at Source self.old.faults number (fault_of_device part.now)) }
     {
         match read_device(alloc, entries, fields, part, number) {
             Ok(device) => {
-                self.devices.push(device)?;
+                self.values.push(device)?;
                 Ok(())
             }
             Err(fault) => self.faults.note(Part::Source, number, fault),

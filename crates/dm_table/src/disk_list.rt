@@ -4,12 +4,11 @@
 //! end, as in table text. A new column is a field of `Disk`, its text in `disk_line`, and a check in
 //! `disk_checks`, in `specs/DiskList.antt`.
 
-ghost use Rattle.std.specs.Prelude.{◌≡◌, ◌≢◌, List, ◌++◌, None, Some, Ok, IfOk, IfErr, OnOk, map};
+ghost use Rattle.std.specs.Prelude.{◌≡◌, ◌++◌, Some, Ok, IfOk, OnOk, map};
 ghost use Rattle.dm_table.specs.declared.disk.Disk.{Disk};
 ghost use Rattle.dm_table.specs.declared.place.Part.TheVariants.{Disks};
-ghost use Rattle.dm_table.specs.declared.load_fault.LoadKind.TheVariants.{Memory};
 ghost use Rattle.dm_table.specs.Fields.{fields, texts};
-ghost use Rattle.dm_table.specs.LoadFault.{Answers, IsMemoryFault, first_fault};
+ghost use Rattle.dm_table.specs.LoadFault.{Answers};
 ghost use Rattle.dm_table.specs.RowFaults.{Reads, no_faults, noted_at, noted_rows};
 ghost use Rattle.dm_table.specs.Parsed.{IsParsed};
 ghost use Rattle.dm_table.specs.DiskList.{DescribesDisks, disk_checks, disk_fault, disk_in, disk_reading, disks_read, read_disk_rows};
@@ -20,7 +19,8 @@ use crate::fields::cut_into;
 use crate::load_fault::LoadFault;
 use crate::number;
 use crate::place::{Part, Place};
-use crate::row_faults::{FirstFaults, RowFault};
+use crate::reading::Reading;
+use crate::row_faults::RowFault;
 use crate::text_checks::text_lines;
 use std::alloc::{AllocError, Global};
 
@@ -37,24 +37,8 @@ use std::alloc::{AllocError, Global};
 ///
 /// The time is linear in the text.
 pub fn parse_disks(alloc: Global, text: &[u8]) -> Result<Vec<Disk>, LoadFault>
-    // What is accepted describes these disks.
-    ensures accepted { IfOk result (λ disks. DescribesDisks text.now disks.items) }
-
-    // What describes disks is accepted as those, unless memory runs out.
-    ensures only { (disks : List Disk) → DescribesDisks text.now disks → Answers Disks (λ v. v.items) result (Ok disks) }
-
-    // A text describes at most one list of disks.
-    ensures unique { (a b : List Disk) → DescribesDisks text.now a → DescribesDisks text.now b → a ≡ b }
-
-    // An accepted text passes all checks, and a refused one fails the first that its fault names.
-    ensures sound { OnOk result (first_fault (disk_checks text.now) ≡ None) }
-    ensures fault { IfErr result (λ fault. fault.kind ≢ Memory → first_fault (disk_checks text.now) ≡ Some fault) }
-    ensures memory { IfErr result (λ fault. fault.kind ≡ Memory → IsMemoryFault Disks fault) }
-{
-    read(alloc, text)
-}
-
-fn read(alloc: Global, text: &[u8]) -> Result<Vec<Disk>, LoadFault>
+    // Accepted is what describes disks, as these, and a refusal is the first fault of the first check
+    // that finds any.
     ensures { IsParsed Disks (DescribesDisks text.now) (disk_checks text.now) result }
 {
     let cut = text_lines(alloc, Part::Disks, text)?;
@@ -71,29 +55,16 @@ fn read_lines(alloc: Global, lines: &[&[u8]], rest: &[u8]) -> Result<Vec<Disk>, 
     reading
         .faults
         .note_rest(Part::Disks, lines.len() as u64 + 1, rest);
-    match reading.faults.first() {
-        Some(fault) => Err(fault),
-        None => Ok(reading.disks),
-    }
-}
-
-/// What was read of the lines so far. Of disks with faults beside them nothing comes.
-#[derive(Drop)]
-struct Reading {
-    disks: Vec<Disk>,
-    faults: FirstFaults,
+    reading.finish()
 }
 
 /// Reads each line, with one list of fields for all of them.
-fn read_rows(alloc: Global, lines: &[&[u8]]) -> Result<Reading, AllocError>
-    ensures disks { IfOk result (λ reading. reading.disks.items ≡ disks_read 1 (map fields (texts lines.now))) }
+fn read_rows(alloc: Global, lines: &[&[u8]]) -> Result<Reading<Disk>, AllocError>
+    ensures disks { IfOk result (λ reading. reading.values.items ≡ disks_read 1 (map fields (texts lines.now))) }
     ensures faults { IfOk result (λ reading. reading.faults
         ≡ noted_rows Disks disk_fault no_faults 1 (map fields (texts lines.now))) }
 {
-    let mut reading = Reading {
-        disks: Vec::new(alloc),
-        faults: FirstFaults::new(),
-    };
+    let mut reading = Reading::new(alloc);
     let mut fields = Vec::new(alloc);
     for (index, line) in lines.iter().enumerate() {
         cut_into(&mut fields, b' ', *line)?;
@@ -102,17 +73,17 @@ fn read_rows(alloc: Global, lines: &[&[u8]]) -> Result<Reading, AllocError>
     Ok(reading)
 }
 
-impl Reading {
+impl Reading<Disk> {
     /// Reads the row that is line `number` of the text.
     fn read_row(&mut self, alloc: Global, row: &[&[u8]], number: u64) -> Result<(), AllocError>
-        ensures disks { OnOk result (self.new.disks.items
-            ≡ self.old.disks.items ++ disk_in (disk_reading number (texts row.now))) }
+        ensures disks { OnOk result (self.new.values.items
+            ≡ self.old.values.items ++ disk_in (disk_reading number (texts row.now))) }
         ensures faults { OnOk result (self.new.faults
             ≡ noted_at Disks self.old.faults number (disk_fault (texts row.now))) }
     {
         match read_disk(alloc, row, number) {
             Ok(disk) => {
-                self.disks.push(disk)?;
+                self.values.push(disk)?;
                 Ok(())
             }
             Err(fault) => self.faults.note(Part::Disks, number, fault),

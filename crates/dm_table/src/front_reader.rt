@@ -3,10 +3,9 @@
 //! Successive requests mostly name the same device, and comparing its name takes a fraction of the
 //! time of asking whether each of its bytes is one of a name. Clauses don't see what is remembered.
 
-ghost use Rattle.std.specs.Prelude.{◌≡◌, ◌+◌, ◌<◌, ◌≤◌, ◌∷◌, ◌++◌, length, take, drop, true, IfSome};
-ghost use Rattle.dm_table.specs.Fields.{parts_at};
+ghost use Rattle.std.specs.Prelude.{◌≡◌, ◌+◌, ◌<◌, ◌∷◌, ◌++◌, length, take, drop, true, IfSome};
 ghost use Rattle.dm_table.specs.Name.{is_device_name};
-ghost use Rattle.dm_table.specs.RequestLine.{DescribesRequest, values_of};
+ghost use Rattle.dm_table.specs.RequestLine.{IsFront, values_of};
 
 use crate::block::put_bytes;
 use crate::name::{ascii_str, leading_name};
@@ -53,10 +52,7 @@ impl FrontReader {
     #[inline(always)]
     pub fn read<'a>(&mut self, text: &'a [u8], number: u64) -> Option<(Request<'a>, usize)>
         // The line says the request, and ends there.
-        ensures described { IfSome result (λ front. DescribesRequest (take front.1 text.now) (values_of front.0)) }
-        ensures line { IfSome result (λ front. parts_at 10 text.now ≡ take front.1 text.now ∷ parts_at 10 (drop (front.1 + 1) text.now)) }
-        ensures within { IfSome result (λ front. front.1 < length text.now) }
-        ensures short { IfSome result (λ front. front.1 ≤ 200) }
+        ensures front { IfSome result (λ front. IsFront text.now (values_of front.0) front.1) }
         ensures numbered { IfSome result (λ front. front.0.number ≡ number) }
     {
         let (op, rest) = first_op(text)?;

@@ -29,6 +29,7 @@ mod number;
 mod number_text;
 mod part_input;
 mod place;
+mod reading;
 mod request;
 mod request_line;
 mod row_faults;

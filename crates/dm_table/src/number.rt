@@ -40,10 +40,7 @@ pub(crate) fn leading(text: &[u8]) -> Option<(u64, usize)>
         value = value * 10 + u64::from(text[len] - b'0');
         len += 1;
     }
-    if len == 0 {
-        return None;
-    }
-    if text[0] == b'0' && len != 1 {
+    if len == 0 || (text[0] == b'0' && len != 1) {
         return None;
     }
     Some((value, len))

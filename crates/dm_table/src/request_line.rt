@@ -8,8 +8,8 @@ ghost use Rattle.dm_table.specs.declared.request.Op.{Op};
 ghost use Rattle.dm_table.specs.declared.request.RequestFault.TheVariants.{Form, Number};
 ghost use Rattle.dm_table.specs.Name.{is_device_name};
 ghost use Rattle.dm_table.specs.Number.{number_of};
-ghost use Rattle.dm_table.specs.Fields.{fields, parts_at};
-ghost use Rattle.dm_table.specs.RequestLine.{RequestValues, DescribesRequest, AreNumbers, values_of, op_text, has_form, are_two, request_fault, request_values};
+ghost use Rattle.dm_table.specs.Fields.{fields};
+ghost use Rattle.dm_table.specs.RequestLine.{RequestValues, DescribesRequest, IsFront, AreNumbers, values_of, op_text, has_form, are_two, request_fault, request_values};
 
 use crate::name::{ascii_str, leading_name};
 use crate::number;
@@ -200,10 +200,7 @@ pub(crate) fn front_behind<'a>(
 ) -> Option<(Request<'a>, usize)>
     requires text { text.now ≡ op_text op ∷ 32 ∷ (device.now ++ 32 ∷ rest.now) }
     requires named { is_device_name device.now ≡ true }
-    ensures described { IfSome result (λ front. DescribesRequest (take front.1 text.now) (values_of front.0)) }
-    ensures line { IfSome result (λ front. parts_at 10 text.now ≡ take front.1 text.now ∷ parts_at 10 (drop (front.1 + 1) text.now)) }
-    ensures within { IfSome result (λ front. front.1 < length text.now) }
-    ensures short { IfSome result (λ front. front.1 ≤ 200) }
+    ensures front { IfSome result (λ front. IsFront text.now (values_of front.0) front.1) }
     ensures numbered { IfSome result (λ front. front.0.number ≡ number) }
 {
     let (start, last) = front_number(rest)?;
@@ -230,10 +227,7 @@ pub(crate) fn front_behind<'a>(
 /// Cost: no memory, and one pass over each field.
 pub fn front_request<'a>(text: &'a [u8], number: u64) -> Option<(Request<'a>, usize)>
     // The line says the request, and ends there.
-    ensures described { IfSome result (λ front. DescribesRequest (take front.1 text.now) (values_of front.0)) }
-    ensures line { IfSome result (λ front. parts_at 10 text.now ≡ take front.1 text.now ∷ parts_at 10 (drop (front.1 + 1) text.now)) }
-    ensures within { IfSome result (λ front. front.1 < length text.now) }
-    ensures short { IfSome result (λ front. front.1 ≤ 200) }
+    ensures front { IfSome result (λ front. IsFront text.now (values_of front.0) front.1) }
     ensures numbered { IfSome result (λ front. front.0.number ≡ number) }
 {
     let (op, device, rest) = head(text)?;

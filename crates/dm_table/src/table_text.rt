@@ -4,12 +4,11 @@
 //! them is kept until the end, where the checks take precedence in the order of the definitions. A
 //! new target type belongs in `line_body`.
 
-ghost use Rattle.std.specs.Prelude.{◌≡◌, ◌≢◌, ◌+◌, List, [], length, None, Some, Ok, IfOk, IfErr, OnOk, IsTrue};
+ghost use Rattle.std.specs.Prelude.{◌≡◌, ◌+◌, [], length, Some, Ok, IfOk, OnOk, IsTrue};
 ghost use Rattle.dm_table.specs.declared.place.Part.TheVariants.{Source};
-ghost use Rattle.dm_table.specs.declared.load_fault.LoadKind.TheVariants.{Memory};
 ghost use Rattle.dm_table.specs.declared.table.DeviceSpec.{DeviceSpec};
 ghost use Rattle.dm_table.specs.Fields.{texts, lines_of, rest_of};
-ghost use Rattle.dm_table.specs.LoadFault.{Answers, IsMemoryFault, first_fault};
+ghost use Rattle.dm_table.specs.LoadFault.{Answers};
 ghost use Rattle.dm_table.specs.Name.{is_device_name};
 ghost use Rattle.dm_table.specs.RowFaults.{no_faults, noted_at, noted_rest, noted_rows};
 ghost use Rattle.dm_table.specs.Parsed.{IsParsed};
@@ -19,7 +18,7 @@ ghost use Rattle.dm_table.specs.TableReading.{named_of, alone, add_line, fault_o
 use crate::load_fault::LoadFault;
 use crate::name::Name;
 use crate::place::Part;
-use crate::row_faults::FirstFaults;
+use crate::reading::Reading;
 use crate::table::{DeviceSpec, Table};
 use crate::table_row::{Row, cut_row, read_row};
 use crate::text_checks::check_text;
@@ -37,25 +36,8 @@ use std::alloc::{AllocError, Global};
 /// that is none, an unknown target type or wrong arguments; `Name`, no name of a device or a disk.
 /// Or `Memory`, of number 0, where an allocation was refused. The time is linear in the text.
 pub fn parse_table(alloc: Global, text: &[u8]) -> Result<Vec<DeviceSpec>, LoadFault>
-    // What is accepted describes these devices.
-    ensures accepted { IfOk result (λ v. DescribesTable text.now v.items) }
-    // What describes devices is read as them, unless memory runs out.
-    ensures only { (devices : List DeviceSpec) → DescribesTable text.now devices
-        → Answers Source (λ v. v.items) result (Ok devices) }
-    // A text describes no two lists of devices.
-    ensures unique { (a b : List DeviceSpec) → DescribesTable text.now a → DescribesTable text.now b
-        → a ≡ b }
-
-    // A refusal is the first fault of the first check that finds any.
-    ensures sound { OnOk result (first_fault (table_checks text.now) ≡ None) }
-    ensures fault { IfErr result (λ f. f.kind ≢ Memory
-        → first_fault (table_checks text.now) ≡ Some f) }
-    ensures memory { IfErr result (λ f. f.kind ≡ Memory → IsMemoryFault Source f) }
-{
-    read(alloc, text)
-}
-
-fn read(alloc: Global, text: &[u8]) -> Result<Vec<DeviceSpec>, LoadFault>
+    // Accepted is what describes devices, as these, and a refusal is the first fault of the first check
+    // that finds any.
     ensures { IsParsed Source (DescribesTable text.now) (table_checks text.now) result }
 {
     match check_text(alloc, Part::Source, text) {
@@ -67,35 +49,21 @@ fn read(alloc: Global, text: &[u8]) -> Result<Vec<DeviceSpec>, LoadFault>
 fn read_lines(alloc: Global, text: &[u8]) -> Result<Vec<DeviceSpec>, LoadFault>
     ensures { Answers Source (λ v. v.items) result (read_rows (rows_of (lines_of text.now)) (rest_of text.now)) }
 {
-    let reading = match read_rows(alloc, text) {
-        Ok(reading) => reading,
-        Err(_) => return Err(LoadFault::memory(Part::Source)),
-    };
-    match reading.faults.first() {
-        Some(fault) => Err(fault),
-        None => Ok(reading.devices),
+    match read_rows(alloc, text) {
+        Ok(reading) => reading.finish(),
+        Err(_) => Err(LoadFault::memory(Part::Source)),
     }
-}
-
-/// What was read of the lines so far. Of devices with faults beside them nothing comes.
-#[derive(Drop)]
-struct Reading {
-    devices: Vec<DeviceSpec>,
-    faults: FirstFaults,
 }
 
 /// Reads each line where it stands, with one list of fields for all of them, and then what stands
 /// after the last newline.
-fn read_rows(alloc: Global, text: &[u8]) -> Result<Reading, AllocError>
-    ensures devices { IfOk result (λ reading. reading.devices.items
+fn read_rows(alloc: Global, text: &[u8]) -> Result<Reading<DeviceSpec>, AllocError>
+    ensures devices { IfOk result (λ reading. reading.values.items
         ≡ with_rows [] 1 (rows_of (lines_of text.now))) }
     ensures faults { IfOk result (λ reading. reading.faults ≡ noted_rest Source
         (noted_rows Source fault_of_row no_faults 1 (rows_of (lines_of text.now))) (length (lines_of text.now) + 1) (rest_of text.now)) }
 {
-    let mut reading = Reading {
-        devices: Vec::new(alloc),
-        faults: FirstFaults::new(),
-    };
+    let mut reading = Reading::new(alloc);
     let mut fields = Vec::new(alloc);
     let mut number = 1u64;
     let mut rest = text;
@@ -110,16 +78,16 @@ fn read_rows(alloc: Global, text: &[u8]) -> Result<Reading, AllocError>
     Ok(reading)
 }
 
-impl Reading {
+impl Reading<DeviceSpec> {
     /// Reads the row that is line `number` of the text.
     fn read_row(&mut self, alloc: Global, row: &[&[u8]], number: u64) -> Result<(), AllocError>
-        ensures devices { OnOk result (self.new.devices.items
-            ≡ with_reading self.old.devices.items (row_reading number (texts row.now))) }
+        ensures devices { OnOk result (self.new.values.items
+            ≡ with_reading self.old.values.items (row_reading number (texts row.now))) }
         ensures faults { OnOk result (self.new.faults
             ≡ noted_at Source self.old.faults number (fault_of_row (texts row.now))) }
     {
         match read_row(alloc, row, number) {
-            Ok(row) => add_line(alloc, &mut self.devices, row),
+            Ok(row) => add_line(alloc, &mut self.values, row),
             Err(fault) => self.faults.note(Part::Source, number, fault),
         }
     }

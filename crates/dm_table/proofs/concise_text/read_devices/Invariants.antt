@@ -9,6 +9,6 @@ use Rattle.dm_table.proofs.concise_text.read_devices.Given as goal
 abbrev pub invariant-loop-index : goal.invariant-loop-index
 invariant-loop-index l =
     record {
-      devices : with_devices l.reading.devices.items (l.index + 1) (texts (drop l.index l.parts)) ≡ with_devices [] 1 (texts l.parts);
+      devices : with_devices l.reading.values.items (l.index + 1) (texts (drop l.index l.parts)) ≡ with_devices [] 1 (texts l.parts);
       faults : noted_rows Source fault_of_device l.reading.faults (l.index + 1) (texts (drop l.index l.parts)) ≡ noted_rows Source fault_of_device no_faults 1 (texts l.parts);
     }

@@ -1,25 +1,21 @@
-use Rattle.std.proofs.Common.{◌≡◌, ◌+◌, Some, None, length, map, sym, ◌∙◌, refl}
+use Rattle.std.proofs.Common.{◌≡◌, ◌+◌, Vec, length, map, ◌∙◌, refl}
+use Rattle.std.specs.Global.{Global}
 use Rattle.std.proofs.lemmas.List.{length-map}
+use Rattle.dm_table.specs.declared.disk.Disk.{Disk}
 use Rattle.dm_table.specs.declared.place.Part.TheVariants.{Disks}
 use Rattle.dm_table.specs.Fields.{fields, texts}
 use Rattle.dm_table.specs.RowFaults.{no_faults, noted_rows, noted_rest, first_noted}
 use Rattle.dm_table.specs.DiskList.{disk_fault}
+use Rattle.dm_table.proofs.FaultLemmas.{Answers-unless}
 use Rattle.dm_table.proofs.DiskLemmas.{disk_rows_refused, disk_rows_taken}
 use Rattle.dm_table.proofs.disk_list.read_lines.Goals as goal
 
-pub returns-in-Some : goal.returns-in-Some
-returns-in-Some c =
+pub returns : goal.returns
+returns c =
     let rows = map fields (texts c.args.lines.now) in
+    let rest = c.args.rest.now in
     let len : length rows ≡ length c.args.lines.now = rw (length-map, length-map) refl in
-    let kept : first_noted (noted_rest Disks (noted_rows Disks disk_fault no_faults 1 rows) (length rows + 1) c.args.rest.now) ≡ Some c.in-Some.fault =
-    rw (len, ← c.in-Ok.ensures.faults, ← c.note_rest.ensures) (sym c.first.ensures ∙ c.in-Some.is) in
-    let a = disk_rows_refused rows c.args.rest.now c.in-Some.fault kept in
-    (λ memory. absurd (a.0 memory), λ other. a.1)
-
-pub returns-in-None : goal.returns-in-None
-returns-in-None c =
-    let rows = map fields (texts c.args.lines.now) in
-    let len : length rows ≡ length c.args.lines.now = rw (length-map, length-map) refl in
-    let kept : first_noted (noted_rest Disks (noted_rows Disks disk_fault no_faults 1 rows) (length rows + 1) c.args.rest.now) ≡ None =
-    rw (len, ← c.in-Ok.ensures.faults, ← c.note_rest.ensures) (sym c.first.ensures ∙ c.in-None.is) in
-    rw c.in-Ok.ensures.disks (disk_rows_taken rows c.args.rest.now kept)
+    let kept : first_noted (noted_rest Disks (noted_rows Disks disk_fault no_faults 1 rows) (length rows + 1) rest) ≡ first_noted c.note_rest.new.self =
+    rw (len, ← c.in-Ok.ensures.faults, ← c.note_rest.ensures) refl in
+    Answers-unless Disks (λ (v : Vec Disk Global). v.items) _ c.in-Ok.reading.values c.finish.result _ c.finish.ensures
+    (λ fault is. disk_rows_refused rows rest fault (kept ∙ is)) (λ none. rw c.in-Ok.ensures.disks (disk_rows_taken rows rest (kept ∙ none)))

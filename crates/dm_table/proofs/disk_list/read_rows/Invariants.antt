@@ -9,6 +9,6 @@ use Rattle.dm_table.proofs.disk_list.read_rows.Given as goal
 abbrev pub invariant-loop-index : goal.invariant-loop-index
 invariant-loop-index l =
     record {
-      disks : l.reading.disks.items ++ disks_read (l.index + 1) (map fields (texts (drop l.index l.lines))) ≡ disks_read 1 (map fields (texts l.lines));
+      disks : l.reading.values.items ++ disks_read (l.index + 1) (map fields (texts (drop l.index l.lines))) ≡ disks_read 1 (map fields (texts l.lines));
       faults : noted_rows Disks disk_fault l.reading.faults (l.index + 1) (map fields (texts (drop l.index l.lines))) ≡ noted_rows Disks disk_fault no_faults 1 (map fields (texts l.lines));
     }

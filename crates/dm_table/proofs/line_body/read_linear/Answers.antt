@@ -3,14 +3,10 @@ use Rattle.std.proofs.lemmas.Bool.Decides.{nat_tests}
 use Rattle.std.proofs.lemmas.Result.{err_from_is_err_and}
 use Rattle.dm_table.proofs.TargetRows.{linear_none, linear_unnamed, linear_read}
 use Rattle.dm_table.proofs.line_body.read_linear.Goals as goal
-use Rattle.dm_table.proofs.line_body.read_linear.Goals.{in_default-via-then-arguments-lt2, in_default-via-else-arguments-lt2+else-arguments-lt3}
 
 pub returns-in_default : goal.returns-in_default
 returns-in_default c = λ other.
-    linear_none c.args.arguments.now (λ two. elim c.in_default.branch [
-      | in_default-via-then-arguments-lt2 w ↦ grind (arith, nat_tests)
-      | in_default-via-else-arguments-lt2+else-arguments-lt3 w ↦ grind (arith, nat_tests)
-    ])
+    linear_none c.args.arguments.now (λ two. grind (arith, nat_tests))
 
 pub returns-in_err-to : goal.returns-in_err-to
 returns-in_err-to c =

@@ -4,14 +4,10 @@ use Rattle.std.proofs.lemmas.Bool.Decides.{nat_tests}
 use Rattle.std.proofs.lemmas.Result.{err_from_is_err_and}
 use Rattle.dm_table.proofs.TargetRows.{snapshot_none, snapshot_flag, snapshot_chunk, snapshot_origin, snapshot_store, snapshot_read}
 use Rattle.dm_table.proofs.line_body.read_snapshot.Goals as goal
-use Rattle.dm_table.proofs.line_body.read_snapshot.Goals.{in_default-via-then-arguments-lt4, in_default-via-else-arguments-lt4+else-arguments-lt5}
 
 pub returns-in_default : goal.returns-in_default
 returns-in_default c = λ other.
-    snapshot_none c.args.arguments.now (λ four. elim c.in_default.branch [
-      | in_default-via-then-arguments-lt4 w ↦ grind (arith, nat_tests)
-      | in_default-via-else-arguments-lt4+else-arguments-lt5 w ↦ grind (arith, nat_tests)
-    ])
+    snapshot_none c.args.arguments.now (λ four. grind (arith, nat_tests))
 
 pub returns-then-ne : goal.returns-then-ne
 returns-then-ne c = λ other.

@@ -8,7 +8,7 @@ use Rattle.dm_table.proofs.NumberLemmas.{value_more, digits_more, next_below, nu
 use Rattle.std.proofs.lemmas.List.{length-take-le}
 use Rattle.std.proofs.Common.{Some}
 use Rattle.std.proofs.lemmas.Grind.{elements}
-use Rattle.dm_table.proofs.number.leading.Goals.{then-loop-len-test+else-is_ascii_digit, else-loop-len-test}
+use Rattle.dm_table.proofs.number.leading.Goals.{then-loop-len-test+else-is_ascii_digit, else-loop-len-test, then-len-eq0-via-then-len-eq0, then-len-eq0-via-else-len-eq0+then-len-ne1}
 use Rattle.dm_table.proofs.number.leading.Goals as goal
 
 pub returns-then-len-eq19-clause-other : goal.returns-then-len-eq19-clause-other
@@ -54,20 +54,12 @@ returns-then-len-eq0-clause-other c =
           omega (arith, stop, c.loop-len.invariant.left)
       | else-loop-len-test w ↦ let stop = prefix_len-drop_all is_ascii_digit text len w.loop-len-test.false in omega (arith, stop, c.loop-len.invariant.left)
     ] in
-    number_of-empty _ (omega (arith, length-prefix_len is_ascii_digit text, whole))
-
-pub returns-then-len-ne1-clause-other : goal.returns-then-len-ne1-clause-other
-returns-then-len-ne1-clause-other c =
-    let text = c.args.text.now in
-    let len = c.loop-len.len in
-    let whole : prefix_len is_ascii_digit text ≡ len = elim c.loop-len-test.branch [
-      | then-loop-len-test+else-is_ascii_digit w ↦
-          let stop = prefix_len-drop_no is_ascii_digit text len 0 w.loop-len-test.true (sym w.is_ascii_digit.ensures.value ∙ w.if-is_ascii_digit.false) in
-          omega (arith, stop, c.loop-len.invariant.left)
-      | else-loop-len-test w ↦ let stop = prefix_len-drop_all is_ascii_digit text len w.loop-len-test.false in omega (arith, stop, c.loop-len.invariant.left)
-    ] in
-    let same : get_or (take len text) 0 0 ≡ get_or text 0 0 = grind (arith, elements) in
-    rw whole (number_of-zero (take len text) (same ∙ c.if-text-eq48.true) (omega (arith, length-take-le len text c.loop-len.invariant.within)))
+    elim c.then-len-eq0.branch [
+      | then-len-eq0-via-then-len-eq0 w ↦ number_of-empty _ (omega (arith, length-prefix_len is_ascii_digit text, whole, w.if-len-eq0.true))
+      | then-len-eq0-via-else-len-eq0+then-len-ne1 w ↦
+          let same : get_or (take len text) 0 0 ≡ get_or text 0 0 = grind (arith, elements) in
+          rw whole (number_of-zero (take len text) (same ∙ w.if-len-ne1.true.0) (omega (arith, length-take-le len text c.loop-len.invariant.within, w.if-len-ne1.true.1)))
+    ]
 
 pub returns-clause-number : goal.returns-clause-number
 returns-clause-number c =
@@ -75,7 +67,7 @@ returns-clause-number c =
     let len = c.loop-len.len in
     let long : length (take len text) ≡ len = length-take-le len text c.loop-len.invariant.within in
     let same : get_or (take len text) 0 0 ≡ get_or text 0 0 = grind (arith, elements) in
-    let lead : 1 < length (take len text) → get_or (take len text) 0 0 ≢ 48 = λ more zero. elim c.else-text-eq48.either [
+    let lead : 1 < length (take len text) → get_or (take len text) 0 0 ≢ 48 = λ more zero. elim c.if-len-ne1.either [
       | inl alone ↦ absurd (omega (arith, alone.1, long))
       | inr other ↦ other (sym same ∙ zero)
     ] in

@@ -3,17 +3,7 @@ use Rattle.std.proofs.Common.{refl, arith}
 use Rattle.dm_table.proofs.FrontRequest.{front_line}
 use Rattle.dm_table.proofs.request_line.front_behind.Goals as goal
 
-pub returns-clause-described : goal.returns-clause-described
-returns-clause-described c =
-    (front_line c.args.text.now c.args.device.now c.in_ok-start.ensures.text.0 c.args.rest.now c.in_ok-start.last.now c.args.op c.in_ok-start.start c.in_ok-len.len c.in_ok-len.digits _
-    c.requires.text c.requires.named c.in_ok-start.ensures.text.1 c.in_ok-start.ensures.text.2 c.in_ok-len.ensures.within c.in_ok-len.ensures.newline c.in_ok-len.ensures.number (omega arith) (omega arith) refl).described
-
-pub returns-clause-line : goal.returns-clause-line
-returns-clause-line c =
-    (front_line c.args.text.now c.args.device.now c.in_ok-start.ensures.text.0 c.args.rest.now c.in_ok-start.last.now c.args.op c.in_ok-start.start c.in_ok-len.len c.in_ok-len.digits _
-    c.requires.text c.requires.named c.in_ok-start.ensures.text.1 c.in_ok-start.ensures.text.2 c.in_ok-len.ensures.within c.in_ok-len.ensures.newline c.in_ok-len.ensures.number (omega arith) (omega arith) refl).line
-
-pub returns-clause-short : goal.returns-clause-short
-returns-clause-short c =
-    (front_line c.args.text.now c.args.device.now c.in_ok-start.ensures.text.0 c.args.rest.now c.in_ok-start.last.now c.args.op c.in_ok-start.start c.in_ok-len.len c.in_ok-len.digits _
-    c.requires.text c.requires.named c.in_ok-start.ensures.text.1 c.in_ok-start.ensures.text.2 c.in_ok-len.ensures.within c.in_ok-len.ensures.newline c.in_ok-len.ensures.number (omega arith) (omega arith) refl).short
+pub returns-clause-front : goal.returns-clause-front
+returns-clause-front c =
+    front_line c.args.text.now c.args.device.now c.in_ok-start.ensures.text.0 c.args.rest.now c.in_ok-start.last.now c.args.op c.in_ok-start.start c.in_ok-len.len c.in_ok-len.digits _
+    c.requires.text c.requires.named c.in_ok-start.ensures.text.1 c.in_ok-start.ensures.text.2 c.in_ok-len.ensures.within c.in_ok-len.ensures.newline c.in_ok-len.ensures.number (omega arith) (omega arith) refl

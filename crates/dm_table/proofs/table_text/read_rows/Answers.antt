@@ -20,7 +20,7 @@ loop-end-preserved c =
     let next : n + 1 ≡ suc n = omega arith in
     let len : length (lines_of text) ≡ suc (length (lines_of more)) = ap (λ (lines : List (List ℕ)). length lines) a.0 in
     record {
-      devices = devices_left (lines_of text) (lines_of more) line n (n + 1) (texts c.deref.result.now) c.loop-end.reading.devices.items c.read_row.new.self.devices.items (with_rows [] 1 (rows_of (lines_of c.args.text.now))) a.0 next row c.in_ok-read_row.ensures.devices c.loop-end.invariant.devices;
+      devices = devices_left (lines_of text) (lines_of more) line n (n + 1) (texts c.deref.result.now) c.loop-end.reading.values.items c.read_row.new.self.values.items (with_rows [] 1 (rows_of (lines_of c.args.text.now))) a.0 next row c.in_ok-read_row.ensures.devices c.loop-end.invariant.devices;
       faults = faults_left (lines_of text) (lines_of more) line n (n + 1) (texts c.deref.result.now) c.loop-end.reading.faults c.read_row.new.self.faults (noted_rows Source fault_of_row no_faults 1 (rows_of (lines_of c.args.text.now))) a.0 next row c.in_ok-read_row.ensures.faults c.loop-end.invariant.faults;
       number = omega (arith, len, c.loop-end.invariant.number);
       rest = sym a.1 ∙ c.loop-end.invariant.rest;

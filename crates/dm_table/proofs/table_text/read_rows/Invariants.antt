@@ -9,7 +9,7 @@ use Rattle.dm_table.proofs.table_text.read_rows.Given as goal
 abbrev pub invariant-loop-end : goal.invariant-loop-end
 invariant-loop-end l =
     record {
-      devices : with_rows l.reading.devices.items l.number (rows_of (lines_of l.rest)) ≡ with_rows [] 1 (rows_of (lines_of l.text));
+      devices : with_rows l.reading.values.items l.number (rows_of (lines_of l.rest)) ≡ with_rows [] 1 (rows_of (lines_of l.text));
       faults : noted_rows Source fault_of_row l.reading.faults l.number (rows_of (lines_of l.rest)) ≡ noted_rows Source fault_of_row no_faults 1 (rows_of (lines_of l.text));
       number : l.number + length (lines_of l.rest) ≡ length (lines_of l.text) + 1;
       rest : rest_of l.rest ≡ rest_of l.text;

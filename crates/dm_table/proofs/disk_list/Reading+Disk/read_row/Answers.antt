@@ -2,7 +2,7 @@ use Rattle.dm_table.specs.declared.place.Part.TheVariants.{Disks}
 use Rattle.dm_table.specs.Fields.{texts}
 use Rattle.dm_table.specs.DiskList.{disk_fault, disk_of}
 use Rattle.dm_table.proofs.RowFaultLemmas.{noted_faulty}
-use Rattle.dm_table.proofs.disk_list.Reading.read_row.Goals as goal
+use Rattle.dm_table.proofs.disk_list.Reading+Disk.read_row.Goals as goal
 
 pub returns-in-Err-clause-faults : goal.returns-in-Err-clause-faults
 returns-in-Err-clause-faults c =

@@ -5,7 +5,7 @@ use Rattle.dm_table.specs.declared.load_fault.LoadFault.{LoadFault}
 use Rattle.dm_table.specs.Fields.{texts}
 use Rattle.dm_table.specs.LoadFault.{Answers}
 use Rattle.dm_table.proofs.ConciseDescribed.{read_as_promised, read_concise-parts}
-use Rattle.dm_table.proofs.concise_text.read.Goals as goal
+use Rattle.dm_table.proofs.concise_text.parse_concise.Goals as goal
 
 pub returns-in-Ok : goal.returns-in-Ok
 returns-in-Ok c =

@@ -8,7 +8,7 @@ use Rattle.dm_table.specs.LoadFault.{not_text, first_fault}
 use Rattle.dm_table.specs.TableReading.{bad_syntax, bad_field, bad_name, rows_of, devices_from, read_table}
 use Rattle.dm_table.proofs.FaultLemmas.{Answers-refused}
 use Rattle.dm_table.proofs.TableDescribed.{read_as_promised, read_table-rows}
-use Rattle.dm_table.proofs.table_text.read.Goals as goal
+use Rattle.dm_table.proofs.table_text.parse_table.Goals as goal
 
 pub returns-in-Err : goal.returns-in-Err
 unfolding read_table

@@ -9,7 +9,7 @@ use Rattle.dm_table.specs.LoadFault.{not_text, first_fault}
 use Rattle.dm_table.specs.DiskList.{bad_syntax, bad_field, bad_name, disks_from, read_disks}
 use Rattle.dm_table.proofs.FaultLemmas.{Answers-refused}
 use Rattle.dm_table.proofs.DiskLemmas.{read_as_promised, read_disks-rows}
-use Rattle.dm_table.proofs.disk_list.read.Goals as goal
+use Rattle.dm_table.proofs.disk_list.parse_disks.Goals as goal
 
 pub returns-in_err-cut : goal.returns-in_err-cut
 unfolding read_disks
