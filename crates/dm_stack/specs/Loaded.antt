@@ -1,5 +1,5 @@
 -- What a stack keeps beside its description, and what a looker is.
-use Rattle.std.specs.Prelude.{◌≡◌, ℕ, suc, ◌^◌, ◌<◌, Bool, true, false, List, [], ◌∷◌, ◌++◌, Some, filter, length, map, nat_lt, if◌then◌else◌}
+use Rattle.std.specs.Prelude.{◌≡◌, ℕ, suc, ◌^◌, ◌<◌, ◌≤◌, Bool, true, false, List, [], ◌∷◌, ◌++◌, Some, filter, length, map, nat_lt, if◌then◌else◌}
 use Rattle.std.specs.List.{All, Contains, flat_map, list_any, range_with_len}
 use Rattle.dm_table.specs.declared.table.DeviceSpec.{DeviceSpec}
 use Rattle.dm_table.specs.declared.table.Line.{Line}
@@ -23,6 +23,11 @@ found_table stack device = map (found_line stack) device.lines
 -- the greatest depth of a device; 0 without devices
 abbrev pub stack_depth : Description → ℕ
 stack_depth stack = greatest (map (depth_of stack) (range_with_len 0 (length stack.devices)))
+
+-- how many sectors a device or a disk has
+pub record IsLength (len : ℕ) : Type 0 where
+  pub some : 1 ≤ len
+  pub small : len ≤ 2 ^ 50
 
 -- what the lines of a device name, and the depth of each of these: that of a device, and 0 of a disk
 abbrev pub named_at : Description → ℕ → List Lower

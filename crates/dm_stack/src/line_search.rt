@@ -5,7 +5,7 @@
 //! up to three lines this is a walk. Of more, none is compared where the sector comes right after the
 //! line that was found last: it is in the next one, as when a range goes over many lines.
 
-ghost use Rattle.std.specs.Prelude.{◌≡◌, ◌+◌, ◌-◌, ◌<◌, ◌≤◌, length, true};
+ghost use Rattle.std.specs.Prelude.{◌≡◌, ◌+◌, ◌-◌, ◌<◌, length, true};
 ghost use Rattle.dm_stack.specs.LineSearch.{EndsAt, Finds, StartsAfter, StartsBy};
 
 use crate::found::FoundLine;

@@ -6,7 +6,7 @@
 ghost use Rattle.std.specs.Prelude.{◌≡◌, ℕ, ◌+◌, ◌-◌, ◌*◌, ◌<◌, ◌≤◌, ◌^◌, Some, length};
 ghost use Rattle.dm_stack.specs.Below.{HoldsSoundly, found_at};
 ghost use Rattle.dm_stack.specs.Description.{device_len, disk_len, is_ro_at, lines_at};
-ghost use Rattle.dm_stack.specs.Loaded.{next_count, snapshots, stack_depth, AreSnapshots};
+ghost use Rattle.dm_stack.specs.Loaded.{next_count, snapshots, stack_depth, AreSnapshots, IsLength};
 ghost use Rattle.dm_stack.specs.Soundness.{IsSound};
 ghost use Rattle.dm_stack.specs.LineSearch.{binary_digits};
 
@@ -103,20 +103,9 @@ impl<'s> Looker<'s> {
     pub fn len(&self, device: DeviceId) -> u64
         requires { device < length self.now.stack.devices }
         ensures len { result ≡ device_len self.now.stack device }
-        ensures some { 1 ≤ result }
-        ensures small { result ≤ 2 ^ 50 }
+        ensures size { IsLength result }
     {
         self.stack.len(device)
-    }
-
-    /// The length of a disk of the stack in sectors, from 1 to 2^50.
-    pub fn disk_len(&self, disk: DiskId) -> u64
-        requires { disk < length self.now.stack.disks }
-        ensures len { result ≡ disk_len self.now.stack disk }
-        ensures some { 1 ≤ result }
-        ensures small { result ≤ 2 ^ 50 }
-    {
-        self.stack.disk_len(disk)
     }
 
     /// Whether a device of the stack is read-only.
@@ -125,6 +114,15 @@ impl<'s> Looker<'s> {
         ensures { result ≡ is_ro_at self.now.stack device }
     {
         self.stack.is_ro(device)
+    }
+
+    /// The length of a disk of the stack in sectors, from 1 to 2^50.
+    pub fn disk_len(&self, disk: DiskId) -> u64
+        requires { disk < length self.now.stack.disks }
+        ensures len { result ≡ disk_len self.now.stack disk }
+        ensures size { IsLength result }
+    {
+        self.stack.disk_len(disk)
     }
 
     /// The devices of the stack that are snapshots, in their order.

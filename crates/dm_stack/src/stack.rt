@@ -8,7 +8,7 @@ ghost use Rattle.dm_table.specs.Name.{is_disk_name};
 ghost use Rattle.dm_stack.specs.Below.{HoldsSoundly, found_at, found_lines};
 ghost use Rattle.dm_stack.specs.Claims.{IsFirstClash, IsThere, IsTidy, IsTop, claims};
 ghost use Rattle.dm_stack.specs.Description.{Description, device_len, disk_len, is_ro_at, is_same, name_at, disk_name_at, lines_at};
-ghost use Rattle.dm_stack.specs.Loaded.{IsDeeperByOne, disk_text, snapshots, stack_depth, AreSnapshots};
+ghost use Rattle.dm_stack.specs.Loaded.{IsDeeperByOne, IsLength, disk_text, snapshots, stack_depth, AreSnapshots};
 ghost use Rattle.dm_stack.specs.LineSearch.{binary_digits};
 ghost use Rattle.dm_stack.specs.Soundness.{IsRefusedBy, IsSound};
 ghost use Rattle.dm_stack.specs.declared.claim.Claim.{Claim};
@@ -147,8 +147,7 @@ impl Stack {
     pub fn len(&self, device: DeviceId) -> u64
         requires { device < length self.now.devices }
         ensures len { result ≡ device_len self.now device }
-        ensures some { 1 ≤ result }
-        ensures small { result ≤ 2 ^ 50 }
+        ensures size { IsLength result }
     {
         end_of(self.spec(device).lines.as_slice())
     }
@@ -157,8 +156,7 @@ impl Stack {
     pub fn disk_len(&self, disk: DiskId) -> u64
         requires { disk < length self.now.disks }
         ensures len { result ≡ disk_len self.now disk }
-        ensures some { 1 ≤ result }
-        ensures small { result ≤ 2 ^ 50 }
+        ensures size { IsLength result }
     {
         self.disks[disk.index()].len
     }

@@ -3,11 +3,11 @@
 //!
 //! What stripes use is kept by physical volume (`used`), over all volumes in the order of the text.
 
-ghost use Rattle.std.specs.Prelude.{◌≡◌, ◌==◌, ◌+◌, ◌*◌, ◌/◌, ◌%◌, ◌^◌, ◌<◌, ◌∷◌, ◌||◌, [], List, Bool, None, Some, true, false, not, nat_lt, length, IfOk};
+ghost use Rattle.std.specs.Prelude.{◌≡◌, ◌==◌, ◌+◌, ◌*◌, ◌/◌, ◌%◌, ◌^◌, ◌<◌, ◌∷◌, ◌||◌, [], List, None, Some, true, false, not, nat_lt, length, IfOk};
 ghost use Rattle.std.specs.List.{list_any};
 ghost use Rattle.dm_table.specs.LoadFault.{first_or};
 ghost use Rattle.lvm_volume.specs.Extents as spec;
-ghost use Rattle.lvm_volume.specs.Extents.{Claim, extents_at, have_clash, is_misplaced, is_too_long, meets, segment_faults, size_faults, used_after, used_by, volume_faults};
+ghost use Rattle.lvm_volume.specs.Extents.{Claim, extents_at, is_misplaced, is_too_long, meets, segment_faults, size_faults, used_after, used_by, volume_faults};
 ghost use Rattle.lvm_volume.specs.Used.{Claimed, Holds, claims_by};
 
 use crate::physical::Physical;

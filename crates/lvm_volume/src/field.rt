@@ -3,7 +3,7 @@
 //! The tables here are those of `specs/Fields.antt`, row by row. A field that is to be read becomes a row there and
 //! here; a new form of value is a variant of `Kind`, with an arm in `fits`.
 
-ghost use Rattle.std.specs.Prelude.{◌≡◌, map};
+ghost use Rattle.std.specs.Prelude.{◌≡◌};
 ghost use Rattle.lvm_volume.specs.Fields as spec;
 ghost use Rattle.lvm_volume.specs.Fields.{field_view, field_views};
 

@@ -6,7 +6,6 @@
 ghost use Rattle.std.specs.Prelude.{◌≡◌, ◌∷◌, [], ℕ, List, MatchOption, IfOk, codes, map};
 ghost use Rattle.lvm_text.specs.Tree as tree;
 ghost use Rattle.lvm_text.specs.View.{scalar_view, scalar_views};
-ghost use Rattle.lvm_text.specs.Iterate.{item_view};
 ghost use Rattle.lvm_volume.specs.Fields as fields;
 ghost use Rattle.lvm_volume.specs.Fields.{section_view};
 ghost use Rattle.lvm_volume.specs.declared.segment.SegmentType.TheVariants.{Striped};

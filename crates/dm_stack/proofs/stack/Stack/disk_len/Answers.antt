@@ -14,8 +14,8 @@ disk_read c =
     slice_get_read disks (length disks) c.args.disk c.index-2.result.now refl within is
 
 -- a disk of a sound stack has sectors
-pub returns-clause-some : goal.returns-clause-some
-returns-clause-some c = disk_some _ c.args.disk c.index-2.result.now c.self.invariant.sound (disk_read c)
-
-pub returns-clause-small : goal.returns-clause-small
-returns-clause-small c = disk_small _ c.args.disk c.index-2.result.now c.self.invariant.sound (disk_read c)
+pub returns-clause-size : goal.returns-clause-size
+returns-clause-size c = record {
+  some = disk_some _ c.args.disk c.index-2.result.now c.self.invariant.sound (disk_read c);
+  small = disk_small _ c.args.disk c.index-2.result.now c.self.invariant.sound (disk_read c);
+}

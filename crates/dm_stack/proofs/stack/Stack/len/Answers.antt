@@ -14,8 +14,8 @@ end_of-requires c =
 len_is : (c : goal.After-end_of) → c.end_of.result ≡ device_len c.args.self.now c.args.device
 len_is c = c.end_of.ensures ∙ ap end_of c.as_slice.ensures ∙ sym (ap end_of (lines_there c.args.self.now c.args.device c.spec.result.now c.spec.ensures.spec))
 
-pub returns-clause-some : goal.returns-clause-some
-returns-clause-some c = subst (λ (len : ℕ). 0 < len) (sym (len_is c)) (device_some c.args.self.now c.args.device c.spec.ensures.sound c.requires)
-
-pub returns-clause-small : goal.returns-clause-small
-returns-clause-small c = subst (λ (len : ℕ). len ≤ 1125899906842624) (sym (len_is c)) (device_small c.args.self.now c.args.device c.spec.ensures.sound c.requires)
+pub returns-clause-size : goal.returns-clause-size
+returns-clause-size c = record {
+  some = subst (λ (len : ℕ). 0 < len) (sym (len_is c)) (device_some c.args.self.now c.args.device c.spec.ensures.sound c.requires);
+  small = subst (λ (len : ℕ). len ≤ 1125899906842624) (sym (len_is c)) (device_small c.args.self.now c.args.device c.spec.ensures.sound c.requires);
+}
