@@ -7,7 +7,7 @@ use Rattle.dm_table.specs.declared.load_fault.LoadKind.{LoadKind}
 use Rattle.dm_table.specs.LoadFault.{faults_by, first_fault}
 use Rattle.dm_table.proofs.FaultLemmas.{first_fault-none}
 use Rattle.dm_stack.specs.Description.{Description}
-use Rattle.dm_stack.specs.Soundness.{too_many, too_large, twice, empty, misplaced, unknown, deep, stripe, range, snapshot, store, crowded, checks_before, checks_after}
+use Rattle.dm_stack.specs.Soundness.{too_many, too_large, empty, misplaced, deep, stripe, range, snapshot, store, checks_before, checks_after}
 
 pub append_none : {X : Type 0} (xs ys : List X) → xs ++ ys ≡ [] → (xs ≡ []) × (ys ≡ [])
 append_none [] ys e = (refl, e)
@@ -40,30 +40,27 @@ filter_none bad (x ∷ xs) e =
     let parts = cond_none x (filter bad xs) (bad x) e in
     (parts.0, filter_none bad xs parts.1)
 
--- each check before the one for cycles finds nothing
+-- what is asked of the checks before the one for cycles: they find nothing
 pub record PassesBefore (stack : Description) : Type 0 where
   pub few : too_many stack ≡ []
   pub small : too_large stack ≡ []
-  pub apart : twice stack ≡ []
   pub filled : empty stack ≡ []
   pub placed : misplaced stack ≡ []
-  pub known : unknown stack ≡ []
 
--- each check after it finds nothing
+-- what is asked of those after it
 pub record PassesAfter (stack : Description) : Type 0 where
   pub shallow : deep stack ≡ []
   pub divided : stripe stack ≡ []
   pub inside : range stack ≡ []
   pub fitting : snapshot stack ≡ []
   pub stored : store stack ≡ []
-  pub roomy : crowded stack ≡ []
 
 pub passes_before : (stack : Description) → first_fault (checks_before stack) ≡ None → PassesBefore stack
 passes_before stack e =
     let none = first_fault-none (checks_before stack) e in
-    record { few = none.0; small = none.1.0; apart = none.1.1.0; filled = none.1.1.1.0; placed = none.1.1.1.1.0; known = none.1.1.1.1.1.0 }
+    record { few = none.0; small = none.1.0; filled = none.1.1.1.0; placed = none.1.1.1.1.0 }
 
 pub passes_after : (stack : Description) → first_fault (checks_after stack) ≡ None → PassesAfter stack
 passes_after stack e =
     let none = first_fault-none (checks_after stack) e in
-    record { shallow = none.0; divided = none.1.0; inside = none.1.1.0; fitting = none.1.1.1.0; stored = none.1.1.1.1.0; roomy = none.1.1.1.1.1.0 }
+    record { shallow = none.0; divided = none.1.0; inside = none.1.1.0; fitting = none.1.1.1.0; stored = none.1.1.1.1.0 }
