@@ -27,7 +27,7 @@ use Rattle.dm_stack.specs.Graph.{links_of, greatest, depth_to}
 use Rattle.dm_stack.specs.declared.found.FoundSnapshot.{FoundSnapshot}
 use Rattle.dm_stack.specs.Below.{Below, Lies, IsZero, IsError, below, below_line, below_stripes, below_target, below_column, column_of, in_column, found_line, found_target, found_columns, found_at, holds, line_of}
 use Rattle.dm_stack.specs.Soundness.{IsSound, faults_at, depth_of}
-use Rattle.dm_stack.proofs.Passes.{all_parts, passes_after}
+use Rattle.dm_stack.proofs.Passes.{all_parts, passes_all}
 use Rattle.dm_stack.proofs.SoundLines.{found}
 use Rattle.dm_map.specs.Units.{BlockUnit, Zeros, Drops, Fails}
 use Rattle.dm_map.specs.Snapshots.{number_in, read_numbered, read_over}
@@ -197,7 +197,7 @@ none_at kind bad id (suc i) (device ∷ devices) e below =
 pub shallow : (stack : Description) (device : ℕ) → IsSound stack → device < length stack.devices → depth_of stack device ≤ MOST_DEPTH
 shallow stack device sound there =
     let place : 0 + device ≡ device = omega arith in
-    let passes = none_at _ (λ id. nat_lt MOST_DEPTH (depth_of stack id)) 0 device stack.devices (passes_after stack sound.after).shallow there in
+    let passes = none_at _ (λ id. nat_lt MOST_DEPTH (depth_of stack id)) 0 device stack.devices (passes_all stack sound).shallow there in
     ltb-false MOST_DEPTH (depth_of stack device) (subst (λ (id : ℕ). nat_lt MOST_DEPTH (depth_of stack id) ≡ false) place passes)
 
 shallow_at : (stack : Description) (device levels : ℕ) → IsSound stack → device < length stack.devices → depth_of stack device ≤ levels → IsShallow (links stack) (suc MOST_DEPTH) levels MOST_DEPTH device

@@ -23,7 +23,7 @@ use Rattle.dm_stack.specs.Loaded.{has_snapshot, is_snapshot, snapshots}
 use Rattle.dm_stack.specs.Places.{place}
 use Rattle.dm_stack.specs.Soundness.{IsSound, all_lines, is_unknown, is_unknown_ref}
 use Rattle.dm_stack.specs.Span.{target_spans, whole_span}
-use Rattle.dm_stack.proofs.Passes.{faults_by_none, passes_before}
+use Rattle.dm_stack.proofs.Passes.{faults_by_none, passes_all}
 use Rattle.dm_stack.proofs.SoundLines.{device_some, disk_some, found, of_device, there}
 use Rattle.dm_map.specs.Snapshots.{number_in}
 use Rattle.dm_map.specs.SnapshotWrites.{lost, put, with_chunk}
@@ -233,7 +233,7 @@ other_room stack device number line is other = rw (is, none_of line.target other
 
 known_at : (stack : Description) (device : ℕ) (spec : DeviceSpec) → IsSound stack → slice_get stack.devices device ≡ Some spec → AllByRecursion (λ line. is_unknown stack line ≡ false) spec.lines
 known_at stack device spec sound at =
-    of_device (λ line. is_unknown stack line ≡ false) stack.devices device spec (faults_by_none Unknown (λ line. line.at) (is_unknown stack) (all_lines stack.devices) (passes_before stack sound.before).known) at
+    of_device (λ line. is_unknown stack line ≡ false) stack.devices device spec (faults_by_none Unknown (λ line. line.at) (is_unknown stack) (all_lines stack.devices) (passes_all stack sound).known) at
 
 place_before : {X : Type 0} (test : X → Bool) (xs : List X) → is_none (find test xs) ≡ false → position_or_len test xs < length xs
 place_before {X = X} test xs some = by_found (find test xs) refl some

@@ -17,7 +17,7 @@ use Rattle.dm_stack.specs.Loaded.{IsDeeperByOne, lower_depth}
 use Rattle.dm_stack.specs.Soundness.{IsSound, depth_of, faults_at}
 use Rattle.dm_stack.specs.Span.{Span, spans}
 use Rattle.dm_stack.proofs.DepthLemmas.{depth_to-deeper}
-use Rattle.dm_stack.proofs.Passes.{cond_none, passes_after}
+use Rattle.dm_stack.proofs.Passes.{cond_none, passes_all}
 use Rattle.dm_stack.proofs.SoundLines.{lines_there, there}
 
 -- Depths within the limit
@@ -34,7 +34,7 @@ none_at kind bad id (suc i) (device ∷ devices) e within =
 pub shallow_device : (stack : Description) (device : ℕ) → IsSound stack → device < length stack.devices → depth_of stack device ≤ 32
 shallow_device stack device sound within =
     let here : 0 + device ≡ device = omega arith in
-    ltb-false 32 (depth_of stack device) (rw here at (none_at Deep (λ id. nat_lt 32 (depth_of stack id)) 0 device stack.devices (passes_after stack sound.after).shallow within))
+    ltb-false 32 (depth_of stack device) (rw here at (none_at Deep (λ id. nat_lt 32 (depth_of stack id)) 0 device stack.devices (passes_all stack sound).shallow within))
 
 -- What a device names, by ids and as devices and disks
 

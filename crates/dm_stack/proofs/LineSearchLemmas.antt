@@ -17,7 +17,7 @@ use Rattle.dm_stack.specs.Description.{Description, device_len, end_of, lines_at
 use Rattle.dm_stack.specs.LineSearch.{EndsAt, StartsAfter, StartsBy, binary_digits, digits_to}
 use Rattle.dm_stack.specs.Soundness.{IsSound, all_lines, past}
 use Rattle.dm_stack.proofs.LayoutLemmas.{AreInRow}
-use Rattle.dm_stack.proofs.Passes.{append_none, passes_before}
+use Rattle.dm_stack.proofs.Passes.{append_none, passes_all}
 use Rattle.dm_stack.proofs.SameLine.{holds_none}
 use Rattle.dm_stack.proofs.SoundLines.{holds_from, device_sound, lines_filled, lines_there, positive, there}
 
@@ -147,7 +147,7 @@ none_past most lines none = let rest = none_dropped (drop most lines) none in le
 pub few_lines : (stack : Description) (id : ℕ) → IsSound stack → id < length stack.devices → length (lines_at stack id) ≤ 65536
 few_lines stack id sound within =
     let d = there stack.devices id within in
-    let few = (passes_before stack sound.before).few in
+    let few = (passes_all stack sound).few in
     let none = (append_none (past 1024 (λ device. device.at) stack.devices ++ past 1024 (λ disk. disk.at) stack.disks) (past 65536 (λ line. line.at) (all_lines stack.devices)) few).1 in
     let each = lines_length stack.devices id d.it d.at in
     let all = none_past 65536 (all_lines stack.devices) none in

@@ -1,13 +1,13 @@
 -- What it says that a check finds nothing.
-use Rattle.std.proofs.Common.{◌≡◌, Bool, true, false, cond, List, [], ◌∷◌, ◌++◌, None, map, refl}
+use Rattle.std.proofs.Common.{◌≡◌, Bool, true, false, cond, List, [], ◌∷◌, ◌++◌, map, refl}
 use Rattle.std.specs.Prelude.{filter}
 use Rattle.std.specs.List.{AllByRecursion}
 use Rattle.dm_table.specs.declared.place.Place.{Place}
 use Rattle.dm_table.specs.declared.load_fault.LoadKind.{LoadKind}
-use Rattle.dm_table.specs.LoadFault.{faults_by, first_fault}
+use Rattle.dm_table.specs.LoadFault.{faults_by}
 use Rattle.dm_table.proofs.FaultLemmas.{first_fault-none}
 use Rattle.dm_stack.specs.Description.{Description}
-use Rattle.dm_stack.specs.Soundness.{too_many, too_large, empty, misplaced, deep, stripe, range, snapshot, store, checks_before, checks_after}
+use Rattle.dm_stack.specs.Soundness.{too_many, too_large, empty, misplaced, unknown, deep, stripe, range, snapshot, store, checks_before, checks_after, IsSound}
 
 pub append_none : {X : Type 0} (xs ys : List X) → xs ++ ys ≡ [] → (xs ≡ []) × (ys ≡ [])
 append_none [] ys e = (refl, e)
@@ -40,27 +40,32 @@ filter_none bad (x ∷ xs) e =
     let parts = cond_none x (filter bad xs) (bad x) e in
     (parts.0, filter_none bad xs parts.1)
 
--- what is asked of the checks before the one for cycles: they find nothing
-pub record PassesBefore (stack : Description) : Type 0 where
+-- the checks of a sound stack find nothing
+pub record Passes (stack : Description) : Type 0 where
   pub few : too_many stack ≡ []
   pub small : too_large stack ≡ []
   pub filled : empty stack ≡ []
   pub placed : misplaced stack ≡ []
-
--- what is asked of those after it
-pub record PassesAfter (stack : Description) : Type 0 where
+  pub known : unknown stack ≡ []
   pub shallow : deep stack ≡ []
   pub divided : stripe stack ≡ []
   pub inside : range stack ≡ []
   pub fitting : snapshot stack ≡ []
   pub stored : store stack ≡ []
 
-pub passes_before : (stack : Description) → first_fault (checks_before stack) ≡ None → PassesBefore stack
-passes_before stack e =
-    let none = first_fault-none (checks_before stack) e in
-    record { few = none.0; small = none.1.0; filled = none.1.1.1.0; placed = none.1.1.1.1.0 }
-
-pub passes_after : (stack : Description) → first_fault (checks_after stack) ≡ None → PassesAfter stack
-passes_after stack e =
-    let none = first_fault-none (checks_after stack) e in
-    record { shallow = none.0; divided = none.1.0; inside = none.1.1.0; fitting = none.1.1.1.0; stored = none.1.1.1.1.0 }
+pub passes_all : (stack : Description) → IsSound stack → Passes stack
+passes_all stack sound =
+    let early = first_fault-none (checks_before stack) sound.before in
+    let late = first_fault-none (checks_after stack) sound.after in
+    record {
+      few = early.0;
+      small = early.1.0;
+      filled = early.1.1.1.0;
+      placed = early.1.1.1.1.0;
+      known = early.1.1.1.1.1.0;
+      shallow = late.0;
+      divided = late.1.0;
+      inside = late.1.1.0;
+      fitting = late.1.1.1.0;
+      stored = late.1.1.1.1.0;
+    }

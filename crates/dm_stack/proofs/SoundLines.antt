@@ -22,7 +22,7 @@ use Rattle.dm_stack.specs.Span.{column_span, target_spans}
 use Rattle.dm_stack.proofs.HandedOn.{line_within, lines_within}
 use Rattle.dm_stack.proofs.LayoutLemmas.{AreInRow, in_row}
 use Rattle.dm_stack.proofs.ChunkLemmas.{chunk_within}
-use Rattle.dm_stack.proofs.Passes.{append_none, all_parts, faults_by_none, passes_before, passes_after}
+use Rattle.dm_stack.proofs.Passes.{append_none, all_parts, faults_by_none, passes_all}
 
 -- A search in a list, and in what its elements become
 
@@ -163,14 +163,13 @@ part_of check (first ∷ devices) (suc id) device e at = part_of check devices i
 
 pub device_sound : (stack : Description) (id : ℕ) (device : DeviceSpec) → IsSound stack → slice_get stack.devices id ≡ Some device → IsDeviceSound stack device
 device_sound stack id device sound at =
-    let p = passes_before stack sound.before in
-    let q = passes_after stack sound.after in
+    let p = passes_all stack sound in
     record {
       small = of_device (λ line. is_large line ≡ false) stack.devices id device (faults_by_none Limit (λ line. line.at) is_large (all_lines stack.devices) (append_none _ _ p.small).0) at;
-      striped = of_device (λ line. has_bad_stripes line line.target ≡ false) stack.devices id device (faults_by_none Stripe (λ line. line.at) (λ line. has_bad_stripes line line.target) (all_lines stack.devices) q.divided) at;
-      inside = of_device (λ line. passes_end stack line ≡ false) stack.devices id device (faults_by_none Range (λ line. line.at) (passes_end stack) (all_lines stack.devices) q.inside) at;
-      fitting = faults_by_none Snapshot (λ line. line.at) (λ line. is_bad_snapshot stack (length device.lines) line.len line.target) device.lines (part_of (λ d. snapshot_in stack d.lines) stack.devices id device q.fitting at);
-      stored = of_device (λ line. has_bad_store stack line.target ≡ false) stack.devices id device (faults_by_none Store (λ line. line.at) (λ line. has_bad_store stack line.target) (all_lines stack.devices) q.stored) at;
+      striped = of_device (λ line. has_bad_stripes line line.target ≡ false) stack.devices id device (faults_by_none Stripe (λ line. line.at) (λ line. has_bad_stripes line line.target) (all_lines stack.devices) p.divided) at;
+      inside = of_device (λ line. passes_end stack line ≡ false) stack.devices id device (faults_by_none Range (λ line. line.at) (passes_end stack) (all_lines stack.devices) p.inside) at;
+      fitting = faults_by_none Snapshot (λ line. line.at) (λ line. is_bad_snapshot stack (length device.lines) line.len line.target) device.lines (part_of (λ d. snapshot_in stack d.lines) stack.devices id device p.fitting at);
+      stored = of_device (λ line. has_bad_store stack line.target ≡ false) stack.devices id device (faults_by_none Store (λ line. line.at) (λ line. has_bad_store stack line.target) (all_lines stack.devices) p.stored) at;
       filled = part_of empty_in stack.devices id device (append_none _ _ p.filled).0 at;
       placed = in_row device.lines (part_of (λ d. misplaced_in d.lines) stack.devices id device p.placed at);
     }
@@ -279,12 +278,12 @@ got P (first ∷ xs) (suc id) x h e = got P xs id x h.1 e
 
 pub disk_some : (stack : Description) (id : ℕ) (disk : Disk) → IsSound stack → slice_get stack.disks id ≡ Some disk → 0 < disk.len
 disk_some stack id disk sound at =
-    let p = passes_before stack sound.before in
+    let p = passes_all stack sound in
     positive disk.len (got (λ d. (d.len == 0) ≡ false) stack.disks id disk (faults_by_none Empty (λ d. d.at) (λ d. d.len == 0) stack.disks (append_none _ _ p.filled).1) at)
 
 pub disk_small : (stack : Description) (id : ℕ) (disk : Disk) → IsSound stack → slice_get stack.disks id ≡ Some disk → disk.len ≤ 2 ^ 50
 disk_small stack id disk sound at =
-    let p = passes_before stack sound.before in
+    let p = passes_all stack sound in
     ltb-false _ _ (got (λ d. nat_lt (2 ^ 50) d.len ≡ false) stack.disks id disk (faults_by_none Limit (λ d. d.at) (λ d. nat_lt (2 ^ 50) d.len) stack.disks (append_none _ _ p.small).1) at)
 
 pub small_ends : (lines : List Line) → AllByRecursion (λ line. is_large line ≡ false) lines → HaveSmallEnds lines

@@ -1,18 +1,19 @@
 use Rattle.std.proofs.Common.{◌≡◌, None, sym, ap, subst, ◌∙◌, map}
 use Rattle.std.proofs.lemmas.Result.{err_from_is_err_and}
 use Rattle.dm_table.specs.LoadFault.{first_or}
+use Rattle.dm_table.proofs.FaultLemmas.{first_fault-none}
 use Rattle.dm_stack.specs.Description.{Description}
 use Rattle.dm_stack.specs.Load.{IsLateFault, HasNoLateFault}
 use Rattle.dm_stack.specs.Loaded.{found_table, stack_depth}
-use Rattle.dm_stack.specs.Soundness.{unknown}
+use Rattle.dm_stack.specs.Soundness.{checks_before, unknown}
 use Rattle.dm_stack.proofs.HandedOn.{ends_within}
 use Rattle.dm_stack.proofs.LoadLemmas.{known_passed, refused_late}
-use Rattle.dm_stack.proofs.Passes.{passes_before}
 use Rattle.dm_stack.proofs.load.check.Goals as goal
 
 pub new-stack-requires-clause-small : goal.new-stack-requires-clause-small
 new-stack-requires-clause-small c =
-    ends_within (record { devices = c.args.devices.now; disks = c.args.disks.now }) (passes_before (record { devices = c.args.devices.now; disks = c.args.disks.now }) c.in_ok-names.ensures.passed).small
+    let stack : Description = record { devices = c.args.devices.now; disks = c.args.disks.now } in
+    ends_within stack (first_fault-none (checks_before stack) c.in_ok-names.ensures.passed).1.0
 
 pub check_links-requires : goal.check_links-requires
 check_links-requires c =

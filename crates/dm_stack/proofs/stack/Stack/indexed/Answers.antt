@@ -4,10 +4,10 @@ use Rattle.dm_table.specs.declared.table.DeviceSpec.{DeviceSpec}
 use Rattle.dm_stack.specs.Description.{Description}
 use Rattle.dm_stack.specs.Soundness.{HaveSmallEnds}
 use Rattle.dm_stack.proofs.HandedOn.{ends_within}
-use Rattle.dm_stack.proofs.Passes.{passes_before}
+use Rattle.dm_stack.proofs.Passes.{passes_all}
 use Rattle.dm_stack.proofs.stack.Stack.indexed.Goals as goal
 
 pub new-requires-clause-small : goal.new-requires-clause-small
 new-requires-clause-small c =
     let stack : Description = record { devices = c.self.inside.devices.items; disks = c.self.inside.disks.items } in
-    subst (λ (devices : List DeviceSpec). All (λ device. HaveSmallEnds device.lines) devices) (sym c.deref.ensures.value) (ends_within stack (passes_before stack c.self.invariant.sound.before).small)
+    subst (λ (devices : List DeviceSpec). All (λ device. HaveSmallEnds device.lines) devices) (sym c.deref.ensures.value) (ends_within stack (passes_all stack c.self.invariant.sound).small)
