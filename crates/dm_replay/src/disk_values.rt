@@ -6,7 +6,7 @@
 ghost use Rattle.std.specs.Prelude.{◌≡◌, ◌+◌, ◌<◌, ◌≤◌, ◌^◌, ◌-◌, ℕ, [], OnOk};
 ghost use Rattle.dm_replay.specs.Patches.{AreFirst, values_in};
 ghost use Rattle.dm_replay.specs.Ranges.{ranged};
-ghost use Rattle.dm_replay.specs.Values.{further, value_end};
+ghost use Rattle.dm_replay.specs.Values.{further};
 
 use crate::patch::Patch;
 use crate::stretch::Stretch;
@@ -60,7 +60,7 @@ impl DiskValues {
         }
     }
 
-    /// Stores values that go on from the first in `len` sectors of a disk from `start` on.
+    /// Stores the values of a stretch in the sectors of a disk from `start` on.
     ///
     /// # Errors
     ///
@@ -69,17 +69,16 @@ impl DiskValues {
         &mut self,
         disk: DiskId,
         start: u64,
-        len: u64,
-        first: Value,
+        stretch: Stretch,
     ) -> Result<(), AllocError>
-        requires small { start + len < 2 ^ 64 }
-        requires room { value_end first len < 2 ^ 64 }
-        ensures { OnOk result ((on sector : ℕ) → values_in self.new.patches.items on sector ≡ ranged (values_in self.old.patches.items) disk start len first on sector) }
+        requires { start + stretch.len < 2 ^ 64 }
+        ensures { OnOk result ((on sector : ℕ) → values_in self.new.patches.items on sector ≡ ranged (values_in self.old.patches.items) disk start stretch.len stretch.first on sector) }
     {
+        let first: Value = stretch.first;
         self.patches.push(Patch {
             disk,
             start,
-            len,
+            len: stretch.len,
             first,
         })?;
         Ok(())

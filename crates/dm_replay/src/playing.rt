@@ -7,6 +7,7 @@ ghost use Rattle.dm_replay.specs.Player.{HasPlayed};
 ghost use Rattle.dm_replay.specs.Runs.{flat, run_answers, run_len};
 
 use crate::disk_values::DiskValues;
+use crate::stretch::Stretch;
 use crate::value::Value;
 use crate::value_run::ValueRun;
 use crate::value_runs::ValueRuns;
@@ -77,7 +78,7 @@ impl Playing {
             request: number,
             sector,
         };
-        self.values.store(disk, start, len, first)?;
+        self.values.store(disk, start, Stretch { first, len })?;
         Ok(())
     }
 
@@ -86,7 +87,8 @@ impl Playing {
         requires small { start + len < 2 ^ 64 }
         ensures { OnOk result (HasPlayed self.old (units_in (FillOf disk start) len) self.new) }
     {
-        self.values.store(disk, start, len, Value::Zero)?;
+        let first = Value::Zero;
+        self.values.store(disk, start, Stretch { first, len })?;
         Ok(())
     }
 
@@ -109,10 +111,11 @@ impl Playing {
         while left > 0 {
             let part = apart_len(disk, at, to, to_at, left);
             let stretch = self.values.first_stretch(disk, at, part);
-            self.values.store(to, to_at, stretch.len, stretch.first)?;
-            at += stretch.len;
-            to_at += stretch.len;
-            left -= stretch.len;
+            let copied = stretch.len;
+            self.values.store(to, to_at, stretch)?;
+            at += copied;
+            to_at += copied;
+            left -= copied;
         }
         Ok(())
     }

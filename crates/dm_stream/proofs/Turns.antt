@@ -66,6 +66,15 @@ abbrev pub Told : (all held : List ℕ) → List NumberedRequest → ℕ → Typ
 Told all held done n =
     (stand : Stand) (more : List ℕ) → requests_from stand 1 (line_parts (all ++ more)) ≡ after_requests done (requests_from stand n (line_parts (held ++ more)))
 
+-- the requests that were answered from the first states on, and then those of the held bytes, are those of all, whatever is still to come; no end and no fault was met
+pub record HasTurned {R H S : Type 0} (handed_of : R → List ℕ) (faults_of ends_of : R → ℕ) (AreAnswered : H → S → List NumberedRequest → H → S → Type 0) (first now : R) (h0 h1 : H) (s0 s1 : S) (held : List ℕ) (n : ℕ) : Type 0 where
+  pub done : List NumberedRequest
+  pub answered : AreAnswered h0 s0 done h1 s1
+  pub reads : handed_of now ≡ handed_of first ++ since (handed_of first) (handed_of now)
+  pub faults : faults_of now ≡ faults_of first
+  pub ends : ends_of now ≡ ends_of first
+  pub told : Told (since (handed_of first) (handed_of now)) held done n
+
 -- nothing was handed on before the first byte
 pub told_none : (handed held : List ℕ) → held ≡ [] → Told (since handed handed) held [] 1
 told_none handed held none = λ stand more. ap (λ (xs : List ℕ). requests_from stand 1 (line_parts (xs ++ more))) (since-same handed ∙ sym none)
@@ -122,14 +131,28 @@ all_requests h0 h1 h2 held f0 f1 f2 e0 e1 e2 n done answer told reads more fault
           ∙ ap (after_requests done) (b.1 ∙ ap (λ a. next_requests n a b.0) (sym (next ∙ ap (λ s. next_answer s (line_parts (held ++ new))) same))),
     )
 
--- they end with what comes next, so what holds of those that were handed on holds of all
-pub ended : {X : Type 0} (handed : X → List ℕ) (faults ends : X → ℕ) (first mid last : X) (held : List ℕ) (n : ℕ) (done : List NumberedRequest) (AreAnswered : List NumberedRequest → Type 0) (answer : Answer) (e : ending.Ending) → Told (since (handed first) (handed mid)) held done n
-    → handed mid ≡ handed first ++ since (handed first) (handed mid) → handed last ≡ handed mid ++ since (handed mid) (handed last) → faults mid ≡ faults first → ends mid ≡ ends first
-    → answer ≡ next_answer (delivery handed faults ends mid last).stand (line_parts (held ++ since (handed mid) (handed last)))
-    → ((rest : Requests) → next_requests n answer rest ≡ only_ends e) → AreAnswered done → AreAnswered (requests_of (delivery handed faults ends first last)).all
-ended handed faults ends first mid last held n done AreAnswered answer e told reads more faults_same ends_same next is answered =
-    let a = all_requests (handed first) (handed mid) (handed last) held (faults first) (faults mid) (faults last) (ends first) (ends mid) (ends last) n done answer told reads more faults_same ends_same next in
-    subst AreAnswered (sym (ap (λ (q : Requests). q.all) (a.1 ∙ ap (after_requests done) (is a.0)) ∙ append-nil done)) answered
+-- a handler that was told of a read answered what it had answered
+pub after_waiting : {R H S : Type 0} {handed_of : R → List ℕ} {faults_of ends_of : R → ℕ} {AreAnswered : H → S → List NumberedRequest → H → S → Type 0} {first mid : R} {h0 h1 h2 : H} {s0 s1 : S} {held : List ℕ} {n : ℕ}
+    → ((a b c : H) (s t u : S) (us vs : List NumberedRequest) → AreAnswered a s us b t → AreAnswered b t vs c u → AreAnswered a s (us ++ vs) c u) → HasTurned handed_of faults_of ends_of AreAnswered first mid h0 h1 s0 s1 held n → AreAnswered h1 s1 [] h2 s1
+    → HasTurned handed_of faults_of ends_of AreAnswered first mid h0 h2 s0 s1 held n
+after_waiting {AreAnswered = AreAnswered} {h0 = h0} {h1 = h1} {h2 = h2} {s0 = s0} {s1 = s1} both turned waits = record {
+  done = turned.done;
+  answered = subst (λ (requests : List NumberedRequest). AreAnswered h0 s0 requests h2 s1) (append-nil turned.done) (both h0 h1 h2 s0 s1 s1 turned.done [] turned.answered waits);
+  reads = turned.reads;
+  faults = turned.faults;
+  ends = turned.ends;
+  told = turned.told;
+}
+
+-- they end with what comes next, so those that were answered are all
+pub ended : {R H S : Type 0} (handed_of : R → List ℕ) (faults_of ends_of : R → ℕ) (AreAnswered : H → S → List NumberedRequest → H → S → Type 0) {first mid last : R} {h0 h1 h2 : H} {s0 s1 : S} {held : List ℕ} {n : ℕ} (answer : Answer) (e : ending.Ending)
+    → ((a b c : H) (s t u : S) (us vs : List NumberedRequest) → AreAnswered a s us b t → AreAnswered b t vs c u → AreAnswered a s (us ++ vs) c u) → HasTurned handed_of faults_of ends_of AreAnswered first mid h0 h1 s0 s1 held n → AreAnswered h1 s1 [] h2 s1
+    → handed_of last ≡ handed_of mid ++ since (handed_of mid) (handed_of last) → answer ≡ next_answer (delivery handed_of faults_of ends_of mid last).stand (line_parts (held ++ since (handed_of mid) (handed_of last)))
+    → ((rest : Requests) → next_requests n answer rest ≡ only_ends e) → AreAnswered h0 s0 (requests_of (delivery handed_of faults_of ends_of first last)).all h2 s1
+ended handed_of faults_of ends_of AreAnswered {first = first} {mid = mid} {last = last} {h0 = h0} {h2 = h2} {s0 = s0} {s1 = s1} {held = held} {n = n} answer e both before waits more next is =
+    let turned = after_waiting both before waits in
+    let a = all_requests (handed_of first) (handed_of mid) (handed_of last) held (faults_of first) (faults_of mid) (faults_of last) (ends_of first) (ends_of mid) (ends_of last) n turned.done answer turned.told turned.reads more turned.faults turned.ends next in
+    subst (λ (requests : List NumberedRequest). AreAnswered h0 s0 requests h2 s1) (sym (ap (λ (q : Requests). q.all) (a.1 ∙ ap (after_requests turned.done) (is a.0)) ∙ append-nil turned.done)) turned.answered
 
 -- the next one is a request, which is the last that was handed on
 pub among : (h0 h1 h2 held : List ℕ) (f0 f1 f2 e0 e1 e2 n : ℕ) (done more : List NumberedRequest) (line : List ℕ) (IsFirst : List NumberedRequest → Type 0) → Told (since h0 h1) held done n

@@ -42,16 +42,9 @@ answer_of next.TheVariants.ReadFault = AFault
 -- what is still held, of what was held and read: a line leaves with its newline
 abbrev pub left_of : Answer → List ℕ → List ℕ
 left_of (ALine line) held = drop (length line + 1) held
-left_of AnEnd held = held
-left_of AnUnended held = held
-left_of ALong held = held
-left_of AFault held = held
-left_of Waits held = held
+left_of other held = held
 
 -- a fact if a line was returned
 abbrev pub OnLine : next.Next → Type 0 → Type 0
 OnLine (next.TheVariants.Line line) P = P
-OnLine next.TheVariants.End P = Unit {0}
-OnLine next.TheVariants.Unended P = Unit {0}
-OnLine next.TheVariants.Long P = Unit {0}
-OnLine next.TheVariants.ReadFault P = Unit {0}
+OnLine other P = Unit {0}

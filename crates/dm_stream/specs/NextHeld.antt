@@ -16,18 +16,12 @@ held_answer found.TheVariants.ReadFault held = AFault
 -- a fact if a line was found
 abbrev pub OnHeldLine : found.NextHeld → Type 0 → Type 0
 OnHeldLine (found.TheVariants.Line n) P = P
-OnHeldLine found.TheVariants.End P = Unit {0}
-OnHeldLine found.TheVariants.Unended P = Unit {0}
-OnHeldLine found.TheVariants.Long P = Unit {0}
-OnHeldLine found.TheVariants.ReadFault P = Unit {0}
+OnHeldLine other P = Unit {0}
 
 -- a line that was found is among the held bytes with its newline
 abbrev pub FitsIn : found.NextHeld → List ℕ → Type 0
 FitsIn (found.TheVariants.Line n) held = n < length held
-FitsIn found.TheVariants.End held = Unit {0}
-FitsIn found.TheVariants.Unended held = Unit {0}
-FitsIn found.TheVariants.Long held = Unit {0}
-FitsIn found.TheVariants.ReadFault held = Unit {0}
+FitsIn other held = Unit {0}
 
 -- what the held bytes settle, however the input stands; or that they settle nothing
 abbrev pub IsLook : Option found.NextHeld → List ℕ → Type 0

@@ -90,34 +90,6 @@ fn map_requests<'s, T: Taken, R: Input, W: Output>(
     ending
 }
 
-/// The same, and then the status lines, if they are asked for and the requests came to a clean end.
-fn map_with_status<'s, T: Taken, R: Input, W: Output>(
-    stack: &'s Stack,
-    mapper: &mut Mapper<'s, T>,
-    requests: &mut R,
-    output: &mut W,
-    status: bool,
-) -> Ending
-    requires stack { mapper.old.stack ≡ stack.now }
-    requires going { mapper.old.stopped ≡ false }
-    ensures stack { mapper.new.stack ≡ mapper.old.stack }
-    ensures going { result ≢ Ending.WriteFault → mapper.new.stopped ≡ false }
-    ensures reads { HasRead R.handed R.faults R.ends requests.old requests.new }
-    ensures writes { HasWritten W.written W.waiting W.faults W.flushes output.old output.new (write_faults result) }
-    ensures mapped { IsMapped (run_outcome stack.now status mapper.old.state (delivery R.handed R.faults R.ends requests.old requests.new))
-        (since (W.written output.old) (W.written output.new)) mapper.new.state result }
-    ensures met { HasMet result (R.faults requests.old) (R.faults requests.new) }
-{
-    let ending = map_requests(stack, mapper, requests, output);
-    if !status || ending != Ending::Done {
-        return ending;
-    }
-    match write_status(stack, mapper, output) {
-        Ok(()) => Ending::Done,
-        Err(OutFault) => Ending::WriteFault,
-    }
-}
-
 /// Answers the requests up to the first bad one, an end or a fault, adds the status lines if they are
 /// asked for, and then flushes the output, once and only where no write failed.
 fn map_and_flush<'s, T: Taken, R: Input, W: Output>(
@@ -136,9 +108,14 @@ fn map_and_flush<'s, T: Taken, R: Input, W: Output>(
         (run_outcome stack.now status mapper.old.state (delivery R.handed R.faults R.ends requests.old requests.new)) mapper.new.state result }
     ensures met { HasMet result (R.faults requests.old) (R.faults requests.new) }
 {
-    let ending = map_with_status(stack, mapper, requests, output, status);
+    let ending = map_requests(stack, mapper, requests, output);
     if ending == Ending::WriteFault {
         return ending;
+    }
+    if status && ending == Ending::Done {
+        if let Err(OutFault) = write_status(stack, mapper, output) {
+            return Ending::WriteFault;
+        }
     }
     match output.flush() {
         Ok(()) => ending,
