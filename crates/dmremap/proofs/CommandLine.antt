@@ -1,15 +1,30 @@
 -- What clap's clauses say of the program's own command line.
-use Rattle.std.proofs.Common.{◌≡◌, ◌∙◌, Bool, List, Option, Some, None, is_some, [], ◌∷◌, true, false, true≢false, ap, refl, subst, sym, inl, inr, cond, option_and_then}
+use Rattle.std.proofs.Common.{◌≡◌, ◌∙◌, Bool, List, Option, Some, None, is_some, [], ◌∷◌, true, false, true≢false, ap, ap₂, refl, subst, sym, inl, inr, cond, option_and_then}
 use Rattle.clap.specs.Kinds.{HasKind, IsAmong, Kinds, or_else}
-use Rattle.clap.specs.Words.{App, HasMatchesOf, Row, Text, fault_of, found_of, is_simple, is_simple_and_free, kind_of, matches_of, rows_of, subcommand_of, subcommand_rows_of}
+use Rattle.clap.specs.Words.{App, HasMatchesOf, Row, Rule, Text, fault_of, first_of, first_value, found_of, is_simple, is_simple_and_free, kind_of, matches_of, new_app, rows_of, subcommand_of, subcommand_rows_of, with_rule}
 use Rattle.clap.specs.declared.builder.value_parser.ValueParser.{ValueParser}
 use Rattle.clap.specs.declared.error.Error.{Error}
 use Rattle.clap.specs.declared.parser.matches.ArgMatches.{ArgMatches}
+use Rattle.clap.specs.declared.parser.matches.Found.{Found}
 use Rattle.clap.specs.declared.error.kind.ErrorKind.{ErrorKind}
 use Rattle.clap.specs.declared.error.kind.ErrorKind.TheVariants as kind
 use Rattle.clap.proofs.OnLiterals.{clap_on_literals}
-use Rattle.dmremap.specs.Words.{IsFaultOf, IsRefused, IsTaken, TakesFormats, JobWords, command_line, fault_from, has_lone_hyphen, has_status, is_memory, refusal_of, job_in, job_of}
+use Rattle.clap.proofs.WalkLemmas.{first_value-rows}
+use Rattle.dmremap.specs.Words.{IsFaultOf, IsRefused, IsTaken, TakesFormats, JobWords, command_line, fault_from, has_lone_hyphen, has_status, is_memory, refusal_of, job_in, job_of, three_app}
 use Rattle.dmremap.specs.declared.words.WordsFault.TheVariants.{Words, Memory}
+
+-- a command with three arguments, by their rules
+pub same_three : (name : Text) (a b c a' b' c' : Rule) → a ≡ a' → b ≡ b' → c ≡ c' → three_app name a b c ≡ three_app name a' b' c'
+same_three name a b c a' b' c' a_is b_is c_is = ap₂ with_rule (ap₂ with_rule (ap (with_rule (new_app name)) a_is) b_is) c_is
+
+-- what three arguments give, by what was read of each
+pub by_three : {X : Type 0} (from : Option Text → Option Text → Option Text → X) (found : Found) (a b c : Text) (x y z : Option Text)
+    → x ≡ first_value found a → y ≡ first_value found b → z ≡ first_value found c
+    → from x y z ≡ from (first_of a (rows_of found)) (first_of b (rows_of found)) (first_of c (rows_of found))
+by_three from found a b c x y z x_is y_is z_is =
+    ap (λ (t : Option Text). from t y z) (x_is ∙ first_value-rows found a)
+    ∙ ap (λ (t : Option Text). from (first_of a (rows_of found)) t z) (y_is ∙ first_value-rows found b)
+    ∙ ap (from (first_of a (rows_of found)) (first_of b (rows_of found))) (z_is ∙ first_value-rows found c)
 
 -- clap's matches are those that the definitions compute, whatever the parser of FORMAT
 pub simple : (parser : ValueParser) → is_simple (command_line parser) ≡ true

@@ -9,11 +9,10 @@ use Rattle.lvm_volume.specs.Names.{NameParts, built, spaced}
 use Rattle.lvm_volume.proofs.Splits.{one_split}
 use Rattle.dmremap.specs.declared.other_whole.Printing.{Printing}
 use Rattle.dmremap.specs.declared.other_whole.Printing.TheVariants as printing
-use Rattle.dmremap.specs.OtherWhole.{CheckSays, FilesSay, GiveOther, IsPrinted, IsRefusal, IsTextPrinted, Prints, Refuses, ReportSays, Said, SplitSays, TaskSays, devices_said, line, name_said, name_status, printing_message, printing_status, whole_said, written_as}
-use Rattle.dmremap.specs.declared.words.Form.{Form}
+use Rattle.dmremap.specs.OtherWhole.{CheckSays, GiveOther, IsPrinted, IsRefusal, IsTextPrinted, Prints, Refuses, ReportSays, Said, SplitSays, TaskSays, devices_said, line, name_said, name_status, printing_message, printing_status, whole_said}
 use Rattle.dmremap.specs.declared.words.Format.{Format}
-use Rattle.dmremap.specs.Exit.{FailedOutput}
 use Rattle.dmremap.specs.Load.{Load, PartsGive, RefusedBy, SoundAs}
+use Rattle.dmremap.specs.Streams.{FailedOutput}
 use Rattle.dmremap.specs.Whole.{Whole}
 use Rattle.dm_stack.proofs.TopLemmas.{one_report}
 use Rattle.dm_stack.specs.Description.{Description}
@@ -41,19 +40,13 @@ failed_flush text written old new more is = record { beginning = ([], is ∙ sym
 pub text_printed : (a b output : List ℕ) (old new : ℕ) (ended : Printing) → a ≡ b → IsTextPrinted a output old new ended → IsTextPrinted b output old new ended
 text_printed a b output old new ended same is = subst (λ (t : List ℕ). IsTextPrinted t output old new ended) same is
 
--- the devices of a load
-pub files_printed : (form : Form) (format : Format) (source disks : Delivery) (description : Description) (output : List ℕ) (old new : ℕ) (ended : Printing) → PartsGive format source disks (SoundAs description)
-    → IsTextPrinted (written_as form description.devices) output old new ended → IsPrinted (FilesSay form format source disks) output old new ended
-files_printed form format source disks description output old new ended gives is =
-    says_printed (FilesSay form format source disks) (written_as form description.devices) output old new ended (record { load = SoundAs description; loaded = gives; is = refl }) is
-
 -- what is said by one rule is said by another that it gives
 pub printed_more : (Says More : Said → Type 0) → ((said : Said) → Says said → More said) → (output : List ℕ) (old new : ℕ) (ended : Printing) → IsPrinted Says output old new ended → IsPrinted More output old new ended
 printed_more Says More more output old new printing.Done is = more (Prints output) is
 printed_more Says More more output old new printing.WriteFault is = (is.0, more (Prints is.0) is.1, is.2)
-printed_more Says More more output old new (printing.Unloaded fault) is = (is.0, λ six. more _ (is.1 six))
-printed_more Says More more output old new (printing.Unnamed fault) is = (is.0, λ six. more _ (is.1 six))
-printed_more Says More more output old new printing.Unsplit is = (is.0, λ six. more _ (is.1 six))
+printed_more Says More more output old new (printing.Unloaded fault) is = (is.0, is.1, λ six. more _ (is.2 six))
+printed_more Says More more output old new (printing.Unnamed fault) is = (is.0, is.1, λ six. more _ (is.2 six))
+printed_more Says More more output old new printing.Unsplit is = (is.0, is.1, λ six. more _ (is.2 six))
 
 -- the report of a load
 pub check_printed : (format : Format) (source disks : Delivery) (description : Description) (output : List ℕ) (old new : ℕ) (ended : Printing) → PartsGive format source disks (SoundAs description)
@@ -75,21 +68,21 @@ named_no_write_fault : (fault : NameFault) → name_status fault ≡ 5 → ⊥
 named_no_write_fault names.Memory h = omega arith
 named_no_write_fault fault h = omega arith
 
-refusal_whole : (asked : TaskWords) (source disks : Delivery) (output : List ℕ) (ended : Printing) → IsRefusal (TaskSays asked source disks) output ended → printing_status ended ≢ 6 → 1 ≡ printing_status ended
+refusal_whole : (asked : TaskWords) (source disks : Delivery) (output : List ℕ) (old new : ℕ) (ended : Printing) → IsRefusal (TaskSays asked source disks) output old new ended → printing_status ended ≢ 6 → 1 ≡ printing_status ended
     → GiveOther asked source disks (record { output = output; message = printing_message ended; status = printing_status ended })
-refusal_whole asked source disks output ended is six one =
+refusal_whole asked source disks output old new ended is six one =
     let text : List ℕ → Whole = λ out. record { output = out; message = printing_message ended; status = 1 } in
     let status : ℕ → Whole = λ n. record { output = output; message = printing_message ended; status = n } in
-    record { said = Refuses (printing_message ended); says = is.1 six; is = ap text (sym is.0) ∙ ap status one }
+    record { said = Refuses (printing_message ended); says = is.2 six; is = ap text (sym is.0) ∙ ap status one }
 
 -- where the output did not fail and memory did not run out, what was printed and told is what the task and the deliveries give
 pub other_from : (asked : TaskWords) (source disks : Delivery) (output : List ℕ) (old new : ℕ) (ended : Printing) → IsPrinted (TaskSays asked source disks) output old new ended
     → printing_status ended ≢ 5 → printing_status ended ≢ 6 → GiveOther asked source disks (record { output = output; message = printing_message ended; status = printing_status ended })
 other_from asked source disks output old new printing.Done is five six = record { said = Prints output; says = is; is = refl }
 other_from asked source disks output old new printing.WriteFault is five six = absurd (five refl)
-other_from asked source disks output old new (printing.Unloaded fault) is five six = refusal_whole asked source disks output (printing.Unloaded fault) is six (refused_kind fault.kind six).1
-other_from asked source disks output old new (printing.Unnamed fault) is five six = refusal_whole asked source disks output (printing.Unnamed fault) is six (refused_name fault six)
-other_from asked source disks output old new printing.Unsplit is five six = refusal_whole asked source disks output printing.Unsplit is six refl
+other_from asked source disks output old new (printing.Unloaded fault) is five six = refusal_whole asked source disks output old new (printing.Unloaded fault) is six (refused_kind fault.kind six).1
+other_from asked source disks output old new (printing.Unnamed fault) is five six = refusal_whole asked source disks output old new (printing.Unnamed fault) is six (refused_name fault six)
+other_from asked source disks output old new printing.Unsplit is five six = refusal_whole asked source disks output old new printing.Unsplit is six refl
 
 -- the same of the status that was answered
 pub other_at : (asked : TaskWords) (source disks : Delivery) (output : List ℕ) (old new : ℕ) (ended : Printing) (status : ℕ) → status ≡ printing_status ended → IsPrinted (TaskSays asked source disks) output old new ended

@@ -19,7 +19,7 @@ use Rattle.dmremap.specs.declared.replay_run.ReplayEnd.{ReplayEnd}
 use Rattle.dmremap.specs.declared.replay_run.ReplayEnd.TheVariants as ends
 use Rattle.dmremap.specs.Played.{HasPlayed, HasStopped, end_for}
 use Rattle.dmremap.specs.ReplayOutcome.{AreAnswered, IsAnswer, IsCutReplay, IsPlayed, StopsAt, asked_of}
-use Rattle.dmremap.specs.ReplayWhole.{FailedReplay, IsEndFlushed, IsReplayed, end_status}
+use Rattle.dmremap.specs.ReplayWhole.{FailedReplay, IsReplayed, end_status}
 
 -- ---- one request
 
@@ -109,14 +109,6 @@ replayed_flushed stack requests text old new (ends.Ran endings.ReadFault) other 
 replayed_flushed stack requests text old new (ends.Ran endings.WriteFault) other played = absurd (other refl)
 replayed_flushed stack requests text old new (ends.NotTop number) other played = played
 replayed_flushed stack requests text old new ends.Memory other played = played
-
-pub end_flushed : (ended : ReplayEnd) (waiting : List ℕ) (old new : ℕ) → ended ≢ ends.Ran endings.WriteFault → waiting ≡ [] → new ≡ old + 1 → IsEndFlushed ended waiting old new
-end_flushed (ends.Ran endings.Done) waiting old new other none more = (none, more)
-end_flushed (ends.Ran (endings.BadRequest number word)) waiting old new other none more = (none, more)
-end_flushed (ends.Ran endings.ReadFault) waiting old new other none more = (none, more)
-end_flushed (ends.Ran endings.WriteFault) waiting old new other none more = absurd (other refl)
-end_flushed (ends.NotTop number) waiting old new other none more = (none, more)
-end_flushed ends.Memory waiting old new other none more = (none, more)
 
 -- a write failed before
 pub failed_write : (stack : Description) (requests : Requests) (text : List ℕ) (old new : ℕ) → new ≡ old → IsCutReplay stack [] requests.all text → FailedReplay stack requests text old new

@@ -1,4 +1,3 @@
-pub mod Exit
 pub mod Inputs
 pub mod Load
 pub mod OtherWhole
@@ -7,5 +6,6 @@ pub mod PlayedLaws
 pub mod ReplayOutcome
 pub mod ReplayWhole
 pub mod Status
+pub mod Streams
 pub mod Whole
 pub mod Words

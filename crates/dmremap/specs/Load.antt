@@ -1,6 +1,7 @@
 -- What a load gives: a sound description, or the first fault of the first check that finds any.
-use Rattle.std.specs.Prelude.{◌≡◌, ◌⊎◌, ℕ, List, ◌++◌, Some}
+use Rattle.std.specs.Prelude.{◌≡◌, ◌≢◌, ◌⊎◌, ℕ, List, ◌++◌, Some, Result, IfOk, IfErr}
 use Rattle.dm_table.specs.declared.load_fault.LoadFault.{LoadFault}
+use Rattle.dm_table.specs.declared.load_fault.LoadKind.TheVariants.{Memory}
 use Rattle.dm_table.specs.declared.place.Part.TheVariants.{Source, Disks}
 use Rattle.dm_table.specs.DeviceIo.{Delivery}
 use Rattle.dm_table.specs.LoadFault.{first_fault}
@@ -21,6 +22,11 @@ use Rattle.lvm_volume.specs.Metadata.{DescribesGroup, IsRefusedText}
 pub data Load : Type 0 where
   RefusedBy : LoadFault → Load
   SoundAs : Description → Load
+
+-- what is given is returned: a sound stack, or the fault, unless memory ran out
+pub record Loads (Gives : Load → Type 0) (result : Result Description LoadFault) : Type 0 where
+  pub sound : IfOk result (λ stack. Gives (SoundAs stack))
+  pub refused : IfErr result (λ fault. fault.kind ≢ Memory → Gives (RefusedBy fault))
 
 -- ---- a text of devices in a form, and a disk list
 

@@ -1,9 +1,9 @@
 -- What the commands without requests give: what they print, their message and their exit status, by their words and by what was delivered.
-use Rattle.std.specs.Prelude.{◌≡◌, ◌≢◌, ◌↔◌, ℕ, ◌+◌, ◌<◌, ◌≤◌, Bool, true, false, List, [], ◌∷◌, ◌++◌, Result, Ok, Err, is_some}
+use Rattle.std.specs.Prelude.{◌≡◌, ◌≢◌, ℕ, Bool, true, false, List, [], ◌∷◌, ◌++◌, Result, Ok, Err, is_some}
 use Rattle.std.specs.Option.{option_map_or}
 use Rattle.dm_table.specs.declared.table.DeviceSpec.{DeviceSpec}
 use Rattle.dm_table.specs.CanonicalText.{concise_text, table_text}
-use Rattle.dm_table.specs.DeviceIo.{Delivery, since}
+use Rattle.dm_table.specs.DeviceIo.{Delivery}
 use Rattle.dm_table.specs.LoadMessage.{load_message}
 use Rattle.dm_stack.specs.Report.{IsReport}
 use Rattle.dm_stream.specs.Messages.{write_message}
@@ -16,9 +16,9 @@ use Rattle.dmremap.specs.declared.other_whole.Printing.TheVariants as printing
 use Rattle.dmremap.specs.declared.words.Form.{Form}
 use Rattle.dmremap.specs.declared.words.Form.TheVariants as forms
 use Rattle.dmremap.specs.declared.words.Format.{Format}
-use Rattle.dmremap.specs.Exit.{FailedOutput}
 use Rattle.dmremap.specs.Load.{Load, PartsGive, RefusedBy, SoundAs}
 use Rattle.dmremap.specs.Status.{load_status}
+use Rattle.dmremap.specs.Streams.{FailedOutput}
 use Rattle.dmremap.specs.Whole.{Whole}
 use Rattle.dmremap.specs.Words.{TaskWords, map_words, print_words, check_words, replay_words, name_words, split_words, files_of, has_disk_list}
 
@@ -129,15 +129,15 @@ printing_message printing.Unsplit = split_message
 printing_message printing.Done = []
 printing_message printing.WriteFault = write_message
 
--- nothing was printed, and the message says why, unless memory ran out
-abbrev pub IsRefusal : (Said → Type 0) → List ℕ → Printing → Type 0
-IsRefusal Says output ended = (output ≡ []) × (printing_status ended ≢ 6 → Says (Refuses (printing_message ended)))
+-- nothing was printed or flushed, and the message says why, unless memory ran out
+abbrev pub IsRefusal : (Said → Type 0) → List ℕ → (flushes_old flushes_new : ℕ) → Printing → Type 0
+IsRefusal Says output old new ended = (output ≡ []) × (new ≡ old) × (printing_status ended ≢ 6 → Says (Refuses (printing_message ended)))
 
 -- what is said was printed, or a beginning of it
 abbrev pub IsPrinted : (Said → Type 0) → List ℕ → (flushes_old flushes_new : ℕ) → Printing → Type 0
-IsPrinted Says output old new (printing.Unloaded fault) = IsRefusal Says output (printing.Unloaded fault)
-IsPrinted Says output old new (printing.Unnamed fault) = IsRefusal Says output (printing.Unnamed fault)
-IsPrinted Says output old new printing.Unsplit = IsRefusal Says output printing.Unsplit
+IsPrinted Says output old new (printing.Unloaded fault) = IsRefusal Says output old new (printing.Unloaded fault)
+IsPrinted Says output old new (printing.Unnamed fault) = IsRefusal Says output old new (printing.Unnamed fault)
+IsPrinted Says output old new printing.Unsplit = IsRefusal Says output old new printing.Unsplit
 IsPrinted Says output old new printing.Done = Says (Prints output)
 IsPrinted Says output old new printing.WriteFault = (text : List ℕ) × Says (Prints text) × FailedOutput text output old new
 
@@ -146,19 +146,3 @@ abbrev pub IsTextPrinted : List ℕ → List ℕ → (flushes_old flushes_new : 
 IsTextPrinted text output old new printing.Done = text ≡ output
 IsTextPrinted text output old new printing.WriteFault = FailedOutput text output old new
 IsTextPrinted text output old new _ = ⊥
-
--- one flush, after which nothing waits; none where nothing was printed; at most one where the output failed
-abbrev pub IsFlushedAt : Printing → List ℕ → ℕ → ℕ → Type 0
-IsFlushedAt (printing.Unloaded fault) waiting old new = new ≡ old
-IsFlushedAt (printing.Unnamed fault) waiting old new = new ≡ old
-IsFlushedAt printing.Unsplit waiting old new = new ≡ old
-IsFlushedAt printing.Done waiting old new = (waiting ≡ []) × (new ≡ old + 1)
-IsFlushedAt printing.WriteFault waiting old new = new ≤ old + 1
-
--- the output only grew, failed at most once, and was flushed at the end
-pub record OutputPrinted {X : Type 0} (written waiting : X → List ℕ) (faults flushes : X → ℕ) (ended : Printing) (old new : X) : Type 0 where
-  pub appends : written new ≡ written old ++ since (written old) (written new)
-  pub write_fault : faults old < faults new ↔ (printing_status ended ≡ 5)
-  pub grows : faults old ≤ faults new
-  pub fails_once : faults new ≤ faults old + 1
-  pub flushes_so : IsFlushedAt ended (waiting new) (flushes old) (flushes new)

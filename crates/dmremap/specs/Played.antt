@@ -1,5 +1,5 @@
 -- What a player of requests answered to those that it was handed, and why it stopped.
-use Rattle.std.specs.Prelude.{◌≡◌, ℕ, List, [], ◌∷◌, ◌++◌, map}
+use Rattle.std.specs.Prelude.{◌≡◌, ℕ, List, ◌++◌, map}
 use Rattle.dm_table.specs.DeviceIo.{since}
 use Rattle.dm_stack.specs.Description.{Description}
 use Rattle.dm_stream.specs.Requests.{NumberedRequest}

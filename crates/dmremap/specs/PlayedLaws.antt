@@ -2,7 +2,6 @@
 use Rattle.std.proofs.Common.{◌≡◌, ℕ, List, [], ◌∷◌, ◌++◌, map, sym, ap, subst, ◌∙◌, append_assoc}
 use Rattle.std.proofs.lemmas.List.{append-nil, map-append}
 use Rattle.dm_table.specs.DeviceIo.{since}
-use Rattle.dm_table.specs.WriteAll.{IsCutShort}
 use Rattle.dm_table.proofs.Growth.{since_more}
 use Rattle.dm_stack.specs.Description.{Description}
 use Rattle.dm_stream.specs.ProgressLaws.{since-same}

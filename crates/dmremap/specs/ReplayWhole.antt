@@ -1,10 +1,8 @@
 -- The whole of `replay`: what it writes, its message and its exit status, by what was delivered.
-use Rattle.std.specs.Prelude.{◌≡◌, ◌≢◌, ◌↔◌, ◌⊎◌, ℕ, ◌+◌, ◌<◌, ◌≤◌, List, [], ◌++◌, codes, decimal}
-use Rattle.dm_table.specs.declared.load_fault.LoadFault.{LoadFault}
+use Rattle.std.specs.Prelude.{◌≡◌, ◌≢◌, ◌⊎◌, ℕ, ◌+◌, List, [], ◌++◌, codes, decimal}
 use Rattle.dm_table.specs.declared.load_fault.LoadKind.TheVariants.{Memory}
-use Rattle.dm_table.specs.DeviceIo.{Delivery, since}
+use Rattle.dm_table.specs.DeviceIo.{Delivery}
 use Rattle.dm_table.specs.LoadMessage.{load_message, memory_message}
-use Rattle.dm_table.specs.PartInput.{IsReadOn}
 use Rattle.dm_stack.specs.declared.clash.Clash.{Clash}
 use Rattle.dm_stack.specs.Claims.{IsClash, IsTidy, claims}
 use Rattle.dm_stack.specs.Description.{Description}
@@ -16,7 +14,6 @@ use Rattle.dmremap.specs.declared.replay_run.ReplayEnd.TheVariants as ends
 use Rattle.dmremap.specs.declared.replay_whole.ReplayExit.{ReplayExit}
 use Rattle.dmremap.specs.declared.replay_whole.ReplayExit.TheVariants as exits
 use Rattle.dmremap.specs.declared.words.Format.{Format}
-use Rattle.dmremap.specs.Inputs.{IsUnchanged}
 use Rattle.dmremap.specs.Load.{PartsGive, RefusedBy, SoundAs}
 use Rattle.dmremap.specs.ReplayOutcome.{IsCutReplay, IsPlayed}
 use Rattle.dmremap.specs.Status.{ending_status, load_status}
@@ -86,40 +83,13 @@ ReplayGives format source disks requests text old new exits.Untidy =
 ReplayGives format source disks requests text old new (exits.Ended ended) =
     (stack : Description) × PartsGive format source disks (SoundAs stack) × StackGives stack requests text old new (exits.Ended ended)
 
--- one flush, after which nothing waits; none where no replay began; at most one where the output failed
-abbrev pub IsEndFlushed : ReplayEnd → List ℕ → ℕ → ℕ → Type 0
-IsEndFlushed (ends.Ran endings.Done) waiting old new = (waiting ≡ []) × (new ≡ old + 1)
-IsEndFlushed (ends.Ran (endings.BadRequest number word)) waiting old new = (waiting ≡ []) × (new ≡ old + 1)
-IsEndFlushed (ends.Ran endings.ReadFault) waiting old new = (waiting ≡ []) × (new ≡ old + 1)
-IsEndFlushed (ends.Ran endings.WriteFault) waiting old new = new ≤ old + 1
-IsEndFlushed (ends.NotTop number) waiting old new = (waiting ≡ []) × (new ≡ old + 1)
-IsEndFlushed ends.Memory waiting old new = (waiting ≡ []) × (new ≡ old + 1)
+-- a fact where memory ran out at a request
+abbrev pub OnMemory : ReplayEnd → Type 0 → Type 0
+OnMemory ends.Memory P = P
+OnMemory _ P = Unit {0}
 
-abbrev pub IsReplayFlushed : ReplayExit → List ℕ → ℕ → ℕ → Type 0
-IsReplayFlushed (exits.Refused fault) waiting old new = new ≡ old
-IsReplayFlushed exits.Untidy waiting old new = new ≡ old
-IsReplayFlushed (exits.Ended ended) waiting old new = IsEndFlushed ended waiting old new
-
--- a fact where no replay began
-abbrev pub OnNoReplay : ReplayExit → Type 0 → Type 0
-OnNoReplay (exits.Refused fault) P = P
-OnNoReplay exits.Untidy P = P
-OnNoReplay (exits.Ended ended) P = Unit {0}
-
--- ---- what was done with each device until the exit
-
--- the requests were only read on, by which a failed read is told; nothing was asked where no replay began
-pub record RequestsReplayed {X : Type 0} (handed : X → List ℕ) (faults ends : X → ℕ) (exit : ReplayExit) (old new : X) : Type 0 where
-  pub read_on : IsReadOn handed faults ends old new
-  pub read_fault : replay_status exit ≡ 4 → faults old < faults new
-  pub no_fault : replay_status exit ≡ 0 → faults new ≤ faults old
-  pub unasked : OnNoReplay exit (IsUnchanged handed faults ends old new)
-
--- the output only grew, failed at most once, and was flushed at the end; where the flush failed, all of it still waits
-pub record OutputReplayed {X : Type 0} (written waiting : X → List ℕ) (faults flushes : X → ℕ) (exit : ReplayExit) (old new : X) : Type 0 where
-  pub appends : written new ≡ written old ++ since (written old) (written new)
-  pub write_fault : faults old < faults new ↔ (replay_status exit ≡ 5)
-  pub grows : faults old ≤ faults new
-  pub fails_once : faults new ≤ faults old + 1
-  pub flushes_so : IsReplayFlushed exit (waiting new) (flushes old) (flushes new)
-  pub still_waiting : faults old < faults new → flushes old < flushes new → waiting new ≡ waiting old ++ since (written old) (written new)
+-- where memory ran out, the status does not say when: before the replay began, or at a request
+abbrev pub WhereMemoryRanOut : ReplayExit → (before at : Type 0) → Type 0
+WhereMemoryRanOut (exits.Refused fault) before at = before
+WhereMemoryRanOut exits.Untidy before at = Unit {0}
+WhereMemoryRanOut (exits.Ended ended) before at = OnMemory ended at

@@ -63,10 +63,13 @@ optional_rule id = record (new_rule id) { value_names = 1 }
 abbrev pub flag_rule : Text → Rule
 flag_rule id = record (new_rule id) { long = Some id; action = Some SetTrue }
 
+-- a command with three arguments
+abbrev pub three_app : Text → (first second third : Rule) → App
+three_app name first second third = with_rule (with_rule (with_rule (new_app name) first) second) third
+
 -- a command that loads files, `NAME FORMAT FILE [DISKS]`: clap lets DISKS be left out, since the formats differ in it
 abbrev pub source_app : Text → ValueParser → App
-source_app name parser = with_rule (with_rule (with_rule (new_app name) (format_rule parser))
-    (required_rule (codes "file"))) (optional_rule (codes "disks"))
+source_app name parser = three_app name (format_rule parser) (required_rule (codes "file")) (optional_rule (codes "disks"))
 
 -- `map FORMAT FILE [DISKS] [--status]`
 abbrev pub map_app : ValueParser → App
@@ -74,8 +77,7 @@ map_app parser = with_rule (source_app (codes "map") parser) (flag_rule (codes "
 
 -- `name VG LV [LAYER]`
 abbrev pub name_app : App
-name_app = with_rule (with_rule (with_rule (new_app (codes "name")) (required_rule (codes "vg")))
-    (required_rule (codes "lv"))) (optional_rule (codes "layer"))
+name_app = three_app (codes "name") (required_rule (codes "vg")) (required_rule (codes "lv")) (optional_rule (codes "layer"))
 
 -- `splitname NAME`
 abbrev pub split_app : App

@@ -13,7 +13,7 @@ ghost use Rattle.dm_table.specs.DiskList.{disk_checks};
 ghost use Rattle.dm_table.specs.LoadFault.{first_fault};
 ghost use Rattle.dm_table.specs.PartInput.{IsReadOn, Refuses, TextOf, part_read};
 ghost use Rattle.dmremap.specs.Inputs.{IsReadOnIf, delivery_if};
-ghost use Rattle.dmremap.specs.Load.{Describes, DescribesDevices, device_checks, MetadataGives, MetadataPartGives, PartsGive, RefusedBy, SoundAs, TextPartsGive, TextsGive};
+ghost use Rattle.dmremap.specs.Load.{Describes, DescribesDevices, Loads, device_checks, MetadataGives, MetadataPartGives, PartsGive, TextPartsGive, TextsGive};
 ghost use Rattle.dmremap.specs.Words.{has_disk_list};
 
 use crate::words::{Form, Format};
@@ -34,12 +34,8 @@ pub(crate) fn load<S: Input, D: Input>(
     disks: &mut Option<D>,
 ) -> Result<Stack, LoadFault>
     requires { is_some disks.old ≡ has_disk_list format }
-    ensures sound { IfOk result (λ stack. PartsGive format
-        (delivery S.handed S.faults S.ends source.old source.new)
-        (delivery_if D.handed D.faults D.ends disks.old disks.new) (SoundAs stack)) }
-    ensures refused { IfErr result (λ fault. fault.kind ≢ Memory → PartsGive format
-        (delivery S.handed S.faults S.ends source.old source.new)
-        (delivery_if D.handed D.faults D.ends disks.old disks.new) (RefusedBy fault)) }
+    ensures gives { Loads (PartsGive format (delivery S.handed S.faults S.ends source.old source.new)
+        (delivery_if D.handed D.faults D.ends disks.old disks.new)) result }
     ensures source { IsReadOn S.handed S.faults S.ends source.old source.new }
     ensures disks { IsReadOnIf D.handed D.faults D.ends disks.old disks.new }
 {
@@ -58,12 +54,8 @@ fn load_tables<S: Input, D: Input>(
     disks: &mut Option<D>,
 ) -> Result<Stack, LoadFault>
     requires { IsSome disks.old }
-    ensures sound { IfOk result (λ stack. TextPartsGive form
-        (part_read Source (delivery S.handed S.faults S.ends source.old source.new))
-        (part_read Disks (delivery_if D.handed D.faults D.ends disks.old disks.new)) (SoundAs stack)) }
-    ensures refused { IfErr result (λ fault. fault.kind ≢ Memory → TextPartsGive form
-        (part_read Source (delivery S.handed S.faults S.ends source.old source.new))
-        (part_read Disks (delivery_if D.handed D.faults D.ends disks.old disks.new)) (RefusedBy fault)) }
+    ensures gives { Loads (TextPartsGive form (part_read Source (delivery S.handed S.faults S.ends source.old source.new))
+        (part_read Disks (delivery_if D.handed D.faults D.ends disks.old disks.new))) result }
     ensures source { IsReadOn S.handed S.faults S.ends source.old source.new }
     ensures disks { IsReadOnIf D.handed D.faults D.ends disks.old disks.new }
 {
@@ -87,8 +79,7 @@ fn read_disks<D: Input>(alloc: Global, disks: &mut Option<D>) -> Result<Vec<u8>,
 
 /// What two texts give.
 fn load_texts(alloc: Global, form: Form, source: &[u8], list: &[u8]) -> Result<Stack, LoadFault>
-    ensures sound { IfOk result (λ stack. TextsGive form source.now list.now (SoundAs stack)) }
-    ensures refused { IfErr result (λ fault. fault.kind ≢ Memory → TextsGive form source.now list.now (RefusedBy fault)) }
+    ensures { Loads (TextsGive form source.now list.now) result }
 {
     let (devices, disks) = parse_texts(alloc, form, source, list)?;
     Stack::load(alloc, devices, disks)
@@ -123,10 +114,7 @@ fn parse_devices(alloc: Global, form: Form, text: &[u8]) -> Result<Vec<DeviceSpe
 
 /// What a text of LVM2 metadata gives, which describes its disks too.
 fn load_metadata<S: Input>(alloc: Global, source: &mut S) -> Result<Stack, LoadFault>
-    ensures sound { IfOk result (λ stack. MetadataPartGives
-        (part_read Source (delivery S.handed S.faults S.ends source.old source.new)) (SoundAs stack)) }
-    ensures refused { IfErr result (λ fault. fault.kind ≢ Memory → MetadataPartGives
-        (part_read Source (delivery S.handed S.faults S.ends source.old source.new)) (RefusedBy fault)) }
+    ensures gives { Loads (MetadataPartGives (part_read Source (delivery S.handed S.faults S.ends source.old source.new))) result }
     ensures source { IsReadOn S.handed S.faults S.ends source.old source.new }
 {
     let source = read_part(alloc, Part::Source, source)?;
@@ -135,8 +123,7 @@ fn load_metadata<S: Input>(alloc: Global, source: &mut S) -> Result<Stack, LoadF
 
 /// What the group of a text of metadata gives.
 fn load_group(alloc: Global, source: &[u8]) -> Result<Stack, LoadFault>
-    ensures sound { IfOk result (λ stack. MetadataGives source.now (SoundAs stack)) }
-    ensures refused { IfErr result (λ fault. fault.kind ≢ Memory → MetadataGives source.now (RefusedBy fault)) }
+    ensures { Loads (MetadataGives source.now) result }
 {
     match parse_metadata(alloc, source) {
         Ok((devices, disks)) => Stack::load(alloc, devices, disks),

@@ -14,6 +14,7 @@ mod other_whole;
 mod part_file;
 mod replay_run;
 mod replay_whole;
+mod status;
 mod words;
 
 use dm_table::{Counted, Gathered};

@@ -3,17 +3,16 @@
 //! What comes out goes by the words and by the bytes that were delivered, and by nothing else. A new
 //! command is an arm of `print` here and of `TaskSays` in `specs/OtherWhole.antt`.
 
-ghost use Rattle.std.specs.Prelude.{◌≡◌, ◌≢◌, ◌+◌, ◌<◌, ◌≤◌, ◌++◌, ◌↔◌, [], List, ℕ, IsSome, true, is_some, option_map, IfOk, IfErr};
+ghost use Rattle.std.specs.Prelude.{◌≡◌, ◌≢◌, [], List, ℕ, IsSome, true, is_some, option_map};
 ghost use Rattle.dm_table.specs.CanonicalText.{Wrote};
 ghost use Rattle.dm_table.specs.DeviceIo.{Delivery, delivery, since};
-ghost use Rattle.dm_table.specs.declared.load_fault.LoadKind.TheVariants.{Memory};
 ghost use Rattle.dm_table.specs.LoadMessage.{memory_message};
-ghost use Rattle.dm_stream.specs.Messages.{IsTold, write_message};
+ghost use Rattle.dm_stream.specs.Messages.{IsTold};
 ghost use Rattle.lvm_volume.specs.Names.{built};
-ghost use Rattle.dmremap.specs.Exit.{FailedOutput, MessageWritten};
-ghost use Rattle.dmremap.specs.Load.{PartsGive, RefusedBy, SoundAs};
+ghost use Rattle.dmremap.specs.Load.{Loads, PartsGive, SoundAs};
 ghost use Rattle.dmremap.specs.Inputs.{IsReadOnIf, IsUnchanged, delivery_if};
-ghost use Rattle.dmremap.specs.OtherWhole.{CheckSays, FilesSay, GiveOther, IsPrinted, IsTextPrinted, OutputPrinted, Prints, ReportSays, SplitSays, TaskSays, has_list, has_source, is_other, line, name_said, printing_message, printing_status, written_as};
+ghost use Rattle.dmremap.specs.OtherWhole.{GiveOther, IsPrinted, IsTextPrinted, Prints, ReportSays, SplitSays, TaskSays, has_list, has_source, is_other, line, name_said, name_status, printing_message, printing_status, written_as};
+ghost use Rattle.dmremap.specs.Streams.{Exits, FailedOutput, MessagesTold, OutputWritten};
 ghost use Rattle.dmremap.specs.Whole.{Whole};
 ghost use Rattle.dmremap.specs.Words.{TaskWords, file_words, has_disk_list, words_of};
 
@@ -21,12 +20,12 @@ ghost use Rattle.dmremap.specs.Words.{TaskWords, file_words, has_disk_list, word
 mod tests;
 
 use crate::load::load;
+use crate::status::refuse;
 use crate::words::{Files, Form, Format, Job, Task};
 use dm_stack::{Stack, check_report};
 use dm_stream::tell;
 use dm_table::{
-    DeviceSpec, Input, LoadFault, LoadKind, OutFault, Output, Part, write_all, write_concise,
-    write_table,
+    DeviceSpec, Input, LoadFault, OutFault, Output, Part, write_all, write_concise, write_table,
 };
 use lvm_volume::{NameFault, build_name, spaced_parts};
 use std::alloc::Global;
@@ -84,20 +83,17 @@ pub fn other_whole<S: Input, D: Input, Q: Input, W: Output, M: Output>(
         (record { output = since (W.written output.old) (W.written output.new); message = message; status = result })
         × IsTold message (since (M.written messages.old) (M.written messages.new)) (M.faults messages.old) (M.faults messages.new) }
 
-    // The output failed in the call: that takes precedence over all else.
-    ensures write_fault { W.faults output.old < W.faults output.new ↔ (result ≡ 5) }
-    // Then a beginning of the text was written: something was left to write where no flush was asked, and nothing where the
-    // flush failed. So an empty output asks nothing of it but a flush.
+    // The output failed: a beginning of the text was written. Something was left to write where no flush was asked, and nothing
+    // where the flush failed. So an empty output asks nothing of it but a flush.
     ensures beginning { result ≡ 5 → (text : List ℕ) × TaskSays (words_of job.now.task)
         (delivery_if S.handed S.faults S.ends source.old source.new)
         (delivery_if D.handed D.faults D.ends disks.old disks.new) (Prints text)
         × FailedOutput text (since (W.written output.old) (W.written output.new)) (W.flushes output.old) (W.flushes output.new) }
-    ensures write_message { result ≡ 5 → IsTold write_message
-        (since (M.written messages.old) (M.written messages.new)) (M.faults messages.old) (M.faults messages.new) }
 
-    // Memory ran out: nothing was written.
+    // Memory ran out: nothing was written or flushed.
     ensures memory { result ≡ 6 → (since (W.written output.old) (W.written output.new) ≡ [])
         × IsTold memory_message (since (M.written messages.old) (M.written messages.new)) (M.faults messages.old) (M.faults messages.new) }
+    ensures unloaded { result ≡ 6 → W.flushes output.new ≡ W.flushes output.old }
 
     // Requests are asked for by none of these commands.
     ensures unasked { IsUnchanged Q.handed Q.faults Q.ends _requests.old _requests.new }
@@ -105,23 +101,11 @@ pub fn other_whole<S: Input, D: Input, Q: Input, W: Output, M: Output>(
     // Each input is only read on, and nothing is asked of it after an end or a fault.
     ensures source_read_on { IsReadOnIf S.handed S.faults S.ends source.old source.new }
     ensures disks_read_on { IsReadOnIf D.handed D.faults D.ends disks.old disks.new }
-
-    // What was told and written only grows. The output is flushed once, at the end; not at all where nothing is printed.
-    ensures tells { M.written messages.new ≡ M.written messages.old ++ since (M.written messages.old) (M.written messages.new) }
-    ensures appends { W.written output.new ≡ W.written output.old ++ since (W.written output.old) (W.written output.new) }
-    ensures flushed { result ≡ 0 → (W.waiting output.new ≡ []) × (W.flushes output.new ≡ W.flushes output.old + 1) }
-    ensures refused { result ≡ 1 → W.flushes output.new ≡ W.flushes output.old }
-    ensures unloaded { result ≡ 6 → W.flushes output.new ≡ W.flushes output.old }
-    ensures once { W.flushes output.new ≤ W.flushes output.old + 1 }
-    ensures unflushed { M.flushes messages.new ≡ M.flushes messages.old }
-
-    // Nothing is tried again after a write that failed.
-    ensures grows { W.faults output.old ≤ W.faults output.new }
-    ensures fails_once { W.faults output.new ≤ W.faults output.old + 1 }
+    // The status says what came of the output, and that a failed output was told.
+    ensures output { OutputWritten W.written W.waiting W.faults W.flushes result output.old output.new }
+    ensures messages { MessagesTold M.written M.faults M.flushes result messages.old messages.new }
 {
-    let printing = print(alloc, job.task, source, disks, output);
-    tell_of(printing, messages);
-    status_of(printing)
+    finish(print(alloc, job.task, source, disks, output), messages)
 }
 
 /// Prints what a task asks for.
@@ -141,41 +125,20 @@ fn print<S: Input, D: Input, W: Output>(
         (since (W.written output.old) (W.written output.new)) (W.flushes output.old) (W.flushes output.new) result }
     ensures source { IsReadOnIf S.handed S.faults S.ends source.old source.new }
     ensures disks { IsReadOnIf D.handed D.faults D.ends disks.old disks.new }
-    ensures output { OutputPrinted W.written W.waiting W.faults W.flushes result output.old output.new }
+    ensures output { OutputWritten W.written W.waiting W.faults W.flushes (printing_status result) output.old output.new }
 {
     match task {
         Task::Map(_) | Task::Replay(_) => unreachable!(),
-        Task::Print(form, files) => {
-            print_devices(alloc, form, files.format, source, disks, output)
-        }
-        Task::Check(files) => print_check(alloc, files.format, source, disks, output),
+        Task::Print(form, files) => match load_source(alloc, files.format, source, disks) {
+            Ok(stack) => print_stack(form, stack, output),
+            Err(fault) => Printing::Unloaded(fault),
+        },
+        Task::Check(files) => match load_source(alloc, files.format, source, disks) {
+            Ok(stack) => print_report(alloc, &stack, output),
+            Err(fault) => Printing::Unloaded(fault),
+        },
         Task::Name { vg, lv, layer } => print_name(alloc, vg, lv, layer, output),
         Task::SplitName(name) => print_parts(alloc, name, output),
-    }
-}
-
-/// Prints the devices of a load in a form.
-fn print_devices<S: Input, D: Input, W: Output>(
-    alloc: Global,
-    form: Form,
-    format: Format,
-    source: &mut Option<S>,
-    disks: &mut Option<D>,
-    output: &mut W,
-) -> Printing
-    requires source { IsSome source.old }
-    requires disks { is_some disks.old ≡ has_disk_list format }
-    ensures printed { IsPrinted (FilesSay form format
-        (delivery_if S.handed S.faults S.ends source.old source.new)
-        (delivery_if D.handed D.faults D.ends disks.old disks.new))
-        (since (W.written output.old) (W.written output.new)) (W.flushes output.old) (W.flushes output.new) result }
-    ensures source { IsReadOnIf S.handed S.faults S.ends source.old source.new }
-    ensures disks { IsReadOnIf D.handed D.faults D.ends disks.old disks.new }
-    ensures output { OutputPrinted W.written W.waiting W.faults W.flushes result output.old output.new }
-{
-    match load_source(alloc, format, source, disks) {
-        Ok(stack) => print_stack(form, stack, output),
-        Err(fault) => Printing::Unloaded(fault),
     }
 }
 
@@ -188,12 +151,8 @@ fn load_source<S: Input, D: Input>(
 ) -> Result<Stack, LoadFault>
     requires source { IsSome source.old }
     requires disks { is_some disks.old ≡ has_disk_list format }
-    ensures sound { IfOk result (λ stack. PartsGive format
-        (delivery_if S.handed S.faults S.ends source.old source.new)
-        (delivery_if D.handed D.faults D.ends disks.old disks.new) (SoundAs stack)) }
-    ensures refused { IfErr result (λ fault. fault.kind ≢ Memory → PartsGive format
-        (delivery_if S.handed S.faults S.ends source.old source.new)
-        (delivery_if D.handed D.faults D.ends disks.old disks.new) (RefusedBy fault)) }
+    ensures gives { Loads (PartsGive format (delivery_if S.handed S.faults S.ends source.old source.new)
+        (delivery_if D.handed D.faults D.ends disks.old disks.new)) result }
     ensures source { IsReadOnIf S.handed S.faults S.ends source.old source.new }
     ensures disks { IsReadOnIf D.handed D.faults D.ends disks.old disks.new }
 {
@@ -207,7 +166,7 @@ fn load_source<S: Input, D: Input>(
 fn print_stack<W: Output>(form: Form, stack: Stack, output: &mut W) -> Printing
     ensures printed { IsTextPrinted (written_as form stack.devices)
         (since (W.written output.old) (W.written output.new)) (W.flushes output.old) (W.flushes output.new) result }
-    ensures output { OutputPrinted W.written W.waiting W.faults W.flushes result output.old output.new }
+    ensures output { OutputWritten W.written W.waiting W.faults W.flushes (printing_status result) output.old output.new }
 {
     let (devices, _) = stack.into_parts();
     let written = write_devices(form, &devices, &mut *output);
@@ -228,35 +187,11 @@ fn write_devices<W: Output>(
     }
 }
 
-/// Prints the report of a load.
-fn print_check<S: Input, D: Input, W: Output>(
-    alloc: Global,
-    format: Format,
-    source: &mut Option<S>,
-    disks: &mut Option<D>,
-    output: &mut W,
-) -> Printing
-    requires source { IsSome source.old }
-    requires disks { is_some disks.old ≡ has_disk_list format }
-    ensures printed { IsPrinted (CheckSays format
-        (delivery_if S.handed S.faults S.ends source.old source.new)
-        (delivery_if D.handed D.faults D.ends disks.old disks.new))
-        (since (W.written output.old) (W.written output.new)) (W.flushes output.old) (W.flushes output.new) result }
-    ensures source { IsReadOnIf S.handed S.faults S.ends source.old source.new }
-    ensures disks { IsReadOnIf D.handed D.faults D.ends disks.old disks.new }
-    ensures output { OutputPrinted W.written W.waiting W.faults W.flushes result output.old output.new }
-{
-    match load_source(alloc, format, source, disks) {
-        Ok(stack) => print_report(alloc, &stack, output),
-        Err(fault) => Printing::Unloaded(fault),
-    }
-}
-
 /// Prints the report of a stack.
 fn print_report<W: Output>(alloc: Global, stack: &Stack, output: &mut W) -> Printing
     ensures printed { IsPrinted (ReportSays (SoundAs stack.now))
         (since (W.written output.old) (W.written output.new)) (W.flushes output.old) (W.flushes output.new) result }
-    ensures output { OutputPrinted W.written W.waiting W.faults W.flushes result output.old output.new }
+    ensures output { OutputWritten W.written W.waiting W.faults W.flushes (printing_status result) output.old output.new }
 {
     match check_report(alloc, stack) {
         Ok(text) => print_text(text.as_str().as_bytes(), output),
@@ -274,7 +209,7 @@ fn print_name<W: Output>(
 ) -> Printing
     ensures printed { IsPrinted (λ said. name_said (built (record { vg = vg.now; lv = lv.now; layer = option_map (λ l. l.now) layer.entry })) ≡ said)
         (since (W.written output.old) (W.written output.new)) (W.flushes output.old) (W.flushes output.new) result }
-    ensures output { OutputPrinted W.written W.waiting W.faults W.flushes result output.old output.new }
+    ensures output { OutputWritten W.written W.waiting W.faults W.flushes (printing_status result) output.old output.new }
 {
     match build_name(alloc, vg, lv, layer) {
         Ok(name) => print_line(name.as_str().as_bytes(), output),
@@ -286,7 +221,7 @@ fn print_name<W: Output>(
 fn print_parts<W: Output>(alloc: Global, name: &str, output: &mut W) -> Printing
     ensures printed { IsPrinted (SplitSays name.now)
         (since (W.written output.old) (W.written output.new)) (W.flushes output.old) (W.flushes output.new) result }
-    ensures output { OutputPrinted W.written W.waiting W.faults W.flushes result output.old output.new }
+    ensures output { OutputWritten W.written W.waiting W.faults W.flushes (printing_status result) output.old output.new }
 {
     match spaced_parts(alloc, name) {
         Ok(Some(parts)) => print_line(parts.as_bytes(), output),
@@ -299,7 +234,7 @@ fn print_parts<W: Output>(alloc: Global, name: &str, output: &mut W) -> Printing
 fn print_text<W: Output>(text: &[u8], output: &mut W) -> Printing
     ensures printed { IsTextPrinted text.now
         (since (W.written output.old) (W.written output.new)) (W.flushes output.old) (W.flushes output.new) result }
-    ensures output { OutputPrinted W.written W.waiting W.faults W.flushes result output.old output.new }
+    ensures output { OutputWritten W.written W.waiting W.faults W.flushes (printing_status result) output.old output.new }
 {
     let written = write_text(text, &mut *output);
     close(written, output)
@@ -315,7 +250,7 @@ fn write_text<W: Output>(text: &[u8], output: &mut W) -> Result<(), OutFault>
 fn print_line<W: Output>(text: &[u8], output: &mut W) -> Printing
     ensures printed { IsTextPrinted (line text.now)
         (since (W.written output.old) (W.written output.new)) (W.flushes output.old) (W.flushes output.new) result }
-    ensures output { OutputPrinted W.written W.waiting W.faults W.flushes result output.old output.new }
+    ensures output { OutputWritten W.written W.waiting W.faults W.flushes (printing_status result) output.old output.new }
 {
     let written = write_line(text, &mut *output);
     close(written, output)
@@ -333,7 +268,7 @@ fn write_line<W: Output>(text: &[u8], output: &mut W) -> Result<(), OutFault>
 fn close<W: Output>(written: Result<(), OutFault>, output: &mut W) -> Printing
     ensures { (start : W) (text : List ℕ) → Wrote W.written W.waiting W.faults W.flushes start output.old written text
         → IsTextPrinted text (since (W.written start) (W.written output.new)) (W.flushes start) (W.flushes output.new) result
-        × OutputPrinted W.written W.waiting W.faults W.flushes result start output.new }
+        × OutputWritten W.written W.waiting W.faults W.flushes (printing_status result) start output.new }
 {
     if written.is_err() {
         return Printing::WriteFault;
@@ -344,27 +279,34 @@ fn close<W: Output>(written: Result<(), OutFault>, output: &mut W) -> Printing
     }
 }
 
-/// Tells why not all was printed.
-fn tell_of<M: Output>(printing: Printing, messages: &mut M)
-    ensures { MessageWritten M.written M.faults M.flushes (printing_message printing) messages.old messages.new }
+/// Tells why not all was printed, and returns the exit status.
+fn finish<M: Output>(printing: Printing, messages: &mut M) -> u8
+    ensures { Exits M.written M.faults M.flushes (printing_status printing) (printing_message printing) result messages.old messages.new }
 {
     match printing {
-        Printing::Unloaded(fault) => tell(messages, fault.message().as_slice()),
-        Printing::Unnamed(fault) => tell(messages, fault.message()),
-        Printing::Unsplit => tell(messages, b"dmremap: name: split\n"),
-        Printing::Done => {}
-        Printing::WriteFault => tell(messages, b"dmremap: output: write\n"),
+        Printing::Unloaded(fault) => refuse(fault, messages),
+        Printing::Unnamed(fault) => {
+            tell(messages, fault.message());
+            name_status(fault)
+        }
+        Printing::Unsplit => {
+            tell(messages, b"dmremap: name: split\n");
+            1
+        }
+        Printing::Done => 0,
+        Printing::WriteFault => {
+            tell(messages, b"dmremap: output: write\n");
+            5
+        }
     }
 }
 
-fn status_of(printing: Printing) -> u8
-    ensures { result ≡ printing_status printing }
+/// The exit status of a name that was not built.
+fn name_status(fault: NameFault) -> u8
+    ensures { result ≡ name_status fault }
 {
-    match printing {
-        Printing::Unloaded(fault) => { if fault.kind == LoadKind::Memory { 6 } else { 1 } }
-        Printing::Unnamed(NameFault::Memory) => 6,
-        Printing::Unnamed(_) | Printing::Unsplit => 1,
-        Printing::Done => 0,
-        Printing::WriteFault => 5,
+    match fault {
+        NameFault::Memory => 6,
+        _ => 1,
     }
 }

@@ -3,21 +3,21 @@
 //! What comes out goes by the bytes that were delivered, save where memory runs out. `replay_run` plays
 //! the requests; here are the load before it, and the flush and the message after it.
 
-ghost use Rattle.std.specs.Prelude.{◌≡◌, ◌≢◌, ◌+◌, ◌<◌, ◌≤◌, ◌++◌, ◌↔◌, List, [], ℕ, is_some};
+ghost use Rattle.std.specs.Prelude.{◌≡◌, ◌≢◌, List, [], ℕ, is_some};
 ghost use Rattle.dm_table.specs.DeviceIo.{Delivery, delivery, since};
 ghost use Rattle.dm_table.specs.LoadMessage.{memory_message};
 ghost use Rattle.dm_table.specs.PartInput.{IsReadOn};
-ghost use Rattle.dm_stream.specs.Messages.{IsTold, write_message};
+ghost use Rattle.dm_stream.specs.Messages.{IsTold};
 ghost use Rattle.dm_stream.specs.Progress.{HasRead, HasWritten};
 ghost use Rattle.dm_stream.specs.Requests.{Requests, requests_of};
 ghost use Rattle.dm_stack.specs.Claims.{IsTidy};
 ghost use Rattle.dm_stack.specs.Description.{Description};
 ghost use Rattle.dmremap.specs.declared.replay_whole.ReplayExit.{ReplayExit};
 ghost use Rattle.dmremap.specs.declared.words.Format.{Format};
-ghost use Rattle.dmremap.specs.Exit.{MessageWritten};
 ghost use Rattle.dmremap.specs.Inputs.{IsReadOnIf, IsUnchanged, delivery_if};
 ghost use Rattle.dmremap.specs.ReplayOutcome.{HasMetEnd, IsPlayed, end_faults};
-ghost use Rattle.dmremap.specs.ReplayWhole.{IsPlain, IsReplayed, OutputReplayed, ReplayGives, RequestsReplayed, StackGives, not_top_message, replay_message, replay_status};
+ghost use Rattle.dmremap.specs.ReplayWhole.{IsPlain, IsReplayed, OnMemory, ReplayGives, StackGives, WhereMemoryRanOut, end_status, not_top_message, replay_message, replay_status};
+ghost use Rattle.dmremap.specs.Streams.{Exits, IsFlushed, MessagesTold, OutputWritten, RequestsRead};
 ghost use Rattle.dmremap.specs.Words.{has_disk_list};
 
 #[cfg(test)]
@@ -25,12 +25,13 @@ mod tests;
 
 use crate::load::load;
 use crate::replay_run::{ReplayEnd, play_requests};
+use crate::status::{ending_status, refuse};
 use crate::words::Format;
 use dm_map::RunTaken;
 use dm_replay::{Replay, ReplayFault};
 use dm_stack::Stack;
 use dm_stream::{Ending, Message, message_of, put, put_number, tell};
-use dm_table::{Input, LoadFault, LoadKind, OutFault, Output, Part};
+use dm_table::{Input, LoadFault, OutFault, Output, Part};
 use std::alloc::Global;
 
 /// Why a replay exits.
@@ -72,14 +73,15 @@ pub fn replay_whole<S: Input, D: Input, Q: Input, W: Output, M: Output>(
 ) -> u8
     requires disks { is_some disks.old ≡ has_disk_list format }
 
-    // The output and the status are those of an exit that the deliveries give, and its message was told.
+    // The output and the status are those of an exit that the deliveries give, and its message was told. Where memory ran out
+    // before the replay began, nothing was asked or flushed; where it ran out at a request, the output was flushed.
     ensures replayed { (exit : ReplayExit) × ReplayGives format
         (delivery S.handed S.faults S.ends source.old source.new)
         (delivery_if D.handed D.faults D.ends disks.old disks.new)
         (delivery Q.handed Q.faults Q.ends requests.old requests.new)
         (since (W.written output.old) (W.written output.new)) (W.flushes output.old) (W.flushes output.new) exit
-        × RequestsReplayed Q.handed Q.faults Q.ends exit requests.old requests.new
-        × OutputReplayed W.written W.waiting W.faults W.flushes exit output.old output.new
+        × WhereMemoryRanOut exit (IsUnchanged Q.handed Q.faults Q.ends requests.old requests.new × (W.flushes output.new ≡ W.flushes output.old))
+        (IsFlushed W.waiting W.flushes output.old output.new)
         × (result ≡ replay_status exit)
         × IsTold (replay_message exit) (since (M.written messages.old) (M.written messages.new)) (M.faults messages.old) (M.faults messages.new) }
 
@@ -87,70 +89,17 @@ pub fn replay_whole<S: Input, D: Input, Q: Input, W: Output, M: Output>(
     ensures one { (f : Format) (s d q : Delivery) (a b : ReplayExit) (x y : List ℕ) (old new before after : ℕ) → IsPlain a → IsPlain b
         → ReplayGives f s d q x old new a → ReplayGives f s d q y before after b → (a ≡ b) × (x ≡ y) }
 
-    // The output failed in the call: that takes precedence over all else.
-    ensures write_fault { W.faults output.old < W.faults output.new ↔ (result ≡ 5) }
-    ensures write_message { result ≡ 5 → IsTold write_message
-        (since (M.written messages.old) (M.written messages.new)) (M.faults messages.old) (M.faults messages.new) }
-
-    // Requests are not asked for where no replay began.
-    ensures unasked { result ≡ 1 → IsUnchanged Q.handed Q.faults Q.ends requests.old requests.new }
-
-    // Reading requests failed in the call; and where it did, and the output did not, only a request that was not answered
-    // takes precedence over that.
-    ensures read_fault { result ≡ 4 → Q.faults requests.old < Q.faults requests.new }
-    ensures no_fault { result ≡ 0 → Q.faults requests.new ≤ Q.faults requests.old }
-
     // Each input is only read on, and nothing is asked of it after an end or a fault.
     ensures source_read_on { IsReadOn S.handed S.faults S.ends source.old source.new }
     ensures disks_read_on { IsReadOnIf D.handed D.faults D.ends disks.old disks.new }
-    ensures requests_read_on { IsReadOn Q.handed Q.faults Q.ends requests.old requests.new }
-
-    // What was told and written only grows. The output is flushed once, at the end; not at all where no replay began.
-    ensures tells { M.written messages.new ≡ M.written messages.old ++ since (M.written messages.old) (M.written messages.new) }
-    ensures appends { W.written output.new ≡ W.written output.old ++ since (W.written output.old) (W.written output.new) }
-    ensures flushed { result ≢ 1 → result ≢ 5 → result ≢ 6 →
-        (W.waiting output.new ≡ []) × (W.flushes output.new ≡ W.flushes output.old + 1) }
-    ensures refused { result ≡ 1 → W.flushes output.new ≡ W.flushes output.old }
-    ensures once { W.flushes output.new ≤ W.flushes output.old + 1 }
-    // Where the flush failed, all that was written still waits.
-    ensures still_waiting { result ≡ 5 → W.flushes output.old < W.flushes output.new
-        → W.waiting output.new ≡ W.waiting output.old ++ since (W.written output.old) (W.written output.new) }
-    ensures unflushed { M.flushes messages.new ≡ M.flushes messages.old }
-
-    // Nothing is tried again after a write that failed, of the output or of a message.
-    ensures grows { W.faults output.old ≤ W.faults output.new }
-    ensures fails_once { W.faults output.new ≤ W.faults output.old + 1 }
-    ensures tells_grow { M.faults messages.old ≤ M.faults messages.new }
-    ensures tells_once { M.faults messages.new ≤ M.faults messages.old + 1 }
-{
-    let exit = load_and_replay(alloc, format, source, disks, requests, output);
-    tell_of(exit, messages);
-    status_of(exit)
-}
-
-/// Loads a stack and replays requests on it.
-fn load_and_replay<S: Input, D: Input, Q: Input, W: Output>(
-    alloc: Global,
-    format: Format,
-    source: &mut S,
-    disks: &mut Option<D>,
-    requests: &mut Q,
-    output: &mut W,
-) -> ReplayExit
-    requires disks { is_some disks.old ≡ has_disk_list format }
-    ensures exit { ReplayGives format
-        (delivery S.handed S.faults S.ends source.old source.new)
-        (delivery_if D.handed D.faults D.ends disks.old disks.new)
-        (delivery Q.handed Q.faults Q.ends requests.old requests.new)
-        (since (W.written output.old) (W.written output.new)) (W.flushes output.old) (W.flushes output.new) result }
-    ensures source { IsReadOn S.handed S.faults S.ends source.old source.new }
-    ensures disks { IsReadOnIf D.handed D.faults D.ends disks.old disks.new }
-    ensures requests { RequestsReplayed Q.handed Q.faults Q.ends result requests.old requests.new }
-    ensures output { OutputReplayed W.written W.waiting W.faults W.flushes result output.old output.new }
+    // The status says how requests were read, what came of the output, and that a failed output was told.
+    ensures requests { RequestsRead Q.handed Q.faults Q.ends result requests.old requests.new }
+    ensures output { OutputWritten W.written W.waiting W.faults W.flushes result output.old output.new }
+    ensures messages { MessagesTold M.written M.faults M.flushes result messages.old messages.new }
 {
     match load(alloc, format, source, disks) {
-        Ok(stack) => replay_stack(alloc, &stack, requests, output),
-        Err(fault) => ReplayExit::Refused(fault),
+        Ok(stack) => finish(replay_stack(alloc, &stack, requests, output), messages),
+        Err(fault) => finish(ReplayExit::Refused(fault), messages),
     }
 }
 
@@ -163,8 +112,10 @@ fn replay_stack<Q: Input, W: Output>(
 ) -> ReplayExit
     ensures exit { StackGives stack.now (delivery Q.handed Q.faults Q.ends requests.old requests.new)
         (since (W.written output.old) (W.written output.new)) (W.flushes output.old) (W.flushes output.new) result }
-    ensures requests { RequestsReplayed Q.handed Q.faults Q.ends result requests.old requests.new }
-    ensures output { OutputReplayed W.written W.waiting W.faults W.flushes result output.old output.new }
+    ensures memory { WhereMemoryRanOut result (IsUnchanged Q.handed Q.faults Q.ends requests.old requests.new × (W.flushes output.new ≡ W.flushes output.old))
+        (IsFlushed W.waiting W.flushes output.old output.new) }
+    ensures requests { RequestsRead Q.handed Q.faults Q.ends (replay_status result) requests.old requests.new }
+    ensures output { OutputWritten W.written W.waiting W.faults W.flushes (replay_status result) output.old output.new }
 {
     match Replay::<RunTaken>::new(alloc, stack) {
         Ok(mut replay) => {
@@ -177,12 +128,13 @@ fn replay_stack<Q: Input, W: Output>(
 }
 
 /// Flushes the output, unless a write to it failed.
-#[tactic(auto, using(crate::proofs::ReplayLemmas::replayed_flushed, crate::proofs::ReplayLemmas::end_flushed, crate::proofs::ReplayLemmas::failed_write, crate::proofs::ReplayLemmas::failed_flush))]
+#[tactic(auto, using(crate::proofs::ReplayLemmas::replayed_flushed, crate::proofs::ReplayLemmas::failed_write, crate::proofs::ReplayLemmas::failed_flush))]
 fn close<W: Output>(ended: ReplayEnd, output: &mut W) -> ReplayEnd
     ensures closed { (start : W) (stack : Description) (requests : Requests) → HasWritten W.written W.waiting W.faults W.flushes start output.old (end_faults ended)
         → IsPlayed stack requests (since (W.written start) (W.written output.old)) ended
         → IsReplayed stack requests (since (W.written start) (W.written output.new)) (W.flushes start) (W.flushes output.new) result
-        × OutputReplayed W.written W.waiting W.faults W.flushes (ReplayExit.Ended result) start output.new }
+        × OutputWritten W.written W.waiting W.faults W.flushes (end_status result) start output.new
+        × OnMemory result (IsFlushed W.waiting W.flushes start output.new) }
     ensures met { (old new : ℕ) → HasMetEnd ended old new → HasMetEnd result old new }
 {
     if ended == ReplayEnd::Ran(Ending::WriteFault) {
@@ -194,16 +146,28 @@ fn close<W: Output>(ended: ReplayEnd, output: &mut W) -> ReplayEnd
     }
 }
 
-/// Tells why not all was answered.
-fn tell_of<M: Output>(exit: ReplayExit, messages: &mut M)
-    ensures { MessageWritten M.written M.faults M.flushes (replay_message exit) messages.old messages.new }
+/// Tells why not all was answered, and returns the exit status.
+fn finish<M: Output>(exit: ReplayExit, messages: &mut M) -> u8
+    ensures { Exits M.written M.faults M.flushes (replay_status exit) (replay_message exit) result messages.old messages.new }
 {
     match exit {
-        ReplayExit::Refused(fault) => tell(messages, fault.message().as_slice()),
-        ReplayExit::Untidy => tell(messages, b"dmremap: replay: untidy\n"),
-        ReplayExit::Ended(ReplayEnd::Ran(ending)) => tell(messages, message_of(ending).as_slice()),
-        ReplayExit::Ended(ReplayEnd::NotTop(number)) => tell(messages, not_top(number).as_slice()),
-        ReplayExit::Ended(ReplayEnd::Memory) => tell(messages, b"dmremap: memory\n"),
+        ReplayExit::Refused(fault) => refuse(fault, messages),
+        ReplayExit::Untidy => {
+            tell(messages, b"dmremap: replay: untidy\n");
+            1
+        }
+        ReplayExit::Ended(ReplayEnd::Ran(ending)) => {
+            tell(messages, message_of(ending).as_slice());
+            ending_status(ending)
+        }
+        ReplayExit::Ended(ReplayEnd::NotTop(number)) => {
+            tell(messages, not_top(number).as_slice());
+            3
+        }
+        ReplayExit::Ended(ReplayEnd::Memory) => {
+            tell(messages, b"dmremap: memory\n");
+            6
+        }
     }
 }
 
@@ -216,18 +180,4 @@ fn not_top(number: u64) -> Message
     put_number(&mut text, number);
     put(&mut text, b": not top\n");
     text
-}
-
-fn status_of(exit: ReplayExit) -> u8
-    ensures { result ≡ replay_status exit }
-{
-    match exit {
-        ReplayExit::Refused(fault) => { if fault.kind == LoadKind::Memory { 6 } else { 1 } }
-        ReplayExit::Untidy => 1,
-        ReplayExit::Ended(ReplayEnd::Ran(Ending::Done)) => 0,
-        ReplayExit::Ended(ReplayEnd::Ran(Ending::BadRequest(_, _)) | ReplayEnd::NotTop(_)) => 3,
-        ReplayExit::Ended(ReplayEnd::Ran(Ending::ReadFault)) => 4,
-        ReplayExit::Ended(ReplayEnd::Ran(Ending::WriteFault)) => 5,
-        ReplayExit::Ended(ReplayEnd::Memory) => 6,
-    }
 }

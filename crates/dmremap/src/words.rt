@@ -11,7 +11,7 @@ ghost use Rattle.clap.specs.Words.{subcommand_rows_of, with_subcommand};
 ghost use Rattle.dmremap.specs.Words.{IsCommand, TakesFormats, command_line, format_named};
 ghost use Rattle.dmremap.specs.Words.{IsFaultOf, IsJobOf, IsNotText, fault_from, file_words, files_in, files_of, format_rule, has_disk_list};
 ghost use Rattle.dmremap.specs.Words.{flag_rule, has_flag, has_status, takes_status, has_its_disks, has_lone_hyphen, job_of, job_words, map_app, name_app, name_in, optional_rule};
-ghost use Rattle.dmremap.specs.Words.{required_rule, source_app, split_app, split_in, status_of, task_has_its_disks, task_of, words_of};
+ghost use Rattle.dmremap.specs.Words.{required_rule, source_app, split_app, three_app, split_in, status_of, task_has_its_disks, task_of, words_of};
 ghost use Rattle.clap.specs.declared.error.kind.ErrorKind.TheVariants as kind;
 ghost use Rattle.dmremap.specs.declared.words.WordsFault.TheVariants as fault;
 
@@ -541,6 +541,29 @@ fn map_command<'a>(alloc: Global, parser: ValueParser<'a>) -> Result<Command<'a>
     )
 }
 
+// A command with three arguments.
+fn three_command<'a>(
+    alloc: Global,
+    name: &'a str,
+    about: &'a str,
+    notes: &'a str,
+    first: Arg<'a>,
+    second: Arg<'a>,
+    third: Arg<'a>,
+) -> Result<Command<'a>, AllocError>
+    requires local { (first.global ≡ false) × (second.global ≡ false) × (third.global ≡ false) }
+    ensures { IfOk result (IsCommand (three_app name.entry.now (rule_of first.entry) (rule_of second.entry) (rule_of third.entry))) }
+{
+    Ok(
+        Command::new(alloc, name)
+            .about(about)
+            .after_help(notes)
+            .arg(first)?
+            .arg(second)?
+            .arg(third)?,
+    )
+}
+
 // A command that loads files: `NAME FORMAT FILE [DISKS]`.
 fn source_command<'a>(
     alloc: Global,
@@ -551,13 +574,14 @@ fn source_command<'a>(
 ) -> Result<Command<'a>, AllocError>
     ensures { IfOk result (IsCommand (source_app name.entry.now parser.entry)) }
 {
-    Ok(
-        Command::new(alloc, name)
-            .about(about)
-            .after_help(notes)
-            .arg(format_argument(alloc, parser))?
-            .arg(required(alloc, "file", "FILE", FILE_HELP))?
-            .arg(optional(alloc, "disks", "DISKS", DISKS_HELP))?,
+    three_command(
+        alloc,
+        name,
+        about,
+        notes,
+        format_argument(alloc, parser),
+        required(alloc, "file", "FILE", FILE_HELP),
+        optional(alloc, "disks", "DISKS", DISKS_HELP),
     )
 }
 
@@ -565,13 +589,14 @@ fn source_command<'a>(
 fn name_command<'a>(alloc: Global) -> Result<Command<'a>, AllocError>
     ensures { IfOk result (IsCommand name_app) }
 {
-    Ok(
-        Command::new(alloc, "name")
-            .about(NAME_ABOUT)
-            .after_help(NAME_NOTES)
-            .arg(required(alloc, "vg", "VG", VG_HELP))?
-            .arg(required(alloc, "lv", "LV", LV_HELP))?
-            .arg(optional(alloc, "layer", "LAYER", LAYER_HELP))?,
+    three_command(
+        alloc,
+        "name",
+        NAME_ABOUT,
+        NAME_NOTES,
+        required(alloc, "vg", "VG", VG_HELP),
+        required(alloc, "lv", "LV", LV_HELP),
+        optional(alloc, "layer", "LAYER", LAYER_HELP),
     )
 }
 

@@ -1,41 +1,77 @@
-use Rattle.std.proofs.Common.{◌∙◌, sym}
-use Rattle.dm_table.specs.DeviceIo.{delivery, since}
-use Rattle.dmremap.specs.Inputs.{delivery_if}
-use Rattle.dmremap.specs.Exit.{exit_message}
-use Rattle.dmremap.proofs.ExitLemmas.{whole_at, failed_at_five, unasked_one, unasked_six}
-use Rattle.dmremap.proofs.OneWhole.{one_whole}
+use Rattle.std.proofs.Common.{ap, ◌≡◌, ◌∙◌}
+use Rattle.dm_table.specs.DeviceIo.{delivery}
+use Rattle.dm_table.specs.LoadMessage.{load_message}
+use Rattle.dm_map.specs.State.{start_state}
 use Rattle.dm_map.proofs.LevelLemmas.{reads_free, writes_free}
+use Rattle.dm_stream.specs.Messages.{ending_message}
+use Rattle.dm_stream.specs.ProgressLaws.{since-same}
 use Rattle.dm_stream.proofs.FewestLemmas.{fewest_is}
+use Rattle.dmremap.proofs.ExitLemmas.{failed_run, one_or_six, ran_requests, refused_whole, served_whole, untouched_output, untouched_requests}
+use Rattle.dmremap.proofs.OneWhole.{one_whole}
 use Rattle.dmremap.proofs.map_whole.map_whole.Goals as goal
 
-pub returns-clause-whole : goal.returns-clause-whole
-returns-clause-whole g c = λ five six.
-    let source = delivery g.S.Input.handed g.S.Input.faults g.S.Input.ends c.args.source.now c.load_and_run.new.source in
-    let disks = delivery_if g.D.Input.handed g.D.Input.faults g.D.Input.ends c.args.disks.now c.load_and_run.new.disks in
-    let requests = delivery g.Q.Input.handed g.Q.Input.faults g.Q.Input.ends c.args.requests.now c.load_and_run.new.requests in
-    let output = since (g.W.Output.written c.args.output.now) (g.W.Output.written c.load_and_run.new.output) in
-    let exit = c.load_and_run.result in
-    (exit_message exit, whole_at c.args.format c.args.status source disks requests output (g.W.Output.flushes c.args.output.now) (g.W.Output.flushes c.load_and_run.new.output) exit c.exit_status.result c.exit_status.ensures c.load_and_run.ensures.exit five six, c.load_and_run.ensures.messages.told)
+-- ---- the load was refused
 
-pub returns-clause-beginning : goal.returns-clause-beginning
-returns-clause-beginning g c = λ five.
-    failed_at_five c.args.format c.args.status (delivery g.S.Input.handed g.S.Input.faults g.S.Input.ends c.args.source.now c.load_and_run.new.source)
-    (delivery_if g.D.Input.handed g.D.Input.faults g.D.Input.ends c.args.disks.now c.load_and_run.new.disks) (delivery g.Q.Input.handed g.Q.Input.faults g.Q.Input.ends c.args.requests.now c.load_and_run.new.requests)
-    (since (g.W.Output.written c.args.output.now) (g.W.Output.written c.load_and_run.new.output)) (g.W.Output.flushes c.args.output.now) (g.W.Output.flushes c.load_and_run.new.output)
-    c.load_and_run.result c.load_and_run.ensures.exit (sym c.exit_status.ensures ∙ five)
+pub returns-in-Err-clause-whole : goal.returns-in-Err-clause-whole
+returns-in-Err-clause-whole g c = λ five six. (
+  load_message c.in-Err.fault,
+  refused_whole _ _ _ _ _ _ c.in-Err.fault _ c.in-Err.ensures.gives.refused (since-same (g.W.Output.written c.args.output.now)) c.refuse.ensures.is six,
+  c.refuse.ensures.told,
+)
 
-pub returns-clause-unasked : goal.returns-clause-unasked
-returns-clause-unasked g c = λ one. unasked_one c.load_and_run.result _ c.load_and_run.ensures.requests.unasked (sym c.exit_status.ensures ∙ one)
+-- ---- the requests were run
 
-pub returns-clause-unasked_memory : goal.returns-clause-unasked_memory
-returns-clause-unasked_memory g c = λ six. unasked_six c.load_and_run.result _ c.load_and_run.ensures.requests.unasked (sym c.exit_status.ensures ∙ six)
+pub returns-in-Ok-new-clause-whole : goal.returns-in-Ok-new-clause-whole
+returns-in-Ok-new-clause-whole g c = λ five six.
+    let starts : c.in-Ok-new.mapper.state ≡ start_state c.in-Ok.stack = c.in-Ok-new.ensures.state ∙ ap start_state c.looker.ensures.stack in (
+      ending_message c.run.result,
+      served_whole _ _ _ _ _ c.in-Ok.stack c.in-Ok-new.mapper.state _ c.run.result _ c.in-Ok.ensures.gives.sound starts c.run.ensures.served c.ending_status.ensures five,
+      c.run.ensures.told,
+    )
 
--- The clauses that speak of no run are laws of the definitions.
+pub returns-in-Ok-new-clause-beginning : goal.returns-in-Ok-new-clause-beginning
+returns-in-Ok-new-clause-beginning g c = λ five.
+    let requests = delivery g.Q.Input.handed g.Q.Input.faults g.Q.Input.ends c.args.requests.now c.run.new.requests in
+    let starts : c.in-Ok-new.mapper.state ≡ start_state c.in-Ok.stack = c.in-Ok-new.ensures.state ∙ ap start_state c.looker.ensures.stack in (
+      c.in-Ok.stack,
+      c.in-Ok.ensures.gives.sound,
+      failed_run c.args.status requests c.in-Ok.stack c.in-Ok-new.mapper.state _ c.run.result _ _ _ starts c.run.ensures.served c.run.ensures.left c.run.ensures.failed_flush c.ending_status.ensures five,
+    )
+
+pub returns-in-Ok-new-clause-requests : goal.returns-in-Ok-new-clause-requests
+returns-in-Ok-new-clause-requests g c =
+    ran_requests _ _ _ c.run.result _ _ _ c.ending_status.ensures (record { grows = c.run.ensures.reads; no_more = c.run.ensures.no_more }) c.run.ensures.read_fault c.run.ensures.no_fault
+
+-- ---- there was no memory for them
+
+pub returns-clause-requests : goal.returns-clause-requests
+returns-clause-requests g c = untouched_requests _ _ _ _ _ (one_or_six c.memory.result.kind _ c.refuse-in-Err-new.ensures.is)
+
+pub returns-clause-output : goal.returns-clause-output
+returns-clause-output g c = untouched_output _ _ _ _ _ _ (one_or_six c.memory.result.kind _ c.refuse-in-Err-new.ensures.is)
+
+-- ---- the clauses that speak of no run are laws of the definitions
+
+pub returns-in-Err-clause-one : goal.returns-in-Err-clause-one
+returns-in-Err-clause-one g c = one_whole
+
+pub returns-in-Ok-new-clause-one : goal.returns-in-Ok-new-clause-one
+returns-in-Ok-new-clause-one g c = one_whole
+
 pub returns-clause-one : goal.returns-clause-one
 returns-clause-one g c = one_whole
 
+pub returns-in-Err-clause-fewest : goal.returns-in-Err-clause-fewest
+returns-in-Err-clause-fewest g c = fewest_is
+
 pub returns-clause-fewest : goal.returns-clause-fewest
 returns-clause-fewest g c = fewest_is
+
+pub returns-in-Err-clause-levels : goal.returns-in-Err-clause-levels
+returns-in-Err-clause-levels g c = λ description sound. (reads_free description sound, writes_free description sound)
+
+pub returns-in-Ok-new-clause-levels : goal.returns-in-Ok-new-clause-levels
+returns-in-Ok-new-clause-levels g c = λ description sound. (reads_free description sound, writes_free description sound)
 
 pub returns-clause-levels : goal.returns-clause-levels
 returns-clause-levels g c = λ description sound. (reads_free description sound, writes_free description sound)

@@ -5,13 +5,13 @@ use Rattle.dmremap.proofs.other_whole.other_whole.Goals as goal
 
 pub returns-clause-whole : goal.returns-clause-whole
 returns-clause-whole g c = λ five six. (
-  printing_message c.print-printing.result,
-  other_at _ _ _ _ _ _ c.print-printing.result c.status_of.result c.status_of.ensures c.print-printing.ensures.printed five six,
-  c.tell_of.ensures.told,
+  printing_message c.print.result,
+  other_at _ _ _ _ _ _ c.print.result c.finish.result c.finish.ensures.is c.print.ensures.printed five six,
+  c.finish.ensures.told,
 )
 
 pub returns-clause-beginning : goal.returns-clause-beginning
-returns-clause-beginning g c = λ five. failed_at _ _ _ _ _ _ c.print-printing.result c.print-printing.ensures.printed (sym c.status_of.ensures ∙ five)
+returns-clause-beginning g c = λ five. failed_at _ _ _ _ _ _ c.print.result c.print.ensures.printed (sym c.finish.ensures.is ∙ five)
 
 pub returns-clause-one : goal.returns-clause-one
 returns-clause-one g c = one_other

@@ -1,4 +1,4 @@
-use Rattle.std.proofs.Common.{rules, refl, sym, ap, ◌≡◌, ◌∙◌, subst, List, ℕ}
+use Rattle.std.proofs.Common.{refl, sym, ◌∙◌, subst}
 use Rattle.dm_stack.specs.Report.{IsReport}
 use Rattle.dmremap.specs.Load.{SoundAs}
 use Rattle.dmremap.specs.OtherWhole.{ReportSays}

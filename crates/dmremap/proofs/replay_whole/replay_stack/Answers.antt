@@ -6,3 +6,6 @@ returns-in-Ok-clause-exit g c =
 
 pub returns-in-Ok-clause-output : goal.returns-in-Ok-clause-output
 returns-in-Ok-clause-output g c = (c.close.ensures.closed _ _ _ c.play_requests-ended.ensures.writes c.play_requests-ended.ensures.played).1
+
+pub returns-in-Ok-clause-memory : goal.returns-in-Ok-clause-memory
+returns-in-Ok-clause-memory g c = (c.close.ensures.closed _ _ _ c.play_requests-ended.ensures.writes c.play_requests-ended.ensures.played).2

@@ -1,15 +1,20 @@
+use Rattle.std.proofs.Common.{refl}
+use Rattle.dm_stream.specs.ProgressLaws.{since-same}
+use Rattle.dmremap.specs.declared.replay_whole.ReplayExit.TheVariants as exits
 use Rattle.dmremap.proofs.OneReplay.{one_replay}
 use Rattle.dmremap.proofs.replay_whole.replay_whole.Goals as goal
 
-pub returns-clause-replayed : goal.returns-clause-replayed
-returns-clause-replayed g c = (
-  c.load_and_replay-exit.result,
-  c.load_and_replay-exit.ensures.exit,
-  c.load_and_replay-exit.ensures.requests,
-  c.load_and_replay-exit.ensures.output,
-  c.status_of.ensures,
-  c.tell_of.ensures.told,
+pub returns-in-Err-clause-replayed : goal.returns-in-Err-clause-replayed
+returns-in-Err-clause-replayed g c = (
+  exits.Refused c.in-Err.fault,
+  (since-same (g.W.Output.written c.args.output.now), c.in-Err.ensures.gives.refused),
+  (record { same_handed = refl; same_faults = refl; same_ends = refl }, refl),
+  c.finish-in-Err.ensures.is,
+  c.finish-in-Err.ensures.told,
 )
 
-pub returns-clause-one : goal.returns-clause-one
-returns-clause-one g c = one_replay
+pub returns-in-Ok-clause-one : goal.returns-in-Ok-clause-one
+returns-in-Ok-clause-one g c = one_replay
+
+pub returns-in-Err-clause-one : goal.returns-in-Err-clause-one
+returns-in-Err-clause-one g c = one_replay

@@ -1,0 +1,29 @@
+//! Exit statuses, and the message of a refused load.
+
+ghost use Rattle.std.specs.Prelude.{◌≡◌};
+ghost use Rattle.dm_table.specs.LoadMessage.{load_message};
+ghost use Rattle.dmremap.specs.Status.{ending_status, load_status};
+ghost use Rattle.dmremap.specs.Streams.{Exits};
+
+use dm_stream::{Ending, tell};
+use dm_table::{LoadFault, LoadKind, Output};
+
+/// Tells why a load was refused, and returns the exit status.
+pub(crate) fn refuse<M: Output>(fault: LoadFault, messages: &mut M) -> u8
+    ensures { Exits M.written M.faults M.flushes (load_status fault.kind) (load_message fault) result messages.old messages.new }
+{
+    tell(messages, fault.message().as_slice());
+    if fault.kind == LoadKind::Memory { 6 } else { 1 }
+}
+
+/// The exit status of an ending.
+pub(crate) fn ending_status(ending: Ending) -> u8
+    ensures { result ≡ ending_status ending }
+{
+    match ending {
+        Ending::Done => 0,
+        Ending::BadRequest(_, _) => 3,
+        Ending::ReadFault => 4,
+        Ending::WriteFault => 5,
+    }
+}
