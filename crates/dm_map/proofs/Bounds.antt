@@ -1,6 +1,6 @@
 -- Walks that read search at most once a level for each stretch: a line's by what lies below it, and a range's by its parts.
 use Rattle.std.proofs.Common.{◌≡◌, ℕ, zero, suc, ◌+◌, ◌-◌, ◌*◌, ◌/◌, ◌%◌, ◌<◌, ◌≤◌, false, List, [], ◌∷◌, Some, length, get_or, refl, sym, ap, subst, ◌∙◌, arith}
-use Rattle.std.specs.Prelude.{◌==◌, nat_lt}
+use Rattle.std.specs.Prelude.{◌==◌, min, nat_lt}
 use Rattle.std.proofs.lemmas.Bool.{ne_eqb}
 use Rattle.std.proofs.Math.Nat.{mul-le-mul_right}
 use Rattle.dm_table.specs.declared.request.Op.{Op}
@@ -168,12 +168,13 @@ lines_apart stack state levels fewer device at line more last before found all =
     (other_start device last.line.start line.start (chunk_at last.line.target (at - 1 - last.line.start)) (chunk_at line.target (at - line.start))
     (lower_path stack state fewer device last.line.target (at - 1 - last.line.start)) (lower_path stack state fewer device line.target (at - line.start)) differs)
 
-pub lines_on : (before now looked after : Walking) (op : Op) (levels fewer device sector at done n : ℕ) (line : FoundLine) → levels ≡ suc fewer → now.stack ≡ before.stack → (op ≡ Read → now.state ≡ before.state) → scene looked ≡ scene now
-    → looked.looked.searches ≤ now.looked.searches + 1 → at ≡ sector + done → (0 < done → LineBefore before.stack device at) → HoldsSoundly now.stack device line at → 1 ≤ n → n ≤ line.len - (at - line.start)
+pub lines_on : (before now looked after : Walking) (op : Op) (levels fewer device sector at done n left : ℕ) (line : FoundLine) → levels ≡ suc fewer → now.stack ≡ before.stack → (op ≡ Read → now.state ≡ before.state) → scene looked ≡ scene now
+    → looked.looked.searches ≤ now.looked.searches + 1 → at ≡ sector + done → (0 < done → LineBefore before.stack device at) → HoldsSoundly now.stack device line at → n ≡ min left (line.len - (at - line.start)) → 0 < left
     → ((other : ℕ) → line.start ≤ other → other < line.start + line.len → found_at now.stack device other ≡ Some line)
     → IsBounded before now op (depth_of before.stack device) (path before.stack before.state levels (Device device)) sector done → IsLineBounded looked after op fewer device line (at - line.start) n
     → IsBounded before after op (depth_of before.stack device) (path before.stack before.state levels (Device device)) sector (done + n)
-lines_on before now looked after op levels fewer device sector at done n line more stack_is state_is seen once place last holds some most all one two is sound =
+lines_on before now looked after op levels fewer device sector at done n left line more stack_is state_is seen once place last holds part there all one two is sound =
+    let some : 1 ≤ n = omega (arith, part, there, holds.from, holds.before) in let most : n ≤ line.len - (at - line.start) = omega (arith, part) in
     let stack = before.stack in let state = before.state in let paths = path stack state levels (Device device) in let lower = line_paths stack state fewer device line in
     let each : (other : ℕ) → line.start ≤ other → other < line.start + line.len → found_at stack device other ≡ Some line = λ other from within. subst (λ (s : Description). found_at s device other ≡ Some line) stack_is (all other from within) in
     let same = seen ∙ same_scene now before stack_is (state_is is) in
@@ -188,14 +189,16 @@ lines_on before now looked after op levels fewer device sector at done n line mo
     (subst (λ (p : ℕ). after.looked.searches ≤ now.looked.searches + depth_of stack device * stretches paths p n) place next)
 
 -- the line of the part before, where there is more behind it
-pub line_before : (stack before : Description) (device at n left : ℕ) (line : FoundLine) → before ≡ stack → HoldsSoundly before device line at → 1 ≤ n → n ≤ line.len - (at - line.start) → (n < left → n ≡ line.len - (at - line.start)) → n < left
+pub line_before : (stack before : Description) (device at n left : ℕ) (line : FoundLine) → before ≡ stack → HoldsSoundly before device line at → n ≡ min left (line.len - (at - line.start)) → n < left
     → ((other : ℕ) → line.start ≤ other → other < line.start + line.len → found_at before device other ≡ Some line) → LineBefore stack device (at + n)
-line_before stack before device at n left line same holds some most whole more all = record {
-  line = line;
-  found = subst (λ (s : Description). found_at s device (at + n - 1) ≡ Some line) same (all (at + n - 1) (omega (arith, holds.from, some)) (omega (arith, holds.from, holds.before, most, some)));
-  from = omega (arith, holds.from, some);
-  past = omega (arith, holds.from, whole more);
-}
+line_before stack before device at n left line same holds part more all =
+    let some : 1 ≤ n = omega (arith, part, more, holds.from, holds.before) in
+    record {
+      line = line;
+      found = subst (λ (s : Description). found_at s device (at + n - 1) ≡ Some line) same (all (at + n - 1) (omega (arith, holds.from, some)) (omega (arith, holds.from, holds.before, part, some)));
+      from = omega (arith, holds.from, some);
+      past = omega (arith, holds.from, part, more);
+    }
 
 -- A part of a range, where the walk ended
 

@@ -31,6 +31,7 @@ pub mod Takes
 pub mod There
 pub mod UnitRows
 pub mod Vias
+pub mod WalkedOn
 pub mod WayLemmas
 pub mod WorkedRows
 pub mod WorkedSnapshots

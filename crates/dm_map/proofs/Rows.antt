@@ -1,5 +1,5 @@
 -- The steps of sectors in a row, and what a sink took and left of their units.
-use Rattle.std.proofs.Common.{◌≡◌, ℕ, zero, suc, ◌+◌, ◌-◌, ◌<◌, List, [], ◌∷◌, ◌++◌, append_assoc, refl, sym, ap, subst, ◌∙◌, arith}
+use Rattle.std.proofs.Common.{◌≡◌, ℕ, zero, suc, ◌+◌, ◌<◌, List, [], ◌∷◌, ◌++◌, append_assoc, refl, sym, ap, subst, ◌∙◌, arith}
 use Rattle.std.proofs.lemmas.List.{append-nil}
 use Rattle.std.specs.Result.{IsErr}
 use Rattle.std.specs.Prelude.{nat_lt, true, ◌≤◌, replicate, Result, Ok, Err, OnOk, OnErr}
@@ -172,36 +172,3 @@ steps_still step state sector (suc n) unit still each =
     ap (λ (first : Step). and_then first (λ after. steps step after (suc sector) n)) here
     ∙ ap (λ (rest : Step). record { units = unit ∷ rest.units; state = rest.state }) (steps_still step state (suc sector) n unit still later)
     ∙ ap (λ (next : BlockUnit). keep (unit ∷ units_in next n) state) (sym still)
-
--- a sink that took the first part of a row, and then the next one
-pub took_on : {S : Type 0} (took : S → List BlockUnit → S → Type 0) (both : (a b c : S) (us vs : List BlockUnit) → took a us b → took b vs c → took a (us ++ vs) c)
-    (a b c : S) (step : State → ℕ → Step) (state after : State) (sector m n : ℕ) → after ≡ (steps step state sector m).state → took a (steps step state sector m).units b → took b (steps step after (sector + m) n).units c
-    → took a (steps step state sector (m + n)).units c
-took_on took both a b c step state after sector m n is first second =
-    subst (λ (row : Step). took a row.units c) (sym (steps-append step state sector m n))
-    (both a b c _ _ first (subst (λ (s : State). took b (steps step s (sector + m) n).units c) is second))
-
--- the state after both parts
-pub state_on : (step : State → ℕ → Step) (state after last : State) (sector m n : ℕ) → after ≡ (steps step state sector m).state → last ≡ (steps step after (sector + m) n).state → last ≡ (steps step state sector (m + n)).state
-state_on step state after last sector m n is second =
-    second ∙ ap (λ (s : State). (steps step s (sector + m) n).state) is ∙ ap (λ (row : Step). row.state) (sym (steps-append step state sector m n))
-
--- or it failed in the next one
-pub left_on : {S : Type 0} (took left : S → List BlockUnit → S → Type 0) (both : (a b c : S) (us vs : List BlockUnit) → took a us b → left b vs c → left a (us ++ vs) c)
-    (a b c : S) (step : State → ℕ → Step) (state after : State) (sector m n len : ℕ) → m + n ≤ len → after ≡ (steps step state sector m).state → took a (steps step state sector m).units b
-    → OfBeginning left b (steps step after (sector + m) n).units c → OfBeginning left a (steps step state sector len).units c
-left_on took left both a b c step state after sector m n len within is first second =
-    let cut = subst (λ (s : State). OfBeginning left b (steps step s (sector + m) n).units c) is second in
-    let front = (steps step state sector m).units in let middle = (steps step (steps step state sector m).state (sector + m) n).units in
-    let tail = (steps step (steps step state sector (m + n)).state (sector + (m + n)) (len - (m + n))).units in
-    record {
-      front = front ++ cut.front;
-      rest = cut.rest ++ tail;
-      whole = append_assoc front cut.front (cut.rest ++ tail)
-          ∙ ap (λ (us : List BlockUnit). front ++ us) (sym (append_assoc cut.front cut.rest tail) ∙ ap (λ (us : List BlockUnit). us ++ tail) cut.whole)
-          ∙ sym (append_assoc front middle tail)
-          ∙ ap (λ (row : Step). row.units ++ tail) (sym (steps-append step state sector m n))
-          ∙ ap (λ (row : Step). row.units) (sym (steps-append step state sector (m + n) (len - (m + n))))
-          ∙ ap (λ (k : ℕ). (steps step state sector k).units) (let e : m + n + (len - (m + n)) ≡ len = omega arith in e);
-      holds = both a b c _ _ first cut.holds;
-    }

@@ -1,13 +1,15 @@
 -- Stripes: the column of a sector is one of the line's, its sector there is one of the column's share, and the next chunk is on the next column.
 use Rattle.std.proofs.Common.{◌≡◌, ℕ, zero, suc, ◌+◌, ◌-◌, ◌*◌, ◌/◌, ◌%◌, ◌<◌, ◌≤◌, List, [], ◌∷◌, Option, Some, length, get_or, refl, sym, ap, subst, ◌∙◌, arith}
-use Rattle.std.specs.Prelude.{slice_get}
+use Rattle.std.specs.Prelude.{◌^◌, slice_get}
 use Rattle.std.specs.List.{AllByRecursion}
 use Rattle.std.proofs.lemmas.Nat.{div-add-mod', div-mul-add, mod-mul-add, row_fits}
 use Rattle.std.proofs.lemmas.Option.{slice_get_read}
 use Rattle.std.proofs.Math.Nat.{div-le_self, div-lt_iff_lt-mul, mul-le-mul_right}
 use Rattle.dm_stack.specs.declared.found.FoundColumn.{FoundColumn}
+use Rattle.dm_stack.specs.declared.found.FoundTarget.{FoundTarget}
+use Rattle.dm_stack.specs.declared.found.FoundTarget.TheVariants.{Striped}
 use Rattle.dm_stack.specs.Description.{Description, lower_len}
-use Rattle.dm_stack.specs.Below.{column_of, in_column, below_stripes, below_column, Lies}
+use Rattle.dm_stack.specs.Below.{column_of, in_column, below_stripes, below_column, IsTargetSound, Lies}
 use Rattle.dm_map.specs.declared.stripe.ChunkPlace.{ChunkPlace}
 use Rattle.dm_map.specs.Walk.{AreInStripes, IsPlace}
 
@@ -47,6 +49,11 @@ column_got : (chunk distance : ℕ) (columns : List FoundColumn) (column : Found
 column_got chunk distance columns column some e =
     let place : column_of chunk (length columns) distance < length columns = omega arith in
     slice_get_read columns (length columns) _ column refl place e
+
+-- sectors of a line whose target is stripes
+pub in_stripes : (stack : Description) (device start line_len distance len chunk : ℕ) (columns : List FoundColumn) (target : FoundTarget) → target ≡ Striped chunk columns → IsTargetSound stack device start line_len target → distance + len ≤ line_len → line_len ≤ 2 ^ 50
+    → AreInStripes stack chunk columns distance len
+in_stripes stack device start line_len distance len chunk columns target is sound inside small = record { line_len = line_len; stripes = subst (λ (t : FoundTarget). IsTargetSound stack device start line_len t) is sound; inside = inside; small = small }
 
 -- n sectors of what is left of a chunk lie in what their column names
 pub column_inside : (stack : Description) (chunk distance len done n : ℕ) (columns : List FoundColumn) (column : FoundColumn) (place : ChunkPlace) → AreInStripes stack chunk columns distance len → done < len

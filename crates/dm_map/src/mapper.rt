@@ -5,22 +5,17 @@
 //! `walker` keeps what one request leaves for the next.
 
 ghost use Rattle.std.specs.Prelude.{◌≡◌, ℕ, ◌+◌, ◌*◌, ◌^◌, ◌<◌, ◌≤◌, ◌∷◌, false, true, length, nat_lt, IfOk, IfSome, OnOk, []};
-ghost use Rattle.dm_stack.specs.Description.{Description, device_len};
 ghost use Rattle.dm_table.specs.declared.request.Op.TheVariants.{Read};
 ghost use Rattle.dm_stack.specs.Loaded.{snapshots, stack_depth, IsSnapshot};
-ghost use Rattle.dm_stack.specs.Soundness.{depth_of};
-ghost use Rattle.dm_stack.specs.declared.graph.TheConstants.{MOST_DEPTH};
-ghost use Rattle.dm_stack.specs.declared.id.Lower.TheVariants.{Device};
 ghost use Rattle.dm_map.specs.Mapping.{request_step};
-ghost use Rattle.dm_map.specs.Bound.{IsBounded};
 ghost use Rattle.dm_map.specs.Counts.{grown_by, no_counts, AreAdded};
 ghost use Rattle.dm_map.specs.Mapper.{walking_of, with_looked, OnSinkFault, OnStopped, OnTried};
-ghost use Rattle.dm_map.specs.Path.{path, read_stretches};
+ghost use Rattle.dm_map.specs.Path.{read_stretches};
 ghost use Rattle.dm_map.specs.Sink.{OfBeginning};
 ghost use Rattle.dm_map.specs.State.{start_state, taken_at};
 ghost use Rattle.dm_map.specs.Tables.{snapshot_at};
 ghost use Rattle.dm_map.specs.Usage.{usage_of};
-ghost use Rattle.dm_map.specs.Walk.{range_step, IsReady, IsWalked};
+ghost use Rattle.dm_map.specs.Walk.{IsReady, IsWalked};
 
 use crate::piece::Piece;
 use crate::sink::Sink;
@@ -194,22 +189,6 @@ impl<'s, T: Taken> Mapper<'s, T> {
         if passes_end(request, end) {
             return sink.piece(Piece::Error { len: request.len });
         }
-        self.map_sectors(request, device, sink)
-    }
-
-    /// Hands over the units of a request that lies inside its device, in one walk.
-    fn map_sectors<S: Sink>(
-        &mut self,
-        request: &Request<'_>,
-        device: DeviceId,
-        sink: &mut S,
-    ) -> Result<(), S::Fault>
-        requires inside { request.now.start + request.now.len ≤ device_len self.old.stack device }
-        requires sink { IsReady S.stack S.room sink.old self.old.stack request.now.len }
-        ensures walked { IsWalked S.took S.left S.stack S.room S.faults result sink.old sink.new (walking_of self.old) (walking_of self.new) (range_step self.old.stack request.now.op MOST_DEPTH (Device device) self.old.state request.now.start request.now.len) request.now.len }
-        ensures bounded { IsBounded (walking_of self.old) (walking_of self.new) request.now.op (depth_of self.old.stack device) (path self.old.stack self.old.state MOST_DEPTH (Device device)) request.now.start request.now.len }
-        ensures stopped { self.new.stopped ≡ self.old.stopped }
-    {
         let lower = Lower::Device(device);
         map_range(
             &mut self.walker,

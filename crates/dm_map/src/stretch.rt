@@ -7,18 +7,17 @@
 
 ghost use Rattle.std.specs.Prelude.{◌≡◌, ◌+◌, ◌≤◌, ◌^◌, Some};
 ghost use Rattle.dm_table.specs.declared.request.Op.TheVariants.{Read};
-ghost use Rattle.dm_stack.specs.declared.found.FoundTarget.TheVariants.{Snapshot};
 ghost use Rattle.dm_stack.specs.Below.{found_at, IsTargetSound};
 ghost use Rattle.dm_stack.specs.Description.{lower_len};
 ghost use Rattle.dm_map.specs.Stretch.{IsFirst};
-ghost use Rattle.dm_map.specs.Walk.{line_step, range_step, stripes_step, AreInSnapshot, AreInStripes};
+ghost use Rattle.dm_map.specs.Walk.{line_step, range_step};
 
 use crate::chunk::{part_of_chunk, read_place};
 use crate::stripe::place_at;
 use crate::taken::Taken;
 use crate::walk::{part_in, sector_at};
 use crate::walker::Walker;
-use dm_stack::{DeviceId, DiskId, FoundColumn, FoundLine, FoundSnapshot, FoundTarget, Lower};
+use dm_stack::{DeviceId, DiskId, FoundLine, FoundTarget, Lower};
 
 #[cfg(test)]
 mod tests;
@@ -105,7 +104,11 @@ fn line_stretch<T: Taken>(
         }
         FoundTarget::Striped { chunk, columns } => {
             let columns = columns.as_slice();
-            stripes_stretch(walker, levels, *chunk, columns, distance, len)
+            let place = place_at(*chunk, columns.len() as u64, distance);
+            let part = len.min(*chunk - place.past);
+            let column = columns[place.column];
+            let sector = sector_at(walker, column.to, column.offset, place.in_column());
+            first_stretch(walker, levels, column.to, sector, part)
         }
         FoundTarget::Zero => Stretch {
             ground: Ground::Zeros,
@@ -116,57 +119,14 @@ fn line_stretch<T: Taken>(
             len,
         },
         FoundTarget::Snapshot(snapshot) => {
-            snapshot_stretch(walker, levels, device, snapshot, distance, len)
+            let part = part_of_chunk(snapshot.chunk, distance, len);
+            match read_place(walker, device, snapshot, distance, part) {
+                Some(place) => first_stretch(walker, levels, place.to, place.sector, part),
+                None => Stretch {
+                    ground: Ground::Fails,
+                    len: part,
+                },
+            }
         }
-    }
-}
-
-/// The first stretch of sectors of a striped line at a distance from its start.
-#[cycle(stretch)]
-fn stripes_stretch<T: Taken>(
-    walker: &mut Walker<'_, T>,
-    levels: u32,
-    chunk: u64,
-    columns: &[FoundColumn],
-    distance: u64,
-    len: u64,
-) -> Stretch
-    requires some { 1 ≤ len }
-    requires inside { AreInStripes walker.old.stack chunk columns.now distance len }
-    ensures { IsFirst walker.old walker.new (stripes_step walker.old.stack Read levels chunk columns.now walker.old.state distance) len result }
-{
-    let place = place_at(chunk, columns.len() as u64, distance);
-    let part = len.min(chunk - place.past);
-    let column = columns[place.column];
-    let sector = sector_at(
-        walker,
-        column.to,
-        column.offset,
-        place.chunk_start + place.past,
-    );
-    first_stretch(walker, levels, column.to, sector, part)
-}
-
-/// The first stretch of sectors of a snapshot, as its chunks are in this state.
-#[cycle(stretch)]
-fn snapshot_stretch<T: Taken>(
-    walker: &mut Walker<'_, T>,
-    levels: u32,
-    device: DeviceId,
-    snapshot: &FoundSnapshot,
-    sector: u64,
-    len: u64,
-) -> Stretch
-    requires some { 1 ≤ len }
-    requires inside { AreInSnapshot walker.old.stack device snapshot.now sector len }
-    ensures { IsFirst walker.old walker.new (line_step walker.old.stack Read levels device (Snapshot snapshot.now) walker.old.state sector) len result }
-{
-    let part = part_of_chunk(snapshot.chunk, sector, len);
-    match read_place(walker, device, snapshot, sector, part) {
-        Some(place) => first_stretch(walker, levels, place.to, place.sector, part),
-        None => Stretch {
-            ground: Ground::Fails,
-            len: part,
-        },
     }
 }

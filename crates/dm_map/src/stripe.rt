@@ -4,7 +4,7 @@
 //! so a row of chunks costs the divisions of the first one. The rule that assigns chunks to columns
 //! is in this file alone.
 
-ghost use Rattle.std.specs.Prelude.{◌+◌, ◌-◌, ◌<◌, ◌^◌, ℕ};
+ghost use Rattle.std.specs.Prelude.{◌≡◌, ◌+◌, ◌-◌, ◌<◌, ◌^◌, ℕ};
 ghost use Rattle.dm_map.specs.Walk.{IsPlace};
 
 /// A sector of a striped line: its column, where its chunk starts in that column, and how many
@@ -14,6 +14,17 @@ pub(crate) struct ChunkPlace {
     pub(crate) column: usize,
     pub(crate) chunk_start: u64,
     pub(crate) past: u64,
+}
+
+impl ChunkPlace {
+    /// The sector's distance from the start of its column.
+    #[inline(always)]
+    pub(crate) fn in_column(&self) -> u64
+        requires { self.now.chunk_start + self.now.past < 2 ^ 64 }
+        ensures { result ≡ self.now.chunk_start + self.now.past }
+    {
+        self.chunk_start + self.past
+    }
 }
 
 /// The place of the sector at a distance from the line's start.

@@ -156,12 +156,7 @@ fn map_stripes<S: Sink, T: Taken>(
     while left > 0 {
         let part = left.min(chunk - place.past);
         let column = columns[place.column];
-        let sector = sector_at(
-            walker,
-            column.to,
-            column.offset,
-            place.chunk_start + place.past,
-        );
+        let sector = sector_at(walker, column.to, column.offset, place.in_column());
         map_range(walker, op, levels, column.to, sector, part, sink)?;
         left -= part;
         place = next_chunk(chunk, columns.len(), place);

@@ -10,7 +10,7 @@ use Rattle.dm_table.specs.declared.load_fault.LoadKind.TheVariants.{Gap, Overlap
 use Rattle.dm_table.specs.declared.table.Line.{Line}
 use Rattle.dm_stack.specs.Description.{end_of}
 use Rattle.dm_stack.specs.Soundness.{WithBefore, is_misplaced, misplaced_in, misplaced_kind, with_before}
-use Rattle.dm_stack.proofs.Passes.{filter_none}
+use Rattle.dm_stack.proofs.Passes.{filter_none, map_none}
 use Rattle.dm_stack.proofs.WithBefore.{drop-with_before, further_on, none-with_before}
 
 -- The end of lines, with one more
@@ -87,4 +87,4 @@ in_row_after before (line ∷ lines) each =
 pub in_row : (lines : List Line) → misplaced_in lines ≡ [] → AreInRow 0 lines
 in_row lines e =
     in_row_after [] lines (all_changed (λ line. is_misplaced line ≡ false) (IsPlacedAfter []) (with_before lines)
-    (λ line good. eqb-true _ _ (not-false _ good)) (filter_none (λ line. fault (misplaced_kind line) line.it.at) is_misplaced (with_before lines) e))
+    (λ line good. eqb-true _ _ (not-false _ good)) (filter_none is_misplaced (with_before lines) (map_none (λ line. fault (misplaced_kind line) line.it.at) _ e)))

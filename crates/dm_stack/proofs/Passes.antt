@@ -4,7 +4,6 @@ use Rattle.std.specs.Prelude.{filter}
 use Rattle.std.specs.List.{AllByRecursion}
 use Rattle.dm_table.specs.declared.place.Place.{Place}
 use Rattle.dm_table.specs.declared.load_fault.LoadKind.{LoadKind}
-use Rattle.dm_table.specs.declared.load_fault.LoadFault.{LoadFault}
 use Rattle.dm_table.specs.LoadFault.{faults_by, first_fault}
 use Rattle.dm_table.proofs.FaultLemmas.{first_fault-none}
 use Rattle.dm_stack.specs.Description.{Description}
@@ -19,9 +18,9 @@ pub all_parts : {X : Type 0} (P : X → Type 0) (xs ys : List X) → AllByRecurs
 all_parts P [] ys h = (tt, h)
 all_parts P (x ∷ xs) ys h = let parts = all_parts P xs ys h.1 in ((h.0, parts.0), parts.1)
 
-pub cond_none : (fault : LoadFault) (later : List LoadFault) (b : Bool) → cond b (fault ∷ later) later ≡ [] → (b ≡ false) × (later ≡ [])
-cond_none fault later true e = absurd cc
-cond_none fault later false e = (refl, e)
+pub cond_none : {X : Type 0} (x : X) (later : List X) (b : Bool) → cond b (x ∷ later) later ≡ [] → (b ≡ false) × (later ≡ [])
+cond_none x later true e = absurd cc
+cond_none x later false e = (refl, e)
 
 -- a check of each element passes them all
 pub faults_by_none : {X : Type 0} (kind : LoadKind) (place : X → Place) (bad : X → Bool) (xs : List X) → faults_by kind place bad xs ≡ [] → AllByRecursion (λ x. bad x ≡ false) xs
@@ -30,16 +29,16 @@ faults_by_none kind place bad (x ∷ xs) e =
     let parts = cond_none (record { kind = kind; at = place x }) (faults_by kind place bad xs) (bad x) e in
     (parts.0, faults_by_none kind place bad xs parts.1)
 
-cond_left : {X Y : Type 0} (f : X → Y) (x : X) (later : List X) (b : Bool) → map f (cond b (x ∷ later) later) ≡ [] → (b ≡ false) × (map f later ≡ [])
-cond_left f x later true e = absurd cc
-cond_left f x later false e = (refl, e)
+pub map_none : {X Y : Type 0} (f : X → Y) (xs : List X) → map f xs ≡ [] → xs ≡ []
+map_none f [] e = refl
+map_none f (x ∷ xs) e = absurd cc
 
--- where nothing is made of the elements that pass a test, none passes it
-pub filter_none : {X Y : Type 0} (f : X → Y) (bad : X → Bool) (xs : List X) → map f (filter bad xs) ≡ [] → AllByRecursion (λ x. bad x ≡ false) xs
-filter_none f bad [] e = tt
-filter_none f bad (x ∷ xs) e =
-    let parts = cond_left f x (filter bad xs) (bad x) e in
-    (parts.0, filter_none f bad xs parts.1)
+-- where no element passes a test, each fails it
+pub filter_none : {X : Type 0} (bad : X → Bool) (xs : List X) → filter bad xs ≡ [] → AllByRecursion (λ x. bad x ≡ false) xs
+filter_none bad [] e = tt
+filter_none bad (x ∷ xs) e =
+    let parts = cond_none x (filter bad xs) (bad x) e in
+    (parts.0, filter_none bad xs parts.1)
 
 -- each check before the one for cycles finds nothing
 pub record PassesBefore (stack : Description) : Type 0 where

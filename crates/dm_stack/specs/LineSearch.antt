@@ -1,5 +1,5 @@
 -- The line of a sector, found by the starts of lines.
-use Rattle.std.specs.Prelude.{◌≡◌, ℕ, zero, suc, ◌+◌, ◌/◌, ◌==◌, ◌≤◌, ◌<◌, ⊤, List, MatchOption, slice_get, if◌then◌else◌}
+use Rattle.std.specs.Prelude.{◌≡◌, ℕ, zero, suc, ◌+◌, ◌/◌, ◌==◌, ◌≤◌, ◌<◌, ⊤, List, MatchOption, length, slice_get, if◌then◌else◌}
 use Rattle.dm_stack.specs.declared.found.FoundLine.{FoundLine}
 
 -- there is a line at an index, and it starts at a sector or before it
@@ -22,3 +22,10 @@ digits_to (suc most) number = if number == 0 then 0 else suc (digits_to most (nu
 -- the number of binary digits of a number
 abbrev pub binary_digits : ℕ → ℕ
 binary_digits number = digits_to number number
+
+-- what a search for the line of a sector finds: an index, and how many comparisons it took
+pub record Finds (lines : List FoundLine) (sector : ℕ) (found : ℕ × ℕ) : Type 0 where
+  pub within : found.0 < length lines
+  pub from : StartsBy lines found.0 sector
+  pub next : StartsAfter lines (found.0 + 1) sector
+  pub few : found.1 ≤ binary_digits (length lines)

@@ -6,7 +6,7 @@
 //! line that was found last: it is in the next one, as when a range goes over many lines.
 
 ghost use Rattle.std.specs.Prelude.{◌≡◌, ◌+◌, ◌-◌, ◌<◌, ◌≤◌, length, true};
-ghost use Rattle.dm_stack.specs.LineSearch.{EndsAt, StartsAfter, StartsBy, binary_digits};
+ghost use Rattle.dm_stack.specs.LineSearch.{EndsAt, Finds, StartsAfter, StartsBy};
 
 use crate::found::FoundLine;
 
@@ -19,10 +19,7 @@ pub(crate) fn find(lines: &[FoundLine], next: &mut usize, sector: u64) -> (usize
     requires first { StartsBy lines.now 0 sector }
     requires follows { 0 < next.old → EndsAt lines.now (next.old - 1) sector
         → StartsBy lines.now next.old sector × StartsAfter lines.now (next.old + 1) sector }
-    ensures within { result.0 < length lines.now }
-    ensures from { StartsBy lines.now result.0 sector }
-    ensures next { StartsAfter lines.now (result.0 + 1) sector }
-    ensures few { result.1 ≤ binary_digits (length lines.now) }
+    ensures { Finds lines.now sector result }
 {
     if lines.len() < 4 {
         search(lines, sector)
@@ -37,10 +34,7 @@ fn find_among(lines: &[FoundLine], next: &mut usize, sector: u64) -> (usize, u64
     requires first { StartsBy lines.now 0 sector }
     requires follows { 0 < next.old → EndsAt lines.now (next.old - 1) sector
         → StartsBy lines.now next.old sector × StartsAfter lines.now (next.old + 1) sector }
-    ensures within { result.0 < length lines.now }
-    ensures from { StartsBy lines.now result.0 sector }
-    ensures next { StartsAfter lines.now (result.0 + 1) sector }
-    ensures few { result.1 ≤ binary_digits (length lines.now) }
+    ensures { Finds lines.now sector result }
 {
     if ends_before(lines, *next, sector) {
         let index = *next;
@@ -70,10 +64,7 @@ fn ends_before(lines: &[FoundLine], next: usize, sector: u64) -> bool
 
 fn search(lines: &[FoundLine], sector: u64) -> (usize, u64)
     requires { StartsBy lines.now 0 sector }
-    ensures within { result.0 < length lines.now }
-    ensures from { StartsBy lines.now result.0 sector }
-    ensures next { StartsAfter lines.now (result.0 + 1) sector }
-    ensures few { result.1 ≤ binary_digits (length lines.now) }
+    ensures { Finds lines.now sector result }
 {
     let mut index = 0;
     let mut count = lines.len();

@@ -106,25 +106,6 @@ fn item_at<'a>(tokens: &[Placed<'a>], at: usize) -> Option<(Scalar<'a>, usize)>
     }
 }
 
-/// The scalars of a list, from after its opening bracket, and the place after the closing one.
-fn scalars_at<'a>(
-    alloc: Global,
-    tokens: &[Placed<'a>],
-    start: usize,
-) -> Result<(Vec<Scalar<'a>>, usize), AllocError>
-    requires { start ≤ length tokens.now }
-    ensures read { IfOk result (λ r. ReadsScalars (views (drop start tokens.now)) (scalar_views r.0.items) (views (drop r.1 tokens.now))) }
-    ensures later { IfOk result (λ r. (start ≤ r.1) × (r.1 ≤ length tokens.now)) }
-{
-    let mut scalars = Vec::new(alloc);
-    let mut at = start;
-    while let Some((scalar, after)) = item_at(tokens, at) {
-        scalars.push(scalar)?;
-        at = after;
-    }
-    Ok((scalars, behind(tokens, at)))
-}
-
 /// The value of a scalar; of no scalar, which the syntax rules out, any value will do.
 fn value_of_scalar(scalar: Option<Scalar<'_>>) -> Value<'_>
     ensures shows { ShowsScalar scalar.entry result }
@@ -137,89 +118,103 @@ fn value_of_scalar(scalar: Option<Scalar<'_>>) -> Value<'_>
     }
 }
 
-/// A scalar or a list, from after the equals sign, and the place after it.
-fn leaf_at<'a>(
-    alloc: Global,
-    tokens: &[Placed<'a>],
-    start: usize,
-) -> Result<(Value<'a>, usize), AllocError>
-    requires { start ≤ length tokens.now }
-    ensures read { IfOk result (λ r. ReadsLeaf (views (drop start tokens.now)) r.0 (views (drop r.1 tokens.now))) }
-    ensures no_section { IfOk result (λ r. (n : ℕ) → has_line n r.0 ≡ true) }
-    ensures later { IfOk result (λ r. (start ≤ r.1) × (r.1 ≤ length tokens.now)) }
-{
-    let Some(first) = token_at(tokens, start) else {
-        return Ok((Value::Int(0), start));
-    };
-    if is_list_open(first.token) {
-        let (scalars, after) = scalars_at(alloc, tokens, start + 1)?;
-        return Ok((Value::List(scalars), after));
-    }
-    Ok((value_of_scalar(scalar_of(first.token)), start + 1))
+/// The tokens of a text, and the allocator for what is made of them.
+#[derive(Clone, Copy)]
+pub(crate) struct Builder<'t, 'a> {
+    pub alloc: Global,
+    pub tokens: &'t [Placed<'a>],
 }
 
-/// What a key on this line holds, from after the key, and the place after it.
-#[cycle(build)]
-fn value_at<'a>(
-    alloc: Global,
-    tokens: &[Placed<'a>],
-    line: u64,
-    start: usize,
-) -> Result<(Value<'a>, usize), TextFault>
-    requires { start ≤ length tokens.now }
-    ensures agrees { IfOk result (λ r. has_line line r.0 ≡ true) }
-    ensures differ { IfOk result (λ r. inner_lines r.0 ≡ []) }
-    ensures read { IfOk result (λ r. ReadsValue line (views (drop start tokens.now)) r.0 (views (drop r.1 tokens.now))) }
-    ensures later { IfOk result (λ r. (start ≤ r.1) × (r.1 ≤ length tokens.now)) }
-    ensures twice { IfErr result (IsTwiceInside line (views (drop start tokens.now))) }
-{
-    let Some(first) = token_at(tokens, start) else {
-        return Ok((Value::Int(0), start));
-    };
-    if is_open(first.token) {
-        let (section, after) = section_at(alloc, tokens, line, start + 1)?;
-        return Ok((Value::Section(section), behind(tokens, after)));
-    }
-    Ok(leaf_at(alloc, tokens, start + 1)?)
-}
-
-/// The section whose key is on this line and whose values begin at a place, and the place after them; or the
-/// first key in it that equals an earlier key of the same section.
-#[cycle(build)]
-pub(crate) fn section_at<'a>(
-    alloc: Global,
-    tokens: &[Placed<'a>],
-    line: u64,
-    start: usize,
-) -> Result<(Section<'a>, usize), TextFault>
-    requires { start ≤ length tokens.now }
-    ensures line { IfOk result (λ r. r.0.line ≡ line) }
-    ensures differ { IfOk result (λ r. twice_lines [] r.0.values ≡ []) }
-    ensures read { IfOk result (λ r. ReadsValues (views (drop start tokens.now)) r.0.values (views (drop r.1 tokens.now))) }
-    ensures later { IfOk result (λ r. (start ≤ r.1) × (r.1 ≤ length tokens.now)) }
-    ensures twice { IfErr result (IsTwice (views (drop start tokens.now))) }
-{
-    let mut entries = Vec::new(alloc);
-    let mut index = BTreeMap::new(alloc);
-    let mut at = start;
-    while let Some((key, key_line)) = key_at(tokens, at) {
-        if place_of(entries.as_slice(), &index, key).is_some() {
-            return Err(TextFault::KeyTwice(key_line));
+impl<'t, 'a> Builder<'t, 'a> {
+    /// The scalars of a list, from after its opening bracket, and the place after the closing one.
+    fn scalars_at(&self, start: usize) -> Result<(Vec<Scalar<'a>>, usize), AllocError>
+        requires { start ≤ length self.now.tokens.now }
+        ensures read { IfOk result (λ r. ReadsScalars (views (drop start self.now.tokens.now)) (scalar_views r.0.items) (views (drop r.1 self.now.tokens.now))) }
+        ensures later { IfOk result (λ r. (start ≤ r.1) × (r.1 ≤ length self.now.tokens.now)) }
+    {
+        let mut scalars = Vec::new(self.alloc);
+        let mut at = start;
+        while let Some((scalar, after)) = item_at(self.tokens, at) {
+            scalars.push(scalar)?;
+            at = after;
         }
-        let (value, after) = value_at(alloc, tokens, key_line, at + 1)?;
-        let node = Node {
-            value,
-            line: key_line,
-        };
-        put_entry(&mut entries, &mut index, Entry { key, node })?;
-        at = after;
+        Ok((scalars, behind(self.tokens, at)))
     }
-    // Most sections have few keys, so the room left for more would be most of the memory.
-    entries.shrink_to_fit();
-    let section = Section {
-        line,
-        entries,
-        index,
-    };
-    Ok((section, at))
+
+    /// A scalar or a list, from after the equals sign, and the place after it.
+    fn leaf_at(&self, start: usize) -> Result<(Value<'a>, usize), AllocError>
+        requires { start ≤ length self.now.tokens.now }
+        ensures read { IfOk result (λ r. ReadsLeaf (views (drop start self.now.tokens.now)) r.0 (views (drop r.1 self.now.tokens.now))) }
+        ensures no_section { IfOk result (λ r. (n : ℕ) → has_line n r.0 ≡ true) }
+        ensures later { IfOk result (λ r. (start ≤ r.1) × (r.1 ≤ length self.now.tokens.now)) }
+    {
+        let Some(first) = token_at(self.tokens, start) else {
+            return Ok((Value::Int(0), start));
+        };
+        if is_list_open(first.token) {
+            let (scalars, after) = self.scalars_at(start + 1)?;
+            return Ok((Value::List(scalars), after));
+        }
+        Ok((value_of_scalar(scalar_of(first.token)), start + 1))
+    }
+
+    /// What a key on this line holds, from after the key, and the place after it.
+    #[cycle(build)]
+    fn value_at(&self, line: u64, start: usize) -> Result<(Value<'a>, usize), TextFault>
+        requires { start ≤ length self.now.tokens.now }
+        ensures agrees { IfOk result (λ r. has_line line r.0 ≡ true) }
+        ensures differ { IfOk result (λ r. inner_lines r.0 ≡ []) }
+        ensures read { IfOk result (λ r. ReadsValue line (views (drop start self.now.tokens.now)) r.0 (views (drop r.1 self.now.tokens.now))) }
+        ensures later { IfOk result (λ r. (start ≤ r.1) × (r.1 ≤ length self.now.tokens.now)) }
+        ensures twice { IfErr result (IsTwiceInside line (views (drop start self.now.tokens.now))) }
+    {
+        let Some(first) = token_at(self.tokens, start) else {
+            return Ok((Value::Int(0), start));
+        };
+        if is_open(first.token) {
+            let (section, after) = self.section_at(line, start + 1)?;
+            return Ok((Value::Section(section), behind(self.tokens, after)));
+        }
+        Ok(self.leaf_at(start + 1)?)
+    }
+
+    /// The section whose key is on this line and whose values begin at a place, and the place after them; or the
+    /// first key in it that equals an earlier key of the same section.
+    #[cycle(build)]
+    pub(crate) fn section_at(
+        &self,
+        line: u64,
+        start: usize,
+    ) -> Result<(Section<'a>, usize), TextFault>
+        requires { start ≤ length self.now.tokens.now }
+        ensures line { IfOk result (λ r. r.0.line ≡ line) }
+        ensures differ { IfOk result (λ r. twice_lines [] r.0.values ≡ []) }
+        ensures read { IfOk result (λ r. ReadsValues (views (drop start self.now.tokens.now)) r.0.values (views (drop r.1 self.now.tokens.now))) }
+        ensures later { IfOk result (λ r. (start ≤ r.1) × (r.1 ≤ length self.now.tokens.now)) }
+        ensures twice { IfErr result (IsTwice (views (drop start self.now.tokens.now))) }
+    {
+        let mut entries = Vec::new(self.alloc);
+        let mut index = BTreeMap::new(self.alloc);
+        let mut at = start;
+        while let Some((key, key_line)) = key_at(self.tokens, at) {
+            if place_of(entries.as_slice(), &index, key).is_some() {
+                return Err(TextFault::KeyTwice(key_line));
+            }
+            let (value, after) = self.value_at(key_line, at + 1)?;
+            let node = Node {
+                value,
+                line: key_line,
+            };
+            put_entry(&mut entries, &mut index, Entry { key, node })?;
+            at = after;
+        }
+        // Most sections have few keys, so the room left for more would be most of the memory.
+        entries.shrink_to_fit();
+        let section = Section {
+            line,
+            entries,
+            index,
+        };
+        Ok((section, at))
+    }
 }

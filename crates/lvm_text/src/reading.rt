@@ -10,7 +10,7 @@ ghost use Rattle.lvm_text.specs.TokenView.{views};
 ghost use Rattle.lvm_text.specs.Reading.{Describes, HasFault, TreeOf};
 ghost use Rattle.lvm_text.specs.declared.fault.TextFault.TheVariants.{Memory};
 
-use crate::build::section_at;
+use crate::build::Builder;
 use crate::check::{deep_line, number_line};
 use crate::fault::TextFault;
 use crate::syntax::syntax_line;
@@ -41,7 +41,7 @@ fn tree_of<'a>(alloc: Global, tokens: &[Placed<'a>]) -> Result<Section<'a>, Text
     if let Some(line) = number_line(tokens) {
         return Err(TextFault::Number(line));
     }
-    let (section, _) = section_at(alloc, tokens, 1, 0)?;
+    let (section, _) = Builder { alloc, tokens }.section_at(1, 0)?;
     Ok(section)
 }
 

@@ -1,5 +1,5 @@
 -- A text of metadata describes at most one group, or is refused by at most one fault, and not both.
-use Rattle.std.proofs.Common.{◌≡◌, ℕ, List, Option, Some, None, sym, ap, subst, ◌∙◌}
+use Rattle.std.proofs.Common.{◌≡◌, ℕ, List, sym, ap, ◌∙◌}
 use Rattle.lvm_text.specs.Tree.{Tree}
 use Rattle.lvm_text.proofs.Unique.{one_tree, no_fault as no_text_fault, one_fault as one_text_fault}
 use Rattle.dm_table.specs.declared.load_fault.LoadFault.{LoadFault}

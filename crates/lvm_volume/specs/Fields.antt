@@ -29,36 +29,39 @@ pub record Field : Type 0 where
 abbrev pub field : List ℕ → Kind → Condition → Field
 field key kind when = record { key = key; kind = kind; when = when }
 
+abbrev pub always : List ℕ → Kind → Field
+always key kind = field key kind Always
+
 abbrev pub top_fields : List Field
-top_fields = field (codes "contents") kinds.Title Always ∷ field (codes "version") kinds.Version Always ∷ []
+top_fields = always (codes "contents") kinds.Title ∷ always (codes "version") kinds.Version ∷ []
 
 abbrev pub group_fields : List Field
 group_fields =
-    field (codes "extent_size") kinds.Positive Always
-    ∷ field (codes "physical_volumes") kinds.Section Always
+    always (codes "extent_size") kinds.Positive
+    ∷ always (codes "physical_volumes") kinds.Section
     ∷ field (codes "logical_volumes") kinds.Section Given
     ∷ []
 
 abbrev pub physical_fields : List Field
 physical_fields =
-    field (codes "device") kinds.Text Always
-    ∷ field (codes "dev_size") kinds.Number Always
-    ∷ field (codes "pe_start") kinds.Number Always
-    ∷ field (codes "pe_count") kinds.Extents Always
+    always (codes "device") kinds.Text
+    ∷ always (codes "dev_size") kinds.Number
+    ∷ always (codes "pe_start") kinds.Number
+    ∷ always (codes "pe_count") kinds.Extents
     ∷ []
 
 abbrev pub volume_fields : List Field
-volume_fields = field (codes "status") kinds.Texts Always ∷ field (codes "segment_count") kinds.Number Always ∷ []
+volume_fields = always (codes "status") kinds.Texts ∷ always (codes "segment_count") kinds.Number ∷ []
 
 -- segment number i of a volume
 abbrev pub segment_field : ℕ → Field
-segment_field i = field (codes "segment" ++ decimal i) kinds.Section Always
+segment_field i = always (codes "segment" ++ decimal i) kinds.Section
 
 abbrev pub segment_fields : List Field
 segment_fields =
-    field (codes "start_extent") kinds.Extents Always
-    ∷ field (codes "extent_count") kinds.Extents Always
-    ∷ field (codes "type") kinds.Type Always
+    always (codes "start_extent") kinds.Extents
+    ∷ always (codes "extent_count") kinds.Extents
+    ∷ always (codes "type") kinds.Type
     ∷ field (codes "stripe_count") kinds.Positive Striped
     ∷ field (codes "stripes") kinds.Stripes Striped
     ∷ field (codes "stripe_size") kinds.Number Several

@@ -127,31 +127,15 @@ fn is_misplaced(
     }
     match &segment.target {
         SegmentType::Striped { stripes, .. } => {
-            is_clash(physicals, maps, segment.count, stripes.as_slice())
+            let stripes = stripes.as_slice();
+            let parts = stripes.len() as u64;
+            if parts == 0 || segment.count % parts != 0 {
+                return Ok(true);
+            }
+            claim_all(physicals, maps, segment.count / parts, stripes)
         }
         SegmentType::Zero | SegmentType::Error => Ok(false),
     }
-}
-
-/// Whether `count` extents are not divided by the stripes, or these clash with what is used; if not, they claim theirs.
-fn is_clash(
-    physicals: &[Physical],
-    maps: &mut [BTreeMap<u64, u64>],
-    count: u64,
-    stripes: &[Stripe],
-) -> Result<bool, AllocError>
-    requires len { length maps.old ≡ length physicals.now }
-    requires some { 0 < count }
-    ensures value { (used : List Claim) → Holds maps.old used
-        → IfOk result (λ clash. clash ≡ (length stripes.now == 0 || (not (count % length stripes.now == 0) || have_clash physicals.now used (claims_by (count / length stripes.now) stripes.now)))) }
-    ensures held { (used : List Claim) → Holds maps.old used → IfOk result (λ clash. clash ≡ false → Holds maps.new (used_by used (claims_by (count / length stripes.now) stripes.now))) }
-    ensures kept { length maps.new ≡ length maps.old }
-{
-    let parts = stripes.len() as u64;
-    if parts == 0 || count % parts != 0 {
-        return Ok(true);
-    }
-    claim_all(physicals, maps, count / parts, stripes)
 }
 
 /// Whether one of the stripes clashes. Each claims its extents up to one that does.

@@ -57,8 +57,8 @@ pub(crate) fn top_fields() -> [Field<'static>; 2]
     ensures { field_views result ≡ spec.top_fields }
 {
     [
-        row("contents", Kind::Title, Condition::Always),
-        row("version", Kind::Version, Condition::Always),
+        always("contents", Kind::Title),
+        always("version", Kind::Version),
     ]
 }
 
@@ -67,8 +67,8 @@ pub(crate) fn group_fields() -> [Field<'static>; 3]
     ensures { field_views result ≡ spec.group_fields }
 {
     [
-        row("extent_size", Kind::Positive, Condition::Always),
-        row("physical_volumes", Kind::Section, Condition::Always),
+        always("extent_size", Kind::Positive),
+        always("physical_volumes", Kind::Section),
         row("logical_volumes", Kind::Section, Condition::Given),
     ]
 }
@@ -78,10 +78,10 @@ pub(crate) fn physical_fields() -> [Field<'static>; 4]
     ensures { field_views result ≡ spec.physical_fields }
 {
     [
-        row("device", Kind::Text, Condition::Always),
-        row("dev_size", Kind::Number, Condition::Always),
-        row("pe_start", Kind::Number, Condition::Always),
-        row("pe_count", Kind::Extents, Condition::Always),
+        always("device", Kind::Text),
+        always("dev_size", Kind::Number),
+        always("pe_start", Kind::Number),
+        always("pe_count", Kind::Extents),
     ]
 }
 
@@ -90,8 +90,8 @@ pub(crate) fn volume_fields() -> [Field<'static>; 2]
     ensures { field_views result ≡ spec.volume_fields }
 {
     [
-        row("status", Kind::Texts, Condition::Always),
-        row("segment_count", Kind::Number, Condition::Always),
+        always("status", Kind::Texts),
+        always("segment_count", Kind::Number),
     ]
 }
 
@@ -100,17 +100,24 @@ pub(crate) fn segment_fields() -> [Field<'static>; 6]
     ensures { field_views result ≡ spec.segment_fields }
 {
     [
-        row("start_extent", Kind::Extents, Condition::Always),
-        row("extent_count", Kind::Extents, Condition::Always),
-        row("type", Kind::Type, Condition::Always),
+        always("start_extent", Kind::Extents),
+        always("extent_count", Kind::Extents),
+        always("type", Kind::Type),
         row("stripe_count", Kind::Positive, Condition::Striped),
         row("stripes", Kind::Stripes, Condition::Striped),
         row("stripe_size", Kind::Number, Condition::Several),
     ]
 }
 
+/// A row of a field that is asked for everywhere.
+pub(crate) fn always(key: &str, kind: Kind) -> Field<'_>
+    ensures { field_view result ≡ spec.always key.now kind }
+{
+    row(key, kind, Condition::Always)
+}
+
 /// A row of a table.
-pub(crate) fn row(key: &str, kind: Kind, when: Condition) -> Field<'_>
+fn row(key: &str, kind: Kind, when: Condition) -> Field<'_>
     ensures { field_view result ≡ record { key = key.now; kind = kind; when = when } }
 {
     Field { key, kind, when }

@@ -129,18 +129,11 @@ fn has_far(items: &[Scalar<'_>]) -> bool
     ensures { result ≡ list_any is_far_scalar (scalar_views items.now) }
 {
     for item in items {
-        if is_far_scalar(item) {
+        if let Scalar::Int(number) = item
+            && MOST < *number
+        {
             return true;
         }
     }
     false
-}
-
-fn is_far_scalar(scalar: &Scalar<'_>) -> bool
-    ensures { result ≡ is_far_scalar (scalar_view scalar.now) }
-{
-    match scalar {
-        Scalar::Int(number) => MOST < *number,
-        Scalar::Text(_) => false,
-    }
 }

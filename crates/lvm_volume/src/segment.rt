@@ -120,24 +120,8 @@ fn striped(
     })
 }
 
-/// The segment that a section says.
-#[tactic(auto, unfolding(crate::specs::Group::segment_of))]
-fn segment_of(
-    alloc: Global,
-    places: &Places<'_>,
-    segment: &Section<'_>,
-) -> Result<Segment, AllocError>
-    ensures { IfOk result (λ made. made ≡ segment_of places.now segment.now) }
-{
-    Ok(Segment {
-        start: number_at(segment, "start_extent"),
-        count: number_at(segment, "extent_count"),
-        target: target_of(alloc, places, segment)?,
-        line: segment.line(),
-    })
-}
-
 /// The segments that sections say.
+#[tactic(auto, unfolding(crate::specs::Group::segment_of))]
 pub(crate) fn segments_in(
     alloc: Global,
     places: &Places<'_>,
@@ -147,7 +131,12 @@ pub(crate) fn segments_in(
 {
     let mut segments = Vec::new(alloc);
     for section in sections {
-        segments.push(segment_of(alloc, places, *section)?)?;
+        segments.push(Segment {
+            start: number_at(*section, "start_extent"),
+            count: number_at(*section, "extent_count"),
+            target: target_of(alloc, places, *section)?,
+            line: section.line(),
+        })?;
     }
     Ok(Segments::from_vec(segments))
 }

@@ -17,8 +17,7 @@ ghost use Rattle.lvm_volume.specs.Fields.{faults_of_fields, fields_faults, field
 
 use crate::check::Check;
 use crate::field::{
-    Condition, Field, Kind, group_fields, physical_fields, row, segment_fields, top_fields,
-    volume_fields,
+    Field, Kind, always, group_fields, physical_fields, segment_fields, top_fields, volume_fields,
 };
 use crate::fits::{fits, is_asked, is_far};
 use crate::value::{number_at, section_at, sections_at, sections_of, segment_key, segments_of};
@@ -128,11 +127,7 @@ fn keys_fault(
 {
     for i in 0..number_at(volume, "segment_count") {
         let key = segment_key(alloc, i + 1)?;
-        if let Some(fault) = field_fault(
-            check,
-            volume,
-            &row(key.as_str(), Kind::Section, Condition::Always),
-        ) {
+        if let Some(fault) = field_fault(check, volume, &always(key.as_str(), Kind::Section)) {
             return Ok(Some(fault));
         }
     }

@@ -1,8 +1,11 @@
 use Rattle.std.proofs.Common.{rules, ◌≡◌, ℕ, ◌+◌, ◌-◌, ◌<◌, ◌≤◌, List, Some, length, get_or, sym, ap, subst, refl, ◌∙◌, arith}
+use Rattle.std.specs.Prelude.{◌^◌, min}
 use Rattle.dm_table.specs.declared.request.Op.TheVariants.{Read}
 use Rattle.dm_stack.specs.declared.found.FoundColumn.{FoundColumn}
+use Rattle.dm_stack.specs.declared.found.FoundTarget.{FoundTarget}
+use Rattle.dm_stack.specs.declared.found.FoundTarget.TheVariants.{Striped}
 use Rattle.dm_stack.specs.declared.id.Lower.{Lower}
-use Rattle.dm_stack.specs.Below.{found_at}
+use Rattle.dm_stack.specs.Below.{found_at, IsTargetSound}
 use Rattle.dm_stack.specs.Description.{Description, lower_len}
 use Rattle.dm_map.specs.declared.stretch.Ground.{Ground}
 use Rattle.dm_map.specs.declared.stretch.Ground.TheVariants as grounds
@@ -11,10 +14,10 @@ use Rattle.dm_map.specs.declared.stripe.ChunkPlace.{ChunkPlace}
 use Rattle.dm_map.specs.Steps.{Step, keep}
 use Rattle.dm_map.specs.Stretch.{ground_unit, IsFirst, IsThere}
 use Rattle.dm_map.specs.Units.{units_in}
-use Rattle.dm_map.specs.Walk.{Scene, Walking, line_step, range_step, scene, stripes_step, AreInStripes, IsPlace}
+use Rattle.dm_map.specs.Walk.{Scene, Walking, line_step, range_step, scene, IsPlace}
 use Rattle.dm_map.proofs.Ranges.{range_deepest, range_disk, range_line, line_errors, line_linear, line_striped, line_zeros, stripes_chunk}
 use Rattle.dm_map.proofs.Chunks.{chunk_read, in_one_chunk, in_snapshot, lost_read}
-use Rattle.dm_map.proofs.Stripes.{column_inside}
+use Rattle.dm_map.proofs.Stripes.{column_inside, in_stripes, place_small}
 use Rattle.dm_map.proofs.Rows.{added_then, none_added}
 use Rattle.dm_map.proofs.There.{device_there, disk_there}
 use Rattle.dm_map.proofs.stretch.+stretch.Goals as goal
@@ -76,13 +79,6 @@ line_stretch-returns-in-Linear g t c =
     (ap (λ target. line_step w.stack Read a.levels device target w.state a.distance n) c.in-Linear.is ∙ line_linear w.stack Read a.levels device c.in-Linear.to c.in-Linear.offset a.distance n w.state
     ∙ ap (λ (p : ℕ). range_step w.stack Read a.levels c.in-Linear.to w.state p n) (sym c.sector_at-sector.ensures))
 
-pub line_stretch-returns-in-Striped : goal.line_stretch-returns-in-Striped
-line_stretch-returns-in-Striped g t c =
-    let a = c.args in let device = a.device in let w = a.walker.now in let n = c.stripes_stretch.result.len in
-    below w _ _ _ a.len a.len _ c.stripes_stretch.ensures (omega arith)
-    (ap (λ target. line_step w.stack Read a.levels device target w.state a.distance n) c.in-Striped.is ∙ line_striped w.stack Read a.levels device c.in-Striped.chunk c.in-Striped.columns a.distance n w.state
-    ∙ ap (λ columns. stripes_step w.stack Read a.levels c.in-Striped.chunk columns w.state a.distance n) (sym c.as_slice-columns.ensures))
-
 pub line_stretch-returns-in-Zero : goal.line_stretch-returns-in-Zero
 line_stretch-returns-in-Zero g t c =
     let a = c.args in let w = a.walker.now in
@@ -98,69 +94,70 @@ line_stretch-returns-in-Error g t c =
 -- Stripes
 
 -- what is left of the first chunk is there
-part_inside : (stack : Description) (chunk distance len n : ℕ) (columns : List FoundColumn) (column : FoundColumn) (place : ChunkPlace) → AreInStripes stack chunk columns distance len → 1 ≤ len → IsPlace chunk (length columns) distance place
-    → n ≤ chunk - place.past → column ≡ get_or columns place.column column → column.offset + (place.chunk_start + place.past) + n ≤ lower_len stack column.to
-part_inside stack chunk distance len n columns column place lies some at most is =
-    let here : distance ≡ distance + 0 = omega arith in
-    column_inside stack chunk distance len 0 n columns column place lies (omega (arith, some)) (subst (λ (d : ℕ). IsPlace chunk (length columns) d place) here at) most is
+part_inside : (stack : Description) (device start line_len chunk distance len n : ℕ) (columns : List FoundColumn) (column : FoundColumn) (place : ChunkPlace) (target : FoundTarget) → target ≡ Striped chunk columns → IsTargetSound stack device start line_len target
+    → distance + len ≤ line_len → line_len ≤ 2 ^ 50 → 1 ≤ len → IsPlace chunk (length columns) distance place → n ≡ min len (chunk - place.past) → column ≡ get_or columns place.column column
+    → (1 ≤ n) × (column.offset + (place.chunk_start + place.past) + n ≤ lower_len stack column.to)
+part_inside stack device start line_len chunk distance len n columns column place target kind sound inside small some at part is =
+    let lies = in_stripes stack device start line_len distance len chunk columns target kind sound inside small in
+    let here : distance ≡ distance + 0 = omega arith in (
+      omega (arith, part, some, at.past, lies.stripes.chunk_some),
+      column_inside stack chunk distance len 0 n columns column place lies (omega (arith, some)) (subst (λ (d : ℕ). IsPlace chunk (length columns) d place) here at) (omega (arith, part)) is,
+    )
 
-pub stripes_stretch-sector_at-sector-requires : goal.stripes_stretch-sector_at-sector-requires
-stripes_stretch-sector_at-sector-requires g t c =
-    let a = c.args in let place = c.place_at-place.result in let column = c.index-columns-place.result in
-    let inside = part_inside a.walker.now.stack a.chunk a.distance a.len c.min-part.result a.columns.now column place c.requires.inside c.requires.some c.place_at-place.ensures (omega (arith, c.min-part.ensures)) c.index-columns-place.is in
-    let some : 1 ≤ c.min-part.result = omega (arith, c.min-part.ensures, c.requires.some, c.place_at-place.ensures.past, c.requires.inside.stripes.chunk_some) in
-    omega (arith, inside, some)
+pub line_stretch-in_column-requires : goal.line_stretch-in_column-requires
+line_stretch-in_column-requires g t c =
+    let a = c.args in
+    let lies = in_stripes a.walker.now.stack a.device a.line.now.start a.line.now.len a.distance a.len c.in-Striped.chunk c.as_slice-columns.result.now a.line.now.target
+    (c.in-Striped.is ∙ ap (λ columns. Striped c.in-Striped.chunk columns) (sym c.as_slice-columns.ensures)) c.requires.sound c.requires.inside c.requires.small in
+    let small = place_small c.in-Striped.chunk (length c.as_slice-columns.result.now) a.distance c.place_at-place.result lies.stripes.some c.place_at-place.ensures in
+    omega (arith, small, lies.inside, lies.small, c.requires.some)
 
-pub stripes_stretch-first_stretch-requires : goal.stripes_stretch-first_stretch-requires
-stripes_stretch-first_stretch-requires g t c =
-    let a = c.args in let place = c.place_at-place.result in let column = c.index-columns-place.result in
-    let inside = part_inside a.walker.now.stack a.chunk a.distance a.len c.min-part.result a.columns.now column place c.requires.inside c.requires.some c.place_at-place.ensures (omega (arith, c.min-part.ensures)) c.index-columns-place.is in
-    let some : 1 ≤ c.min-part.result = omega (arith, c.min-part.ensures, c.requires.some, c.place_at-place.ensures.past, c.requires.inside.stripes.chunk_some) in
-    let there : c.sector_at-sector.result + c.min-part.result ≤ lower_len a.walker.now.stack column.to = omega (arith, inside, c.sector_at-sector.ensures) in
+pub line_stretch-sector_at-sector-requires-in-Striped : goal.line_stretch-sector_at-sector-requires-in-Striped
+line_stretch-sector_at-sector-requires-in-Striped g t c =
+    let a = c.args in
+    let inside = part_inside a.walker.now.stack a.device a.line.now.start a.line.now.len c.in-Striped.chunk a.distance a.len c.min-part.result c.as_slice-columns.result.now c.index-columns-place.result c.place_at-place.result a.line.now.target
+    (c.in-Striped.is ∙ ap (λ columns. Striped c.in-Striped.chunk columns) (sym c.as_slice-columns.ensures)) c.requires.sound c.requires.inside c.requires.small c.requires.some c.place_at-place.ensures c.min-part.ensures c.index-columns-place.is in
+    omega (arith, inside.0, inside.1, c.in_column.ensures)
+
+pub line_stretch-first_stretch-requires-in-Striped : goal.line_stretch-first_stretch-requires-in-Striped
+line_stretch-first_stretch-requires-in-Striped g t c κs within =
+    let a = c.args in
+    let inside = part_inside a.walker.now.stack a.device a.line.now.start a.line.now.len c.in-Striped.chunk a.distance a.len c.min-part.result c.as_slice-columns.result.now c.index-columns-place.result c.place_at-place.result a.line.now.target
+    (c.in-Striped.is ∙ ap (λ columns. Striped c.in-Striped.chunk columns) (sym c.as_slice-columns.ensures)) c.requires.sound c.requires.inside c.requires.small c.requires.some c.place_at-place.ensures c.min-part.ensures c.index-columns-place.is in
+    let some = inside.0 in
+    let there : c.sector_at-sector-in-Striped.result + c.min-part.result ≤ lower_len a.walker.now.stack c.index-columns-place.result.to = omega (arith, inside.1, c.sector_at-sector-in-Striped.ensures, c.in_column.ensures) in
     search rules
 
-pub stripes_stretch-returns : goal.stripes_stretch-returns
-stripes_stretch-returns g t c =
-    let a = c.args in let w = a.walker.now in let place = c.place_at-place.result in let column = c.index-columns-place.result in let s = c.first_stretch.ensures in let n = c.first_stretch.result.len in let stripes = c.requires.inside.stripes in
+pub line_stretch-returns-in-Striped : goal.line_stretch-returns-in-Striped
+line_stretch-returns-in-Striped g t c =
+    let a = c.args in let w = a.walker.now in let columns = c.as_slice-columns.result.now in let column = c.index-columns-place.result in let s = c.first_stretch-in-Striped.ensures in let n = c.first_stretch-in-Striped.result.len in
+    let lies = in_stripes a.walker.now.stack a.device a.line.now.start a.line.now.len a.distance a.len c.in-Striped.chunk c.as_slice-columns.result.now a.line.now.target
+    (c.in-Striped.is ∙ ap (λ columns. Striped c.in-Striped.chunk columns) (sym c.as_slice-columns.ensures)) c.requires.sound c.requires.inside c.requires.small in
     below w _ _ _ c.min-part.result a.len _ s (omega (arith, c.min-part.ensures))
-    (stripes_chunk w.stack Read a.levels a.chunk a.distance n a.columns.now w.state column place stripes.some stripes.chunk_some c.place_at-place.ensures (omega (arith, c.min-part.ensures, s.most)) c.index-columns-place.is
-    ∙ ap (λ (p : ℕ). range_step w.stack Read a.levels column.to w.state p n) (sym c.sector_at-sector.ensures))
+    (ap (λ target. line_step w.stack Read a.levels a.device target w.state a.distance n) (c.in-Striped.is ∙ ap (λ columns. Striped c.in-Striped.chunk columns) (sym c.as_slice-columns.ensures))
+    ∙ line_striped w.stack Read a.levels a.device c.in-Striped.chunk columns a.distance n w.state
+    ∙ stripes_chunk w.stack Read a.levels c.in-Striped.chunk a.distance n columns w.state column c.place_at-place.result lies.stripes.some lies.stripes.chunk_some c.place_at-place.ensures (omega (arith, c.min-part.ensures, s.most)) c.index-columns-place.is
+    ∙ ap (λ (p : ℕ). range_step w.stack Read a.levels column.to w.state p n) (sym (c.sector_at-sector-in-Striped.ensures ∙ ap (λ (p : ℕ). column.offset + p) c.in_column.ensures)))
 
 -- A snapshot
 
-pub line_stretch-snapshot_stretch-requires : goal.line_stretch-snapshot_stretch-requires
-line_stretch-snapshot_stretch-requires g t c =
-    let a = c.args in
-    let inside = in_snapshot a.walker.now.stack a.device a.distance a.len a.line.now c.in-Snapshot.snapshot c.requires.found c.in-Snapshot.is c.requires.sound c.requires.inside in
-    search rules
+pub line_stretch-read_place-requires : goal.line_stretch-read_place-requires
+line_stretch-read_place-requires g t c =
+    let a = c.args in let stack = a.walker.now.stack in let part = c.part_of_chunk-part.ensures in
+    let inside = in_snapshot stack a.device a.distance a.len a.line.now c.in-Snapshot.snapshot c.requires.found c.in-Snapshot.is c.requires.sound c.requires.inside in
+    record { some = omega (arith, part, c.requires.some, inside.sound.chunk_some); chunk = in_one_chunk stack stack a.device a.distance a.len a.distance a.len c.part_of_chunk-part.result c.in-Snapshot.snapshot inside refl refl part }
 
-pub line_stretch-returns-in-Snapshot : goal.line_stretch-returns-in-Snapshot
-line_stretch-returns-in-Snapshot g t c =
-    let a = c.args in let w = a.walker.now in let n = c.snapshot_stretch.result.len in
-    below w _ _ _ a.len a.len _ c.snapshot_stretch.ensures (omega arith) (ap (λ target. line_step w.stack Read a.levels a.device target w.state a.distance n) c.in-Snapshot.is)
-
-pub snapshot_stretch-read_place-requires : goal.snapshot_stretch-read_place-requires
-snapshot_stretch-read_place-requires g t c =
-    let a = c.args in let part = c.part_of_chunk-part.ensures in
-    let whole : a.sector + a.len ≡ a.sector + a.len = refl in
-    let chunk = in_one_chunk a.walker.now.stack a.walker.now.stack a.device a.sector a.len a.sector a.len c.part_of_chunk-part.result a.snapshot.now c.requires.inside refl whole part in
-    record { some = omega (arith, part, c.requires.some, c.requires.inside.sound.chunk_some); chunk = chunk }
-
-pub snapshot_stretch-first_stretch-requires : goal.snapshot_stretch-first_stretch-requires
-snapshot_stretch-first_stretch-requires g t c =
-    let a = c.args in let part = c.part_of_chunk-part.ensures in let at = c.in-Some.ensures.place in
-    let some : 1 ≤ c.part_of_chunk-part.result = omega (arith, part, c.requires.some, c.requires.inside.sound.chunk_some) in
-    let inside = at.inside in
-    search rules
-
-pub snapshot_stretch-returns-in-Some : goal.snapshot_stretch-returns-in-Some
-snapshot_stretch-returns-in-Some g t c =
-    let a = c.args in let w = a.walker.now in let s = c.first_stretch.ensures in let n = c.first_stretch.result.len in
+pub line_stretch-returns-in-Some : goal.line_stretch-returns-in-Some
+line_stretch-returns-in-Some g t c =
+    let a = c.args in let w = a.walker.now in let s = c.first_stretch-in-Some.ensures in let n = c.first_stretch-in-Some.result.len in
     below w _ _ _ c.part_of_chunk-part.result a.len _ s (omega (arith, c.part_of_chunk-part.ensures))
-    (chunk_read w.stack a.levels a.device a.sector n c.part_of_chunk-part.result a.snapshot.now w.state c.in-Some.place c.in-Some.ensures.place s.most)
+    (ap (λ target. line_step w.stack Read a.levels a.device target w.state a.distance n) c.in-Snapshot.is
+    ∙ chunk_read w.stack a.levels a.device a.distance n c.part_of_chunk-part.result c.in-Snapshot.snapshot w.state c.in-Some.place c.in-Some.ensures.place s.most)
 
-pub snapshot_stretch-returns-in-None : goal.snapshot_stretch-returns-in-None
-snapshot_stretch-returns-in-None g t c =
+pub line_stretch-returns-in-None : goal.line_stretch-returns-in-None
+line_stretch-returns-in-None g t c =
     let a = c.args in let w = a.walker.now in let part = c.part_of_chunk-part.ensures in
-    known w _ c.part_of_chunk-part.result a.len grounds.Fails (omega (arith, part, c.requires.some, c.requires.inside.sound.chunk_some)) (omega (arith, part))
-    (lost_read w.stack a.levels a.device a.sector c.part_of_chunk-part.result a.snapshot.now w.state c.in-None.ensures.lost) tt
+    let inside = in_snapshot w.stack a.device a.distance a.len a.line.now c.in-Snapshot.snapshot c.requires.found c.in-Snapshot.is c.requires.sound c.requires.inside in
+    known w _ c.part_of_chunk-part.result a.len grounds.Fails (omega (arith, part, c.requires.some, inside.sound.chunk_some)) (omega (arith, part))
+    (ap (λ target. line_step w.stack Read a.levels a.device target w.state a.distance c.part_of_chunk-part.result) c.in-Snapshot.is
+    ∙ lost_read w.stack a.levels a.device a.distance c.part_of_chunk-part.result c.in-Snapshot.snapshot w.state c.in-None.ensures.lost) tt

@@ -1,28 +1,32 @@
-use Rattle.std.proofs.Common.{rules, ◌≡◌, ℕ, suc, ◌+◌, ◌-◌, ◌^◌, ◌<◌, ◌≤◌, false, List, Some, length, refl, sym, ap, subst, ◌∙◌, arith}
+use Rattle.std.proofs.Common.{rules, ◌≡◌, ℕ, suc, ◌+◌, ◌-◌, ◌^◌, ◌<◌, ◌≤◌, false, List, Some, length, get_or, refl, sym, ap, subst, ◌∙◌, arith}
+use Rattle.std.specs.Prelude.{Result}
 use Rattle.dm_table.specs.declared.request.Op.{Op}
 use Rattle.dm_stack.specs.declared.found.FoundColumn.{FoundColumn}
 use Rattle.dm_stack.specs.declared.found.FoundLine.{FoundLine}
 use Rattle.dm_stack.specs.declared.found.FoundTarget.{FoundTarget}
 use Rattle.dm_stack.specs.declared.found.FoundSnapshot.{FoundSnapshot}
-use Rattle.dm_stack.specs.declared.found.FoundTarget.TheVariants.{Linear, Zero, Error, Snapshot}
+use Rattle.dm_stack.specs.declared.found.FoundTarget.TheVariants.{Linear, Striped, Zero, Error, Snapshot}
 use Rattle.dm_stack.specs.declared.id.Lower.{Lower}
 use Rattle.dm_stack.specs.declared.id.Lower.TheVariants.{Device, Disk}
 use Rattle.dm_stack.specs.Below.{HoldsSoundly, below_stripes, found_at}
 use Rattle.dm_stack.specs.Description.{Description, lower_len}
+use Rattle.dm_stack.specs.Loaded.{lower_depth}
 use Rattle.dm_stack.specs.Soundness.{depth_of}
-use Rattle.dm_map.specs.Bound.{IsLineBounded, line_paths}
+use Rattle.dm_map.specs.declared.stripe.ChunkPlace.{ChunkPlace}
+use Rattle.dm_map.specs.Bound.{IsBounded, IsLineBounded, IsTargetBounded, line_paths}
+use Rattle.dm_map.specs.Counts.{AreAdded}
 use Rattle.dm_map.specs.Path.{chunk_at, path}
 use Rattle.dm_map.specs.Units.{BlockUnit, Fails, diskless_len, units_in}
 use Rattle.dm_map.specs.Mapping.{sector_step}
-use Rattle.dm_map.specs.State.{State}
-use Rattle.dm_map.specs.Steps.{Step, keep}
-use Rattle.dm_map.specs.Walk.{Scene, Walking, below_step, disk_unit, zero_unit, refuses, range_step, line_step, scene, stripes_step, target_step}
-use Rattle.dm_map.proofs.Bounds.{bound_more, chunk_bound, chunks_on, first_next, line_before, line_kept, linear_bound, lines_on, range_kept, stripe_bound, stripes_kept}
+use Rattle.dm_map.specs.Steps.{keep}
+use Rattle.dm_map.specs.Walk.{Scene, Walking, below_step, disk_unit, zero_unit, refuses, range_step, line_step, scene, stripes_step, target_step, IsPlace, IsWalked}
+use Rattle.dm_map.proofs.Bounds.{FirstOfChunk, bound_more, chunk_bound, chunks_on, first_next, line_before, line_kept, linear_bound, lines_on, range_kept, stripe_bound, stripes_kept}
 use Rattle.dm_map.proofs.Chunks.{chunk_read, in_one_chunk, in_snapshot, lost_read, write_line_step}
 use Rattle.dm_map.proofs.There.{device_there}
 use Rattle.dm_map.proofs.Ranges.{range_deepest, range_disk, range_refused, range_line, stripes_chunk, line_errors, line_linear, line_striped, line_zeros}
-use Rattle.dm_map.proofs.Rows.{added_then, left_on, state_on, took_on, walked_as, walked_cut, walked_piece}
+use Rattle.dm_map.proofs.Rows.{walked_as, walked_piece}
 use Rattle.dm_map.proofs.Stripes.{column_inside, place_small}
+use Rattle.dm_map.proofs.WalkedOn.{cut_on, walked_after_look, walked_on}
 use Rattle.dm_map.proofs.walk.+walk.Goals as goal
 use Rattle.dm_map.proofs.walk.+walk.Goals.{map_device-then-levels-eq0-via-then-levels-eq0, map_device-then-levels-eq0-via-else-levels-eq0+then-refuses}
 
@@ -52,78 +56,53 @@ map_device-returns-then-levels-eq0-clause-walked g t c =
 
 pub map_device-look-line-requires-clause-device : goal.map_device-look-line-requires-clause-device
 map_device-look-line-requires-clause-device g t c =
-    subst (λ (s : Description). c.args.device < length s.devices) (sym c.loop-left.invariant.same) (device_there c.args.walker.now.stack c.args.device c.args.sector (omega arith))
+    subst (λ (s : Description). c.args.device < length s.devices) (sym c.loop-left.invariant.walked.stack) (device_there c.args.walker.now.stack c.args.device c.args.sector (omega arith))
 
--- what a line is asked for is the next part of the device's range
-line_part : (stack before : Description) (state : State) (op : Op) (levels fewer device sector at done n : ℕ) (line : FoundLine) → before ≡ stack → levels ≡ suc fewer → refuses stack op device ≡ false → at ≡ sector + done
-    → HoldsSoundly before device line at → n ≤ line.len - (at - line.start) → ((other : ℕ) → line.start ≤ other → other < line.start + line.len → found_at before device other ≡ Some line)
-    → line_step before op fewer device line.target state (at - line.start) n ≡ range_step stack op levels (Device device) state (sector + done) n
-line_part stack before state op levels fewer device sector at done n line before_is more passes place holds most all =
+-- what a line hands over after a look is the next part of the device's range
+line_walked : {S F : Type 0} (took left : S → List BlockUnit → S → Type 0) (stack_of : S → Description) (room faults : S → ℕ) (result : Result (Unit {0}) F) (old new : S)
+    (stack : Description) (before looked after : Walking) (op : Op) (levels fewer device sector at done n : ℕ) (line : FoundLine) → before.stack ≡ stack → levels ≡ suc fewer → refuses stack op device ≡ false → at ≡ sector + done
+    → HoldsSoundly before.stack device line at → n ≤ line.len - (at - line.start) → ((other : ℕ) → line.start ≤ other → other < line.start + line.len → found_at before.stack device other ≡ Some line)
+    → scene looked ≡ scene before → AreAdded before.looked looked.looked → IsWalked took left stack_of room faults result old new looked after (line_step looked.stack op fewer device line.target looked.state (at - line.start) n) n
+    → IsWalked took left stack_of room faults result old new before after (range_step stack op levels (Device device) before.state (sector + done) n) n
+line_walked took left stack_of room faults result old new stack before looked after op levels fewer device sector at done n line is more passes place holds most all same added walk =
     let each : (i : ℕ) → i < n → found_at stack device (at + i) ≡ Some line = λ i within.
-    subst (λ (s : Description). found_at s device (at + i) ≡ Some line) before_is (all (at + i) (omega (arith, holds.from)) (omega (arith, holds.from, holds.before, most, within))) in
-    ap (λ (s : Description). line_step s op fewer device line.target state (at - line.start) n) before_is
-    ∙ sym (range_line stack op levels fewer device at n state line more passes holds.from each) ∙ ap (λ (p : ℕ). range_step stack op levels (Device device) state p n) place
+    subst (λ (s : Description). found_at s device (at + i) ≡ Some line) is (all (at + i) (omega (arith, holds.from)) (omega (arith, holds.from, holds.before, most, within))) in
+    walked_after_look took left stack_of room faults result old new before looked after _ n same added (walked_as took left stack_of room faults result old new looked after _ _ n
+    (ap (λ (v : Scene). line_step v.stack op fewer device line.target v.state (at - line.start) n) same ∙ ap (λ (s : Description). line_step s op fewer device line.target before.state (at - line.start) n) is
+    ∙ sym (range_line stack op levels fewer device at n before.state line more passes holds.from each) ∙ ap (λ (p : ℕ). range_step stack op levels (Device device) before.state p n) place) walk)
 
 pub map_device-returns-in_err-map_line-clause-walked : goal.map_device-returns-in_err-map_line-clause-walked
 map_device-returns-in_err-map_line-clause-walked g t c =
-    let a = c.args in let w = a.walker.now in let l = c.loop-left in let line = c.look-line.result.now in let n = c.part_in-part.result in let done = a.len - l.left in
-    let part : line_step l.walker.stack a.op (a.levels - 1) a.device line.target l.walker.state (l.at - line.start) n ≡ range_step w.stack a.op a.levels (Device a.device) l.walker.state (a.sector + done) n =
-    line_part w.stack l.walker.stack l.walker.state a.op a.levels (a.levels - 1) a.device a.sector l.at done n line l.invariant.same (omega (arith, c.if-levels-eq0.false))
-    (sym c.refuses.ensures ∙ c.if-refuses.false) (omega (arith, l.invariant.place, l.invariant.within)) c.look-line.ensures.holds (omega (arith, c.part_in-part.ensures)) c.look-line.ensures.all in
-    let looked : (look : Scene → Step) → look (scene c.look-line.new.self) ≡ look (scene l.walker) = λ look. ap look c.look-line.ensures.same in
-    let step : line_step c.look-line.new.self.stack a.op (a.levels - 1) a.device line.target c.look-line.new.self.state (l.at - line.start) n ≡ range_step w.stack a.op a.levels (Device a.device) l.walker.state (a.sector + done) n =
-    looked (λ v. line_step v.stack a.op (a.levels - 1) a.device line.target v.state (l.at - line.start) n) ∙ part in
-    let walk = c.in_err-map_line.ensures.walked in
-    walked_cut g.S.Sink.took g.S.Sink.left g.S.Sink.stack g.S.Sink.room g.S.Sink.faults c.from_residual.result a.sink.now c.map_line.new.sink w c.map_line.new.walker (range_step w.stack a.op a.levels (Device a.device) w.state a.sector a.len) a.len c.from_residual.ensures.0
-    (left_on g.S.Sink.took g.S.Sink.left g.met.S.Sink.took_then_left a.sink.now l.sink c.map_line.new.sink (sector_step w.stack a.op a.levels (Device a.device)) w.state l.walker.state a.sector done n a.len
-    (omega (arith, c.part_in-part.ensures, l.invariant.within)) l.invariant.state l.invariant.taken (rw step at walk.left))
-    (omega (arith, walk.faults, l.invariant.faults)) (walk.stack ∙ ap (λ (v : Scene). v.stack) c.look-line.ensures.same ∙ l.invariant.same)
-    (added_then w.looked l.walker.looked c.map_line.new.walker.looked l.invariant.looked (added_then l.walker.looked c.look-line.new.self.looked c.map_line.new.walker.looked c.look-line.ensures.looked walk.looked))
+    let a = c.args in let w = a.walker.now in let l = c.loop-left in let n = c.part_in-part.result in let done = a.len - l.left in
+    cut_on g.S.Sink.took g.S.Sink.left g.S.Sink.stack g.S.Sink.room g.S.Sink.faults g.met.S.Sink.took_then_left _ c.from_residual.result a.sink.now l.sink c.map_line.new.sink w l.walker c.map_line.new.walker
+    (sector_step w.stack a.op a.levels (Device a.device)) a.sector done n a.len c.from_residual.ensures.0 (omega (arith, c.part_in-part.ensures, l.invariant.within)) l.invariant.walked
+    (line_walked g.S.Sink.took g.S.Sink.left g.S.Sink.stack g.S.Sink.room g.S.Sink.faults _ l.sink c.map_line.new.sink w.stack l.walker c.look-line.new.self c.map_line.new.walker a.op a.levels (a.levels - 1) a.device a.sector l.at done n c.look-line.result.now
+    l.invariant.walked.stack (omega (arith, c.if-levels-eq0.false)) (sym c.refuses.ensures ∙ c.if-refuses.false) (omega (arith, l.invariant.place, l.invariant.within)) c.look-line.ensures.holds (omega (arith, c.part_in-part.ensures))
+    c.look-line.ensures.all c.look-line.ensures.same c.look-line.ensures.looked c.in_err-map_line.ensures.walked)
 
 pub map_device-returns-in_err-map_line-clause-bounded : goal.map_device-returns-in_err-map_line-clause-bounded
 map_device-returns-in_err-map_line-clause-bounded g t c =
-    let a = c.args in let w = a.walker.now in let l = c.loop-left in let line = c.look-line.result.now in let n = c.part_in-part.result in let done = a.len - l.left in let holds = c.look-line.ensures.holds in
-    let some : 1 ≤ n = omega (arith, c.part_in-part.ensures, holds.from, holds.before, c.loop-left-test.true) in
-    let most : n ≤ line.len - (l.at - line.start) = omega (arith, c.part_in-part.ensures) in
-    let bounded = lines_on w l.walker c.look-line.new.self c.map_line.new.walker a.op a.levels (a.levels - 1) a.device a.sector l.at done n line (omega (arith, c.if-levels-eq0.false)) l.invariant.same
-    (λ is. l.invariant.state ∙ range_kept w.stack a.op a.levels (Device a.device) w.state a.sector done is) c.look-line.ensures.same c.look-line.ensures.one (omega (arith, l.invariant.place, l.invariant.within))
-    (λ later. l.invariant.edge later c.loop-left-test.true) holds some most c.look-line.ensures.all l.invariant.bounded c.in_err-map_line.ensures.bounded in
-    bound_more w c.map_line.new.walker a.op (depth_of w.stack a.device) a.sector (done + n) a.len (path w.stack w.state a.levels (Device a.device)) (omega (arith, c.part_in-part.ensures, l.invariant.within)) bounded
+    let a = c.args in let w = a.walker.now in let l = c.loop-left in let n = c.part_in-part.result in let done = a.len - l.left in
+    bound_more w c.map_line.new.walker a.op (depth_of w.stack a.device) a.sector (done + n) a.len (path w.stack w.state a.levels (Device a.device)) (omega (arith, c.part_in-part.ensures, l.invariant.within))
+    (lines_on w l.walker c.look-line.new.self c.map_line.new.walker a.op a.levels (a.levels - 1) a.device a.sector l.at done n l.left c.look-line.result.now (omega (arith, c.if-levels-eq0.false)) l.invariant.walked.stack
+    (λ is. l.invariant.walked.state ∙ range_kept w.stack a.op a.levels (Device a.device) w.state a.sector done is) c.look-line.ensures.same c.look-line.ensures.one (omega (arith, l.invariant.place, l.invariant.within))
+    (λ later. l.invariant.edge later c.loop-left-test.true) c.look-line.ensures.holds c.part_in-part.ensures c.loop-left-test.true c.look-line.ensures.all l.invariant.bounded c.in_err-map_line.ensures.bounded)
 
 pub map_device-loop-left-preserved : goal.map_device-loop-left-preserved
 map_device-loop-left-preserved g t c =
-    let a = c.args in let w = a.walker.now in let l = c.loop-left in let line = c.look-line.result.now in let n = c.part_in-part.result in let done = a.len - l.left in
-    let part : line_step l.walker.stack a.op (a.levels - 1) a.device line.target l.walker.state (l.at - line.start) n ≡ range_step w.stack a.op a.levels (Device a.device) l.walker.state (a.sector + done) n =
-    line_part w.stack l.walker.stack l.walker.state a.op a.levels (a.levels - 1) a.device a.sector l.at done n line l.invariant.same (omega (arith, c.if-levels-eq0.false))
-    (sym c.refuses.ensures ∙ c.if-refuses.false) (omega (arith, l.invariant.place, l.invariant.within)) c.look-line.ensures.holds (omega (arith, c.part_in-part.ensures)) c.look-line.ensures.all in
-    let looked : (look : Scene → Step) → look (scene c.look-line.new.self) ≡ look (scene l.walker) = λ look. ap look c.look-line.ensures.same in
-    let step : line_step c.look-line.new.self.stack a.op (a.levels - 1) a.device line.target c.look-line.new.self.state (l.at - line.start) n ≡ range_step w.stack a.op a.levels (Device a.device) l.walker.state (a.sector + done) n =
-    looked (λ v. line_step v.stack a.op (a.levels - 1) a.device line.target v.state (l.at - line.start) n) ∙ part in
-    let walk = c.in_ok-map_line.ensures.walked in
+    let a = c.args in let w = a.walker.now in let l = c.loop-left in let n = c.part_in-part.result in let done = a.len - l.left in
     let on : done + n ≡ a.len - (l.left - n) = omega (arith, c.part_in-part.ensures, l.invariant.within) in
-    let row = sector_step w.stack a.op a.levels (Device a.device) in
-    let taken = took_on g.S.Sink.took g.met.S.Sink.took_then_took a.sink.now l.sink c.map_line.new.sink row w.state l.walker.state a.sector done n l.invariant.state
-    l.invariant.taken (rw step at walk.took) in
-    let state = state_on row w.state l.walker.state c.map_line.new.walker.state a.sector done n l.invariant.state (rw step at walk.state) in
-    let holds = c.look-line.ensures.holds in
-    let some : 1 ≤ n = omega (arith, c.part_in-part.ensures, holds.from, holds.before, c.loop-left-test.true) in
-    let most : n ≤ line.len - (l.at - line.start) = omega (arith, c.part_in-part.ensures) in
-    let bounded = lines_on w l.walker c.look-line.new.self c.map_line.new.walker a.op a.levels (a.levels - 1) a.device a.sector l.at done n line (omega (arith, c.if-levels-eq0.false)) l.invariant.same
-    (λ is. l.invariant.state ∙ range_kept w.stack a.op a.levels (Device a.device) w.state a.sector done is) c.look-line.ensures.same c.look-line.ensures.one (omega (arith, l.invariant.place, l.invariant.within))
-    (λ later. l.invariant.edge later c.loop-left-test.true) holds some most c.look-line.ensures.all l.invariant.bounded c.in_ok-map_line.ensures.bounded in
     record {
-      taken = rw on at taken;
-      state = rw on at state;
+      walked = walked_on g.S.Sink.took g.S.Sink.left g.S.Sink.stack g.S.Sink.room g.S.Sink.faults g.met.S.Sink.took_then_took _ a.sink.now l.sink c.map_line.new.sink w l.walker c.map_line.new.walker (sector_step w.stack a.op a.levels (Device a.device)) a.sector done n _ on l.invariant.walked
+          (line_walked g.S.Sink.took g.S.Sink.left g.S.Sink.stack g.S.Sink.room g.S.Sink.faults _ l.sink c.map_line.new.sink w.stack l.walker c.look-line.new.self c.map_line.new.walker a.op a.levels (a.levels - 1) a.device a.sector l.at done n c.look-line.result.now
+          l.invariant.walked.stack (omega (arith, c.if-levels-eq0.false)) (sym c.refuses.ensures ∙ c.if-refuses.false) (omega (arith, l.invariant.place, l.invariant.within)) c.look-line.ensures.holds (omega (arith, c.part_in-part.ensures))
+          c.look-line.ensures.all c.look-line.ensures.same c.look-line.ensures.looked c.in_ok-map_line.ensures.walked);
       within = omega (arith, l.invariant.within);
       place = omega (arith, l.invariant.place, c.part_in-part.ensures);
-      same = walk.stack ∙ ap (λ (v : Scene). v.stack) c.look-line.ensures.same ∙ l.invariant.same;
-      looked = added_then w.looked l.walker.looked c.map_line.new.walker.looked l.invariant.looked (added_then l.walker.looked c.look-line.new.self.looked c.map_line.new.walker.looked c.look-line.ensures.looked walk.looked);
-      stack = walk.kept ∙ l.invariant.stack;
-      room = omega (arith, walk.room, l.invariant.room, on);
-      faults = omega (arith, walk.faults, l.invariant.faults);
-      edge = λ later more.
-          line_before w.stack l.walker.stack a.device l.at n l.left line l.invariant.same holds some most (λ behind. omega (arith, c.part_in-part.ensures, behind)) (omega (arith, more)) c.look-line.ensures.all;
-      bounded = rw on at bounded;
+      edge = λ later more. line_before w.stack l.walker.stack a.device l.at n l.left c.look-line.result.now l.invariant.walked.stack c.look-line.ensures.holds c.part_in-part.ensures (omega (arith, more)) c.look-line.ensures.all;
+      bounded = rw on at (lines_on w l.walker c.look-line.new.self c.map_line.new.walker a.op a.levels (a.levels - 1) a.device a.sector l.at done n l.left c.look-line.result.now (omega (arith, c.if-levels-eq0.false)) l.invariant.walked.stack
+          (λ is. l.invariant.walked.state ∙ range_kept w.stack a.op a.levels (Device a.device) w.state a.sector done is) c.look-line.ensures.same c.look-line.ensures.one (omega (arith, l.invariant.place, l.invariant.within))
+          (λ later. l.invariant.edge later c.loop-left-test.true) c.look-line.ensures.holds c.part_in-part.ensures c.loop-left-test.true c.look-line.ensures.all l.invariant.bounded c.in_ok-map_line.ensures.bounded);
     }
 
 -- A line, by its target
@@ -173,8 +152,8 @@ map_line-returns-in-Error-clause-walked g t c =
 
 -- Stripes
 
-pub map_stripes-overflow_add-place : goal.map_stripes-overflow_add-place
-map_stripes-overflow_add-place g t c =
+pub map_stripes-in_column-requires : goal.map_stripes-in_column-requires
+map_stripes-in_column-requires g t c =
     let a = c.args in let l = c.loop-left in let lies = c.requires.inside in
     let at = l.invariant.place c.loop-left-test.true in
     let small = place_small a.chunk (length a.columns.now) (a.distance + (a.len - l.left)) l.place lies.stripes.some at in
@@ -186,7 +165,7 @@ map_stripes-sector_at-sector-requires g t c =
     let some : 1 ≤ c.min-part.result = omega (arith, c.min-part.ensures, c.loop-left-test.true, at.past, c.requires.inside.stripes.chunk_some) in
     let inside = column_inside a.walker.now.stack a.chunk a.distance a.len (a.len - l.left) c.min-part.result a.columns.now column l.place c.requires.inside (omega (arith, c.loop-left-test.true, l.invariant.within)) at
     (omega (arith, c.min-part.ensures)) c.index-columns-place.is in
-    subst (λ (s : Description). column.offset + (l.place.chunk_start + l.place.past) < lower_len s column.to) (sym l.invariant.same) (let e : column.offset + (l.place.chunk_start + l.place.past) < lower_len a.walker.now.stack column.to = omega (arith, inside, some) in e)
+    subst (λ (s : Description). column.offset + c.in_column.result < lower_len s column.to) (sym l.invariant.walked.stack) (let e : column.offset + c.in_column.result < lower_len a.walker.now.stack column.to = omega (arith, inside, some, c.in_column.ensures) in e)
 
 pub map_stripes-map_range-requires : goal.map_stripes-map_range-requires
 map_stripes-map_range-requires g t c κs within =
@@ -194,35 +173,45 @@ map_stripes-map_range-requires g t c κs within =
     let some : 1 ≤ c.min-part.result = omega (arith, c.min-part.ensures, c.loop-left-test.true, at.past, c.requires.inside.stripes.chunk_some) in
     let inside = column_inside a.walker.now.stack a.chunk a.distance a.len (a.len - l.left) c.min-part.result a.columns.now column l.place c.requires.inside (omega (arith, c.loop-left-test.true, l.invariant.within)) at
     (omega (arith, c.min-part.ensures)) c.index-columns-place.is in
-    let there : c.sector_at-sector.result + c.min-part.result ≤ lower_len l.walker.stack column.to = subst (λ (s : Description). c.sector_at-sector.result + c.min-part.result ≤ lower_len s column.to) (sym l.invariant.same) (omega (arith, inside, c.sector_at-sector.ensures)) in
+    let there : c.sector_at-sector.result + c.min-part.result ≤ lower_len l.walker.stack column.to = subst (λ (s : Description). c.sector_at-sector.result + c.min-part.result ≤ lower_len s column.to) (sym l.invariant.walked.stack) (omega (arith, inside, c.sector_at-sector.ensures, c.in_column.ensures)) in
     search rules
+
+-- what a column hands over is the next part of the stripes
+column_walked : {S F : Type 0} (took left : S → List BlockUnit → S → Type 0) (stack_of : S → Description) (room faults : S → ℕ) (result : Result (Unit {0}) F) (old new : S)
+    (stack : Description) (before after : Walking) (op : Op) (levels chunk at n sector : ℕ) (columns : List FoundColumn) (column : FoundColumn) (place : ChunkPlace) → before.stack ≡ stack → 0 < length columns → 0 < chunk
+    → IsPlace chunk (length columns) at place → n ≤ chunk - place.past → column ≡ get_or columns place.column column → sector ≡ column.offset + (place.chunk_start + place.past)
+    → IsWalked took left stack_of room faults result old new before after (range_step before.stack op levels column.to before.state sector n) n → IsWalked took left stack_of room faults result old new before after (stripes_step stack op levels chunk columns before.state at n) n
+column_walked took left stack_of room faults result old new stack before after op levels chunk at n sector columns column place same some chunk_some is_at most is sector_is walk =
+    walked_as took left stack_of room faults result old new before after _ _ n
+    (ap (λ (s : Description). range_step s op levels column.to before.state sector n) same ∙ ap (λ (p : ℕ). range_step stack op levels column.to before.state p n) sector_is
+    ∙ sym (stripes_chunk stack op levels chunk at n columns before.state column place some chunk_some is_at most is)) walk
+
+-- and its searches are as few as those of the stripes may be
+column_bounded : (first before after : Walking) (op : Op) (levels device chunk distance done n sector : ℕ) (columns : List FoundColumn) (column : FoundColumn) (place : ChunkPlace) (line : FoundLine) → before.stack ≡ first.stack
+    → before.state ≡ (stripes_step first.stack op levels chunk columns first.state distance done).state → (0 < done → FirstOfChunk chunk (distance + done)) → 0 < length columns → 0 < chunk → IsPlace chunk (length columns) (distance + done) place → 1 ≤ n → n ≤ chunk - place.past
+    → column ≡ get_or columns place.column column → sector ≡ column.offset + (place.chunk_start + place.past) → found_at first.stack device line.start ≡ Some line → line.target ≡ Striped chunk columns
+    → IsBounded before after op (lower_depth before.stack column.to) (path before.stack before.state levels column.to) sector n → IsLineBounded first before op levels device line distance done → IsLineBounded first after op levels device line distance (done + n)
+column_bounded first before after op levels device chunk distance done n sector columns column place line same state_is edge some chunk_some at n_some most is sector_is found kind next so_far =
+    chunks_on first before after op levels device chunk distance done n line (λ d. ap (λ (t : FoundTarget). chunk_at t d) kind) same
+    (λ read. state_is ∙ stripes_kept first.stack op levels chunk columns first.state distance done read) edge n_some so_far
+    (stripe_bound before after op levels device chunk columns line column place (distance + done) sector n (subst (λ (s : Description). found_at s device line.start ≡ Some line) (sym same) found) kind some chunk_some at n_some most is sector_is next)
 
 pub map_stripes-returns-in_err-map_range-clause-walked : goal.map_stripes-returns-in_err-map_range-clause-walked
 map_stripes-returns-in_err-map_range-clause-walked g t c =
-    let a = c.args in let w = a.walker.now in let l = c.loop-left in let column = c.index-columns-place.result in let n = c.min-part.result in let done = a.len - l.left in
-    let stripes = c.requires.inside.stripes in
-    let row : State → ℕ → Step = λ after place. below_step w.stack a.op a.levels (below_stripes a.chunk a.columns.now place) after in
-    let part : range_step l.walker.stack a.op a.levels column.to l.walker.state c.sector_at-sector.result n ≡ stripes_step w.stack a.op a.levels a.chunk a.columns.now l.walker.state (a.distance + done) n =
-    ap (λ (s : Description). range_step s a.op a.levels column.to l.walker.state c.sector_at-sector.result n) l.invariant.same ∙ ap (λ (p : ℕ). range_step w.stack a.op a.levels column.to l.walker.state p n) c.sector_at-sector.ensures
-    ∙ sym (stripes_chunk w.stack a.op a.levels a.chunk (a.distance + done) n a.columns.now l.walker.state column l.place stripes.some stripes.chunk_some (l.invariant.place c.loop-left-test.true) (omega (arith, c.min-part.ensures)) c.index-columns-place.is) in
-    let walk = c.in_err-map_range.ensures.walked in
-    walked_cut g.S.Sink.took g.S.Sink.left g.S.Sink.stack g.S.Sink.room g.S.Sink.faults c.from_residual.result a.sink.now c.map_range.new.sink w c.map_range.new.walker (stripes_step w.stack a.op a.levels a.chunk a.columns.now w.state a.distance a.len) a.len c.from_residual.ensures.0
-    (left_on g.S.Sink.took g.S.Sink.left g.met.S.Sink.took_then_left a.sink.now l.sink c.map_range.new.sink row w.state l.walker.state a.distance done n a.len
-    (omega (arith, c.min-part.ensures, l.invariant.within)) l.invariant.state l.invariant.taken (rw part at walk.left))
-    (omega (arith, walk.faults, l.invariant.faults)) (walk.stack ∙ l.invariant.same) (added_then w.looked l.walker.looked c.map_range.new.walker.looked l.invariant.looked walk.looked)
+    let a = c.args in let w = a.walker.now in let l = c.loop-left in let column = c.index-columns-place.result in let n = c.min-part.result in let done = a.len - l.left in let stripes = c.requires.inside.stripes in
+    cut_on g.S.Sink.took g.S.Sink.left g.S.Sink.stack g.S.Sink.room g.S.Sink.faults g.met.S.Sink.took_then_left _ c.from_residual.result a.sink.now l.sink c.map_range.new.sink w l.walker c.map_range.new.walker
+    (λ after place. below_step w.stack a.op a.levels (below_stripes a.chunk a.columns.now place) after) a.distance done n a.len c.from_residual.ensures.0 (omega (arith, c.min-part.ensures, l.invariant.within)) l.invariant.walked
+    (column_walked g.S.Sink.took g.S.Sink.left g.S.Sink.stack g.S.Sink.room g.S.Sink.faults _ l.sink c.map_range.new.sink w.stack l.walker c.map_range.new.walker a.op a.levels a.chunk (a.distance + done) n c.sector_at-sector.result a.columns.now column l.place
+    l.invariant.walked.stack stripes.some stripes.chunk_some (l.invariant.place c.loop-left-test.true) (omega (arith, c.min-part.ensures)) c.index-columns-place.is (c.sector_at-sector.ensures ∙ ap (λ (p : ℕ). column.offset + p) c.in_column.ensures) c.in_err-map_range.ensures.walked)
 
 pub map_stripes-returns-in_err-map_range-clause-bounded : goal.map_stripes-returns-in_err-map_range-clause-bounded
 map_stripes-returns-in_err-map_range-clause-bounded g t c device line found kind =
-    let a = c.args in let w = a.walker.now in let l = c.loop-left in let column = c.index-columns-place.result in let n = c.min-part.result in let done = a.len - l.left in
-    let stripes = c.requires.inside.stripes in
+    let a = c.args in let w = a.walker.now in let l = c.loop-left in let column = c.index-columns-place.result in let n = c.min-part.result in let done = a.len - l.left in let stripes = c.requires.inside.stripes in
     let at = l.invariant.place c.loop-left-test.true in
-    let some : 1 ≤ n = omega (arith, c.min-part.ensures, c.loop-left-test.true, at.past, stripes.chunk_some) in
-    let most : n ≤ a.chunk - l.place.past = omega (arith, c.min-part.ensures) in
-    let part : IsLineBounded l.walker c.map_range.new.walker a.op a.levels device line (a.distance + done) n = stripe_bound l.walker c.map_range.new.walker a.op a.levels device a.chunk a.columns.now line column l.place (a.distance + done) c.sector_at-sector.result n
-    (subst (λ (s : Description). found_at s device line.start ≡ Some line) (sym l.invariant.same) found) kind stripes.some stripes.chunk_some at some most c.index-columns-place.is c.sector_at-sector.ensures c.in_err-map_range.ensures.bounded in
     bound_more w c.map_range.new.walker a.op (depth_of w.stack device - 1) a.distance (done + n) a.len (line_paths w.stack w.state a.levels device line) (omega (arith, c.min-part.ensures, l.invariant.within))
-    (chunks_on w l.walker c.map_range.new.walker a.op a.levels device a.chunk a.distance done n line (λ d. ap (λ (t : FoundTarget). chunk_at t d) kind) l.invariant.same
-    (λ is. l.invariant.state ∙ stripes_kept w.stack a.op a.levels a.chunk a.columns.now w.state a.distance done is) (λ later. l.invariant.edge later c.loop-left-test.true) some (l.invariant.bounded device line found kind) part)
+    (column_bounded w l.walker c.map_range.new.walker a.op a.levels device a.chunk a.distance done n c.sector_at-sector.result a.columns.now column l.place line l.invariant.walked.stack l.invariant.walked.state (λ later. l.invariant.edge later c.loop-left-test.true)
+    stripes.some stripes.chunk_some at (omega (arith, c.min-part.ensures, c.loop-left-test.true, at.past, stripes.chunk_some)) (omega (arith, c.min-part.ensures)) c.index-columns-place.is (c.sector_at-sector.ensures ∙ ap (λ (p : ℕ). column.offset + p) c.in_column.ensures)
+    found kind c.in_err-map_range.ensures.bounded (l.invariant.bounded device line found kind))
 
 pub map_stripes-next_chunk-place-requires-clause-small : goal.map_stripes-next_chunk-place-requires-clause-small
 map_stripes-next_chunk-place-requires-clause-small g t c =
@@ -233,42 +222,25 @@ map_stripes-next_chunk-place-requires-clause-small g t c =
 
 pub map_stripes-loop-left-preserved : goal.map_stripes-loop-left-preserved
 map_stripes-loop-left-preserved g t c =
-    let a = c.args in let w = a.walker.now in let l = c.loop-left in let column = c.index-columns-place.result in let n = c.min-part.result in let done = a.len - l.left in
-    let stripes = c.requires.inside.stripes in
-    let row : State → ℕ → Step = λ after place. below_step w.stack a.op a.levels (below_stripes a.chunk a.columns.now place) after in
-    let part : range_step l.walker.stack a.op a.levels column.to l.walker.state c.sector_at-sector.result n ≡ stripes_step w.stack a.op a.levels a.chunk a.columns.now l.walker.state (a.distance + done) n =
-    ap (λ (s : Description). range_step s a.op a.levels column.to l.walker.state c.sector_at-sector.result n) l.invariant.same ∙ ap (λ (p : ℕ). range_step w.stack a.op a.levels column.to l.walker.state p n) c.sector_at-sector.ensures
-    ∙ sym (stripes_chunk w.stack a.op a.levels a.chunk (a.distance + done) n a.columns.now l.walker.state column l.place stripes.some stripes.chunk_some (l.invariant.place c.loop-left-test.true) (omega (arith, c.min-part.ensures)) c.index-columns-place.is) in
-    let walk = c.in_ok-map_range.ensures.walked in
+    let a = c.args in let w = a.walker.now in let l = c.loop-left in let column = c.index-columns-place.result in let n = c.min-part.result in let done = a.len - l.left in let stripes = c.requires.inside.stripes in
     let on : done + n ≡ a.len - (l.left - n) = omega (arith, c.min-part.ensures, l.invariant.within) in
-    let taken = took_on g.S.Sink.took g.met.S.Sink.took_then_took a.sink.now l.sink c.map_range.new.sink row w.state l.walker.state a.distance done n l.invariant.state l.invariant.taken (rw part at walk.took) in
-    let state = state_on row w.state l.walker.state c.map_range.new.walker.state a.distance done n l.invariant.state (rw part at walk.state) in
     let at = l.invariant.place c.loop-left-test.true in
-    let some : 1 ≤ n = omega (arith, c.min-part.ensures, c.loop-left-test.true, at.past, stripes.chunk_some) in
-    let most : n ≤ a.chunk - l.place.past = omega (arith, c.min-part.ensures) in
     record {
-      taken = rw on at taken;
-      state = rw on at state;
+      walked = walked_on g.S.Sink.took g.S.Sink.left g.S.Sink.stack g.S.Sink.room g.S.Sink.faults g.met.S.Sink.took_then_took _ a.sink.now l.sink c.map_range.new.sink w l.walker c.map_range.new.walker
+          (λ after place. below_step w.stack a.op a.levels (below_stripes a.chunk a.columns.now place) after) a.distance done n _ on l.invariant.walked
+          (column_walked g.S.Sink.took g.S.Sink.left g.S.Sink.stack g.S.Sink.room g.S.Sink.faults _ l.sink c.map_range.new.sink w.stack l.walker c.map_range.new.walker a.op a.levels a.chunk (a.distance + done) n c.sector_at-sector.result a.columns.now column l.place
+          l.invariant.walked.stack stripes.some stripes.chunk_some at (omega (arith, c.min-part.ensures)) c.index-columns-place.is (c.sector_at-sector.ensures ∙ ap (λ (p : ℕ). column.offset + p) c.in_column.ensures) c.in_ok-map_range.ensures.walked);
       within = omega (arith, l.invariant.within);
       place = λ more.
-          let next = c.next_chunk-place.ensures (a.distance + done) (l.invariant.place c.loop-left-test.true) in
           let next_at : a.distance + done + (a.chunk - l.place.past) ≡ a.distance + (a.len - (l.left - n)) = omega (arith, c.min-part.ensures, l.invariant.within, more) in
-          rw next_at at next;
-      same = walk.stack ∙ l.invariant.same;
-      looked = added_then w.looked l.walker.looked c.map_range.new.walker.looked l.invariant.looked walk.looked;
-      stack = walk.kept ∙ l.invariant.stack;
-      room = omega (arith, walk.room, l.invariant.room, on);
-      faults = omega (arith, walk.faults, l.invariant.faults);
+          rw next_at at (c.next_chunk-place.ensures (a.distance + done) at);
       edge = λ later more.
-          let first = first_next a.chunk (a.distance + done) n stripes.chunk_some (omega (arith, c.min-part.ensures, at.past, more)) in
           let next_at : a.distance + done + n ≡ a.distance + (a.len - (l.left - n)) = omega (arith, on) in
-          rw next_at at first;
+          rw next_at at (first_next a.chunk (a.distance + done) n stripes.chunk_some (omega (arith, c.min-part.ensures, at.past, more)));
       bounded = λ device line found kind.
-          let part : IsLineBounded l.walker c.map_range.new.walker a.op a.levels device line (a.distance + done) n =
-          stripe_bound l.walker c.map_range.new.walker a.op a.levels device a.chunk a.columns.now line column l.place (a.distance + done) c.sector_at-sector.result n
-          (subst (λ (s : Description). found_at s device line.start ≡ Some line) (sym l.invariant.same) found) kind stripes.some stripes.chunk_some at some most c.index-columns-place.is c.sector_at-sector.ensures c.in_ok-map_range.ensures.bounded in
-          rw on at (chunks_on w l.walker c.map_range.new.walker a.op a.levels device a.chunk a.distance done n line (λ d. ap (λ (t : FoundTarget). chunk_at t d) kind) l.invariant.same
-          (λ is. l.invariant.state ∙ stripes_kept w.stack a.op a.levels a.chunk a.columns.now w.state a.distance done is) (λ later. l.invariant.edge later c.loop-left-test.true) some (l.invariant.bounded device line found kind) part);
+          rw on at (column_bounded w l.walker c.map_range.new.walker a.op a.levels device a.chunk a.distance done n c.sector_at-sector.result a.columns.now column l.place line l.invariant.walked.stack l.invariant.walked.state (λ later. l.invariant.edge later c.loop-left-test.true)
+          stripes.some stripes.chunk_some at (omega (arith, c.min-part.ensures, c.loop-left-test.true, at.past, stripes.chunk_some)) (omega (arith, c.min-part.ensures)) c.index-columns-place.is (c.sector_at-sector.ensures ∙ ap (λ (p : ℕ). column.offset + p) c.in_column.ensures)
+          found kind c.in_ok-map_range.ensures.bounded (l.invariant.bounded device line found kind));
     }
 
 -- A snapshot
@@ -290,72 +262,60 @@ pub map_snapshot-map_chunk-requires : goal.map_snapshot-map_chunk-requires
 map_snapshot-map_chunk-requires g t c κs within =
     let a = c.args in let l = c.loop-left in let part = c.part_of_chunk-part.ensures in
     let some : 1 ≤ c.part_of_chunk-part.result = omega (arith, part, c.loop-left-test.true, c.requires.inside.sound.chunk_some) in
-    let chunk = in_one_chunk a.walker.now.stack l.walker.stack a.device a.sector a.len l.from l.left c.part_of_chunk-part.result a.snapshot.now c.requires.inside l.invariant.same l.invariant.place part in
-    let stack : g.S.Sink.stack l.sink ≡ l.walker.stack = l.invariant.stack ∙ c.requires.sink.stack ∙ sym l.invariant.same in
-    let room : c.part_of_chunk-part.result ≤ g.S.Sink.room l.sink = omega (arith, part, c.requires.sink.room, l.invariant.room, l.invariant.within) in
+    let chunk = in_one_chunk a.walker.now.stack l.walker.stack a.device a.sector a.len l.from l.left c.part_of_chunk-part.result a.snapshot.now c.requires.inside l.invariant.walked.stack l.invariant.place part in
+    let stack : g.S.Sink.stack l.sink ≡ l.walker.stack = l.invariant.walked.kept ∙ c.requires.sink.stack ∙ sym l.invariant.walked.stack in
+    let room : c.part_of_chunk-part.result ≤ g.S.Sink.room l.sink = omega (arith, part, c.requires.sink.room, l.invariant.walked.room, l.invariant.within) in
     search rules
 
--- what a chunk is asked for is the next part of the snapshot's range
-snapshot_part : (stack before : Description) (op : Op) (levels device sector at done n : ℕ) (snapshot : FoundSnapshot) (state : State) → before ≡ stack → at ≡ sector + done
-    → line_step before op levels device (Snapshot snapshot) state at n ≡ line_step stack op levels device (Snapshot snapshot) state (sector + done) n
-snapshot_part stack before op levels device sector at done n snapshot state same place =
-    ap (λ (s : Description). line_step s op levels device (Snapshot snapshot) state at n) same ∙ ap (λ (p : ℕ). line_step stack op levels device (Snapshot snapshot) state p n) place
+-- what a chunk hands over is the next part of the snapshot's range
+chunk_walked : {S F : Type 0} (took left : S → List BlockUnit → S → Type 0) (stack_of : S → Description) (room faults : S → ℕ) (result : Result (Unit {0}) F) (old new : S)
+    (stack : Description) (before after : Walking) (op : Op) (levels device sector at done n : ℕ) (snapshot : FoundSnapshot) → before.stack ≡ stack → at ≡ sector + done
+    → IsWalked took left stack_of room faults result old new before after (line_step before.stack op levels device (Snapshot snapshot) before.state at n) n
+    → IsWalked took left stack_of room faults result old new before after (line_step stack op levels device (Snapshot snapshot) before.state (sector + done) n) n
+chunk_walked took left stack_of room faults result old new stack before after op levels device sector at done n snapshot same place walk =
+    walked_as took left stack_of room faults result old new before after _ _ n
+    (ap (λ (s : Description). line_step s op levels device (Snapshot snapshot) before.state at n) same ∙ ap (λ (p : ℕ). line_step stack op levels device (Snapshot snapshot) before.state p n) place) walk
+
+-- and its searches are as few as those of the snapshot may be
+chunk_bounded : (first before after : Walking) (op : Op) (levels device sector at done n : ℕ) (snapshot : FoundSnapshot) (line : FoundLine) → before.stack ≡ first.stack → at ≡ sector + done
+    → before.state ≡ (line_step first.stack op levels device (Snapshot snapshot) first.state sector done).state → (0 < done → FirstOfChunk snapshot.chunk (sector + done)) → 1 ≤ n → found_at first.stack device line.start ≡ Some line → line.target ≡ Snapshot snapshot
+    → IsTargetBounded before after op levels device (Snapshot snapshot) at n → IsLineBounded first before op levels device line sector done → IsLineBounded first after op levels device line sector (done + n)
+chunk_bounded first before after op levels device sector at done n snapshot line same place state_is edge some found kind next so_far =
+    chunks_on first before after op levels device snapshot.chunk sector done n line (λ d. ap (λ (t : FoundTarget). chunk_at t d) kind) same
+    (λ read. state_is ∙ line_kept first.stack op levels device (Snapshot snapshot) first.state sector done read) edge some so_far
+    (subst (λ (p : ℕ). IsLineBounded before after op levels device line p n) place (next line (subst (λ (s : Description). found_at s device line.start ≡ Some line) (sym same) found) kind))
 
 pub map_snapshot-returns-in_err-map_chunk-clause-walked : goal.map_snapshot-returns-in_err-map_chunk-clause-walked
 map_snapshot-returns-in_err-map_chunk-clause-walked g t c =
     let a = c.args in let w = a.walker.now in let l = c.loop-left in let n = c.part_of_chunk-part.result in let done = a.len - l.left in
-    let row = target_step w.stack a.op a.levels a.device (Snapshot a.snapshot.now) in
-    let part = snapshot_part w.stack l.walker.stack a.op a.levels a.device a.sector l.from done n a.snapshot.now l.walker.state l.invariant.same (omega (arith, l.invariant.place, l.invariant.within)) in
-    let walk = c.in_err-map_chunk.ensures.walked in
-    walked_cut g.S.Sink.took g.S.Sink.left g.S.Sink.stack g.S.Sink.room g.S.Sink.faults c.from_residual.result a.sink.now c.map_chunk.new.sink w c.map_chunk.new.walker (line_step w.stack a.op a.levels a.device (Snapshot a.snapshot.now) w.state a.sector a.len) a.len c.from_residual.ensures.0
-    (left_on g.S.Sink.took g.S.Sink.left g.met.S.Sink.took_then_left a.sink.now l.sink c.map_chunk.new.sink row w.state l.walker.state a.sector done n a.len
-    (omega (arith, c.part_of_chunk-part.ensures, l.invariant.within)) l.invariant.state l.invariant.taken (rw part at walk.left))
-    (omega (arith, walk.faults, l.invariant.faults)) (walk.stack ∙ l.invariant.same) (added_then w.looked l.walker.looked c.map_chunk.new.walker.looked l.invariant.looked walk.looked)
+    cut_on g.S.Sink.took g.S.Sink.left g.S.Sink.stack g.S.Sink.room g.S.Sink.faults g.met.S.Sink.took_then_left _ c.from_residual.result a.sink.now l.sink c.map_chunk.new.sink w l.walker c.map_chunk.new.walker
+    (target_step w.stack a.op a.levels a.device (Snapshot a.snapshot.now)) a.sector done n a.len c.from_residual.ensures.0 (omega (arith, c.part_of_chunk-part.ensures, l.invariant.within)) l.invariant.walked
+    (chunk_walked g.S.Sink.took g.S.Sink.left g.S.Sink.stack g.S.Sink.room g.S.Sink.faults _ l.sink c.map_chunk.new.sink w.stack l.walker c.map_chunk.new.walker a.op a.levels a.device a.sector l.from done n a.snapshot.now
+    l.invariant.walked.stack (omega (arith, l.invariant.place, l.invariant.within)) c.in_err-map_chunk.ensures.walked)
 
 pub map_snapshot-returns-in_err-map_chunk-clause-bounded : goal.map_snapshot-returns-in_err-map_chunk-clause-bounded
 map_snapshot-returns-in_err-map_chunk-clause-bounded g t c line found kind =
     let a = c.args in let w = a.walker.now in let l = c.loop-left in let n = c.part_of_chunk-part.result in let done = a.len - l.left in
-    let chunk_some = c.requires.inside.sound.chunk_some in
-    let place : l.from ≡ a.sector + done = omega (arith, l.invariant.place, l.invariant.within) in
-    let some : 1 ≤ n = omega (arith, c.part_of_chunk-part.ensures, c.loop-left-test.true, chunk_some) in
-    let next = subst (λ (p : ℕ). IsLineBounded l.walker c.map_chunk.new.walker a.op a.levels a.device line p n) place
-    (c.in_err-map_chunk.ensures.bounded line (subst (λ (s : Description). found_at s a.device line.start ≡ Some line) (sym l.invariant.same) found) kind) in
     bound_more w c.map_chunk.new.walker a.op (depth_of w.stack a.device - 1) a.sector (done + n) a.len (line_paths w.stack w.state a.levels a.device line) (omega (arith, c.part_of_chunk-part.ensures, l.invariant.within))
-    (chunks_on w l.walker c.map_chunk.new.walker a.op a.levels a.device a.snapshot.now.chunk a.sector done n line (λ d. ap (λ (t : FoundTarget). chunk_at t d) kind) l.invariant.same
-    (λ is. l.invariant.state ∙ line_kept w.stack a.op a.levels a.device (Snapshot a.snapshot.now) w.state a.sector done is) (λ later. l.invariant.edge later c.loop-left-test.true) some (l.invariant.bounded line found kind) next)
+    (chunk_bounded w l.walker c.map_chunk.new.walker a.op a.levels a.device a.sector l.from done n a.snapshot.now line l.invariant.walked.stack (omega (arith, l.invariant.place, l.invariant.within)) l.invariant.walked.state (λ later. l.invariant.edge later c.loop-left-test.true)
+    (omega (arith, c.part_of_chunk-part.ensures, c.loop-left-test.true, c.requires.inside.sound.chunk_some)) found kind c.in_err-map_chunk.ensures.bounded (l.invariant.bounded line found kind))
 
 pub map_snapshot-loop-left-preserved : goal.map_snapshot-loop-left-preserved
 map_snapshot-loop-left-preserved g t c =
     let a = c.args in let w = a.walker.now in let l = c.loop-left in let n = c.part_of_chunk-part.result in let done = a.len - l.left in
-    let row = target_step w.stack a.op a.levels a.device (Snapshot a.snapshot.now) in
-    let part = snapshot_part w.stack l.walker.stack a.op a.levels a.device a.sector l.from done n a.snapshot.now l.walker.state l.invariant.same (omega (arith, l.invariant.place, l.invariant.within)) in
-    let walk = c.in_ok-map_chunk.ensures.walked in
     let on : done + n ≡ a.len - (l.left - n) = omega (arith, c.part_of_chunk-part.ensures, l.invariant.within) in
-    let taken = took_on g.S.Sink.took g.met.S.Sink.took_then_took a.sink.now l.sink c.map_chunk.new.sink row w.state l.walker.state a.sector done n l.invariant.state l.invariant.taken (rw part at walk.took) in
-    let state = state_on row w.state l.walker.state c.map_chunk.new.walker.state a.sector done n l.invariant.state (rw part at walk.state) in
-    let chunk_some = c.requires.inside.sound.chunk_some in
     let place : l.from ≡ a.sector + done = omega (arith, l.invariant.place, l.invariant.within) in
-    let some : 1 ≤ n = omega (arith, c.part_of_chunk-part.ensures, c.loop-left-test.true, chunk_some) in
     record {
-      taken = rw on at taken;
-      state = rw on at state;
+      walked = walked_on g.S.Sink.took g.S.Sink.left g.S.Sink.stack g.S.Sink.room g.S.Sink.faults g.met.S.Sink.took_then_took _ a.sink.now l.sink c.map_chunk.new.sink w l.walker c.map_chunk.new.walker (target_step w.stack a.op a.levels a.device (Snapshot a.snapshot.now)) a.sector done n _ on l.invariant.walked
+          (chunk_walked g.S.Sink.took g.S.Sink.left g.S.Sink.stack g.S.Sink.room g.S.Sink.faults _ l.sink c.map_chunk.new.sink w.stack l.walker c.map_chunk.new.walker a.op a.levels a.device a.sector l.from done n a.snapshot.now l.invariant.walked.stack place c.in_ok-map_chunk.ensures.walked);
       within = omega (arith, l.invariant.within);
       place = omega (arith, l.invariant.place, c.part_of_chunk-part.ensures);
-      same = walk.stack ∙ l.invariant.same;
-      looked = added_then w.looked l.walker.looked c.map_chunk.new.walker.looked l.invariant.looked walk.looked;
-      stack = walk.kept ∙ l.invariant.stack;
-      room = omega (arith, walk.room, l.invariant.room, on);
-      faults = omega (arith, walk.faults, l.invariant.faults);
       edge = λ later more.
-          let chunk = a.snapshot.now.chunk in
-          let first = first_next chunk l.from n chunk_some (omega (arith, c.part_of_chunk-part.ensures, more)) in
           let next_at : l.from + n ≡ a.sector + (a.len - (l.left - n)) = omega (arith, on, place) in
-          rw next_at at first;
+          rw next_at at (first_next a.snapshot.now.chunk l.from n c.requires.inside.sound.chunk_some (omega (arith, c.part_of_chunk-part.ensures, more)));
       bounded = λ line found kind.
-          let next = subst (λ (p : ℕ). IsLineBounded l.walker c.map_chunk.new.walker a.op a.levels a.device line p n) place
-          (c.in_ok-map_chunk.ensures.bounded line (subst (λ (s : Description). found_at s a.device line.start ≡ Some line) (sym l.invariant.same) found) kind) in
-          rw on at (chunks_on w l.walker c.map_chunk.new.walker a.op a.levels a.device a.snapshot.now.chunk a.sector done n line (λ d. ap (λ (t : FoundTarget). chunk_at t d) kind) l.invariant.same
-          (λ is. l.invariant.state ∙ line_kept w.stack a.op a.levels a.device (Snapshot a.snapshot.now) w.state a.sector done is) (λ later. l.invariant.edge later c.loop-left-test.true) some (l.invariant.bounded line found kind) next);
+          rw on at (chunk_bounded w l.walker c.map_chunk.new.walker a.op a.levels a.device a.sector l.from done n a.snapshot.now line l.invariant.walked.stack place l.invariant.walked.state (λ later. l.invariant.edge later c.loop-left-test.true)
+          (omega (arith, c.part_of_chunk-part.ensures, c.loop-left-test.true, c.requires.inside.sound.chunk_some)) found kind c.in_ok-map_chunk.ensures.bounded (l.invariant.bounded line found kind));
     }
 
 -- A chunk of it

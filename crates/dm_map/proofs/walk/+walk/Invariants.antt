@@ -3,10 +3,10 @@ use Rattle.dm_stack.specs.declared.found.FoundTarget.TheVariants.{Snapshot, Stri
 use Rattle.dm_stack.specs.declared.id.Lower.TheVariants.{Device}
 use Rattle.dm_stack.specs.Soundness.{depth_of}
 use Rattle.dm_map.specs.Bound.{IsBounded, IsTargetBounded}
-use Rattle.dm_map.specs.Counts.{AreAdded}
 use Rattle.dm_map.specs.Path.{path}
-use Rattle.dm_map.specs.Walk.{range_step, line_step, stripes_step, IsPlace}
+use Rattle.dm_map.specs.Walk.{range_step, line_step, stripes_step, IsPlace, IsWalked}
 use Rattle.dm_map.proofs.Bounds.{FirstOfChunk, LineBefore}
+use Rattle.dm_map.proofs.WalkedOn.{going_on}
 use Rattle.dm_map.proofs.walk.+walk.Given as goal
 
 abbrev pub decreases-map_range : goal.decreases-map_range
@@ -29,15 +29,9 @@ decreases-map_chunk g l = 5 * l.levels + 2
 
 abbrev pub invariant-map_device-loop-left : goal.invariant-map_device-loop-left
 invariant-map_device-loop-left g l = record {
-  taken : g.S.Sink.took l.fn.sink (range_step l.fn.walker.stack l.op l.levels (Device l.device) l.fn.walker.state l.sector (l.len - l.left)).units l.sink;
-  state : l.walker.state ≡ (range_step l.fn.walker.stack l.op l.levels (Device l.device) l.fn.walker.state l.sector (l.len - l.left)).state;
+  walked : IsWalked g.S.Sink.took g.S.Sink.left g.S.Sink.stack g.S.Sink.room g.S.Sink.faults going_on l.fn.sink l.sink l.fn.walker l.walker (range_step l.fn.walker.stack l.op l.levels (Device l.device) l.fn.walker.state l.sector (l.len - l.left)) (l.len - l.left);
   within : l.left ≤ l.len;
   place : l.at + l.left ≡ l.sector + l.len;
-  same : l.walker.stack ≡ l.fn.walker.stack;
-  looked : AreAdded l.fn.walker.looked l.walker.looked;
-  stack : g.S.Sink.stack l.sink ≡ g.S.Sink.stack l.fn.sink;
-  room : g.S.Sink.room l.fn.sink ≤ g.S.Sink.room l.sink + (l.len - l.left);
-  faults : g.S.Sink.faults l.sink ≡ g.S.Sink.faults l.fn.sink;
   edge : 0 < l.len - l.left → 0 < l.left → LineBefore l.fn.walker.stack l.device l.at;
   bounded : IsBounded l.fn.walker l.walker l.op (depth_of l.fn.walker.stack l.device) (path l.fn.walker.stack l.fn.walker.state l.levels (Device l.device)) l.sector (l.len - l.left);
 }
@@ -47,15 +41,9 @@ decreases-map_device-loop-left g l = l.left
 
 abbrev pub invariant-map_stripes-loop-left : goal.invariant-map_stripes-loop-left
 invariant-map_stripes-loop-left g l = record {
-  taken : g.S.Sink.took l.fn.sink (stripes_step l.fn.walker.stack l.op l.levels l.chunk l.columns l.fn.walker.state l.distance (l.len - l.left)).units l.sink;
-  state : l.walker.state ≡ (stripes_step l.fn.walker.stack l.op l.levels l.chunk l.columns l.fn.walker.state l.distance (l.len - l.left)).state;
+  walked : IsWalked g.S.Sink.took g.S.Sink.left g.S.Sink.stack g.S.Sink.room g.S.Sink.faults going_on l.fn.sink l.sink l.fn.walker l.walker (stripes_step l.fn.walker.stack l.op l.levels l.chunk l.columns l.fn.walker.state l.distance (l.len - l.left)) (l.len - l.left);
   within : l.left ≤ l.len;
   place : 0 < l.left → IsPlace l.chunk (length l.columns) (l.distance + (l.len - l.left)) l.place;
-  same : l.walker.stack ≡ l.fn.walker.stack;
-  looked : AreAdded l.fn.walker.looked l.walker.looked;
-  stack : g.S.Sink.stack l.sink ≡ g.S.Sink.stack l.fn.sink;
-  room : g.S.Sink.room l.fn.sink ≤ g.S.Sink.room l.sink + (l.len - l.left);
-  faults : g.S.Sink.faults l.sink ≡ g.S.Sink.faults l.fn.sink;
   edge : 0 < l.len - l.left → 0 < l.left → FirstOfChunk l.chunk (l.distance + (l.len - l.left));
   bounded : (device : ℕ) → IsTargetBounded l.fn.walker l.walker l.op l.levels device (Striped l.chunk l.columns) l.distance (l.len - l.left);
 }
@@ -65,15 +53,9 @@ decreases-map_stripes-loop-left g l = l.left
 
 abbrev pub invariant-map_snapshot-loop-left : goal.invariant-map_snapshot-loop-left
 invariant-map_snapshot-loop-left g l = record {
-  taken : g.S.Sink.took l.fn.sink (line_step l.fn.walker.stack l.op l.levels l.device (Snapshot l.snapshot) l.fn.walker.state l.sector (l.len - l.left)).units l.sink;
-  state : l.walker.state ≡ (line_step l.fn.walker.stack l.op l.levels l.device (Snapshot l.snapshot) l.fn.walker.state l.sector (l.len - l.left)).state;
+  walked : IsWalked g.S.Sink.took g.S.Sink.left g.S.Sink.stack g.S.Sink.room g.S.Sink.faults going_on l.fn.sink l.sink l.fn.walker l.walker (line_step l.fn.walker.stack l.op l.levels l.device (Snapshot l.snapshot) l.fn.walker.state l.sector (l.len - l.left)) (l.len - l.left);
   within : l.left ≤ l.len;
   place : l.from + l.left ≡ l.sector + l.len;
-  same : l.walker.stack ≡ l.fn.walker.stack;
-  looked : AreAdded l.fn.walker.looked l.walker.looked;
-  stack : g.S.Sink.stack l.sink ≡ g.S.Sink.stack l.fn.sink;
-  room : g.S.Sink.room l.fn.sink ≤ g.S.Sink.room l.sink + (l.len - l.left);
-  faults : g.S.Sink.faults l.sink ≡ g.S.Sink.faults l.fn.sink;
   edge : 0 < l.len - l.left → 0 < l.left → FirstOfChunk l.snapshot.chunk (l.sector + (l.len - l.left));
   bounded : IsTargetBounded l.fn.walker l.walker l.op l.levels l.device (Snapshot l.snapshot) l.sector (l.len - l.left);
 }

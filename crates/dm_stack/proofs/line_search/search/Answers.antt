@@ -35,5 +35,13 @@ loop-count-preserved c =
       few = more-few _ (c.loop-count.count - 1) _ (omega (arith, many)) i.halved;
     }
 
-pub returns-clause-few : goal.returns-clause-few
-returns-clause-few c = few_digits _ _ c.loop-count.invariant.few
+pub returns : goal.returns
+returns c =
+    let i = c.loop-count.invariant in
+    let one : c.loop-count.count ≡ 1 = omega (arith, i.some, c.loop-count-test.false) in
+    record {
+      within = omega (arith, i.within, one);
+      from = i.from;
+      next = subst (λ (count : ℕ). StartsAfter c.args.lines.now (c.loop-count.index + count) c.args.sector) one i.next;
+      few = few_digits _ _ i.few;
+    }

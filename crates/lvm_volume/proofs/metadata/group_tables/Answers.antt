@@ -1,4 +1,4 @@
-use Rattle.std.proofs.Common.{◌≡◌, subst}
+use Rattle.std.proofs.Common.{subst}
 use Rattle.dm_table.specs.LoadFault.{Answers}
 use Rattle.dm_table.specs.declared.place.Part.TheVariants.{Source}
 use Rattle.lvm_volume.proofs.MetadataLemmas.{named_group, refused_group}

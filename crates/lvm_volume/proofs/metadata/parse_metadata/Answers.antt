@@ -1,4 +1,4 @@
-use Rattle.std.proofs.Common.{◌≡◌, sym, subst}
+use Rattle.std.proofs.Common.{subst}
 use Rattle.lvm_text.specs.Reading.{Describes, HasFault}
 use Rattle.lvm_volume.proofs.MetadataLemmas.{refused_tables, refused_text}
 use Rattle.lvm_volume.proofs.metadata.parse_metadata.Goals as goal

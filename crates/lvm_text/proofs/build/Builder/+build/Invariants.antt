@@ -4,23 +4,23 @@ use Rattle.lvm_text.specs.View.{values_of, lines_agree}
 use Rattle.lvm_text.specs.Checks.{twice_lines}
 use Rattle.lvm_text.specs.Places.{Finds}
 use Rattle.lvm_text.proofs.Building.{ValuesSoFar}
-use Rattle.lvm_text.proofs.build.+build.Given as goal
+use Rattle.lvm_text.proofs.build.Builder.+build.Given as goal
 
 abbrev pub decreases-section_at : goal.decreases-section_at
-decreases-section_at l = length l.tokens.now - l.start
+decreases-section_at l = length l.self.now.tokens.now - l.start
 
 abbrev pub decreases-value_at : goal.decreases-value_at
-decreases-value_at l = length l.tokens.now - l.start
+decreases-value_at l = length l.self.now.tokens.now - l.start
 
 abbrev pub invariant-section_at-loop-key : goal.invariant-section_at-loop-key
 invariant-section_at-loop-key l = record {
-  so_far : ValuesSoFar (views (drop l.start l.tokens)) l.entries.items (views (drop l.at l.tokens));
+  so_far : ValuesSoFar (views (drop l.start l.self.tokens.now)) l.entries.items (views (drop l.at l.self.tokens.now));
   agree : lines_agree l.entries.items ≡ true;
   finds : Finds l.index l.entries.items;
   differ : twice_lines [] (values_of l.entries.items) ≡ [];
   begun : l.start ≤ l.at;
-  within : l.at ≤ length l.tokens;
+  within : l.at ≤ length l.self.tokens.now;
 }
 
 abbrev pub decreases-section_at-loop-key : goal.decreases-section_at-loop-key
-decreases-section_at-loop-key l = length l.tokens - l.at
+decreases-section_at-loop-key l = length l.self.tokens.now - l.at

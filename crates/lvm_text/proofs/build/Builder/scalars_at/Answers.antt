@@ -4,13 +4,13 @@ use Rattle.lvm_text.specs.Tree as tree
 use Rattle.lvm_text.specs.TokenView.{views}
 use Rattle.lvm_text.specs.View.{scalar_view, scalar_views}
 use Rattle.lvm_text.proofs.Building.{ListSoFar, list_more, list_ends, behind_views}
-use Rattle.lvm_text.proofs.build.scalars_at.Goals as goal
+use Rattle.lvm_text.proofs.build.Builder.scalars_at.Goals as goal
 
 pub loop-scalar-preserved : goal.loop-scalar-preserved
 loop-scalar-preserved c =
-    let start = views (drop c.args.start c.args.tokens.now) in
-    let after = views (drop c.in-Some.after c.args.tokens.now) in
-    let more = list_more start (scalar_views c.loop-scalar.scalars.items) (views (drop c.loop-scalar.at c.args.tokens.now)) (scalar_view c.in-Some.scalar) after c.loop-scalar.invariant.so_far c.in-Some.ensures.item in
+    let start = views (drop c.args.start c.args.self.now.tokens.now) in
+    let after = views (drop c.in-Some.after c.args.self.now.tokens.now) in
+    let more = list_more start (scalar_views c.loop-scalar.scalars.items) (views (drop c.loop-scalar.at c.args.self.now.tokens.now)) (scalar_view c.in-Some.scalar) after c.loop-scalar.invariant.so_far c.in-Some.ensures.item in
     let pushed : scalar_views c.push.new.self.items ≡ scalar_views c.loop-scalar.scalars.items ++ scalar_view c.in-Some.scalar ∷ [] =
     ap scalar_views c.in_ok-push.ensures.items ∙ map_push scalar_view c.loop-scalar.scalars.items c.in-Some.scalar in
     record {
@@ -21,5 +21,5 @@ loop-scalar-preserved c =
 
 pub returns-clause-read : goal.returns-clause-read
 returns-clause-read c =
-    list_ends (views (drop c.args.start c.args.tokens.now)) (scalar_views c.loop-scalar.scalars.items) (views (drop c.loop-scalar.at c.args.tokens.now)) (views (drop c.behind.result c.args.tokens.now))
-    c.loop-scalar.invariant.so_far c.in_default.ensures.item (behind_views (drop c.loop-scalar.at c.args.tokens.now) (drop c.behind.result c.args.tokens.now) c.behind.ensures.rest)
+    list_ends (views (drop c.args.start c.args.self.now.tokens.now)) (scalar_views c.loop-scalar.scalars.items) (views (drop c.loop-scalar.at c.args.self.now.tokens.now)) (views (drop c.behind.result c.args.self.now.tokens.now))
+    c.loop-scalar.invariant.so_far c.in_default.ensures.item (behind_views (drop c.loop-scalar.at c.args.self.now.tokens.now) (drop c.behind.result c.args.self.now.tokens.now) c.behind.ensures.rest)

@@ -2,14 +2,14 @@ use Rattle.std.proofs.Common.{◌≤◌, ◌-◌, length, drop}
 use Rattle.lvm_text.specs.TokenView.{views}
 use Rattle.lvm_text.specs.View.{scalar_views}
 use Rattle.lvm_text.proofs.Building.{ListSoFar}
-use Rattle.lvm_text.proofs.build.scalars_at.Given as goal
+use Rattle.lvm_text.proofs.build.Builder.scalars_at.Given as goal
 
 abbrev pub invariant-loop-scalar : goal.invariant-loop-scalar
 invariant-loop-scalar l = record {
-  so_far : ListSoFar (views (drop l.start l.tokens)) (scalar_views l.scalars.items) (views (drop l.at l.tokens));
+  so_far : ListSoFar (views (drop l.start l.self.tokens.now)) (scalar_views l.scalars.items) (views (drop l.at l.self.tokens.now));
   begun : l.start ≤ l.at;
-  within : l.at ≤ length l.tokens;
+  within : l.at ≤ length l.self.tokens.now;
 }
 
 abbrev pub decreases-loop-scalar : goal.decreases-loop-scalar
-decreases-loop-scalar l = length l.tokens - l.at
+decreases-loop-scalar l = length l.self.tokens.now - l.at
