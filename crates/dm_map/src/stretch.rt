@@ -104,8 +104,8 @@ fn line_stretch<T: Taken>(
         }
         FoundTarget::Striped { chunk, columns } => {
             let columns = columns.as_slice();
-            let place = place_at(*chunk, columns.len() as u64, distance);
-            let part = len.min(*chunk - place.past);
+            let place = place_at(chunk, columns.len() as u64, distance);
+            let part = len.min(chunk.value() - place.past);
             let column = columns[place.column];
             let sector = sector_at(walker, column.to, column.offset, place.in_column());
             first_stretch(walker, levels, column.to, sector, part)

@@ -3,6 +3,7 @@
 //! A load looks each name up, so that mapping never compares texts. A new target is a variant here,
 //! arms in `specs/Below.antt`, and one in `resolve`, which makes these lines.
 
+use crate::divisor::Divisor;
 use crate::id::Lower;
 use dm_table::Listed;
 
@@ -23,7 +24,10 @@ pub enum FoundTarget {
     /// They are those of a lower device or disk, from an offset on.
     Linear { to: Lower, offset: u64 },
     /// They go in chunks over columns, in turn.
-    Striped { chunk: u64, columns: FoundColumns },
+    Striped {
+        chunk: Divisor,
+        columns: FoundColumns,
+    },
     /// Reads give zeros, writes are thrown away.
     Zero,
     /// Every request fails.

@@ -8,6 +8,7 @@ mod claim;
 mod clash;
 mod depth;
 mod disk_text;
+mod divisor;
 mod found;
 mod graph;
 mod id;
@@ -35,6 +36,7 @@ mod tidy;
 
 pub use clash::Clash;
 pub use disk_text::DiskText;
+pub use divisor::Divisor;
 pub use found::{Found, FoundColumn, FoundColumns, FoundLine, FoundSnapshot, FoundTarget};
 pub use graph::MOST_DEPTH;
 pub use id::{DeviceId, DiskId, Lower};

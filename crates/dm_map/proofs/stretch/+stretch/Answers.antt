@@ -116,14 +116,14 @@ pub line_stretch-sector_at-sector-requires-in-Striped : goal.line_stretch-sector
 line_stretch-sector_at-sector-requires-in-Striped g t c =
     let a = c.args in
     let inside = part_inside a.walker.now.stack a.device a.line.now.start a.line.now.len c.in-Striped.chunk a.distance a.len c.min-part.result c.as_slice-columns.result.now c.index-columns-place.result c.place_at-place.result a.line.now.target
-    (c.in-Striped.is ∙ ap (λ columns. Striped c.in-Striped.chunk columns) (sym c.as_slice-columns.ensures)) c.requires.sound c.requires.inside c.requires.small c.requires.some c.place_at-place.ensures c.min-part.ensures c.index-columns-place.is in
+    (c.in-Striped.is ∙ ap (λ columns. Striped c.in-Striped.chunk columns) (sym c.as_slice-columns.ensures)) c.requires.sound c.requires.inside c.requires.small c.requires.some c.place_at-place.ensures (c.min-part.ensures ∙ ap (λ (n : ℕ). min a.len (n - c.place_at-place.result.past)) c.value.ensures) c.index-columns-place.is in
     omega (arith, inside.0, inside.1, c.in_column.ensures)
 
 pub line_stretch-first_stretch-requires-in-Striped : goal.line_stretch-first_stretch-requires-in-Striped
 line_stretch-first_stretch-requires-in-Striped g t c κs within =
     let a = c.args in
     let inside = part_inside a.walker.now.stack a.device a.line.now.start a.line.now.len c.in-Striped.chunk a.distance a.len c.min-part.result c.as_slice-columns.result.now c.index-columns-place.result c.place_at-place.result a.line.now.target
-    (c.in-Striped.is ∙ ap (λ columns. Striped c.in-Striped.chunk columns) (sym c.as_slice-columns.ensures)) c.requires.sound c.requires.inside c.requires.small c.requires.some c.place_at-place.ensures c.min-part.ensures c.index-columns-place.is in
+    (c.in-Striped.is ∙ ap (λ columns. Striped c.in-Striped.chunk columns) (sym c.as_slice-columns.ensures)) c.requires.sound c.requires.inside c.requires.small c.requires.some c.place_at-place.ensures (c.min-part.ensures ∙ ap (λ (n : ℕ). min a.len (n - c.place_at-place.result.past)) c.value.ensures) c.index-columns-place.is in
     let some = inside.0 in
     let there : c.sector_at-sector-in-Striped.result + c.min-part.result ≤ lower_len a.walker.now.stack c.index-columns-place.result.to = omega (arith, inside.1, c.sector_at-sector-in-Striped.ensures, c.in_column.ensures) in
     search rules
