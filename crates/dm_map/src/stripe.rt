@@ -30,15 +30,16 @@ impl ChunkPlace {
 }
 
 /// The place of the sector at a distance from the line's start.
-pub(crate) fn place_at(chunk: &Divisor, count: u64, distance: u64) -> ChunkPlace
+pub(crate) fn place_at(chunk: &Divisor, count: &Divisor, distance: u64) -> ChunkPlace
     requires chunk { 0 < chunk.now }
-    requires count { 0 < count }
-    ensures { IsPlace chunk.now count distance result }
+    requires count { 0 < count.now }
+    ensures { IsPlace chunk.now count.now distance result }
 {
     let (number, past) = chunk.divide(distance);
+    let (row, column) = count.divide(number);
     ChunkPlace {
-        column: (number % count) as usize,
-        chunk_start: number / count * chunk.value(),
+        column: column as usize,
+        chunk_start: row * chunk.value(),
         past,
     }
 }

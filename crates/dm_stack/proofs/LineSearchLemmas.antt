@@ -110,7 +110,6 @@ in_half lines sector index count passed more line false many within from next te
       less = omega (arith, is, rest, many);
     }
 
-
 -- Lines in a row
 
 -- a line that starts at a sector or before it starts after the end of those before it

@@ -33,7 +33,10 @@ impl Divisor {
         if value == 0 {
             return Divisor { value, inverse: 0 };
         }
-        Divisor { value, inverse: u64::MAX / value }
+        Divisor {
+            value,
+            inverse: u64::MAX / value,
+        }
     }
 
     /// The number itself.

@@ -4,6 +4,7 @@
 //! arms in `specs/Below.antt`, and one in `resolve`, which makes these lines.
 
 use crate::divisor::Divisor;
+use crate::found_columns::FoundColumns;
 use crate::id::Lower;
 use dm_table::Listed;
 
@@ -22,7 +23,10 @@ pub struct FoundLine {
 #[derive(Debug, Drop)]
 pub enum FoundTarget {
     /// They are those of a lower device or disk, from an offset on.
-    Linear { to: Lower, offset: u64 },
+    Linear {
+        to: Lower,
+        offset: u64,
+    },
     /// They go in chunks over columns, in turn.
     Striped {
         chunk: Divisor,
@@ -51,9 +55,6 @@ pub struct FoundColumn {
     pub to: Lower,
     pub offset: u64,
 }
-
-/// The columns of a striped line.
-pub type FoundColumns = Listed<FoundColumn>;
 
 /// The lines of a device.
 pub(crate) type FoundTable = Listed<FoundLine>;
