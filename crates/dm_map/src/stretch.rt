@@ -103,9 +103,9 @@ fn line_stretch<T: Taken>(
             first_stretch(walker, levels, *to, sector, len)
         }
         FoundTarget::Striped { chunk, columns } => {
+            let place = place_at(chunk, columns.count(), distance);
             let columns = columns.as_slice();
-            let place = place_at(*chunk, columns.len() as u64, distance);
-            let part = len.min(*chunk - place.past);
+            let part = len.min(chunk.value() - place.past);
             let column = columns[place.column];
             let sector = sector_at(walker, column.to, column.offset, place.in_column());
             first_stretch(walker, levels, column.to, sector, part)

@@ -7,6 +7,8 @@
 ghost use Rattle.std.specs.Prelude.{◌≡◌, ◌+◌, ◌-◌, ◌<◌, ◌^◌, ℕ};
 ghost use Rattle.dm_map.specs.Walk.{IsPlace};
 
+use dm_stack::Divisor;
+
 /// A sector of a striped line: its column, where its chunk starts in that column, and how many
 /// sectors of the chunk come before it.
 #[derive(Clone, Copy, Debug, Drop)]
@@ -28,16 +30,17 @@ impl ChunkPlace {
 }
 
 /// The place of the sector at a distance from the line's start.
-pub(crate) fn place_at(chunk: u64, count: u64, distance: u64) -> ChunkPlace
-    requires chunk { 0 < chunk }
-    requires count { 0 < count }
-    ensures { IsPlace chunk count distance result }
+pub(crate) fn place_at(chunk: &Divisor, count: &Divisor, distance: u64) -> ChunkPlace
+    requires chunk { 0 < chunk.now }
+    requires count { 0 < count.now }
+    ensures { IsPlace chunk.now count.now distance result }
 {
-    let number = distance / chunk;
+    let (number, past) = chunk.divide(distance);
+    let (row, column) = count.divide(number);
     ChunkPlace {
-        column: (number % count) as usize,
-        chunk_start: number / count * chunk,
-        past: distance % chunk,
+        column: column as usize,
+        chunk_start: row * chunk.value(),
+        past,
     }
 }
 

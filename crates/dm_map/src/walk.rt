@@ -28,7 +28,9 @@ use crate::sink::Sink;
 use crate::stripe::{next_chunk, place_at};
 use crate::taken::Taken;
 use crate::walker::Walker;
-use dm_stack::{DeviceId, DiskId, FoundColumn, FoundLine, FoundSnapshot, FoundTarget, Lower};
+use dm_stack::{
+    DeviceId, DiskId, Divisor, FoundColumn, FoundLine, FoundSnapshot, FoundTarget, Lower,
+};
 use dm_table::Op;
 
 /// Hands over the units of sectors of a device or a disk, through at most this many levels of
@@ -122,8 +124,11 @@ fn map_line<S: Sink, T: Taken>(
             map_range(walker, op, levels, *to, sector, len, sink)
         }
         FoundTarget::Striped { chunk, columns } => {
+            let count = columns.count();
             let columns = columns.as_slice();
-            map_stripes(walker, op, levels, *chunk, columns, distance, len, sink)
+            map_stripes(
+                walker, op, levels, chunk, columns, count, distance, len, sink,
+            )
         }
         FoundTarget::Zero => hand_zeros(op, len, sink),
         FoundTarget::Error => fail(len, sink),
@@ -139,27 +144,30 @@ fn map_stripes<S: Sink, T: Taken>(
     walker: &mut Walker<'_, T>,
     op: Op,
     levels: u32,
-    chunk: u64,
+    chunk: &Divisor,
     columns: &[FoundColumn],
+    count: &Divisor,
     distance: u64,
     len: u64,
     sink: &mut S,
 ) -> Result<(), S::Fault>
     requires some { 1 ≤ len }
-    requires inside { AreInStripes walker.old.stack chunk columns.now distance len }
+    requires inside { AreInStripes walker.old.stack chunk.now columns.now distance len }
+    requires count { count.now ≡ length columns.now }
     requires sink { IsReady S.stack S.room sink.old walker.old.stack len }
-    ensures walked { IsWalked S.took S.left S.stack S.room S.faults result sink.old sink.new walker.old walker.new (stripes_step walker.old.stack op levels chunk columns.now walker.old.state distance len) len }
-    ensures bounded { (device : ℕ) → IsTargetBounded walker.old walker.new op levels device (Striped chunk columns.now) distance len }
+    ensures walked { IsWalked S.took S.left S.stack S.room S.faults result sink.old sink.new walker.old walker.new (stripes_step walker.old.stack op levels chunk.now columns.now walker.old.state distance len) len }
+    ensures bounded { (device : ℕ) → IsTargetBounded walker.old walker.new op levels device (Striped chunk.now columns.now) distance len }
 {
-    let mut place = place_at(chunk, columns.len() as u64, distance);
+    let size = chunk.value();
+    let mut place = place_at(chunk, count, distance);
     let mut left = len;
     while left > 0 {
-        let part = left.min(chunk - place.past);
+        let part = left.min(size - place.past);
         let column = columns[place.column];
         let sector = sector_at(walker, column.to, column.offset, place.in_column());
         map_range(walker, op, levels, column.to, sector, part, sink)?;
         left -= part;
-        place = next_chunk(chunk, columns.len(), place);
+        place = next_chunk(size, columns.len(), place);
     }
     Ok(())
 }

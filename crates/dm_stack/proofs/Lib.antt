@@ -7,6 +7,7 @@ pub mod DepthRule
 pub mod DepthTests
 pub mod FirstFaults
 pub mod HandedOn
+pub mod Inverses
 pub mod LayoutLemmas
 pub mod LineSearchLemmas
 pub mod LoadLemmas

@@ -3,6 +3,8 @@
 //! A load looks each name up, so that mapping never compares texts. A new target is a variant here,
 //! arms in `specs/Below.antt`, and one in `resolve`, which makes these lines.
 
+use crate::divisor::Divisor;
+use crate::found_columns::FoundColumns;
 use crate::id::Lower;
 use dm_table::Listed;
 
@@ -21,9 +23,15 @@ pub struct FoundLine {
 #[derive(Debug, Drop)]
 pub enum FoundTarget {
     /// They are those of a lower device or disk, from an offset on.
-    Linear { to: Lower, offset: u64 },
+    Linear {
+        to: Lower,
+        offset: u64,
+    },
     /// They go in chunks over columns, in turn.
-    Striped { chunk: u64, columns: FoundColumns },
+    Striped {
+        chunk: Divisor,
+        columns: FoundColumns,
+    },
     /// Reads give zeros, writes are thrown away.
     Zero,
     /// Every request fails.
@@ -47,9 +55,6 @@ pub struct FoundColumn {
     pub to: Lower,
     pub offset: u64,
 }
-
-/// The columns of a striped line.
-pub type FoundColumns = Listed<FoundColumn>;
 
 /// The lines of a device.
 pub(crate) type FoundTable = Listed<FoundLine>;

@@ -9,7 +9,9 @@ ghost use Rattle.dm_stack.specs.Below.{found_columns, found_line, found_target};
 ghost use Rattle.dm_stack.specs.Loaded.{found_table};
 ghost use Rattle.dm_stack.specs.Soundness.{is_unknown, unknown};
 
-use crate::found::{FoundColumn, FoundColumns, FoundLine, FoundSnapshot, FoundTable, FoundTarget};
+use crate::divisor::Divisor;
+use crate::found::{FoundColumn, FoundLine, FoundSnapshot, FoundTable, FoundTarget};
+use crate::found_columns::FoundColumns;
 use crate::indexed::Indexed;
 use crate::placed::first_line;
 use crate::span::Spans;
@@ -71,7 +73,7 @@ fn target(alloc: Global, stack: &Indexed, target: &Target) -> Result<FoundTarget
             offset: *offset,
         }),
         Target::Striped { chunk, columns } => Ok(FoundTarget::Striped {
-            chunk: *chunk,
+            chunk: Divisor::new(*chunk),
             columns: columns_by_ids(alloc, stack, columns.as_slice())?,
         }),
         Target::Zero => Ok(FoundTarget::Zero),

@@ -10,6 +10,11 @@ use Rattle.dm_stream.specs.Pieces.{Piece}
 abbrev pub place_text : Description → ℕ → ℕ → List ℕ
 place_text stack disk sector = disk_name_at stack disk ++ 32 ∷ decimal sector
 
+-- the letter of a write, and else that of a read
+abbrev pub letter_of : BlockUnit → ℕ
+letter_of (WriteOf disk sector) = 87
+letter_of unit = 82
+
 -- the line of a piece, after the number
 abbrev pub unit_text : Description → BlockUnit → ℕ → List ℕ
 unit_text stack (ReadOf disk sector) len = codes "R " ++ place_text stack disk sector ++ 32 ∷ decimal len

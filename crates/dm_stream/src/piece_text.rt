@@ -10,7 +10,7 @@ ghost use Rattle.dm_stack.specs.Loaded.{disk_text};
 ghost use Rattle.dm_map.specs.Units.{CopyOf, FillOf, IsOnDisks, first_unit, piece_len};
 ghost use Rattle.dm_stream.specs.KeptRange.{IsKeptOf};
 ghost use Rattle.dm_stream.specs.Pending.{piece_view};
-ghost use Rattle.dm_stream.specs.PieceText.{IsOther, piece_text, place_text, unit_text};
+ghost use Rattle.dm_stream.specs.PieceText.{IsOther, letter_of, piece_text, place_text, unit_text};
 
 use crate::kept_range::KeptRange;
 use crate::number_prefix::NumberPrefix;
@@ -86,12 +86,8 @@ fn put_piece(block: &mut [u8], at: usize, range: &KeptRange, stack: &Stack, piec
     ensures text { take result block.new ≡ take at block.old ++ unit_text stack.now (first_unit piece.now) (piece_len piece.now) ++ 10 ∷ [] }
 {
     match *piece {
-        Piece::Read { disk, start, len } => {
-            let at = put_named(block, at, b"R ", stack, disk);
-            range.put_into(block, at, start, len)
-        }
-        Piece::Write { disk, start, len } => {
-            let at = put_named(block, at, b"W ", stack, disk);
+        Piece::Read { disk, start, len } | Piece::Write { disk, start, len } => {
+            let at = put_named(block, at, &[letter_of(piece), b' '], stack, disk);
             range.put_into(block, at, start, len)
         }
         Piece::Zero { .. }
@@ -99,6 +95,19 @@ fn put_piece(block: &mut [u8], at: usize, range: &KeptRange, stack: &Stack, piec
         | Piece::Error { .. }
         | Piece::Copy { .. }
         | Piece::Fill { .. } => put_other(block, at, stack, piece),
+    }
+}
+
+/// The letter of a read or a write. Both go one way: which of them comes next is not foreseen by the
+/// processor.
+#[inline(always)]
+fn letter_of(piece: &Piece) -> u8
+    ensures { result ≡ letter_of (first_unit piece.now) }
+{
+    if matches!(*piece, Piece::Write { .. }) {
+        b'W'
+    } else {
+        b'R'
     }
 }
 

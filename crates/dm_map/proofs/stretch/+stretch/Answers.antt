@@ -107,23 +107,26 @@ part_inside stack device start line_len chunk distance len n columns column plac
 pub line_stretch-in_column-requires : goal.line_stretch-in_column-requires
 line_stretch-in_column-requires g t c =
     let a = c.args in
+    let at : IsPlace c.in-Striped.chunk (length c.as_slice-columns.result.now) a.distance c.place_at-place.result = subst (λ (n : ℕ). IsPlace c.in-Striped.chunk n a.distance c.place_at-place.result) (c.count.ensures ∙ ap length (sym c.as_slice-columns.ensures)) c.place_at-place.ensures in
     let lies = in_stripes a.walker.now.stack a.device a.line.now.start a.line.now.len a.distance a.len c.in-Striped.chunk c.as_slice-columns.result.now a.line.now.target
     (c.in-Striped.is ∙ ap (λ columns. Striped c.in-Striped.chunk columns) (sym c.as_slice-columns.ensures)) c.requires.sound c.requires.inside c.requires.small in
-    let small = place_small c.in-Striped.chunk (length c.as_slice-columns.result.now) a.distance c.place_at-place.result lies.stripes.some c.place_at-place.ensures in
+    let small = place_small c.in-Striped.chunk (length c.as_slice-columns.result.now) a.distance c.place_at-place.result lies.stripes.some at in
     omega (arith, small, lies.inside, lies.small, c.requires.some)
 
 pub line_stretch-sector_at-sector-requires-in-Striped : goal.line_stretch-sector_at-sector-requires-in-Striped
 line_stretch-sector_at-sector-requires-in-Striped g t c =
     let a = c.args in
+    let at : IsPlace c.in-Striped.chunk (length c.as_slice-columns.result.now) a.distance c.place_at-place.result = subst (λ (n : ℕ). IsPlace c.in-Striped.chunk n a.distance c.place_at-place.result) (c.count.ensures ∙ ap length (sym c.as_slice-columns.ensures)) c.place_at-place.ensures in
     let inside = part_inside a.walker.now.stack a.device a.line.now.start a.line.now.len c.in-Striped.chunk a.distance a.len c.min-part.result c.as_slice-columns.result.now c.index-columns-place.result c.place_at-place.result a.line.now.target
-    (c.in-Striped.is ∙ ap (λ columns. Striped c.in-Striped.chunk columns) (sym c.as_slice-columns.ensures)) c.requires.sound c.requires.inside c.requires.small c.requires.some c.place_at-place.ensures c.min-part.ensures c.index-columns-place.is in
+    (c.in-Striped.is ∙ ap (λ columns. Striped c.in-Striped.chunk columns) (sym c.as_slice-columns.ensures)) c.requires.sound c.requires.inside c.requires.small c.requires.some at (c.min-part.ensures ∙ ap (λ (n : ℕ). min a.len (n - c.place_at-place.result.past)) c.value.ensures) c.index-columns-place.is in
     omega (arith, inside.0, inside.1, c.in_column.ensures)
 
 pub line_stretch-first_stretch-requires-in-Striped : goal.line_stretch-first_stretch-requires-in-Striped
 line_stretch-first_stretch-requires-in-Striped g t c κs within =
     let a = c.args in
+    let at : IsPlace c.in-Striped.chunk (length c.as_slice-columns.result.now) a.distance c.place_at-place.result = subst (λ (n : ℕ). IsPlace c.in-Striped.chunk n a.distance c.place_at-place.result) (c.count.ensures ∙ ap length (sym c.as_slice-columns.ensures)) c.place_at-place.ensures in
     let inside = part_inside a.walker.now.stack a.device a.line.now.start a.line.now.len c.in-Striped.chunk a.distance a.len c.min-part.result c.as_slice-columns.result.now c.index-columns-place.result c.place_at-place.result a.line.now.target
-    (c.in-Striped.is ∙ ap (λ columns. Striped c.in-Striped.chunk columns) (sym c.as_slice-columns.ensures)) c.requires.sound c.requires.inside c.requires.small c.requires.some c.place_at-place.ensures c.min-part.ensures c.index-columns-place.is in
+    (c.in-Striped.is ∙ ap (λ columns. Striped c.in-Striped.chunk columns) (sym c.as_slice-columns.ensures)) c.requires.sound c.requires.inside c.requires.small c.requires.some at (c.min-part.ensures ∙ ap (λ (n : ℕ). min a.len (n - c.place_at-place.result.past)) c.value.ensures) c.index-columns-place.is in
     let some = inside.0 in
     let there : c.sector_at-sector-in-Striped.result + c.min-part.result ≤ lower_len a.walker.now.stack c.index-columns-place.result.to = omega (arith, inside.1, c.sector_at-sector-in-Striped.ensures, c.in_column.ensures) in
     search rules
@@ -131,12 +134,13 @@ line_stretch-first_stretch-requires-in-Striped g t c κs within =
 pub line_stretch-returns-in-Striped : goal.line_stretch-returns-in-Striped
 line_stretch-returns-in-Striped g t c =
     let a = c.args in let w = a.walker.now in let columns = c.as_slice-columns.result.now in let column = c.index-columns-place.result in let s = c.first_stretch-in-Striped.ensures in let n = c.first_stretch-in-Striped.result.len in
+    let at : IsPlace c.in-Striped.chunk (length c.as_slice-columns.result.now) a.distance c.place_at-place.result = subst (λ (n : ℕ). IsPlace c.in-Striped.chunk n a.distance c.place_at-place.result) (c.count.ensures ∙ ap length (sym c.as_slice-columns.ensures)) c.place_at-place.ensures in
     let lies = in_stripes a.walker.now.stack a.device a.line.now.start a.line.now.len a.distance a.len c.in-Striped.chunk c.as_slice-columns.result.now a.line.now.target
     (c.in-Striped.is ∙ ap (λ columns. Striped c.in-Striped.chunk columns) (sym c.as_slice-columns.ensures)) c.requires.sound c.requires.inside c.requires.small in
     below w _ _ _ c.min-part.result a.len _ s (omega (arith, c.min-part.ensures))
     (ap (λ target. line_step w.stack Read a.levels a.device target w.state a.distance n) (c.in-Striped.is ∙ ap (λ columns. Striped c.in-Striped.chunk columns) (sym c.as_slice-columns.ensures))
     ∙ line_striped w.stack Read a.levels a.device c.in-Striped.chunk columns a.distance n w.state
-    ∙ stripes_chunk w.stack Read a.levels c.in-Striped.chunk a.distance n columns w.state column c.place_at-place.result lies.stripes.some lies.stripes.chunk_some c.place_at-place.ensures (omega (arith, c.min-part.ensures, s.most)) c.index-columns-place.is
+    ∙ stripes_chunk w.stack Read a.levels c.in-Striped.chunk a.distance n columns w.state column c.place_at-place.result lies.stripes.some lies.stripes.chunk_some at (omega (arith, c.min-part.ensures, s.most)) c.index-columns-place.is
     ∙ ap (λ (p : ℕ). range_step w.stack Read a.levels column.to w.state p n) (sym (c.sector_at-sector-in-Striped.ensures ∙ ap (λ (p : ℕ). column.offset + p) c.in_column.ensures)))
 
 -- A snapshot

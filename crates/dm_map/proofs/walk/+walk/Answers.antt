@@ -156,14 +156,14 @@ pub map_stripes-in_column-requires : goal.map_stripes-in_column-requires
 map_stripes-in_column-requires g t c =
     let a = c.args in let l = c.loop-left in let lies = c.requires.inside in
     let at = l.invariant.place c.loop-left-test.true in
-    let small = place_small a.chunk (length a.columns.now) (a.distance + (a.len - l.left)) l.place lies.stripes.some at in
+    let small = place_small a.chunk.now (length a.columns.now) (a.distance + (a.len - l.left)) l.place lies.stripes.some at in
     omega (arith, small, lies.inside, lies.small, l.invariant.within)
 
 pub map_stripes-sector_at-sector-requires : goal.map_stripes-sector_at-sector-requires
 map_stripes-sector_at-sector-requires g t c =
     let a = c.args in let l = c.loop-left in let column = c.index-columns-place.result in let at = l.invariant.place c.loop-left-test.true in
     let some : 1 ≤ c.min-part.result = omega (arith, c.min-part.ensures, c.loop-left-test.true, at.past, c.requires.inside.stripes.chunk_some) in
-    let inside = column_inside a.walker.now.stack a.chunk a.distance a.len (a.len - l.left) c.min-part.result a.columns.now column l.place c.requires.inside (omega (arith, c.loop-left-test.true, l.invariant.within)) at
+    let inside = column_inside a.walker.now.stack a.chunk.now a.distance a.len (a.len - l.left) c.min-part.result a.columns.now column l.place c.requires.inside (omega (arith, c.loop-left-test.true, l.invariant.within)) at
     (omega (arith, c.min-part.ensures)) c.index-columns-place.is in
     subst (λ (s : Description). column.offset + c.in_column.result < lower_len s column.to) (sym l.invariant.walked.stack) (let e : column.offset + c.in_column.result < lower_len a.walker.now.stack column.to = omega (arith, inside, some, c.in_column.ensures) in e)
 
@@ -171,7 +171,7 @@ pub map_stripes-map_range-requires : goal.map_stripes-map_range-requires
 map_stripes-map_range-requires g t c κs within =
     let a = c.args in let l = c.loop-left in let column = c.index-columns-place.result in let at = l.invariant.place c.loop-left-test.true in
     let some : 1 ≤ c.min-part.result = omega (arith, c.min-part.ensures, c.loop-left-test.true, at.past, c.requires.inside.stripes.chunk_some) in
-    let inside = column_inside a.walker.now.stack a.chunk a.distance a.len (a.len - l.left) c.min-part.result a.columns.now column l.place c.requires.inside (omega (arith, c.loop-left-test.true, l.invariant.within)) at
+    let inside = column_inside a.walker.now.stack a.chunk.now a.distance a.len (a.len - l.left) c.min-part.result a.columns.now column l.place c.requires.inside (omega (arith, c.loop-left-test.true, l.invariant.within)) at
     (omega (arith, c.min-part.ensures)) c.index-columns-place.is in
     let there : c.sector_at-sector.result + c.min-part.result ≤ lower_len l.walker.stack column.to = subst (λ (s : Description). c.sector_at-sector.result + c.min-part.result ≤ lower_len s column.to) (sym l.invariant.walked.stack) (omega (arith, inside, c.sector_at-sector.ensures, c.in_column.ensures)) in
     search rules
@@ -200,8 +200,8 @@ pub map_stripes-returns-in_err-map_range-clause-walked : goal.map_stripes-return
 map_stripes-returns-in_err-map_range-clause-walked g t c =
     let a = c.args in let w = a.walker.now in let l = c.loop-left in let column = c.index-columns-place.result in let n = c.min-part.result in let done = a.len - l.left in let stripes = c.requires.inside.stripes in
     cut_on g.S.Sink.took g.S.Sink.left g.S.Sink.stack g.S.Sink.room g.S.Sink.faults g.met.S.Sink.took_then_left _ c.from_residual.result a.sink.now l.sink c.map_range.new.sink w l.walker c.map_range.new.walker
-    (λ after place. below_step w.stack a.op a.levels (below_stripes a.chunk a.columns.now place) after) a.distance done n a.len c.from_residual.ensures.0 (omega (arith, c.min-part.ensures, l.invariant.within)) l.invariant.walked
-    (column_walked g.S.Sink.took g.S.Sink.left g.S.Sink.stack g.S.Sink.room g.S.Sink.faults _ l.sink c.map_range.new.sink w.stack l.walker c.map_range.new.walker a.op a.levels a.chunk (a.distance + done) n c.sector_at-sector.result a.columns.now column l.place
+    (λ after place. below_step w.stack a.op a.levels (below_stripes a.chunk.now a.columns.now place) after) a.distance done n a.len c.from_residual.ensures.0 (omega (arith, c.min-part.ensures, l.invariant.within)) l.invariant.walked
+    (column_walked g.S.Sink.took g.S.Sink.left g.S.Sink.stack g.S.Sink.room g.S.Sink.faults _ l.sink c.map_range.new.sink w.stack l.walker c.map_range.new.walker a.op a.levels a.chunk.now (a.distance + done) n c.sector_at-sector.result a.columns.now column l.place
     l.invariant.walked.stack stripes.some stripes.chunk_some (l.invariant.place c.loop-left-test.true) (omega (arith, c.min-part.ensures)) c.index-columns-place.is (c.sector_at-sector.ensures ∙ ap (λ (p : ℕ). column.offset + p) c.in_column.ensures) c.in_err-map_range.ensures.walked)
 
 pub map_stripes-returns-in_err-map_range-clause-bounded : goal.map_stripes-returns-in_err-map_range-clause-bounded
@@ -209,7 +209,7 @@ map_stripes-returns-in_err-map_range-clause-bounded g t c device line found kind
     let a = c.args in let w = a.walker.now in let l = c.loop-left in let column = c.index-columns-place.result in let n = c.min-part.result in let done = a.len - l.left in let stripes = c.requires.inside.stripes in
     let at = l.invariant.place c.loop-left-test.true in
     bound_more w c.map_range.new.walker a.op (depth_of w.stack device - 1) a.distance (done + n) a.len (line_paths w.stack w.state a.levels device line) (omega (arith, c.min-part.ensures, l.invariant.within))
-    (column_bounded w l.walker c.map_range.new.walker a.op a.levels device a.chunk a.distance done n c.sector_at-sector.result a.columns.now column l.place line l.invariant.walked.stack l.invariant.walked.state (λ later. l.invariant.edge later c.loop-left-test.true)
+    (column_bounded w l.walker c.map_range.new.walker a.op a.levels device a.chunk.now a.distance done n c.sector_at-sector.result a.columns.now column l.place line l.invariant.walked.stack l.invariant.walked.state (λ later. l.invariant.edge later c.loop-left-test.true)
     stripes.some stripes.chunk_some at (omega (arith, c.min-part.ensures, c.loop-left-test.true, at.past, stripes.chunk_some)) (omega (arith, c.min-part.ensures)) c.index-columns-place.is (c.sector_at-sector.ensures ∙ ap (λ (p : ℕ). column.offset + p) c.in_column.ensures)
     found kind c.in_err-map_range.ensures.bounded (l.invariant.bounded device line found kind))
 
@@ -217,7 +217,7 @@ pub map_stripes-next_chunk-place-requires-clause-small : goal.map_stripes-next_c
 map_stripes-next_chunk-place-requires-clause-small g t c =
     let a = c.args in let l = c.loop-left in let lies = c.requires.inside in
     let at = l.invariant.place c.loop-left-test.true in
-    let small = place_small a.chunk (length a.columns.now) (a.distance + (a.len - l.left)) l.place lies.stripes.some at in
+    let small = place_small a.chunk.now (length a.columns.now) (a.distance + (a.len - l.left)) l.place lies.stripes.some at in
     omega (arith, small, lies.inside, lies.small, lies.stripes.chunk_small, l.invariant.within)
 
 pub map_stripes-loop-left-preserved : goal.map_stripes-loop-left-preserved
@@ -227,18 +227,19 @@ map_stripes-loop-left-preserved g t c =
     let at = l.invariant.place c.loop-left-test.true in
     record {
       walked = walked_on g.S.Sink.took g.S.Sink.left g.S.Sink.stack g.S.Sink.room g.S.Sink.faults g.met.S.Sink.took_then_took _ a.sink.now l.sink c.map_range.new.sink w l.walker c.map_range.new.walker
-          (λ after place. below_step w.stack a.op a.levels (below_stripes a.chunk a.columns.now place) after) a.distance done n _ on l.invariant.walked
-          (column_walked g.S.Sink.took g.S.Sink.left g.S.Sink.stack g.S.Sink.room g.S.Sink.faults _ l.sink c.map_range.new.sink w.stack l.walker c.map_range.new.walker a.op a.levels a.chunk (a.distance + done) n c.sector_at-sector.result a.columns.now column l.place
+          (λ after place. below_step w.stack a.op a.levels (below_stripes a.chunk.now a.columns.now place) after) a.distance done n _ on l.invariant.walked
+          (column_walked g.S.Sink.took g.S.Sink.left g.S.Sink.stack g.S.Sink.room g.S.Sink.faults _ l.sink c.map_range.new.sink w.stack l.walker c.map_range.new.walker a.op a.levels a.chunk.now (a.distance + done) n c.sector_at-sector.result a.columns.now column l.place
           l.invariant.walked.stack stripes.some stripes.chunk_some at (omega (arith, c.min-part.ensures)) c.index-columns-place.is (c.sector_at-sector.ensures ∙ ap (λ (p : ℕ). column.offset + p) c.in_column.ensures) c.in_ok-map_range.ensures.walked);
       within = omega (arith, l.invariant.within);
       place = λ more.
-          let next_at : a.distance + done + (a.chunk - l.place.past) ≡ a.distance + (a.len - (l.left - n)) = omega (arith, c.min-part.ensures, l.invariant.within, more) in
-          rw next_at at (c.next_chunk-place.ensures (a.distance + done) at);
+          let next_at : a.distance + done + (a.chunk.now - l.place.past) ≡ a.distance + (a.len - (l.left - n)) = omega (arith, c.min-part.ensures, l.invariant.within, more) in
+          let next : IsPlace a.chunk.now (length a.columns.now) (a.distance + done) l.place → IsPlace a.chunk.now (length a.columns.now) (a.distance + done + (a.chunk.now - l.place.past)) c.next_chunk-place.result = subst (λ (n : ℕ). IsPlace n (length a.columns.now) (a.distance + done) l.place → IsPlace n (length a.columns.now) (a.distance + done + (n - l.place.past)) c.next_chunk-place.result) c.value-size.ensures (c.next_chunk-place.ensures (a.distance + done)) in
+          rw next_at at (next at);
       edge = λ later more.
           let next_at : a.distance + done + n ≡ a.distance + (a.len - (l.left - n)) = omega (arith, on) in
-          rw next_at at (first_next a.chunk (a.distance + done) n stripes.chunk_some (omega (arith, c.min-part.ensures, at.past, more)));
+          rw next_at at (first_next a.chunk.now (a.distance + done) n stripes.chunk_some (omega (arith, c.min-part.ensures, at.past, more)));
       bounded = λ device line found kind.
-          rw on at (column_bounded w l.walker c.map_range.new.walker a.op a.levels device a.chunk a.distance done n c.sector_at-sector.result a.columns.now column l.place line l.invariant.walked.stack l.invariant.walked.state (λ later. l.invariant.edge later c.loop-left-test.true)
+          rw on at (column_bounded w l.walker c.map_range.new.walker a.op a.levels device a.chunk.now a.distance done n c.sector_at-sector.result a.columns.now column l.place line l.invariant.walked.stack l.invariant.walked.state (λ later. l.invariant.edge later c.loop-left-test.true)
           stripes.some stripes.chunk_some at (omega (arith, c.min-part.ensures, c.loop-left-test.true, at.past, stripes.chunk_some)) (omega (arith, c.min-part.ensures)) c.index-columns-place.is (c.sector_at-sector.ensures ∙ ap (λ (p : ℕ). column.offset + p) c.in_column.ensures)
           found kind c.in_ok-map_range.ensures.bounded (l.invariant.bounded device line found kind));
     }
