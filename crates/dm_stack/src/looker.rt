@@ -108,14 +108,6 @@ impl<'s> Looker<'s> {
         self.stack.len(device)
     }
 
-    /// Whether a device of the stack is read-only.
-    pub fn is_ro(&self, device: DeviceId) -> bool
-        requires { device < length self.now.stack.devices }
-        ensures { result ≡ is_ro_at self.now.stack device }
-    {
-        self.stack.is_ro(device)
-    }
-
     /// The length of a disk of the stack in sectors, from 1 to 2^50.
     pub fn disk_len(&self, disk: DiskId) -> u64
         requires { disk < length self.now.stack.disks }
@@ -123,6 +115,14 @@ impl<'s> Looker<'s> {
         ensures size { IsLength result }
     {
         self.stack.disk_len(disk)
+    }
+
+    /// Whether a device of the stack is read-only.
+    pub fn is_ro(&self, device: DeviceId) -> bool
+        requires { device < length self.now.stack.devices }
+        ensures { result ≡ is_ro_at self.now.stack device }
+    {
+        self.stack.is_ro(device)
     }
 
     /// The devices of the stack that are snapshots, in their order.
