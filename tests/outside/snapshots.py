@@ -13,6 +13,9 @@ LONG_STORE = "s,,,,0 8 snapshot base cow P 1024"
 # 4,194,304 places that there can be.
 ALL_CHUNKS = 1 + 4096 + 4194304 + 1
 
+# The lines of a write of the chunks of a first area of numbers, of one sector each.
+AREA = "".join("1 copy base %d 1 cow %d\n1 W cow %d 1\n" % (it, it + 2, it + 2) for it in range(32))
+
 # FILE as concise text, DISKS, the requests and the output.
 ROWS = [
     # A write to a read-only snapshot takes nothing, and leaves it valid.
@@ -21,6 +24,12 @@ ROWS = [
      "W t 0 1\nR t 0 8\n", "1 error 1\n2 R base 0 8\n"),
     ("s,,,,0 8 snapshot base cow P 32", "base 8\ncow %d\n" % (32 * ALL_CHUNKS), "W s 0 1\n",
      "1 copy base 0 8 cow 64\n1 W cow 64 1\n"),
+    # The second area of numbers is passed over.
+    ("s,,,,0 64 snapshot base cow P 1", "base 64\ncow 64\n", "W s 0 33\nR s 30 4\n",
+     AREA + "1 copy base 32 1 cow 35\n1 W cow 35 1\n2 R cow 32 2\n2 R cow 35 1\n2 R base 33 1\n"),
+    # A store that is used up.
+    ("s,,,,0 64 snapshot base cow P 1", "base 64\ncow 34\n", "W s 0 32\nR s 0 33\n",
+     AREA + "2 R cow 2 32\n2 R base 32 1\n"),
 ]
 
 # FILE as concise text, DISKS, and the message.

@@ -5,6 +5,8 @@
 #![tactic(auto)]
 
 mod chunk;
+#[cfg(test)]
+mod fixtures;
 mod levels;
 mod mapper;
 mod own;

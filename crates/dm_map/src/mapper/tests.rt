@@ -1,11 +1,6 @@
 //! The searches and comparisons of one request, which usage leaves as they are.
 
-use super::*;
-use crate::piece_list::PieceList;
-use crate::plain_taken::PlainTaken;
-use dm_stack::Stack;
-use dm_table::{parse_disks, parse_request, parse_table};
-use std::process::Abort;
+use crate::fixtures::{stack_of, told_after};
 
 /// Tables, disks, a request, and its searches and comparisons.
 static ROWS: [(&str, &str, &str, (u64, u64)); 8] = [
@@ -65,30 +60,11 @@ static ROWS: [(&str, &str, &str, (u64, u64)); 8] = [
     ),
 ];
 
-/// The searches and comparisons of a request of a new mapper, told after a call of usage.
-fn counts_after(rt: &impl Abort, alloc: Global, stack: &Stack, line: &str) -> (u64, u64) {
-    let request = parse_request(line.as_bytes(), 1).expect(rt, "a request");
-    let device = stack.device(request.device).expect(rt, "a device");
-    let mut mapper: Mapper<'_, PlainTaken> = Mapper::new(alloc, stack.looker()).expect(
-        rt, "a mapper",
-    );
-    let mut list = PieceList::new(alloc, stack);
-    mapper
-        .request(&request, device, &mut list)
-        .expect(rt, "pieces");
-    if let Some(snapshot) = stack.snapshots().first() {
-        mapper.usage(*snapshot);
-    }
-    (mapper.searches(), mapper.probes())
-}
-
 #[test]
 fn searches_and_comparisons_of_a_request(rt: HostRuntime) {
-    let alloc = rt.alloc();
     for &(table, disks, line, want) in &ROWS {
-        let devices = parse_table(alloc, table.as_bytes()).expect(&rt, "devices");
-        let disks = parse_disks(alloc, disks.as_bytes()).expect(&rt, "disks");
-        let stack = Stack::load(alloc, devices, disks).expect(&rt, "a stack");
-        assert_eq!(&rt; counts_after(&rt, alloc, &stack, line), want, "{line}");
+        let stack = stack_of(&rt, rt.alloc(), table, disks);
+        let (_, counts) = told_after(&rt, rt.alloc(), &stack, line);
+        assert_eq!(&rt; counts, want, "{line}");
     }
 }

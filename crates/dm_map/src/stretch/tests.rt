@@ -4,24 +4,18 @@
 //! copy goes on as long as a read does.
 
 use super::*;
+use crate::fixtures::stack_of;
 use crate::mapper::Mapper;
 use crate::piece::Piece;
 use crate::piece_list::PieceList;
 use crate::plain_taken::PlainTaken;
 use crate::tables::empty_tables;
-use dm_stack::{MOST_DEPTH, Stack};
-use dm_table::{parse_disks, parse_request, parse_table};
-use std::alloc::Global;
-use std::process::Abort;
+use dm_stack::MOST_DEPTH;
+use dm_table::parse_request;
 
 /// Lines of all targets, stripes over one of them and a disk, and a device over the stripes.
-fn sample(rt: &impl Abort, alloc: Global) -> Stack {
-    let table = "a: 0 4 linear sda 10\na: 4 2 zero\na: 6 2 error\n\
-        b: 0 8 striped 2 2 /dev/mapper/a 2 sdb 0\nc: 0 3 linear /dev/mapper/b 1\n";
-    let devices = parse_table(alloc, table.as_bytes()).expect(rt, "devices");
-    let disks = parse_disks(alloc, "sda 16\nsdb 4\n".as_bytes()).expect(rt, "disks");
-    Stack::load(alloc, devices, disks).expect(rt, "a stack")
-}
+const TABLE: &str = "a: 0 4 linear sda 10\na: 4 2 zero\na: 6 2 error\n\
+    b: 0 8 striped 2 2 /dev/mapper/a 2 sdb 0\nc: 0 3 linear /dev/mapper/b 1\n";
 
 /// A stretch as a piece of a read.
 fn piece_of(stretch: &Stretch) -> Piece {
@@ -40,7 +34,7 @@ fn piece_of(stretch: &Stretch) -> Piece {
 #[test]
 fn a_stretch_is_the_first_piece_of_a_read(rt: HostRuntime) {
     let alloc = rt.alloc();
-    let stack = sample(&rt, alloc);
+    let stack = stack_of(&rt, alloc, TABLE, "sda 16\nsdb 4\n");
     for (line, want) in [
         ("R a 0 8", 4),
         ("R a 1 2", 2),

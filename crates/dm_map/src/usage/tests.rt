@@ -1,13 +1,7 @@
 //! The usage of a store after one request, by the formula of the kernel's document.
 
 use super::*;
-use crate::mapper::Mapper;
-use crate::piece_list::PieceList;
-use crate::plain_taken::PlainTaken;
-use dm_stack::Stack;
-use dm_table::{parse_disks, parse_request, parse_table};
-use std::alloc::Global;
-use std::process::Abort;
+use crate::fixtures::{stack_of, told_after};
 
 /// Tables with one snapshot, the disks, a request of the snapshot, and the usage after it.
 static ROWS: [(&str, &str, &str, Usage); 5] = [
@@ -71,28 +65,12 @@ static ROWS: [(&str, &str, &str, Usage); 5] = [
     ),
 ];
 
-/// The usage of the snapshot of a stack after a request.
-fn usage_after(rt: &impl Abort, alloc: Global, stack: &Stack, line: &str) -> Usage {
-    let request = parse_request(line.as_bytes(), 1).expect(rt, "a request");
-    let device = *stack.snapshots().first().expect(rt, "a snapshot");
-    let mut mapper: Mapper<'_, PlainTaken> = Mapper::new(alloc, stack.looker()).expect(
-        rt, "a mapper",
-    );
-    let mut list = PieceList::new(alloc, stack);
-    mapper
-        .request(&request, device, &mut list)
-        .expect(rt, "pieces");
-    mapper.usage(device)
-}
-
 #[test]
 fn usage_of_a_store(rt: HostRuntime) {
-    let alloc = rt.alloc();
     for &(table, disks, line, want) in &ROWS {
-        let devices = parse_table(alloc, table.as_bytes()).expect(&rt, "devices");
-        let disks = parse_disks(alloc, disks.as_bytes()).expect(&rt, "disks");
-        let stack = Stack::load(alloc, devices, disks).expect(&rt, "a stack");
-        assert_eq!(&rt; usage_after(&rt, alloc, &stack, line), want, "{line}");
+        let stack = stack_of(&rt, rt.alloc(), table, disks);
+        let (usage, _) = told_after(&rt, rt.alloc(), &stack, line);
+        assert_eq!(&rt; usage, Some(want), "{line}");
     }
 }
 

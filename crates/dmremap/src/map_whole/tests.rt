@@ -111,14 +111,21 @@ fn output(
     made.expect(rt, "an output")
 }
 
+/// After how many of these bytes a stream of them fails, if it does.
+fn end_of(bytes: &[u8], fails: bool) -> Option<usize> {
+    if fails { Some(bytes.len()) } else { None }
+}
+
 /// A number of letters, and a text after them.
 fn letters(alloc: Global, count: usize, end: &str) -> Result<String, AllocError> {
-    let mut text = String::new(alloc);
-    for _ in 0..count {
-        text.push('a')?;
-    }
+    let mut text = "a".repeat(alloc, count)?;
     text.push_str(end)?;
     Ok(text)
+}
+
+/// The message of the program, of which only its own words are given.
+fn message_of(rt: &impl Abort, alloc: Global, words: &str) -> String {
+    format!(in alloc; "dmremap: {words}\n").expect(rt, "a message")
 }
 
 /// Runs a case, and asserts what it must give.
@@ -145,7 +152,12 @@ fn check(rt: &impl Abort, alloc: Global, case: &Case<'_>) {
 
 /// Runs a case over streams that move a byte a call, and over ones that do not go short.
 fn check_steps(rt: &impl Abort, alloc: Global, case: &Case<'_>) {
-    for step in [1, PLENTY] {
+    check_at(rt, alloc, case, &[1, PLENTY]);
+}
+
+/// Runs a case over streams that move at most these many bytes a call.
+fn check_at(rt: &impl Abort, alloc: Global, case: &Case<'_>, steps: &[usize]) {
+    for &step in steps {
         let streams = Streams {
             step,
             ..case.streams
@@ -159,4 +171,19 @@ fn check_answer(rt: &impl Abort, case: &Case<'_>, status: u8, output: &[u8], mes
     assert!(rt; output == case.output, "the output of {}", case.name);
     assert!(rt; messages == case.message, "the message of {}", case.name);
     assert_eq!(rt; status, case.status, "the status of {}", case.name);
+}
+
+#[test]
+fn rows_of_cases(rt: HostRuntime) {
+    let tables = [
+        &rows::ROWS[..],
+        &snapshots::ROWS[..],
+        &faults::FAULTS[..],
+        &status_lines::ROWS[..],
+    ];
+    for table in tables {
+        for case in table {
+            check_steps(&rt, rt.alloc(), case);
+        }
+    }
 }

@@ -96,13 +96,27 @@ fn printing(form: Form, format: Format) -> Task<'static>
     )
 }
 
-/// Asserts what must come of a run: the text is the output at status 0, and else the message.
-fn check(rt: &impl Abort, ran: Ran, text: &str, status: u8) {
-    let (got, output, messages) = ran;
+/// Runs a job over these texts, and asserts what must come of it: the text is the output at status
+/// 0, and else the message.
+fn check(
+    rt: &impl Abort,
+    alloc: Global,
+    task: Task<'_>,
+    source: &str,
+    disks: &str,
+    text: &str,
+    status: u8,
+)
+    requires { is_other (words_of task) ≡ true }
+{
     let (printed, told) = if status == 0 { (text, "") } else { ("", text) };
-    assert_eq!(rt; output.as_slice(), printed.as_bytes(), "the output, {text}");
-    assert_eq!(rt; messages.as_slice(), told.as_bytes(), "the message, {text}");
-    assert_eq!(rt; got, status, "the status, {text}");
+    for step in [1, 7] {
+        let (output, messages) = (stream(rt, alloc, step), stream(rt, alloc, step));
+        let (got, output, messages) = run(alloc, task, source, disks, output, messages);
+        assert_eq!(rt; output.as_slice(), printed.as_bytes(), "the output, {text}");
+        assert_eq!(rt; messages.as_slice(), told.as_bytes(), "the message, {text}");
+        assert_eq!(rt; got, status, "the status, {text}");
+    }
 }
 
 /// Tables in a format with the disks below, and what is printed in both forms.
@@ -149,15 +163,10 @@ static TABLES: [(Format, &str, &str, &str, &str); 8] = [
 
 #[test]
 fn tables(rt: HostRuntime) {
-    let alloc = rt.alloc();
     for &(format, source, disks, table, concise) in &TABLES {
         for (form, text) in [(Form::Table, table), (Form::Concise, concise)] {
-            for step in [1, 7] {
-                let task = printing(form, format);
-                let (output, messages) = (stream(&rt, alloc, step), stream(&rt, alloc, step));
-                let ran = run(alloc, task, source, disks, output, messages);
-                check(&rt, ran, text, 0);
-            }
+            let task = printing(form, format);
+            check(&rt, rt.alloc(), task, source, disks, text, 0);
         }
     }
 }
@@ -192,12 +201,9 @@ static READ_ONLY: [(Form, &str); 2] = [
 
 #[test]
 fn a_read_only_volume(rt: HostRuntime) {
-    let alloc = rt.alloc();
     for &(form, text) in &READ_ONLY {
         let task = printing(form, Format::Lvm);
-        let (output, messages) = (stream(&rt, alloc, 1), stream(&rt, alloc, 1));
-        let ran = run(alloc, task, GROUP, "", output, messages);
-        check(&rt, ran, text, 0);
+        check(&rt, rt.alloc(), task, GROUP, "", text, 0);
     }
 }
 
@@ -242,13 +248,10 @@ static REFUSED: [(Format, &str, &str, &str); 6] = [
 
 #[test]
 fn refused_loads(rt: HostRuntime) {
-    let alloc = rt.alloc();
     for &(format, source, disks, message) in &REFUSED {
         for form in [Form::Table, Form::Concise] {
             let task = printing(form, format);
-            let (output, messages) = (stream(&rt, alloc, 1), stream(&rt, alloc, 1));
-            let ran = run(alloc, task, source, disks, output, messages);
-            check(&rt, ran, message, 1);
+            check(&rt, rt.alloc(), task, source, disks, message, 1);
         }
     }
 }
@@ -334,11 +337,9 @@ fn checking(format: Format) -> Task<'static>
 
 #[test]
 fn checks(rt: HostRuntime) {
-    let alloc = rt.alloc();
     for &(format, source, disks, text, status) in &CHECKS {
-        let (output, messages) = (stream(&rt, alloc, 3), stream(&rt, alloc, 1));
-        let ran = run(alloc, checking(format), source, disks, output, messages);
-        check(&rt, ran, text, status);
+        let task = checking(format);
+        check(&rt, rt.alloc(), task, source, disks, text, status);
     }
 }
 
@@ -353,12 +354,9 @@ static BUILT: [(&str, &str, Option<&str>, &str, u8); 5] = [
 
 #[test]
 fn built_names(rt: HostRuntime) {
-    let alloc = rt.alloc();
     for &(vg, lv, layer, text, status) in &BUILT {
         let task = Task::Name { vg, lv, layer };
-        let (output, messages) = (stream(&rt, alloc, 1), stream(&rt, alloc, 1));
-        let ran = run(alloc, task, "", "", output, messages);
-        check(&rt, ran, text, status);
+        check(&rt, rt.alloc(), task, "", "", text, status);
     }
 }
 
@@ -374,12 +372,9 @@ static SPLIT: [(&str, &str, u8); 6] = [
 
 #[test]
 fn parts_of_names(rt: HostRuntime) {
-    let alloc = rt.alloc();
     for &(name, text, status) in &SPLIT {
         let task = Task::SplitName(name);
-        let (output, messages) = (stream(&rt, alloc, 1), stream(&rt, alloc, 1));
-        let ran = run(alloc, task, "", "", output, messages);
-        check(&rt, ran, text, status);
+        check(&rt, rt.alloc(), task, "", "", text, status);
     }
 }
 

@@ -24,6 +24,14 @@ const STEADY: Failing = Failing {
     flush: false,
 };
 
+/// An output whose flushes fail.
+const FAILING_FLUSH: Failing = Failing {
+    after: PLENTY,
+    flush: true,
+};
+
+const WRITE_MESSAGE: &str = "dmremap: output: write\n";
+
 /// Replays requests over streams that move a few bytes a call, and asserts what must come of it.
 fn check(
     rt: &impl Abort,
@@ -174,34 +182,25 @@ static ROWS: [(&str, &str, &str, &str, &str, u8); 14] = [
 fn rows(rt: HostRuntime) {
     let alloc = rt.alloc();
     for &(tables, disks, requests, output, message, status) in &ROWS {
-        check(
-            &rt,
-            alloc,
-            (tables, disks, requests),
-            STEADY,
-            (output.as_bytes(), message, status),
-        );
-    }
-}
-
-#[test]
-fn the_output_fails(rt: HostRuntime) {
-    let alloc = rt.alloc();
-    for &(tables, disks, requests, output, _, status) in &ROWS {
+        let texts = (tables, disks, requests);
         let output = output.as_bytes();
-        for count in 0..=output.len() {
-            let flush = count == output.len();
-            if flush && status == 1 {
-                continue;
-            }
-            let after = if flush { PLENTY } else { count };
+        check(&rt, alloc, texts, STEADY, (output, message, status));
+        for after in 0..output.len() {
+            let failing = Failing {
+                after,
+                flush: false,
+            };
             check(
                 &rt,
                 alloc,
-                (tables, disks, requests),
-                Failing { after, flush },
-                (&output[..count], "dmremap: output: write\n", 5),
+                texts,
+                failing,
+                (&output[..after], WRITE_MESSAGE, 5),
             );
+        }
+        // A refused load writes nothing, and does not flush.
+        if status != 1 {
+            check(&rt, alloc, texts, FAILING_FLUSH, (output, WRITE_MESSAGE, 5));
         }
     }
 }

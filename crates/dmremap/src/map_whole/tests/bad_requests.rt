@@ -130,40 +130,25 @@ static LONG_LINES: [(usize, &str, bool, &[u8], u8); 8] = [
     (4097, "", true, b"dmremap: request 1: long\n", 3),
 ];
 
-/// Runs a line over reads of several sizes, and asserts what it must give.
-fn check_line<'a>(
-    rt: &impl Abort,
-    alloc: Global,
-    line: &'a [u8],
-    fails: bool,
-    message: &'a [u8],
-    status: u8,
-) {
-    for step in [1, 4096, 4097, 65536] {
-        let streams = Streams {
-            step,
-            requests: if fails { Some(line.len()) } else { None },
-            ..STEADY
-        };
-        let case = Case {
-            name: "a long line",
-            requests: line,
-            output: b"",
-            message,
-            status,
-            streams,
-            ..VOLUME
-        };
-        check(rt, alloc, &case);
-    }
-}
-
 #[test]
 fn lines_of_the_greatest_length(rt: HostRuntime) -> Result<(), Fail> {
     let alloc = rt.alloc();
     for &(count, end, fails, message, status) in &LONG_LINES {
         let line = letters(alloc, count, end)?;
-        check_line(&rt, alloc, line.as_bytes(), fails, message, status);
+        let requests = line.as_bytes();
+        let case = Case {
+            name: "a long line",
+            requests,
+            output: b"",
+            message,
+            status,
+            streams: Streams {
+                requests: end_of(requests, fails),
+                ..STEADY
+            },
+            ..VOLUME
+        };
+        check_at(&rt, alloc, &case, &[1, 4096, 4097, 65536]);
     }
     Ok(())
 }

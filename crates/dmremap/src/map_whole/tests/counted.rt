@@ -56,56 +56,32 @@ impl<'a> Write for Fake<'a> {
     }
 }
 
-/// What a read does, and what comes of it; and the same of a write.
-static CALLS: [(Step, Option<usize>, Option<usize>); 4] = [
-    (Step::Moves(4), Some(4), Some(4)),
-    (Step::Moves(1), Some(1), Some(1)),
-    (Step::Moves(0), Some(0), None),
-    (Step::Fails, None, None),
+/// What a call does, what comes of a read and of a write, and whether a flush succeeds.
+static CALLS: [(Step, Option<usize>, Option<usize>, bool); 4] = [
+    (Step::Moves(4), Some(4), Some(4), true),
+    (Step::Moves(1), Some(1), Some(1), true),
+    (Step::Moves(0), Some(0), None, true),
+    (Step::Fails, None, None, false),
 ];
 
 #[test]
-fn reads(rt: HostRuntime) {
-    for (step, want, _) in &CALLS {
+fn one_call_for_each_call(rt: HostRuntime) {
+    for &(step, read, written, flushes) in &CALLS {
         let calls = Cell::new(0);
-        let script = [*step, Step::Moves(4)];
-        let mut input = Counted::new(Fake {
+        let script = [step, step, step, Step::Moves(4)];
+        let mut device = Counted::new(Fake {
             script: &script,
             calls: &calls,
         });
-        assert!(rt; input.read(&mut [0; 4]).ok() == *want, "a read of {want:?}");
-        assert_eq!(rt; calls.get(), 1, "calls at a read of {want:?}");
-    }
-}
-
-#[test]
-fn writes(rt: HostRuntime) {
-    for (step, _, want) in &CALLS {
-        let calls = Cell::new(0);
-        let script = [*step, Step::Moves(4)];
-        let mut output = Counted::new(Fake {
-            script: &script,
-            calls: &calls,
-        });
+        assert!(rt; device.read(&mut [0; 4]).ok() == read, "a read of {read:?}");
+        assert_eq!(rt; calls.get(), 1, "calls at a read of {read:?}");
         assert!(rt;
-            output.write(&[1, 2, 3, 4]).ok() == *want,
-            "a write of {want:?}"
+            device.write(&[1, 2, 3, 4]).ok() == written,
+            "a write of {written:?}"
         );
-        assert_eq!(rt; calls.get(), 1, "calls at a write of {want:?}");
-    }
-}
-
-#[test]
-fn flushes(rt: HostRuntime) {
-    for (step, succeeds) in [(Step::Moves(0), true), (Step::Fails, false)] {
-        let calls = Cell::new(0);
-        let script = [step, Step::Moves(0)];
-        let mut output = Counted::new(Fake {
-            script: &script,
-            calls: &calls,
-        });
-        assert_eq!(rt; output.flush().is_ok(), succeeds, "a flush");
-        assert_eq!(rt; calls.get(), 1, "calls at a flush");
+        assert_eq!(rt; calls.get(), 2, "calls at a write of {written:?}");
+        assert_eq!(rt; device.flush().is_ok(), flushes, "a flush");
+        assert_eq!(rt; calls.get(), 3, "calls at a flush");
     }
 }
 

@@ -44,7 +44,7 @@ const FAILING_FLUSH: Streams = Streams {
 };
 
 /// Which of several faults is reported, and what is not asked of an output.
-static FAULTS: [Case<'static>; 7] = [
+pub(super) static FAULTS: [Case<'static>; 7] = [
     Case {
         name: "a flush that fails",
         message: WRITE_MESSAGE,
@@ -103,13 +103,6 @@ static FAULTS: [Case<'static>; 7] = [
         ..REFUSED
     },
 ];
-
-#[test]
-fn one_fault_takes_precedence(rt: HostRuntime) {
-    for case in &FAULTS {
-        check_steps(&rt, rt.alloc(), case);
-    }
-}
 
 #[test]
 fn the_source_fails_after_each_byte(rt: HostRuntime) {
@@ -171,11 +164,6 @@ static PARTS: [(usize, bool, usize, bool, &[u8]); 10] = [
     (0, true, 0, true, b"dmremap: source: read\n"),
 ];
 
-/// After how many bytes a text fails, if it does.
-fn end_of(text: &str, fails: bool) -> Option<usize> {
-    if fails { Some(text.len()) } else { None }
-}
-
 /// Asserts what two parts give of which each may fail after its bytes.
 fn check_parts<'a>(
     rt: &impl Abort,
@@ -185,16 +173,17 @@ fn check_parts<'a>(
     fails: (bool, bool),
     message: &'a [u8],
 ) {
+    let streams = Streams {
+        source: end_of(source.as_bytes(), fails.0),
+        disks: end_of(disks.as_bytes(), fails.1),
+        ..STEADY
+    };
     let case = Case {
         name: "two parts",
         source,
         disks,
         message,
-        streams: Streams {
-            source: end_of(source, fails.0),
-            disks: end_of(disks, fails.1),
-            ..STEADY
-        },
+        streams,
         ..REFUSED
     };
     check(rt, alloc, &case);

@@ -5,7 +5,7 @@
 
 use super::*;
 
-static ROWS: [Case<'static>; 32] = [
+pub(super) static ROWS: [Case<'static>; 32] = [
     // One device.
     VOLUME,
     Case {
@@ -254,10 +254,3 @@ static ROWS: [Case<'static>; 32] = [
         ..VOLUME
     },
 ];
-
-#[test]
-fn requests_are_answered(rt: HostRuntime) {
-    for case in &ROWS {
-        check(&rt, rt.alloc(), case);
-    }
-}

@@ -1,8 +1,7 @@
 //! Loads of snapshots: what refuses them, their stores and too many places, and what does not.
 
-use super::refused_loads::{check_refused, message_of};
+use super::refused_loads::check_refused;
 use super::*;
-use std::test::Fail;
 
 /// Stores of chunks of 1 sector with all places that a stack may have, with half of them, and each
 /// with one place more.
@@ -104,13 +103,11 @@ static REFUSED: [(&str, &str); 26] = [
 ];
 
 #[test]
-fn refused(rt: HostRuntime) -> Result<(), Fail> {
-    let alloc = rt.alloc();
+fn refused(rt: HostRuntime) {
     for &(source, words) in &REFUSED {
-        let message = message_of(alloc, words)?;
-        check_refused(&rt, alloc, source, source, DISKS, message.as_str());
+        let message = message_of(&rt, rt.alloc(), words);
+        check_refused(&rt, rt.alloc(), source, source, DISKS, message.as_str());
     }
-    Ok(())
 }
 
 static LOADED: [&str; 6] = [

@@ -6,7 +6,7 @@
 
 use super::*;
 
-static ROWS: [Case<'static>; 23] = [
+pub(super) static ROWS: [Case<'static>; 21] = [
     // A chunk is copied and then written.
     Case {
         name: "the end of the origin cuts a chunk short",
@@ -116,55 +116,7 @@ static ROWS: [Case<'static>; 23] = [
                   2 error 8\n3 R cow2 16 8\n3 error 8\n4 error 1\n5 error 1\n",
         ..VOLUME
     },
-    // Areas, and stores that fill up.
-    Case {
-        name: "the second area of numbers is passed over",
-        source: "s: 0 64 snapshot base cow P 1\n",
-        disks: "base 64\ncow 64\n",
-        requests: b"W s 0 33\nR s 30 4\n",
-        output: b"1 copy base 0 1 cow 2\n1 W cow 2 1\n1 copy base 1 1 cow 3\n1 W cow 3 1\n\
-                  1 copy base 2 1 cow 4\n1 W cow 4 1\n1 copy base 3 1 cow 5\n1 W cow 5 1\n\
-                  1 copy base 4 1 cow 6\n1 W cow 6 1\n1 copy base 5 1 cow 7\n1 W cow 7 1\n\
-                  1 copy base 6 1 cow 8\n1 W cow 8 1\n1 copy base 7 1 cow 9\n1 W cow 9 1\n\
-                  1 copy base 8 1 cow 10\n1 W cow 10 1\n1 copy base 9 1 cow 11\n1 W cow 11 1\n\
-                  1 copy base 10 1 cow 12\n1 W cow 12 1\n1 copy base 11 1 cow 13\n1 W cow 13 1\n\
-                  1 copy base 12 1 cow 14\n1 W cow 14 1\n1 copy base 13 1 cow 15\n1 W cow 15 1\n\
-                  1 copy base 14 1 cow 16\n1 W cow 16 1\n1 copy base 15 1 cow 17\n1 W cow 17 1\n\
-                  1 copy base 16 1 cow 18\n1 W cow 18 1\n1 copy base 17 1 cow 19\n1 W cow 19 1\n\
-                  1 copy base 18 1 cow 20\n1 W cow 20 1\n1 copy base 19 1 cow 21\n1 W cow 21 1\n\
-                  1 copy base 20 1 cow 22\n1 W cow 22 1\n1 copy base 21 1 cow 23\n1 W cow 23 1\n\
-                  1 copy base 22 1 cow 24\n1 W cow 24 1\n1 copy base 23 1 cow 25\n1 W cow 25 1\n\
-                  1 copy base 24 1 cow 26\n1 W cow 26 1\n1 copy base 25 1 cow 27\n1 W cow 27 1\n\
-                  1 copy base 26 1 cow 28\n1 W cow 28 1\n1 copy base 27 1 cow 29\n1 W cow 29 1\n\
-                  1 copy base 28 1 cow 30\n1 W cow 30 1\n1 copy base 29 1 cow 31\n1 W cow 31 1\n\
-                  1 copy base 30 1 cow 32\n1 W cow 32 1\n1 copy base 31 1 cow 33\n1 W cow 33 1\n\
-                  1 copy base 32 1 cow 35\n1 W cow 35 1\n2 R cow 32 2\n2 R cow 35 1\n2 R base 33 1\n",
-        ..VOLUME
-    },
-    Case {
-        name: "a store that is used up",
-        source: "s: 0 64 snapshot base cow P 1\n",
-        disks: "base 64\ncow 34\n",
-        requests: b"W s 0 32\nR s 0 33\n",
-        output: b"1 copy base 0 1 cow 2\n1 W cow 2 1\n1 copy base 1 1 cow 3\n1 W cow 3 1\n\
-                  1 copy base 2 1 cow 4\n1 W cow 4 1\n1 copy base 3 1 cow 5\n1 W cow 5 1\n\
-                  1 copy base 4 1 cow 6\n1 W cow 6 1\n1 copy base 5 1 cow 7\n1 W cow 7 1\n\
-                  1 copy base 6 1 cow 8\n1 W cow 8 1\n1 copy base 7 1 cow 9\n1 W cow 9 1\n\
-                  1 copy base 8 1 cow 10\n1 W cow 10 1\n1 copy base 9 1 cow 11\n1 W cow 11 1\n\
-                  1 copy base 10 1 cow 12\n1 W cow 12 1\n1 copy base 11 1 cow 13\n1 W cow 13 1\n\
-                  1 copy base 12 1 cow 14\n1 W cow 14 1\n1 copy base 13 1 cow 15\n1 W cow 15 1\n\
-                  1 copy base 14 1 cow 16\n1 W cow 16 1\n1 copy base 15 1 cow 17\n1 W cow 17 1\n\
-                  1 copy base 16 1 cow 18\n1 W cow 18 1\n1 copy base 17 1 cow 19\n1 W cow 19 1\n\
-                  1 copy base 18 1 cow 20\n1 W cow 20 1\n1 copy base 19 1 cow 21\n1 W cow 21 1\n\
-                  1 copy base 20 1 cow 22\n1 W cow 22 1\n1 copy base 21 1 cow 23\n1 W cow 23 1\n\
-                  1 copy base 22 1 cow 24\n1 W cow 24 1\n1 copy base 23 1 cow 25\n1 W cow 25 1\n\
-                  1 copy base 24 1 cow 26\n1 W cow 26 1\n1 copy base 25 1 cow 27\n1 W cow 27 1\n\
-                  1 copy base 26 1 cow 28\n1 W cow 28 1\n1 copy base 27 1 cow 29\n1 W cow 29 1\n\
-                  1 copy base 28 1 cow 30\n1 W cow 30 1\n1 copy base 29 1 cow 31\n1 W cow 31 1\n\
-                  1 copy base 30 1 cow 32\n1 W cow 32 1\n1 copy base 31 1 cow 33\n1 W cow 33 1\n\
-                  2 R cow 2 32\n2 R base 32 1\n",
-        ..VOLUME
-    },
+    // Stores that fill up. Writes that fill an area of numbers are tested from outside.
     Case {
         name: "a request that needs one place too many",
         source: "s: 0 32 snapshot base cow P 8\n",
@@ -248,10 +200,3 @@ static ROWS: [Case<'static>; 23] = [
         ..VOLUME
     },
 ];
-
-#[test]
-fn snapshots_are_mapped(rt: HostRuntime) {
-    for case in &ROWS {
-        check(&rt, rt.alloc(), case);
-    }
-}

@@ -23,7 +23,7 @@ const ENDED: Case<'static> = Case {
     ..WRITTEN
 };
 
-static ROWS: [Case<'static>; 15] = [
+pub(super) static ROWS: [Case<'static>; 15] = [
     WRITTEN,
     Case {
         name: "status lines that are not asked for",
@@ -133,10 +133,3 @@ static ROWS: [Case<'static>; 15] = [
         ..WRITTEN
     },
 ];
-
-#[test]
-fn status_lines_follow_a_clean_end(rt: HostRuntime) {
-    for case in &ROWS {
-        check_steps(&rt, rt.alloc(), case);
-    }
-}

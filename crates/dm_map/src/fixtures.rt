@@ -1,0 +1,41 @@
+//! Stacks for tests, and what a mapper tells after a request.
+
+use crate::mapper::Mapper;
+use crate::piece_list::PieceList;
+use crate::plain_taken::PlainTaken;
+use crate::usage::Usage;
+use dm_stack::Stack;
+use dm_table::{parse_disks, parse_request, parse_table};
+use std::alloc::Global;
+use std::process::Abort;
+
+/// The stack of a table and a disk list.
+pub(crate) fn stack_of(rt: &impl Abort, alloc: Global, table: &str, disks: &str) -> Stack {
+    let devices = parse_table(alloc, table.as_bytes()).expect(rt, "devices");
+    let disks = parse_disks(alloc, disks.as_bytes()).expect(rt, "disks");
+    Stack::load(alloc, devices, disks).expect(rt, "a stack")
+}
+
+/// What a new mapper tells after a request: the usage of the first snapshot, if there is one, and
+/// after that the searches and comparisons of the request.
+pub(crate) fn told_after(
+    rt: &impl Abort,
+    alloc: Global,
+    stack: &Stack,
+    line: &str,
+) -> (Option<Usage>, (u64, u64)) {
+    let request = parse_request(line.as_bytes(), 1).expect(rt, "a request");
+    let device = stack.device(request.device).expect(rt, "a device");
+    let mut mapper: Mapper<'_, PlainTaken> = Mapper::new(alloc, stack.looker()).expect(
+        rt, "a mapper",
+    );
+    let mut list = PieceList::new(alloc, stack);
+    mapper
+        .request(&request, device, &mut list)
+        .expect(rt, "pieces");
+    let usage = match stack.snapshots().first() {
+        Some(snapshot) => Some(mapper.usage(*snapshot)),
+        None => None,
+    };
+    (usage, (mapper.searches(), mapper.probes()))
+}
