@@ -1,38 +1,52 @@
 //! The columns of a striped line, with their number to divide by.
+//!
+//! They lie behind an address, so that a line that has none takes no room for them.
 
-ghost use Rattle.std.specs.Prelude.{◌≡◌, length};
+ghost use Rattle.std.specs.Prelude.{◌≡◌, IfOk, length};
 
 use crate::divisor::Divisor;
 use crate::found::FoundColumn;
 use dm_table::Listed;
+use std::alloc::{AllocError, Global};
 use std::marker::Model;
 
 /// The columns of a striped line in their order. A clause sees them as a list.
 #[derive(Debug, Drop)]
 pub struct FoundColumns {
+    counted: Box<Counted>,
+}
+
+/// Columns, and how many these are.
+#[derive(Debug, Drop)]
+struct Counted {
     columns: Listed<FoundColumn>,
     count: Divisor,
 }
 
 impl Model for FoundColumns {
     ghost use Rattle.std.specs.Prelude.{◌≡◌, List, length};
+    ghost use Rattle.std.specs.Box.{box_value};
     ghost use Rattle.dm_stack.specs.declared.found.FoundColumn.{FoundColumn};
 
     ghost Value = { List FoundColumn };
 
-    ghost view = { λ found. found.columns };
+    ghost view = { λ found. (box_value found.counted).columns };
 
-    ghost invariant = { λ found. found.count ≡ length found.columns };
+    ghost invariant = { λ found. (box_value found.counted).count ≡ length (box_value found.counted).columns };
 }
 
 impl FoundColumns {
-    /// The columns as one value, with no memory taken.
-    pub(crate) fn from_vec(columns: Vec<FoundColumn>) -> FoundColumns
-        ensures { result ≡ columns.items }
+    /// The columns as one value. It fails only when out of memory.
+    pub(crate) fn from_vec(
+        alloc: Global,
+        columns: Vec<FoundColumn>,
+    ) -> Result<FoundColumns, AllocError>
+        ensures { IfOk result (λ found. found ≡ columns.items) }
     {
         let count = Divisor::new(columns.len() as u64);
         let columns = Listed::from_vec(columns);
-        FoundColumns { columns, count }
+        let counted = Box::new(alloc, Counted { columns, count })?;
+        Ok(FoundColumns { counted })
     }
 
     /// The columns in their order.
@@ -40,7 +54,7 @@ impl FoundColumns {
     pub fn as_slice(&self) -> &[FoundColumn]
         ensures { result.now ≡ self.now }
     {
-        self.columns.as_slice()
+        self.counted.columns.as_slice()
     }
 
     /// The number of columns.
@@ -48,6 +62,6 @@ impl FoundColumns {
     pub fn count(&self) -> &Divisor
         ensures { result.now ≡ length self.now }
     {
-        &self.count
+        &self.counted.count
     }
 }

@@ -104,5 +104,5 @@ fn columns_by_ids(
             offset: column.offset,
         })?;
     }
-    Ok(FoundColumns::from_vec(by_ids))
+    FoundColumns::from_vec(alloc, by_ids)
 }
