@@ -1,7 +1,8 @@
 //! Pieces: what becomes of consecutive sectors.
 //!
 //! A piece is short for a list of units, one for each sector; clauses speak of the units alone. A new
-//! kind of piece is a variant here, and an arm of each function in `specs/Units.antt`.
+//! kind of piece is a variant here, with arms of `len` and `with_len`, and an arm of each function in
+//! `specs/Units.antt`.
 
 ghost use Rattle.std.specs.Prelude.{◌≡◌};
 ghost use Rattle.dm_map.specs.Units.{first_unit, piece_len};

@@ -1,7 +1,7 @@
 //! The piece that a join holds back, since the next one may continue it.
 //!
 //! Its invariant keeps it on the disks of the stack, so that its line can always be written. For a
-//! new kind of piece, say here when one continues another, and what the two are as one.
+//! new kind of piece, say here when one continues another.
 
 ghost use Rattle.std.specs.Prelude.{◌≡◌, ◌+◌, ◌-◌, ◌≤◌, ◌==◌, ◌++◌, ◌^◌, List, Some, None, OnOk, OnErr};
 ghost use Rattle.std.specs.Bool.{OnTrue, OnFalse};
