@@ -1,5 +1,5 @@
 -- What a run did, against the outcome of what it was given.
-use Rattle.std.specs.Prelude.{◌≡◌, ◌≢◌, ◌+◌, ◌<◌, ◌≤◌, ◌++◌, ◌↔◌, ℕ, List, [], Some}
+use Rattle.std.specs.Prelude.{◌≡◌, ◌≢◌, ◌+◌, ◌<◌, ◌≤◌, ◌++◌, ◌↔◌, ℕ, List, [], Some, false}
 use Rattle.dm_table.specs.DeviceIo.{since}
 use Rattle.dm_table.specs.WriteAll.{IsBeginning, IsCutShort}
 use Rattle.dm_stream.specs.declared.ending.Ending as ending
@@ -7,7 +7,9 @@ use Rattle.dm_stream.specs.declared.ending.NotMapped.{NotMapped}
 use Rattle.dm_stream.specs.declared.ending.NotMapped.TheVariants as causes
 use Rattle.dm_stream.specs.declared.ending.RequestWord as word
 use Rattle.dm_stream.specs.Outcome.{Outcome}
+use Rattle.dm_map.specs.Mapper.{Mapping}
 use Rattle.dm_map.specs.State.{State}
+use Rattle.dm_stack.specs.Description.{Description}
 
 -- the outcome is what was written and how it ended; where a write failed, this holds of its output and what was written
 abbrev pub IsOutcome : (List ℕ → List ℕ → Type 0) → Outcome → List ℕ → ending.Ending → Type 0
@@ -35,6 +37,16 @@ write_faults ending.TheVariants.Done = 0
 write_faults (ending.TheVariants.BadRequest number w) = 0
 write_faults ending.TheVariants.ReadFault = 0
 write_faults ending.TheVariants.WriteFault = 1
+
+-- a mapper of the stack that can map requests
+pub record CanMap (of : Description) (mapper : Mapping) : Type 0 where
+  pub stack : mapper.stack ≡ of
+  pub going : mapper.stopped ≡ false
+
+-- it stays one of its stack, and can go on unless the output failed
+pub record StaysMapper (before after : Mapping) (e : ending.Ending) : Type 0 where
+  pub stack : after.stack ≡ before.stack
+  pub going : e ≢ ending.TheVariants.WriteFault → after.stopped ≡ false
 
 -- what was done before the flush
 pub record IsMapped (outcome : Outcome) (text : List ℕ) (left : State) (e : ending.Ending) : Type 0 where

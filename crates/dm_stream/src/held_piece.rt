@@ -1,11 +1,10 @@
 //! The piece that a join holds back, since the next one may continue it.
 //!
 //! Its invariant keeps it on the disks of the stack, so that its line can always be written. For a
-//! new kind of piece, say here when one continues another, and what the two are as one.
+//! new kind of piece, say here when one continues another.
 
-ghost use Rattle.std.specs.Prelude.{◌≡◌, ◌+◌, ◌-◌, ◌<◌, ◌≤◌, ◌==◌, ◌++◌, ◌^◌, List, Some, None, OnOk, OnErr, length};
+ghost use Rattle.std.specs.Prelude.{◌≡◌, ◌+◌, ◌-◌, ◌≤◌, ◌==◌, ◌++◌, ◌^◌, List, Some, None, OnOk, OnErr};
 ghost use Rattle.std.specs.Bool.{OnTrue, OnFalse};
-ghost use Rattle.dm_stack.specs.Description.{disk_len};
 ghost use Rattle.dm_table.specs.DeviceIo.{fault_of, since};
 ghost use Rattle.dm_map.specs.Units.{BlockUnit, IsOnDisks, diskless_len, first_unit, piece_len, units_of};
 ghost use Rattle.dm_stream.specs.Pending.{Fits, IsHeld, held_diskless, held_units};
@@ -18,7 +17,7 @@ use crate::kept_range::KeptRange;
 use crate::number_prefix::NumberPrefix;
 use crate::piece_text::PieceLine;
 use dm_map::Piece;
-use dm_stack::{DiskId, Stack};
+use dm_stack::Stack;
 use dm_table::{OutFault, Output};
 use std::marker::Model;
 
@@ -85,7 +84,7 @@ impl<'s> HeldPiece<'s> {
         if !goes_on(held, piece) {
             return false;
         }
-        self.piece = Some(longer(self.stack, held, length_of(piece)));
+        self.piece = Some(longer(self.stack, held, piece.len()));
         true
     }
 
@@ -178,64 +177,7 @@ fn longer(stack: &Stack, held: &Piece, more: u64) -> Piece
     ensures len { piece_len result ≡ piece_len held.now + more }
     ensures lies { IsOnDisks stack.now result }
 {
-    match *held {
-        Piece::Read { disk, start, len } => Piece::Read {
-            disk,
-            start,
-            len: sum(stack, disk, len, more),
-        },
-        Piece::Write { disk, start, len } => Piece::Write {
-            disk,
-            start,
-            len: sum(stack, disk, len, more),
-        },
-        Piece::Zero { len } => Piece::Zero { len: len + more },
-        Piece::Drop { len } => Piece::Drop { len: len + more },
-        Piece::Error { len } => Piece::Error { len: len + more },
-        Piece::Copy {
-            disk,
-            start,
-            len,
-            to,
-            to_start,
-        } => Piece::Copy {
-            disk,
-            start,
-            len: sum(stack, disk, len, more),
-            to,
-            to_start,
-        },
-        Piece::Fill { len, disk, start } => Piece::Fill {
-            len: sum(stack, disk, len, more),
-            disk,
-            start,
-        },
-    }
-}
-
-/// The sum of two numbers of sectors that a disk has.
-#[inline(always)]
-fn sum(stack: &Stack, disk: DiskId, len: u64, more: u64) -> u64
-    requires there { disk < length stack.now.disks }
-    requires inside { len + more ≤ disk_len stack.now disk }
-    ensures { result ≡ len + more }
-{
-    prove!(stack.disk_len(disk) <= 1 << 50);
-    len + more
-}
-
-/// The sectors of a piece.
-#[inline(always)]
-fn length_of(piece: &Piece) -> u64
-    ensures { result ≡ piece_len piece.now }
-{
-    match *piece {
-        Piece::Read { len, .. }
-        | Piece::Write { len, .. }
-        | Piece::Zero { len }
-        | Piece::Drop { len }
-        | Piece::Error { len }
-        | Piece::Copy { len, .. }
-        | Piece::Fill { len, .. } => len,
-    }
+    // A stack is sound by its type, so no disk of it is too long for the sum.
+    stack.depth();
+    held.with_len(held.len() + more)
 }

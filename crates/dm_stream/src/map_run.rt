@@ -15,7 +15,7 @@ ghost use Rattle.dm_stream.specs.Outcome.{requests_outcome, run_outcome};
 ghost use Rattle.dm_stream.specs.Pieces.{AreFewest, fewest};
 ghost use Rattle.dm_stream.specs.Progress.{HasRead, HasWritten};
 ghost use Rattle.dm_stream.specs.Requests.{HasMet};
-ghost use Rattle.dm_stream.specs.Run.{HasRun, IsMapped, IsServed, ending_for, write_faults};
+ghost use Rattle.dm_stream.specs.Run.{CanMap, HasRun, IsMapped, IsServed, StaysMapper, ending_for, write_faults};
 
 use crate::ending::{Ending, NotMapped, RequestWord};
 use crate::join::Join;
@@ -47,8 +47,7 @@ fn map_lines<'s, T: Taken, R: Input, W: Output>(
     handler: &mut RequestMapper<'_, 's, T, W>,
 ) -> Ending
     requires { IsReady handler.old.devices mapper.old handler.old.join.held }
-    ensures stack { mapper.new.stack ≡ mapper.old.stack }
-    ensures going { result ≢ Ending.WriteFault → mapper.new.stopped ≡ false }
+    ensures mapper { StaysMapper mapper.old mapper.new result }
     ensures nothing { handler.new.join.held.piece ≡ None }
     ensures same_writer { handler.new.join.writer.ghost_name ≡ handler.old.join.writer.ghost_name }
     ensures reads { HasRead R.handed R.faults R.ends requests.old requests.new }
@@ -70,10 +69,8 @@ fn map_requests<'s, T: Taken, R: Input, W: Output>(
     requests: &mut R,
     output: &mut W,
 ) -> Ending
-    requires stack { mapper.old.stack ≡ stack.now }
-    requires going { mapper.old.stopped ≡ false }
-    ensures stack { mapper.new.stack ≡ mapper.old.stack }
-    ensures going { result ≢ Ending.WriteFault → mapper.new.stopped ≡ false }
+    requires { CanMap stack.now mapper.old }
+    ensures mapper { StaysMapper mapper.old mapper.new result }
     ensures reads { HasRead R.handed R.faults R.ends requests.old requests.new }
     ensures writes { HasWritten W.written W.waiting W.faults W.flushes output.old output.new (write_faults result) }
     ensures mapped { IsMapped (requests_outcome stack.now mapper.old.state (delivery R.handed R.faults R.ends requests.old requests.new))
@@ -99,10 +96,8 @@ fn map_and_flush<'s, T: Taken, R: Input, W: Output>(
     output: &mut W,
     status: bool,
 ) -> Ending
-    requires stack { mapper.old.stack ≡ stack.now }
-    requires going { mapper.old.stopped ≡ false }
-    ensures stack { mapper.new.stack ≡ mapper.old.stack }
-    ensures going { result ≢ Ending.WriteFault → mapper.new.stopped ≡ false }
+    requires { CanMap stack.now mapper.old }
+    ensures mapper { StaysMapper mapper.old mapper.new result }
     ensures reads { HasRead R.handed R.faults R.ends requests.old requests.new }
     ensures wrote { HasRun W.written W.waiting W.faults W.flushes output.old output.new
         (run_outcome stack.now status mapper.old.state (delivery R.handed R.faults R.ends requests.old requests.new)) mapper.new.state result }

@@ -1,4 +1,4 @@
-use Rattle.std.proofs.Common.{rules, ◌≡◌, ◌≢◌, ◌∙◌, ◌++◌, List, ℕ, true, ap, sym, subst, refl, arith}
+use Rattle.std.proofs.Common.{rules, ◌≡◌, ◌≢◌, ◌∙◌, ◌++◌, List, ℕ, true, ap, sym, subst, refl}
 use Rattle.dm_table.specs.DeviceIo.{delivery, since}
 use Rattle.dm_table.proofs.Growth.{since_more}
 use Rattle.dm_stream.specs.Outcome.{requests_outcome, with_status}

@@ -14,4 +14,4 @@ pub returns-clause-joined : goal.returns-clause-joined
 returns-clause-joined c =
     let is : c.args.self.now.piece ≡ Some c.in-Some.held = sym (ap (λ (h : Pending). h.piece) c.self.view_is) ∙ c.in-Some.is in
     held_joined c.args.self.now.piece c.in-Some.held c.args.piece.now c.longer.result is (sym c.goes_on.ensures ∙ c.if-not-goes_on.false) c.longer.ensures.first
-    (c.longer.ensures.len ∙ ap (λ (n : ℕ). piece_len c.in-Some.held + n) c.length_of.ensures)
+    (c.longer.ensures.len ∙ ap (λ (n : ℕ). piece_len c.in-Some.held + n) c.len.ensures)
