@@ -13,7 +13,14 @@ pub(crate) fn refuse<M: Output>(fault: LoadFault, messages: &mut M) -> u8
     ensures { Exits M.written M.faults M.flushes (load_status fault.kind) (load_message fault) result messages.old messages.new }
 {
     tell(messages, fault.message().as_slice());
-    if fault.kind == LoadKind::Memory { 6 } else { 1 }
+    load_status(fault.kind)
+}
+
+/// The exit status of a refused load.
+fn load_status(kind: LoadKind) -> u8
+    ensures { result ≡ load_status kind }
+{
+    if kind == LoadKind::Memory { 6 } else { 1 }
 }
 
 /// The exit status of an ending.
