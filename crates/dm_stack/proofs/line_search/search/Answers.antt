@@ -1,4 +1,4 @@
-use Rattle.std.proofs.Common.{ℕ, ◌≡◌, ◌+◌, ◌-◌, ◌/◌, refl, arith, subst}
+use Rattle.std.proofs.Common.{ℕ, ◌≡◌, ◌+◌, ◌-◌, refl, arith, subst}
 use Rattle.dm_stack.specs.LineSearch.{StartsAfter}
 use Rattle.dm_stack.proofs.LineSearchLemmas.{few_digits, in_half, more-few, more-halved}
 use Rattle.dm_stack.proofs.line_search.search.Goals as goal
