@@ -4,9 +4,7 @@ use Rattle.std.specs.Prelude.{◌==◌, ◌-◌, option_map, slice_get}
 use Rattle.std.specs.List.{AllByRecursion}
 use Rattle.std.proofs.lemmas.Nat.{pow_pos}
 use Rattle.std.proofs.lemmas.List.{length-drop}
-use Rattle.std.proofs.lemmas.Bool.{eqb-true, leb-false, leb-true}
-use Rattle.std.proofs.Math.Dec.{leb}
-use Rattle.std.specs.Bool.{OnTrue, OnFalse}
+use Rattle.std.proofs.lemmas.Bool.{eqb-true}
 use Rattle.std.proofs.lemmas.Option.{slice_get-get_or}
 use Rattle.std.proofs.Math.Nat.{mul-le-mul_left, pow-succ'}
 use Rattle.dm_table.specs.LoadFault.{faults_by}
@@ -82,33 +80,6 @@ starts_by lines index sector line within from = rw (slice_get-get_or lines index
 
 pub starts_after : (lines : List FoundLine) (index sector : ℕ) (line : FoundLine) → index < length lines → sector < (get_or lines index line).start → StartsAfter lines index sector
 starts_after lines index sector line within before = rw (slice_get-get_or lines index line within) before
-
--- what is left of count lines from index on, where a sector lies in one of them and the first half was passed, or the second let go
-pub record IsHalf (lines : List FoundLine) (sector index count passed more : ℕ) : Type 0 where
-  pub from : StartsBy lines (index + passed) sector
-  pub next : StartsAfter lines (index + passed + (count / 2 + more)) sector
-  pub within : passed + (count / 2 + more) ≤ count
-  pub less : 2 * (count / 2 + more - 1) ≤ count - 1
-
-pub in_half : (lines : List FoundLine) (sector index count passed more : ℕ) (line : FoundLine) (b : Bool) → 1 < count → index + count ≤ length lines → StartsBy lines index sector → StartsAfter lines (index + count) sector
-    → leb (get_or lines (index + count / 2) line).start sector ≡ b → OnTrue b (passed ≡ count / 2) → OnFalse b (passed ≡ 0) → OnTrue b (more ≡ count - 2 * (count / 2)) → OnFalse b (more ≡ 0) → IsHalf lines sector index count passed more
-in_half lines sector index count passed more line true many within from next test is none rest other =
-    let end : index + count ≡ index + passed + (count / 2 + more) = omega (arith, is, rest) in
-    record {
-      from = subst (λ (n : ℕ). StartsBy lines (index + n) sector) (sym is) (starts_by lines _ sector line (omega (arith, within, many)) (leb-true _ _ test));
-      next = subst (λ (n : ℕ). StartsAfter lines n sector) end next;
-      within = omega (arith, is, rest);
-      less = omega (arith, is, rest, many);
-    }
-in_half lines sector index count passed more line false many within from next test none is other rest =
-    let start : index ≡ index + passed = omega (arith, is) in
-    let half : index + count / 2 ≡ index + passed + (count / 2 + more) = omega (arith, is, rest) in
-    record {
-      from = subst (λ (n : ℕ). StartsBy lines n sector) start from;
-      next = subst (λ (n : ℕ). StartsAfter lines n sector) half (starts_after lines _ sector line (omega (arith, within, many)) (leb-false _ _ test));
-      within = omega (arith, is, rest);
-      less = omega (arith, is, rest, many);
-    }
 
 -- Lines in a row
 

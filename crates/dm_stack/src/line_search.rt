@@ -6,7 +6,6 @@
 //! line that was found last: it is in the next one, as when a range goes over many lines.
 
 ghost use Rattle.std.specs.Prelude.{◌≡◌, ◌+◌, ◌-◌, ◌<◌, length, true};
-ghost use Rattle.std.specs.Bool.{OnTrue, OnFalse};
 ghost use Rattle.dm_stack.specs.LineSearch.{EndsAt, Finds, StartsAfter, StartsBy};
 
 use crate::found::FoundLine;
@@ -72,22 +71,13 @@ fn search(lines: &[FoundLine], sector: u64) -> (usize, u64)
     let mut comparisons = 0;
     while count > 1 {
         let half = count / 2;
-        let is_behind = lines[index + half].start <= sector;
         comparisons += 1;
-        index += number_if(half, is_behind);
-        count = half + number_if(count - 2 * half, is_behind);
+        if lines[index + half].start <= sector {
+            index += half;
+            count -= half;
+        } else {
+            count = half;
+        }
     }
     (index, comparisons)
-}
-
-/// The number where the test holds, and else 0.
-///
-/// This is no branch, since a processor foresees only half of those rightly that ask where a sector
-/// lies.
-#[inline(always)]
-fn number_if(number: usize, test: bool) -> usize
-    ensures holds { OnTrue test (result ≡ number) }
-    ensures fails { OnFalse test (result ≡ 0) }
-{
-    number * usize::from(test)
 }

@@ -1,22 +1,37 @@
-use Rattle.std.proofs.Common.{ℕ, ◌≡◌, ◌+◌, ◌-◌, refl, arith, subst}
+use Rattle.std.proofs.Common.{ℕ, ◌≡◌, ◌+◌, ◌-◌, ◌/◌, arith, subst}
 use Rattle.dm_stack.specs.LineSearch.{StartsAfter}
-use Rattle.dm_stack.proofs.LineSearchLemmas.{few_digits, in_half, more-few, more-halved}
+use Rattle.dm_stack.proofs.LineSearchLemmas.{few_digits, more-few, more-halved, starts_after, starts_by}
 use Rattle.dm_stack.proofs.line_search.search.Goals as goal
+
+pub overflow_add-comparisons : goal.overflow_add-comparisons
+overflow_add-comparisons c = omega (arith, c.loop-count.invariant.small, c.loop-count-test.true)
+
+pub loop-count-preserved-then-lines-index : goal.loop-count-preserved-then-lines-index
+loop-count-preserved-then-lines-index c =
+    let i = c.loop-count.invariant in
+    let many = c.loop-count-test.true in
+    let end : c.loop-count.index + c.loop-count.count ≡ c.loop-count.index + c.loop-count.count / 2 + (c.loop-count.count - c.loop-count.count / 2) = omega (arith, many) in
+    record {
+      some = omega (arith, many);
+      within = omega (arith, i.within, many);
+      from = starts_by c.args.lines.now _ c.args.sector c.index-lines-index.result (omega (arith, i.within, many)) c.if-lines-index.true;
+      next = subst (λ (index : ℕ). StartsAfter c.args.lines.now index c.args.sector) end i.next;
+      small = omega (arith, i.small, many);
+      halved = more-halved _ _ (c.loop-count.count - 1) _ (omega (arith, many)) i.halved;
+      few = more-few _ (c.loop-count.count - 1) _ (omega (arith, many)) i.halved;
+    }
 
 pub loop-count-preserved : goal.loop-count-preserved
 loop-count-preserved c =
     let i = c.loop-count.invariant in
     let many = c.loop-count-test.true in
-    let passed = c.number_if-index in
-    let more = c.number_if in
-    let half = in_half c.args.lines.now c.args.sector c.loop-count.index c.loop-count.count passed.result more.result c.index-lines-index.result _ many i.within i.from i.next refl passed.ensures.holds passed.ensures.fails more.ensures.holds more.ensures.fails in
     record {
       some = omega (arith, many);
-      within = omega (arith, i.within, half.within);
-      from = half.from;
-      next = half.next;
-      small = omega (arith, i.small, many, half.within, half.less);
-      halved = more-halved _ _ (c.loop-count.count - 1) _ half.less i.halved;
+      within = omega (arith, i.within, many);
+      from = i.from;
+      next = starts_after c.args.lines.now _ c.args.sector c.index-lines-index.result (omega (arith, i.within, many)) c.if-lines-index.false;
+      small = omega (arith, i.small, many);
+      halved = more-halved _ _ (c.loop-count.count - 1) _ (omega (arith, many)) i.halved;
       few = more-few _ (c.loop-count.count - 1) _ (omega (arith, many)) i.halved;
     }
 
