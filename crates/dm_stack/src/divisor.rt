@@ -1,6 +1,6 @@
 //! Numbers that are divided by often: a division by one is a multiplication by its inverse.
 //!
-//! A range of stripes takes two divisions at each level that it goes through, which were a fifth of
+//! A range of stripes takes two divisions at each level that it goes through, which were a sixth of
 //! the time of such a request.
 
 ghost use Rattle.std.specs.Prelude.{◌≡◌, ◌+◌, ◌*◌, ◌^◌, ◌/◌, ◌%◌, ◌<◌, ◌≤◌};
