@@ -71,7 +71,7 @@ impl Piece {
         }
     }
 
-    /// The piece of so many sectors that begins as this one does.
+    /// The piece of `len` sectors that begins as this one does.
     #[inline(always)]
     pub fn with_len(&self, len: u64) -> Piece
         ensures first { first_unit result ≡ first_unit self.now }

@@ -26,7 +26,7 @@ impl Model for Divisor {
 }
 
 impl Divisor {
-    /// A number by which it is only divided where it is not 0.
+    /// Any number; only one that is not 0 can divide.
     pub(crate) fn new(value: u64) -> Divisor
         ensures { result ≡ value }
     {

@@ -1,6 +1,6 @@
 //! The columns of a striped line, with their number to divide by.
 //!
-//! They lie behind an address, so that a line that has none takes no room for them.
+//! They are boxed, so that a line without columns takes no room for them.
 
 ghost use Rattle.std.specs.Prelude.{◌≡◌, IfOk, length};
 
