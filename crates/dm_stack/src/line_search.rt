@@ -1,9 +1,9 @@
 //! The line of a sector, found by halving over the starts of a device's lines.
 //!
 //! This is the one place where lines are found, and each comparison of a start with the sector is
-//! counted here. The first line is never compared, since every sector is at its start or after it; so
-//! up to three lines this is a walk. Of more, none is compared where the sector comes right after the
-//! line that was found last: it is in the next one, as when a range goes over many lines.
+//! counted here. The first line is never compared, since every sector is at its start or after it. Of
+//! more than three lines, none is compared where the sector comes right after the line that was found
+//! last: it is in the next one, as when a range goes over many lines.
 
 ghost use Rattle.std.specs.Prelude.{◌≡◌, ◌+◌, ◌-◌, ◌<◌, length, true};
 ghost use Rattle.dm_stack.specs.LineSearch.{EndsAt, Finds, StartsAfter, StartsBy};
@@ -14,7 +14,7 @@ use crate::found::FoundLine;
 /// and how many starts were compared with the sector.
 ///
 /// The line before the index `next` may be the one that was found last, and that index becomes the one
-/// after the line that is found. Up to three lines are walked, and leave it as it is.
+/// after the line that is found. A search among up to three lines leaves it as it is.
 pub(crate) fn find(lines: &[FoundLine], next: &mut usize, sector: u64) -> (usize, u64)
     requires first { StartsBy lines.now 0 sector }
     requires follows { 0 < next.old → EndsAt lines.now (next.old - 1) sector
@@ -22,10 +22,29 @@ pub(crate) fn find(lines: &[FoundLine], next: &mut usize, sector: u64) -> (usize
     ensures { Finds lines.now sector result }
 {
     if lines.len() < 4 {
-        search(lines, sector)
+        find_of_few(lines, sector)
     } else {
         find_among(lines, next, sector)
     }
+}
+
+/// The same among up to three lines. No jump asks where the sector lies, since among few lines that is
+/// rarely foreseen.
+#[inline(always)]
+fn find_of_few(lines: &[FoundLine], sector: u64) -> (usize, u64)
+    requires first { StartsBy lines.now 0 sector }
+    requires few { length lines.now < 4 }
+    ensures { Finds lines.now sector result }
+{
+    if lines.len() == 2 {
+        return (usize::from(lines[1].start <= sector), 1);
+    }
+    if lines.len() == 3 {
+        let is_past_first = lines[1].start <= sector;
+        let is_past_second = is_past_first & (lines[2].start <= sector);
+        return (usize::from(is_past_first) + usize::from(is_past_second), 2);
+    }
+    (0, 0)
 }
 
 /// The same among many lines, out of the way of those that have few.
