@@ -10,7 +10,7 @@ use crate::walker::Walker;
 use dm_stack::{DeviceId, FoundSnapshot, Lower};
 
 /// Where a sector is read: at a sector of a device or a disk.
-#[derive(Clone, Copy, Debug, Drop)]
+#[derive(Clone, Copy, Drop)]
 pub(crate) struct ReadPlace {
     pub(crate) to: Lower,
     pub(crate) sector: u64,

@@ -29,7 +29,7 @@ use crate::walker::Walker;
 use dm_stack::{DeviceId, DiskId, FoundSnapshot, Lower, MOST_DEPTH};
 
 /// Sectors of a store that lie in a row on a disk: `len` of them, from `start` on.
-#[derive(Clone, Copy, Debug, Drop)]
+#[derive(Clone, Copy, Drop)]
 pub(crate) struct HomeStretch {
     disk: DiskId,
     start: u64,

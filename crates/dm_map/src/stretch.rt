@@ -23,7 +23,7 @@ use dm_stack::{DeviceId, DiskId, FoundLine, FoundTarget, Lower};
 mod tests;
 
 /// What consecutive sectors are read from.
-#[derive(Clone, Copy, Debug, PartialEq, Eq, Drop)]
+#[derive(Clone, Copy, PartialEq, Eq, Drop)]
 pub(crate) enum Ground {
     /// A disk, from `start` on.
     Disk { disk: DiskId, start: u64 },
@@ -34,7 +34,7 @@ pub(crate) enum Ground {
 }
 
 /// `len` sectors that are read from one ground.
-#[derive(Clone, Copy, Debug, Drop)]
+#[derive(Clone, Copy, Drop)]
 pub(crate) struct Stretch {
     pub(crate) ground: Ground,
     pub(crate) len: u64,

@@ -11,7 +11,7 @@ use dm_stack::Divisor;
 
 /// A sector of a striped line: its column, where its chunk starts in that column, and how many
 /// sectors of the chunk come before it.
-#[derive(Clone, Copy, Debug, Drop)]
+#[derive(Clone, Copy, Drop)]
 pub(crate) struct ChunkPlace {
     pub(crate) column: usize,
     pub(crate) chunk_start: u64,

@@ -8,7 +8,7 @@ use crate::value::Value;
 use dm_stack::DiskId;
 
 /// `len` sectors of a disk from `start` on hold values that go on from the first.
-#[derive(Clone, Copy, Debug, Drop)]
+#[derive(Clone, Copy, Drop)]
 pub(crate) struct Patch {
     pub disk: DiskId,
     pub start: u64,

@@ -6,7 +6,7 @@ ghost use Rattle.dm_replay.specs.Values.{value_end};
 use crate::value::Value;
 
 /// The value of the first of `len` sectors, from which the others go on.
-#[derive(Clone, Copy, Debug, Drop)]
+#[derive(Clone, Copy, Drop)]
 pub(crate) struct Stretch {
     pub first: Value,
     pub len: u64,

@@ -8,7 +8,7 @@ use crate::value_run::ValueRun;
 use dm_stack::DiskId;
 
 /// What a sector of a disk holds.
-#[derive(Clone, Copy, Debug, PartialEq, Eq, Drop)]
+#[derive(Clone, Copy, PartialEq, Eq, Drop)]
 pub(crate) enum Value {
     /// What a sector of a disk held at the start.
     Old { disk: DiskId, sector: u64 },

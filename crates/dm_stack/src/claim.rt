@@ -18,7 +18,7 @@ use dm_table::{DevRef, Line};
 use std::alloc::{AllocError, Global};
 
 /// How a line needs the sectors that it claims.
-#[derive(Clone, Copy, Debug, PartialEq, Eq, Drop)]
+#[derive(Clone, Copy, PartialEq, Eq, Drop)]
 pub(crate) enum ClaimKind {
     /// Nothing else may use them.
     Own,
@@ -27,7 +27,7 @@ pub(crate) enum ClaimKind {
 }
 
 /// Sectors of a lower device or disk, from a start to before an end, that a device claims.
-#[derive(Clone, Copy, Debug, Drop)]
+#[derive(Clone, Copy, Drop)]
 pub(crate) struct Claim {
     pub device: DeviceId,
     pub to: Lower,

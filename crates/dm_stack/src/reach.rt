@@ -13,7 +13,7 @@ use std::alloc::{AllocError, Global};
 
 /// The greatest end of some claims on one device or disk: of those that let no other claim be
 /// there, and of all. 0 where there is none.
-#[derive(Clone, Copy, Debug, Drop)]
+#[derive(Clone, Copy, Drop)]
 pub(crate) struct Reach {
     own: u64,
     all: u64,

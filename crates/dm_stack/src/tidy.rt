@@ -18,7 +18,7 @@ use crate::reach::Reaches;
 use std::alloc::{AllocError, Global};
 
 /// A claim, and its place among the claims of its stack.
-#[derive(Clone, Copy, Debug, Drop)]
+#[derive(Clone, Copy, Drop)]
 pub(crate) struct Numbered {
     number: usize,
     claim: Claim,

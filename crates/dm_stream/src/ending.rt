@@ -36,7 +36,7 @@ pub enum Ending {
 }
 
 /// Why a request was not mapped to an output.
-#[derive(Clone, Copy, Debug, PartialEq, Eq)]
+#[derive(Clone, Copy, PartialEq, Eq)]
 pub(crate) enum NotMapped {
     /// No device has the name that the request of this number has.
     Unknown(u64),

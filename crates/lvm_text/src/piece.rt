@@ -12,7 +12,7 @@ use crate::scan::{is_white, is_word_byte, line_length, raw_length, word_length};
 use crate::token::Token;
 
 /// A white byte, the text of a comment, or a token.
-#[derive(Clone, Copy, Debug)]
+#[derive(Clone, Copy)]
 pub(crate) enum Piece<'a> {
     White(u8),
     Comment(&'a str),

@@ -12,7 +12,7 @@ use crate::number::are_digits;
 use crate::token::{Placed, Token};
 
 /// A place in a value, or between two.
-#[derive(Clone, Copy, Debug, PartialEq, Eq)]
+#[derive(Clone, Copy, PartialEq, Eq)]
 enum Place {
     /// Before a key or a closing brace.
     Key,

@@ -13,7 +13,7 @@ use crate::scan::is_end;
 use std::alloc::{AllocFailed, Global};
 
 /// A token.
-#[derive(Clone, Copy, Debug)]
+#[derive(Clone, Copy)]
 pub(crate) enum Token<'a> {
     Word(&'a str),
     Text(&'a str),
@@ -26,7 +26,7 @@ pub(crate) enum Token<'a> {
 }
 
 /// A token, and the line where it begins.
-#[derive(Clone, Copy, Debug)]
+#[derive(Clone, Copy)]
 pub(crate) struct Placed<'a> {
     pub(crate) token: Token<'a>,
     pub(crate) line: u64,

@@ -1,7 +1,7 @@
 //! The two checks that go over the fields: whether they are there and fit, and whether their integers are in the limits.
 
 /// Which check goes over the fields.
-#[derive(Clone, Copy, Debug)]
+#[derive(Clone, Copy)]
 pub(crate) enum Check {
     /// Each field is there, and holds what it may.
     Fields,

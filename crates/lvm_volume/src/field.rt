@@ -8,7 +8,7 @@ ghost use Rattle.lvm_volume.specs.Fields as spec;
 ghost use Rattle.lvm_volume.specs.Fields.{field_view, field_views};
 
 /// What a field may hold.
-#[derive(Clone, Copy, Debug, PartialEq, Eq)]
+#[derive(Clone, Copy, PartialEq, Eq)]
 pub(crate) enum Kind {
     /// The string that says what the text is.
     Title,
@@ -33,7 +33,7 @@ pub(crate) enum Kind {
 }
 
 /// Where a field is asked for.
-#[derive(Clone, Copy, Debug, PartialEq, Eq)]
+#[derive(Clone, Copy, PartialEq, Eq)]
 pub(crate) enum Condition {
     Always,
     /// Where the key is there.
@@ -45,7 +45,7 @@ pub(crate) enum Condition {
 }
 
 /// A row of a table: a key, what it may hold, and where it is asked for.
-#[derive(Clone, Copy, Debug)]
+#[derive(Clone, Copy)]
 pub(crate) struct Field<'k> {
     pub key: &'k str,
     pub kind: Kind,
