@@ -1,6 +1,6 @@
 -- What a block holds up to the end of what was put into it.
 use Rattle.std.proofs.Common.{◌≡◌, ℕ, ◌+◌, ◌-◌, ◌≤◌, ◌++◌, List, [], ◌∷◌, ◌<◌, length, take, drop, slice_range, sym, ap, subst, ◌∙◌, append_assoc, arith}
-use Rattle.std.proofs.Math.Seq.{take-add, take-append_seam}
+use Rattle.std.proofs.Math.Seq.{take-add, take-append-add, take-append_seam}
 use Rattle.std.proofs.lemmas.List.{take-append-le, take-take, append-nil}
 use Rattle.dm_table.specs.DeviceIo.{since}
 use Rattle.dm_table.specs.WriteAll.{IsCutShort}
@@ -13,6 +13,27 @@ room_front at len new old room rest before behind fits =
     ∙ ap (λ (front : List ℕ). front ++ take len (drop at new)) before
     ∙ ap (λ (back : List ℕ). take at old ++ take len back) behind
     ∙ ap (λ (text : List ℕ). take at old ++ text) (take-append-le len room rest fits)
+
+-- what was put after a front and a part of a room, where that is the next part
+pub next_part : (at end from to : ℕ) (new old front part room : List ℕ) → from ≤ to → take at old ≡ front ++ take from room → take end new ≡ take at old ++ part → part ≡ slice_range room from to → take end new ≡ front ++ take to room
+next_part at end from to new old front part room ordered before behind is =
+    let all : from + (to - from) ≡ to = omega arith in
+    behind
+    ∙ ap (λ (text : List ℕ). text ++ part) before
+    ∙ append_assoc front (take from room) part
+    ∙ ap (λ (text : List ℕ). front ++ (take from room ++ text)) is
+    ∙ ap (λ (text : List ℕ). front ++ text) (sym (take-add from (to - from) room) ∙ ap (λ (n : ℕ). take n room) all)
+
+-- a text at the front of a room that was put whole
+pub room_text : (at end all len : ℕ) (new front room : List ℕ) → length front ≡ at → end ≡ at + all → len ≤ all → take end new ≡ front ++ take all room → take (at + len) new ≡ front ++ take len room
+room_text at end all len new front room is ends fits put =
+    let cut = sym (take-take (at + len) end new (omega (arith, ends, fits))) in
+    let place : at + len ≡ length front + len = omega (arith, is) in
+    cut
+    ∙ ap (λ (text : List ℕ). take (at + len) text) put
+    ∙ ap (λ (n : ℕ). take n (front ++ take all room)) place
+    ∙ take-append-add front (take all room) len
+    ∙ ap (λ (text : List ℕ). front ++ text) (take-take len all room fits)
 
 -- the whole of it
 pub bytes_front : (at : ℕ) (new old bytes rest : List ℕ) → take at new ≡ take at old → drop at new ≡ bytes ++ rest → take (at + length bytes) new ≡ take at old ++ bytes
