@@ -323,9 +323,10 @@ fn disk_piece(op: Op, disk: DiskId, start: u64, len: u64) -> Piece
     ensures diskless { diskless_len result ≡ 0 }
     ensures lies { (stack : Description) → IsOnDisk stack disk start len → IsOnDisks stack result }
 {
-    match op {
-        Op::Read => Piece::Read { disk, start, len },
-        Op::Write => Piece::Write { disk, start, len },
+    if matches!(op, Op::Write) {
+        Piece::Write { disk, start, len }
+    } else {
+        Piece::Read { disk, start, len }
     }
 }
 

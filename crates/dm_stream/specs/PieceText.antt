@@ -35,6 +35,10 @@ IsOther _ = Unit {0}
 abbrev pub piece_text : Description → ℕ → Piece → List ℕ
 piece_text stack number piece = decimal number ++ 32 ∷ unit_text stack piece.first piece.len ++ 10 ∷ []
 
+-- the line of a letter and a range of a disk under a request's number: that of a read or a write
+abbrev pub range_line : Description → (number letter disk start len : ℕ) → List ℕ
+range_line stack number letter disk start len = decimal number ++ 32 ∷ (letter ∷ 32 ∷ place_text stack disk start ++ 32 ∷ decimal len) ++ 10 ∷ []
+
 -- the lines of a request's pieces
 abbrev pub pieces_text : Description → ℕ → List Piece → List ℕ
 pieces_text stack number pieces = flat_map (piece_text stack number) pieces

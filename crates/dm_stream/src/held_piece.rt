@@ -15,7 +15,7 @@ ghost use Rattle.dm_table.specs.WriteAll.{IsCutShort};
 
 use crate::kept_range::KeptRange;
 use crate::number_prefix::NumberPrefix;
-use crate::piece_text::PieceLine;
+use crate::piece_text::put_piece;
 use dm_map::Piece;
 use dm_stack::Stack;
 use dm_table::{OutFault, Output};
@@ -111,9 +111,7 @@ impl<'s> HeldPiece<'s> {
         let Some(piece) = &self.piece else {
             return Ok(());
         };
-        self.range.note(piece);
-        let line = PieceLine::new(&self.prefix, &self.range, self.stack, piece);
-        let wrote = writer.put(&line);
+        let wrote = put_piece(writer, &self.prefix, &mut self.range, self.stack, piece);
         self.piece = None;
         wrote
     }
@@ -129,16 +127,26 @@ fn goes_on(held: &Piece, piece: &Piece) -> bool
             disk,
             start: next,
             ..
-        } => {
-            matches!(*held, Piece::Read { disk: other, start, len } if other == disk && follows(start, len, next))
         }
-        Piece::Write {
+        | Piece::Write {
             disk,
             start: next,
             ..
-        } => {
-            matches!(*held, Piece::Write { disk: other, start, len } if other == disk && follows(start, len, next))
-        }
+        } => match *held {
+            Piece::Read {
+                disk: other,
+                start,
+                len,
+            }
+            | Piece::Write {
+                disk: other,
+                start,
+                len,
+            } => matches!(*held, Piece::Write { .. }) == matches!(*piece, Piece::Write { .. })
+                && other == disk
+                && follows(start, len, next),
+            _ => false,
+        },
         Piece::Zero { .. } => matches!(*held, Piece::Zero { .. }),
         Piece::Drop { .. } => matches!(*held, Piece::Drop { .. }),
         Piece::Error { .. } => matches!(*held, Piece::Error { .. }),

@@ -4,9 +4,8 @@
 //! a second time, and then copied whole; before that, its digits are written where they belong.
 
 ghost use Rattle.std.specs.Prelude.{◌≡◌, ◌++◌, ◌+◌, ◌<◌, ◌≤◌, length, take};
-ghost use Rattle.dm_stream.specs.KeptRange.{range_text, IsKept, IsKeptOf};
+ghost use Rattle.dm_stream.specs.KeptRange.{range_text, IsKept};
 
-use dm_map::Piece;
 use dm_table::{put_bytes, put_digits, put_room};
 use std::marker::Model;
 
@@ -45,20 +44,10 @@ impl KeptRange {
         }
     }
 
-    /// Notes the range of the line of a piece, if it ends with one. What is kept of it afterwards is
-    /// of that range.
+    /// Notes the range of the next line, and keeps its text if it came last, too. What is kept afterwards
+    /// is that range.
     #[inline(always)]
-    pub(crate) fn note(&mut self, piece: &Piece)
-        ensures kept { IsKeptOf self.new piece.now }
-    {
-        if let Piece::Read { start, len, .. } | Piece::Write { start, len, .. } = *piece {
-            self.note_range(start, len);
-        }
-    }
-
-    /// Keeps the text of a range if it came last, too.
-    #[inline(always)]
-    fn note_range(&mut self, start: u64, len: u64)
+    pub(crate) fn note(&mut self, start: u64, len: u64)
         ensures kept { IsKept self.new start len }
     {
         if self.start != start || self.len != len {

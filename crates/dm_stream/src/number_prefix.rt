@@ -72,6 +72,7 @@ impl NumberPrefix {
 }
 
 /// Puts a number and a space at the front of a room, and returns where its last digit is.
+#[cold]
 #[inline(never)]
 fn put_prefix(text: &mut [u8], number: u64) -> usize
     requires { length text.old ≡ ROOM }

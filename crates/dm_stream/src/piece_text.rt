@@ -1,100 +1,164 @@
-//! The line of a piece, as a text that puts itself into a block.
+//! The lines of pieces, as texts that put themselves into a block.
 //!
 //! Reads and writes come by the hundreds of millions, so they are put in line; the other kinds go
 //! through a function of their own. A new kind of piece is an arm of `put_other` here and of
 //! `unit_text` in `specs/PieceText`.
 
-ghost use Rattle.std.specs.Prelude.{◌≡◌, ◌++◌, ◌+◌, ◌<◌, ◌≤◌, ◌∷◌, [], length, take, decimal};
+ghost use Rattle.std.specs.Prelude.{◌≡◌, ◌++◌, ◌+◌, ◌<◌, ◌≤◌, ◌∷◌, [], length, take, decimal, OnErr, OnOk};
+ghost use Rattle.dm_table.specs.DeviceIo.{fault_of, since};
+ghost use Rattle.dm_table.specs.WriteAll.{IsCutShort};
 ghost use Rattle.dm_stack.specs.Description.{disk_name_at};
 ghost use Rattle.dm_stack.specs.Loaded.{disk_text};
 ghost use Rattle.dm_map.specs.Units.{CopyOf, FillOf, IsOnDisks, first_unit, piece_len};
-ghost use Rattle.dm_stream.specs.KeptRange.{IsKeptOf};
+ghost use Rattle.dm_stream.specs.KeptRange.{IsKept};
 ghost use Rattle.dm_stream.specs.Pending.{piece_view};
-ghost use Rattle.dm_stream.specs.PieceText.{IsOther, letter_of, piece_text, place_text, unit_text};
+ghost use Rattle.dm_stream.specs.PieceText.{IsOther, letter_of, piece_text, place_text, range_line, unit_text};
+ghost use Rattle.dm_stream.specs.Progress.{HasWritten};
 
 use crate::kept_range::KeptRange;
 use crate::number_prefix::NumberPrefix;
 use dm_map::Piece;
 use dm_stack::{DiskId, Stack};
-use dm_table::{Text, put_bytes, put_digits};
+use dm_table::{OutFault, Output, Text, put_bytes, put_digits};
 use std::marker::Model;
 
-/// The line of a piece on disks of a stack, under a number.
+/// The line of a read or a write of sectors of a disk of a stack, under a number.
 #[derive(Drop)]
-pub(crate) struct PieceLine<'a> {
+struct RangeLine<'a> {
     prefix: &'a NumberPrefix,
     range: &'a KeptRange,
+    stack: &'a Stack,
+    letter: u8,
+    disk: DiskId,
+    start: u64,
+    len: u64,
+}
+
+impl<'a> Model for RangeLine<'a> {
+    ghost use Rattle.std.specs.Prelude.{ℕ, List, ◌<◌, length};
+    ghost use Rattle.dm_stream.specs.KeptRange.{IsKept};
+    ghost use Rattle.dm_stream.specs.PieceText.{range_line};
+
+    ghost Value = { List ℕ };
+
+    ghost view = { λ line. range_line line.stack.now line.prefix.now line.letter line.disk line.start line.len };
+
+    ghost invariant = { λ line. (line.disk < length line.stack.now.disks) × IsKept line.range.now line.start line.len };
+}
+
+impl<'a> RangeLine<'a> {
+    /// The line of this letter and of a range that was noted.
+    #[inline(always)]
+    fn new(
+        prefix: &'a NumberPrefix,
+        range: &'a KeptRange,
+        stack: &'a Stack,
+        letter: u8,
+        disk: DiskId,
+        start: u64,
+        len: u64,
+    ) -> RangeLine<'a>
+        requires there { disk < length stack.now.disks }
+        requires kept { IsKept range.now start len }
+        ensures text { result ≡ range_line stack.now prefix.now letter disk start len }
+        ensures some { 0 < length result }
+    {
+        RangeLine {
+            prefix,
+            range,
+            stack,
+            letter,
+            disk,
+            start,
+            len,
+        }
+    }
+}
+
+impl<'a> Text for RangeLine<'a> {
+    ghost text = { λ line. line };
+
+    #[inline(always)]
+    fn put_into(&self, block: &mut [u8], at: usize) -> usize {
+        let at = self.prefix.put_into(block, at);
+        let at = put_named(block, at, &[self.letter, b' '], self.stack, self.disk);
+        self.range.put_into(block, at, self.start, self.len)
+    }
+}
+
+/// The line of a piece on disks of a stack that is no read and no write, under a number.
+#[derive(Drop)]
+struct OtherLine<'a> {
+    prefix: &'a NumberPrefix,
     stack: &'a Stack,
     piece: &'a Piece,
 }
 
-impl<'a> Model for PieceLine<'a> {
+impl<'a> Model for OtherLine<'a> {
     ghost use Rattle.std.specs.Prelude.{ℕ, List};
     ghost use Rattle.dm_map.specs.Units.{IsOnDisks};
-    ghost use Rattle.dm_stream.specs.KeptRange.{IsKeptOf};
     ghost use Rattle.dm_stream.specs.Pending.{piece_view};
-    ghost use Rattle.dm_stream.specs.PieceText.{piece_text};
+    ghost use Rattle.dm_stream.specs.PieceText.{IsOther, piece_text};
 
     ghost Value = { List ℕ };
 
     ghost view = { λ line. piece_text line.stack.now line.prefix.now (piece_view line.piece.now) };
 
-    ghost invariant = { λ line. IsOnDisks line.stack.now line.piece.now × IsKeptOf line.range.now line.piece.now };
+    ghost invariant = { λ line. IsOnDisks line.stack.now line.piece.now × IsOther line.piece.now };
 }
 
-impl<'a> PieceLine<'a> {
-    /// The line of a piece, whose range was noted.
+impl<'a> OtherLine<'a> {
+    /// The line of a piece.
     #[inline(always)]
-    pub(crate) fn new(
-        prefix: &'a NumberPrefix,
-        range: &'a KeptRange,
-        stack: &'a Stack,
-        piece: &'a Piece,
-    ) -> PieceLine<'a>
+    fn new(prefix: &'a NumberPrefix, stack: &'a Stack, piece: &'a Piece) -> OtherLine<'a>
         requires lies { IsOnDisks stack.now piece.now }
-        requires kept { IsKeptOf range.now piece.now }
+        requires other { IsOther piece.now }
         ensures text { result ≡ piece_text stack.now prefix.now (piece_view piece.now) }
         ensures some { 0 < length result }
     {
-        PieceLine {
+        OtherLine {
             prefix,
-            range,
             stack,
             piece,
         }
     }
 }
 
-impl<'a> Text for PieceLine<'a> {
+impl<'a> Text for OtherLine<'a> {
     ghost text = { λ line. line };
 
-    #[inline(always)]
     fn put_into(&self, block: &mut [u8], at: usize) -> usize {
         let at = self.prefix.put_into(block, at);
-        put_piece(block, at, self.range, self.stack, self.piece)
+        put_other(block, at, self.stack, self.piece)
     }
 }
 
-/// Puts what a piece is and a newline at a place of a block, and returns where they end.
+/// Has a writer put the line of a piece on disks of a stack, under a number, and notes the range of a
+/// read or a write. It fails where the writer does.
 #[inline(always)]
-fn put_piece(block: &mut [u8], at: usize, range: &KeptRange, stack: &Stack, piece: &Piece) -> usize
-    requires room { at + 800 ≤ length block.old }
+pub(crate) fn put_piece<W: Output>(
+    writer: &mut W,
+    prefix: &NumberPrefix,
+    range: &mut KeptRange,
+    stack: &Stack,
+    piece: &Piece,
+) -> Result<(), OutFault>
     requires lies { IsOnDisks stack.now piece.now }
-    requires kept { IsKeptOf range.now piece.now }
-    ensures few { result ≤ at + 800 }
-    ensures end { result ≡ at + length (unit_text stack.now (first_unit piece.now) (piece_len piece.now) ++ 10 ∷ []) }
-    ensures text { take result block.new ≡ take at block.old ++ unit_text stack.now (first_unit piece.now) (piece_len piece.now) ++ 10 ∷ [] }
+    ensures ok { OnOk result (since (W.written writer.old) (W.written writer.new) ≡ piece_text stack.now prefix.now (piece_view piece.now)) }
+    ensures err { OnErr result (IsCutShort (piece_text stack.now prefix.now (piece_view piece.now)) (since (W.written writer.old) (W.written writer.new))) }
+    ensures moved { HasWritten W.written W.waiting W.faults W.flushes writer.old writer.new (fault_of result) }
 {
     match *piece {
         Piece::Read { disk, start, len } | Piece::Write { disk, start, len } => {
-            let at = put_named(block, at, &[letter_of(piece), b' '], stack, disk);
-            range.put_into(block, at, start, len)
+            range.note(start, len);
+            let letter = letter_of(piece);
+            writer.put(&RangeLine::new(prefix, range, stack, letter, disk, start, len))
         }
         Piece::Zero { .. }
         | Piece::Drop { .. }
         | Piece::Error { .. }
         | Piece::Copy { .. }
-        | Piece::Fill { .. } => put_other(block, at, stack, piece),
+        | Piece::Fill { .. } => writer.put(&OtherLine::new(prefix, stack, piece)),
     }
 }
 
@@ -111,7 +175,9 @@ fn letter_of(piece: &Piece) -> u8
     }
 }
 
-/// The same for a piece that is no read and no write. It is never inlined, since these are rare.
+/// Puts what a piece is that is no read and no write, and a newline, at a place of a block, and returns
+/// where they end. It is never inlined, since these are rare.
+#[cold]
 #[inline(never)]
 fn put_other(block: &mut [u8], at: usize, stack: &Stack, piece: &Piece) -> usize
     requires room { at + 800 ≤ length block.old }

@@ -1,4 +1,4 @@
-use Rattle.std.proofs.Common.{◌≡◌, ◌∙◌, List, ℕ, Some, OnOk, OnErr, ap, subst}
+use Rattle.std.proofs.Common.{refl, ◌≡◌, ◌∙◌, List, ℕ, Some, OnOk, OnErr, ap, subst}
 use Rattle.dm_table.specs.DeviceIo.{since}
 use Rattle.dm_map.specs.declared.piece.Piece as code
 use Rattle.dm_stream.specs.Pending.{Pending, IsHeld, held_units, piece_view}
@@ -15,10 +15,10 @@ line_is inside held piece line same is fits text = held_line inside piece line i
 
 pub returns-clause-ok : goal.returns-clause-ok
 returns-clause-ok g c =
-    let wrote = since (g.W.Output.written c.args.writer.now) (g.W.Output.written c.put-wrote.new.self) in
-    subst (λ (text : List ℕ). OnOk c.put-wrote.result (wrote ≡ text)) (line_is _ c.args.self.now _ c.new-line.result c.self.view_is c.in-Some.is c.self.invariant c.new-line.ensures.text) c.put-wrote.ensures.ok
+    let wrote = since (g.W.Output.written c.args.writer.now) (g.W.Output.written c.put_piece-wrote.new.writer) in
+    subst (λ (text : List ℕ). OnOk c.put_piece-wrote.result (wrote ≡ text)) (line_is _ c.args.self.now _ _ c.self.view_is c.in-Some.is c.self.invariant refl) c.put_piece-wrote.ensures.ok
 
 pub returns-clause-err : goal.returns-clause-err
 returns-clause-err g c =
-    let wrote = since (g.W.Output.written c.args.writer.now) (g.W.Output.written c.put-wrote.new.self) in
-    subst (λ (text : List ℕ). OnErr c.put-wrote.result (IsCutShort text wrote)) (line_is _ c.args.self.now _ c.new-line.result c.self.view_is c.in-Some.is c.self.invariant c.new-line.ensures.text) c.put-wrote.ensures.left
+    let wrote = since (g.W.Output.written c.args.writer.now) (g.W.Output.written c.put_piece-wrote.new.writer) in
+    subst (λ (text : List ℕ). OnErr c.put_piece-wrote.result (IsCutShort text wrote)) (line_is _ c.args.self.now _ _ c.self.view_is c.in-Some.is c.self.invariant refl) c.put_piece-wrote.ensures.err
