@@ -64,6 +64,7 @@ impl DiskText {
 }
 
 /// Puts the first bytes of a text at a place of a block. It is never inlined, since long names are rare.
+#[cold]
 #[inline(never)]
 fn put_long(block: &mut [u8], at: usize, text: &[u8], len: usize) -> usize
     requires within { len ≤ length text.now }

@@ -76,6 +76,7 @@ impl FrontReader {
     }
 
     /// The same for a name that is not the last one. It is remembered.
+    #[cold]
     #[inline(never)]
     fn learn(&mut self, text: &[u8]) -> Option<usize>
         ensures within { IfSome result (λ len. len < length text.now) }

@@ -79,6 +79,7 @@ impl<W: Output> Gathered<W> {
     }
 
     /// Passes on all that is gathered, and counts a fault of the output as one of its own.
+    #[cold]
     #[inline(never)]
     fn empty(&mut self) -> Result<(), OutFault>
         ensures same { HoldsSame self.old self.new }
