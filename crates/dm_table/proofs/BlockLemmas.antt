@@ -1,18 +1,10 @@
 -- What a block holds up to the end of what was put into it.
 use Rattle.std.proofs.Common.{◌≡◌, ℕ, ◌+◌, ◌-◌, ◌≤◌, ◌++◌, List, [], ◌∷◌, ◌<◌, length, take, drop, slice_range, sym, ap, subst, ◌∙◌, append_assoc, arith}
 use Rattle.std.proofs.Math.Seq.{take-add, take-append-add, take-append_seam}
-use Rattle.std.proofs.lemmas.List.{take-append-le, take-take, append-nil}
+use Rattle.std.proofs.lemmas.List.{take-take, append-nil}
 use Rattle.dm_table.specs.DeviceIo.{since}
 use Rattle.dm_table.specs.WriteAll.{IsCutShort}
 use Rattle.dm_table.proofs.Growth.{since_is}
-
--- a text at the front of what was put after a place
-pub room_front : (at len : ℕ) (new old room rest : List ℕ) → take at new ≡ take at old → drop at new ≡ room ++ rest → len ≤ length room → take (at + len) new ≡ take at old ++ take len room
-room_front at len new old room rest before behind fits =
-    take-add at len new
-    ∙ ap (λ (front : List ℕ). front ++ take len (drop at new)) before
-    ∙ ap (λ (back : List ℕ). take at old ++ take len back) behind
-    ∙ ap (λ (text : List ℕ). take at old ++ text) (take-append-le len room rest fits)
 
 -- what was put after a front and a part of a room, where that is the next part
 pub next_part : (at end from to : ℕ) (new old front part room : List ℕ) → from ≤ to → take at old ≡ front ++ take from room → take end new ≡ take at old ++ part → part ≡ slice_range room from to → take end new ≡ front ++ take to room

@@ -31,16 +31,6 @@ fn set_room<const ROOM: usize>(place: &mut [u8], room: &[u8; ROOM])
     *whole = *room;
 }
 
-/// Copies a room to a place of a block.
-#[inline(always)]
-fn copy_room<const ROOM: usize>(block: &mut [u8], at: usize, room: &[u8; ROOM])
-    requires within { at + ROOM ≤ length block.old }
-    ensures before { take at block.new ≡ take at block.old }
-    ensures bytes { drop at block.new ≡ room.now ++ drop (at + ROOM) block.old }
-{
-    set_room(&mut block[at..at + ROOM], room);
-}
-
 /// Bytes of a known length, as a room.
 #[inline(always)]
 pub(crate) fn as_room<const ROOM: usize>(bytes: &[u8]) -> &[u8; ROOM]
@@ -111,7 +101,7 @@ fn put_known<const LEN: usize>(block: &mut [u8], at: usize, bytes: &[u8]) -> usi
     ensures end { result ≡ at + length bytes.now }
     ensures text { take result block.new ≡ take at block.old ++ bytes.now }
 {
-    copy_room(block, at, as_room::<LEN>(bytes));
+    set_room(&mut block[at..at + LEN], as_room::<LEN>(bytes));
     at + bytes.len()
 }
 
