@@ -46,35 +46,6 @@ impl<'a> Model for RangeLine<'a> {
     ghost invariant = { λ line. (line.disk < length line.stack.now.disks) × IsKept line.range.now line.start line.len };
 }
 
-impl<'a> RangeLine<'a> {
-    /// The line of this letter and of a range that was noted.
-    #[inline(always)]
-    fn new(
-        prefix: &'a NumberPrefix,
-        range: &'a KeptRange,
-        stack: &'a Stack,
-        letter: u8,
-        disk: DiskId,
-        start: u64,
-        len: u64,
-    ) -> RangeLine<'a>
-        requires there { disk < length stack.now.disks }
-        requires kept { IsKept range.now start len }
-        ensures text { result ≡ range_line stack.now prefix.now letter disk start len }
-        ensures some { 0 < length result }
-    {
-        RangeLine {
-            prefix,
-            range,
-            stack,
-            letter,
-            disk,
-            start,
-            len,
-        }
-    }
-}
-
 impl<'a> Text for RangeLine<'a> {
     ghost text = { λ line. line };
 
@@ -107,23 +78,6 @@ impl<'a> Model for OtherLine<'a> {
     ghost invariant = { λ line. IsOnDisks line.stack.now line.piece.now × IsOther line.piece.now };
 }
 
-impl<'a> OtherLine<'a> {
-    /// The line of a piece.
-    #[inline(always)]
-    fn new(prefix: &'a NumberPrefix, stack: &'a Stack, piece: &'a Piece) -> OtherLine<'a>
-        requires lies { IsOnDisks stack.now piece.now }
-        requires other { IsOther piece.now }
-        ensures text { result ≡ piece_text stack.now prefix.now (piece_view piece.now) }
-        ensures some { 0 < length result }
-    {
-        OtherLine {
-            prefix,
-            stack,
-            piece,
-        }
-    }
-}
-
 impl<'a> Text for OtherLine<'a> {
     ghost text = { λ line. line };
 
@@ -152,13 +106,25 @@ pub(crate) fn put_piece<W: Output>(
         Piece::Read { disk, start, len } | Piece::Write { disk, start, len } => {
             range.note(start, len);
             let letter = letter_of(piece);
-            writer.put(&RangeLine::new(prefix, range, stack, letter, disk, start, len))
+            writer.put(&RangeLine {
+                prefix,
+                range,
+                stack,
+                letter,
+                disk,
+                start,
+                len,
+            })
         }
         Piece::Zero { .. }
         | Piece::Drop { .. }
         | Piece::Error { .. }
         | Piece::Copy { .. }
-        | Piece::Fill { .. } => writer.put(&OtherLine::new(prefix, stack, piece)),
+        | Piece::Fill { .. } => writer.put(&OtherLine {
+            prefix,
+            stack,
+            piece,
+        }),
     }
 }
 
