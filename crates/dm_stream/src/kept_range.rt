@@ -1,7 +1,8 @@
 //! The range that a line ends with: a start, a length and a newline.
 //!
 //! Over many columns the same range comes once for each column. Its text is kept as soon as it comes
-//! a second time, and then copied whole; before that, its digits are written where they belong.
+//! a second time, and then copied whole; a range after one that came again is kept at once. Any other
+//! has its digits written where they belong.
 
 ghost use Rattle.std.specs.Prelude.{◌≡◌, ◌++◌, ◌+◌, ◌<◌, ◌≤◌, length, take};
 ghost use Rattle.dm_stream.specs.KeptRange.{range_text, IsKept};
@@ -12,7 +13,7 @@ use std::marker::Model;
 /// The room in bytes: two numbers, a space and a newline, and what makes the copy cheap.
 const ROOM: usize = 48;
 
-/// The range that came last, and its text if it came twice.
+/// The range that came last, and its text if it came twice or is likely to.
 #[derive(Drop)]
 pub(crate) struct KeptRange {
     start: u64,
@@ -20,6 +21,8 @@ pub(crate) struct KeptRange {
     text: [u8; ROOM],
     /// Where the text ends: 0 if none is kept.
     end: usize,
+    /// Whether the range came more than once.
+    came_again: bool,
 }
 
 impl Model for KeptRange {
@@ -41,22 +44,39 @@ impl KeptRange {
             len: 0,
             text: [b' '; ROOM],
             end: 0,
+            came_again: false,
         }
     }
 
-    /// Notes the range of the next line, and keeps its text if it came last, too. What is kept afterwards
-    /// is that range.
+    /// Notes the range of the next line, and keeps its text if it came last, too, or if the one before it
+    /// came more than once. What is kept afterwards is that range.
     #[inline(always)]
     pub(crate) fn note(&mut self, start: u64, len: u64)
         ensures kept { IsKept self.new start len }
     {
-        if self.start != start || self.len != len {
+        if self.start == start && self.len == len {
+            self.came_again = true;
+            if self.end == 0 {
+                self.keep(start, len);
+            }
+        } else if self.came_again {
+            self.came_again = false;
+            self.keep(start, len);
+        } else {
             self.start = start;
             self.len = len;
             self.end = 0;
-        } else if self.end == 0 {
-            self.end = put_range(&mut self.text, 0, start, len);
         }
+    }
+
+    /// Keeps the text of a range. It is never inlined, since it is rare.
+    #[inline(never)]
+    fn keep(&mut self, start: u64, len: u64)
+        ensures { self.new ≡ range_text start len }
+    {
+        self.start = start;
+        self.len = len;
+        self.end = put_range(&mut self.text, 0, start, len);
     }
 
     /// Puts the range that was noted at a place of a block, and returns where it ends.
