@@ -316,7 +316,8 @@ pub(crate) fn sector_at<T: Taken>(
     offset + distance
 }
 
-/// What is done at sectors of a disk.
+/// What is done at sectors of a disk. The sink's code is put in line after this, and where the two kinds
+/// come from an `if`, it has no jump by a table of all kinds.
 fn disk_piece(op: Op, disk: DiskId, start: u64, len: u64) -> Piece
     ensures units { units_of result ≡ units_in (disk_unit op disk start) len }
     ensures len { piece_len result ≡ len }
