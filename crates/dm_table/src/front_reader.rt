@@ -3,14 +3,15 @@
 //! Successive requests mostly name the same device, and comparing its name takes a fraction of the
 //! time of asking whether each of its bytes is one of a name. Clauses don't see what is remembered.
 
-ghost use Rattle.std.specs.Prelude.{◌≡◌, ◌+◌, ◌<◌, ◌∷◌, ◌++◌, length, take, drop, true, IfSome};
+ghost use Rattle.std.specs.Prelude.{◌≡◌, ◌+◌, ◌≤◌, ◌∷◌, ◌++◌, length, take, drop, true, IfSome};
+ghost use Rattle.dm_table.specs.declared.request_line.TheConstants.{NUMBERS_ROOM};
 ghost use Rattle.dm_table.specs.Name.{is_device_name};
 ghost use Rattle.dm_table.specs.RequestLine.{IsFront, values_of};
 
 use crate::block::put_bytes;
 use crate::name::{ascii_str, leading_name};
 use crate::request::Request;
-use crate::request_line::{after_space, first_op, front_behind};
+use crate::request_line::{NUMBERS_ROOM, after_space, first_op, front_behind};
 use crate::same_bytes::are_same;
 use std::marker::Model;
 
@@ -61,15 +62,19 @@ impl FrontReader {
         front_behind(text, &rest[len + 1..], number, op, device)
     }
 
-    /// How long the device's name is that a text begins with, where a space follows it.
+    /// How long the device's name is that a text begins with, where a space follows it, and enough
+    /// bytes that no number has to ask for the text's end.
     #[inline(always)]
     fn name_len(&mut self, text: &[u8]) -> Option<usize>
-        ensures within { IfSome result (λ len. len < length text.now) }
+        ensures room { IfSome result (λ len. len + 1 + NUMBERS_ROOM ≤ length text.now) }
         ensures named { IfSome result (λ len. is_device_name (take len text.now) ≡ true) }
         ensures space { IfSome result (λ len. text.now ≡ take len text.now ++ 32 ∷ drop (len + 1) text.now) }
     {
         let end = self.len + 1;
-        if end <= text.len() && are_same(&text[..end], &self.text[..end]) {
+        if text.len() < end + NUMBERS_ROOM {
+            return None;
+        }
+        if are_same(&text[..end], &self.text[..end]) {
             return Some(self.len);
         }
         self.learn(text)
@@ -79,12 +84,15 @@ impl FrontReader {
     #[cold]
     #[inline(never)]
     fn learn(&mut self, text: &[u8]) -> Option<usize>
-        ensures within { IfSome result (λ len. len < length text.now) }
+        ensures room { IfSome result (λ len. len + 1 + NUMBERS_ROOM ≤ length text.now) }
         ensures named { IfSome result (λ len. is_device_name (take len text.now) ≡ true) }
         ensures space { IfSome result (λ len. text.now ≡ take len text.now ++ 32 ∷ drop (len + 1) text.now) }
     {
         let len = leading_name(text)?;
-        let _rest = after_space(text, len)?;
+        let rest = after_space(text, len)?;
+        if rest.len() < NUMBERS_ROOM {
+            return None;
+        }
         let _end = put_bytes(&mut self.text, 0, &text[..len + 1]);
         self.len = len;
         Some(len)

@@ -3,13 +3,16 @@
 //! Texts and requests share this one form, so that what is read is written back byte by byte.
 //! To take more digits, change `specs/Number.antt` and see that the value still fits a `u64`.
 
-ghost use Rattle.std.specs.Prelude.{◌≡◌, ◌≤◌, is_some, length, Some, None, IfSome, IfNone, IsTrue, take};
+ghost use Rattle.std.specs.Prelude.{◌≡◌, ◌<◌, ◌≤◌, is_some, length, Some, None, IfSome, IfNone, IsTrue, take};
 ghost use Rattle.std.specs.List.{prefix_len};
 ghost use Rattle.std.specs.Char.{is_ascii_digit};
+ghost use Rattle.dm_table.specs.declared.number.TheConstants.{WINDOW};
 ghost use Rattle.dm_table.specs.Number.{number_of, number_in};
 
+use crate::block::as_room;
+
 /// The most digits of a number, and one byte more.
-const WINDOW: usize = 20;
+pub(crate) const WINDOW: usize = 20;
 
 /// The number that a text spells, or `None` where it spells none. One pass.
 pub(crate) fn number(text: &[u8]) -> Option<u64>
@@ -28,6 +31,7 @@ pub(crate) fn number(text: &[u8]) -> Option<u64>
 #[inline(always)]
 pub(crate) fn leading(text: &[u8]) -> Option<(u64, usize)>
     ensures len { IfSome result (λ read. read.1 ≡ prefix_len is_ascii_digit text.now) }
+    ensures short { IfSome result (λ read. read.1 < WINDOW) }
     ensures number { IfSome result (λ read. number_of (take read.1 text.now) ≡ Some read.0) }
     ensures other { IfNone result (number_of (take (prefix_len is_ascii_digit text.now) text.now) ≡ None) }
 {
@@ -47,14 +51,14 @@ pub(crate) fn leading(text: &[u8]) -> Option<(u64, usize)>
 }
 
 /// The same for the front of a longer text: its first bytes are as many that no digit has to ask for
-/// the text's end. `None` says nothing of a text.
+/// the text's end, nor the byte after the digits. `None` says nothing of a text.
 #[inline(always)]
 pub(crate) fn leading_within(text: &[u8]) -> Option<(u64, usize)>
-    ensures within { IfSome result (λ read. read.1 ≤ length text.now) }
+    requires { WINDOW ≤ length text.now }
+    ensures within { IfSome result (λ read. read.1 < WINDOW) }
     ensures number { IfSome result (λ read. number_of (take read.1 text.now) ≡ Some read.0) }
 {
-    let window = text.first_chunk::<WINDOW>()?;
-    let (number, len) = leading(window)?;
+    let (number, len) = leading(as_room::<WINDOW>(&text[..WINDOW]))?;
     Some((number, len))
 }
 

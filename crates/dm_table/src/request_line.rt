@@ -4,8 +4,10 @@
 //! line says stands in `specs/RequestLine.antt`: change it there first.
 
 ghost use Rattle.std.specs.Prelude.{◌≡◌, ◌≢◌, ◌+◌, ◌<◌, ◌≤◌, ℕ, List, [], ◌∷◌, ◌++◌, length, take, drop, Some, None, true, false, if◌then◌else◌, IfSome, IfNone, IsOkAnd, IfOk, IfErr, OnOk};
+ghost use Rattle.dm_table.specs.declared.number.TheConstants.{WINDOW};
 ghost use Rattle.dm_table.specs.declared.request.Op.{Op};
 ghost use Rattle.dm_table.specs.declared.request.RequestFault.TheVariants.{Form, Number};
+ghost use Rattle.dm_table.specs.declared.request_line.TheConstants.{NUMBERS_ROOM};
 ghost use Rattle.dm_table.specs.Name.{is_device_name};
 ghost use Rattle.dm_table.specs.Number.{number_of};
 ghost use Rattle.dm_table.specs.Fields.{fields};
@@ -15,6 +17,10 @@ use crate::name::{ascii_str, leading_name};
 use crate::number;
 use crate::request::{MOST_SECTORS, Op, Request, RequestFault};
 use memchr::memchr;
+
+/// The most bytes that two numbers take, each with the byte after it. Where a text has as many left, it
+/// isn't asked for its end again.
+pub(crate) const NUMBERS_ROOM: usize = 2 * number::WINDOW;
 
 /// What follows the space after the first `len` bytes of a text.
 #[inline(always)]
@@ -55,10 +61,10 @@ pub(crate) fn first_op<'a>(line: &'a [u8]) -> Option<(Op, &'a [u8])>
     ensures text { IfSome result (λ cut. line.now ≡ op_text cut.0 ∷ 32 ∷ cut.1.now) }
     ensures other { IfNone result (has_form (fields line.now) ≡ false) }
 {
-    let [letter, ..] = line else {
+    if line.len() < 2 {
         return None;
-    };
-    let op = op_of(*letter)?;
+    }
+    let op = op_of(line[0])?;
     let rest = after_space(line, 1)?;
     Some((op, rest))
 }
@@ -172,22 +178,25 @@ pub fn parse_request<'a>(line: &'a [u8], number: u64) -> Result<Request<'a>, Req
 /// The number that a longer text begins with, and what follows its space.
 #[inline(always)]
 fn front_number<'a>(text: &'a [u8]) -> Option<(u64, &'a [u8])>
+    requires { WINDOW ≤ length text.now }
     ensures text { IfSome result (λ cut. (field : List ℕ) × (text.now ≡ field ++ 32 ∷ cut.1.now) × (number_of field ≡ Some cut.0)) }
+    ensures short { IfSome result (λ cut. length text.now ≤ length cut.1.now + WINDOW) }
 {
     let (number, len) = number::leading_within(text)?;
     let rest = after_space(text, len)?;
     Some((number, rest))
 }
 
-/// The length that a text begins with, and how many bytes stand before the newline after it.
+/// The length that a longer text begins with, and how many bytes stand before the newline after it.
 #[inline(always)]
 fn last_number(text: &[u8]) -> Option<(u64, usize)>
+    requires { WINDOW ≤ length text.now }
     ensures within { IfSome result (λ read. read.1 < length text.now) }
     ensures newline { IfSome result (λ read. text.now ≡ take read.1 text.now ++ 10 ∷ drop (read.1 + 1) text.now) }
     ensures number { IfSome result (λ read. number_of (take read.1 text.now) ≡ Some read.0) }
 {
     let (number, len) = number::leading_within(text)?;
-    if len < text.len() && text[len] == b'\n' {
+    if text[len] == b'\n' {
         Some((number, len))
     } else {
         None
@@ -206,6 +215,7 @@ pub(crate) fn front_behind<'a>(
 ) -> Option<(Request<'a>, usize)>
     requires text { text.now ≡ op_text op ∷ 32 ∷ (device.now ++ 32 ∷ rest.now) }
     requires named { is_device_name device.now ≡ true }
+    requires room { NUMBERS_ROOM ≤ length rest.now }
     ensures front { IfSome result (λ front. IsFront text.now (values_of front.0) front.1) }
     ensures numbered { IfSome result (λ front. front.0.number ≡ number) }
 {
@@ -237,5 +247,8 @@ pub fn front_request<'a>(text: &'a [u8], number: u64) -> Option<(Request<'a>, us
     ensures numbered { IfSome result (λ front. front.0.number ≡ number) }
 {
     let (op, device, rest) = head(text)?;
+    if rest.len() < NUMBERS_ROOM {
+        return None;
+    }
     front_behind(text, rest, number, op, device)
 }

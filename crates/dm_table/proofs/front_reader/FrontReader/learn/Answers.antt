@@ -9,15 +9,15 @@ returns-clause-space c =
     let text = c.args.text.now in
     let len = c.in_ok-len.len in
     let within : len ≤ length text = omega (arith, c.in_ok-len.ensures.len, prefix_len-le-length is_device_byte text) in
-    name_space text (take len text) len (space_front text c.in_ok-_rest._rest.now len within c.in_ok-_rest.ensures.cut)
+    name_space text (take len text) len (space_front text c.in_ok-rest.rest.now len within c.in_ok-rest.ensures.cut)
 
 pub invariant_of-self : goal.invariant_of-self
 invariant_of-self c =
     let text = c.args.text.now in
-    let rest = c.in_ok-_rest._rest.now in
+    let rest = c.in_ok-rest.rest.now in
     let len = c.in_ok-len.len in
     let new = c.put_bytes-end.new.block in
-    let cut = c.in_ok-_rest.ensures.cut in
+    let cut = c.in_ok-rest.ensures.cut in
     let within : len ≤ length text = omega (arith, c.in_ok-len.ensures.len, prefix_len-le-length is_device_byte text) in
     let long : len + 1 ≤ length text = omega (arith, ap length cut, length-append (take len text) (32 ∷ rest), length-take-le len text within) in
     let end : c.put_bytes-end.result ≡ len + 1 = omega (arith, c.put_bytes-end.ensures.end, length-take-le (len + 1) text long) in
