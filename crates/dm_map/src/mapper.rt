@@ -17,15 +17,14 @@ ghost use Rattle.dm_map.specs.Tables.{snapshot_at};
 ghost use Rattle.dm_map.specs.Usage.{usage_of};
 ghost use Rattle.dm_map.specs.Walk.{IsReady, IsWalked};
 
-use crate::piece::Piece;
 use crate::sink::Sink;
 use crate::tables::empty_tables;
 use crate::taken::Taken;
 use crate::usage::{Usage, usage_of};
-use crate::walk::map_range;
+use crate::walk::{fail, map_range};
 use crate::walker::Walker;
 use dm_stack::{DeviceId, Looker, Lower, MOST_DEPTH};
-use dm_table::Request;
+use dm_table::{Op, Request};
 use std::alloc::{AllocError, Global};
 use std::fmt;
 use std::marker::Model;
@@ -128,7 +127,7 @@ impl<'s, T: Taken> Mapper<'s, T> {
         }
         let searches = self.walker.searches();
         let comparisons = self.walker.comparisons();
-        let mapped = self.map_request(request, device, sink);
+        let mapped = self.map_request(request.op, device, request.start, request.len, sink);
         self.searches = self.walker.searches() - searches;
         self.probes = self.walker.comparisons() - comparisons;
         match mapped {
@@ -171,40 +170,36 @@ impl<'s, T: Taken> Mapper<'s, T> {
         self.probes
     }
 
-    /// Hands over the units of a request; stopping at a fault is left to the caller.
+    /// Hands over the units of a request, whose fields come by themselves: they stay in registers so.
+    /// Stopping at a fault is left to the caller.
     fn map_request<S: Sink>(
         &mut self,
-        request: &Request<'_>,
+        op: Op,
         device: DeviceId,
+        start: u64,
+        len: u64,
         sink: &mut S,
     ) -> Result<(), S::Fault>
+        requires some { 1 ≤ len }
         requires device { device < length self.old.stack.devices }
-        requires sink { IsReady S.stack S.room sink.old self.old.stack request.now.len }
-        ensures walked { IsWalked S.took S.left S.stack S.room S.faults result sink.old sink.new (walking_of self.old) (walking_of self.new) (request_step self.old.stack request.now.op device request.now.start request.now.len self.old.state) request.now.len }
-        ensures bounded { request.now.op ≡ Read → self.new.looked.searches ≤ self.old.looked.searches + stack_depth self.old.stack * read_stretches self.old.stack self.old.state device request.now.start request.now.len }
+        requires sink { IsReady S.stack S.room sink.old self.old.stack len }
+        ensures walked { IsWalked S.took S.left S.stack S.room S.faults result sink.old sink.new (walking_of self.old) (walking_of self.new) (request_step self.old.stack op device start len self.old.state) len }
+        ensures bounded { op ≡ Read → self.new.looked.searches ≤ self.old.looked.searches + stack_depth self.old.stack * read_stretches self.old.stack self.old.state device start len }
         ensures stopped { self.new.stopped ≡ self.old.stopped }
     {
         self.walker.is_sound();
         let end = self.walker.len(device);
-        if passes_end(request, end) {
-            return sink.piece(Piece::Error { len: request.len });
+        if passes_end(start, len, end) {
+            return fail(len, sink);
         }
         let lower = Lower::Device(device);
-        map_range(
-            &mut self.walker,
-            request.op,
-            MOST_DEPTH,
-            lower,
-            request.start,
-            request.len,
-            sink,
-        )
+        map_range(&mut self.walker, op, MOST_DEPTH, lower, start, len, sink)
     }
 }
 
-/// Whether a request passes the end of a device.
-fn passes_end(request: &Request<'_>, end: u64) -> bool
-    ensures { result ≡ nat_lt end (request.now.start + request.now.len) }
+/// Whether sectors pass the end of a device.
+fn passes_end(start: u64, len: u64, end: u64) -> bool
+    ensures { result ≡ nat_lt end (start + len) }
 {
-    end < request.start || end - request.start < request.len
+    end < start || end - start < len
 }

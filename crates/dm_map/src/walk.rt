@@ -139,7 +139,10 @@ fn map_line<S: Sink, T: Taken>(
 }
 
 /// Hands over the units of sectors of a striped line at a distance from its start, chunk by chunk.
+///
+/// It is never inlined, since a linear line would then pay for the registers that this needs.
 #[cycle(walk)]
+#[inline(never)]
 fn map_stripes<S: Sink, T: Taken>(
     walker: &mut Walker<'_, T>,
     op: Op,
@@ -259,7 +262,7 @@ fn write_chunk<S: Sink, T: Taken>(
 /// Fails sectors. This is rare, and a sink's call in line would take registers from all others, so it
 /// is never inlined.
 #[inline(never)]
-fn fail<S: Sink>(len: u64, sink: &mut S) -> Result<(), S::Fault>
+pub(crate) fn fail<S: Sink>(len: u64, sink: &mut S) -> Result<(), S::Fault>
     requires some { 1 ≤ len }
     requires room { len ≤ S.room sink.old }
     ensures took { OnOk result (S.took sink.old (units_in Fails len) sink.new) }

@@ -15,21 +15,21 @@ use Rattle.dm_map.proofs.mapper.Mapper.map_request.Goals as goal
 
 pub returns-then-passes_end-clause-walked : goal.returns-then-passes_end-clause-walked
 returns-then-passes_end-clause-walked g c =
-    let r = c.args.request.now in let m = c.args.self.now in let p = c.piece in
-    let past : nat_lt (device_len m.stack c.args.device) (r.start + r.len) ≡ true = ap (λ x. nat_lt (device_len x.stack c.args.device) (r.start + r.len)) (sym c.self.view_is) ∙ ap (λ end. nat_lt end (r.start + r.len)) (sym c.len-end.ensures.len) ∙ sym c.if-passes_end.ensures in
-    walked_piece g.S.Sink.took g.S.Sink.left g.S.Sink.stack g.S.Sink.room g.S.Sink.faults p.result c.args.sink.now p.new.self (walking_of m) _ _ r.len r.len (step_past_end m.stack r.op c.args.device r.start r.len m.state past) (omega arith)
-    p.ensures.took p.ensures.left p.ensures.faults p.ensures.stack p.ensures.room
+    let a = c.args in let m = a.self.now in let f = c.fail in
+    let past : nat_lt (device_len m.stack a.device) (a.start + a.len) ≡ true = ap (λ x. nat_lt (device_len x.stack a.device) (a.start + a.len)) (sym c.self.view_is) ∙ ap (λ end. nat_lt end (a.start + a.len)) (sym c.len-end.ensures.len) ∙ sym c.if-passes_end.ensures in
+    walked_piece g.S.Sink.took g.S.Sink.left g.S.Sink.stack g.S.Sink.room g.S.Sink.faults f.result a.sink.now f.new.sink (walking_of m) _ _ a.len a.len (step_past_end m.stack a.op a.device a.start a.len m.state past) (omega arith)
+    f.ensures.took f.ensures.left f.ensures.faults f.ensures.stack f.ensures.room
 
 pub returns-clause-walked : goal.returns-clause-walked
 returns-clause-walked g c =
-    let a = c.args in let r = a.request.now in let walk = c.map_range in
-    let inside : nat_lt (device_len c.self.inside.walker.stack a.device) (r.start + r.len) ≡ false = ap (λ end. nat_lt end (r.start + r.len)) (sym c.len-end.ensures.len) ∙ sym c.passes_end.ensures ∙ c.if-passes_end.false in
-    subst (λ (m : Mapping). IsWalked g.S.Sink.took g.S.Sink.left g.S.Sink.stack g.S.Sink.room g.S.Sink.faults walk.result a.sink.now walk.new.sink (walking_of m) walk.new.walker (request_step m.stack r.op a.device r.start r.len m.state) r.len) c.self.view_is (rw inside walk.ensures.walked)
+    let a = c.args in let walk = c.map_range in
+    let inside : nat_lt (device_len c.self.inside.walker.stack a.device) (a.start + a.len) ≡ false = ap (λ end. nat_lt end (a.start + a.len)) (sym c.len-end.ensures.len) ∙ sym c.passes_end.ensures ∙ c.if-passes_end.false in
+    subst (λ (m : Mapping). IsWalked g.S.Sink.took g.S.Sink.left g.S.Sink.stack g.S.Sink.room g.S.Sink.faults walk.result a.sink.now walk.new.sink (walking_of m) walk.new.walker (request_step m.stack a.op a.device a.start a.len m.state) a.len) c.self.view_is (rw inside walk.ensures.walked)
 
 pub returns-clause-bounded : goal.returns-clause-bounded
 returns-clause-bounded g c =
-    let r = c.args.request.now in let m = c.args.self.now in
-    let inside : nat_lt (device_len m.stack c.args.device) (r.start + r.len) ≡ false = ap (λ x. nat_lt (device_len x.stack c.args.device) (r.start + r.len)) (sym c.self.view_is) ∙ ap (λ end. nat_lt end (r.start + r.len)) (sym c.len-end.ensures.len) ∙ sym c.passes_end.ensures ∙ c.if-passes_end.false in
+    let a = c.args in let m = a.self.now in
+    let inside : nat_lt (device_len m.stack a.device) (a.start + a.len) ≡ false = ap (λ x. nat_lt (device_len x.stack a.device) (a.start + a.len)) (sym c.self.view_is) ∙ ap (λ end. nat_lt end (a.start + a.len)) (sym c.len-end.ensures.len) ∙ sym c.passes_end.ensures ∙ c.if-passes_end.false in
     let sound = subst (λ (x : Mapping). IsSound x.stack) c.self.view_is c.is_sound.ensures in
-    let bounded = subst (λ (x : Mapping). IsBounded (walking_of x) c.map_range.new.walker r.op (depth_of x.stack c.args.device) (path x.stack x.state MOST_DEPTH (Device c.args.device)) r.start r.len) c.self.view_is c.map_range.ensures.bounded in
-    request_bound (walking_of m) c.map_range.new.walker r.op c.args.device r.start r.len sound c.requires.device inside bounded
+    let bounded = subst (λ (x : Mapping). IsBounded (walking_of x) c.map_range.new.walker a.op (depth_of x.stack a.device) (path x.stack x.state MOST_DEPTH (Device a.device)) a.start a.len) c.self.view_is c.map_range.ensures.bounded in
+    request_bound (walking_of m) c.map_range.new.walker a.op a.device a.start a.len sound c.requires.device inside bounded
