@@ -139,10 +139,7 @@ fn map_line<S: Sink, T: Taken>(
 }
 
 /// Hands over the units of sectors of a striped line at a distance from its start, chunk by chunk.
-///
-/// It is never inlined, since a linear line would then pay for the registers that this needs.
 #[cycle(walk)]
-#[inline(never)]
 fn map_stripes<S: Sink, T: Taken>(
     walker: &mut Walker<'_, T>,
     op: Op,
