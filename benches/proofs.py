@@ -2,8 +2,8 @@
 """Prints what took longest in a check of a crate: proofs.py FOLDER [SECONDS]
 
 `rt check --jobs 1` writes each file of `out/incremental` when it has checked it, so what lies between
-two files is the time of the second. FOLDER is a crate's; with SECONDS, only files of the last so many
-seconds before the newest count, as after a check of some functions. What was checked in copies side by
+two files is the time of the second. FOLDER is a crate's; with SECONDS, only files of that many seconds
+before the newest one count, as after a check of some functions. What was checked in copies side by
 side cannot be told apart: use one job. `Lts` is a function's code with all that it drops, `Proof` its goals.
 """
 

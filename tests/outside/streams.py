@@ -67,7 +67,7 @@ def check_reader(tally, program):
 
 
 def check_beginnings(tally, program):
-    """A file that may grow to so many bytes and no more, as on a disk that runs full."""
+    """A file that may grow to `most` bytes and no more, as on a disk that runs full."""
     whole = program.map(TABLE, DISKS, LONG).out
     for most in (1, 10, 4096, 70000):
         with tempfile.TemporaryFile() as file:
@@ -187,7 +187,7 @@ def check_pauses(tally, program):
 
 
 def read_soon(stream, most):
-    """What of so many bytes comes while none takes longer than some seconds."""
+    """What comes of `most` bytes, while none takes longer than some seconds."""
     got = b""
     while len(got) < most and select.select([stream], [], [], 5)[0]:
         more = os.read(stream.fileno(), most - len(got))
