@@ -21,7 +21,7 @@ abbrev pub last_after : (before : Option ℕ) → List ℕ → Option ℕ
 last_after before [] = before
 last_after before (chunk ∷ rest) = last_after (Some chunk) rest
 
--- so many chunks in a row
+-- `len` chunks in a row
 abbrev pub row_from : (first len : ℕ) → List ℕ
 row_from first zero = []
 row_from first (suc len) = first ∷ row_from (suc first) len

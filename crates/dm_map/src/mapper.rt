@@ -170,7 +170,7 @@ impl<'s, T: Taken> Mapper<'s, T> {
         self.probes
     }
 
-    /// Hands over the units of a request, whose fields come by themselves: they stay in registers so.
+    /// Hands over the units of a request, whose fields are passed one by one: that keeps them in registers.
     /// Stopping at a fault is left to the caller.
     fn map_request<S: Sink>(
         &mut self,

@@ -2,9 +2,9 @@
 //!
 //! A chunk that is not taken is tested once, copied from the origin to its place in the store, and
 //! then taken. The copies are handed over before that, so that all of them read what was there
-//! before. A test and a copy go by stretches, and a copy ends where either side stops to go on; no
-//! work is done for each sector. What is read and where a store's sectors lie has nothing to do with
-//! how deep the snapshot was asked for, so each is asked for through all levels.
+//! before. A test and a copy go by stretches, and a copy ends where either side no longer goes on; no
+//! work is done for each sector. What is read and where a store's sectors lie do not depend on
+//! the depth at which the snapshot was reached, so each is looked up through all levels.
 
 ghost use Rattle.std.specs.Prelude.{◌≡◌, ℕ, ◌+◌, ◌*◌, ◌%◌, ◌<◌, ◌≤◌, ◌^◌, Some, length, true};
 ghost use Rattle.dm_stack.specs.Below.{IsSnapshotSound};

@@ -37,7 +37,7 @@ pub(crate) fn empty_tables<T: Taken>(
     Ok(tables)
 }
 
-/// So many tables, each without a place.
+/// `count` tables, each without a place.
 fn tables_without_places<T: Taken>(alloc: Global, count: usize) -> Result<Vec<T>, AllocError>
     ensures count { IfOk result (λ tables. length tables.items ≡ count) }
     ensures places { IfOk result (λ tables. (index : ℕ) (table : T) → slice_get tables.items index ≡ Some table → T.places table ≡ 0) }

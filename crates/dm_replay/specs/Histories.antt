@@ -10,7 +10,7 @@ use Rattle.dm_map.specs.Steps.{Step, steps}
 use Rattle.dm_map.specs.Units.{BlockUnit}
 use Rattle.dm_replay.specs.Values.{Answer, Values, old_values, played, played_answers, sector_past}
 
--- a request that was accepted, of a device by its id; it was played whole, or stopped after so many of its units
+-- a request that was accepted, of a device by its id; it was played whole, or stopped after this many of its units
 pub record Asked : Type 0 where
   pub number : ℕ
   pub op : Op

@@ -1,4 +1,4 @@
--- Units, values and answers that name only disks of a stack, of which there are so many.
+-- Units, values and answers that name only disks of a stack, which has the given number of them.
 use Rattle.std.specs.Prelude.{ℕ, ◌<◌, List}
 use Rattle.std.specs.List.{AllByRecursion}
 use Rattle.dm_map.specs.Units.{BlockUnit, ReadOf, CopyOf}

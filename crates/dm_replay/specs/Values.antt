@@ -32,7 +32,7 @@ unit_answers request sector Drops values = Gives value.Zero ∷ []
 unit_answers request sector Fails values = Failed ∷ []
 unit_answers request sector unit values = []
 
--- units in order, from the sector on that the first of them to answer answers: what they leave, what they answer, and the sector that is answered after them
+-- units in order, from the sector on for which the first answer is given: what they leave, what they answer, and the sector that is answered after them
 
 abbrev pub played : (request sector : ℕ) → List BlockUnit → Values → Values
 played request = contents.played value.Zero (value.Wrote request)

@@ -14,7 +14,7 @@ StartsAfter lines index sector = MatchOption (slice_get lines index) ⊤ (λ lin
 abbrev pub EndsAt : List FoundLine → (index sector : ℕ) → Type 0
 EndsAt lines index sector = MatchOption (slice_get lines index) ⊥ (λ line. line.start + line.len ≡ sector)
 
--- the binary digits of a number that has at most so many
+-- the number of binary digits of a number that has at most `most` of them
 abbrev pub digits_to : (most number : ℕ) → ℕ
 digits_to zero number = 0
 digits_to (suc most) number = if number == 0 then 0 else suc (digits_to most (number / 2))

@@ -188,7 +188,7 @@ abbrev pub target_places : Description → Target → ℕ
 target_places stack (targets.Snapshot origin store chunk) = places chunk (lower_len stack (lower_of stack store))
 target_places stack _ = 0
 
--- a snapshot whose store is none
+-- a snapshot whose store cannot be one
 abbrev pub has_bad_store : Description → Target → Bool
 has_bad_store stack (targets.Snapshot origin store chunk) = not (is_store_to stack MOST_DEPTH (lower_of stack store))
 has_bad_store stack _ = false

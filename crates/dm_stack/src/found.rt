@@ -40,7 +40,7 @@ pub enum FoundTarget {
     Snapshot(FoundSnapshot),
 }
 
-/// A snapshot: what it is of, where the chunks are kept that are written, and how long a chunk is.
+/// A snapshot: its origin, where the chunks that are written are kept, and how long a chunk is.
 #[derive(Clone, Copy, Debug, Drop)]
 pub struct FoundSnapshot {
     pub origin: Lower,

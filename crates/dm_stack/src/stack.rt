@@ -79,14 +79,14 @@ impl Stack {
     /// 8. `Deep`: a device whose depth is above 32. It is 1 plus the greatest of the devices that
     ///    it names, so that of a device that names none is 1.
     /// 9. `Stripe`: a striped line with fewer than 1 or more than 128 columns, a chunk below 1 or
-    ///    above 2^32 - 1, or a length that is no multiple of the columns, or whose share of each
-    ///    column is none of the chunk.
+    ///    above 2^32 - 1, or a length that is not a multiple of the number of columns, or whose share
+    ///    for each column is not a multiple of the chunk.
     /// 10. `Range`: a line that passes the end of what it names.
     /// 11. `Snapshot`: a snapshot that is not the only line of its table, whose chunk is no power of
     ///     two from 1 to 1,024, or that is not as long as its origin.
     /// 12. `Store`: a snapshot whose store is neither a disk nor a writable device of linear and
     ///     striped lines that names nothing but disks and such devices, down to disks.
-    /// 13. `Limit`: the snapshot with whose store all stores have more than 4,194,304 places for
+    /// 13. `Limit`: the snapshot whose store brings all stores to more than 4,194,304 places for
     ///     chunks together.
     ///
     /// A check goes over the devices in their order, and over the lines of each; disks come after

@@ -31,7 +31,7 @@ pub fn places(chunk: u64, store_len: u64) -> u64
     rest - rest / (32 * chunk + 1)
 }
 
-/// The first snapshot with whose store all stores together have more than 4,194,304 places.
+/// The first snapshot whose store brings all stores together to more than 4,194,304 places.
 ///
 /// Cost: a walk over the lines.
 pub(crate) fn crowded(stack: &Indexed) -> Option<LoadFault>

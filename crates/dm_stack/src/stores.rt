@@ -1,4 +1,4 @@
-//! Of which devices the store of a snapshot may be made.
+//! Which devices the store of a snapshot may be made of.
 //!
 //! Below a store there are only writable devices of linear and striped lines, down to disks. The
 //! rounds that find depths find this for all devices at once: among the links here each device of

@@ -1,9 +1,9 @@
 //! How a run over requests ends.
 //!
-//! Each word of a bad request is a variant, in the order in which they are asked; `message` writes
-//! them. A new word goes where its question is asked.
+//! Each word for a bad request is a variant, in the order of the checks; `message` writes
+//! them. A new word goes where its check is made.
 
-/// What is wrong with a request, by the first question that says so.
+/// What is wrong with a request, by the first check that finds it.
 #[derive(Clone, Copy, Debug, PartialEq, Eq)]
 pub enum RequestWord {
     /// More than 4,096 bytes without the newline.

@@ -37,7 +37,7 @@ pub trait Handler {
         ensures ready { OnOk result (ready self.new source.new) }
         ensures stopped { IfErr result (λ fault. stopped self.old source.old (numbered request.now ∷ []) fault self.new source.new) };
 
-    /// No request is at hand, and reading one may wait: what was gathered of the answers can go on.
+    /// No request is at hand, and reading one may have to wait: the answers gathered so far can be passed on.
     /// Nothing is answered.
     fn before_read(&mut self)
         ensures answered { (source : Self.Source) → answered self.old source [] self.new source }

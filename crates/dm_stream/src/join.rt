@@ -23,8 +23,8 @@ use dm_table::{OutFault, Output};
 
 /// A sink that joins the pieces of a request to the fewest, and writes each as a line.
 ///
-/// It borrows its caller's writer until it ends. A piece that does not continue the held one has the
-/// held one written first; if that fails, neither is held, and a beginning of the line was written.
+/// It borrows its caller's writer until it ends. Before a piece that does not continue the held one, the
+/// held one is written; if that fails, neither is held, and a beginning of the line was written.
 /// The room is what is left of 64 bits beside the length of a held piece without a disk, in sectors
 /// of 512 bytes.
 #[derive(Drop)]

@@ -37,7 +37,7 @@ pub(crate) fn write_status<T: Taken, W: Output>(
     Ok(())
 }
 
-/// Writes the status line of a device of the stack that is so full.
+/// Writes the status line of a device of the stack with this usage.
 fn write_line<W: Output>(
     stack: &Stack,
     device: DeviceId,

@@ -120,12 +120,12 @@ abbrev pub is_label : List (List ℕ) → Bool
 is_label (name ∷ uuid ∷ minor ∷ flags ∷ body ∷ bodies) = lacks 32 name && (lacks 32 uuid && (lacks 32 minor && lacks 32 flags))
 is_label _ = false
 
--- a label whose number and flags are such
+-- a label whose minor number and flags are valid
 abbrev pub is_known : List (List ℕ) → Bool
 is_known (name ∷ uuid ∷ minor ∷ flags ∷ bodies) = is_minor minor && is_flags flags
 is_known _ = false
 
--- a label whose name and uuid are such
+-- a label whose name and uuid are valid
 abbrev pub is_named : List (List ℕ) → Bool
 is_named (name ∷ uuid ∷ bodies) = is_device_name name && is_uuid uuid
 is_named _ = false

@@ -64,7 +64,7 @@ has_name row = is_disk_name (first row)
 abbrev pub bad_field : List (List (List ℕ)) → List LoadFault
 bad_field rows = faults_from Disks Field (λ row. not (has_sectors row)) 1 rows
 
--- a name that is none of a disk
+-- a name that no disk can have
 abbrev pub bad_name : List (List (List ℕ)) → List LoadFault
 bad_name rows = faults_from Disks Name (λ row. not (has_name row)) 1 rows
 

@@ -20,7 +20,7 @@ columns_of _ = []
 abbrev pub body_head : Line → List ℕ
 body_head line = decimal line.start ++ 32 ∷ decimal line.len ++ 32 ∷ target_head line.target
 
--- a text of at most so many bytes was put at a place of a block: where it ends, and what the block holds up to there
+-- a text of at most `most` bytes was put at a place of a block: where it ends, and what the block holds up to there
 pub record IsPut (text : List ℕ) (most at : ℕ) (old new : List ℕ) (end : ℕ) : Type 0 where
   pub few : end ≤ at + most
   pub ends : end ≡ at + length text

@@ -56,7 +56,7 @@ fn write_columns_of<W: Output>(writer: &mut W, target: &Target) -> Result<(), Ou
     }
 }
 
-/// Writes the body of a line after a label: a name and what stands behind it.
+/// Writes the body of a line after a label: a name and what comes after it.
 fn write_body<W: Output>(
     writer: &mut W,
     name: &[u8],

@@ -89,7 +89,7 @@ fn is_label(entries: &[&[u8]]) -> bool
     }
 }
 
-/// Whether the minor number and the flags are such.
+/// Whether the minor number and the flags are valid.
 fn is_known(entries: &[&[u8]]) -> bool
     ensures { result ≡ is_known (texts entries.now) }
 {
@@ -99,7 +99,7 @@ fn is_known(entries: &[&[u8]]) -> bool
     }
 }
 
-/// Whether the name and the uuid are such.
+/// Whether the name and the uuid are valid.
 fn is_named(entries: &[&[u8]]) -> bool
     ensures { result ≡ is_named (texts entries.now) }
 {

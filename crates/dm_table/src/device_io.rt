@@ -62,7 +62,7 @@ pub trait Output {
         ensures faults { faults self.new ≡ faults self.old + fault_of result }
         ensures flushes { flushes self.new ≡ flushes self.old };
 
-    /// Has all that was taken go on to where it belongs. Where that fails, all of it still counts
+    /// Passes everything that was taken on to where it belongs. Where that fails, all of it still counts
     /// as waiting.
     fn flush(&mut self) -> Result<(), OutFault>
         ensures bytes { written self.new ≡ written self.old }
@@ -91,7 +91,7 @@ pub trait Output {
         Ok(())
     }
 
-    /// Has what was gathered go on without a flush, as far as that succeeds: a call before a wait,
+    /// Passes on what was gathered, without a flush, as far as that succeeds. It is called before a wait,
     /// and nothing else depends on it.
     fn hand_on(&mut self)
         ensures bytes { written self.new ≡ written self.old }

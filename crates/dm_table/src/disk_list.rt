@@ -32,12 +32,12 @@ use std::alloc::{AllocError, Global};
 ///
 /// Each check runs over the whole text, and the first that finds anything gives the fault, at its
 /// first line: `NotText` for a byte outside 0x20 to 0x7E, `Syntax` for a line that is not two
-/// fields or that no newline ends, `Field` for a length that is no number, `Name` for a name that
-/// is none of a disk. `Memory`, of number 0, comes wherever an allocation was refused.
+/// fields or that no newline ends, `Field` for a length that is not a number, `Name` for a name
+/// that no disk can have. `Memory`, of number 0, comes wherever an allocation was refused.
 ///
 /// The time is linear in the text.
 pub fn parse_disks(alloc: Global, text: &[u8]) -> Result<Vec<Disk>, LoadFault>
-    // Accepted is what describes disks, as these, and a refusal is the first fault of the first check
+    // A text is accepted as the disks that it describes, and a refusal is the first fault of the first check
     // that finds any.
     ensures { IsParsed Disks (DescribesDisks text.now) (disk_checks text.now) result }
 {

@@ -35,8 +35,8 @@ impl Model for DiskName {
 impl DiskName {
     /// A copy of the text as the name of a disk.
     ///
-    /// Cost: reads the text twice, and takes memory once, for a text that is one. `Form` if it is
-    /// none, and `Memory` if the allocation was refused.
+    /// Cost: reads the text twice, and takes memory once, for a text that is a name. `Form` if it is
+    /// not one, and `Memory` if the allocation was refused.
     pub fn new(alloc: Global, text: &str) -> Result<DiskName, CheckFault>
         ensures kept { IfOk result (λ name. name ≡ text.now) }
         ensures form { (result ≡ Err CheckFault.Form) ↔ (is_disk_name text.now ≡ false) }

@@ -21,7 +21,7 @@ const ROOM: usize = FULL + TEXT_ROOM;
 
 /// An output in front of another one, which it gathers bytes for.
 ///
-/// What it took, it passes on in its order, and at a flush all of it. Bytes that could not be passed
+/// It passes on what it took, in order, and at a flush all of it. Bytes that could not be passed
 /// on stay gathered; whether that is a fault is up to the call that tried. It has counts of its own,
 /// so those of the other output don't show here.
 #[derive(Drop)]

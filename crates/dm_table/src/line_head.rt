@@ -33,7 +33,7 @@ impl<'a> Model for LineHead<'a> {
 }
 
 impl<'a> LineHead<'a> {
-    /// A line after a label: a name and what stands behind it.
+    /// A line after a label: a name and what comes after it.
     #[inline(always)]
     pub(crate) fn new(name: &'a [u8], mark: &'a [u8], line: &'a Line) -> LineHead<'a>
         requires name { length name.now ≤ 127 }

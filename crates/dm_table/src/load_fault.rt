@@ -18,15 +18,15 @@ pub enum LoadKind {
     Read,
     /// The part has more than 1,048,576 bytes.
     Long,
-    /// A byte that is no text.
+    /// A byte that is not text.
     NotText,
-    /// A text that is not built as its form asks.
+    /// A text that does not have the structure of its form.
     Syntax,
-    /// A field that is no number, an unknown target, or wrong arguments.
+    /// A field that is not a number, an unknown target, or wrong arguments.
     Field,
-    /// A text that is no name of a device or of a disk.
+    /// A text that is not the name of a device or of a disk.
     Name,
-    /// A name that stands twice.
+    /// A name that appears twice.
     Twice,
     /// A device without lines, or a length of 0.
     Empty,

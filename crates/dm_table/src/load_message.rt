@@ -15,7 +15,7 @@ pub type LoadMessage = ArrayVec<u8, 96>;
 
 impl LoadFault {
     /// The message of the refused load: the program's name, the part, the kind, and the number of
-    /// its place, which a part that was not read has none of. `Memory` names no part. Takes no
+    /// its place, except for a part that was not read. `Memory` names no part. Takes no
     /// memory.
     #[tactic(auto, using(crate::proofs::FaultLemmas::part_short))]
     pub fn message(self) -> LoadMessage

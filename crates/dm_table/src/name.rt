@@ -17,7 +17,7 @@ use thiserror::Error;
 /// Why a text was not taken as a name.
 #[derive(Clone, Copy, Debug, PartialEq, Eq, Error)]
 pub enum CheckFault {
-    /// It is no such name.
+    /// It is not such a name.
     #[error("the text is no name")]
     Form,
     /// An allocation was refused.
@@ -46,8 +46,8 @@ impl Model for Name {
 impl Name {
     /// A copy of the text as the name of a device.
     ///
-    /// Cost: reads the text twice, and takes memory once, for a text that is one. `Form` if it is
-    /// none, and `Memory` if the allocation was refused.
+    /// Cost: reads the text twice, and takes memory once, for a text that is a name. `Form` if it is
+    /// not one, and `Memory` if the allocation was refused.
     pub fn new(alloc: Global, text: &str) -> Result<Name, CheckFault>
         ensures kept { IfOk result (λ name. name ≡ text.now) }
         ensures form { (result ≡ Err CheckFault.Form) ↔ (is_device_name text.now ≡ false) }

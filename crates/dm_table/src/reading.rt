@@ -11,7 +11,7 @@ use crate::load_fault::LoadFault;
 use crate::row_faults::FirstFaults;
 use std::alloc::Global;
 
-/// The values so far, and the faults. Of values with faults beside them nothing comes.
+/// The values so far, and the faults. Where there are faults, the values are not returned.
 #[derive(Drop)]
 pub(crate) struct Reading<T> {
     pub values: Vec<T>,

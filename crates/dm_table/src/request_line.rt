@@ -134,13 +134,13 @@ fn number_fault(text: &[u8]) -> RequestFault
     }
 }
 
-/// The request that a line of a stream says, which is line `number` of it, without its newline.
+/// The request that a line of a stream describes: line `number` of the stream, without its newline.
 ///
-/// A line says a request exactly where it is the request's text: `R` or `W`, the name of a device,
+/// A line describes a request exactly where it is the request's text: `R` or `W`, the name of a device,
 /// a start below 10^19 and a length of 1 to [`MOST_SECTORS`] sectors of 512 bytes, both in digits
-/// without a leading zero, with one space between them. A line says at most one request.
+/// without a leading zero, with one space between them. A line describes at most one request.
 ///
-/// For a line that says none it returns the first of `Form`, `Number` and `Length` that applies.
+/// For a line that describes none, it returns the first of `Form`, `Number` and `Length` that applies.
 ///
 /// Cost: no memory, and at most three passes over each field.
 pub fn parse_request<'a>(line: &'a [u8], number: u64) -> Result<Request<'a>, RequestFault>
@@ -237,8 +237,8 @@ pub(crate) fn front_behind<'a>(
 /// The request that a text begins with, and the bytes of its line without the newline: the quick
 /// way for line `number` of a stream, which is read where it stands and not cut off first.
 ///
-/// `None` says nothing of the text: the line is not whole, says no request, or none that is met this
-/// way, as at the end of a text. It is [`parse_request`] that finds its fault.
+/// `None` says nothing about the text: the line is not whole, is no request, or is one that isn't read this
+/// way, as at the end of a text. [`parse_request`] finds its fault.
 ///
 /// Cost: no memory, and one pass over each field.
 pub fn front_request<'a>(text: &'a [u8], number: u64) -> Option<(Request<'a>, usize)>

@@ -36,7 +36,7 @@ use std::alloc::{AllocError, Global};
 /// that is none, an unknown target type or wrong arguments; `Name`, no name of a device or a disk.
 /// Or `Memory`, of number 0, where an allocation was refused. The time is linear in the text.
 pub fn parse_table(alloc: Global, text: &[u8]) -> Result<Vec<DeviceSpec>, LoadFault>
-    // Accepted is what describes devices, as these, and a refusal is the first fault of the first check
+    // A text is accepted as the devices that it describes, and a refusal is the first fault of the first check
     // that finds any.
     ensures { IsParsed Source (DescribesTable text.now) (table_checks text.now) result }
 {

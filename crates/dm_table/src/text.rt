@@ -2,7 +2,7 @@
 //!
 //! An output that gathers has a text put where it gathers, so no byte of it is copied twice. A room
 //! of a fixed size is copied whole, past the end of its text: the cheapest copy, and what stands
-//! behind a text in a block is never read.
+//! after a text in a block is never read.
 
 ghost use Rattle.std.specs.Prelude.{◌≡◌, ◌++◌, ◌+◌, ◌<◌, ◌≤◌, ℕ, List, length, take, drop};
 

@@ -95,7 +95,7 @@ pub fn other_whole<S: Input, D: Input, Q: Input, W: Output, M: Output>(
         × IsTold memory_message (since (M.written messages.old) (M.written messages.new)) (M.faults messages.old) (M.faults messages.new) }
     ensures unloaded { result ≡ 6 → W.flushes output.new ≡ W.flushes output.old }
 
-    // Requests are asked for by none of these commands.
+    // None of these commands asks for requests.
     ensures unasked { IsUnchanged Q.handed Q.faults Q.ends _requests.old _requests.new }
 
     // Each input is only read on, and nothing is asked of it after an end or a fault.

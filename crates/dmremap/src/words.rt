@@ -693,7 +693,7 @@ fn has_lone_hyphen(words: &[&str]) -> bool
 
 /// The job that the words ask for, of which the first is the program's name. No file is opened.
 /// A hyphen alone, which clap would take as a value, is refused before the first `--`, whatever
-/// else the words are. DISKS that is missing, or there without need, is reported only where clap takes the
+/// else the words are. DISKS that is missing, or not needed, is reported only where clap accepts the
 /// words. A request for help is a refusal with clap's help as its text, and so are no words at all.
 /// The command line is built anew at each call, and the words are walked twice.
 pub fn read_words<'a>(alloc: Global, words: &'a [&'a str]) -> Result<Job<'a>, WordsFault>

@@ -1,4 +1,4 @@
--- The keys inside a value that stand twice.
+-- The keys inside a value that appear twice.
 use Rattle.std.specs.Prelude.{ℕ, List, []}
 use Rattle.lvm_text.specs.Checks.{twice_lines}
 use Rattle.lvm_text.specs.declared.tree.Value.{Value}

@@ -7,7 +7,7 @@ use Rattle.lvm_text.specs.Places.{Finds}
 use Rattle.lvm_text.specs.declared.tree.Entry.{Entry}
 use denote.Ref.{Bor}
 
--- a section of these entries and this index: no key stands twice in it, nor in a section inside
+-- a section of these entries and this index: no key appears twice in it, nor in a section inside
 pub record IsSection (es : List Entry) (index : BTreeMap (Bor (List ℕ)) ℕ) : Type 0 where
   pub lines : lines_agree es ≡ true
   pub finds : Finds index es

@@ -25,7 +25,7 @@ pub enum TextFault {
     /// The integer here has more than 19 digits or is 2^63 or more.
     #[error("line {0}: an integer out of range")]
     Number(u64),
-    /// A growth was refused.
+    /// An allocation was refused.
     #[error("out of memory")]
     Memory,
 }

@@ -1,5 +1,5 @@
 //! LVM2 configuration text, as vgcfgbackup(8) writes it (lvm.conf(5)).
-//! The way in is `parse`, whose clauses are what the crate promises of a text; the modules are the steps from
+//! The entry point is `parse`, whose clauses are what the crate promises of a text; the modules are the steps from
 //! bytes to a tree. To change what a text may say, change `specs/` first.
 #![tactic(auto)]
 
@@ -27,7 +27,7 @@ pub use fault::TextFault;
 use std::alloc::Global;
 pub use tree::{Node, Scalar, Section, Sections, Value};
 
-/// The tree that a text says, or its fault.
+/// The tree that a text describes, or its fault.
 ///
 /// The checks `Token`, `Syntax`, `Deep`, `Number` and `KeyTwice` are made in this order, each over the whole
 /// text, and the first that finds something returns the first line where it does. `Memory` is returned only
@@ -47,7 +47,7 @@ pub fn parse(alloc: Global, text: &str) -> Result<Section<'_>, TextFault>
     reading::read(alloc, text)
 }
 
-/// Every text says one tree or has one fault, and not both.
+/// Every text describes one tree or has one fault, and not both.
 pub fn one_answer()
     ensures every { (text : List ℕ) → ((t : Tree) × Describes text t) ⊎ ((f : TextFault) × HasFault text f) }
     ensures tree { (text : List ℕ) (t u : Tree) → Describes text t → Describes text u → t ≡ u }

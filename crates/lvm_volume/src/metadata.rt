@@ -22,9 +22,9 @@ use std::alloc::Global;
 
 /// The devices and disks that a text of LVM2 metadata describes, or why it is refused.
 ///
-/// `NotText` at the line of the first byte that is no UTF-8; else the fault of the text as `text_fault` gives it;
+/// `NotText` at the line of the first byte that is not UTF-8; otherwise the fault of the text as `text_fault` gives it;
 /// else that of the group as `VolumeGroup::read` and `VolumeGroup::tables` give it. `Memory` is returned only
-/// where a growth was refused. All places are of part `source`.
+/// where an allocation was refused. All places are of part `source`.
 ///
 /// Cost: near-linear in the text. Source: vgcfgbackup(8).
 pub fn parse_metadata(

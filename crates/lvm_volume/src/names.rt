@@ -116,7 +116,7 @@ fn joined(alloc: Global, vg: &str, lv: &str, layer: Option<&str>) -> Result<Stri
 ///
 /// The parts are checked in their order, each whether it is empty (`Empty`), has a byte that no part has
 /// (`Letter`, also for a layer that begins with an underscore) and begins with a hyphen (`HyphenFirst`); then the
-/// whole for more than 127 bytes (`Long`). `Memory` is returned only where a growth was refused.
+/// whole for more than 127 bytes (`Long`). `Memory` is returned only where an allocation was refused.
 /// Source: lvm(8), "Valid names"; which letters a part has there is this project's profile.
 pub fn build_name(alloc: Global, vg: &str, lv: &str, layer: Option<&str>) -> Result<Name, NameFault>
     ensures { Returns result (built (record { vg = vg.now; lv = lv.now; layer = option_map (λ l. l.now) layer.entry })) }

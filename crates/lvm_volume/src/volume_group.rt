@@ -65,8 +65,8 @@ impl VolumeGroup {
     /// the first place in its order, in which the segments of a volume go by their numbers: `Field` for a field that
     /// is missing or not what it may be, `Limit` for an integer above 2^50, also where extents are counted in
     /// sectors, `Name` for a physical volume whose disk gets no name, `Unknown` for a stripe of no physical volume,
-    /// `Extents` for physical volumes longer than their device and segments that lie wrong or use an extent twice.
-    /// `Memory` is returned only where a growth was refused.
+    /// `Extents` for physical volumes longer than their device and segments that are misplaced or use an extent twice.
+    /// `Memory` is returned only where an allocation was refused.
     ///
     /// Cost: near-linear in the text. Source: vgcfgbackup(8), lvm.conf(5); the limits are this project's own.
     pub fn read(alloc: Global, top: &Section<'_>) -> Result<VolumeGroup, LoadFault>

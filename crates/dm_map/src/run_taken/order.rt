@@ -17,7 +17,7 @@ use std::collections::VecDeque;
 /// How many ids a block has room for.
 const BLOCK: usize = 8192;
 
-/// A row of ids, with room for so many.
+/// A row of ids, whose room is made at the start.
 #[derive(Drop)]
 pub(crate) struct Order {
     blocks: Vec<VecDeque<u32>>,
@@ -29,7 +29,7 @@ pub(crate) struct Order {
 }
 
 impl Order {
-    /// No ids, with room for so many.
+    /// No ids, with room for `places` of them.
     pub(crate) fn with_places(alloc: Global, places: usize) -> Result<Order, AllocError>
         ensures ids { IfOk result (λ order. concat (contents order.blocks.items) ≡ []) }
         ensures len { IfOk result (λ order. order.len ≡ 0) }
@@ -63,7 +63,7 @@ impl Order {
     }
 }
 
-/// Blocks with nothing in them, with room for so many ids.
+/// Blocks with nothing in them, with room for `places` ids.
 fn empty_blocks(alloc: Global, places: usize) -> Result<Vec<VecDeque<u32>>, AllocError>
     ensures filled { IfOk result (λ blocks. Fill BLOCK 0 (contents blocks.items)) }
     ensures room { IfOk result (λ blocks. HasRoom BLOCK places (map deque_capacity blocks.items)) }

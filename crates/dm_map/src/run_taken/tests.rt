@@ -8,9 +8,9 @@ use std::test::Fail;
 struct Takes {
     name: &'static str,
     count: u64,
-    /// So many chunks in a row,
+    /// This many chunks in a row,
     row: u64,
-    /// and then so much further, modulo 65,537.
+    /// and then this much further, modulo 65,537.
     step: u64,
     runs: usize,
 }

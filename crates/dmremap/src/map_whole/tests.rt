@@ -27,7 +27,7 @@ mod snapshot_loads;
 mod snapshots;
 mod status_lines;
 
-/// More than the output of any case has. A stream moves so much a call where a case says nothing else.
+/// More than the output of any case has. A stream moves this much per call unless a case says otherwise.
 const PLENTY: usize = 4096;
 
 /// What a run is given, and what must come of it.

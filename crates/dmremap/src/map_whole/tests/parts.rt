@@ -1,8 +1,8 @@
 //! The calls that the program is made of, with ample memory: what each returns.
 //!
 //! Each call that takes memory may fail for lack of it by its contract, so a body that always fails
-//! would meet every clause: these rows refuse it. Read-only devices stand here, since no text has
-//! them yet.
+//! would meet every clause: these rows refuse it. Read-only devices are tested here, since table
+//! text has none.
 
 ghost use Rattle.std.specs.Prelude.{◌≡◌, ◌<◌, length};
 ghost use Rattle.dm_stack.specs.Description.{disk_len};

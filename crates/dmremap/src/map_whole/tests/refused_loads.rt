@@ -207,7 +207,7 @@ static DISK_LISTS: [(&str, &str); 21] = [
     ("s,a 8\nsdb x\n", "disks: field at 2"),
 ];
 
-/// Both texts, where several checks would find something: the first goes first.
+/// Both texts, where several checks would find something: the first takes precedence.
 static SEVERAL_FAULTS: [(&str, &str, &str); 9] = [
     // The source's text takes precedence over the disk list's, and both over what they describe.
     ("a,: 0 8 error\n", "\u{7f}", "source: name at 1"),

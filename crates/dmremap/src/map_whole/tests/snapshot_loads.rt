@@ -51,7 +51,7 @@ static REFUSED: [(&str, &str); 26] = [
         "s: 0 64 snapshot base /dev/mapper/s P 8\n",
         "source: cycle at 1",
     ),
-    // Ranges go before snapshots, and these before stores, over all devices.
+    // Ranges take precedence over snapshots, and these over stores, over all devices.
     (
         "s: 0 64 snapshot base cow P 3\na: 0 65 linear base 0\n",
         "source: range at 2",
