@@ -13,7 +13,7 @@ use crate::tables::empty_tables;
 use dm_stack::MOST_DEPTH;
 use dm_table::parse_request;
 
-/// Lines of all targets, stripes over one of them and a disk, and a device over the stripes.
+/// Lines of all targets but snapshots, stripes over one of them and a disk, and a device over the stripes.
 const TABLE: &str = "a: 0 4 linear sda 10\na: 4 2 zero\na: 6 2 error\n\
     b: 0 8 striped 2 2 /dev/mapper/a 2 sdb 0\nc: 0 3 linear /dev/mapper/b 1\n";
 

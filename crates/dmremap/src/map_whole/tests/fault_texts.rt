@@ -4,6 +4,7 @@
 
 use super::*;
 use dm_map::MapFault;
+use dm_replay::ReplayFault;
 use dm_table::{CheckFault, InFault, LoadFault, LoadKind, OutFault, Part, Place, RequestFault};
 use std::fmt::Display;
 
@@ -89,4 +90,18 @@ fn faults_of_a_mapper(rt: HostRuntime) {
     );
     let stopped: MapFault<OutFault> = MapFault::Stopped;
     check_text(&rt, rt.alloc(), &stopped, "stopped by an earlier fault");
+}
+
+static REPLAY_FAULTS: [(ReplayFault, &str); 4] = [
+    (ReplayFault::Untidy, "untidy"),
+    (ReplayFault::Memory, "memory"),
+    (ReplayFault::NotTop, "not top"),
+    (ReplayFault::Stopped, "stopped"),
+];
+
+#[test]
+fn faults_of_a_replay(rt: HostRuntime) {
+    for &(fault, text) in &REPLAY_FAULTS {
+        check_text(&rt, rt.alloc(), &fault, text);
+    }
 }
