@@ -55,7 +55,7 @@ use std::alloc::Global;
 /// its first fault. No memory is taken once the load is done.
 ///
 /// Cost: near-linear in the source and the disk list; then in the requests, and for each request
-/// in its stretches, times the binary digits of the number of lines of a device that they go through.
+/// in its stretches times the binary digits of the line counts of the devices that they go through.
 pub fn map_whole<S: Input, D: Input, Q: Input, W: Output, M: Output>(
     alloc: Global,
     format: Format,
