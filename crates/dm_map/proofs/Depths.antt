@@ -6,8 +6,8 @@ use Rattle.std.proofs.lemmas.Bool.{cases_lt}
 use Rattle.std.proofs.lemmas.Option.{get_or_from_slice_get, slice_get-map, slice_get_past}
 use Rattle.dm_table.specs.declared.table.DeviceSpec.{DeviceSpec}
 use Rattle.dm_table.specs.declared.table.Line.{Line}
-use Rattle.dm_stack.specs.declared.found.FoundLine.{FoundLine}
-use Rattle.dm_stack.specs.declared.found.FoundSnapshot.{FoundSnapshot}
+use Rattle.dm_stack.specs.declared.found_line.FoundLine.{FoundLine}
+use Rattle.dm_stack.specs.declared.found_line.FoundSnapshot.{FoundSnapshot}
 use Rattle.dm_stack.specs.declared.id.Lower.{Lower}
 use Rattle.dm_stack.specs.declared.id.Lower.TheVariants.{Device, Disk}
 use Rattle.dm_stack.specs.Below.{Below, Lies, below_target, found_at, found_line, holds, line_of}

@@ -4,10 +4,10 @@ use Rattle.std.specs.Prelude.{option_map, nat_le, nat_lt}
 use Rattle.std.proofs.lemmas.Bool.{and_parts, cases_lt, ltb-true}
 use Rattle.std.proofs.lemmas.Option.{slice_get_past}
 use Rattle.dm_table.specs.declared.table.Line.{Line}
-use Rattle.dm_stack.specs.declared.found.FoundLine.{FoundLine}
-use Rattle.dm_stack.specs.declared.found.FoundSnapshot.{FoundSnapshot}
-use Rattle.dm_stack.specs.declared.found.FoundTarget.{FoundTarget}
-use Rattle.dm_stack.specs.declared.found.FoundTarget.TheVariants as founds
+use Rattle.dm_stack.specs.declared.found_line.FoundLine.{FoundLine}
+use Rattle.dm_stack.specs.declared.found_line.FoundSnapshot.{FoundSnapshot}
+use Rattle.dm_stack.specs.declared.found_line.FoundTarget.{FoundTarget}
+use Rattle.dm_stack.specs.declared.found_line.FoundTarget.TheVariants as founds
 use Rattle.dm_stack.specs.Below.{found_at, found_line, holds, line_of, HoldsSoundly, IsSnapshotSound, IsTargetSound}
 use Rattle.dm_stack.specs.Description.{Description, device_len, end_of, lines_or_none}
 use Rattle.dm_stack.specs.Soundness.{IsSound}

@@ -1,6 +1,6 @@
 -- Homes of a store's sectors: a way leads there, and no other way does.
 use Rattle.std.proofs.Common.{◌≡◌, ℕ, zero, suc, ◌/◌, ◌<◌, true, Some, refl, sym, ap, subst, ◌∙◌}
-use Rattle.dm_stack.specs.declared.found.FoundSnapshot.{FoundSnapshot}
+use Rattle.dm_stack.specs.declared.found_line.FoundSnapshot.{FoundSnapshot}
 use Rattle.dm_stack.specs.declared.graph.TheConstants.{MOST_DEPTH}
 use Rattle.dm_stack.specs.declared.id.Lower.{Lower}
 use Rattle.dm_stack.specs.declared.id.Lower.TheVariants.{Device, Disk}

@@ -2,11 +2,11 @@
 use Rattle.std.proofs.Common.{◌≡◌, ℕ, ◌+◌, ◌-◌, ◌/◌, Bool, true, false, cond, List, [], ◌∷◌, Option, Some, None, length, refl, sym, subst, arith}
 use Rattle.std.specs.Prelude.{slice_get}
 use Rattle.dm_stack.specs.declared.id.Lower.{Lower}
-use Rattle.dm_stack.specs.declared.found.FoundColumn.{FoundColumn}
-use Rattle.dm_stack.specs.declared.found.FoundLine.{FoundLine}
-use Rattle.dm_stack.specs.declared.found.FoundSnapshot.{FoundSnapshot}
-use Rattle.dm_stack.specs.declared.found.FoundTarget.{FoundTarget}
-use Rattle.dm_stack.specs.declared.found.FoundTarget.TheVariants as founds
+use Rattle.dm_stack.specs.declared.found_line.FoundColumn.{FoundColumn}
+use Rattle.dm_stack.specs.declared.found_line.FoundLine.{FoundLine}
+use Rattle.dm_stack.specs.declared.found_line.FoundSnapshot.{FoundSnapshot}
+use Rattle.dm_stack.specs.declared.found_line.FoundTarget.{FoundTarget}
+use Rattle.dm_stack.specs.declared.found_line.FoundTarget.TheVariants as founds
 use Rattle.dm_stack.specs.Below.{Lies, IsError, below, below_column, below_line, below_target, column_of, found_at, in_column}
 use Rattle.dm_stack.specs.Description.{Description}
 use Rattle.dm_stack.specs.Soundness.{IsSound}

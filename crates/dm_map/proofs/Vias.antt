@@ -9,11 +9,11 @@ use Rattle.dm_table.specs.declared.table.DevRef.{DevRef}
 use Rattle.dm_table.specs.declared.table.Line.{Line}
 use Rattle.dm_table.specs.declared.table.Target.{Target}
 use Rattle.dm_table.specs.declared.table.Target.TheVariants as targets
-use Rattle.dm_stack.specs.declared.found.FoundColumn.{FoundColumn}
-use Rattle.dm_stack.specs.declared.found.FoundLine.{FoundLine}
-use Rattle.dm_stack.specs.declared.found.FoundSnapshot.{FoundSnapshot}
-use Rattle.dm_stack.specs.declared.found.FoundTarget.{FoundTarget}
-use Rattle.dm_stack.specs.declared.found.FoundTarget.TheVariants as founds
+use Rattle.dm_stack.specs.declared.found_line.FoundColumn.{FoundColumn}
+use Rattle.dm_stack.specs.declared.found_line.FoundLine.{FoundLine}
+use Rattle.dm_stack.specs.declared.found_line.FoundSnapshot.{FoundSnapshot}
+use Rattle.dm_stack.specs.declared.found_line.FoundTarget.{FoundTarget}
+use Rattle.dm_stack.specs.declared.found_line.FoundTarget.TheVariants as founds
 use Rattle.dm_stack.specs.declared.id.Lower.{Lower}
 use Rattle.dm_stack.specs.Below.{AreStripes, IsTargetSound, column_of, found_at, found_columns, found_line, found_target, holds, line_of}
 use Rattle.dm_stack.specs.Claims.{span_end}

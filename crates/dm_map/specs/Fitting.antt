@@ -1,6 +1,6 @@
 -- States that a stack can be in.
 use Rattle.std.specs.Prelude.{ℕ, ◌≡◌, ◌<◌, true, Some, length}
-use Rattle.dm_stack.specs.declared.found.FoundSnapshot.{FoundSnapshot}
+use Rattle.dm_stack.specs.declared.found_line.FoundSnapshot.{FoundSnapshot}
 use Rattle.dm_stack.specs.Description.{Description}
 use Rattle.dm_map.specs.SnapshotWrites.{has_place}
 use Rattle.dm_map.specs.State.{State, taken_at}

@@ -4,9 +4,9 @@ use Rattle.std.specs.Cmp.Lexicographic.{pointwise}
 use Rattle.dm_stack.specs.declared.graph.TheConstants.{MOST_DEPTH}
 use Rattle.dm_stack.specs.declared.id.Lower.{Lower}
 use Rattle.dm_stack.specs.declared.id.Lower.TheVariants.{Device, Disk}
-use Rattle.dm_stack.specs.declared.found.FoundLine.{FoundLine}
-use Rattle.dm_stack.specs.declared.found.FoundTarget.{FoundTarget}
-use Rattle.dm_stack.specs.declared.found.FoundTarget.TheVariants as found
+use Rattle.dm_stack.specs.declared.found_line.FoundLine.{FoundLine}
+use Rattle.dm_stack.specs.declared.found_line.FoundTarget.{FoundTarget}
+use Rattle.dm_stack.specs.declared.found_line.FoundTarget.TheVariants as found
 use Rattle.dm_stack.specs.Description.{Description, device_len}
 use Rattle.dm_stack.specs.Below.{below_target, found_at}
 use Rattle.dm_map.specs.Reads.{by_below}
@@ -23,11 +23,9 @@ pub record PathStep : Type 0 where
 
 -- the chunk that has a sector at a distance from the line's start
 abbrev pub chunk_at : FoundTarget → (distance : ℕ) → Option ℕ
-chunk_at (found.Linear to offset) distance = None
 chunk_at (found.Striped chunk columns) distance = Some (distance / chunk)
-chunk_at found.Zero distance = None
-chunk_at found.Error distance = None
 chunk_at (found.Snapshot snapshot) distance = Some (distance / snapshot.chunk)
+chunk_at _ distance = None
 
 -- the step of a line, and the path of what lies below: none below zeros, errors and a snapshot that isn't valid
 abbrev pub line_path : State → (device : ℕ) → FoundLine → (distance : ℕ) → (next : Lower → ℕ → List PathStep) → List PathStep

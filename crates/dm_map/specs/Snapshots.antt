@@ -1,6 +1,6 @@
 -- Where a snapshot's sectors are read (the kernel's admin guide, device-mapper/snapshot, and its exception store).
 use Rattle.std.specs.Prelude.{ℕ, suc, ◌+◌, ◌*◌, ◌/◌, ◌%◌, ◌==◌, List, [], ◌∷◌, Option, Some, None, option_map, if◌then◌else◌}
-use Rattle.dm_stack.specs.declared.found.FoundSnapshot.{FoundSnapshot}
+use Rattle.dm_stack.specs.declared.found_line.FoundSnapshot.{FoundSnapshot}
 use Rattle.dm_stack.specs.Below.{Below, Lies, IsError}
 use Rattle.dm_stack.specs.Places.{place}
 use Rattle.dm_map.specs.State.{Taken}

@@ -1,9 +1,9 @@
 -- Tables of taken chunks, one for each device of a stack, as a state.
 use Rattle.std.specs.Prelude.{ℕ, ◌≡◌, Bool, false, List, Option, Some, None, length, map, nat_lt, slice_get}
-use Rattle.dm_stack.specs.declared.found.FoundLine.{FoundLine}
-use Rattle.dm_stack.specs.declared.found.FoundSnapshot.{FoundSnapshot}
-use Rattle.dm_stack.specs.declared.found.FoundTarget.{FoundTarget}
-use Rattle.dm_stack.specs.declared.found.FoundTarget.TheVariants as found
+use Rattle.dm_stack.specs.declared.found_line.FoundLine.{FoundLine}
+use Rattle.dm_stack.specs.declared.found_line.FoundSnapshot.{FoundSnapshot}
+use Rattle.dm_stack.specs.declared.found_line.FoundTarget.{FoundTarget}
+use Rattle.dm_stack.specs.declared.found_line.FoundTarget.TheVariants as found
 use Rattle.dm_stack.specs.Description.{Description}
 use Rattle.dm_stack.specs.Below.{found_at}
 use Rattle.dm_map.specs.SnapshotWrites.{has_place}
@@ -15,11 +15,8 @@ state_of chunks valid tables = map (λ table. record { chunks = chunks table; va
 
 -- the snapshot that a device is, by its line at sector 0
 abbrev pub snapshot_of : FoundTarget → Option FoundSnapshot
-snapshot_of (found.Linear to offset) = None
-snapshot_of (found.Striped chunk columns) = None
-snapshot_of found.Zero = None
-snapshot_of found.Error = None
 snapshot_of (found.Snapshot snapshot) = Some snapshot
+snapshot_of _ = None
 
 abbrev pub snapshot_in : Option FoundLine → Option FoundSnapshot
 snapshot_in (Some line) = snapshot_of line.target

@@ -1,6 +1,6 @@
 -- How much of a snapshot's store is used (the kernel's admin guide, device-mapper/snapshot, status).
 use Rattle.std.specs.Prelude.{ℕ, ◌+◌, ◌*◌, ◌/◌, length}
-use Rattle.dm_stack.specs.declared.found.FoundSnapshot.{FoundSnapshot}
+use Rattle.dm_stack.specs.declared.found_line.FoundSnapshot.{FoundSnapshot}
 use Rattle.dm_stack.specs.Description.{Description, lower_len}
 use Rattle.dm_stack.specs.Places.{place}
 use Rattle.dm_map.specs.declared.usage.Usage.{Usage}

@@ -4,9 +4,9 @@ use Rattle.dm_table.specs.declared.request.Op.{Op}
 use Rattle.dm_table.specs.declared.request.Op.TheVariants as ops
 use Rattle.dm_table.specs.DeviceIo.{fault_of}
 use Rattle.dm_stack.specs.declared.id.Lower.{Lower}
-use Rattle.dm_stack.specs.declared.found.FoundColumn.{FoundColumn}
-use Rattle.dm_stack.specs.declared.found.FoundSnapshot.{FoundSnapshot}
-use Rattle.dm_stack.specs.declared.found.FoundTarget.{FoundTarget}
+use Rattle.dm_stack.specs.declared.found_line.FoundColumn.{FoundColumn}
+use Rattle.dm_stack.specs.declared.found_line.FoundSnapshot.{FoundSnapshot}
+use Rattle.dm_stack.specs.declared.found_line.FoundTarget.{FoundTarget}
 use Rattle.dm_stack.specs.Description.{Description, device_len, is_ro_at, lower_len}
 use Rattle.dm_stack.specs.Below.{Below, Lies, below_stripes, below_target, column_of, AreStripes, IsSnapshotSound}
 use Rattle.dm_map.specs.declared.chunk.ReadPlace.{ReadPlace}
@@ -87,6 +87,14 @@ pub record IsWalked {S F : Type 0} (takes leaves : S → List BlockUnit → S �
   pub faults : faults_of new ≡ faults_of old + fault_of result
   pub stack : after.stack ≡ before.stack
   pub looked : AreAdded before.looked after.looked
+
+-- a sink took these units of a piece of len sectors without a disk, or failed at them
+pub record IsHanded {S F : Type 0} (takes leaves : S → List BlockUnit → S → Type 0) (stack_of : S → Description) (room_of faults_of : S → ℕ) (result : Result (Unit {0}) F) (old new : S) (units : List BlockUnit) (len : ℕ) : Type 0 where
+  pub took : OnOk result (takes old units new)
+  pub left : OnErr result (leaves old units new)
+  pub faults : faults_of new ≡ faults_of old + fault_of result
+  pub stack : OnOk result (stack_of new ≡ stack_of old)
+  pub room : OnOk result (room_of old ≤ room_of new + len)
 
 -- the place in stripes of a sector at a distance from the line's start
 pub record IsPlace (chunk count distance : ℕ) (place : ChunkPlace) : Type 0 where

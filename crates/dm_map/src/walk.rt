@@ -12,14 +12,14 @@ ghost use Rattle.dm_stack.specs.Below.{found_at, IsTargetSound};
 ghost use Rattle.dm_stack.specs.Description.{Description, device_len, lower_len};
 ghost use Rattle.dm_stack.specs.Loaded.{lower_depth};
 ghost use Rattle.dm_stack.specs.Soundness.{depth_of};
-ghost use Rattle.dm_stack.specs.declared.found.FoundTarget.TheVariants.{Snapshot, Striped};
+ghost use Rattle.dm_stack.specs.declared.found_line.FoundTarget.TheVariants.{Snapshot, Striped};
 ghost use Rattle.dm_stack.specs.declared.id.Lower.TheVariants.{Device};
 ghost use Rattle.dm_map.specs.Bound.{IsBounded, IsLineBounded, IsTargetBounded};
 ghost use Rattle.dm_map.specs.Path.{path};
 ghost use Rattle.dm_map.specs.SnapshotWrites.{write_snapshot};
 ghost use Rattle.dm_map.specs.Steps.{steps};
 ghost use Rattle.dm_map.specs.Units.{Fails, diskless_len, piece_len, units_in, units_of, IsOnDisk, IsOnDisks};
-ghost use Rattle.dm_map.specs.Walk.{disk_unit, zero_unit, refuses, range_step, line_step, stripes_step, AreInChunk, AreInSnapshot, AreInStripes, IsReady, IsWalked};
+ghost use Rattle.dm_map.specs.Walk.{disk_unit, zero_unit, refuses, range_step, line_step, stripes_step, AreInChunk, AreInSnapshot, AreInStripes, IsHanded, IsReady, IsWalked};
 
 use crate::chunk::{part_of_chunk, read_place};
 use crate::piece::Piece;
@@ -262,11 +262,7 @@ fn write_chunk<S: Sink, T: Taken>(
 pub(crate) fn fail<S: Sink>(len: u64, sink: &mut S) -> Result<(), S::Fault>
     requires some { 1 ≤ len }
     requires room { len ≤ S.room sink.old }
-    ensures took { OnOk result (S.took sink.old (units_in Fails len) sink.new) }
-    ensures left { OnErr result (S.left sink.old (units_in Fails len) sink.new) }
-    ensures faults { S.faults sink.new ≡ S.faults sink.old + fault_of result }
-    ensures stack { OnOk result (S.stack sink.new ≡ S.stack sink.old) }
-    ensures room { OnOk result (S.room sink.old ≤ S.room sink.new + len) }
+    ensures { IsHanded S.took S.left S.stack S.room S.faults result sink.old sink.new (units_in Fails len) len }
 {
     sink.piece(Piece::Error { len })
 }
@@ -276,11 +272,7 @@ pub(crate) fn fail<S: Sink>(len: u64, sink: &mut S) -> Result<(), S::Fault>
 fn hand_zeros<S: Sink>(op: Op, len: u64, sink: &mut S) -> Result<(), S::Fault>
     requires some { 1 ≤ len }
     requires room { len ≤ S.room sink.old }
-    ensures took { OnOk result (S.took sink.old (units_in (zero_unit op) len) sink.new) }
-    ensures left { OnErr result (S.left sink.old (units_in (zero_unit op) len) sink.new) }
-    ensures faults { S.faults sink.new ≡ S.faults sink.old + fault_of result }
-    ensures stack { OnOk result (S.stack sink.new ≡ S.stack sink.old) }
-    ensures room { OnOk result (S.room sink.old ≤ S.room sink.new + len) }
+    ensures { IsHanded S.took S.left S.stack S.room S.faults result sink.old sink.new (units_in (zero_unit op) len) len }
 {
     sink.piece(zero_piece(op, len))
 }

@@ -11,7 +11,7 @@ use Rattle.dm_table.specs.LoadFault.{faults_by}
 use Rattle.dm_table.specs.declared.load_fault.LoadKind.TheVariants.{Limit}
 use Rattle.dm_table.specs.declared.table.DeviceSpec.{DeviceSpec}
 use Rattle.dm_table.specs.declared.table.Line.{Line}
-use Rattle.dm_stack.specs.declared.found.FoundLine.{FoundLine}
+use Rattle.dm_stack.specs.declared.found_line.FoundLine.{FoundLine}
 use Rattle.dm_stack.specs.Below.{found_at, found_line, found_lines, line_of}
 use Rattle.dm_stack.specs.Description.{Description, device_len, end_of, lines_at}
 use Rattle.dm_stack.specs.LineSearch.{EndsAt, StartsAfter, StartsBy, binary_digits, digits_to}

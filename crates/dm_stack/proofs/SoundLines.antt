@@ -14,7 +14,7 @@ use Rattle.dm_table.specs.declared.table.Line.{Line}
 use Rattle.dm_table.specs.declared.table.DeviceSpec.{DeviceSpec}
 use Rattle.dm_table.specs.declared.disk.Disk.{Disk}
 use Rattle.dm_table.specs.declared.load_fault.LoadKind.TheVariants.{Limit, Empty, Stripe, Range, Snapshot, Store}
-use Rattle.dm_stack.specs.declared.found.FoundLine.{FoundLine}
+use Rattle.dm_stack.specs.declared.found_line.FoundLine.{FoundLine}
 use Rattle.dm_stack.specs.Description.{Description, lines_at, lines_or_none, end_of, device_len, lower_len, lower_of}
 use Rattle.dm_stack.specs.Below.{holds, line_of, found_line, found_columns, found_target, found_at, LiesIn, AreStripes, IsSnapshotSound, IsTargetSound, HoldsSoundly}
 use Rattle.dm_stack.specs.Soundness.{all_lines, is_large, without_lines, empty_in, misplaced_in, is_bad_chunk, is_bad_snapshot, is_bad_stripe, has_bad_store, has_bad_stripes, is_past, passes_end, snapshot_in, HaveSmallEnds, IsSound}

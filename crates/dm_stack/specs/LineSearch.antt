@@ -1,6 +1,6 @@
 -- The line of a sector, found by the starts of lines.
 use Rattle.std.specs.Prelude.{◌≡◌, ℕ, zero, suc, ◌+◌, ◌/◌, ◌==◌, ◌≤◌, ◌<◌, ⊤, List, MatchOption, length, slice_get, if◌then◌else◌}
-use Rattle.dm_stack.specs.declared.found.FoundLine.{FoundLine}
+use Rattle.dm_stack.specs.declared.found_line.FoundLine.{FoundLine}
 
 -- there is a line at an index, and it starts at a sector or before it
 abbrev pub StartsBy : List FoundLine → (index sector : ℕ) → Type 0

@@ -5,7 +5,7 @@
 ghost use Rattle.std.specs.Prelude.{◌≡◌, IfOk, length};
 
 use crate::divisor::Divisor;
-use crate::found::FoundColumn;
+use crate::found_line::FoundColumn;
 use dm_table::Listed;
 use std::alloc::{AllocError, Global};
 use std::marker::Model;
@@ -26,7 +26,7 @@ struct Counted {
 impl Model for FoundColumns {
     ghost use Rattle.std.specs.Prelude.{◌≡◌, List, length};
     ghost use Rattle.std.specs.Box.{box_value};
-    ghost use Rattle.dm_stack.specs.declared.found.FoundColumn.{FoundColumn};
+    ghost use Rattle.dm_stack.specs.declared.found_line.FoundColumn.{FoundColumn};
 
     ghost Value = { List FoundColumn };
 

@@ -8,7 +8,7 @@
 ghost use Rattle.std.specs.Prelude.{◌≡◌, ◌+◌, ◌-◌, ◌<◌, length, true};
 ghost use Rattle.dm_stack.specs.LineSearch.{EndsAt, Finds, StartsAfter, StartsBy};
 
-use crate::found::FoundLine;
+use crate::found_line::FoundLine;
 
 /// The index of a line that starts at the sector or before it, where the next one starts after it,
 /// and how many starts were compared with the sector.

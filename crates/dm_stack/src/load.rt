@@ -16,7 +16,7 @@ ghost use Rattle.dm_stack.specs.Store.{store_links};
 
 use crate::depth::{deep, deepest};
 use crate::disk_text::{DiskText, disk_texts};
-use crate::found::FoundTable;
+use crate::found_line::FoundTable;
 use crate::graph::{depths, first_cycle};
 use crate::id::DeviceId;
 use crate::indexed::Indexed;

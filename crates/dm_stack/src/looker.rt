@@ -10,7 +10,7 @@ ghost use Rattle.dm_stack.specs.Loaded.{next_count, snapshots, stack_depth, AreS
 ghost use Rattle.dm_stack.specs.Soundness.{IsSound};
 ghost use Rattle.dm_stack.specs.LineSearch.{binary_digits};
 
-use crate::found::Found;
+use crate::found_line::Found;
 use crate::id::{DeviceId, DiskId};
 use crate::stack::Stack;
 use std::marker::Model;

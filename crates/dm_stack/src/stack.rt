@@ -23,7 +23,7 @@ ghost use Rattle.dm_table.specs.declared.place.Part.TheVariants.{Source};
 use crate::claim::{claims, is_named};
 use crate::clash::Clash;
 use crate::disk_text::DiskText;
-use crate::found::{Found, FoundLine, FoundTable};
+use crate::found_line::{Found, FoundLine, FoundTable};
 use crate::id::{DeviceId, DiskId};
 use crate::indexed::Indexed;
 use crate::layout::end_of;

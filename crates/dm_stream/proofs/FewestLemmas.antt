@@ -4,11 +4,11 @@ use Rattle.std.specs.List.{flat_map, AllByRecursion}
 use Rattle.std.proofs.lemmas.List.{append-nil}
 use Rattle.dm_map.specs.Units.{BlockUnit, next_unit, units_in}
 use Rattle.dm_stream.specs.JoinLaws.{onto_begins}
-use Rattle.dm_stream.specs.Pieces.{Piece, piece_units, joins, is_after, onto, fewest, ArePiecesOf, AreApart, AreFewest}
+use Rattle.dm_stream.specs.Pieces.{UnitRun, piece_units, joins, is_after, onto, fewest, ArePiecesOf, AreApart, AreFewest}
 use Rattle.dm_stream.proofs.PieceLemmas.{joins-next, joined_next, is_after-one, is_after-more, onto-joined, fewest-apart, fewest-run}
 
 -- a unit before pieces: the units, the lengths and the number of the pieces that come of it
-record AddsUnit (unit : BlockUnit) (old new : List Piece) : Type 0 where
+record AddsUnit (unit : BlockUnit) (old new : List UnitRun) : Type 0 where
   flatten : flat_map piece_units new ≡ unit ∷ flat_map piece_units old
   each : AllByRecursion (λ piece. 0 < piece.len) old → AllByRecursion (λ piece. 0 < piece.len) new
   apart : AreApart old → AreApart new
@@ -18,15 +18,15 @@ some_len : (len : ℕ) → 0 < suc len
 some_len len = omega arith
 
 -- pieces stay apart where the first of them is lengthened at its front
-apart-longer : (unit first : BlockUnit) (len : ℕ) (pieces : List Piece) → first ≡ next_unit unit → AreApart (record { first = first; len = len } ∷ pieces) → AreApart (record { first = unit; len = suc len } ∷ pieces)
+apart-longer : (unit first : BlockUnit) (len : ℕ) (pieces : List UnitRun) → first ≡ next_unit unit → AreApart (record { first = first; len = len } ∷ pieces) → AreApart (record { first = unit; len = suc len } ∷ pieces)
 apart-longer unit first len [] e h = tt
 apart-longer unit first len (next ∷ pieces) e h = (is_after-more unit len next.first ∙ ap (λ (u : BlockUnit). is_after u len next.first) (sym e) ∙ h.0, h.1)
 
-onto_adds : (unit : BlockUnit) (pieces : List Piece) → AddsUnit unit pieces (onto unit pieces)
+onto_adds : (unit : BlockUnit) (pieces : List UnitRun) → AddsUnit unit pieces (onto unit pieces)
 onto_adds unit [] = record { flatten = refl; each = λ h. (some_len 0, tt); apart = λ h. tt; most = omega arith }
 onto_adds unit (piece ∷ pieces) =
-    let longer : List Piece = record { first = unit; len = suc piece.len } ∷ pieces in
-    let beside : List Piece = record { first = unit; len = 1 } ∷ piece ∷ pieces in
+    let longer : List UnitRun = record { first = unit; len = suc piece.len } ∷ pieces in
+    let beside : List UnitRun = record { first = unit; len = 1 } ∷ piece ∷ pieces in
     let P : Bool → Type 0 = λ b. joins unit piece.first ≡ b → AddsUnit unit (piece ∷ pieces) (cond b longer beside) in
     (elim (joins unit piece.first) as P [
       | true ↦ λ e. record {
@@ -51,17 +51,17 @@ fewest_apart [] = tt
 fewest_apart (unit ∷ units) = (onto_adds unit (fewest units)).apart (fewest_apart units)
 
 -- one piece before others of which the first does not go on from it
-fewest-before : (first : BlockUnit) (len : ℕ) (next : Piece) (rest : List BlockUnit) (pieces : List Piece) → 0 < len → 0 < next.len → is_after first len next.first ≡ false → fewest (piece_units next ++ rest) ≡ pieces → fewest (units_in first len ++ (piece_units next ++ rest)) ≡ record { first = first; len = len } ∷ pieces
+fewest-before : (first : BlockUnit) (len : ℕ) (next : UnitRun) (rest : List BlockUnit) (pieces : List UnitRun) → 0 < len → 0 < next.len → is_after first len next.first ≡ false → fewest (piece_units next ++ rest) ≡ pieces → fewest (units_in first len ++ (piece_units next ++ rest)) ≡ record { first = first; len = len } ∷ pieces
 fewest-before first zero next rest pieces some next_some apart e = absurd (omega (arith, some))
 fewest-before first (suc len) next rest pieces some next_some apart e =
     let P : ℕ → Type 0 = λ n. 0 < n → fewest (units_in next.first n ++ rest) ≡ pieces → fewest (units_in first (suc len) ++ (units_in next.first n ++ rest)) ≡ record { first = first; len = suc len } ∷ pieces in
     (elim next.len as P [
       | zero ↦ λ none f. absurd (omega (arith, none))
-      | suc n ↦ λ one f. fewest-apart first len next.first (units_in (next_unit next.first) n ++ rest) apart ∙ ap (λ (ps : List Piece). record { first = first; len = suc len } ∷ ps) f
+      | suc n ↦ λ one f. fewest-apart first len next.first (units_in (next_unit next.first) n ++ rest) apart ∙ ap (λ (ps : List UnitRun). record { first = first; len = suc len } ∷ ps) f
     ]) next_some e
 
 -- pieces that are apart are the fewest of their units
-fewest_only : (pieces : List Piece) → AllByRecursion (λ piece. 0 < piece.len) pieces → AreApart pieces → fewest (flat_map piece_units pieces) ≡ pieces
+fewest_only : (pieces : List UnitRun) → AllByRecursion (λ piece. 0 < piece.len) pieces → AreApart pieces → fewest (flat_map piece_units pieces) ≡ pieces
 fewest_only [] some apart = refl
 fewest_only (piece ∷ []) some apart =
     let P : ℕ → Type 0 = λ n. 0 < n → fewest (units_in piece.first n ++ []) ≡ record { first = piece.first; len = n } ∷ [] in
@@ -69,10 +69,10 @@ fewest_only (piece ∷ []) some apart =
 fewest_only (piece ∷ next ∷ pieces) some apart =
     fewest-before piece.first piece.len next (flat_map piece_units pieces) (next ∷ pieces) some.0 some.1.0 apart.0 (fewest_only (next ∷ pieces) some.1 apart.1)
 
-fewest_only_of : (units : List BlockUnit) (pieces : List Piece) → ArePiecesOf units pieces → AreApart pieces → pieces ≡ fewest units
+fewest_only_of : (units : List BlockUnit) (pieces : List UnitRun) → ArePiecesOf units pieces → AreApart pieces → pieces ≡ fewest units
 fewest_only_of units pieces are apart = sym (ap fewest (sym are.flatten) ∙ fewest_only pieces are.each apart)
 
--- one piece more is needed for units that go on from one another, at the most
+-- one piece more is needed for consecutive units, at the most
 one_more : (unit : BlockUnit) (len : ℕ) (rest : List BlockUnit) → length (fewest (units_in unit (suc len) ++ rest)) ≤ suc (length (fewest rest))
 one_more unit zero rest = (onto_adds unit (fewest rest)).most
 one_more unit (suc len) rest =
@@ -83,14 +83,14 @@ one_more unit (suc len) rest =
     omega (arith, later, ap length joined, ap length begins.is)
 
 -- so no other pieces of the units are fewer
-fewest_least : (pieces : List Piece) → AllByRecursion (λ piece. 0 < piece.len) pieces → length (fewest (flat_map piece_units pieces)) ≤ length pieces
+fewest_least : (pieces : List UnitRun) → AllByRecursion (λ piece. 0 < piece.len) pieces → length (fewest (flat_map piece_units pieces)) ≤ length pieces
 fewest_least [] h = omega arith
 fewest_least (piece ∷ pieces) h =
     let later = fewest_least pieces h.1 in
     let P : ℕ → Type 0 = λ len. 0 < len → length (fewest (units_in piece.first len ++ flat_map piece_units pieces)) ≤ suc (length pieces) in
     (elim piece.len as P [ zero ↦ λ none. absurd (omega arith) | suc len ↦ λ some. omega (arith, one_more piece.first len (flat_map piece_units pieces), later) ]) h.0
 
-fewest_of : (units : List BlockUnit) (pieces : List Piece) → ArePiecesOf units pieces → length (fewest units) ≤ length pieces
+fewest_of : (units : List BlockUnit) (pieces : List UnitRun) → ArePiecesOf units pieces → length (fewest units) ≤ length pieces
 fewest_of units pieces are = subst (λ (us : List BlockUnit). length (fewest us) ≤ length pieces) are.flatten (fewest_least pieces are.each)
 
 pub fewest_is : (units : List BlockUnit) → AreFewest units (fewest units)

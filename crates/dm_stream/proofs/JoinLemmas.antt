@@ -9,7 +9,8 @@ use Rattle.dm_map.specs.Units.{BlockUnit, first_unit, next_unit, piece_len, unit
 use Rattle.dm_stream.specs.Pending.{Pending, IsHeld, held_units, piece_view}
 use Rattle.dm_stream.specs.Join.{HasUnits, HasLeft}
 use Rattle.dm_stream.specs.JoinLaws.{last_of_units, some_before, beginning-before}
-use Rattle.dm_stream.specs.Pieces.{Piece, all_but_last, fewest, is_after}
+use Rattle.dm_stream.specs.Pieces.{UnitRun, fewest, is_after}
+use Rattle.dm_table.specs.Fields.{all_but_last}
 use Rattle.dm_stream.specs.PieceText.{piece_text, pieces_text}
 use Rattle.dm_table.specs.WriteAll.{IsBeginning, IsCutShort}
 use Rattle.dm_stream.proofs.PieceLemmas.{fewest-apart, fewest-run, units_joined}
@@ -21,7 +22,7 @@ fewest-whole first after (suc len) zero rest some one apart = absurd (omega arit
 fewest-whole first after (suc len) (suc more) rest some one apart =
     ap fewest (append_assoc (units_in first (suc len)) (units_in after (suc more)) rest)
     ∙ fewest-apart first len after (units_in (next_unit after) more ++ rest) apart
-    ∙ ap (λ (ps : List Piece). ps ++ fewest (units_in after (suc more) ++ rest)) (sym (fewest-run first len))
+    ∙ ap (λ (ps : List UnitRun). ps ++ fewest (units_in after (suc more) ++ rest)) (sym (fewest-run first len))
 
 -- the held piece and one that does not go on from it
 pub held_apart : (old : Option code.Piece) (held piece : code.Piece) → old ≡ Some held → 1 ≤ piece_len held → 1 ≤ piece_len piece → is_after (first_unit held) (piece_len held) (first_unit piece) ≡ false
@@ -66,7 +67,7 @@ left_apart old mid new piece w0 w1 some same emptied apart cut appends = record 
   some = some_units (first_unit piece) (piece_len piece) some;
   beginning = λ rest.
       subst (λ (xs : List ℕ). IsBeginning xs (since w0 w1))
-      (sym (ap (λ (ps : List Piece). pieces_text old.stack old.number (all_but_last ps)) (apart rest)
+      (sym (ap (λ (ps : List UnitRun). pieces_text old.stack old.number (all_but_last ps)) (apart rest)
       ∙ ap (pieces_text old.stack old.number) (last_of_units (fewest (held_units old.piece)) (units_of piece ++ rest) (some_before (units_of piece) rest (some_units (first_unit piece) (piece_len piece) some)))
       ∙ flat_map-append (piece_text old.stack old.number) (fewest (held_units old.piece)) (all_but_last (fewest (units_of piece ++ rest)))))
       (beginning-before (pieces_text old.stack old.number (fewest (held_units old.piece))) _ (since w0 w1)

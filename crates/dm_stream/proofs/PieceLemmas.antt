@@ -5,7 +5,7 @@ use Rattle.std.specs.Cmp.Lexicographic.{pointwise}
 use Rattle.std.proofs.lemmas.Bool.{and_parts, and_from, eqb-true, eq-eqb}
 use Rattle.dm_map.specs.Units.{BlockUnit, ReadOf, WriteOf, Zeros, Drops, Fails, CopyOf, FillOf, next_unit, units_in}
 use Rattle.dm_stream.specs.JoinLaws.{onto_begins}
-use Rattle.dm_stream.specs.Pieces.{Piece, unit_key, is_unit, joins, further, is_after, onto, fewest}
+use Rattle.dm_stream.specs.Pieces.{UnitRun, unit_key, is_unit, joins, further, is_after, onto, fewest}
 
 -- lists of numbers that are the same are equal, and the other way round
 same_numbers : (xs ys : List ℕ) → pointwise nat_eq xs ys ≡ true → xs ≡ ys
@@ -101,18 +101,18 @@ units-longer unit (suc len) more =
 pub units_joined : (unit after : BlockUnit) (len more : ℕ) → is_after unit len after ≡ true → units_in unit (len + more) ≡ units_in unit len ++ units_in after more
 units_joined unit after len more e = sym (ap (λ (u : BlockUnit). units_in unit len ++ units_in u more) (sym (one_unit (further unit len) after e)) ∙ units-longer unit len more)
 
--- a unit before pieces, by whether the first of them goes on from it
-pub onto-joined : (unit first : BlockUnit) (len : ℕ) (pieces : List Piece) → joins unit first ≡ true → onto unit (record { first = first; len = len } ∷ pieces) ≡ record { first = unit; len = suc len } ∷ pieces
+-- a unit before pieces, by whether the first of them continues it
+pub onto-joined : (unit first : BlockUnit) (len : ℕ) (pieces : List UnitRun) → joins unit first ≡ true → onto unit (record { first = first; len = len } ∷ pieces) ≡ record { first = unit; len = suc len } ∷ pieces
 onto-joined unit first len pieces e = rw e refl
 
-pub onto-apart : (unit first : BlockUnit) (len : ℕ) (pieces : List Piece) → joins unit first ≡ false → onto unit (record { first = first; len = len } ∷ pieces) ≡ record { first = unit; len = 1 } ∷ record { first = first; len = len } ∷ pieces
+pub onto-apart : (unit first : BlockUnit) (len : ℕ) (pieces : List UnitRun) → joins unit first ≡ false → onto unit (record { first = first; len = len } ∷ pieces) ≡ record { first = unit; len = 1 } ∷ record { first = first; len = len } ∷ pieces
 onto-apart unit first len pieces e = rw e refl
 
 -- where a unit does not go on from a piece, the piece is one of the fewest
 pub fewest-apart : (unit : BlockUnit) (len : ℕ) (after : BlockUnit) (rest : List BlockUnit) → is_after unit (suc len) after ≡ false → fewest (units_in unit (suc len) ++ after ∷ rest) ≡ record { first = unit; len = suc len } ∷ fewest (after ∷ rest)
 fewest-apart unit zero after rest e =
     let b = onto_begins after (fewest rest) in
-    ap (onto unit) b.is ∙ onto-apart unit after b.len b.later (sym (is_after-one unit after) ∙ e) ∙ ap (λ (ps : List Piece). record { first = unit; len = 1 } ∷ ps) (sym b.is)
+    ap (onto unit) b.is ∙ onto-apart unit after b.len b.later (sym (is_after-one unit after) ∙ e) ∙ ap (λ (ps : List UnitRun). record { first = unit; len = 1 } ∷ ps) (sym b.is)
 fewest-apart unit (suc len) after rest e =
     ap (onto unit) (fewest-apart (next_unit unit) len after rest (sym (is_after-more unit (suc len) after) ∙ e))
     ∙ onto-joined unit (next_unit unit) (suc len) (fewest (after ∷ rest)) (joins-next unit)

@@ -22,7 +22,8 @@ use Rattle.dm_map.specs.State.{State}
 use Rattle.dm_stream.specs.declared.ending.Ending as ending
 use Rattle.dm_stream.specs.declared.ending.NotMapped.TheVariants as causes
 use Rattle.dm_stream.specs.declared.ending.RequestWord as word
-use Rattle.dm_stream.specs.Pieces.{Piece, fewest, all_but_last}
+use Rattle.dm_stream.specs.Pieces.{UnitRun, fewest}
+use Rattle.dm_table.specs.Fields.{all_but_last}
 use Rattle.dm_stream.specs.PieceText.{piece_text, pieces_text, unit_text}
 use Rattle.dm_table.specs.WriteAll.{IsBeginning, IsCutShort}
 use Rattle.dm_table.proofs.Growth.{since_more}
@@ -50,7 +51,7 @@ cut_of_more text front more h =
     (h.0, h.1 ++ more, ap (λ (xs : List ℕ). xs ++ more) h.2 ∙ append_assoc front (h.0 ∷ h.1) more)
 
 -- the text without the last piece is cut short
-but_last : (stack : Description) (number : ℕ) (piece : Piece) (pieces : List Piece) → IsCutShort (pieces_text stack number (piece ∷ pieces)) (pieces_text stack number (all_but_last (piece ∷ pieces)))
+but_last : (stack : Description) (number : ℕ) (piece : UnitRun) (pieces : List UnitRun) → IsCutShort (pieces_text stack number (piece ∷ pieces)) (pieces_text stack number (all_but_last (piece ∷ pieces)))
 but_last stack number piece [] =
     let some = some_byte (decimal number ++ 32 ∷ unit_text stack piece.first piece.len) 10 [] in
     (some.0, some.1, append-nil (piece_text stack number piece) ∙ some.2)
@@ -64,7 +65,7 @@ but_last_of : (stack : Description) (number : ℕ) (units : List BlockUnit) → 
 but_last_of stack number [] some = absurd some
 but_last_of stack number (unit ∷ units) some =
     let b = onto_begins unit (fewest units) in
-    subst (λ (ps : List Piece). IsCutShort (pieces_text stack number ps) (pieces_text stack number (all_but_last ps))) (sym b.is) (but_last stack number (record { first = unit; len = b.len }) b.later)
+    subst (λ (ps : List UnitRun). IsCutShort (pieces_text stack number ps) (pieces_text stack number (all_but_last ps))) (sym b.is) (but_last stack number (record { first = unit; len = b.len }) b.later)
 
 -- a beginning of a text that is cut short is so too
 cut_through : (text front first : List ℕ) → IsCutShort text front → IsBeginning front first → IsCutShort text first
@@ -98,10 +99,10 @@ left_text old new front rest units before after none whole left =
 abbrev pub at_start : Description → ℕ → Pending
 at_start stack number = record { stack = stack; number = number; piece = None }
 
-same_text : (stack : Description) (number : ℕ) (old : Pending) (pieces : List Piece) → old ≡ at_start stack number → pieces_text old.stack old.number pieces ≡ pieces_text stack number pieces
+same_text : (stack : Description) (number : ℕ) (old : Pending) (pieces : List UnitRun) → old ≡ at_start stack number → pieces_text old.stack old.number pieces ≡ pieces_text stack number pieces
 same_text stack number old pieces e = ap (λ (h : Pending). pieces_text h.stack h.number pieces) e
 
-text_kept : (old new : Pending) (pieces : List Piece) → new.stack ≡ old.stack → new.number ≡ old.number → pieces_text new.stack new.number pieces ≡ pieces_text old.stack old.number pieces
+text_kept : (old new : Pending) (pieces : List UnitRun) → new.stack ≡ old.stack → new.number ≡ old.number → pieces_text new.stack new.number pieces ≡ pieces_text old.stack old.number pieces
 text_kept old new pieces stack number =
     ap (λ (s : Description). pieces_text s new.number pieces) stack ∙ ap (λ (n : ℕ). pieces_text old.stack n pieces) number
 

@@ -128,7 +128,7 @@ status_left_out stack status outcome text left ending.TheVariants.ReadFault no_f
     ap (λ (e : Option ending.Ending). outcome.output ++ if_done status e (status_text stack outcome.state)) mapped.written.1 ∙ append-nil outcome.output ∙ mapped.written.0
 status_left_out stack status outcome text left ending.TheVariants.WriteFault no_fault other mapped = absurd (no_fault refl)
 
--- so many writes failed as the ending says
+-- no write failed, unless the ending is a write fault
 pub no_write_failed : (e : ending.Ending) → e ≢ ending.TheVariants.WriteFault → write_faults e ≡ 0
 no_write_failed ending.TheVariants.Done other = refl
 no_write_failed (ending.TheVariants.BadRequest n w) other = refl

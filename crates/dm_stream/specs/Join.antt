@@ -3,13 +3,14 @@ use Rattle.std.specs.Prelude.{◌≡◌, ℕ, List, [], ◌∷◌, ◌++◌, Non
 use Rattle.dm_table.specs.DeviceIo.{since}
 use Rattle.dm_map.specs.Units.{BlockUnit}
 use Rattle.dm_stream.specs.Pending.{Pending, held_units}
-use Rattle.dm_stream.specs.Pieces.{Piece, fewest, all_but_last}
+use Rattle.dm_stream.specs.Pieces.{UnitRun, fewest}
+use Rattle.dm_table.specs.Fields.{all_but_last}
 use Rattle.dm_stream.specs.PieceText.{pieces_text}
 use Rattle.dm_table.specs.WriteAll.{IsBeginning}
 
 -- whatever units follow, some pieces are settled, and what is held stands for the others; the settled ones were written
 pub record HasTaken (old new : Pending) (units : List BlockUnit) (before after : List ℕ) : Type 0 where
-  pub settled : List Piece
+  pub settled : List UnitRun
   pub told : (rest : List BlockUnit) → fewest (held_units old.piece ++ units ++ rest) ≡ settled ++ fewest (held_units new.piece ++ rest)
   pub wrote : since before after ≡ pieces_text old.stack old.number settled
   pub appends : after ≡ before ++ since before after

@@ -8,18 +8,19 @@ use Rattle.dm_stack.specs.Description.{Description}
 use Rattle.dm_map.specs.Units.{BlockUnit}
 use Rattle.dm_stream.specs.Pending.{Pending, held_units}
 use Rattle.dm_stream.specs.Join.{HasUnits, HasTaken, HasLeft}
-use Rattle.dm_stream.specs.Pieces.{Piece, all_but_last, fewest, joins, onto}
+use Rattle.dm_stream.specs.Pieces.{UnitRun, fewest, joins, onto}
+use Rattle.dm_table.specs.Fields.{all_but_last}
 use Rattle.dm_stream.specs.PieceText.{piece_text, pieces_text}
 use Rattle.dm_stream.specs.ProgressLaws.{grows-same, since-same}
 use Rattle.dm_table.specs.WriteAll.{IsBeginning}
 
 -- the first of the fewest pieces begins with the first unit
-pub record BeginsWith (unit : BlockUnit) (pieces : List Piece) : Type 0 where
+pub record BeginsWith (unit : BlockUnit) (pieces : List UnitRun) : Type 0 where
   pub len : ℕ
-  pub later : List Piece
+  pub later : List UnitRun
   pub is : pieces ≡ record { first = unit; len = len } ∷ later
 
-pub onto_begins : (unit : BlockUnit) (pieces : List Piece) → BeginsWith unit (onto unit pieces)
+pub onto_begins : (unit : BlockUnit) (pieces : List UnitRun) → BeginsWith unit (onto unit pieces)
 onto_begins unit [] = record { len = 1; later = []; is = refl }
 onto_begins unit (piece ∷ pieces) =
     let P : Bool → Type 0 = λ b. BeginsWith unit (cond b (record { first = unit; len = suc piece.len } ∷ pieces) (record { first = unit; len = 1 } ∷ piece ∷ pieces)) in
@@ -29,16 +30,16 @@ onto_begins unit (piece ∷ pieces) =
     ]
 
 -- the last of pieces is that of the later ones
-last-behind : (ps : List Piece) (q : Piece) (qs : List Piece) → all_but_last (ps ++ q ∷ qs) ≡ ps ++ all_but_last (q ∷ qs)
+last-behind : (ps : List UnitRun) (q : UnitRun) (qs : List UnitRun) → all_but_last (ps ++ q ∷ qs) ≡ ps ++ all_but_last (q ∷ qs)
 last-behind [] q qs = refl
 last-behind (p ∷ []) q qs = refl
-last-behind (p ∷ next ∷ ps) q qs = ap (λ (rs : List Piece). p ∷ rs) (last-behind (next ∷ ps) q qs)
+last-behind (p ∷ next ∷ ps) q qs = ap (λ (rs : List UnitRun). p ∷ rs) (last-behind (next ∷ ps) q qs)
 
-pub last_of_units : (ps : List Piece) (units : List BlockUnit) → HasUnits units → all_but_last (ps ++ fewest units) ≡ ps ++ all_but_last (fewest units)
+pub last_of_units : (ps : List UnitRun) (units : List BlockUnit) → HasUnits units → all_but_last (ps ++ fewest units) ≡ ps ++ all_but_last (fewest units)
 last_of_units ps [] some = absurd some
 last_of_units ps (unit ∷ units) some =
     let b = onto_begins unit (fewest units) in
-    ap (λ (qs : List Piece). all_but_last (ps ++ qs)) b.is ∙ last-behind ps (record { first = unit; len = b.len }) b.later ∙ ap (λ (qs : List Piece). ps ++ all_but_last qs) (sym b.is)
+    ap (λ (qs : List UnitRun). all_but_last (ps ++ qs)) b.is ∙ last-behind ps (record { first = unit; len = b.len }) b.later ∙ ap (λ (qs : List UnitRun). ps ++ all_but_last qs) (sym b.is)
 
 some_behind : (us vs : List BlockUnit) → HasUnits vs → HasUnits (us ++ vs)
 some_behind [] vs some = some
@@ -70,14 +71,14 @@ took_none held w = record {
 }
 
 -- the pieces of two parts, one after the other
-told_both : (hs bs cs us vs : List BlockUnit) (ps qs : List Piece) (rest : List BlockUnit)
+told_both : (hs bs cs us vs : List BlockUnit) (ps qs : List UnitRun) (rest : List BlockUnit)
     → ((rest : List BlockUnit) → fewest (hs ++ us ++ rest) ≡ ps ++ fewest (bs ++ rest)) → fewest (bs ++ vs ++ rest) ≡ qs ++ fewest (cs ++ rest)
     → fewest (hs ++ (us ++ vs) ++ rest) ≡ ps ++ qs ++ fewest (cs ++ rest)
 told_both hs bs cs us vs ps qs rest first second =
     ap fewest (parts hs us vs rest) ∙ first (vs ++ rest) ∙ ap (λ (xs : List BlockUnit). ps ++ fewest xs) (sym (append_assoc bs vs rest))
-    ∙ ap (λ (xs : List Piece). ps ++ xs) second ∙ sym (append_assoc ps qs (fewest (cs ++ rest)))
+    ∙ ap (λ (xs : List UnitRun). ps ++ xs) second ∙ sym (append_assoc ps qs (fewest (cs ++ rest)))
 
-same_text : (a b : Pending) (ps : List Piece) → b.stack ≡ a.stack → b.number ≡ a.number → pieces_text b.stack b.number ps ≡ pieces_text a.stack a.number ps
+same_text : (a b : Pending) (ps : List UnitRun) → b.stack ≡ a.stack → b.number ≡ a.number → pieces_text b.stack b.number ps ≡ pieces_text a.stack a.number ps
 same_text a b ps e f = ap (λ (stack : Description). pieces_text stack b.number ps) e ∙ ap (λ (number : ℕ). pieces_text a.stack number ps) f
 
 pub took_more : (a b c : Pending) (us vs : List BlockUnit) (w0 w1 w2 : List ℕ) → HasTaken a b us w0 w1 → HasTaken b c vs w1 w2 → HasTaken a c (us ++ vs) w0 w2
@@ -95,11 +96,11 @@ took_more a b c us vs w0 w1 w2 first second = record {
 }
 
 -- what was left after settled pieces
-left_behind : (stack : Description) (number : ℕ) (settled : List Piece) (units : List BlockUnit) (all : List Piece) (wrote front : List ℕ) → HasUnits units → all ≡ settled ++ fewest units → wrote ≡ pieces_text stack number settled ++ front
+left_behind : (stack : Description) (number : ℕ) (settled : List UnitRun) (units : List BlockUnit) (all : List UnitRun) (wrote front : List ℕ) → HasUnits units → all ≡ settled ++ fewest units → wrote ≡ pieces_text stack number settled ++ front
     → IsBeginning (pieces_text stack number (all_but_last (fewest units))) front → IsBeginning (pieces_text stack number (all_but_last all)) wrote
 left_behind stack number settled units all wrote front some e f begins =
     subst (λ (xs : List ℕ). IsBeginning xs wrote)
-    (sym (ap (λ (ps : List Piece). pieces_text stack number (all_but_last ps)) e ∙ ap (pieces_text stack number) (last_of_units settled units some) ∙ flat_map-append (piece_text stack number) settled (all_but_last (fewest units))))
+    (sym (ap (λ (ps : List UnitRun). pieces_text stack number (all_but_last ps)) e ∙ ap (pieces_text stack number) (last_of_units settled units some) ∙ flat_map-append (piece_text stack number) settled (all_but_last (fewest units))))
     (subst (IsBeginning (pieces_text stack number settled ++ pieces_text stack number (all_but_last (fewest units)))) (sym f) (beginning-behind (pieces_text stack number settled) _ front begins))
 
 pub left_more : (a b c : Pending) (us vs : List BlockUnit) (w0 w1 w2 : List ℕ) → HasTaken a b us w0 w1 → HasLeft b c vs w1 w2 → HasLeft a c (us ++ vs) w0 w2

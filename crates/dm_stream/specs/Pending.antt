@@ -12,7 +12,7 @@ pub record Pending : Type 0 where
   pub piece : Option Piece
 
 -- a piece of the program, as the definitions see it
-abbrev pub piece_view : Piece → pieces.Piece
+abbrev pub piece_view : Piece → pieces.UnitRun
 piece_view piece = record { first = first_unit piece; len = piece_len piece }
 
 -- the units that are held

@@ -4,7 +4,7 @@ use Rattle.std.specs.List.{flat_map}
 use Rattle.dm_stack.specs.Description.{Description, disk_name_at}
 use Rattle.dm_map.specs.Units.{BlockUnit, ReadOf, WriteOf, Zeros, Drops, Fails, CopyOf, FillOf}
 use Rattle.dm_map.specs.declared.piece.Piece as code
-use Rattle.dm_stream.specs.Pieces.{Piece}
+use Rattle.dm_stream.specs.Pieces.{UnitRun}
 
 -- a place on a disk: its name and a sector
 abbrev pub place_text : Description → ℕ → ℕ → List ℕ
@@ -32,7 +32,7 @@ IsOther (code.TheVariants.Write disk start len) = ⊥
 IsOther _ = Unit {0}
 
 -- the line of a piece under a request's number
-abbrev pub piece_text : Description → ℕ → Piece → List ℕ
+abbrev pub piece_text : Description → ℕ → UnitRun → List ℕ
 piece_text stack number piece = decimal number ++ 32 ∷ unit_text stack piece.first piece.len ++ 10 ∷ []
 
 -- the line of a letter and a range of a disk under a request's number: that of a read or a write
@@ -40,5 +40,5 @@ abbrev pub range_line : Description → (number letter disk start len : ℕ) →
 range_line stack number letter disk start len = decimal number ++ 32 ∷ (letter ∷ 32 ∷ place_text stack disk start ++ 32 ∷ decimal len) ++ 10 ∷ []
 
 -- the lines of a request's pieces
-abbrev pub pieces_text : Description → ℕ → List Piece → List ℕ
+abbrev pub pieces_text : Description → ℕ → List UnitRun → List ℕ
 pieces_text stack number pieces = flat_map (piece_text stack number) pieces

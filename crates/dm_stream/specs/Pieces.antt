@@ -5,12 +5,12 @@ use Rattle.std.specs.Cmp.Lexicographic.{pointwise}
 use Rattle.dm_map.specs.Units.{BlockUnit, ReadOf, WriteOf, Zeros, Drops, Fails, CopyOf, FillOf, next_unit, units_in}
 
 -- a unit, and how many consecutive ones begin with it
-pub record Piece : Type 0 where
+pub record UnitRun : Type 0 where
   pub first : BlockUnit
   pub len : ℕ
 
 -- the units of a piece
-abbrev pub piece_units : Piece → List BlockUnit
+abbrev pub piece_units : UnitRun → List BlockUnit
 piece_units piece = units_in piece.first piece.len
 
 -- by what units are compared: a number for the kind, then the disks and sectors
@@ -46,36 +46,30 @@ abbrev pub is_after : BlockUnit → ℕ → BlockUnit → Bool
 is_after first len unit = is_unit (further first len) unit
 
 -- a unit before pieces: it lengthens the first of them if that continues it
-abbrev pub onto : BlockUnit → List Piece → List Piece
+abbrev pub onto : BlockUnit → List UnitRun → List UnitRun
 onto unit [] = record { first = unit; len = 1 } ∷ []
 onto unit (piece ∷ pieces) =
     if joins unit piece.first then record { first = unit; len = suc piece.len } ∷ pieces else record { first = unit; len = 1 } ∷ piece ∷ pieces
 
 -- the pieces of units, as few as can be
-abbrev pub fewest : List BlockUnit → List Piece
+abbrev pub fewest : List BlockUnit → List UnitRun
 fewest [] = []
 fewest (unit ∷ units) = onto unit (fewest units)
 
--- pieces without the last
-abbrev pub all_but_last : List Piece → List Piece
-all_but_last [] = []
-all_but_last (piece ∷ []) = []
-all_but_last (piece ∷ next ∷ pieces) = piece ∷ all_but_last (next ∷ pieces)
-
 -- the pieces have these units, and none is empty
-pub record ArePiecesOf (units : List BlockUnit) (pieces : List Piece) : Type 0 where
+pub record ArePiecesOf (units : List BlockUnit) (pieces : List UnitRun) : Type 0 where
   pub flatten : flat_map piece_units pieces ≡ units
   pub each : AllByRecursion (λ piece. 0 < piece.len) pieces
 
 -- no piece continues the one before it
-abbrev pub AreApart : List Piece → Type 0
+abbrev pub AreApart : List UnitRun → Type 0
 AreApart [] = Unit {0}
 AreApart (piece ∷ []) = Unit {0}
 AreApart (piece ∷ next ∷ pieces) = (is_after piece.first piece.len next.first ≡ false) × AreApart (next ∷ pieces)
 
 -- the pieces that fewest gives: the only ones of the units of which none continues the one before, and no others are fewer
-pub record AreFewest (units : List BlockUnit) (pieces : List Piece) : Type 0 where
+pub record AreFewest (units : List BlockUnit) (pieces : List UnitRun) : Type 0 where
   pub are : ArePiecesOf units pieces
   pub apart : AreApart pieces
-  pub only : (others : List Piece) → ArePiecesOf units others → AreApart others → others ≡ pieces
-  pub least : (others : List Piece) → ArePiecesOf units others → length pieces ≤ length others
+  pub only : (others : List UnitRun) → ArePiecesOf units others → AreApart others → others ≡ pieces
+  pub least : (others : List UnitRun) → ArePiecesOf units others → length pieces ≤ length others

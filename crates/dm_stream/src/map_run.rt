@@ -13,7 +13,8 @@ ghost use Rattle.dm_stream.specs.Mapped.{IsReady};
 ghost use Rattle.dm_stream.specs.Messages.{IsTold, ending_message};
 ghost use Rattle.dm_stream.specs.Outcome.{requests_outcome, run_outcome};
 ghost use Rattle.dm_stream.specs.Pieces.{AreFewest, fewest};
-ghost use Rattle.dm_stream.specs.Progress.{HasRead, HasWritten};
+ghost use Rattle.dm_table.specs.PartInput.{IsReadOn};
+ghost use Rattle.dm_stream.specs.Progress.{HasWritten};
 ghost use Rattle.dm_stream.specs.Requests.{HasMet};
 ghost use Rattle.dm_stream.specs.Run.{CanMap, HasRun, IsMapped, IsServed, StaysMapper, ending_for, write_faults};
 
@@ -50,7 +51,7 @@ fn map_lines<'s, T: Taken, R: Input, W: Output>(
     ensures mapper { StaysMapper mapper.old mapper.new result }
     ensures nothing { handler.new.join.held.piece ≡ None }
     ensures same_writer { handler.new.join.writer.ghost_name ≡ handler.old.join.writer.ghost_name }
-    ensures reads { HasRead R.handed R.faults R.ends requests.old requests.new }
+    ensures reads { IsReadOn R.handed R.faults R.ends requests.old requests.new }
     ensures writes { HasWritten W.written W.waiting W.faults W.flushes handler.old.join.writer.now handler.new.join.writer.now (write_faults result) }
     ensures mapped { IsMapped (requests_outcome handler.old.devices mapper.old.state (delivery R.handed R.faults R.ends requests.old requests.new))
         (since (W.written handler.old.join.writer.now) (W.written handler.new.join.writer.now)) mapper.new.state result }
@@ -71,7 +72,7 @@ fn map_requests<'s, T: Taken, R: Input, W: Output>(
 ) -> Ending
     requires { CanMap stack.now mapper.old }
     ensures mapper { StaysMapper mapper.old mapper.new result }
-    ensures reads { HasRead R.handed R.faults R.ends requests.old requests.new }
+    ensures reads { IsReadOn R.handed R.faults R.ends requests.old requests.new }
     ensures writes { HasWritten W.written W.waiting W.faults W.flushes output.old output.new (write_faults result) }
     ensures mapped { IsMapped (requests_outcome stack.now mapper.old.state (delivery R.handed R.faults R.ends requests.old requests.new))
         (since (W.written output.old) (W.written output.new)) mapper.new.state result }
@@ -98,7 +99,7 @@ fn map_and_flush<'s, T: Taken, R: Input, W: Output>(
 ) -> Ending
     requires { CanMap stack.now mapper.old }
     ensures mapper { StaysMapper mapper.old mapper.new result }
-    ensures reads { HasRead R.handed R.faults R.ends requests.old requests.new }
+    ensures reads { IsReadOn R.handed R.faults R.ends requests.old requests.new }
     ensures wrote { HasRun W.written W.waiting W.faults W.flushes output.old output.new
         (run_outcome stack.now status mapper.old.state (delivery R.handed R.faults R.ends requests.old requests.new)) mapper.new.state result }
     ensures met { HasMet result (R.faults requests.old) (R.faults requests.new) }

@@ -7,7 +7,7 @@ ghost use Rattle.std.specs.Prelude.{◌≡◌, ◌≢◌, ◌+◌, ◌<◌, ◌�
 ghost use Rattle.dm_table.specs.DeviceIo.{delivery};
 ghost use Rattle.dm_stream.specs.Lines.{line_parts};
 ghost use Rattle.dm_stream.specs.declared.lines.TheConstants.{MOST_LINE_BYTES};
-ghost use Rattle.dm_stream.specs.Progress.{HasRead};
+ghost use Rattle.dm_table.specs.PartInput.{IsReadOn};
 ghost use Rattle.dm_stream.specs.Requests.{HasMet, IsAmong, Requests, after_requests, is_bad, line_requests, numbered, requests_of, word_for};
 
 use crate::ending::{Ending, RequestWord};
@@ -89,7 +89,7 @@ pub fn handle_requests<R: Input, H: Handler>(
     source: &mut H::Source,
 ) -> Result<Ending, H::Fault>
     requires { H.ready handler.old source.old }
-    ensures moved { HasRead R.handed R.faults R.ends requests.old requests.new }
+    ensures moved { IsReadOn R.handed R.faults R.ends requests.old requests.new }
     ensures met { IfOk result (λ ending. HasMet ending (R.faults requests.old) (R.faults requests.new)) }
     // All requests were answered, and they end by themselves.
     ensures answered { IfOk result (λ ending. H.answered handler.old source.old (requests_of (delivery R.handed R.faults R.ends requests.old requests.new)).all handler.new source.new) }

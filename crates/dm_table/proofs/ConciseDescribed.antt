@@ -8,7 +8,7 @@ use Rattle.dm_table.specs.declared.table.DeviceSpec.{DeviceSpec}
 use Rattle.dm_table.specs.declared.place.Part.TheVariants.{Source}
 use Rattle.dm_table.specs.declared.load_fault.LoadKind.TheVariants.{NotText, Syntax, Field, Name}
 use Rattle.dm_table.specs.declared.load_fault.LoadFault.{LoadFault}
-use Rattle.dm_table.specs.Fields.{parts_at, front, back}
+use Rattle.dm_table.specs.Fields.{parts_at, all_but_last, last_or}
 use Rattle.dm_table.specs.LoadFault.{Answers, first_fault, faults_from}
 use Rattle.dm_table.specs.Parsed.{IsParsed}
 use Rattle.dm_table.specs.ConciseText.{SaysDevices, DescribesConcise, lacks, without_newline, parts_of, devices_of, is_printed, is_device, has_values, has_names, concise_checks}
@@ -16,24 +16,24 @@ use Rattle.dm_table.specs.ConciseReading.{devices_from, parts_reading, read_conc
 use Rattle.dm_table.proofs.ByteLemmas.{All-list_all, list_all-weaker}
 use Rattle.dm_table.proofs.FaultLemmas.{first_fault-none, first_fault-all, faults_from-nil, faults_from-good}
 use Rattle.dm_table.proofs.Parsing.{parsed}
-use Rattle.dm_table.proofs.FieldLemmas.{IsClearOf, join-parts_at, parts_at-join, front-push, back-push}
-use Rattle.dm_table.proofs.TableFields.{take-front, get_or-back}
+use Rattle.dm_table.proofs.FieldLemmas.{IsClearOf, join-parts_at, parts_at-join, all_but_last-push, last_or-push}
+use Rattle.dm_table.proofs.TableFields.{take-all_but_last, get_or-last_or}
 use Rattle.dm_table.proofs.ConciseRows.{is_entry_byte, entry_semicolon, entry_newline, entry_printed, join_passes, device_said, device_bytes, device_some, device_again}
 
 -- The newline at the end
 
-last_split : (text : List ℕ) → eqb (back 0 text) 10 ≡ true → front text ++ 10 ∷ [] ≡ text
+last_split : (text : List ℕ) → eqb (last_or 0 text) 10 ≡ true → all_but_last text ++ 10 ∷ [] ≡ text
 last_split [] h = absurd cc
 last_split (b ∷ []) h = ap (λ (x : ℕ). x ∷ []) (sym (eqb-true b 10 h))
 last_split (b ∷ c ∷ text) h = ap (λ (rest : List ℕ). b ∷ rest) (last_split (c ∷ text) h)
 
 newline_cases : (text : List ℕ) → (text ≡ without_newline text) ⊎ (text ≡ without_newline text ++ 10 ∷ [])
-newline_cases text = elim (cases_Bool (eqb (back 0 text) 10)) [
+newline_cases text = elim (cases_Bool (eqb (last_or 0 text) 10)) [
   | inl e ↦ inr (rw e (sym (last_split text e)))
   | inr e ↦ inl (rw e refl)
 ]
 
-last_other : (text : List ℕ) → lacks 10 text ≡ true → eqb (back 0 text) 10 ≡ false
+last_other : (text : List ℕ) → lacks 10 text ≡ true → eqb (last_or 0 text) 10 ≡ false
 last_other [] h = refl
 last_other (b ∷ []) h = not-true _ (and_parts (not (eqb b 10)) true h).0
 last_other (b ∷ c ∷ text) h = last_other (c ∷ text) (and_parts (not (eqb b 10)) (lacks 10 (c ∷ text)) h).1
@@ -42,14 +42,14 @@ newline_none : (text : List ℕ) → lacks 10 text ≡ true → without_newline 
 newline_none text h = rw (last_other text h) refl
 
 newline_dropped : (text : List ℕ) → without_newline (text ++ 10 ∷ []) ≡ text
-newline_dropped text = rw (back-push 0 text 10) (front-push text 10)
+newline_dropped text = rw (last_or-push 0 text 10) (all_but_last-push text 10)
 
 -- the code's way to it
 pub newline_cut : (text : List ℕ) → 1 ≤ length text → eqb (get_or text (length text - 1) 0) 10 ≡ true → take (length text - 1) text ≡ without_newline text
-newline_cut text some e = rw (rw (get_or-back 0 0 text some) at e) (take-front text)
+newline_cut text some e = rw (rw (get_or-last_or 0 0 text some) at e) (take-all_but_last text)
 
 pub newline_missing : (text : List ℕ) → 1 ≤ length text → eqb (get_or text (length text - 1) 0) 10 ≡ false → text ≡ without_newline text
-newline_missing text some e = rw (rw (get_or-back 0 0 text some) at e) refl
+newline_missing text some e = rw (rw (get_or-last_or 0 0 text some) at e) refl
 
 -- Parts
 

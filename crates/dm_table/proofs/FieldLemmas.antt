@@ -8,7 +8,7 @@ use Rattle.std.proofs.lemmas.Grind.{elements, common_steps}
 use Rattle.std.proofs.lemmas.List.{take-append-drop, take_rest, drop-drop, map_push, map-append, append-nil}
 use Rattle.std.proofs.lemmas.List.Splits.{length-slice_split, slice_split_at, slice_split_none, join_with_byte-slice_split}
 use Rattle.memchr.specs.Find.{Nowhere, Passes, is_byte, IsFirstByte}
-use Rattle.dm_table.specs.Fields.{texts, parts_at, front, back, lines_of, rest_of}
+use Rattle.dm_table.specs.Fields.{texts, parts_at, all_but_last, last_or, lines_of, rest_of}
 use denote.Ref.{Bor}
 
 -- no byte of the text is c
@@ -71,40 +71,40 @@ cut_last c parts rest all none so_far = map_push _ parts rest ∙ ap (λ (more :
 
 -- All but the last part, and the last
 
-pub front-push : {X : Type 0} (xs : List X) (x : X) → front (xs ++ x ∷ []) ≡ xs
-front-push [] x = refl
-front-push (y ∷ []) x = refl
-front-push (y ∷ z ∷ xs) x = rw (front-push (z ∷ xs) x) refl
+pub all_but_last-push : {X : Type 0} (xs : List X) (x : X) → all_but_last (xs ++ x ∷ []) ≡ xs
+all_but_last-push [] x = refl
+all_but_last-push (y ∷ []) x = refl
+all_but_last-push (y ∷ z ∷ xs) x = rw (all_but_last-push (z ∷ xs) x) refl
 
-pub back-push : {X : Type 0} (d : X) (xs : List X) (x : X) → back d (xs ++ x ∷ []) ≡ x
-back-push d [] x = refl
-back-push d (y ∷ []) x = refl
-back-push d (y ∷ z ∷ xs) x = back-push d (z ∷ xs) x
+pub last_or-push : {X : Type 0} (d : X) (xs : List X) (x : X) → last_or d (xs ++ x ∷ []) ≡ x
+last_or-push d [] x = refl
+last_or-push d (y ∷ []) x = refl
+last_or-push d (y ∷ z ∷ xs) x = last_or-push d (z ∷ xs) x
 
 -- what is left when the last slice is taken off
-pub front-popped : (parts lines : List (Bor (List ℕ))) (last : Option (Bor (List ℕ))) → parts ≡ lines ++ option_to_list last → (last ≡ None → lines ≡ []) → texts lines ≡ front (texts parts)
-front-popped parts lines None popped empty = rw (popped, append-nil, empty refl) refl
-front-popped parts lines (Some slice) popped empty = sym (ap front (ap texts popped ∙ map-append _ lines (slice ∷ [])) ∙ front-push (texts lines) slice.now)
+pub all_but_last-popped : (parts lines : List (Bor (List ℕ))) (last : Option (Bor (List ℕ))) → parts ≡ lines ++ option_to_list last → (last ≡ None → lines ≡ []) → texts lines ≡ all_but_last (texts parts)
+all_but_last-popped parts lines None popped empty = rw (popped, append-nil, empty refl) refl
+all_but_last-popped parts lines (Some slice) popped empty = sym (ap all_but_last (ap texts popped ∙ map-append _ lines (slice ∷ [])) ∙ all_but_last-push (texts lines) slice.now)
 
-pub back-popped : (parts lines : List (Bor (List ℕ))) (last : Option (Bor (List ℕ))) (d : Bor (List ℕ)) → parts ≡ lines ++ option_to_list last → (last ≡ None → lines ≡ []) → d.now ≡ [] → (unwrap_or last d).now ≡ back [] (texts parts)
-back-popped parts lines None d popped empty none = rw (popped, append-nil, empty refl) none
-back-popped parts lines (Some slice) d popped empty none = sym (ap (back []) (ap texts popped ∙ map-append _ lines (slice ∷ [])) ∙ back-push [] (texts lines) slice.now)
+pub last_or-popped : (parts lines : List (Bor (List ℕ))) (last : Option (Bor (List ℕ))) (d : Bor (List ℕ)) → parts ≡ lines ++ option_to_list last → (last ≡ None → lines ≡ []) → d.now ≡ [] → (unwrap_or last d).now ≡ last_or [] (texts parts)
+last_or-popped parts lines None d popped empty none = rw (popped, append-nil, empty refl) none
+last_or-popped parts lines (Some slice) d popped empty none = sym (ap (last_or []) (ap texts popped ∙ map-append _ lines (slice ∷ [])) ∙ last_or-push [] (texts lines) slice.now)
 
 -- Lines
 
-join_lines : (c : ℕ) (parts : List (List ℕ)) → join_with_byte c parts ≡ flat_map (λ line. line ++ c ∷ []) (front parts) ++ back [] parts
+join_lines : (c : ℕ) (parts : List (List ℕ)) → join_with_byte c parts ≡ flat_map (λ line. line ++ c ∷ []) (all_but_last parts) ++ last_or [] parts
 join_lines c [] = refl
 join_lines c (part ∷ []) = refl
 join_lines c (part ∷ next ∷ parts) = rw (join_lines c (next ∷ parts)) (simp append_assoc)
 
 -- the parts of a text are never none
-front_more : {X : Type 0} (x : X) (xs : List X) → 0 < length xs → front (x ∷ xs) ≡ x ∷ front xs
-front_more x [] h = absurd (omega arith)
-front_more x (y ∷ xs) h = refl
+all_but_last_more : {X : Type 0} (x : X) (xs : List X) → 0 < length xs → all_but_last (x ∷ xs) ≡ x ∷ all_but_last xs
+all_but_last_more x [] h = absurd (omega arith)
+all_but_last_more x (y ∷ xs) h = refl
 
-back_more : {X : Type 0} (d x : X) (xs : List X) → 0 < length xs → back d (x ∷ xs) ≡ back d xs
-back_more d x [] h = absurd (omega arith)
-back_more d x (y ∷ xs) h = refl
+last_or_more : {X : Type 0} (d x : X) (xs : List X) → 0 < length xs → last_or d (x ∷ xs) ≡ last_or d xs
+last_or_more d x [] h = absurd (omega arith)
+last_or_more d x (y ∷ xs) h = refl
 
 some_parts : (c : ℕ) (text : List ℕ) → 0 < length (parts_at c text)
 some_parts c text = omega (arith, length-slice_split (λ b. eqb b c) text)
@@ -119,14 +119,14 @@ line_found text after n found is_after =
     let below : n < length text = found.0.high in
     let shorter : length more < length text = grind (arith, common_steps) in
     rw left (
-      ap front parts ∙ front_more (take n text) (parts_at 10 more) (some_parts 10 more),
-      ap (back []) parts ∙ back_more [] (take n text) (parts_at 10 more) (some_parts 10 more),
+      ap all_but_last parts ∙ all_but_last_more (take n text) (parts_at 10 more) (some_parts 10 more),
+      ap (last_or []) parts ∙ last_or_more [] (take n text) (parts_at 10 more) (some_parts 10 more),
       shorter,
     )
 
 -- and a text without a newline
 pub no_line_found : (text : List ℕ) → IsFirstByte (is_byte 10) text None → (lines_of text ≡ []) × (rest_of text ≡ text)
-no_line_found text none = let parts = parts_at-nowhere 10 text none in (ap front parts, ap (back []) parts)
+no_line_found text none = let parts = parts_at-nowhere 10 text none in (ap all_but_last parts, ap (last_or []) parts)
 
 -- a text is its lines, each with its newline, and its rest
 pub lines_of-rest_of : (text : List ℕ) → text ≡ flat_map (λ line. line ++ 10 ∷ []) (lines_of text) ++ rest_of text
@@ -143,7 +143,7 @@ parts_at-lines (line ∷ lines) clear =
     ap (parts_at 10) (append_assoc line (10 ∷ []) (flat_map (λ line. line ++ 10 ∷ []) lines)) ∙ parts_at-first 10 line (flat_map (λ line. line ++ 10 ∷ []) lines) clear.0 ∙ rw (parts_at-lines lines clear.1) refl
 
 pub lines_of-lines : (lines : List (List ℕ)) → AllByRecursion (IsClearOf 10) lines → lines_of (flat_map (λ line. line ++ 10 ∷ []) lines) ≡ lines
-lines_of-lines lines clear = ap front (parts_at-lines lines clear) ∙ front-push lines []
+lines_of-lines lines clear = ap all_but_last (parts_at-lines lines clear) ∙ all_but_last-push lines []
 
 pub rest_of-lines : (lines : List (List ℕ)) → AllByRecursion (IsClearOf 10) lines → rest_of (flat_map (λ line. line ++ 10 ∷ []) lines) ≡ []
-rest_of-lines lines clear = ap (back []) (parts_at-lines lines clear) ∙ back-push [] lines []
+rest_of-lines lines clear = ap (last_or []) (parts_at-lines lines clear) ∙ last_or-push [] lines []

@@ -7,7 +7,7 @@ use Rattle.dm_table.specs.declared.table.DeviceSpec.{DeviceSpec}
 use Rattle.dm_table.specs.declared.place.Part.TheVariants.{Source}
 use Rattle.dm_table.specs.declared.load_fault.LoadKind.TheVariants.{NotText, Syntax, Field, Name}
 use Rattle.dm_table.specs.declared.load_fault.LoadFault.{LoadFault}
-use Rattle.dm_table.specs.Fields.{parts_at, front, back, lines_of, rest_of, lines_and_rest}
+use Rattle.dm_table.specs.Fields.{parts_at, all_but_last, last_or, lines_of, rest_of, lines_and_rest}
 use Rattle.dm_table.specs.LoadFault.{Answers, first_or, first_fault, faults_from, unless, is_text, not_text, unended}
 use Rattle.dm_table.specs.Parsed.{IsParsed}
 use Rattle.dm_table.specs.TableText.{NamedLine, Says, DescribesTable, named_lines, row_of, is_row, is_line, has_names, table_checks}
@@ -15,7 +15,7 @@ use Rattle.dm_table.specs.TableReading.{named_in, named_from, joined, devices_fr
 use Rattle.dm_table.proofs.ByteLemmas.{is_text-clear}
 use Rattle.dm_table.proofs.FaultLemmas.{first_fault-none, first_fault-all, faults_from-nil, faults_from-good, append-nil_both, unended-nil, unless-passed}
 use Rattle.dm_table.proofs.Parsing.{parsed}
-use Rattle.dm_table.proofs.FieldLemmas.{IsClearOf, lines_of-whole, parts_at-lines, front-push, back-push}
+use Rattle.dm_table.proofs.FieldLemmas.{IsClearOf, lines_of-whole, parts_at-lines, all_but_last-push, last_or-push}
 use Rattle.dm_table.proofs.TableGroups.{lines_of_joined, each_joined, apart_joined, devices_again}
 use Rattle.dm_table.proofs.TableRows.{row_for, row_said, line_writes, row_written, text_written, row_passes, line_passes, names_pass, line_again}
 
@@ -109,8 +109,8 @@ again text ds d =
     let ns = named_lines ds in
     let clean = texts_said 1 d.lines ns d.said in
     let parts : parts_at 10 text ≡ d.lines ++ [] ∷ [] = ap (parts_at 10) d.ended ∙ parts_at-lines d.lines (lines_clear d.lines clean) in
-    let lines : lines_of text ≡ d.lines = ap front parts ∙ front-push d.lines [] in
-    let rest : rest_of text ≡ [] = ap (back []) parts ∙ back-push [] d.lines [] in
+    let lines : lines_of text ≡ d.lines = ap all_but_last parts ∙ all_but_last-push d.lines [] in
+    let rest : rest_of text ≡ [] = ap (last_or []) parts ∙ last_or-push [] d.lines [] in
     let rs : rows text ≡ map row_for ns = ap (map row_of) lines ∙ rows_said 1 d.lines ns d.said in
     let no_bytes : not_text Source text ≡ [] = ap (λ (ls : List (List ℕ)). faults_from Source NotText (λ line. not (is_text line)) 1 ls) parts ∙ faults_from-good Source NotText (λ line. not (is_text line)) 1 (d.lines ++ [] ∷ []) (texts_pass d.lines clean) in
     let no_rows = none_along (λ r. faults_from Source Syntax (λ row. not (is_row row)) 1 r) (rows text) (map row_for ns) rs (faults_from-good Source Syntax (λ row. not (is_row row)) 1 (map row_for ns) (rows_pass 1 d.lines ns d.said)) in

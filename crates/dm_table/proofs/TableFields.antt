@@ -1,7 +1,7 @@
 -- What the tests of rows say, by places: the last field, and all before it.
 use Rattle.std.proofs.Common.{◌≡◌, ℕ, suc, ◌-◌, ◌≤◌, true, false, eqb, List, [], ◌∷◌, length, get_or, take, refl, ap, arith}
 use Rattle.std.proofs.lemmas.Bool.{lt-ltb, ne_eqb}
-use Rattle.dm_table.specs.Fields.{texts, front, back}
+use Rattle.dm_table.specs.Fields.{texts, all_but_last, last_or}
 use Rattle.dm_table.specs.TableText.{is_label, without_last_space}
 use Rattle.dm_table.specs.TableReading.{ends_empty}
 use Rattle.std.proofs.lemmas.List.{take_rest}
@@ -22,19 +22,19 @@ last_place : {X : Type 0} (x y : X) (xs : List X) → length (x ∷ y ∷ xs) - 
 last_place x y xs = omega arith
 
 -- all but the last, by places
-pub take-front : {X : Type 0} (xs : List X) → take (length xs - 1) xs ≡ front xs
-take-front [] = refl
-take-front (x ∷ []) = refl
-take-front (x ∷ y ∷ xs) = rw (last_place x y xs, take-front (y ∷ xs)) refl
+pub take-all_but_last : {X : Type 0} (xs : List X) → take (length xs - 1) xs ≡ all_but_last xs
+take-all_but_last [] = refl
+take-all_but_last (x ∷ []) = refl
+take-all_but_last (x ∷ y ∷ xs) = rw (last_place x y xs, take-all_but_last (y ∷ xs)) refl
 
 -- the last, by its place
-pub get_or-back : {X : Type 0} (d e : X) (xs : List X) → 1 ≤ length xs → get_or xs (length xs - 1) d ≡ back e xs
-get_or-back d e [] h = absurd (omega arith)
-get_or-back d e (x ∷ []) h = refl
-get_or-back d e (x ∷ y ∷ xs) h = rw (last_place x y xs) (get_or-back d e (y ∷ xs) (omega arith))
+pub get_or-last_or : {X : Type 0} (d e : X) (xs : List X) → 1 ≤ length xs → get_or xs (length xs - 1) d ≡ last_or e xs
+get_or-last_or d e [] h = absurd (omega arith)
+get_or-last_or d e (x ∷ []) h = refl
+get_or-last_or d e (x ∷ y ∷ xs) h = rw (last_place x y xs) (get_or-last_or d e (y ∷ xs) (omega arith))
 
 pub label_by_place : (field : List ℕ) → 2 ≤ length field → eqb (get_or field (length field - 1) 0) 58 ≡ is_label field
-label_by_place field h = rw (lt-ltb 1 (length field) (omega arith), get_or-back 0 0 field (omega arith)) refl
+label_by_place field h = rw (lt-ltb 1 (length field) (omega arith), get_or-last_or 0 0 field (omega arith)) refl
 
 empty_alone : (field : List ℕ) → eqb (length field) 0 ≡ ends_empty (field ∷ [])
 empty_alone [] = refl
@@ -46,7 +46,7 @@ ends_empty_by_place (f ∷ []) d h = empty_alone f.now
 ends_empty_by_place (f ∷ g ∷ fs) d h = rw (last_place f g fs) (ends_empty_by_place (g ∷ fs) d (omega arith))
 
 -- the last field goes where it is empty, and stays where it is not
-pub spaced : (fs : List (List ℕ)) → ends_empty fs ≡ true → without_last_space fs ≡ front fs
+pub spaced : (fs : List (List ℕ)) → ends_empty fs ≡ true → without_last_space fs ≡ all_but_last fs
 spaced [] e = refl
 spaced ([] ∷ []) e = refl
 spaced ((b ∷ bs) ∷ []) e = absurd cc

@@ -6,13 +6,13 @@ use Rattle.std.proofs.lemmas.List.{length-append}
 use Rattle.dm_table.specs.declared.place.Place.{Place}
 use Rattle.dm_table.specs.declared.place.Part.TheVariants.{Source}
 use Rattle.dm_table.specs.Name.{is_device_name}
-use Rattle.dm_table.specs.Fields.{front, back, fields}
+use Rattle.dm_table.specs.Fields.{all_but_last, last_or, fields}
 use Rattle.dm_table.specs.LoadFault.{is_text}
 use Rattle.dm_table.specs.LineBody.{is_body_row, has_body_names}
 use Rattle.dm_table.specs.TableText.{NamedLine, line_text, Writes, IsSaid, without_last_space, row_of, is_label, name_in, is_row, is_line, has_names}
 use Rattle.dm_table.specs.TableReading.{named_in}
 use Rattle.dm_table.proofs.ByteLemmas.{list_all-weaker, list_all-both}
-use Rattle.dm_table.proofs.FieldLemmas.{parts_at-first, parts_at-clear, join-parts_at, front-push, back-push}
+use Rattle.dm_table.proofs.FieldLemmas.{parts_at-first, parts_at-clear, join-parts_at, all_but_last-push, last_or-push}
 use Rattle.dm_table.proofs.BodyRows.{body_fields, body_joined, body_again, body_said, is_ink, IsInked, ink_clear, ink_text, name_inked, body_inked, body_row_passes, body_passes, body_names_pass}
 use Rattle.dm_table.proofs.BodyRows as body
 
@@ -49,16 +49,16 @@ space_joined f (g ∷ fs) = rw (space_joined g fs) (sym (append_assoc f (32 ∷ 
 
 -- From a row that the tests pass to its line
 
-last_split : (xs : List ℕ) → 0 < length xs → xs ≡ front xs ++ back 0 xs ∷ []
+last_split : (xs : List ℕ) → 0 < length xs → xs ≡ all_but_last xs ++ last_or 0 xs ∷ []
 last_split [] h = absurd (omega arith)
 last_split (x ∷ []) h = refl
 last_split (x ∷ y ∷ xs) h = ap (λ (rest : List ℕ). x ∷ rest) (last_split (y ∷ xs) (omega arith))
 
 label_spelled : (label : List ℕ) → is_label label ≡ true → name_in label ++ 58 ∷ [] ≡ label
 label_spelled label h =
-    let a = and_parts (nat_lt 1 (length label)) (eqb (back 0 label) 58) h in
+    let a = and_parts (nat_lt 1 (length label)) (eqb (last_or 0 label) 58) h in
     let long : 1 < length label = ltb-true 1 (length label) a.0 in
-    sym (last_split label (omega arith) ∙ ap (λ (b : ℕ). front label ++ b ∷ []) (eqb-true (back 0 label) 58 a.1))
+    sym (last_split label (omega arith) ∙ ap (λ (b : ℕ). all_but_last label ++ b ∷ []) (eqb-true (last_or 0 label) 58 a.1))
 
 -- a row in order is that of its line
 pub row_again : (n : ℕ) (row : List (List ℕ)) → is_row row ≡ true → is_line row ≡ true → row_for (named_in n row) ≡ row
@@ -158,7 +158,7 @@ text_written n text named w h =
 label_passes : (name : List ℕ) → is_device_name name ≡ true → is_label (name ++ 58 ∷ []) ≡ true
 label_passes name h =
     let long : 0 < length name = ltb-true 0 (length name) (name_inked name h).0 in
-    and_from _ _ (lt-ltb 1 _ (omega (arith, length-append name (58 ∷ [])))) (eq-eqb _ _ (back-push 0 name 58))
+    and_from _ _ (lt-ltb 1 _ (omega (arith, length-append name (58 ∷ [])))) (eq-eqb _ _ (last_or-push 0 name 58))
 
 pub row_passes : (n : ℕ) (named : NamedLine) → IsSaid n named → is_row (row_for named) ≡ true
 row_passes n named h = and_from _ _ (label_passes named.name h.name) (body_row_passes named.line h.body)
@@ -167,9 +167,9 @@ pub line_passes : (n : ℕ) (named : NamedLine) → IsSaid n named → is_line (
 line_passes n named h = body_passes named.line h.body
 
 pub names_pass : (n : ℕ) (named : NamedLine) → IsSaid n named → has_names (row_for named) ≡ true
-names_pass n named h = and_from _ _ (ap is_device_name (front-push named.name 58) ∙ h.name) (body_names_pass named.line h.body)
+names_pass n named h = and_from _ _ (ap is_device_name (all_but_last-push named.name 58) ∙ h.name) (body_names_pass named.line h.body)
 
 -- and is read as that line
 pub line_again : (n : ℕ) (named : NamedLine) → IsSaid n named → named_in n (row_for named) ≡ named
 line_again n named h =
-    rw (front-push named.name 58, body.line_again (record { part = Source; number = n }) named.line h.body h.at) refl
+    rw (all_but_last-push named.name 58, body.line_again (record { part = Source; number = n }) named.line h.body h.at) refl

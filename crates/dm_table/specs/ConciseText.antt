@@ -10,7 +10,7 @@ use Rattle.dm_table.specs.declared.load_fault.LoadKind.TheVariants.{NotText, Syn
 use Rattle.dm_table.specs.declared.load_fault.LoadFault.{LoadFault}
 use Rattle.dm_table.specs.Name.{is_device_byte, is_device_name}
 use Rattle.dm_table.specs.Number.{number_of}
-use Rattle.dm_table.specs.Fields.{parts_at, front, back}
+use Rattle.dm_table.specs.Fields.{parts_at, all_but_last, last_or}
 use Rattle.dm_table.specs.LoadFault.{faults_from}
 use Rattle.dm_table.specs.LineBody.{body_text, IsBody, is_body_row, is_body, has_body_names}
 use Rattle.dm_table.specs.TableText.{row_of}
@@ -89,7 +89,7 @@ lacks c text = list_all (λ b. not (b == c)) text
 
 -- a text without the newline at its end
 abbrev pub without_newline : List ℕ → List ℕ
-without_newline text = if back 0 text == 10 then front text else text
+without_newline text = if last_or 0 text == 10 then all_but_last text else text
 
 -- its parts between semicolons; where it is empty there are none
 abbrev pub parts_of : List ℕ → List (List ℕ)

@@ -13,24 +13,24 @@ abbrev pub parts_at : ℕ → List ℕ → List (List ℕ)
 parts_at c = slice_split (λ b. b == c)
 
 -- all but the last
-abbrev pub front : {X : Type 0} → List X → List X
-front [] = []
-front (x ∷ []) = []
-front (x ∷ y ∷ ys) = x ∷ front (y ∷ ys)
+abbrev pub all_but_last : {X : Type 0} → List X → List X
+all_but_last [] = []
+all_but_last (x ∷ []) = []
+all_but_last (x ∷ y ∷ ys) = x ∷ all_but_last (y ∷ ys)
 
 -- the last, or d
-abbrev pub back : {X : Type 0} → X → List X → X
-back d [] = d
-back d (x ∷ []) = x
-back d (x ∷ y ∷ ys) = back d (y ∷ ys)
+abbrev pub last_or : {X : Type 0} → X → List X → X
+last_or d [] = d
+last_or d (x ∷ []) = x
+last_or d (x ∷ y ∷ ys) = last_or d (y ∷ ys)
 
 -- the lines that a newline ends
 abbrev pub lines_of : List ℕ → List (List ℕ)
-lines_of text = front (parts_at 10 text)
+lines_of text = all_but_last (parts_at 10 text)
 
 -- what stands after the last newline
 abbrev pub rest_of : List ℕ → List ℕ
-rest_of text = back [] (parts_at 10 text)
+rest_of text = last_or [] (parts_at 10 text)
 
 -- both of a text, and both of what a text was cut into
 abbrev pub lines_and_rest : List ℕ → List (List ℕ) × List ℕ

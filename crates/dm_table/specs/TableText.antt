@@ -8,7 +8,7 @@ use Rattle.dm_table.specs.declared.place.Part.TheVariants.{Source}
 use Rattle.dm_table.specs.declared.load_fault.LoadKind.TheVariants.{Syntax, Field, Name}
 use Rattle.dm_table.specs.declared.load_fault.LoadFault.{LoadFault}
 use Rattle.dm_table.specs.Name.{is_device_name}
-use Rattle.dm_table.specs.Fields.{fields, front, back, lines_of, rest_of}
+use Rattle.dm_table.specs.Fields.{fields, all_but_last, last_or, lines_of, rest_of}
 use Rattle.dm_table.specs.LoadFault.{faults_from, not_text, unended}
 use Rattle.dm_table.specs.LineBody.{body_text, IsBody, is_body_row, is_body, has_body_names}
 
@@ -81,11 +81,11 @@ row_of line = without_last_space (fields line)
 
 -- a name and a colon after it
 abbrev pub is_label : List ℕ → Bool
-is_label field = nat_lt 1 (length field) && back 0 field == 58
+is_label field = nat_lt 1 (length field) && last_or 0 field == 58
 
 -- the name in a label: all before its last colon
 abbrev pub name_in : List ℕ → List ℕ
-name_in label = front label
+name_in label = all_but_last label
 
 -- a label, and the fields of a body
 abbrev pub is_row : List (List ℕ) → Bool

@@ -6,18 +6,18 @@ ghost use Rattle.std.specs.Io.KnownBytes.{Keeps, ReadConsumes, WriteAppends};
 ghost use Rattle.dm_table.specs.DeviceIo.{given, fault_of, end_of, unflushed};
 
 use crate::device_io::{InFault, Input, OutFault, Output};
-use crate::history::{History, Tally};
+use crate::ghost_bytes::{GhostBytes, Tally};
 use std::io::{Read, Write};
 
 /// A reader or a writer, with a history that takes no room and no time.
 #[derive(Drop)]
 pub struct Counted<T> {
     inner: T,
-    handed: History,
+    handed: GhostBytes,
     read_faults: Tally,
     ends: Tally,
-    written: History,
-    waiting: History,
+    written: GhostBytes,
+    waiting: GhostBytes,
     write_faults: Tally,
     flushes: Tally,
 }
@@ -33,11 +33,11 @@ impl<T> Counted<T> {
     {
         Counted {
             inner,
-            handed: History::new(),
+            handed: GhostBytes::new(),
             read_faults: Tally::new(),
             ends: Tally::new(),
-            written: History::new(),
-            waiting: History::new(),
+            written: GhostBytes::new(),
+            waiting: GhostBytes::new(),
             write_faults: Tally::new(),
             flushes: Tally::new(),
         }
@@ -122,7 +122,7 @@ impl<T: Write> Output for Counted<T> {
         self.flushes.raise();
         match self.inner.flush() {
             Ok(()) => {
-                self.waiting = History::new();
+                self.waiting = GhostBytes::new();
                 Ok(())
             }
             Err(_) => {

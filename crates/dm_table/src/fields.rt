@@ -4,7 +4,7 @@
 //! cuts at another byte calls `cut` too.
 
 ghost use Rattle.std.specs.Prelude.{◌≡◌, [], IfOk, OnOk};
-ghost use Rattle.dm_table.specs.Fields.{texts, parts_at, front, back};
+ghost use Rattle.dm_table.specs.Fields.{texts, parts_at, all_but_last, last_or};
 
 use memchr::memchr;
 use std::alloc::{AllocError, Global};
@@ -46,8 +46,8 @@ pub(crate) fn cut_into<'a>(
 
 /// The last part is what stands after the last newline, the others are lines.
 pub(crate) fn without_rest<'a>(mut parts: Vec<&'a [u8]>) -> Lines<'a>
-    ensures lines { texts result.lines.items ≡ front (texts parts.entry.items) }
-    ensures rest { result.rest.now ≡ back [] (texts parts.entry.items) }
+    ensures lines { texts result.lines.items ≡ all_but_last (texts parts.entry.items) }
+    ensures rest { result.rest.now ≡ last_or [] (texts parts.entry.items) }
 {
     let rest = parts.pop().unwrap_or(b"");
     Lines { lines: parts, rest }

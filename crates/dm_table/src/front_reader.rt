@@ -11,7 +11,7 @@ ghost use Rattle.dm_table.specs.RequestLine.{IsFront, values_of};
 use crate::block::put_bytes;
 use crate::name::{ascii_str, leading_name};
 use crate::request::Request;
-use crate::request_line::{NUMBERS_ROOM, after_space, first_op, front_behind};
+use crate::request_line::{NUMBERS_ROOM, after_space, first_op, front_after_name};
 use crate::same_bytes::are_same;
 use std::marker::Model;
 
@@ -59,7 +59,7 @@ impl FrontReader {
         let (op, rest) = first_op(text)?;
         let len = self.name_len(rest)?;
         let device = ascii_str(&rest[..len]);
-        front_behind(text, &rest[len + 1..], number, op, device)
+        front_after_name(text, &rest[len + 1..], number, op, device)
     }
 
     /// How long the device's name is that a text begins with, where a space follows it, and enough

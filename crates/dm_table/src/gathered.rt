@@ -9,7 +9,7 @@ ghost use Rattle.dm_table.specs.WriteAll.{IsCutShort};
 
 use crate::block::put_bytes;
 use crate::device_io::{OutFault, Output};
-use crate::history::Tally;
+use crate::ghost_bytes::Tally;
 use crate::text::{TEXT_ROOM, Text};
 use std::marker::Model;
 

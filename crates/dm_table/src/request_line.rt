@@ -206,7 +206,7 @@ fn last_number(text: &[u8]) -> Option<(u64, usize)>
 /// The request of an operation on a device that a text begins with, and the bytes of its line without
 /// the newline, where the numbers are still to be read.
 #[inline(always)]
-pub(crate) fn front_behind<'a>(
+pub(crate) fn front_after_name<'a>(
     text: &'a [u8],
     rest: &'a [u8],
     number: u64,
@@ -250,5 +250,5 @@ pub fn front_request<'a>(text: &'a [u8], number: u64) -> Option<(Request<'a>, us
     if rest.len() < NUMBERS_ROOM {
         return None;
     }
-    front_behind(text, rest, number, op, device)
+    front_after_name(text, rest, number, op, device)
 }

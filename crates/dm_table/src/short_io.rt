@@ -6,7 +6,7 @@ ghost use Rattle.dm_table.specs.DeviceIo.{given, fault_of, end_of, unflushed};
 ghost use Rattle.dm_table.specs.ShortIo.{Supply, fresh_supply, Intake, fresh_intake, HandsOut, TakesIn, PassesOn};
 
 use crate::device_io::{InFault, Input, OutFault, Output};
-use crate::history::{History, Tally};
+use crate::ghost_bytes::{GhostBytes, Tally};
 use std::alloc::{AllocError, Global};
 use std::marker::Model;
 
@@ -122,7 +122,7 @@ pub struct ShortOut {
     room: usize,
     step: usize,
     flush_fails: bool,
-    waiting: History,
+    waiting: GhostBytes,
     faults: Tally,
     flushes: Tally,
 }
@@ -174,7 +174,7 @@ impl ShortOut {
             room: count,
             step,
             flush_fails,
-            waiting: History::new(),
+            waiting: GhostBytes::new(),
             faults: Tally::new(),
             flushes: Tally::new(),
         })
@@ -234,7 +234,7 @@ impl Output for ShortOut {
             self.faults.raise();
             return Err(OutFault);
         }
-        self.waiting = History::new();
+        self.waiting = GhostBytes::new();
         Ok(())
     }
 }

@@ -5,7 +5,8 @@
 
 ghost use Rattle.std.specs.Prelude.{◌≡◌, ◌∷◌, [], false, length, IfErr, OnOk, OnErr};
 ghost use Rattle.dm_table.specs.DeviceIo.{delivery, since};
-ghost use Rattle.dm_stream.specs.Progress.{HasRead, HasWritten};
+ghost use Rattle.dm_table.specs.PartInput.{IsReadOn};
+ghost use Rattle.dm_stream.specs.Progress.{HasWritten};
 ghost use Rattle.dm_stream.specs.ProgressLaws.{written_none, written_more};
 ghost use Rattle.dm_stream.specs.Requests.{numbered, requests_of};
 ghost use Rattle.dm_replay.specs.Replay.{new_replay};
@@ -131,7 +132,7 @@ fn play_lines<'s, Q: Input, W: Output>(
 ) -> ReplayEnd
     requires new { replay.old ≡ new_replay player.old.stack.now }
     ensures same_output { player.new.output.ghost_name ≡ player.old.output.ghost_name }
-    ensures reads { HasRead Q.handed Q.faults Q.ends requests.old requests.new }
+    ensures reads { IsReadOn Q.handed Q.faults Q.ends requests.old requests.new }
     ensures met { HasMetEnd result (Q.faults requests.old) (Q.faults requests.new) }
     ensures writes { HasWritten W.written W.waiting W.faults W.flushes player.old.output.now player.new.output.now (end_faults result) }
     ensures played { IsPlayed player.old.stack.now (requests_of (delivery Q.handed Q.faults Q.ends requests.old requests.new))
@@ -152,7 +153,7 @@ pub(crate) fn play_requests<'s, Q: Input, W: Output>(
     output: &mut W,
 ) -> ReplayEnd
     requires new { replay.old ≡ new_replay stack.now }
-    ensures reads { HasRead Q.handed Q.faults Q.ends requests.old requests.new }
+    ensures reads { IsReadOn Q.handed Q.faults Q.ends requests.old requests.new }
     ensures met { HasMetEnd result (Q.faults requests.old) (Q.faults requests.new) }
     ensures writes { HasWritten W.written W.waiting W.faults W.flushes output.old output.new (end_faults result) }
     ensures played { IsPlayed stack.now (requests_of (delivery Q.handed Q.faults Q.ends requests.old requests.new))

@@ -8,7 +8,7 @@ ghost use Rattle.dm_table.specs.DeviceIo.{Delivery, delivery, since};
 ghost use Rattle.dm_table.specs.LoadMessage.{memory_message};
 ghost use Rattle.dm_table.specs.PartInput.{IsReadOn};
 ghost use Rattle.dm_stream.specs.Messages.{IsTold};
-ghost use Rattle.dm_stream.specs.Progress.{HasRead, HasWritten};
+ghost use Rattle.dm_stream.specs.Progress.{HasWritten};
 ghost use Rattle.dm_stream.specs.Requests.{Requests, requests_of};
 ghost use Rattle.dm_stack.specs.Claims.{IsTidy};
 ghost use Rattle.dm_stack.specs.Description.{Description};

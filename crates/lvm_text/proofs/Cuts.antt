@@ -1,4 +1,4 @@
--- A text is cut into pieces in one way.
+-- A text is cut into elements in one way.
 use Rattle.std.proofs.Common.{◌≡◌, ℕ, suc, ◌+◌, true, false, cond, eqb, List, [], ◌∷◌, ◌++◌, length, take, drop, Option, Some, None, refl, sym, ap, subst, ◌∙◌, append_assoc, arith}
 use Rattle.std.specs.Prelude.{MatchOption, option_map}
 use Rattle.std.specs.List.{list_all}
@@ -6,12 +6,12 @@ use Rattle.std.proofs.lemmas.Bool.{and_parts, eqb-true}
 use Rattle.std.proofs.lemmas.Bool.Decides.{nat_tests}
 use Rattle.std.proofs.lemmas.Option.{same_Some}
 use Rattle.lvm_text.specs.Token.{Token, Word, Text, Open, Close, ListOpen, ListClose, Equals, Comma, Placed}
-use Rattle.lvm_text.specs.Spelling.{Piece, White, Comment, Lexeme, spelling, token_spelling, IsWord, IsToken, IsPiece, Begins, Cut, is_white, is_line, is_word_byte, is_end, line_after, tokens_from, put_token, newlines, Spells, IsBadToken}
-use Rattle.lvm_text.specs.Scan.{line_length, word_length, raw_length, sign_of, piece_at}
+use Rattle.lvm_text.specs.Spelling.{Element, White, Comment, Lexeme, spelling, token_spelling, IsWord, IsToken, IsElement, Begins, Cut, is_white, is_line, is_word_byte, is_end, line_after, tokens_from, put_token, newlines, Spells, IsBadToken}
+use Rattle.lvm_text.specs.Scan.{line_length, word_length, raw_length, sign_of, element_at}
 use Rattle.lvm_text.proofs.Cases.{cond_elim, mapped}
 use Rattle.lvm_text.proofs.Scans.{line_again, line_none, Line, line_found, word_again, word_found, raw_again, Raw, raw_found}
 
--- A piece is found
+-- An element is found
 
 -- a sign, and its byte
 pub record Sign (b : ℕ) (t : Token) : Type 0 where
@@ -29,8 +29,8 @@ sign_found b =
     sign_if b 123 Open _ refl (λ a. tt) (sign_if b 125 Close _ refl (λ a. tt) (sign_if b 91 ListOpen _ refl (λ a. tt)
     (sign_if b 93 ListClose _ refl (λ a. tt) (sign_if b 61 Equals _ refl (λ a. tt) (sign_if b 44 Comma None refl (λ a. tt) tt)))))
 
--- a text that begins with a piece, seen as a pair
-abbrev pub Found : List ℕ → Piece × List ℕ → Type 0
+-- a text that begins with an element, seen as a pair
+abbrev pub Found : List ℕ → Element × List ℕ → Type 0
 Found bs q = Begins bs q.0 q.1
 
 nonempty : (b : ℕ) (bs : List ℕ) → is_word_byte b ≡ true → take (word_length (b ∷ bs)) (b ∷ bs) ≡ [] → ⊥
@@ -41,15 +41,15 @@ word_is b bs is =
     let h = word_found (b ∷ bs) in
     (h.cut, record { some = nonempty b bs is; bytes = h.bytes; longest = h.longest })
 
-pub piece_found : (bs : List ℕ) → MatchOption (piece_at bs) (Unit {0}) (Found bs)
-unfolding piece_at
-piece_found [] = tt
-piece_found (b ∷ bs) =
-    let P : Option (Piece × List ℕ) → Type 0 = λ r. MatchOption r (Unit {0}) (Found (b ∷ bs)) in
-    let comment : Option (Piece × List ℕ) = option_map (λ n. (Comment (take n bs), drop (suc n) bs)) (line_length bs) in
-    let text : Option (Piece × List ℕ) = option_map (λ n. (Lexeme (Text (take n bs)), drop (suc n) bs)) (raw_length bs) in
-    let word : Option (Piece × List ℕ) = Some (Lexeme (Word (take (word_length (b ∷ bs)) (b ∷ bs))), drop (word_length (b ∷ bs)) (b ∷ bs)) in
-    let sign : Option (Piece × List ℕ) = option_map (λ t. (Lexeme t, bs)) (sign_of b) in
+pub element_found : (bs : List ℕ) → MatchOption (element_at bs) (Unit {0}) (Found bs)
+unfolding element_at
+element_found [] = tt
+element_found (b ∷ bs) =
+    let P : Option (Element × List ℕ) → Type 0 = λ r. MatchOption r (Unit {0}) (Found (b ∷ bs)) in
+    let comment : Option (Element × List ℕ) = option_map (λ n. (Comment (take n bs), drop (suc n) bs)) (line_length bs) in
+    let text : Option (Element × List ℕ) = option_map (λ n. (Lexeme (Text (take n bs)), drop (suc n) bs)) (raw_length bs) in
+    let word : Option (Element × List ℕ) = Some (Lexeme (Word (take (word_length (b ∷ bs)) (b ∷ bs))), drop (word_length (b ∷ bs)) (b ∷ bs)) in
+    let sign : Option (Element × List ℕ) = option_map (λ t. (Lexeme t, bs)) (sign_of b) in
     cond_elim (is_white b) P (Some (White b, bs)) (cond (eqb b 35) comment (cond (eqb b 34) text (cond (is_word_byte b) word sign)))
     (λ is. (refl, is))
     (λ no. cond_elim (eqb b 35) P comment (cond (eqb b 34) text (cond (is_word_byte b) word sign))
@@ -62,7 +62,7 @@ piece_found (b ∷ bs) =
     (λ is. word_is b bs is)
     (λ no. mapped (sign_of b) (λ t. (Lexeme t, bs)) (Sign b) (Found (b ∷ bs)) (λ t h. (ap (λ (xs : List ℕ). xs ++ bs) h.spelled, h.any bs)) (sign_found b)))))
 
--- A piece is found again
+-- An element is found again
 
 take_front : (c r : List ℕ) → take (length c) (c ++ r) ≡ c
 take_front [] r = refl
@@ -82,43 +82,43 @@ word_white b h = grind (arith, nat_tests)
 word_sign : (b : ℕ) → is_word_byte b ≡ true → (eqb b 35 ≡ false) × (eqb b 34 ≡ false)
 word_sign b h = (grind (arith, nat_tests), grind (arith, nat_tests))
 
-word_again' : (w after : List ℕ) → IsWord w after → piece_at (w ++ after) ≡ Some (Lexeme (Word w), after)
-unfolding piece_at
+word_again' : (w after : List ℕ) → IsWord w after → element_at (w ++ after) ≡ Some (Lexeme (Word w), after)
+unfolding element_at
 word_again' [] after h = absurd (h.some refl)
 word_again' (b ∷ w) after h =
     let a = and_parts (is_word_byte b) (list_all is_word_byte w) h.bytes in
     let s = word_sign b a.0 in
     rw (word_white b a.0, s.0, s.1, a.0, word_again w after a.1 h.longest, take_front w after, drop_front w after) refl
 
-comment_again : (c after : List ℕ) → is_line c ≡ true → piece_at (35 ∷ (c ++ 10 ∷ after)) ≡ Some (Comment c, after)
-unfolding piece_at
+comment_again : (c after : List ℕ) → is_line c ≡ true → element_at (35 ∷ (c ++ 10 ∷ after)) ≡ Some (Comment c, after)
+unfolding element_at
 comment_again c after h = rw (line_again c after h, take_front c (10 ∷ after), drop_past c 10 after) refl
 
-text_again : (t after : List ℕ) → IsToken (Text t) after → piece_at (34 ∷ (t ++ 34 ∷ after)) ≡ Some (Lexeme (Text t), after)
-unfolding piece_at
+text_again : (t after : List ℕ) → IsToken (Text t) after → element_at (34 ∷ (t ++ 34 ∷ after)) ≡ Some (Lexeme (Text t), after)
+unfolding element_at
 text_again t after h = rw (raw_again t after h, take_front t (34 ∷ after), drop_past t 34 after) refl
 
-white_again : (b : ℕ) (after : List ℕ) → is_white b ≡ true → piece_at (b ∷ after) ≡ Some (White b, after)
-unfolding piece_at
+white_again : (b : ℕ) (after : List ℕ) → is_white b ≡ true → element_at (b ∷ after) ≡ Some (White b, after)
+unfolding element_at
 white_again b after h = rw h refl
 
-token_again : (t : Token) (after : List ℕ) → IsToken t after → piece_at (token_spelling t ++ after) ≡ Some (Lexeme t, after)
-unfolding piece_at
+token_again : (t : Token) (after : List ℕ) → IsToken t after → element_at (token_spelling t ++ after) ≡ Some (Lexeme t, after)
+unfolding element_at
 token_again (Word w) after h = word_again' w after h
-token_again (Text t) after h = ap (λ (xs : List ℕ). piece_at (34 ∷ xs)) (append_assoc t (34 ∷ []) after) ∙ text_again t after h
+token_again (Text t) after h = ap (λ (xs : List ℕ). element_at (34 ∷ xs)) (append_assoc t (34 ∷ []) after) ∙ text_again t after h
 token_again _ after h = refl
 
-spelled_again : (p : Piece) (after : List ℕ) → IsPiece p after → piece_at (spelling p ++ after) ≡ Some (p, after)
+spelled_again : (p : Element) (after : List ℕ) → IsElement p after → element_at (spelling p ++ after) ≡ Some (p, after)
 spelled_again (White b) after h = white_again b after h
-spelled_again (Comment c) after h = ap (λ (xs : List ℕ). piece_at (35 ∷ xs)) (append_assoc c (10 ∷ []) after) ∙ comment_again c after h
+spelled_again (Comment c) after h = ap (λ (xs : List ℕ). element_at (35 ∷ xs)) (append_assoc c (10 ∷ []) after) ∙ comment_again c after h
 spelled_again (Lexeme t) after h = token_again t after h
 
-pub piece_again : (bs : List ℕ) (p : Piece) (after : List ℕ) → Begins bs p after → piece_at bs ≡ Some (p, after)
-piece_again bs p after h = ap piece_at h.0 ∙ spelled_again p after h.1
+pub element_again : (bs : List ℕ) (p : Element) (after : List ℕ) → Begins bs p after → element_at bs ≡ Some (p, after)
+element_again bs p after h = ap element_at h.0 ∙ spelled_again p after h.1
 
--- at the end there is no piece
-pub end_none : (bs : List ℕ) → is_end bs ≡ true → piece_at bs ≡ None
-unfolding piece_at
+-- at the end there is no element
+pub end_none : (bs : List ℕ) → is_end bs ≡ true → element_at bs ≡ None
+unfolding element_at
 end_none [] h = refl
 end_none (b ∷ bs) h =
     let a = and_parts (eqb b 35) (is_line bs) h in
@@ -126,96 +126,96 @@ end_none (b ∷ bs) h =
 
 -- One cut
 
--- the text is cut as far as there are pieces
-pub record CutUp (text : List ℕ) (ps : List Piece) (rest : List ℕ) : Type 0 where
+-- the text is cut as far as there are elements
+pub record CutUp (text : List ℕ) (ps : List Element) (rest : List ℕ) : Type 0 where
   pub cut : Cut text ps rest
-  pub over : piece_at rest ≡ None
+  pub over : element_at rest ≡ None
 
-both : (o : Option (Piece × List ℕ)) (p : Piece) (a : List ℕ) → o ≡ Some (p, a) → o ≡ None → ⊥
+both : (o : Option (Element × List ℕ)) (p : Element) (a : List ℕ) → o ≡ Some (p, a) → o ≡ None → ⊥
 both o p a h n = cc
 
-pub one_cut : (text : List ℕ) (ps qs : List Piece) (r s : List ℕ) → CutUp text ps r → CutUp text qs s → (ps ≡ qs) × (r ≡ s)
+pub one_cut : (text : List ℕ) (ps qs : List Element) (r s : List ℕ) → CutUp text ps r → CutUp text qs s → (ps ≡ qs) × (r ≡ s)
 one_cut text [] [] r s h k = (refl, sym h.cut ∙ k.cut)
-one_cut text [] (q ∷ qs) r s h k = absurd (both (piece_at text) q k.cut.0 (piece_again text q k.cut.0 k.cut.1) (ap piece_at h.cut ∙ h.over))
-one_cut text (p ∷ ps) [] r s h k = absurd (both (piece_at text) p h.cut.0 (piece_again text p h.cut.0 h.cut.1) (ap piece_at k.cut ∙ k.over))
+one_cut text [] (q ∷ qs) r s h k = absurd (both (element_at text) q k.cut.0 (element_again text q k.cut.0 k.cut.1) (ap element_at h.cut ∙ h.over))
+one_cut text (p ∷ ps) [] r s h k = absurd (both (element_at text) p h.cut.0 (element_again text p h.cut.0 h.cut.1) (ap element_at k.cut ∙ k.over))
 one_cut text (p ∷ ps) (q ∷ qs) r s h k =
-    let same : ◌≡◌ {A = Piece × List ℕ} (p, h.cut.0) (q, k.cut.0) = same_Some _ _ (sym (piece_again text p h.cut.0 h.cut.1) ∙ piece_again text q k.cut.0 k.cut.1) in
-    let rest = one_cut h.cut.0 ps qs r s (record { cut = h.cut.2; over = h.over }) (record { cut = subst (λ (x : List ℕ). Cut x qs s) (sym (ap (λ (x : Piece × List ℕ). x.1) same)) k.cut.2; over = k.over }) in
-    (ap (λ (x : Piece × List ℕ). x.0 ∷ ps) same ∙ ap (λ (xs : List Piece). q ∷ xs) rest.0, rest.1)
+    let same : ◌≡◌ {A = Element × List ℕ} (p, h.cut.0) (q, k.cut.0) = same_Some _ _ (sym (element_again text p h.cut.0 h.cut.1) ∙ element_again text q k.cut.0 k.cut.1) in
+    let rest = one_cut h.cut.0 ps qs r s (record { cut = h.cut.2; over = h.over }) (record { cut = subst (λ (x : List ℕ). Cut x qs s) (sym (ap (λ (x : Element × List ℕ). x.1) same)) k.cut.2; over = k.over }) in
+    (ap (λ (x : Element × List ℕ). x.0 ∷ ps) same ∙ ap (λ (xs : List Element). q ∷ xs) rest.0, rest.1)
 
-found_none : (bs : List ℕ) (o : Option (Piece × List ℕ)) → MatchOption o (Unit {0}) (Found bs) → ((p : Piece) (after : List ℕ) → ¬ (Begins bs p after)) → o ≡ None
+found_none : (bs : List ℕ) (o : Option (Element × List ℕ)) → MatchOption o (Unit {0}) (Found bs) → ((p : Element) (after : List ℕ) → ¬ (Begins bs p after)) → o ≡ None
 found_none bs None h bad = refl
 found_none bs (Some q) h bad = absurd (bad q.0 q.1 h)
 
--- where nothing begins, there is no piece
-pub bad_none : (bs : List ℕ) → ((p : Piece) (after : List ℕ) → ¬ (Begins bs p after)) → piece_at bs ≡ None
-bad_none bs bad = found_none bs (piece_at bs) (piece_found bs) bad
+-- where nothing begins, there is no element
+pub bad_none : (bs : List ℕ) → ((p : Element) (after : List ℕ) → ¬ (Begins bs p after)) → element_at bs ≡ None
+bad_none bs bad = found_none bs (element_at bs) (element_found bs) bad
 
-pub none_bad : (bs : List ℕ) → piece_at bs ≡ None → (p : Piece) (after : List ℕ) → ¬ (Begins bs p after)
-none_bad bs none p after h = both (piece_at bs) p after (piece_again bs p after h) none
+pub none_bad : (bs : List ℕ) → element_at bs ≡ None → (p : Element) (after : List ℕ) → ¬ (Begins bs p after)
+none_bad bs none p after h = both (element_at bs) p after (element_again bs p after h) none
 
-spelled_up : {text : List ℕ} {ts : List Placed} (h : Spells text ts) → CutUp text h.pieces h.rest
+spelled_up : {text : List ℕ} {ts : List Placed} (h : Spells text ts) → CutUp text h.elements h.rest
 spelled_up h = record { cut = h.cut; over = end_none h.rest h.end }
 
-bad_up : {text : List ℕ} {n : ℕ} (h : IsBadToken text n) → CutUp text h.pieces h.rest
+bad_up : {text : List ℕ} {n : ℕ} (h : IsBadToken text n) → CutUp text h.elements h.rest
 bad_up h = record { cut = h.cut; over = bad_none h.rest h.bad }
 
 -- a text spells one list of tokens
 pub one_spelling : (text : List ℕ) (ts us : List Placed) → Spells text ts → Spells text us → ts ≡ us
-one_spelling text ts us h k = h.tokens ∙ ap (tokens_from 1) (one_cut text h.pieces k.pieces h.rest k.rest (spelled_up h) (spelled_up k)).0 ∙ sym k.tokens
+one_spelling text ts us h k = h.tokens ∙ ap (tokens_from 1) (one_cut text h.elements k.elements h.rest k.rest (spelled_up h) (spelled_up k)).0 ∙ sym k.tokens
 
 -- a text that spells tokens has no bad one
 pub spelled_no_bad : (text : List ℕ) (ts : List Placed) (n : ℕ) → Spells text ts → IsBadToken text n → ⊥
 spelled_no_bad text ts n h k =
-    let same = one_cut text h.pieces k.pieces h.rest k.rest (spelled_up h) (bad_up k) in
+    let same = one_cut text h.elements k.elements h.rest k.rest (spelled_up h) (bad_up k) in
     let wrong : true ≡ false = sym h.end ∙ ap is_end same.1 ∙ k.more in
     absurd cc
 
 -- the first bad token stands at one line
 pub one_bad : (text : List ℕ) (m n : ℕ) → IsBadToken text m → IsBadToken text n → m ≡ n
-one_bad text m n h k = h.at ∙ ap (line_after 1) (one_cut text h.pieces k.pieces h.rest k.rest (bad_up h) (bad_up k)).0 ∙ sym k.at
+one_bad text m n h k = h.at ∙ ap (line_after 1) (one_cut text h.elements k.elements h.rest k.rest (bad_up h) (bad_up k)).0 ∙ sym k.at
 
--- One more piece
+-- One more element
 
-pub cut_more : (text : List ℕ) (ps : List Piece) (r : List ℕ) (p : Piece) (after : List ℕ) → Cut text ps r → Begins r p after → Cut text (ps ++ p ∷ []) after
+pub cut_more : (text : List ℕ) (ps : List Element) (r : List ℕ) (p : Element) (after : List ℕ) → Cut text ps r → Begins r p after → Cut text (ps ++ p ∷ []) after
 cut_more text [] r p after h b = (after, subst (λ (x : List ℕ). Begins x p after) (sym h) b, refl)
 cut_more text (q ∷ ps) r p after h b = (h.0, h.1, cut_more h.0 ps r p after h.2 b)
 
-pub line_more : (n : ℕ) (ps : List Piece) (p : Piece) → line_after n (ps ++ p ∷ []) ≡ line_after n ps + newlines (spelling p)
+pub line_more : (n : ℕ) (ps : List Element) (p : Element) → line_after n (ps ++ p ∷ []) ≡ line_after n ps + newlines (spelling p)
 line_more n [] p = refl
 line_more n (q ∷ ps) p = line_more (n + newlines (spelling q)) ps p
 
-put_more : (p : Piece) (n : ℕ) (xs ys : List Placed) → put_token p n (xs ++ ys) ≡ put_token p n xs ++ ys
+put_more : (p : Element) (n : ℕ) (xs ys : List Placed) → put_token p n (xs ++ ys) ≡ put_token p n xs ++ ys
 put_more (White b) n xs ys = refl
 put_more (Comment c) n xs ys = refl
 put_more (Lexeme t) n xs ys = refl
 
-pub tokens_more : (n : ℕ) (ps : List Piece) (p : Piece) → tokens_from n (ps ++ p ∷ []) ≡ tokens_from n ps ++ put_token p (line_after n ps) []
+pub tokens_more : (n : ℕ) (ps : List Element) (p : Element) → tokens_from n (ps ++ p ∷ []) ≡ tokens_from n ps ++ put_token p (line_after n ps) []
 tokens_more n [] p = refl
 tokens_more n (q ∷ ps) p =
     ap (put_token q n) (tokens_more (n + newlines (spelling q)) ps p) ∙ put_more q n (tokens_from (n + newlines (spelling q)) ps) (put_token p (line_after (n + newlines (spelling q)) ps) [])
 
 -- the text so far: these tokens, and this line
 pub record Before (text : List ℕ) (line : ℕ) (tokens : List Placed) (rest : List ℕ) : Type 0 where
-  pub pieces : List Piece
-  pub cut : Cut text pieces rest
-  pub at : line ≡ line_after 1 pieces
-  pub cut_tokens : tokens ≡ tokens_from 1 pieces
+  pub elements : List Element
+  pub cut : Cut text elements rest
+  pub at : line ≡ line_after 1 elements
+  pub cut_tokens : tokens ≡ tokens_from 1 elements
 
 pub before_all : (text : List ℕ) → Before text 1 [] text
-before_all text = record { pieces = []; cut = refl; at = refl; cut_tokens = refl }
+before_all text = record { elements = []; cut = refl; at = refl; cut_tokens = refl }
 
-pub before_more : (text : List ℕ) (line : ℕ) (tokens : List Placed) (rest : List ℕ) (p : Piece) (after : List ℕ) → Before text line tokens rest → Begins rest p after
+pub before_more : (text : List ℕ) (line : ℕ) (tokens : List Placed) (rest : List ℕ) (p : Element) (after : List ℕ) → Before text line tokens rest → Begins rest p after
     → Before text (line + newlines (spelling p)) (tokens ++ put_token p line []) after
 before_more text line tokens rest p after h b = record {
-  pieces = h.pieces ++ p ∷ [];
-  cut = cut_more text h.pieces rest p after h.cut b;
-  at = ap (λ (n : ℕ). n + newlines (spelling p)) h.at ∙ sym (line_more 1 h.pieces p);
-  cut_tokens = rw (h.cut_tokens, h.at) (sym (tokens_more 1 h.pieces p));
+  elements = h.elements ++ p ∷ [];
+  cut = cut_more text h.elements rest p after h.cut b;
+  at = ap (λ (n : ℕ). n + newlines (spelling p)) h.at ∙ sym (line_more 1 h.elements p);
+  cut_tokens = rw (h.cut_tokens, h.at) (sym (tokens_more 1 h.elements p));
 }
 
 pub spells_whole : (text : List ℕ) (line : ℕ) (tokens : List Placed) (rest : List ℕ) → Before text line tokens rest → is_end rest ≡ true → Spells text tokens
-spells_whole text line tokens rest h e = record { pieces = h.pieces; rest = rest; cut = h.cut; end = e; tokens = h.cut_tokens }
+spells_whole text line tokens rest h e = record { elements = h.elements; rest = rest; cut = h.cut; end = e; tokens = h.cut_tokens }
 
-pub bad_here : (text : List ℕ) (line : ℕ) (tokens : List Placed) (rest : List ℕ) → Before text line tokens rest → is_end rest ≡ false → piece_at rest ≡ None → IsBadToken text line
-bad_here text line tokens rest h e none = record { pieces = h.pieces; rest = rest; cut = h.cut; more = e; bad = none_bad rest none; at = h.at }
+pub bad_here : (text : List ℕ) (line : ℕ) (tokens : List Placed) (rest : List ℕ) → Before text line tokens rest → is_end rest ≡ false → element_at rest ≡ None → IsBadToken text line
+bad_here text line tokens rest h e none = record { elements = h.elements; rest = rest; cut = h.cut; more = e; bad = none_bad rest none; at = h.at }

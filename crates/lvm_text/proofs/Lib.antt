@@ -2,7 +2,7 @@ pub mod Cases
 pub mod Scans
 pub mod Cuts
 pub mod Digits
-pub mod Fronts
+pub mod Beginnings
 pub mod Trees
 pub mod Unique
 pub mod Looks
@@ -12,7 +12,7 @@ pub mod Twice
 pub mod Keys
 pub mod Bounds
 pub mod Steps
-pub mod Pieces
+pub mod Elements
 pub mod Boundaries
 pub mod Searches
 pub mod Whole

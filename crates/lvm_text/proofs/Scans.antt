@@ -1,4 +1,4 @@
--- What the lengths of pieces say of a text, and which lengths a spelled piece has.
+-- What the lengths of elements say of a text, and which lengths a spelled element has.
 use Rattle.std.proofs.Common.{◌≡◌, ℕ, suc, Bool, true, false, cond, not, ◌&&◌, ◌||◌, eqb, List, [], ◌∷◌, ◌++◌, length, take, drop, Option, Some, None, refl, ap, inl, inr}
 use Rattle.std.specs.Prelude.{MatchOption, option_map}
 use Rattle.std.specs.List.{list_all}

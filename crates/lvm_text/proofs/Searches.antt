@@ -34,7 +34,7 @@ pub is_line-line_length : (xs : List ℕ) → is_none (line_length xs) ≡ is_li
 is_line-line_length [] = refl
 is_line-line_length (b ∷ bs) = line_byte (eqb b 10) bs (is_line-line_length bs)
 
--- so many more
+-- the number, if any, and k more
 abbrev pub plus : ℕ → Option ℕ → Option ℕ
 plus k o = option_map (λ n. k + n) o
 

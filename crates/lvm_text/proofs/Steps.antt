@@ -7,9 +7,9 @@ use Rattle.lvm_text.specs.Grammar.{IsBreak, IsSyntaxLine}
 use Rattle.lvm_text.specs.Machine.{State, step, run, is_over}
 use Rattle.lvm_text.specs.TokenView.{token_view, view, views}
 use Rattle.lvm_text.specs.declared.token.Placed.{Placed}
-use Rattle.lvm_text.specs.declared.syntax.Place.{Place}
-use Rattle.lvm_text.specs.declared.syntax.Place.TheVariants as at
-use Rattle.lvm_text.proofs.Fronts.{broken, unfinished, last_run, shallow, over, not_over}
+use Rattle.lvm_text.specs.declared.syntax.Position.{Position}
+use Rattle.lvm_text.specs.declared.syntax.Position.TheVariants as at
+use Rattle.lvm_text.proofs.Beginnings.{broken, unfinished, last_run, shallow, over, not_over}
 
 pub views_at : (ts : List Placed) (i : ℕ) (d : Placed) → i < length ts → views ts ≡ views (take i ts) ++ view (get_or ts i d) ∷ views (drop (suc i) ts)
 views_at [] i d lt = absurd (omega arith)
@@ -24,12 +24,12 @@ views_suc (t ∷ ts) (suc i) d lt = ap (λ (xs : List spec.Placed). view t ∷ x
 pub views_more : (ts : List Placed) (i : ℕ) (d : Placed) → i < length ts → views (take (i + 1) ts) ≡ views (take i ts) ++ view (get_or ts i d) ∷ []
 views_more ts i d lt = ap (λ (n : ℕ). views (take n ts)) (add-one i) ∙ views_suc ts i d lt
 
-pub refused : (ts : List Placed) (i : ℕ) (x : Placed) (depth : ℕ) (place : Place) (end : ℕ) → i < length ts → run 0 at.Key (views (take i ts)) ≡ Some (depth, place)
+pub refused : (ts : List Placed) (i : ℕ) (x : Placed) (depth : ℕ) (place : Position) (end : ℕ) → i < length ts → run 0 at.Key (views (take i ts)) ≡ Some (depth, place)
     → None ≡ step depth place (token_view (get_or ts i x).token) → IsSyntaxLine (views ts) end (get_or ts i x).line
 refused ts i x depth place end lt e none =
     inl (subst (λ (xs : List spec.Placed). IsBreak xs (get_or ts i x).line) (sym (views_at ts i x lt)) (broken (views (take i ts)) (views (drop (suc i) ts)) (token_view (get_or ts i x).token) (get_or ts i x).line (depth, place) e (sym none)))
 
-pub stepped : (ts : List Placed) (i : ℕ) (x : Placed) (depth : ℕ) (place : Place) (next : State) → i < length ts → run 0 at.Key (views (take i ts)) ≡ Some (depth, place)
+pub stepped : (ts : List Placed) (i : ℕ) (x : Placed) (depth : ℕ) (place : Position) (next : State) → i < length ts → run 0 at.Key (views (take i ts)) ≡ Some (depth, place)
     → Some next ≡ step depth place (token_view (get_or ts i x).token) → (run 0 at.Key (views (take (i + 1) ts)) ≡ Some next) × (next.0 ≤ suc depth)
 stepped ts i x depth place next lt e s = (
   ap (run 0 at.Key) (views_more ts i x lt) ∙ last_run (views (take i ts)) (view (get_or ts i x)) (depth, place) e ∙ ap (option_and_then (λ (y : State). Some y)) (sym s),
@@ -45,8 +45,8 @@ take_whole (t ∷ ts) (suc n) h = ap (λ (xs : List Placed). t ∷ xs) (take_who
 whole_run : (ts : List Placed) (n : ℕ) (s : State) → length ts ≤ n → run 0 at.Key (views (take n ts)) ≡ Some s → run 0 at.Key (views ts) ≡ Some s
 whole_run ts n s h e = sym (ap (λ (xs : List Placed). run 0 at.Key (views xs)) (take_whole ts n h)) ∙ e
 
-pub finished : (ts : List Placed) (n depth : ℕ) (place : Place) → length ts ≤ n → run 0 at.Key (views (take n ts)) ≡ Some (depth, place) → is_over depth place ≡ true → run 0 at.Key (views ts) ≡ Some (0, at.Key)
+pub finished : (ts : List Placed) (n depth : ℕ) (place : Position) → length ts ≤ n → run 0 at.Key (views (take n ts)) ≡ Some (depth, place) → is_over depth place ≡ true → run 0 at.Key (views ts) ≡ Some (0, at.Key)
 finished ts n depth place h e o = whole_run ts n (depth, place) h e ∙ ap (λ (s : State). Some s) (over depth place o)
 
-pub unended : (ts : List Placed) (n depth : ℕ) (place : Place) (end : ℕ) → length ts ≤ n → run 0 at.Key (views (take n ts)) ≡ Some (depth, place) → is_over depth place ≡ false → IsSyntaxLine (views ts) end end
+pub unended : (ts : List Placed) (n depth : ℕ) (place : Position) (end : ℕ) → length ts ≤ n → run 0 at.Key (views (take n ts)) ≡ Some (depth, place) → is_over depth place ≡ false → IsSyntaxLine (views ts) end end
 unended ts n depth place end h e o = inr (unfinished (views ts) (depth, place) (whole_run ts n (depth, place) h e) (not_over depth place o), refl)

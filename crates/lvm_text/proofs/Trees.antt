@@ -9,11 +9,11 @@ use Rattle.lvm_text.specs.Machine.{run}
 use Rattle.lvm_text.specs.Checks.{head_line, first_line, deep_lines, number_lines, twice_lines, fault_of}
 use Rattle.lvm_text.specs.Build.{ReadsValues, IsTwice}
 use Rattle.lvm_text.specs.Reading.{Describes, HasFault, TreeOf}
-use Rattle.lvm_text.specs.declared.syntax.Place.TheVariants as at
+use Rattle.lvm_text.specs.declared.syntax.Position.TheVariants as at
 use Rattle.lvm_text.specs.declared.fault.TextFault.{TextFault}
 use Rattle.lvm_text.specs.declared.fault.TextFault.TheVariants as fault
 use Rattle.lvm_text.proofs.Bounds.{bounded_text}
-use Rattle.lvm_text.proofs.Fronts.{text_from}
+use Rattle.lvm_text.proofs.Beginnings.{text_from}
 use Rattle.std.proofs.lemmas.Option.{same_Some}
 
 -- no check of tokens finds a fault of tokens or of syntax, or runs out of memory

@@ -5,7 +5,7 @@ use Rattle.std.proofs.lemmas.Option.{same_Some}
 use Rattle.std.proofs.lemmas.List.{append-nil}
 use Rattle.lvm_text.specs.Token.{Token, Word, Open, Close, ListOpen, ListClose, Equals, Comma, Placed}
 use Rattle.lvm_text.specs.Tree.{Scalar, Values, Nothing, Section, Single, Several, Tree}
-use Rattle.lvm_text.specs.Grammar.{scalar_of, ReadsList, ReadsMore, Reads, IsText, IsFront, IsBreak, IsSyntaxLine}
+use Rattle.lvm_text.specs.Grammar.{scalar_of, ReadsList, ReadsMore, Reads, IsText, BeginsText, IsBreak, IsSyntaxLine}
 use Rattle.lvm_text.specs.Build.{begins_key}
 use Rattle.lvm_text.specs.Spelling.{Spells, IsBadToken, newlines}
 use Rattle.lvm_text.specs.Checks.{fault_of}
@@ -106,15 +106,15 @@ one_text ts v w h k = (reads_one v w ts [] [] h k refl refl).0
 
 -- One line of a fault of syntax
 
-shorter_front : (xs ys : List Placed) → IsFront (xs ++ ys) → IsFront xs
+shorter_front : (xs ys : List Placed) → BeginsText (xs ++ ys) → BeginsText xs
 shorter_front xs ys h = record { more = ys ++ h.more; values = h.values; text = subst (λ (ts : List Placed). IsText ts h.values) (append_assoc xs ys h.more) h.text }
 
 -- a break is in no beginning of a text
-no_break : (before : List Placed) (t : Placed) (after ts : List Placed) → ts ≡ before ++ t ∷ after → ¬ (IsFront (before ++ t ∷ [])) → ¬ (IsFront ts)
+no_break : (before : List Placed) (t : Placed) (after ts : List Placed) → ts ≡ before ++ t ∷ after → ¬ (BeginsText (before ++ t ∷ [])) → ¬ (BeginsText ts)
 no_break before t after ts e broken h =
-    broken (shorter_front (before ++ t ∷ []) after (subst IsFront (e ∙ sym (append_assoc before (t ∷ []) after)) h))
+    broken (shorter_front (before ++ t ∷ []) after (subst BeginsText (e ∙ sym (append_assoc before (t ∷ []) after)) h))
 
-text_front : (ts : List Placed) (v : Values) → IsText ts v → IsFront ts
+text_front : (ts : List Placed) (v : Values) → IsText ts v → BeginsText ts
 text_front ts v h = record { more = []; values = v; text = subst (λ (us : List Placed). IsText us v) (sym (append-nil ts)) h }
 
 pub no_syntax : (ts : List Placed) (v : Values) (end n : ℕ) → IsText ts v → IsSyntaxLine ts end n → ⊥
@@ -138,13 +138,13 @@ places (z ∷ b) (w ∷ c) a d x y e = let s = list_same z w (b ++ x ∷ a) (c +
 
 two_breaks : (ts : List Placed) (m n : ℕ) (h : IsBreak ts m) (k : IsBreak ts n) → Places h.before (h.token, m) k.before (k.token, n) → m ≡ n
 two_breaks ts m n h k (inl e) = ap (λ (p : Placed). p.1) e
-two_breaks ts m n h k (inr (inl p)) = absurd (no_break h.before (h.token, m) p.0 k.before p.1 h.broken k.front)
-two_breaks ts m n h k (inr (inr p)) = absurd (no_break k.before (k.token, n) p.0 h.before p.1 k.broken h.front)
+two_breaks ts m n h k (inr (inl p)) = absurd (no_break h.before (h.token, m) p.0 k.before p.1 h.broken k.begun)
+two_breaks ts m n h k (inr (inr p)) = absurd (no_break k.before (k.token, n) p.0 h.before p.1 k.broken h.begun)
 
 pub one_line : (ts : List Placed) (end m n : ℕ) → IsSyntaxLine ts end m → IsSyntaxLine ts end n → m ≡ n
 one_line ts end m n (inl h) (inl k) = two_breaks ts m n h k (places h.before k.before h.after k.after (h.token, m) (k.token, n) (sym h.whole ∙ k.whole))
-one_line ts end m n (inl h) (inr u) = absurd (no_break h.before (h.token, m) h.after ts h.whole h.broken u.0.front)
-one_line ts end m n (inr u) (inl k) = absurd (no_break k.before (k.token, n) k.after ts k.whole k.broken u.0.front)
+one_line ts end m n (inl h) (inr u) = absurd (no_break h.before (h.token, m) h.after ts h.whole h.broken u.0.begun)
+one_line ts end m n (inr u) (inl k) = absurd (no_break k.before (k.token, n) k.after ts k.whole k.broken u.0.begun)
 one_line ts end m n (inr u) (inr w) = u.1 ∙ sym w.1
 
 -- One answer

@@ -3,19 +3,19 @@ use Rattle.std.proofs.Common.{◌≡◌, ℕ, zero, suc, ◌+◌, ◌<◌, false
 use Rattle.std.proofs.lemmas.List.{append-nil}
 use Rattle.lvm_text.specs.Token.{Placed}
 use Rattle.lvm_text.specs.Tree.{Values, Tree}
-use Rattle.lvm_text.specs.Spelling.{Piece, Spells, IsBadToken, is_end, newlines, spelling, put_token}
-use Rattle.lvm_text.specs.Scan.{piece_at}
+use Rattle.lvm_text.specs.Spelling.{Element, Spells, IsBadToken, is_end, newlines, spelling, put_token}
+use Rattle.lvm_text.specs.Scan.{element_at}
 use Rattle.lvm_text.specs.Grammar.{IsText, IsSyntaxLine}
 use Rattle.lvm_text.specs.Machine.{State, step, run, is_over}
 use Rattle.lvm_text.specs.Checks.{fault_of}
 use Rattle.lvm_text.specs.Reading.{Describes, HasFault}
-use Rattle.lvm_text.specs.declared.syntax.Place.TheVariants as at
+use Rattle.lvm_text.specs.declared.syntax.Position.TheVariants as at
 use Rattle.lvm_text.specs.declared.fault.TextFault.{TextFault}
 use Rattle.lvm_text.specs.declared.fault.TextFault.TheVariants as fault
 use Rattle.lvm_text.proofs.Cases.{bool_is}
 use Rattle.lvm_text.proofs.Cuts.{Before, before_all, before_more, spells_whole, bad_here}
-use Rattle.lvm_text.proofs.Pieces.{begins, shorter}
-use Rattle.lvm_text.proofs.Fronts.{done, text_from, last_run, broken, unfinished, over, not_over}
+use Rattle.lvm_text.proofs.Elements.{begins, shorter}
+use Rattle.lvm_text.proofs.Beginnings.{done, text_from, last_run, broken, unfinished, over, not_over}
 use Rattle.lvm_text.proofs.Trees.{fault_here}
 
 -- Tokens
@@ -24,10 +24,10 @@ use Rattle.lvm_text.proofs.Trees.{fault_here}
 abbrev Tokens : List ℕ → Type 0
 Tokens text = ((ts : List Placed) × Spells text ts) ⊎ ((n : ℕ) × IsBadToken text n)
 
-next_piece : (text : List ℕ) (line : ℕ) (tokens : List Placed) (rest : List ℕ) (piece : Option (Piece × List ℕ)) → Before text line tokens rest → is_end rest ≡ false → piece ≡ piece_at rest
+next_element : (text : List ℕ) (line : ℕ) (tokens : List Placed) (rest : List ℕ) (element : Option (Element × List ℕ)) → Before text line tokens rest → is_end rest ≡ false → element ≡ element_at rest
     → ((l : ℕ) (ts : List Placed) (after : List ℕ) → length after < length rest → Before text l ts after → Tokens text) → Tokens text
-next_piece text line tokens rest None h e p go = inr (line, bad_here text line tokens rest h e (sym p))
-next_piece text line tokens rest (Some q) h e p go =
+next_element text line tokens rest None h e p go = inr (line, bad_here text line tokens rest h e (sym p))
+next_element text line tokens rest (Some q) h e p go =
     let b = begins rest q.0 q.1 p in
     go (line + newlines (spelling q.0)) (tokens ++ put_token q.0 line []) q.1 (shorter rest q.0 q.1 b).0 (before_more text line tokens rest q.0 q.1 h b)
 
@@ -36,7 +36,7 @@ tokens_within zero text line tokens rest lt h = absurd (omega arith)
 tokens_within (suc n) text line tokens rest lt h =
     elim (bool_is (is_end rest)) [
       | inl e ↦ inl (tokens, spells_whole text line tokens rest h e)
-      | inr e ↦ next_piece text line tokens rest (piece_at rest) h e refl (λ l ts after less before. tokens_within n text l ts after (omega (arith, less, lt)) before)
+      | inr e ↦ next_element text line tokens rest (element_at rest) h e refl (λ l ts after less before. tokens_within n text l ts after (omega (arith, less, lt)) before)
     ]
 
 -- Syntax

@@ -63,7 +63,7 @@ abbrev pub IsText : List Placed → Values → Type 0
 IsText ts v = Reads ts v []
 
 -- the tokens are the beginning of a text: some tokens complete them
-pub record IsFront (ts : List Placed) : Type 0 where
+pub record BeginsText (ts : List Placed) : Type 0 where
   pub more : List Placed
   pub values : Values
   pub text : IsText (ts ++ more) values
@@ -74,12 +74,12 @@ pub record IsBreak (ts : List Placed) (line : ℕ) : Type 0 where
   pub token : Token
   pub after : List Placed
   pub whole : ts ≡ before ++ (token, line) ∷ after
-  pub front : IsFront before
-  pub broken : ¬ (IsFront (before ++ (token, line) ∷ []))
+  pub begun : BeginsText before
+  pub broken : ¬ (BeginsText (before ++ (token, line) ∷ []))
 
 -- the tokens are the beginning of a text and no text
 pub record IsUnfinished (ts : List Placed) : Type 0 where
-  pub front : IsFront ts
+  pub begun : BeginsText ts
   pub unfinished : (v : Values) → ¬ (IsText ts v)
 
 -- the line of a fault of syntax, where end is the line of the end of the text

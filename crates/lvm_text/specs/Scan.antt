@@ -1,7 +1,7 @@
--- How many bytes a piece of a text takes.
+-- How many bytes an element of a text takes.
 use Rattle.std.specs.Prelude.{ℕ, suc, Bool, false, ◌&&◌, ◌==◌, List, [], ◌∷◌, take, drop, Option, Some, None, option_map, if◌then◌else◌}
 use Rattle.lvm_text.specs.Token.{Token, Word, Text, Open, Close, ListOpen, ListClose, Equals, Comma}
-use Rattle.lvm_text.specs.Spelling.{Piece, White, Comment, Lexeme, is_white, is_word_byte, is_escapable}
+use Rattle.lvm_text.specs.Spelling.{Element, White, Comment, Lexeme, is_white, is_word_byte, is_escapable}
 
 -- up to the newline
 abbrev pub line_length : List ℕ → Option ℕ
@@ -35,16 +35,16 @@ sign_of b =
     if b == 123 then Some Open else if b == 125 then Some Close else if b == 91 then Some ListOpen
     else if b == 93 then Some ListClose else if b == 61 then Some Equals else if b == 44 then Some Comma else None
 
--- the piece that begins with this byte before these, and what comes after it
-abbrev pub piece_from : ℕ → List ℕ → Option (Piece × List ℕ)
-piece_from b bs =
+-- the element that begins with this byte before these, and what comes after it
+abbrev pub element_from : ℕ → List ℕ → Option (Element × List ℕ)
+element_from b bs =
     if is_white b then Some (White b, bs)
     else if b == 35 then option_map (λ n. (Comment (take n bs), drop (suc n) bs)) (line_length bs)
     else if b == 34 then option_map (λ n. (Lexeme (Text (take n bs)), drop (suc n) bs)) (raw_length bs)
     else if is_word_byte b then Some (Lexeme (Word (take (word_length (b ∷ bs)) (b ∷ bs))), drop (word_length (b ∷ bs)) (b ∷ bs))
     else option_map (λ t. (Lexeme t, bs)) (sign_of b)
 
--- the piece at the front, and what comes after it
-unfoldable pub piece_at : List ℕ → Option (Piece × List ℕ)
-piece_at [] = None
-piece_at (b ∷ bs) = piece_from b bs
+-- the element at the front, and what comes after it
+unfoldable pub element_at : List ℕ → Option (Element × List ℕ)
+element_at [] = None
+element_at (b ∷ bs) = element_from b bs

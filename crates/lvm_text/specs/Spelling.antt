@@ -45,13 +45,13 @@ abbrev pub begins_word : List ℕ → Bool
 begins_word [] = false
 begins_word (b ∷ bs) = is_word_byte b
 
--- The pieces
+-- The elements
 
 -- a white byte, a comment without its sign and its newline, or a token
-pub data Piece : Type 0 where
-  White : ℕ → Piece
-  Comment : List ℕ → Piece
-  Lexeme : Token → Piece
+pub data Element : Type 0 where
+  White : ℕ → Element
+  Comment : List ℕ → Element
+  Lexeme : Token → Element
 
 -- the bytes of a token
 abbrev pub token_spelling : Token → List ℕ
@@ -64,8 +64,8 @@ token_spelling ListClose = 93 ∷ []
 token_spelling Equals = 61 ∷ []
 token_spelling Comma = 44 ∷ []
 
--- the bytes of a piece
-abbrev pub spelling : Piece → List ℕ
+-- the bytes of an element
+abbrev pub spelling : Element → List ℕ
 spelling (White b) = b ∷ []
 spelling (Comment c) = 35 ∷ (c ++ 10 ∷ [])
 spelling (Lexeme t) = token_spelling t
@@ -82,22 +82,22 @@ IsToken (Word w) after = IsWord w after
 IsToken (Text t) after = is_raw t ≡ true
 IsToken _ after = Unit {0}
 
--- a piece, where these bytes come after it
-abbrev pub IsPiece : Piece → List ℕ → Type 0
-IsPiece (White b) after = is_white b ≡ true
-IsPiece (Comment c) after = is_line c ≡ true
-IsPiece (Lexeme t) after = IsToken t after
+-- an element, where these bytes come after it
+abbrev pub IsElement : Element → List ℕ → Type 0
+IsElement (White b) after = is_white b ≡ true
+IsElement (Comment c) after = is_line c ≡ true
+IsElement (Lexeme t) after = IsToken t after
 
--- a piece, whatever comes after it
-abbrev pub SomePiece : Piece → Type 0
-SomePiece p = (after : List ℕ) × IsPiece p after
+-- an element, whatever comes after it
+abbrev pub SomeElement : Element → Type 0
+SomeElement p = (after : List ℕ) × IsElement p after
 
--- the text is a piece, and then what comes after
-abbrev pub Begins : List ℕ → Piece → List ℕ → Type 0
-Begins text p after = (text ≡ spelling p ++ after) × IsPiece p after
+-- the text is an element, and then what comes after
+abbrev pub Begins : List ℕ → Element → List ℕ → Type 0
+Begins text p after = (text ≡ spelling p ++ after) × IsElement p after
 
--- the text is these pieces, and then the rest
-abbrev pub Cut : List ℕ → List Piece → List ℕ → Type 0
+-- the text is these elements, and then the rest
+abbrev pub Cut : List ℕ → List Element → List ℕ → Type 0
 Cut text [] rest = text ≡ rest
 Cut text (p ∷ ps) rest = (after : List ℕ) × Begins text p after × Cut after ps rest
 
@@ -106,35 +106,35 @@ abbrev pub is_end : List ℕ → Bool
 is_end [] = true
 is_end (b ∷ bs) = b == 35 && is_line bs
 
--- the line after the pieces, from line n on
-abbrev pub line_after : ℕ → List Piece → ℕ
+-- the line after the elements, from line n on
+abbrev pub line_after : ℕ → List Element → ℕ
 line_after n [] = n
 line_after n (p ∷ ps) = line_after (n + newlines (spelling p)) ps
 
--- a piece's token, before those of later pieces
-abbrev pub put_token : Piece → ℕ → List Placed → List Placed
+-- an element's token, before those of later elements
+abbrev pub put_token : Element → ℕ → List Placed → List Placed
 put_token (Lexeme t) n later = (t, n) ∷ later
 put_token (White b) n later = later
 put_token (Comment c) n later = later
 
--- the tokens of the pieces, each with its line, from line n on
-abbrev pub tokens_from : ℕ → List Piece → List Placed
+-- the tokens of the elements, each with its line, from line n on
+abbrev pub tokens_from : ℕ → List Element → List Placed
 tokens_from n [] = []
 tokens_from n (p ∷ ps) = put_token p n (tokens_from (n + newlines (spelling p)) ps)
 
 -- the text spells these tokens
 pub record Spells (text : List ℕ) (ts : List Placed) : Type 0 where
-  pub pieces : List Piece
+  pub elements : List Element
   pub rest : List ℕ
-  pub cut : Cut text pieces rest
+  pub cut : Cut text elements rest
   pub end : is_end rest ≡ true
-  pub tokens : ts ≡ tokens_from 1 pieces
+  pub tokens : ts ≡ tokens_from 1 elements
 
 -- at this line begins something that is no white space, no comment and no token
 pub record IsBadToken (text : List ℕ) (line : ℕ) : Type 0 where
-  pub pieces : List Piece
+  pub elements : List Element
   pub rest : List ℕ
-  pub cut : Cut text pieces rest
+  pub cut : Cut text elements rest
   pub more : is_end rest ≡ false
-  pub bad : (p : Piece) (after : List ℕ) → ¬ (Begins rest p after)
-  pub at : line ≡ line_after 1 pieces
+  pub bad : (p : Element) (after : List ℕ) → ¬ (Begins rest p after)
+  pub at : line ≡ line_after 1 elements

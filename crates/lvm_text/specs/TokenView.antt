@@ -1,11 +1,11 @@
--- The crate's tokens and pieces, without where their texts lie in memory.
+-- The crate's tokens and elements, without where their texts lie in memory.
 use Rattle.std.specs.Prelude.{ℕ, List, map, Option, option_map}
 use Rattle.lvm_text.specs.Token as spec
 use Rattle.lvm_text.specs.declared.token.Token.{Token}
 use Rattle.lvm_text.specs.declared.token.Token.TheVariants as token
 use Rattle.lvm_text.specs.declared.token.Placed.{Placed}
-use Rattle.lvm_text.specs.declared.piece.Piece.{Piece}
-use Rattle.lvm_text.specs.declared.piece.Piece.TheVariants as pieces
+use Rattle.lvm_text.specs.declared.element.Element.{Element}
+use Rattle.lvm_text.specs.declared.element.Element.TheVariants as elements
 use Rattle.lvm_text.specs.Spelling as Spelling
 use denote.Ref.{Bor}
 
@@ -28,12 +28,12 @@ view t = (token_view t.token, t.line)
 abbrev pub views : List Placed → List spec.Placed
 views = map view
 
--- a piece
-abbrev pub piece_view : Piece → Spelling.Piece
-piece_view (pieces.White b) = Spelling.White b
-piece_view (pieces.Comment c) = Spelling.Comment c.now
-piece_view (pieces.Lexeme t) = Spelling.Lexeme (token_view t)
+-- an element
+abbrev pub element_view : Element → Spelling.Element
+element_view (elements.White b) = Spelling.White b
+element_view (elements.Comment c) = Spelling.Comment c.now
+element_view (elements.Lexeme t) = Spelling.Lexeme (token_view t)
 
--- a piece, and what comes after it
-abbrev pub found_view : Option (Piece × Bor (List ℕ)) → Option (Spelling.Piece × List ℕ)
-found_view = option_map (λ q. (piece_view q.0, q.1.now))
+-- an element, and what comes after it
+abbrev pub found_view : Option (Element × Bor (List ℕ)) → Option (Spelling.Element × List ℕ)
+found_view = option_map (λ q. (element_view q.0, q.1.now))

@@ -11,10 +11,10 @@ ghost use Rattle.lvm_text.specs.declared.fault.TextFault.TheVariants.{Memory};
 
 mod build;
 mod check;
+mod element;
 mod fault;
 mod index;
 mod number;
-mod piece;
 mod reading;
 mod scan;
 mod syntax;
@@ -24,6 +24,7 @@ mod token;
 mod tree;
 
 pub use fault::TextFault;
+pub use reading::end_line;
 use std::alloc::Global;
 pub use tree::{Node, Scalar, Section, Sections, Value};
 

@@ -18,12 +18,12 @@ use crate::token::{Placed, tokens_of};
 use crate::tree::Section;
 use std::alloc::Global;
 
-/// The line of the end of a text: one more than it has newlines.
-fn end_line(text: &str) -> u64
-    ensures { result ≡ 1 + newlines text.now }
+/// The line of the end of some bytes: one more than they have newlines.
+pub fn end_line(bytes: &[u8]) -> u64
+    ensures { result ≡ 1 + newlines bytes.now }
 {
     let mut line = 1;
-    for byte in text.as_bytes() {
+    for byte in bytes {
         if *byte == b'\n' {
             line += 1;
         }
@@ -51,7 +51,7 @@ pub(crate) fn read(alloc: Global, text: &str) -> Result<Section<'_>, TextFault>
     ensures fault { IfErr result (λ f. f ≢ Memory → HasFault text.now f) }
 {
     let tokens = tokens_of(alloc, text)?;
-    if let Some(line) = syntax_line(&tokens, end_line(text)) {
+    if let Some(line) = syntax_line(&tokens, end_line(text.as_bytes())) {
         return Err(TextFault::Syntax(line));
     }
     tree_of(alloc, &tokens)

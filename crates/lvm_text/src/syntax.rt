@@ -6,14 +6,14 @@ ghost use Rattle.std.specs.Prelude.{◌≡◌, ◌<◌, ◌^◌, Some, is_some, 
 ghost use Rattle.lvm_text.specs.Grammar.{scalar_of, is_key, IsSyntaxLine};
 ghost use Rattle.lvm_text.specs.Machine.{step, run, is_over};
 ghost use Rattle.lvm_text.specs.TokenView.{token_view, views};
-ghost use Rattle.lvm_text.specs.declared.syntax.Place.TheVariants.{Key};
+ghost use Rattle.lvm_text.specs.declared.syntax.Position.TheVariants.{Key};
 
 use crate::number::are_digits;
 use crate::token::{Placed, Token};
 
 /// A place in a value, or between two.
 #[derive(Clone, Copy, PartialEq, Eq)]
-enum Place {
+enum Position {
     /// Before a key or a closing brace.
     Key,
     /// After a key.
@@ -48,30 +48,30 @@ fn is_scalar(token: Token<'_>) -> bool
 }
 
 /// The open sections and the place after a token, if it may stand here.
-fn step(depth: u64, place: Place, token: Token<'_>) -> Option<(u64, Place)>
+fn step(depth: u64, place: Position, token: Token<'_>) -> Option<(u64, Position)>
     requires { depth < 2 ^ 63 }
     ensures { result ≡ step depth place (token_view token.entry) }
 {
     match (place, token) {
-        (Place::Key, Token::Word(word)) if is_key(word) => Some((depth, Place::AfterKey)),
-        (Place::Key, Token::Close) if depth > 0 => Some((depth - 1, Place::Key)),
-        (Place::AfterKey, Token::Open) => Some((depth + 1, Place::Key)),
-        (Place::AfterKey, Token::Equals) => Some((depth, Place::Content)),
-        (Place::Content, Token::ListOpen) => Some((depth, Place::First)),
-        (Place::Content, _) if is_scalar(token) => Some((depth, Place::Key)),
-        (Place::First | Place::After, Token::ListClose) => Some((depth, Place::Key)),
-        (Place::After, Token::Comma) => Some((depth, Place::Next)),
-        (Place::First | Place::Next, _) if is_scalar(token) => Some((depth, Place::After)),
+        (Position::Key, Token::Word(word)) if is_key(word) => Some((depth, Position::AfterKey)),
+        (Position::Key, Token::Close) if depth > 0 => Some((depth - 1, Position::Key)),
+        (Position::AfterKey, Token::Open) => Some((depth + 1, Position::Key)),
+        (Position::AfterKey, Token::Equals) => Some((depth, Position::Content)),
+        (Position::Content, Token::ListOpen) => Some((depth, Position::First)),
+        (Position::Content, _) if is_scalar(token) => Some((depth, Position::Key)),
+        (Position::First | Position::After, Token::ListClose) => Some((depth, Position::Key)),
+        (Position::After, Token::Comma) => Some((depth, Position::Next)),
+        (Position::First | Position::Next, _) if is_scalar(token) => Some((depth, Position::After)),
         _ => None,
     }
 }
 
 /// Whether a text may end here.
-fn is_over(depth: u64, place: Place) -> bool
+fn is_over(depth: u64, place: Position) -> bool
     ensures { result ≡ is_over depth place }
 {
     match place {
-        Place::Key => depth == 0,
+        Position::Key => depth == 0,
         _ => false,
     }
 }
@@ -82,7 +82,7 @@ pub(crate) fn syntax_line(tokens: &[Placed<'_>], end: u64) -> Option<u64>
     ensures { MatchOption result (run 0 Key (views tokens.now) ≡ Some (0, Key)) (IsSyntaxLine (views tokens.now) end) }
 {
     let mut depth = 0;
-    let mut place = Place::Key;
+    let mut place = Position::Key;
     for placed in tokens {
         let Some((next_depth, next_place)) = step(depth, place, placed.token) else {
             return Some(placed.line);

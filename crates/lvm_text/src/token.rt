@@ -1,14 +1,14 @@
 //! The tokens of a text.
 //! They are cut off its front one by one, and keep the line where they begin. A new token is a variant here
-//! and a case of `piece_at`.
+//! and a case of `element_at`.
 
 ghost use Rattle.std.specs.Prelude.{◌≡◌, ◌++◌, [], MatchResult, OnOk};
-ghost use Rattle.lvm_text.specs.Spelling.{Spells, SomePiece, newlines, spelling, put_token};
+ghost use Rattle.lvm_text.specs.Spelling.{Spells, SomeElement, newlines, spelling, put_token};
 ghost use Rattle.lvm_text.specs.Reading.{IsTokenFault};
-ghost use Rattle.lvm_text.specs.TokenView.{views, piece_view};
+ghost use Rattle.lvm_text.specs.TokenView.{views, element_view};
 
 use crate::fault::TextFault;
-use crate::piece::{Piece, piece_at};
+use crate::element::{Element, element_at};
 use crate::scan::is_end;
 use std::alloc::{AllocFailed, Global};
 
@@ -32,28 +32,28 @@ pub(crate) struct Placed<'a> {
     pub(crate) line: u64,
 }
 
-/// How many newlines a piece has.
-fn newlines(piece: Piece<'_>) -> u64
-    requires { SomePiece (piece_view piece) }
-    ensures { result ≡ newlines (spelling (piece_view piece.entry)) }
+/// How many newlines an element has.
+fn newlines(element: Element<'_>) -> u64
+    requires { SomeElement (element_view element) }
+    ensures { result ≡ newlines (spelling (element_view element.entry)) }
 {
-    match piece {
-        Piece::White(byte) => { if byte == b'\n' { 1 } else { 0 } }
-        Piece::Comment(_) => 1,
-        Piece::Lexeme(_) => 0,
+    match element {
+        Element::White(byte) => { if byte == b'\n' { 1 } else { 0 } }
+        Element::Comment(_) => 1,
+        Element::Lexeme(_) => 0,
     }
 }
 
-/// Keeps a piece's token, if it has one.
+/// Keeps an element's token, if it has one.
 fn keep<'a>(
     tokens: &mut Vec<Placed<'a>>,
-    piece: Piece<'a>,
+    element: Element<'a>,
     line: u64,
 ) -> Result<(), AllocFailed<Placed<'a>>>
-    ensures { OnOk result (views tokens.new.items ≡ views tokens.old.items ++ put_token (piece_view piece.entry) line []) }
+    ensures { OnOk result (views tokens.new.items ≡ views tokens.old.items ++ put_token (element_view element.entry) line []) }
 {
-    match piece {
-        Piece::Lexeme(token) => tokens.push(Placed { token, line }),
+    match element {
+        Element::Lexeme(token) => tokens.push(Placed { token, line }),
         _ => Ok(()),
     }
 }
@@ -66,11 +66,11 @@ pub(crate) fn tokens_of(alloc: Global, text: &str) -> Result<Vec<Placed<'_>>, Te
     let mut line = 1;
     let mut rest = text;
     while !is_end(rest.as_bytes()) {
-        let Some((piece, after)) = piece_at(rest) else {
+        let Some((element, after)) = element_at(rest) else {
             return Err(TextFault::Token(line));
         };
-        keep(&mut tokens, piece, line)?;
-        line += newlines(piece);
+        keep(&mut tokens, element, line)?;
+        line += newlines(element);
         rest = after;
     }
     Ok(tokens)

@@ -5,7 +5,6 @@
 
 ghost use Rattle.std.specs.Prelude.{◌≡◌, ◌≢◌, ◌+◌, IfErr, IfOk};
 ghost use Rattle.std.specs.Str.{IsUtf8};
-ghost use Rattle.lvm_text.specs.Spelling.{newlines};
 ghost use Rattle.dm_table.specs.LoadFault.{Answers, IsMemoryFault, fault_at, first_fault, unless};
 ghost use Rattle.dm_table.specs.declared.load_fault.LoadKind.TheVariants.{Memory, NotText};
 ghost use Rattle.dm_table.specs.declared.place.Part.TheVariants.{Source};
@@ -17,7 +16,7 @@ use crate::refused_text::text_fault;
 use crate::volume_group::VolumeGroup;
 use crate::walk::source_fault;
 use dm_table::{DeviceSpec, Disk, LoadFault, LoadKind};
-use lvm_text::{Section, parse};
+use lvm_text::{Section, end_line, parse};
 use std::alloc::Global;
 
 /// The devices and disks that a text of LVM2 metadata describes, or why it is refused.
@@ -54,19 +53,6 @@ fn utf8_text(source: &[u8]) -> Result<&str, LoadFault>
             end_line(&source[..error.valid_up_to()]),
         )),
     }
-}
-
-/// The line of the end of some bytes: one more than they have newlines.
-fn end_line(bytes: &[u8]) -> u64
-    ensures { result ≡ 1 + newlines bytes.now }
-{
-    let mut line = 1;
-    for byte in bytes {
-        if *byte == b'\n' {
-            line += 1;
-        }
-    }
-    line
 }
 
 /// The tables of the group of a tree, or the first fault of a check.

@@ -36,7 +36,7 @@ pub(super) fn begun_by(runs: &[Run], order: &Order, chunk: u64) -> (usize, u64)
     (low, comparisons)
 }
 
-/// Whether a chunk goes on from the chunk that was taken last.
+/// Whether a chunk continues from the chunk that was taken last.
 pub(super) fn goes_on(runs: &[Run], chunk: u64) -> bool
     requires { AreRuns runs.now }
     ensures { result ≡ not (begins (last_after None (chunks_in runs.now)) chunk) }

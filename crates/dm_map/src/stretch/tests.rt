@@ -13,9 +13,11 @@ use crate::tables::empty_tables;
 use dm_stack::MOST_DEPTH;
 use dm_table::parse_request;
 
-/// Lines of all targets but snapshots, stripes over one of them and a disk, and a device over the stripes.
+/// Lines of all targets: stripes over a device and a disk, a device over the stripes, and a snapshot
+/// of a snapshot that took no chunk.
 const TABLE: &str = "a: 0 4 linear sda 10\na: 4 2 zero\na: 6 2 error\n\
-    b: 0 8 striped 2 2 /dev/mapper/a 2 sdb 0\nc: 0 3 linear /dev/mapper/b 1\n";
+    b: 0 8 striped 2 2 /dev/mapper/a 2 sdb 0\nc: 0 3 linear /dev/mapper/b 1\n\
+    s: 0 16 snapshot sda sdc P 4\nt: 0 16 snapshot /dev/mapper/s sdd P 8\n";
 
 /// A stretch as a piece of a read.
 fn piece_of(stretch: &Stretch) -> Piece {
@@ -34,7 +36,7 @@ fn piece_of(stretch: &Stretch) -> Piece {
 #[test]
 fn a_stretch_is_the_first_piece_of_a_read(rt: HostRuntime) {
     let alloc = rt.alloc();
-    let stack = stack_of(&rt, alloc, TABLE, "sda 16\nsdb 4\n");
+    let stack = stack_of(&rt, alloc, TABLE, "sda 16\nsdb 4\nsdc 64\nsdd 64\n");
     for (line, want) in [
         ("R a 0 8", 4),
         ("R a 1 2", 2),
@@ -48,6 +50,11 @@ fn a_stretch_is_the_first_piece_of_a_read(rt: HostRuntime) {
         ("R b 6 2", 2),
         ("R c 0 3", 1),
         ("R c 1 2", 2),
+        ("R s 0 16", 4),
+        ("R s 5 2", 2),
+        ("R s 7 9", 1),
+        ("R t 0 16", 4),
+        ("R t 6 10", 2),
     ] {
         let request = parse_request(line.as_bytes(), 1).expect(&rt, "a request");
         let device = stack.device(request.device).expect(&rt, "a device");

@@ -1,9 +1,9 @@
 use Rattle.std.proofs.Common.{rules, ◌≡◌, ℕ, ◌+◌, ◌-◌, ◌<◌, ◌≤◌, List, Some, length, get_or, sym, ap, subst, refl, ◌∙◌, arith}
 use Rattle.std.specs.Prelude.{◌^◌, min}
 use Rattle.dm_table.specs.declared.request.Op.TheVariants.{Read}
-use Rattle.dm_stack.specs.declared.found.FoundColumn.{FoundColumn}
-use Rattle.dm_stack.specs.declared.found.FoundTarget.{FoundTarget}
-use Rattle.dm_stack.specs.declared.found.FoundTarget.TheVariants.{Striped}
+use Rattle.dm_stack.specs.declared.found_line.FoundColumn.{FoundColumn}
+use Rattle.dm_stack.specs.declared.found_line.FoundTarget.{FoundTarget}
+use Rattle.dm_stack.specs.declared.found_line.FoundTarget.TheVariants.{Striped}
 use Rattle.dm_stack.specs.declared.id.Lower.{Lower}
 use Rattle.dm_stack.specs.Below.{found_at, IsTargetSound}
 use Rattle.dm_stack.specs.Description.{Description, lower_len}

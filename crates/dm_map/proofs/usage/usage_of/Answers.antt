@@ -1,5 +1,5 @@
 use Rattle.std.proofs.Common.{◌≡◌, ℕ, ◌+◌, ◌*◌, ◌<◌, ◌≤◌, true, Some, sym, refl, subst, arith}
-use Rattle.dm_stack.specs.declared.found.FoundTarget.{FoundTarget}
+use Rattle.dm_stack.specs.declared.found_line.FoundTarget.{FoundTarget}
 use Rattle.dm_stack.specs.Below.{IsSnapshotSound, IsTargetSound}
 use Rattle.dm_stack.specs.Description.{lower_len}
 use Rattle.dm_stack.specs.Places.{place}

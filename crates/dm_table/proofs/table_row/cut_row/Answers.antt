@@ -5,7 +5,7 @@ use Rattle.std.proofs.lemmas.Option.{MatchOption-at_none}
 use Rattle.dm_table.specs.Fields.{texts, fields}
 use Rattle.dm_table.specs.TableText.{without_last_space}
 use Rattle.dm_table.specs.TableReading.{ends_empty}
-use Rattle.dm_table.proofs.FieldLemmas.{front-popped}
+use Rattle.dm_table.proofs.FieldLemmas.{all_but_last-popped}
 use Rattle.dm_table.proofs.TableFields.{spaced, not_spaced}
 use Rattle.dm_table.proofs.table_row.cut_row.Goals as goal
 
@@ -14,7 +14,7 @@ returns-then-ends_empty c =
     let all : texts c.cut_into.new.parts.items ≡ fields c.args.line.now = c.in_ok-cut_into.ensures in
     let test : c.ends_empty.result ≡ ends_empty (texts c.cut_into.new.parts.items) = c.ends_empty.ensures ∙ rw c.deref.ensures.value refl in
     let none : c.pop.result ≡ None → c.pop.new.self.items ≡ [] = λ e. nil_from_length _ (omega (arith, c.pop.new.self.ok.0, (MatchOption-at_none _ _ e c.pop.ensures.cases).1)) in
-    front-popped c.cut_into.new.parts.items c.pop.new.self.items c.pop.result c.pop.ensures.items none
+    all_but_last-popped c.cut_into.new.parts.items c.pop.new.self.items c.pop.result c.pop.ensures.items none
     ∙ sym (spaced (texts c.cut_into.new.parts.items) (sym test ∙ c.if-ends_empty.true)) ∙ ap without_last_space all
 
 pub returns-else-ends_empty : goal.returns-else-ends_empty

@@ -46,7 +46,7 @@ pub(super) static ROWS: [Case<'static>; 32] = [
     },
     // Lines that join, and lines that do not.
     Case {
-        name: "two lines that go on from one another",
+        name: "two lines of consecutive sectors",
         source: "a: 0 10 linear sda 0\na: 10 10 linear sda 10\n",
         disks: "sda 20\n",
         requests: b"R a 5 10\n",

@@ -4,6 +4,6 @@ use Rattle.lvm_text.proofs.reading.end_line.Given as goal
 
 abbrev pub invariant-loop-byte : goal.invariant-loop-byte
 invariant-loop-byte l = record {
-  same : l.line + newlines (drop l.byte-index l.byte-items) ≡ 1 + newlines l.byte-items;
+  same : l.line + newlines (drop l.byte-index l.bytes) ≡ 1 + newlines l.bytes;
   most : l.line ≤ 1 + l.byte-index;
 }

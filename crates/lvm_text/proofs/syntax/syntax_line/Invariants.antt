@@ -1,7 +1,7 @@
 use Rattle.std.proofs.Common.{◌≡◌, ◌≤◌, take, Some}
 use Rattle.lvm_text.specs.Machine.{run}
 use Rattle.lvm_text.specs.TokenView.{views}
-use Rattle.lvm_text.specs.declared.syntax.Place.TheVariants.{Key}
+use Rattle.lvm_text.specs.declared.syntax.Position.TheVariants.{Key}
 use Rattle.lvm_text.proofs.syntax.syntax_line.Given as goal
 
 abbrev pub invariant-loop-placed : goal.invariant-loop-placed

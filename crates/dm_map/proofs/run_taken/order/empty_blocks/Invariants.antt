@@ -1,4 +1,4 @@
--- so many blocks with nothing in them, each with the room that it is to have
+-- this many empty blocks, each with the room that it is to have
 use Rattle.std.proofs.Common.{ℕ, ◌≡◌, ◌-◌, ◌*◌, ◌<◌, ◌≤◌, length, get_or, map, min}
 use Rattle.std.specs.VecDeque.{deque_capacity}
 use Rattle.dm_map.specs.Blocks.{Fill, contents}

@@ -2,7 +2,7 @@ use Rattle.std.proofs.Common.{◌≡◌, ◌≤◌, ℕ, suc, List, Some, length
 use Rattle.std.specs.Prelude.{slice_get}
 use Rattle.std.proofs.lemmas.List.{length-map}
 use Rattle.std.proofs.lemmas.Option.{slice_get_read}
-use Rattle.dm_stack.specs.declared.found.FoundLine.{FoundLine}
+use Rattle.dm_stack.specs.declared.found_line.FoundLine.{FoundLine}
 use Rattle.dm_stack.specs.Below.{HoldsSoundly, found_at}
 use Rattle.dm_stack.specs.LineSearch.{StartsAfter, StartsBy, binary_digits}
 use Rattle.dm_stack.specs.Description.{lines_at}

@@ -8,21 +8,21 @@ use std::marker::Model;
 
 /// A growing list of bytes, of size zero.
 #[derive(Drop)]
-pub struct History {
+pub struct GhostBytes {
     pub ghost bytes: { List ℕ },
 }
 
-impl Model for History {
+impl Model for GhostBytes {
     ghost also_owns = { λ _. ftrue };
 }
 
-impl History {
+impl GhostBytes {
     /// No bytes.
     #[inline(always)]
-    pub fn new() -> History
+    pub fn new() -> GhostBytes
         ensures { result.bytes ≡ [] }
     {
-        History {}
+        GhostBytes {}
     }
 
     /// Adds the slice after the bytes so far, in no time.
@@ -35,7 +35,7 @@ impl History {
 /// A count with no greatest value, of size zero.
 #[derive(Drop)]
 pub struct Tally {
-    ticks: History,
+    ticks: GhostBytes,
 }
 
 impl Model for Tally {
@@ -51,7 +51,7 @@ impl Tally {
         ensures { result ≡ 0 }
     {
         Tally {
-            ticks: History::new(),
+            ticks: GhostBytes::new(),
         }
     }
 

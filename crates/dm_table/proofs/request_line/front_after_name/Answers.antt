@@ -1,7 +1,7 @@
 -- What was read of a text's front is the line of its request.
 use Rattle.std.proofs.Common.{refl, arith}
 use Rattle.dm_table.proofs.FrontRequest.{front_line}
-use Rattle.dm_table.proofs.request_line.front_behind.Goals as goal
+use Rattle.dm_table.proofs.request_line.front_after_name.Goals as goal
 
 pub returns-clause-front : goal.returns-clause-front
 returns-clause-front c =

@@ -1,19 +1,19 @@
-//! The pieces of a text: white bytes, comments and tokens.
-//! A text is cut at its front, piece by piece, so a piece is found by its first byte. A new form of token
-//! is a case of `piece_at`.
+//! The elements of a text: white bytes, comments and tokens.
+//! A text is cut at its front, element by element, so an element is found by its first byte. A new form of token
+//! is a case of `element_at`.
 
 ghost use Rattle.std.specs.Prelude.{◌≡◌, ◌<◌, ◌∷◌, ℕ, suc, None, Some, length, take, drop, slice_index, option_map, if◌then◌else◌, IsCharBoundary};
 ghost use Rattle.lvm_text.specs.Spelling.{White, Comment, Lexeme, is_word_byte};
 ghost use Rattle.lvm_text.specs.Token as spec;
-ghost use Rattle.lvm_text.specs.Scan.{line_length, word_length, raw_length, sign_of, piece_from, piece_at};
-ghost use Rattle.lvm_text.specs.TokenView.{piece_view, found_view, token_view};
+ghost use Rattle.lvm_text.specs.Scan.{line_length, word_length, raw_length, sign_of, element_from, element_at};
+ghost use Rattle.lvm_text.specs.TokenView.{element_view, found_view, token_view};
 
 use crate::scan::{is_white, is_word_byte, line_length, raw_length, word_length};
 use crate::token::Token;
 
 /// A white byte, the text of a comment, or a token.
 #[derive(Clone, Copy)]
-pub(crate) enum Piece<'a> {
+pub(crate) enum Element<'a> {
     White(u8),
     Comment(&'a str),
     Lexeme(Token<'a>),
@@ -32,30 +32,30 @@ fn around(text: &str, at: usize) -> (&str, &str)
 }
 
 /// A comment, from after its `#`.
-fn comment(rest: &str) -> Option<(Piece<'_>, &str)>
+fn comment(rest: &str) -> Option<(Element<'_>, &str)>
     ensures { found_view result ≡ option_map (λ n. (Comment (take n rest.now), drop (suc n) rest.now)) (line_length rest.now) }
 {
     let end = line_length(rest.as_bytes())?;
     let (text, after) = around(rest, end);
-    Some((Piece::Comment(text), after))
+    Some((Element::Comment(text), after))
 }
 
 /// A string, from after its opening quote.
-fn string(rest: &str) -> Option<(Piece<'_>, &str)>
+fn string(rest: &str) -> Option<(Element<'_>, &str)>
     ensures { found_view result ≡ option_map (λ n. (Lexeme (spec.Text (take n rest.now)), drop (suc n) rest.now)) (raw_length rest.now) }
 {
     let end = raw_length(rest.as_bytes())?;
     let (text, after) = around(rest, end);
-    Some((Piece::Lexeme(Token::Text(text)), after))
+    Some((Element::Lexeme(Token::Text(text)), after))
 }
 
 /// A word.
-fn word(rest: &str) -> (Piece<'_>, &str)
-    ensures piece { piece_view result.0 ≡ Lexeme (spec.Word (take (word_length rest.now) rest.now)) }
+fn word(rest: &str) -> (Element<'_>, &str)
+    ensures element { element_view result.0 ≡ Lexeme (spec.Word (take (word_length rest.now) rest.now)) }
     ensures after { result.1.now ≡ drop (word_length rest.now) rest.now }
 {
     let (word, after) = rest.split_at(word_length(rest.as_bytes()));
-    (Piece::Lexeme(Token::Word(word)), after)
+    (Element::Lexeme(Token::Word(word)), after)
 }
 
 /// The sign that a byte is.
@@ -73,13 +73,13 @@ fn sign_of<'a>(byte: u8) -> Option<Token<'a>>
     }
 }
 
-/// The piece that begins with a byte before the rest.
-fn piece_from<'a>(text: &'a str, first: u8, rest: &'a str) -> Option<(Piece<'a>, &'a str)>
+/// The element that begins with a byte before the rest.
+fn element_from<'a>(text: &'a str, first: u8, rest: &'a str) -> Option<(Element<'a>, &'a str)>
     requires { text.now ≡ first ∷ rest.now }
-    ensures { found_view result ≡ piece_from first rest.now }
+    ensures { found_view result ≡ element_from first rest.now }
 {
     if is_white(first) {
-        return Some((Piece::White(first), rest));
+        return Some((Element::White(first), rest));
     }
     if first == b'#' {
         return comment(rest);
@@ -91,12 +91,12 @@ fn piece_from<'a>(text: &'a str, first: u8, rest: &'a str) -> Option<(Piece<'a>,
         return Some(word(text));
     }
     let sign = sign_of(first)?;
-    Some((Piece::Lexeme(sign), rest))
+    Some((Element::Lexeme(sign), rest))
 }
 
-/// The piece at the front of a text, and what comes after it. `None` at the end, and where none begins.
-pub(crate) fn piece_at(text: &str) -> Option<(Piece<'_>, &str)>
-    ensures { found_view result ≡ piece_at text.now }
+/// The element at the front of a text, and what comes after it. `None` at the end, and where none begins.
+pub(crate) fn element_at(text: &str) -> Option<(Element<'_>, &str)>
+    ensures { found_view result ≡ element_at text.now }
 {
     let bytes = text.as_bytes();
     if bytes.is_empty() {
@@ -107,5 +107,5 @@ pub(crate) fn piece_at(text: &str) -> Option<(Piece<'_>, &str)>
         return None;
     }
     let (_, rest) = around(text, 0);
-    piece_from(text, first, rest)
+    element_from(text, first, rest)
 }

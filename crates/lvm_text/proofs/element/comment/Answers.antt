@@ -1,7 +1,7 @@
 use Rattle.std.proofs.Common.{sym, ap, ◌∙◌, arith}
 use Rattle.lvm_text.specs.Scan.{line_length}
 use Rattle.lvm_text.proofs.Boundaries.{line_at}
-use Rattle.lvm_text.proofs.piece.comment.Goals as goal
+use Rattle.lvm_text.proofs.element.comment.Goals as goal
 
 pub around-requires-clause-within : goal.around-requires-clause-within
 around-requires-clause-within c = (line_at c.args.rest.now c.in_ok-end.end (ap line_length (sym c.as_bytes.ensures.value) ∙ sym c.in_ok-end.ensures)).within

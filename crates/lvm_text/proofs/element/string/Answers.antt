@@ -1,7 +1,7 @@
 use Rattle.std.proofs.Common.{sym, ap, ◌∙◌, arith}
 use Rattle.lvm_text.specs.Scan.{raw_length}
 use Rattle.lvm_text.proofs.Boundaries.{raw_at}
-use Rattle.lvm_text.proofs.piece.string.Goals as goal
+use Rattle.lvm_text.proofs.element.string.Goals as goal
 
 pub around-requires-clause-within : goal.around-requires-clause-within
 around-requires-clause-within c = (raw_at c.args.rest.now c.in_ok-end.end (ap raw_length (sym c.as_bytes.ensures.value) ∙ sym c.in_ok-end.ensures)).within

@@ -14,10 +14,10 @@ use denote.Signature.{plain}
 use denote.Slice.{ShrSlice, shr_slice_vals, shr_slice_Tells, shr_slice_Lawful}
 use denote.Steps.{nothing, opens, closes}
 use denote.Triple.Walked.{Stays, walk_of, says, stay_ref, Goes-ref, stay_dropped, Goes-dropped, ends_at}
-use Rattle.dm_table.specs.contracts.history.History.{the_row as R}
-use Rattle.dm_table.specs.contracts.history.History.note as f
-use Rattle.dm_table.proofs.history.History.note.Statement.{statement}
-use Rattle.dm_table.proofs.history.History.note.Code as code
+use Rattle.dm_table.specs.contracts.ghost_bytes.GhostBytes.{the_row as R}
+use Rattle.dm_table.specs.contracts.ghost_bytes.GhostBytes.note as f
+use Rattle.dm_table.proofs.ghost_bytes.GhostBytes.note.Statement.{statement}
+use Rattle.dm_table.proofs.ghost_bytes.GhostBytes.note.Code as code
 
 -- at the return `self` is still had, and the slice is not
 abbrev stayed : Stays f.ended.signature.params f.ended.kept

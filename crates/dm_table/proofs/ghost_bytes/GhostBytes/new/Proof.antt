@@ -12,10 +12,10 @@ use denote.Steps.{nothing}
 use denote.Struct.Struct.{Shape, within}
 use denote.Triple.Entry.{on_entry}
 use denote.Triple.Walked.{walk_of, says, ends_at}
-use Rattle.dm_table.specs.contracts.history.History.{the_row}
-use Rattle.dm_table.specs.contracts.history.History.new as f
-use Rattle.dm_table.proofs.history.History.new.Statement.{statement}
-use Rattle.dm_table.proofs.history.History.new.Code as code
+use Rattle.dm_table.specs.contracts.ghost_bytes.GhostBytes.{the_row}
+use Rattle.dm_table.specs.contracts.ghost_bytes.GhostBytes.new as f
+use Rattle.dm_table.proofs.ghost_bytes.GhostBytes.new.Statement.{statement}
+use Rattle.dm_table.proofs.ghost_bytes.GhostBytes.new.Code as code
 
 pub new_spec : {M : Type 1} → statement M
 new_spec 𝓤 𝓛 𝓜 𝓡 wired =

@@ -1,7 +1,7 @@
 use Rattle.std.proofs.Common.{ap, ◌∙◌, ◌<◌, length, get_or, List, ℕ, drop, arith, add-one}
 use Rattle.std.proofs.lemmas.List.{drop-drop}
 use Rattle.lvm_text.proofs.Boundaries.{after_byte, first_of_drop}
-use Rattle.lvm_text.proofs.piece.around.Goals as goal
+use Rattle.lvm_text.proofs.element.around.Goals as goal
 
 pub split_at-requires-2 : goal.split_at-requires-2
 split_at-requires-2 c =

@@ -1,23 +1,23 @@
--- The pieces at the front of a text, and the newlines in them.
+-- The elements at the front of a text, and the newlines in them.
 use Rattle.std.proofs.Common.{◌≡◌, ◌≢◌, ℕ, suc, ◌+◌, ◌<◌, ◌≤◌, Bool, true, false, cond, not, ◌&&◌, eqb, List, [], ◌∷◌, ◌++◌, length, get_or, drop, Some, None, refl, sym, ap, arith, inl, inr, length-append}
 use Rattle.std.specs.List.{list_all}
 use Rattle.std.proofs.lemmas.Bool.{and_parts, or_cases, not-true, eqb-true}
 use Rattle.std.proofs.lemmas.Bool.Decides.{nat_tests}
 use Rattle.std.proofs.lemmas.Option.{MatchOption-at_some}
 use Rattle.lvm_text.specs.Token.{Token, Word, Text, Open, Close, ListOpen, ListClose, Equals, Comma}
-use Rattle.lvm_text.specs.Spelling.{Piece, White, Comment, Lexeme, spelling, token_spelling, IsToken, IsPiece, Begins, is_white, is_line, is_word_byte, is_raw, is_plain, is_escapable, newlines}
-use Rattle.lvm_text.specs.Scan.{piece_at, piece_from}
-use Rattle.lvm_text.proofs.Cuts.{Found, piece_found}
+use Rattle.lvm_text.specs.Spelling.{Element, White, Comment, Lexeme, spelling, token_spelling, IsToken, IsElement, Begins, is_white, is_line, is_word_byte, is_raw, is_plain, is_escapable, newlines}
+use Rattle.lvm_text.specs.Scan.{element_at, element_from}
+use Rattle.lvm_text.proofs.Cuts.{Found, element_found}
 
 -- The front
 
 true_false : true ≡ false → ⊥
 true_false h = cc
 
-pub piece_nil : (bs : List ℕ) → true ≡ eqb (length bs) 0 → None ≡ piece_at bs
-unfolding piece_at
-piece_nil [] h = refl
-piece_nil (b ∷ bs) h = let none : suc (length bs) ≡ 0 = eqb-true _ _ (sym h) in absurd (omega arith)
+pub element_nil : (bs : List ℕ) → true ≡ eqb (length bs) 0 → None ≡ element_at bs
+unfolding element_at
+element_nil [] h = refl
+element_nil (b ∷ bs) h = let none : suc (length bs) ≡ 0 = eqb-true _ _ (sym h) in absurd (omega arith)
 
 beyond : (b : ℕ) → 128 ≤ b → (is_white b ≡ false) × (eqb b 35 ≡ false) × (eqb b 34 ≡ false) × (is_word_byte b ≡ false)
 beyond b h = (grind (arith, nat_tests), grind (arith, nat_tests), grind (arith, nat_tests), grind (arith, nat_tests))
@@ -25,28 +25,28 @@ beyond b h = (grind (arith, nat_tests), grind (arith, nat_tests), grind (arith, 
 beyond_sign : (b : ℕ) → 128 ≤ b → (eqb b 123 ≡ false) × (eqb b 125 ≡ false) × (eqb b 91 ≡ false) × (eqb b 93 ≡ false) × (eqb b 61 ≡ false) × (eqb b 44 ≡ false)
 beyond_sign b h = (grind (arith, nat_tests), grind (arith, nat_tests), grind (arith, nat_tests), grind (arith, nat_tests), grind (arith, nat_tests), grind (arith, nat_tests))
 
-pub piece_beyond : (bs : List ℕ) → 128 ≤ get_or bs 0 0 → None ≡ piece_at bs
-unfolding piece_at
-piece_beyond [] h = refl
-piece_beyond (b ∷ bs) h =
+pub element_beyond : (bs : List ℕ) → 128 ≤ get_or bs 0 0 → None ≡ element_at bs
+unfolding element_at
+element_beyond [] h = refl
+element_beyond (b ∷ bs) h =
     let t = beyond b h in
     let s = beyond_sign b h in
     rw (t.0, t.1, t.2, t.3, s.0, s.1, s.2, s.3, s.4, s.5) refl
 
-pub piece_cons : (bs rest : List ℕ) → 0 < length bs → rest ≡ drop 1 bs → piece_from (get_or bs 0 0) rest ≡ piece_at bs
-unfolding piece_at
-piece_cons [] rest lt e = absurd (omega arith)
-piece_cons (b ∷ bs) rest lt e = ap (piece_from b) e
+pub element_cons : (bs rest : List ℕ) → 0 < length bs → rest ≡ drop 1 bs → element_from (get_or bs 0 0) rest ≡ element_at bs
+unfolding element_at
+element_cons [] rest lt e = absurd (omega arith)
+element_cons (b ∷ bs) rest lt e = ap (element_from b) e
 
 pub whole_cons : (bs rest : List ℕ) → 0 < length bs → rest ≡ drop 1 bs → bs ≡ get_or bs 0 0 ∷ rest
 whole_cons [] rest lt e = absurd (omega arith)
 whole_cons (b ∷ bs) rest lt e = ap (λ (xs : List ℕ). b ∷ xs) (sym e)
 
 -- what the code found is spelled at the front
-pub begins : (bs : List ℕ) (p : Piece) (after : List ℕ) → Some (p, after) ≡ piece_at bs → Begins bs p after
-begins bs p after e = MatchOption-at_some (Unit {0}) (Found bs) (p, after) (sym e) (piece_found bs)
+pub begins : (bs : List ℕ) (p : Element) (after : List ℕ) → Some (p, after) ≡ element_at bs → Begins bs p after
+begins bs p after e = MatchOption-at_some (Unit {0}) (Found bs) (p, after) (sym e) (element_found bs)
 
-spelling_some : (p : Piece) (after : List ℕ) → IsPiece p after → 0 < length (spelling p)
+spelling_some : (p : Element) (after : List ℕ) → IsElement p after → 0 < length (spelling p)
 spelling_some (White b) after h = omega arith
 spelling_some (Comment c) after h = omega arith
 spelling_some (Lexeme (Word [])) after h = absurd (h.some refl)
@@ -128,8 +128,8 @@ newlines-le-length : (bs : List ℕ) → newlines bs ≤ length bs
 newlines-le-length [] = omega arith
 newlines-le-length (b ∷ bs) = most_lines (eqb b 10) _ _ (newlines-le-length bs)
 
--- a piece shortens the text by at least one byte, and by at least its newlines
-pub shorter : (bs : List ℕ) (p : Piece) (after : List ℕ) → Begins bs p after → (length after < length bs) × (newlines (spelling p) + length after ≤ length bs)
+-- an element shortens the text by at least one byte, and by at least its newlines
+pub shorter : (bs : List ℕ) (p : Element) (after : List ℕ) → Begins bs p after → (length after < length bs) × (newlines (spelling p) + length after ≤ length bs)
 shorter bs p after h =
     let all : length bs ≡ length (spelling p ++ after) = ap length h.0 in
     let some : 0 < length (spelling p) = spelling_some p after h.1 in

@@ -1,9 +1,0 @@
-use Rattle.std.proofs.Common.{◌≡◌, ◌≤◌, ◌+◌, drop}
-use Rattle.lvm_text.specs.Spelling.{newlines}
-use Rattle.lvm_volume.proofs.metadata.end_line.Given as goal
-
-abbrev pub invariant-loop-byte : goal.invariant-loop-byte
-invariant-loop-byte l = record {
-  same : l.line + newlines (drop l.byte-index l.bytes) ≡ 1 + newlines l.bytes;
-  most : l.line ≤ 1 + l.byte-index;
-}
