@@ -6,8 +6,7 @@
 //! Each function says which units it hands over, which state it leaves, and, of a read, how often it
 //! searches: at most once a level for each stretch of sectors with one path (`specs/Path`).
 
-ghost use Rattle.std.specs.Prelude.{◌≡◌, ℕ, ◌+◌, ◌-◌, ◌<◌, ◌≤◌, ◌^◌, Some, length, min, OnErr, OnOk};
-ghost use Rattle.dm_table.specs.DeviceIo.{fault_of};
+ghost use Rattle.std.specs.Prelude.{◌≡◌, ℕ, ◌+◌, ◌-◌, ◌<◌, ◌≤◌, ◌^◌, Some, length, min};
 ghost use Rattle.dm_stack.specs.Below.{found_at, IsTargetSound};
 ghost use Rattle.dm_stack.specs.Description.{Description, device_len, lower_len};
 ghost use Rattle.dm_stack.specs.Loaded.{lower_depth};

@@ -9,12 +9,12 @@ use Rattle.dm_table.specs.declared.place.Part.TheVariants.{Source}
 use Rattle.dm_table.specs.declared.load_fault.LoadKind.TheVariants.{NotText, Syntax, Field, Name}
 use Rattle.dm_table.specs.declared.load_fault.LoadFault.{LoadFault}
 use Rattle.dm_table.specs.Fields.{parts_at, all_but_last, last_or}
-use Rattle.dm_table.specs.LoadFault.{Answers, first_fault, faults_from}
+use Rattle.dm_table.specs.LoadFault.{Answers, first_fault, faults_from, row_checks}
 use Rattle.dm_table.specs.Parsed.{IsParsed}
 use Rattle.dm_table.specs.ConciseText.{SaysDevices, DescribesConcise, lacks, without_newline, parts_of, devices_of, is_printed, is_device, has_values, has_names, concise_checks}
 use Rattle.dm_table.specs.ConciseReading.{devices_from, parts_reading, read_concise}
 use Rattle.dm_table.proofs.ByteLemmas.{All-list_all, list_all-weaker}
-use Rattle.dm_table.proofs.FaultLemmas.{first_fault-none, first_fault-all, faults_from-nil, faults_from-good}
+use Rattle.dm_table.proofs.FaultLemmas.{append-nil_both, first_fault-none, first_fault-all, faults_from-nil, faults_from-good}
 use Rattle.dm_table.proofs.Parsing.{parsed}
 use Rattle.dm_table.proofs.FieldLemmas.{IsClearOf, join-parts_at, parts_at-join, all_but_last-push, last_or-push}
 use Rattle.dm_table.proofs.TableFields.{take-all_but_last, get_or-last_or}
@@ -82,7 +82,7 @@ described text h =
         | inr e ↦ inr (e ∙ ap (λ (t : List ℕ). t ++ 10 ∷ []) (sym whole))
       ];
       said = devices_said 1 parts
-          (faults_from-nil Source Syntax (λ device. not (is_device device)) 1 parts none.1.0)
+          (faults_from-nil Source Syntax (λ device. not (is_device device)) 1 parts (append-nil_both _ [] none.1.0).0)
           (faults_from-nil Source Field (λ device. not (has_values device)) 1 parts none.1.1.0)
           (faults_from-nil Source Name (λ device. not (has_names device)) 1 parts none.1.1.1.0);
     }
@@ -137,12 +137,7 @@ parts_again n (text ∷ texts) (device ∷ devices) s clear =
     parts_some (join_with_byte 59 (text ∷ texts)) (join_some text texts (device_some n text device s.0)) ∙ parts_at-join 59 text texts clear
 
 abbrev checks_of : List (List ℕ) → List (List LoadFault)
-checks_of parts =
-    faults_from Source NotText (λ device. not (is_printed device)) 1 parts
-    ∷ faults_from Source Syntax (λ device. not (is_device device)) 1 parts
-    ∷ faults_from Source Field (λ device. not (has_values device)) 1 parts
-    ∷ faults_from Source Name (λ device. not (has_names device)) 1 parts
-    ∷ []
+checks_of parts = faults_from Source NotText (λ device. not (is_printed device)) 1 parts ∷ row_checks Source is_device has_values has_names parts []
 
 pub again : (text : List ℕ) (ds : List DeviceSpec) → DescribesConcise text ds → (first_fault (concise_checks text) ≡ None) × (devices_from 1 (devices_of text) ≡ ds)
 again text ds d =
@@ -158,7 +153,7 @@ again text ds d =
     first_fault-all (checks_of d.parts) (
       faults_from-good Source NotText (λ device. not (is_printed device)) 1 d.parts read.printed,
       (
-        faults_from-good Source Syntax (λ device. not (is_device device)) 1 d.parts read.rows,
+        rw (faults_from-good Source Syntax (λ device. not (is_device device)) 1 d.parts read.rows) refl,
         (
           faults_from-good Source Field (λ device. not (has_values device)) 1 d.parts read.values,
           (faults_from-good Source Name (λ device. not (has_names device)) 1 d.parts read.names, tt),

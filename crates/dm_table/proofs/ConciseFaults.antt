@@ -17,14 +17,14 @@ use Rattle.dm_table.specs.declared.row_faults.RowFault.TheVariants.{Syntax, Fiel
 use Rattle.dm_table.specs.declared.row_faults.FirstFaults.{FirstFaults}
 use Rattle.dm_table.specs.Fields.{texts}
 use Rattle.dm_table.specs.Name.{is_device_name}
-use Rattle.dm_table.specs.LoadFault.{faults_from, first_or, first_fault, unless}
+use Rattle.dm_table.specs.LoadFault.{faults_from, first_or, first_fault, row_checks, unless}
 use Rattle.dm_table.specs.RowFaults.{value_fault, row_fault, read_unless, Reads, no_faults, noted, noted_at, noted_rows, first_noted}
 use Rattle.dm_table.specs.LineBody.{is_body_row, is_body, has_body_names}
 use Rattle.dm_table.specs.ConciseText.{place_of, parts_of, lacks, is_uuid, is_ro, entries, body_fields, is_printed, is_label, is_known, is_named, is_device, has_values, has_names}
-use Rattle.dm_table.specs.ConciseReading.{worse, fault_of_body, fault_of_bodies, fault_of_entries, fault_of_device, line_in, lines_in, device_of, entries_reading, device_reading, bodies_reading, with_reading, with_devices, devices_from, part_checks, parts_reading}
+use Rattle.dm_table.specs.ConciseReading.{worse, fault_of_body, fault_of_bodies, fault_of_entries, fault_of_device, line_in, lines_in, device_of, entries_reading, device_reading, bodies_reading, with_reading, with_devices, devices_from, parts_reading}
 use Rattle.dm_table.proofs.ByteLemmas.{parts_pass}
 use Rattle.dm_table.proofs.FaultLemmas.{first_or-passed}
-use Rattle.dm_table.proofs.RowFaultLemmas.{checks_of, names_true, noted_faulty, noted_none, noted_refused}
+use Rattle.dm_table.proofs.RowFaultLemmas.{names_true, noted_faulty, noted_none, noted_refused}
 use Rattle.dm_table.proofs.TargetRows.{read_fault, read_value, and_false}
 
 -- The worse of two
@@ -165,11 +165,6 @@ with_read ds n [] h = sym (append-nil ds)
 with_read ds n (text ∷ parts) h =
     rw h.0 (with_read (ds ++ device_of n (entries text) ∷ []) (suc n) parts h.1 ∙ append_assoc ds (device_of n (entries text) ∷ []) (devices_from (suc n) parts))
 
--- the checks of rows, with no rest after the last part
-as_checks : (parts : List (List ℕ)) → first_fault (checks_of Source is_device has_values has_names parts []) ≡ first_fault (part_checks parts)
-as_checks parts =
-    ap (λ (syntax : List LoadFault). first_fault (syntax ∷ drop 1 (part_checks parts))) (append-nil (faults_from Source kinds.Syntax (λ text. not (is_device text)) 1 parts))
-
 -- where all bytes of a text are printed, those of its parts are
 pub printed_parts : (text : List ℕ) (parts : List (List ℕ)) → parts ≡ parts_of text → is_printed text ≡ true → AllByRecursion (λ part. not (is_printed part) ≡ false) parts
 printed_parts [] parts cut h = rw cut tt
@@ -179,21 +174,21 @@ printed_parts (byte ∷ text) parts cut h =
 
 -- where all bytes are text, these checks are all that is left
 pub parts_after : (parts : List (List ℕ)) → None ≡ first_or (faults_from Source kinds.NotText (λ text. not (is_printed text)) 1 parts) None
-    → parts_reading parts ≡ unless (first_fault (part_checks parts)) (devices_from 1 parts)
+    → parts_reading parts ≡ unless (first_fault (row_checks Source is_device has_values has_names parts [])) (devices_from 1 parts)
 parts_after parts none =
-    ap (λ (found : Option LoadFault). unless found (devices_from 1 parts)) (first_or-passed (faults_from Source kinds.NotText (λ text. not (is_printed text)) 1 parts) (first_fault (part_checks parts)) (sym none))
+    ap (λ (found : Option LoadFault). unless found (devices_from 1 parts)) (first_or-passed (faults_from Source kinds.NotText (λ text. not (is_printed text)) 1 parts) (first_fault (row_checks Source is_device has_values has_names parts [])) (sym none))
 
 pub parts_refused : (parts : List (List ℕ)) (fault : LoadFault) → first_noted (noted_rows Source fault_of_device no_faults 1 parts) ≡ Some fault
-    → (fault.kind ≢ kinds.Memory) × (unless (first_fault (part_checks parts)) (devices_from 1 parts) ≡ Err fault)
+    → (fault.kind ≢ kinds.Memory) × (unless (first_fault (row_checks Source is_device has_values has_names parts [])) (devices_from 1 parts) ≡ Err fault)
 parts_refused parts fault h =
     let a = noted_refused Source is_device has_values has_names parts [] fault h in
-    (a.0, ap (λ (found : Option LoadFault). unless found (devices_from 1 parts)) (sym (as_checks parts) ∙ a.1))
+    (a.0, ap (λ (found : Option LoadFault). unless found (devices_from 1 parts)) a.1)
 
 pub parts_taken : (parts : List (List ℕ)) → first_noted (noted_rows Source fault_of_device no_faults 1 parts) ≡ None
-    → unless (first_fault (part_checks parts)) (devices_from 1 parts) ≡ Ok (with_devices [] 1 parts)
+    → unless (first_fault (row_checks Source is_device has_values has_names parts [])) (devices_from 1 parts) ≡ Ok (with_devices [] 1 parts)
 parts_taken parts h =
     let a = noted_none Source is_device has_values has_names parts [] h in
-    ap (λ (found : Option LoadFault). unless found (devices_from 1 parts)) (sym (as_checks parts) ∙ a.0) ∙ ap Ok (sym (with_read [] 1 parts a.1))
+    ap (λ (found : Option LoadFault). unless found (devices_from 1 parts)) a.0 ∙ ap Ok (sym (with_read [] 1 parts a.1))
 
 -- a device that is read has no fault, and one that is not has it noted, where memory is left
 pub read_faultless : (n : ℕ) (text : List ℕ) (device : DeviceSpec) → device_reading n text ≡ Ok device → fault_of_device text ≡ None

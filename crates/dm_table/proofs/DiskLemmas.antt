@@ -12,9 +12,9 @@ use Rattle.dm_table.specs.declared.row_faults.RowFault.TheVariants as rows
 use Rattle.dm_table.specs.Number.{number_of}
 use Rattle.dm_table.specs.Name.{is_disk_name}
 use Rattle.dm_table.specs.Fields.{texts, parts_at, lines_of, rest_of, lines_and_rest, fields}
-use Rattle.dm_table.specs.LoadFault.{Answers, first_or, first_fault, faults_from, unless, is_text, not_text, unended}
+use Rattle.dm_table.specs.LoadFault.{Answers, first_or, first_fault, faults_from, unless, is_text, not_text, unended, row_checks}
 use Rattle.dm_table.specs.Parsed.{IsParsed}
-use Rattle.dm_table.specs.DiskList.{disk_line, AreListed, DescribesDisks, is_pair, has_sectors, has_name, second, bad_syntax, bad_field, bad_name, disk_checks, disk_fault, disk_of, disk_reading, disks_from, disks_read, read_disk_rows, read_disks}
+use Rattle.dm_table.specs.DiskList.{disk_line, AreListed, DescribesDisks, is_pair, has_sectors, has_name, second, disk_checks, disk_fault, disk_of, disk_reading, disks_from, disks_read, read_disk_rows, read_disks}
 use Rattle.dm_table.specs.RowFaults.{no_faults, noted_rows, noted_rest, first_noted}
 use Rattle.dm_table.proofs.RowFaultLemmas.{noted_none, noted_refused}
 use Rattle.dm_table.proofs.NumberLemmas.{Spells-number_of, number_of-decimal, decimal_digits, decimal_some, Some-is_some}
@@ -67,9 +67,9 @@ pub disk_checks-none : (text : List ℕ) → first_fault (disk_checks text) ≡ 
 disk_checks-none text h =
     let rows = map fields (lines_of text) in
     let a = first_or-none (not_text Disks text) _ h in
-    let b = first_or-none (bad_syntax rows (rest_of text)) _ a.1 in
-    let c = first_or-none (bad_field rows) _ b.1 in
-    let d = first_or-none (bad_name rows) _ c.1 in
+    let b = first_or-none (faults_from Disks Syntax no_pair 1 rows ++ unended Disks (length rows + 1) (rest_of text)) _ a.1 in
+    let c = first_or-none (faults_from Disks Field no_number 1 rows) _ b.1 in
+    let d = first_or-none (faults_from Disks Name no_name 1 rows) _ c.1 in
     let syntax = append-nil_both (faults_from Disks Syntax no_pair 1 rows) (unended Disks (length rows + 1) (rest_of text)) b.0 in
     let pairs = faults_from-nil Disks Syntax no_pair 1 rows syntax.0 in
     let numbers = faults_from-nil Disks Field no_number 1 rows c.0 in
@@ -134,7 +134,7 @@ disks_again n [] listed = refl
 disks_again n (disk ∷ disks) listed = rw (number_of-decimal disk.len listed.0.len, disks_again (suc n) disks listed.1, ← listed.0.at) refl
 
 abbrev checks_of : List LoadFault → List (List (List ℕ)) → List ℕ → List (List LoadFault)
-checks_of bytes rows rest = bytes ∷ bad_syntax rows rest ∷ bad_field rows ∷ bad_name rows ∷ []
+checks_of bytes rows rest = bytes ∷ row_checks Disks is_pair has_sectors has_name rows rest
 
 -- what is written as lines of disks passes all checks, and gives them back
 pub again : (text : List ℕ) (disks : List Disk) → DescribesDisks text disks → (first_fault (disk_checks text) ≡ None) × (disks_from 1 (map fields (lines_of text)) ≡ disks)
@@ -147,12 +147,12 @@ again text disks describes =
     let rest : rest_of text ≡ [] = ap rest_of whole ∙ rest_of-lines (map disk_line disks) clear in
     let no_byte : not_text Disks text ≡ [] = ap (faults_from Disks NotText no_text 1) parts ∙ faults_from-good Disks NotText no_text 1 (map disk_line disks ++ [] ∷ []) (texts_pass disks names) in
     let no_row : faults_from Disks Syntax no_pair 1 (map disk_row disks) ≡ [] = faults_from-good Disks Syntax no_pair 1 (map disk_row disks) (pairs_pass disks names) in
-    let no_syntax : bad_syntax (map disk_row disks) [] ≡ [] = rw no_row refl in
-    let no_field : bad_field (map disk_row disks) ≡ [] = faults_from-good Disks Field no_number 1 (map disk_row disks) (numbers_pass disks names) in
-    let no_named : bad_name (map disk_row disks) ≡ [] = faults_from-good Disks Name no_name 1 (map disk_row disks) (names_pass disks names) in
-    let same : disk_checks text ≡ not_text Disks text ∷ bad_syntax (map disk_row disks) [] ∷ bad_field (map disk_row disks) ∷ bad_name (map disk_row disks) ∷ [] =
+    let no_syntax : faults_from Disks Syntax no_pair 1 (map disk_row disks) ++ [] ≡ [] = rw no_row refl in
+    let no_field : faults_from Disks Field no_number 1 (map disk_row disks) ≡ [] = faults_from-good Disks Field no_number 1 (map disk_row disks) (numbers_pass disks names) in
+    let no_named : faults_from Disks Name no_name 1 (map disk_row disks) ≡ [] = faults_from-good Disks Name no_name 1 (map disk_row disks) (names_pass disks names) in
+    let same : disk_checks text ≡ checks_of (not_text Disks text) (map disk_row disks) [] =
     ap (λ (r : List (List (List ℕ))). checks_of (not_text Disks text) r (rest_of text)) rows ∙ ap (checks_of (not_text Disks text) (map disk_row disks)) rest in (
-      ap first_fault same ∙ first_fault-all (not_text Disks text ∷ bad_syntax (map disk_row disks) [] ∷ bad_field (map disk_row disks) ∷ bad_name (map disk_row disks) ∷ []) (no_byte, (no_syntax, (no_field, (no_named, tt)))),
+      ap first_fault same ∙ first_fault-all (checks_of (not_text Disks text) (map disk_row disks) []) (no_byte, (no_syntax, (no_field, (no_named, tt)))),
       ap (disks_from 1) rows ∙ disks_again 1 disks describes.listed,
     )
 
@@ -172,7 +172,7 @@ pub read_disks-rows : (text : List ℕ) (lines : List (List ℕ)) (rest : List �
 unfolding read_disks
 read_disks-rows text lines rest passed =
     let own = map fields (lines_of text) in
-    let a = unless-passed (not_text Disks text) (first_fault (bad_syntax own (rest_of text) ∷ bad_field own ∷ bad_name own ∷ [])) (lines_and_rest text) (lines, rest) (disks_from 1 own) passed in
+    let a = unless-passed (not_text Disks text) (first_fault (row_checks Disks is_pair has_sectors has_name own (rest_of text))) (lines_and_rest text) (lines, rest) (disks_from 1 own) passed in
     a.1 ∙ ap (λ (cut : List (List ℕ) × List ℕ). read_disk_rows (map fields cut.0) cut.1) a.0
 
 -- Row by row

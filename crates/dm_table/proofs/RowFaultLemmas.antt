@@ -9,7 +9,7 @@ use Rattle.dm_table.specs.declared.load_fault.LoadFault.{LoadFault}
 use Rattle.dm_table.specs.declared.row_faults.RowFault.{RowFault}
 use Rattle.dm_table.specs.declared.row_faults.RowFault.TheVariants as rows
 use Rattle.dm_table.specs.declared.row_faults.FirstFaults.{FirstFaults}
-use Rattle.dm_table.specs.LoadFault.{fault_at, first_or, first_fault, faults_from, unended}
+use Rattle.dm_table.specs.LoadFault.{fault_at, first_or, first_fault, faults_from, row_checks, unended}
 use Rattle.dm_table.specs.RowFaults.{value_fault, row_fault, read_unless, no_faults, either, noted, noted_at, noted_rows, noted_rest, first_noted}
 use Rattle.dm_table.proofs.FaultLemmas.{append-nil_both, faults_from-nil, faults_from-text, first_fault-none, first_fault-text, text-append, unended-text}
 use Rattle.dm_table.proofs.TargetRows.{read_none}
@@ -56,26 +56,22 @@ noted_all part is_row is_line has_names seen n (x ∷ xs) rest =
 -- from the first row on, with nothing kept before
 pub noted_checks : {X : Type 0} (part : Part) (is_row is_line has_names : X → Bool) (rows : List X) (rest : List ℕ)
     → first_noted (noted_rest part (noted_rows part (λ x. row_fault (is_row x) (value_fault (is_line x) (has_names x))) no_faults 1 rows) (length rows + 1) rest)
-    ≡ first_fault ((faults_from part Syntax (λ x. not (is_row x)) 1 rows ++ unended part (length rows + 1) rest) ∷ faults_from part Field (λ x. not (is_line x)) 1 rows ∷ faults_from part Name (λ x. not (has_names x)) 1 rows ∷ [])
+    ≡ first_fault (row_checks part is_row is_line has_names rows rest)
 noted_checks part is_row is_line has_names rows rest =
     let place : length rows + 1 ≡ 1 + length rows = omega arith in
     rw place (noted_all part is_row is_line has_names no_faults 1 rows rest)
 
 -- What the kept faults say: one of them is no fault of memory, and none of them is one in no row
 
-abbrev pub checks_of : {X : Type 0} → Part → (is_row is_line has_names : X → Bool) → List X → List ℕ → List (List LoadFault)
-checks_of part is_row is_line has_names rows rest =
-    (faults_from part Syntax (λ x. not (is_row x)) 1 rows ++ unended part (length rows + 1) rest) ∷ faults_from part Field (λ x. not (is_line x)) 1 rows ∷ faults_from part Name (λ x. not (has_names x)) 1 rows ∷ []
-
 pub noted_refused : {X : Type 0} (part : Part) (is_row is_line has_names : X → Bool) (rows : List X) (rest : List ℕ) (fault : LoadFault)
     → first_noted (noted_rest part (noted_rows part (λ x. row_fault (is_row x) (value_fault (is_line x) (has_names x))) no_faults 1 rows) (length rows + 1) rest) ≡ Some fault
-    → (fault.kind ≢ Memory) × (first_fault (checks_of part is_row is_line has_names rows rest) ≡ Some fault)
+    → (fault.kind ≢ Memory) × (first_fault (row_checks part is_row is_line has_names rows rest) ≡ Some fault)
 noted_refused part is_row is_line has_names rows rest fault h =
-    let found : first_fault (checks_of part is_row is_line has_names rows rest) ≡ Some fault = sym (noted_checks part is_row is_line has_names rows rest) ∙ h in
+    let found : first_fault (row_checks part is_row is_line has_names rows rest) ≡ Some fault = sym (noted_checks part is_row is_line has_names rows rest) ∙ h in
     let syntax = text-append (faults_from part Syntax (λ x. not (is_row x)) 1 rows) (unended part (length rows + 1) rest) (faults_from-text part Syntax (λ x. not (is_row x)) 1 rows (λ e. cc)) (unended-text part (length rows + 1) rest) in
     let field = faults_from-text part Field (λ x. not (is_line x)) 1 rows (λ e. cc) in
     let name = faults_from-text part Name (λ x. not (has_names x)) 1 rows (λ e. cc) in
-    (first_fault-text (checks_of part is_row is_line has_names rows rest) fault (syntax, (field, (name, tt))) found, found)
+    (first_fault-text (row_checks part is_row is_line has_names rows rest) fault (syntax, (field, (name, tt))) found, found)
 
 no_faults_in : {X : Type 0} (is_row is_line has_names : X → Bool) (rows : List X) → AllByRecursion (λ x. not (is_row x) ≡ false) rows → AllByRecursion (λ x. not (is_line x) ≡ false) rows → AllByRecursion (λ x. not (has_names x) ≡ false) rows
     → AllByRecursion (λ x. row_fault (is_row x) (value_fault (is_line x) (has_names x)) ≡ None) rows
@@ -85,10 +81,10 @@ no_faults_in is_row is_line has_names (x ∷ xs) r l h =
 
 pub noted_none : {X : Type 0} (part : Part) (is_row is_line has_names : X → Bool) (rows : List X) (rest : List ℕ)
     → first_noted (noted_rest part (noted_rows part (λ x. row_fault (is_row x) (value_fault (is_line x) (has_names x))) no_faults 1 rows) (length rows + 1) rest) ≡ None
-    → (first_fault (checks_of part is_row is_line has_names rows rest) ≡ None) × AllByRecursion (λ x. row_fault (is_row x) (value_fault (is_line x) (has_names x)) ≡ None) rows
+    → (first_fault (row_checks part is_row is_line has_names rows rest) ≡ None) × AllByRecursion (λ x. row_fault (is_row x) (value_fault (is_line x) (has_names x)) ≡ None) rows
 noted_none part is_row is_line has_names rows rest h =
-    let none : first_fault (checks_of part is_row is_line has_names rows rest) ≡ None = sym (noted_checks part is_row is_line has_names rows rest) ∙ h in
-    let each = first_fault-none (checks_of part is_row is_line has_names rows rest) none in
+    let none : first_fault (row_checks part is_row is_line has_names rows rest) ≡ None = sym (noted_checks part is_row is_line has_names rows rest) ∙ h in
+    let each = first_fault-none (row_checks part is_row is_line has_names rows rest) none in
     let syntax = append-nil_both (faults_from part Syntax (λ x. not (is_row x)) 1 rows) _ each.0 in
     (none, no_faults_in is_row is_line has_names rows (faults_from-nil part Syntax (λ x. not (is_row x)) 1 rows syntax.0) (faults_from-nil part Field (λ x. not (is_line x)) 1 rows each.1.0) (faults_from-nil part Name (λ x. not (has_names x)) 1 rows each.1.1.0))
 

@@ -8,10 +8,10 @@ use Rattle.dm_table.specs.declared.place.Part.TheVariants.{Source}
 use Rattle.dm_table.specs.declared.load_fault.LoadKind.TheVariants.{NotText, Syntax, Field, Name}
 use Rattle.dm_table.specs.declared.load_fault.LoadFault.{LoadFault}
 use Rattle.dm_table.specs.Fields.{parts_at, all_but_last, last_or, lines_of, rest_of, lines_and_rest}
-use Rattle.dm_table.specs.LoadFault.{Answers, first_or, first_fault, faults_from, unless, is_text, not_text, unended}
+use Rattle.dm_table.specs.LoadFault.{Answers, first_or, first_fault, faults_from, row_checks, unless, is_text, not_text, unended}
 use Rattle.dm_table.specs.Parsed.{IsParsed}
 use Rattle.dm_table.specs.TableText.{NamedLine, Says, DescribesTable, named_lines, row_of, is_row, is_line, has_names, table_checks}
-use Rattle.dm_table.specs.TableReading.{named_in, named_from, joined, devices_from, rows_of, bad_syntax, bad_field, bad_name, read_rows, read_table}
+use Rattle.dm_table.specs.TableReading.{named_in, named_from, joined, devices_from, rows_of, read_rows, read_table}
 use Rattle.dm_table.proofs.ByteLemmas.{is_text-clear}
 use Rattle.dm_table.proofs.FaultLemmas.{first_fault-none, first_fault-all, faults_from-nil, faults_from-good, append-nil_both, unended-nil, unless-passed}
 use Rattle.dm_table.proofs.Parsing.{parsed}
@@ -131,4 +131,4 @@ pub read_table-rows : (text : List ℕ) → unless (first_or (not_text Source te
 unfolding read_table
 read_table-rows text passed =
     let own = rows text in
-    (unless-passed (not_text Source text) (first_fault (bad_syntax own (rest_of text) ∷ bad_field own ∷ bad_name own ∷ [])) (lines_and_rest text) (lines_and_rest text) (devices_from 1 own) passed).1
+    (unless-passed (not_text Source text) (first_fault (row_checks Source is_row is_line has_names own (rest_of text))) (lines_and_rest text) (lines_and_rest text) (devices_from 1 own) passed).1

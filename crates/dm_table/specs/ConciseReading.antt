@@ -8,7 +8,7 @@ use Rattle.dm_table.specs.declared.load_fault.LoadKind.TheVariants as kinds
 use Rattle.dm_table.specs.declared.load_fault.LoadFault.{LoadFault}
 use Rattle.dm_table.specs.declared.row_faults.RowFault.{RowFault}
 use Rattle.dm_table.specs.declared.row_faults.RowFault.TheVariants.{Syntax, Field, Name}
-use Rattle.dm_table.specs.LoadFault.{faults_from, first_fault, unless}
+use Rattle.dm_table.specs.LoadFault.{faults_from, first_fault, row_checks, unless}
 use Rattle.dm_table.specs.RowFaults.{value_fault, row_fault, read_unless}
 use Rattle.dm_table.specs.LineBody.{is_body_row, is_body, has_body_names}
 use Rattle.dm_table.specs.LineReading.{body_in}
@@ -76,15 +76,8 @@ devices_from n [] = []
 devices_from n (text ∷ texts) = device_of n (entries text) ∷ devices_from (suc n) texts
 
 -- the devices of parts, or the fault of their checks
-abbrev pub part_checks : List (List ℕ) → List (List LoadFault)
-part_checks parts =
-    faults_from Source kinds.Syntax (λ device. not (is_device device)) 1 parts
-    ∷ faults_from Source kinds.Field (λ device. not (has_values device)) 1 parts
-    ∷ faults_from Source kinds.Name (λ device. not (has_names device)) 1 parts
-    ∷ []
-
 abbrev pub parts_reading : List (List ℕ) → Result (List DeviceSpec) LoadFault
-parts_reading parts = unless (first_fault (faults_from Source kinds.NotText (λ device. not (is_printed device)) 1 parts ∷ part_checks parts)) (devices_from 1 parts)
+parts_reading parts = unless (first_fault (faults_from Source kinds.NotText (λ device. not (is_printed device)) 1 parts ∷ row_checks Source is_device has_values has_names parts [])) (devices_from 1 parts)
 
 -- the devices of a text, or the fault of its checks
 unfoldable pub read_concise : List ℕ → Result (List DeviceSpec) LoadFault

@@ -6,12 +6,12 @@ use Rattle.dm_table.specs.declared.table.Line.{Line}
 use Rattle.dm_table.specs.declared.table.DeviceSpec.{DeviceSpec}
 use Rattle.dm_table.specs.declared.place.Place.{Place}
 use Rattle.dm_table.specs.declared.place.Part.TheVariants.{Source}
-use Rattle.dm_table.specs.declared.load_fault.LoadKind.TheVariants.{NotText, Syntax, Field, Name}
+use Rattle.dm_table.specs.declared.load_fault.LoadKind.TheVariants.{NotText}
 use Rattle.dm_table.specs.declared.load_fault.LoadFault.{LoadFault}
 use Rattle.dm_table.specs.Name.{is_device_byte, is_device_name}
 use Rattle.dm_table.specs.Number.{number_of}
 use Rattle.dm_table.specs.Fields.{parts_at, all_but_last, last_or}
-use Rattle.dm_table.specs.LoadFault.{faults_from}
+use Rattle.dm_table.specs.LoadFault.{faults_from, row_checks}
 use Rattle.dm_table.specs.LineBody.{body_text, IsBody, is_body_row, is_body, has_body_names}
 use Rattle.dm_table.specs.TableText.{row_of}
 
@@ -150,8 +150,4 @@ has_names text = is_named (entries text) && list_all (λ body. has_body_names (b
 abbrev pub concise_checks : List ℕ → List (List LoadFault)
 concise_checks text =
     let devices = devices_of text in
-    faults_from Source NotText (λ device. not (is_printed device)) 1 devices
-    ∷ faults_from Source Syntax (λ device. not (is_device device)) 1 devices
-    ∷ faults_from Source Field (λ device. not (has_values device)) 1 devices
-    ∷ faults_from Source Name (λ device. not (has_names device)) 1 devices
-    ∷ []
+    faults_from Source NotText (λ device. not (is_printed device)) 1 devices ∷ row_checks Source is_device has_values has_names devices []

@@ -1,16 +1,15 @@
 -- Disk lists: a line NAME SECTORS for each disk.
-use Rattle.std.specs.Prelude.{◌≡◌, ℕ, suc, ◌+◌, ◌^◌, ◌<◌, Bool, true, false, not, ◌&&◌, List, [], ◌∷◌, ◌++◌, length, nat_lt, decimal, is_some, unwrap_or, map, Option, Result, Ok, Err}
+use Rattle.std.specs.Prelude.{◌≡◌, ℕ, suc, ◌^◌, ◌<◌, Bool, true, false, ◌&&◌, List, [], ◌∷◌, ◌++◌, length, nat_lt, decimal, is_some, unwrap_or, map, Option, Result, Ok, Err}
 use Rattle.std.specs.List.{flat_map}
 use Rattle.dm_table.specs.declared.disk.Disk.{Disk}
 use Rattle.dm_table.specs.declared.place.Part.TheVariants.{Disks}
-use Rattle.dm_table.specs.declared.load_fault.LoadKind.TheVariants.{Syntax, Field, Name}
 use Rattle.dm_table.specs.declared.load_fault.LoadFault.{LoadFault}
 use Rattle.dm_table.specs.Name.{is_disk_name}
 use Rattle.dm_table.specs.Number.{number_of}
 use Rattle.dm_table.specs.Fields.{fields, lines_of, rest_of}
 use Rattle.dm_table.specs.declared.row_faults.RowFault.{RowFault}
 use Rattle.dm_table.specs.RowFaults.{read_unless, row_fault, value_fault}
-use Rattle.dm_table.specs.LoadFault.{faults_from, first_fault, not_text, unended, unless}
+use Rattle.dm_table.specs.LoadFault.{first_fault, not_text, row_checks, unless}
 
 -- What a list says
 
@@ -49,10 +48,6 @@ abbrev pub second : List (List ℕ) → List ℕ
 second (first ∷ field ∷ fields) = field
 second _ = []
 
--- a line that is not two fields, or a rest that no newline ends
-abbrev pub bad_syntax : List (List (List ℕ)) → List ℕ → List LoadFault
-bad_syntax rows rest = faults_from Disks Syntax (λ row. not (is_pair row)) 1 rows ++ unended Disks (length rows + 1) rest
-
 -- sectors that are a number, and a name of a disk
 abbrev pub has_sectors : List (List ℕ) → Bool
 has_sectors row = is_some (number_of (second row))
@@ -60,19 +55,9 @@ has_sectors row = is_some (number_of (second row))
 abbrev pub has_name : List (List ℕ) → Bool
 has_name row = is_disk_name (first row)
 
--- sectors that are no number
-abbrev pub bad_field : List (List (List ℕ)) → List LoadFault
-bad_field rows = faults_from Disks Field (λ row. not (has_sectors row)) 1 rows
-
--- a name that no disk can have
-abbrev pub bad_name : List (List (List ℕ)) → List LoadFault
-bad_name rows = faults_from Disks Name (λ row. not (has_name row)) 1 rows
-
 -- the checks of a list, in their order
 abbrev pub disk_checks : List ℕ → List (List LoadFault)
-disk_checks text =
-    let rows = map fields (lines_of text) in
-    not_text Disks text ∷ bad_syntax rows (rest_of text) ∷ bad_field rows ∷ bad_name rows ∷ []
+disk_checks text = not_text Disks text ∷ row_checks Disks is_pair has_sectors has_name (map fields (lines_of text)) (rest_of text)
 
 -- How rows are read, for the functions that the public call stands on
 
@@ -102,7 +87,7 @@ disks_read n (row ∷ rows) = disk_in (disk_reading n row) ++ disks_read (suc n)
 
 -- the disks of rows, or the fault of their checks
 abbrev pub read_disk_rows : List (List (List ℕ)) → List ℕ → Result (List Disk) LoadFault
-read_disk_rows rows rest = unless (first_fault (bad_syntax rows rest ∷ bad_field rows ∷ bad_name rows ∷ [])) (disks_from 1 rows)
+read_disk_rows rows rest = unless (first_fault (row_checks Disks is_pair has_sectors has_name rows rest)) (disks_from 1 rows)
 
 -- the disks of a text, or the fault of its checks
 unfoldable pub read_disks : List ℕ → Result (List Disk) LoadFault

@@ -1,11 +1,11 @@
 -- Checks in a fixed order, and the one fault that is returned: the words that every check of a load is told in.
-use Rattle.std.specs.Prelude.{◌≡◌, ◌≢◌, ℕ, suc, Bool, not, ◌&&◌, nat_le, List, [], ◌∷◌, Option, Some, None, Result, Ok, Err, if◌then◌else◌}
+use Rattle.std.specs.Prelude.{◌≡◌, ◌≢◌, ℕ, suc, ◌+◌, Bool, not, ◌&&◌, nat_le, List, [], ◌∷◌, ◌++◌, length, Option, Some, None, Result, Ok, Err, if◌then◌else◌}
 use Rattle.std.specs.List.{list_all}
 use Rattle.dm_table.specs.Fields.{parts_at}
 use Rattle.dm_table.specs.declared.place.Part.{Part}
 use Rattle.dm_table.specs.declared.place.Place.{Place}
 use Rattle.dm_table.specs.declared.load_fault.LoadKind.{LoadKind}
-use Rattle.dm_table.specs.declared.load_fault.LoadKind.TheVariants.{Memory, NotText, Syntax}
+use Rattle.dm_table.specs.declared.load_fault.LoadKind.TheVariants.{Memory, NotText, Syntax, Field, Name}
 use Rattle.dm_table.specs.declared.load_fault.LoadFault.{LoadFault}
 
 -- a fault of a kind at a place
@@ -51,7 +51,7 @@ abbrev pub Answers : {X Y : Type 0} → Part → (X → Y) → Result X LoadFaul
 Answers part view (Ok x) reading = reading ≡ Ok (view x)
 Answers part view (Err fault) reading = (fault.kind ≡ Memory → IsMemoryFault part fault) × (fault.kind ≢ Memory → reading ≡ Err fault)
 
--- The two checks that all texts of lines share
+-- The checks that texts share
 
 -- bytes from 0x20 to 0x7E
 abbrev pub is_text : List ℕ → Bool
@@ -65,3 +65,11 @@ not_text part text = faults_from part NotText (λ line. not (is_text line)) 1 (p
 abbrev pub unended : Part → ℕ → List ℕ → List LoadFault
 unended part n [] = []
 unended part n (byte ∷ bytes) = fault_at part Syntax n ∷ []
+
+-- the checks of a part's rows, in their order: that each is a row, its values, and its names; a rest that no newline ends is no row
+abbrev pub row_checks : {X : Type 0} → Part → (is_row has_values has_names : X → Bool) → List X → (rest : List ℕ) → List (List LoadFault)
+row_checks part is_row has_values has_names rows rest =
+    (faults_from part Syntax (λ row. not (is_row row)) 1 rows ++ unended part (length rows + 1) rest)
+    ∷ faults_from part Field (λ row. not (has_values row)) 1 rows
+    ∷ faults_from part Name (λ row. not (has_names row)) 1 rows
+    ∷ []

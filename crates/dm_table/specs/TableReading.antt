@@ -1,15 +1,14 @@
 -- How a row of table text is read, for the functions that the public call stands on.
-use Rattle.std.specs.Prelude.{ℕ, suc, ◌+◌, Bool, true, false, not, List, [], ◌∷◌, ◌++◌, length, map, nat_eq, Option, Result, Ok, Err, if◌then◌else◌}
+use Rattle.std.specs.Prelude.{ℕ, suc, Bool, true, false, List, [], ◌∷◌, ◌++◌, map, nat_eq, Option, Result, Ok, Err, if◌then◌else◌}
 use Rattle.std.specs.Cmp.Lexicographic.{pointwise}
 use Rattle.dm_table.specs.declared.table.Line.{Line}
 use Rattle.dm_table.specs.declared.table.DeviceSpec.{DeviceSpec}
 use Rattle.dm_table.specs.declared.place.Part.TheVariants.{Source}
-use Rattle.dm_table.specs.declared.load_fault.LoadKind.TheVariants.{Syntax, Field, Name}
 use Rattle.dm_table.specs.declared.load_fault.LoadFault.{LoadFault}
 use Rattle.dm_table.specs.declared.row_faults.RowFault.{RowFault}
 use Rattle.dm_table.specs.declared.table_row.Row.{Row}
 use Rattle.dm_table.specs.Fields.{lines_of}
-use Rattle.dm_table.specs.LoadFault.{first_fault, faults_from, unended, unless}
+use Rattle.dm_table.specs.LoadFault.{first_fault, row_checks, unless}
 use Rattle.dm_table.specs.RowFaults.{value_fault, row_fault, read_unless}
 use Rattle.dm_table.specs.LineReading.{body_in}
 use Rattle.dm_table.specs.TableText.{NamedLine, name_in, row_of, is_row, is_line, has_names, table_checks}
@@ -94,21 +93,9 @@ with_rows devices n (row ∷ rows) = with_rows (with_reading devices (row_readin
 abbrev pub devices_from : ℕ → List (List (List ℕ)) → List DeviceSpec
 devices_from n rows = joined (named_from n rows)
 
--- a row that is none, or a rest that no newline ends
-abbrev pub bad_syntax : List (List (List ℕ)) → List ℕ → List LoadFault
-bad_syntax rows rest = faults_from Source Syntax (λ row. not (is_row row)) 1 rows ++ unended Source (length rows + 1) rest
-
--- a row without numbers or a known target
-abbrev pub bad_field : List (List (List ℕ)) → List LoadFault
-bad_field rows = faults_from Source Field (λ row. not (is_line row)) 1 rows
-
--- a row with a text that is no name
-abbrev pub bad_name : List (List (List ℕ)) → List LoadFault
-bad_name rows = faults_from Source Name (λ row. not (has_names row)) 1 rows
-
 -- the devices of rows, or the fault of their checks
 abbrev pub read_rows : List (List (List ℕ)) → List ℕ → Result (List DeviceSpec) LoadFault
-read_rows rows rest = unless (first_fault (bad_syntax rows rest ∷ bad_field rows ∷ bad_name rows ∷ [])) (devices_from 1 rows)
+read_rows rows rest = unless (first_fault (row_checks Source is_row is_line has_names rows rest)) (devices_from 1 rows)
 
 -- the devices of a text, or the fault of its checks
 unfoldable pub read_table : List ℕ → Result (List DeviceSpec) LoadFault

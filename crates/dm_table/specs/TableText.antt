@@ -1,15 +1,14 @@
 -- Table text: a line NAME: START LEN TYPE ARGS for each line of a table (dmsetup(8)). The name and its colon label the body of a line.
-use Rattle.std.specs.Prelude.{◌≡◌, ◌≢◌, ◌⊎◌, ℕ, suc, ◌+◌, ◌==◌, Bool, true, false, not, ◌&&◌, List, [], ◌∷◌, ◌++◌, length, map, nat_lt}
+use Rattle.std.specs.Prelude.{◌≡◌, ◌≢◌, ◌⊎◌, ℕ, suc, ◌==◌, Bool, true, false, ◌&&◌, List, [], ◌∷◌, ◌++◌, length, map, nat_lt}
 use Rattle.std.specs.List.{flat_map, AllByRecursion}
 use Rattle.dm_table.specs.declared.table.Line.{Line}
 use Rattle.dm_table.specs.declared.table.DeviceSpec.{DeviceSpec}
 use Rattle.dm_table.specs.declared.place.Place.{Place}
 use Rattle.dm_table.specs.declared.place.Part.TheVariants.{Source}
-use Rattle.dm_table.specs.declared.load_fault.LoadKind.TheVariants.{Syntax, Field, Name}
 use Rattle.dm_table.specs.declared.load_fault.LoadFault.{LoadFault}
 use Rattle.dm_table.specs.Name.{is_device_name}
 use Rattle.dm_table.specs.Fields.{fields, all_but_last, last_or, lines_of, rest_of}
-use Rattle.dm_table.specs.LoadFault.{faults_from, not_text, unended}
+use Rattle.dm_table.specs.LoadFault.{not_text, row_checks}
 use Rattle.dm_table.specs.LineBody.{body_text, IsBody, is_body_row, is_body, has_body_names}
 
 -- What a text says
@@ -104,10 +103,4 @@ has_names [] = false
 
 -- the checks of a text, in their order
 abbrev pub table_checks : List ℕ → List (List LoadFault)
-table_checks text =
-    let rows = map row_of (lines_of text) in
-    not_text Source text
-    ∷ (faults_from Source Syntax (λ row. not (is_row row)) 1 rows ++ unended Source (length rows + 1) (rest_of text))
-    ∷ faults_from Source Field (λ row. not (is_line row)) 1 rows
-    ∷ faults_from Source Name (λ row. not (has_names row)) 1 rows
-    ∷ []
+table_checks text = not_text Source text ∷ row_checks Source is_row is_line has_names (map row_of (lines_of text)) (rest_of text)

@@ -1,12 +1,12 @@
 -- A refusal by the first check is that of all; else the rows that were cut are those of the text.
-use Rattle.std.proofs.Common.{[], ◌∷◌, map, Vec}
+use Rattle.std.proofs.Common.{map, Vec}
 use Rattle.std.specs.Global.{Global}
 use Rattle.std.proofs.lemmas.Result.{err_from_is_err_and}
 use Rattle.dm_table.specs.declared.disk.Disk.{Disk}
 use Rattle.dm_table.specs.declared.place.Part.TheVariants.{Disks}
 use Rattle.dm_table.specs.Fields.{cut_text, fields, lines_and_rest, lines_of, rest_of, texts}
-use Rattle.dm_table.specs.LoadFault.{not_text, first_fault}
-use Rattle.dm_table.specs.DiskList.{bad_syntax, bad_field, bad_name, disks_from, read_disks}
+use Rattle.dm_table.specs.LoadFault.{not_text, first_fault, row_checks}
+use Rattle.dm_table.specs.DiskList.{is_pair, has_sectors, has_name, disks_from, read_disks}
 use Rattle.dm_table.proofs.FaultLemmas.{Answers-refused}
 use Rattle.dm_table.proofs.DiskLemmas.{read_as_promised, read_disks-rows}
 use Rattle.dm_table.proofs.disk_list.parse_disks.Goals as goal
@@ -17,7 +17,7 @@ returns-in_err-cut c =
     let p = err_from_is_err_and c.from_residual.result c.from_residual.ensures.1 in
     let text = c.args.text.now in
     let rows = map fields (lines_of text) in
-    rw (p.1, p.2) (read_as_promised text _ (Answers-refused Disks cut_text (λ (v : Vec Disk Global). v.items) c.in_err-cut.field-0.0 (not_text Disks text) (first_fault (bad_syntax rows (rest_of text) ∷ bad_field rows ∷ bad_name rows ∷ [])) (lines_and_rest text) (disks_from 1 rows) c.in_err-cut.ensures))
+    rw (p.1, p.2) (read_as_promised text _ (Answers-refused Disks cut_text (λ (v : Vec Disk Global). v.items) c.in_err-cut.field-0.0 (not_text Disks text) (first_fault (row_checks Disks is_pair has_sectors has_name rows (rest_of text))) (lines_and_rest text) (disks_from 1 rows) c.in_err-cut.ensures))
 
 pub returns : goal.returns
 returns c =
