@@ -1,10 +1,11 @@
 -- The body of a line and its fields: fields that the tests pass are those of a body, and the fields of a body pass them.
-use Rattle.std.proofs.Common.{◌≡◌, inl, inr, ℕ, ◌*◌, ◌^◌, ◌<◌, ◌≤◌, Bool, true, false, eqb, nat_le, nat_lt, nat_eq, ◌&&◌, ◌||◌, List, [], ◌∷◌, ◌++◌, length, drop, Option, refl, sym, ap, ◌∙◌, append_assoc, arith}
+use Rattle.std.proofs.Common.{◌≡◌, inl, inr, ℕ, ◌*◌, ◌^◌, ◌<◌, ◌≤◌, Bool, true, false, eqb, nat_le, nat_lt, nat_eq, ◌&&◌, List, [], ◌∷◌, ◌++◌, length, drop, Option, Some, None, refl, sym, ap, ◌∙◌, append_assoc, arith}
 use Rattle.std.specs.Prelude.{decimal, codes, is_some, unwrap_or, if◌then◌else◌}
 use Rattle.std.specs.Cmp.Lexicographic.{pointwise}
 use Rattle.std.specs.Char.{is_ascii_digit}
+use Rattle.std.specs.Option.{option_map}
 use Rattle.std.specs.List.{flat_map, list_all, join_with_byte, AllByRecursion}
-use Rattle.std.proofs.lemmas.Bool.{and_parts, and_from, lt-ltb, eqb-true, eq-eqb, not-true, cond-true, cond-false, cases_Bool}
+use Rattle.std.proofs.lemmas.Bool.{and_parts, and_from, lt-ltb, eqb-true, eq-eqb, not-true, cases_Bool}
 use Rattle.std.proofs.lemmas.Bool.Decides.{nat_tests, Decides-eqb}
 use Rattle.std.proofs.lemmas.List.{length-append, append-nil}
 use Rattle.std.proofs.lemmas.Slice.Eq.{starts_is}
@@ -15,15 +16,14 @@ use Rattle.dm_table.specs.declared.table.Target.{Target}
 use Rattle.dm_table.specs.declared.table.Target.TheVariants.{Linear, Striped, Zero, Error, Snapshot}
 use Rattle.dm_table.specs.declared.table.Line.{Line}
 use Rattle.dm_table.specs.declared.place.Place.{Place}
-use Rattle.dm_table.specs.Name.{is_device_byte, is_device_name, is_disk_byte, is_disk_name, names_device, mapper}
+use Rattle.dm_table.specs.Name.{is_device_byte, is_device_name, is_disk_byte, names_device, mapper}
 use Rattle.dm_table.specs.Number.{Spells, number_of, number_in}
-use Rattle.dm_table.specs.LineBody.{dev_text, column_text, target_text, body_text, IsDevRef, IsColumn, IsTarget, IsBody, is_body_row, is_linear, are_columns, is_half, is_striped, is_snapshot, is_target, is_body, is_dev, are_devs, are_both_devs, has_devs, has_body_names}
-use Rattle.dm_table.specs.LineReading.{dev_in, columns_in, linear_in, striped_in, snapshot_in, target_in, body_in}
+use Rattle.dm_table.specs.LineBody.{dev_text, column_text, target_text, body_text, is_dev_ref, IsDevRef, IsColumn, IsTarget, IsBody, dev_in, if_both, linear_in, columns_in, is_half, striped_in, snapshot_in, bare_in, target_in, column_devs, devs_of, is_body_row, is_body, has_target_names, has_body_names}
+use Rattle.dm_table.specs.LineReading.{body_in}
 use Rattle.dm_table.proofs.NumberLemmas.{Spells-number_of, number_of-decimal, decimal_digits, decimal_some, Some-is_some}
 use Rattle.dm_table.proofs.ByteLemmas.{All-list_all, list_all-weaker, device_name_parts, disk_name_parts}
 use Rattle.dm_table.proofs.FieldLemmas.{IsClearOf}
 use Rattle.dm_table.proofs.TableGroups.{same_name}
-use Rattle.dm_table.proofs.TargetRows.{linear_devs}
 
 -- The fields that a body is written with
 
@@ -72,158 +72,160 @@ dev_spelled text = elim (cases_Bool (names_device text)) [
   | inr e ↦ rw e refl
 ]
 
-dev_said : (text : List ℕ) → is_dev text ≡ true → IsDevRef (dev_in text)
-dev_said text h = elim (cases_Bool (names_device text)) [
-  | inl e ↦ rw e (sym (cond-true (names_device text) (is_device_name (drop (length mapper) text)) (is_disk_name text) e) ∙ h)
-  | inr e ↦ rw e (sym (cond-false (names_device text) (is_device_name (drop (length mapper) text)) (is_disk_name text) e) ∙ h)
-]
+-- an option that is there after a map was there before it
+mapped : {X Y : Type 0} (f : X → Y) (o : Option X) (y : Y) → option_map f o ≡ Some y → (x : X) × (o ≡ Some x) × (f x ≡ y)
+mapped f None y h = absurd cc
+mapped f (Some x) y h = (x, refl, cc)
 
-linear_row : (fs : List (List ℕ)) → is_linear fs ≡ true → target_fields (linear_in fs) ≡ codes "linear" ∷ fs
-linear_row [] h = absurd cc
-linear_row (to ∷ []) h = absurd cc
-linear_row (to ∷ offset ∷ []) h = rw (dev_spelled to, ← (number_spelled offset h).digits) refl
-linear_row (to ∷ offset ∷ more ∷ rest) h = absurd cc
+-- two that are there together
+both_there : {X Y Z : Type 0} (make : X → Y → Z) (o : Option X) (p : Option Y) (z : Z) → if_both make o p ≡ Some z → (x : X) × (y : Y) × (o ≡ Some x) × (p ≡ Some y) × (make x y ≡ z)
+both_there make None p z h = absurd cc
+both_there make (Some x) p z h = let m = mapped (make x) p z h in (x, m.0, refl, m.1, m.2)
 
-columns_row : (fs : List (List ℕ)) → are_columns fs ≡ true → flat_map column_fields (columns_in fs) ≡ fs
-columns_row [] h = refl
-columns_row (to ∷ []) h = absurd cc
-columns_row (to ∷ offset ∷ more) h =
-    let a = and_parts (is_some (number_of offset)) (are_columns more) h in
-    rw (dev_spelled to, ← (number_spelled offset a.0).digits, columns_row more a.1) refl
+-- a choice that is there
+chosen : {X : Type 0} (b : Bool) (o : Option X) (x : X) → (if b then o else None) ≡ Some x → (b ≡ true) × (o ≡ Some x)
+chosen true o x h = (refl, h)
+chosen false o x h = absurd cc
 
--- as many columns as half of the fields
-columns_half : (fs : List (List ℕ)) → are_columns fs ≡ true → 2 * length (columns_in fs) ≡ length fs
-columns_half [] h = refl
-columns_half (to ∷ []) h = absurd cc
-columns_half (to ∷ offset ∷ more) h =
-    let half : 2 * length (columns_in more) ≡ length more = columns_half more (and_parts (is_some (number_of offset)) (are_columns more) h).1 in
-    omega arith
+-- fields say a target: they are its fields, and a text may say it where its names are names
+record SaysTarget (fields : List (List ℕ)) (target : Target) : Type 0 where
+  again : target_fields target ≡ fields
+  said : list_all is_dev_ref (devs_of target) ≡ true → IsTarget target
 
-count_row : (count : List ℕ) (fs : List (List ℕ)) → is_half count (length fs) ≡ true → are_columns fs ≡ true → (decimal (length (columns_in fs)) ≡ count) × (length (columns_in fs) < 10 ^ 19)
-count_row count fs c h =
-    let a = and_parts (is_some (number_of count)) (eqb (2 * number_in count) (length fs)) c in
+linear_says : (fs : List (List ℕ)) (target : Target) → linear_in fs ≡ Some target → SaysTarget (codes "linear" ∷ fs) target
+linear_says [] target h = absurd cc
+linear_says (to ∷ []) target h = absurd cc
+linear_says (to ∷ offset ∷ []) target h =
+    let m = mapped (λ n. Linear (dev_in to) n) (number_of offset) target h in
+    let spelled = Spells-number_of offset m.0 m.1 in
+    rw (← m.2) record {
+      again = rw (dev_spelled to, ← spelled.digits) refl;
+      said = λ named. ((and_parts (is_dev_ref (dev_in to)) true named).0, spelled.short);
+    }
+linear_says (to ∷ offset ∷ more ∷ rest) target h = absurd cc
+
+-- fields say columns, which are half as many
+record SaysColumns (fields : List (List ℕ)) (columns : List Column) : Type 0 where
+  again : flat_map column_fields columns ≡ fields
+  half : 2 * length columns ≡ length fields
+  said : list_all is_dev_ref (column_devs columns) ≡ true → AllByRecursion IsColumn columns
+
+columns_say : (fs : List (List ℕ)) (columns : List Column) → columns_in fs ≡ Some columns → SaysColumns fs columns
+columns_say [] columns h =
+    let none : [] ≡ columns = cc in
+    rw (← none) record { again = refl; half = refl; said = λ named. tt }
+columns_say (to ∷ []) columns h = absurd cc
+columns_say (to ∷ offset ∷ more) columns h =
+    let m = both_there (λ n columns. record { to = dev_in to; offset = n } ∷ columns) (number_of offset) (columns_in more) columns h in
+    let spelled = Spells-number_of offset m.0 m.2 in
+    let says = columns_say more m.1 m.3 in
+    let half : 2 * length m.1 ≡ length more = says.half in
+    rw (← m.4) record {
+      again = rw (dev_spelled to, ← spelled.digits, says.again) refl;
+      half = omega arith;
+      said = λ named. let a = and_parts (is_dev_ref (dev_in to)) (list_all is_dev_ref (column_devs m.1)) named in ((a.0, spelled.short), says.said a.1);
+    }
+
+count_row : (count : List ℕ) (n m : ℕ) → is_half count n ≡ true → 2 * m ≡ n → (decimal m ≡ count) × (m < 10 ^ 19)
+count_row count n m c half =
+    let a = and_parts (is_some (number_of count)) (eqb (2 * number_in count) n) c in
     let spelled = number_spelled count a.0 in
-    let twice : 2 * number_in count ≡ length fs = eqb-true (2 * number_in count) (length fs) a.1 in
-    let half : 2 * length (columns_in fs) ≡ length fs = columns_half fs h in
-    let same : length (columns_in fs) ≡ number_in count = omega arith in
+    let twice : 2 * number_in count ≡ n = eqb-true (2 * number_in count) n a.1 in
+    let same : m ≡ number_in count = omega arith in
     (ap decimal same ∙ sym spelled.digits, rw same spelled.short)
 
-striped_row : (fs : List (List ℕ)) → is_striped fs ≡ true → target_fields (striped_in fs) ≡ codes "striped" ∷ fs
-striped_row [] h = absurd cc
-striped_row (count ∷ []) h = absurd cc
-striped_row (count ∷ chunk ∷ columns) h =
-    let a = and_parts (is_half count (length columns)) (is_some (number_of chunk) && are_columns columns) h in
-    let b = and_parts (is_some (number_of chunk)) (are_columns columns) a.1 in
-    rw ((count_row count columns a.0 b.1).0, ← (number_spelled chunk b.0).digits, columns_row columns b.1) refl
+striped_says : (fs : List (List ℕ)) (target : Target) → striped_in fs ≡ Some target → SaysTarget (codes "striped" ∷ fs) target
+striped_says [] target h = absurd cc
+striped_says (count ∷ []) target h = absurd cc
+striped_says (count ∷ chunk ∷ columns) target h =
+    let c = chosen (is_half count (length columns)) (if_both Striped (number_of chunk) (columns_in columns)) target h in
+    let m = both_there Striped (number_of chunk) (columns_in columns) target c.1 in
+    let spelled = Spells-number_of chunk m.0 m.2 in
+    let says = columns_say columns m.1 m.3 in
+    let counted = count_row count (length columns) (length m.1) c.0 says.half in
+    rw (← m.4) record {
+      again = rw (counted.0, ← spelled.digits, says.again) refl;
+      said = λ named. (counted.1, spelled.short, says.said named);
+    }
 
-snapshot_row : (fs : List (List ℕ)) → is_snapshot fs ≡ true → target_fields (snapshot_in fs) ≡ codes "snapshot" ∷ fs
-snapshot_row [] h = absurd cc
-snapshot_row (origin ∷ []) h = absurd cc
-snapshot_row (origin ∷ store ∷ []) h = absurd cc
-snapshot_row (origin ∷ store ∷ flag ∷ []) h = absurd cc
-snapshot_row (origin ∷ store ∷ flag ∷ chunk ∷ []) h =
-    let a = and_parts (pointwise nat_eq flag (codes "P")) (is_some (number_of chunk)) h in
-    rw (dev_spelled origin, dev_spelled store, same_name flag (codes "P") a.0, ← (number_spelled chunk a.1).digits) refl
-snapshot_row (origin ∷ store ∷ flag ∷ chunk ∷ more ∷ rest) h = absurd cc
+snapshot_again : (origin store flag chunk : List ℕ) (n : ℕ) → pointwise nat_eq flag (codes "P") ≡ true → chunk ≡ decimal n
+    → target_fields (Snapshot (dev_in origin) (dev_in store) n) ≡ codes "snapshot" ∷ origin ∷ store ∷ flag ∷ chunk ∷ []
+snapshot_again origin store flag chunk n p spelled = rw (dev_spelled origin, dev_spelled store, same_name flag (codes "P") p, spelled) refl
 
--- the words of types that take no arguments
-abbrev is_alone : List ℕ → List (List ℕ) → Bool
-is_alone type arguments = (pointwise nat_eq type (codes "zero") || pointwise nat_eq type (codes "error")) && eqb (length arguments) 0
+snapshot_says : (fs : List (List ℕ)) (target : Target) → snapshot_in fs ≡ Some target → SaysTarget (codes "snapshot" ∷ fs) target
+snapshot_says [] target h = absurd cc
+snapshot_says (origin ∷ []) target h = absurd cc
+snapshot_says (origin ∷ store ∷ []) target h = absurd cc
+snapshot_says (origin ∷ store ∷ flag ∷ []) target h = absurd cc
+snapshot_says (origin ∷ store ∷ flag ∷ chunk ∷ []) target h =
+    let make : ℕ → Target = λ n. Snapshot (dev_in origin) (dev_in store) n in
+    let c = chosen (pointwise nat_eq flag (codes "P")) (option_map make (number_of chunk)) target h in
+    let m = mapped make (number_of chunk) target c.1 in
+    let spelled = Spells-number_of chunk m.0 m.1 in
+    rw (← m.2) record {
+      again = snapshot_again origin store flag chunk m.0 c.0 spelled.digits;
+      said = λ named.
+          let a = and_parts (is_dev_ref (dev_in origin)) (is_dev_ref (dev_in store) && true) named in
+          (a.0, (and_parts (is_dev_ref (dev_in store)) true a.1).0, spelled.short);
+    }
+snapshot_says (origin ∷ store ∷ flag ∷ chunk ∷ more ∷ rest) target h = absurd cc
 
-alone_row : (type : List ℕ) (arguments : List (List ℕ)) → is_alone type arguments ≡ true → target_fields (if pointwise nat_eq type (codes "zero") then Zero else Error) ≡ type ∷ arguments
-alone_row type (a ∷ arguments) h =
-    let words = pointwise nat_eq type (codes "zero") || pointwise nat_eq type (codes "error") in
-    let none : length (a ∷ arguments) ≡ 0 = eqb-true (length (a ∷ arguments)) 0 (and_parts words (eqb (length (a ∷ arguments)) 0) h).1 in
-    absurd (omega arith)
-alone_row type [] h = elim (cases_Bool (pointwise nat_eq type (codes "zero"))) [
-  | inl e ↦ rw e (ap (λ (t : List ℕ). t ∷ []) (sym (same_name type (codes "zero") e)))
-  | inr e ↦
-      let error : pointwise nat_eq type (codes "error") ≡ true = (and_parts _ true (rw e at h)).0 in
-      rw e (ap (λ (t : List ℕ). t ∷ []) (sym (same_name type (codes "error") error)))
-]
+zero_says : (fs : List (List ℕ)) (target : Target) → bare_in Zero fs ≡ Some target → SaysTarget (codes "zero" ∷ fs) target
+zero_says [] target h = let is : Zero ≡ target = cc in rw (← is) record { again = refl; said = λ named. tt }
+zero_says (f ∷ fs) target h = absurd cc
 
-target_row : (fs : List (List ℕ)) → is_target fs ≡ true → target_fields (target_in fs) ≡ fs
-target_row [] h = absurd cc
-target_row (type ∷ arguments) h = elim (cases_Bool (pointwise nat_eq type (codes "linear"))) [
-  | inl e ↦ rw e (linear_row arguments (rw e at h) ∙ ap (λ (t : List ℕ). t ∷ arguments) (sym (same_name type (codes "linear") e)))
+error_says : (fs : List (List ℕ)) (target : Target) → bare_in Error fs ≡ Some target → SaysTarget (codes "error" ∷ fs) target
+error_says [] target h = let is : Error ≡ target = cc in rw (← is) record { again = refl; said = λ named. tt }
+error_says (f ∷ fs) target h = absurd cc
+
+-- the same after a type that is this word
+typed : (type word : List ℕ) (fs : List (List ℕ)) (target : Target) → pointwise nat_eq type word ≡ true → SaysTarget (word ∷ fs) target → SaysTarget (type ∷ fs) target
+typed type word fs target is says = rw (same_name type word is) says
+
+target_says : (fs : List (List ℕ)) (target : Target) → target_in fs ≡ Some target → SaysTarget fs target
+target_says [] target h = absurd cc
+target_says (type ∷ fs) target h = elim (cases_Bool (pointwise nat_eq type (codes "linear"))) [
+  | inl e ↦ typed type (codes "linear") fs target e (linear_says fs target (rw e at h))
   | inr e ↦ elim (cases_Bool (pointwise nat_eq type (codes "striped"))) [
-    | inl s ↦ rw (e, s) (striped_row arguments (rw (e, s) at h) ∙ ap (λ (t : List ℕ). t ∷ arguments) (sym (same_name type (codes "striped") s)))
+    | inl s ↦ typed type (codes "striped") fs target s (striped_says fs target (rw (e, s) at h))
     | inr s ↦ elim (cases_Bool (pointwise nat_eq type (codes "snapshot"))) [
-      | inl p ↦ rw (e, s, p) (snapshot_row arguments (rw (e, s, p) at h) ∙ ap (λ (t : List ℕ). t ∷ arguments) (sym (same_name type (codes "snapshot") p)))
-      | inr p ↦ rw (e, s, p) (alone_row type arguments (rw (e, s, p) at h))
+      | inl p ↦ typed type (codes "snapshot") fs target p (snapshot_says fs target (rw (e, s, p) at h))
+      | inr p ↦ elim (cases_Bool (pointwise nat_eq type (codes "zero"))) [
+        | inl z ↦ typed type (codes "zero") fs target z (zero_says fs target (rw (e, s, p, z) at h))
+        | inr z ↦
+            let c = chosen (pointwise nat_eq type (codes "error")) (bare_in Error fs) target (rw (e, s, p, z) at h) in
+            typed type (codes "error") fs target c.0 (error_says fs target c.1)
+      ]
     ]
   ]
 ]
+
+-- the target that fields say
+there : (o : Option Target) → is_some o ≡ true → o ≡ Some (unwrap_or o Error)
+there None h = absurd cc
+there (Some target) h = refl
 
 -- fields in order are those of their line
 pub body_again : (at : Place) (fs : List (List ℕ)) → is_body fs ≡ true → body_fields (body_in at fs) ≡ fs
 body_again at [] h = absurd cc
 body_again at (a ∷ []) h = absurd cc
 body_again at (start ∷ len ∷ target) h =
-    let b = and_parts (is_some (number_of start)) (is_some (number_of len) && is_target target) h in
-    let c = and_parts (is_some (number_of len)) (is_target target) b.1 in
-    rw (← (number_spelled start b.0).digits, ← (number_spelled len c.0).digits, target_row target c.1) refl
-
-linear_said : (fs : List (List ℕ)) → is_linear fs ≡ true → are_devs fs ≡ true → IsTarget (linear_in fs)
-linear_said [] h d = absurd cc
-linear_said (to ∷ []) h d = absurd cc
-linear_said (to ∷ offset ∷ []) h d = (dev_said to (and_parts (is_dev to) true d).0, (number_spelled offset h).short)
-linear_said (to ∷ offset ∷ more ∷ rest) h d = absurd cc
-
-columns_said : (fs : List (List ℕ)) → are_columns fs ≡ true → are_devs fs ≡ true → AllByRecursion IsColumn (columns_in fs)
-columns_said [] h d = tt
-columns_said (to ∷ []) h d = absurd cc
-columns_said (to ∷ offset ∷ more) h d =
-    let a = and_parts (is_some (number_of offset)) (are_columns more) h in
-    let b = and_parts (is_dev to) (are_devs more) d in
-    ((dev_said to b.0, (number_spelled offset a.0).short), columns_said more a.1 b.1)
-
-striped_said : (fs : List (List ℕ)) → is_striped fs ≡ true → are_devs (drop 2 fs) ≡ true → IsTarget (striped_in fs)
-striped_said [] h d = absurd cc
-striped_said (count ∷ []) h d = absurd cc
-striped_said (count ∷ chunk ∷ columns) h d =
-    let a = and_parts (is_half count (length columns)) (is_some (number_of chunk) && are_columns columns) h in
-    let b = and_parts (is_some (number_of chunk)) (are_columns columns) a.1 in
-    ((count_row count columns a.0 b.1).1, (number_spelled chunk b.0).short, columns_said columns b.1 d)
-
-snapshot_said : (fs : List (List ℕ)) → is_snapshot fs ≡ true → are_both_devs fs ≡ true → IsTarget (snapshot_in fs)
-snapshot_said [] h d = absurd cc
-snapshot_said (origin ∷ []) h d = absurd cc
-snapshot_said (origin ∷ store ∷ []) h d = absurd cc
-snapshot_said (origin ∷ store ∷ flag ∷ []) h d = absurd cc
-snapshot_said (origin ∷ store ∷ flag ∷ chunk ∷ []) h d =
-    let a = and_parts (is_dev origin) (is_dev store) d in
-    let b = and_parts (pointwise nat_eq flag (codes "P")) (is_some (number_of chunk)) h in
-    (dev_said origin a.0, dev_said store a.1, (number_spelled chunk b.1).short)
-snapshot_said (origin ∷ store ∷ flag ∷ chunk ∷ more ∷ rest) h d = absurd cc
-
-alone_said : (zero : Bool) → IsTarget (if zero then Zero else Error)
-alone_said true = tt
-alone_said false = tt
-
-target_said : (fs : List (List ℕ)) → is_target fs ≡ true → has_devs fs ≡ true → IsTarget (target_in fs)
-target_said [] h d = absurd cc
-target_said (type ∷ arguments) h d = elim (cases_Bool (pointwise nat_eq type (codes "linear"))) [
-  | inl e ↦ rw e (linear_said arguments (rw e at h) (sym (linear_devs type arguments (same_name type (codes "linear") e)) ∙ d))
-  | inr e ↦ elim (cases_Bool (pointwise nat_eq type (codes "striped"))) [
-    | inl s ↦ rw (e, s) (striped_said arguments (rw (e, s) at h) (rw s at d))
-    | inr s ↦ elim (cases_Bool (pointwise nat_eq type (codes "snapshot"))) [
-      | inl p ↦ rw (e, s, p) (snapshot_said arguments (rw (e, s, p) at h) (rw (s, p) at d))
-      | inr p ↦ rw (e, s, p) (alone_said (pointwise nat_eq type (codes "zero")))
-    ]
-  ]
-]
+    let b = and_parts (is_some (number_of start)) (is_some (number_of len) && is_some (target_in target)) h in
+    let c = and_parts (is_some (number_of len)) (is_some (target_in target)) b.1 in
+    let says = target_says target (unwrap_or (target_in target) Error) (there (target_in target) c.1) in
+    rw (← (number_spelled start b.0).digits, ← (number_spelled len c.0).digits, says.again) refl
 
 pub body_said : (at : Place) (fs : List (List ℕ)) → is_body fs ≡ true → has_body_names fs ≡ true → IsBody (body_in at fs)
 body_said at [] l h = absurd cc
 body_said at (a ∷ []) l h = absurd cc
 body_said at (start ∷ len ∷ target) l h =
-    let b = and_parts (is_some (number_of start)) (is_some (number_of len) && is_target target) l in
-    let c = and_parts (is_some (number_of len)) (is_target target) b.1 in
+    let b = and_parts (is_some (number_of start)) (is_some (number_of len) && is_some (target_in target)) l in
+    let c = and_parts (is_some (number_of len)) (is_some (target_in target)) b.1 in
+    let is = there (target_in target) c.1 in
     record {
       start = (number_spelled start b.0).short;
       len = (number_spelled len c.0).short;
-      target = target_said target c.1 h;
+      target = (target_says target (unwrap_or (target_in target) Error) is).said (sym (ap has_target_names is) ∙ h);
     }
 
 -- From a body to its fields
@@ -301,9 +303,9 @@ number_is n h = ap (λ (o : Option ℕ). unwrap_or o 0) (number_of-decimal n h)
 number_passes : (n : ℕ) → n < 10 ^ 19 → is_some (number_of (decimal n)) ≡ true
 number_passes n h = ap is_some (number_of-decimal n h)
 
-columns_pass : (columns : List Column) → AllByRecursion IsColumn columns → are_columns (flat_map column_fields columns) ≡ true
-columns_pass [] h = refl
-columns_pass (column ∷ columns) h = and_from _ _ (number_passes column.offset h.0.1) (columns_pass columns h.1)
+dev_again : (to : DevRef) → IsDevRef to → dev_in (dev_text to) ≡ to
+dev_again (Device name) h = refl
+dev_again (Disk name) h = rw (not-true _ (disk_name_parts name h).own) refl
 
 columns_long : (columns : List Column) → 2 * length columns ≡ length (flat_map column_fields columns)
 columns_long [] = refl
@@ -314,48 +316,33 @@ count_passes columns h =
     let half : 2 * number_in (decimal (length columns)) ≡ length (flat_map column_fields columns) = rw (number_is (length columns) h) (columns_long columns) in
     and_from _ _ (number_passes (length columns) h) (eq-eqb _ _ half)
 
-target_passes : (target : Target) → IsTarget target → is_target (target_fields target) ≡ true
-target_passes (Linear to offset) h = number_passes offset h.1
-target_passes (Striped chunk columns) h = and_from _ _ (count_passes columns h.0) (and_from _ _ (number_passes chunk h.1) (columns_pass columns h.2))
-target_passes Zero h = refl
-target_passes Error h = refl
-target_passes (Snapshot origin store chunk) h = number_passes chunk h.2
-
-pub body_passes : (line : Line) → IsBody line → is_body (body_fields line) ≡ true
-body_passes line h = and_from _ _ (number_passes line.start h.start) (and_from _ _ (number_passes line.len h.len) (target_passes line.target h.target))
-
-dev_passes : (to : DevRef) → IsDevRef to → is_dev (dev_text to) ≡ true
-dev_passes (Device name) h = h
-dev_passes (Disk name) h = cond-false (names_device name) (is_device_name (drop (length mapper) name)) (is_disk_name name) (not-true _ (disk_name_parts name h).own) ∙ h
-
-dev_again : (to : DevRef) → IsDevRef to → dev_in (dev_text to) ≡ to
-dev_again (Device name) h = refl
-dev_again (Disk name) h = rw (not-true _ (disk_name_parts name h).own) refl
-
-devs_pass : (columns : List Column) → AllByRecursion IsColumn columns → are_devs (flat_map column_fields columns) ≡ true
-devs_pass [] h = refl
-devs_pass (column ∷ columns) h = and_from _ _ (dev_passes column.to h.0.0) (devs_pass columns h.1)
-
-devs_ok : (target : Target) → IsTarget target → has_devs (target_fields target) ≡ true
-devs_ok (Linear to offset) t = and_from _ _ (dev_passes to t.0) refl
-devs_ok (Striped chunk columns) t = devs_pass columns t.2
-devs_ok Zero t = refl
-devs_ok Error t = refl
-devs_ok (Snapshot origin store chunk) t = and_from _ _ (dev_passes origin t.0) (dev_passes store t.1)
-
-pub body_names_pass : (line : Line) → IsBody line → has_body_names (body_fields line) ≡ true
-body_names_pass line h = devs_ok line.target h.target
-
-columns_again : (columns : List Column) → AllByRecursion IsColumn columns → columns_in (flat_map column_fields columns) ≡ columns
+columns_again : (columns : List Column) → AllByRecursion IsColumn columns → columns_in (flat_map column_fields columns) ≡ Some columns
 columns_again [] h = refl
-columns_again (column ∷ columns) h = rw (dev_again column.to h.0.0, number_is column.offset h.0.1, columns_again columns h.1) refl
+columns_again (column ∷ columns) h = rw (number_of-decimal column.offset h.0.1, columns_again columns h.1, dev_again column.to h.0.0) refl
 
-target_again : (target : Target) → IsTarget target → target_in (target_fields target) ≡ target
-target_again (Linear to offset) h = rw (dev_again to h.0, number_is offset h.1) refl
-target_again (Striped chunk columns) h = rw (number_is chunk h.1, columns_again columns h.2) refl
+target_again : (target : Target) → IsTarget target → target_in (target_fields target) ≡ Some target
+target_again (Linear to offset) h = rw (number_of-decimal offset h.1, dev_again to h.0) refl
+target_again (Striped chunk columns) h = rw (count_passes columns h.0, number_of-decimal chunk h.1, columns_again columns h.2) refl
 target_again Zero h = refl
 target_again Error h = refl
-target_again (Snapshot origin store chunk) h = rw (dev_again origin h.0, dev_again store h.1, number_is chunk h.2) refl
+target_again (Snapshot origin store chunk) h = rw (number_of-decimal chunk h.2, dev_again origin h.0, dev_again store h.1) refl
+
+columns_named : (columns : List Column) → AllByRecursion IsColumn columns → list_all is_dev_ref (column_devs columns) ≡ true
+columns_named [] h = refl
+columns_named (column ∷ columns) h = and_from _ _ h.0.0 (columns_named columns h.1)
+
+target_named : (target : Target) → IsTarget target → list_all is_dev_ref (devs_of target) ≡ true
+target_named (Linear to offset) h = and_from _ _ h.0 refl
+target_named (Striped chunk columns) h = columns_named columns h.2
+target_named Zero h = refl
+target_named Error h = refl
+target_named (Snapshot origin store chunk) h = and_from _ _ h.0 (and_from _ _ h.1 refl)
+
+pub body_passes : (line : Line) → IsBody line → is_body (body_fields line) ≡ true
+body_passes line h = and_from _ _ (number_passes line.start h.start) (and_from _ _ (number_passes line.len h.len) (ap is_some (target_again line.target h.target)))
+
+pub body_names_pass : (line : Line) → IsBody line → has_body_names (body_fields line) ≡ true
+body_names_pass line h = ap has_target_names (target_again line.target h.target) ∙ target_named line.target h.target
 
 -- and are read as that line
 pub line_again : (at : Place) (line : Line) → IsBody line → line.at ≡ at → body_in at (body_fields line) ≡ line

@@ -1,9 +1,11 @@
 -- What is read of the slices that the code has in hand, field by field.
-use Rattle.std.proofs.Common.{◌≡◌, ◌≢◌, inl, inr, ℕ, ◌-◌, ◌<◌, ◌≤◌, Bool, true, false, eqb, nat_eq, ◌&&◌, List, [], ◌∷◌, length, take, drop, slice_index_or, Option, Some, None, Result, Ok, Err, refl, ap, arith}
-use Rattle.std.specs.Prelude.{codes}
+use Rattle.std.proofs.Common.{◌≡◌, ◌≢◌, inl, inr, ℕ, ◌-◌, ◌<◌, ◌≤◌, Bool, true, false, eqb, nat_eq, ◌&&◌, List, [], ◌∷◌, ◌++◌, length, take, drop, slice_index_or, Option, Some, None, Result, Ok, Err, refl, sym, ap, ◌∙◌, append_assoc, arith}
+use Rattle.std.specs.Prelude.{codes, is_some, if◌then◌else◌}
+use Rattle.std.specs.List.{list_all}
+use Rattle.std.specs.Option.{option_map}
 use Rattle.std.specs.Cmp.Lexicographic.{pointwise}
 use Rattle.std.proofs.lemmas.Bool.{cases_Bool}
-use Rattle.std.proofs.lemmas.List.{take_rest, length-map}
+use Rattle.std.proofs.lemmas.List.{take_rest, length-map, append-nil}
 use denote.Ref.{Bor}
 use Rattle.dm_table.specs.declared.table.Column.{Column}
 use Rattle.dm_table.specs.declared.table.DevRef.{DevRef}
@@ -14,10 +16,9 @@ use Rattle.dm_table.specs.declared.row_faults.RowFault.{RowFault}
 use Rattle.dm_table.specs.declared.row_faults.RowFault.TheVariants.{Field, Name, Memory}
 use Rattle.dm_table.specs.Number.{number_of}
 use Rattle.dm_table.specs.Fields.{texts}
-use Rattle.dm_table.specs.LineBody.{are_columns, is_half, is_dev, are_devs, has_devs}
+use Rattle.dm_table.specs.LineBody.{is_dev_ref, dev_in, if_both, linear_in, columns_in, is_half, striped_in, snapshot_in, column_devs, devs_of, target_in, has_target_names}
 use Rattle.dm_table.specs.RowFaults.{value_fault, read_unless}
-use Rattle.dm_table.specs.LineReading.{dev_in, columns_in, dev_reading, columns_reading, fault_before, linear_reading, striped_reading, snapshot_reading, target_reading, body_reading}
-use Rattle.dm_table.proofs.TableGroups.{same_name}
+use Rattle.dm_table.specs.LineReading.{dev_reading, reading_of, columns_reading, fault_before, target_reading, body_reading}
 
 -- What is read of a value
 
@@ -35,64 +36,106 @@ pub read_value : {X : Type 0} (found : Option RowFault) (x y : X) → read_unles
 read_value None x y h = (refl, cc)
 read_value (Some fault) x y h = absurd cc
 
-dev_parts : (text : List ℕ) (to : DevRef) → dev_reading text ≡ Ok to → (is_dev text ≡ true) × (dev_in text ≡ to)
-dev_parts text to h = elim (cases_Bool (is_dev text)) [
-  | inl e ↦ (e, (read_value None (dev_in text) to (rw e at h)).1)
+pub read_ok : {X : Type 0} (x y : X) → ◌≡◌ {A = Result X RowFault} (Ok x) (Ok y) → x ≡ y
+read_ok x y h = cc
+
+-- what is read of a text, where its name is one
+dev_parts : (text : List ℕ) (to : DevRef) → dev_reading text ≡ Ok to → (is_dev_ref to ≡ true) × (dev_in text ≡ to)
+dev_parts text to h = elim (cases_Bool (is_dev_ref (dev_in text))) [
+  | inl e ↦
+      let is : dev_in text ≡ to = read_ok (dev_in text) to (rw e at h) in
+      (rw (← is) e, is)
   | inr e ↦ absurd (let no : ◌≡◌ {A = Result DevRef RowFault} (Err Name) (Ok to) = rw e at h in cc)
 ]
 
-dev_unnamed : (text : List ℕ) (fault : RowFault) → dev_reading text ≡ Err fault → (is_dev text ≡ false) × (fault ≡ Name)
-dev_unnamed text fault h = elim (cases_Bool (is_dev text)) [
+dev_unnamed : (text : List ℕ) (fault : RowFault) → dev_reading text ≡ Err fault → (is_dev_ref (dev_in text) ≡ false) × (fault ≡ Name)
+dev_unnamed text fault h = elim (cases_Bool (is_dev_ref (dev_in text))) [
   | inl e ↦ absurd (let no : Ok (dev_in text) ≡ Err fault = rw e at h in cc)
   | inr e ↦ (e, let same : ◌≡◌ {A = Result DevRef RowFault} (Err Name) (Err fault) = rw e at h in cc)
 ]
 
 -- Columns, two fields at a time
 
-pub columns_end : (fs : List (Bor (List ℕ))) → length fs < 2 → eqb (length fs) 0 ≡ are_columns (texts fs)
+-- what is read once these columns were
+abbrev pub after_columns : List Column → Result (List Column) RowFault → Result (List Column) RowFault
+after_columns columns (Ok more) = Ok (columns ++ more)
+after_columns columns (Err fault) = Err fault
+
+pub columns_end : (fs : List (Bor (List ℕ))) → length fs < 2 → eqb (length fs) 0 ≡ is_some (columns_in (texts fs))
 columns_end [] h = refl
 columns_end (f ∷ []) h = refl
 columns_end (f ∷ g ∷ fs) h = absurd (omega arith)
 
-pub devs_end : (fs : List (Bor (List ℕ))) → length fs < 2 → true ≡ are_devs (texts fs)
-devs_end [] h = refl
-devs_end (f ∷ []) h = refl
-devs_end (f ∷ g ∷ fs) h = absurd (omega arith)
+both_known : {X Y Z : Type 0} (make : X → Y → Z) (o : Option X) (p : Option Y) → is_some o ≡ true → is_some (if_both make o p) ≡ is_some p
+both_known make None p h = absurd cc
+both_known make (Some x) None h = refl
+both_known make (Some x) (Some y) h = refl
 
-pub no_column : (fs : List (Bor (List ℕ))) → length fs < 2 → columns_in (texts fs) ≡ []
-no_column [] h = refl
-no_column (f ∷ []) h = refl
-no_column (f ∷ g ∷ fs) h = absurd (omega arith)
+-- a column whose offset is a number
+pub columns_known : (fs : List (Bor (List ℕ))) (e : Bor (List ℕ)) → 2 ≤ length fs → is_some (number_of (slice_index_or fs 1 e).now) ≡ true
+    → is_some (columns_in (texts (take (length fs - 2) (drop 2 fs)))) ≡ is_some (columns_in (texts fs))
+columns_known [] e h n = absurd (omega arith)
+columns_known (f ∷ []) e h n = absurd (omega arith)
+columns_known (f ∷ g ∷ fs) e h n = rw (take_rest (f ∷ g ∷ fs) 2) (sym (both_known _ (number_of g.now) (columns_in (texts fs)) n))
+
+-- before the first column
+pub columns_first : (reading : Result (List Column) RowFault) → after_columns [] reading ≡ reading
+columns_first (Ok columns) = refl
+columns_first (Err fault) = refl
+
+-- after the last one
+pub columns_last : (columns : List Column) (fs : List (Bor (List ℕ))) → length fs < 2 → eqb (length fs) 0 ≡ true → after_columns columns (columns_reading (texts fs)) ≡ Ok columns
+columns_last columns [] h none = ap Ok (append-nil columns)
+columns_last columns (f ∷ []) h none = absurd cc
+columns_last columns (f ∷ g ∷ fs) h none = absurd (omega arith)
+
+-- a field left over
+pub columns_odd : (fs : List (Bor (List ℕ))) → length fs < 2 → eqb (length fs) 0 ≡ false → columns_reading (texts fs) ≡ Err Field
+columns_odd [] h some = absurd cc
+columns_odd (f ∷ []) h some = refl
+columns_odd (f ∷ g ∷ fs) h some = absurd (omega arith)
+
+-- a fault in what is left is that of all
+pub columns_fault : (columns : List Column) (reading all : Result (List Column) RowFault) (fault : RowFault) → after_columns columns reading ≡ all → reading ≡ Err fault → all ≡ Err fault
+columns_fault columns reading all fault whole h = sym whole ∙ rw h refl
+
+-- one column before others
+one_before : (column : Column) (more : Option (List Column)) → is_dev_ref column.to ≡ true
+    → reading_of column_devs (option_map (λ columns. column ∷ columns) more) ≡ after_columns (column ∷ []) (reading_of column_devs more)
+one_before column None h = refl
+one_before column (Some columns) h = rw h (elim (cases_Bool (list_all is_dev_ref (column_devs columns))) [
+  | inl e ↦ rw e refl
+  | inr e ↦ rw e refl
+])
+
+after_one : (columns : List Column) (column : Column) (reading : Result (List Column) RowFault) → after_columns (columns ++ column ∷ []) reading ≡ after_columns columns (after_columns (column ∷ []) reading)
+after_one columns column (Ok more) = ap Ok (append_assoc columns (column ∷ []) more)
+after_one columns column (Err fault) = refl
 
 -- one column further
-pub record IsColumnFurther (fs : List (Bor (List ℕ))) (rest : List (Bor (List ℕ))) (to : DevRef) (offset : ℕ) : Type 0 where
-  pub made : columns_in (texts fs) ≡ record { to = to; offset = offset } ∷ columns_in (texts rest)
-  pub known : are_columns (texts fs) ≡ are_columns (texts rest)
-  pub named : are_devs (texts fs) ≡ are_devs (texts rest)
-
-pub column_further : (fs : List (Bor (List ℕ))) (d e : Bor (List ℕ)) (to : DevRef) (offset : ℕ) → 2 ≤ length fs → number_of (slice_index_or fs 1 e).now ≡ Some offset → dev_reading (slice_index_or fs 0 d).now ≡ Ok to
-    → IsColumnFurther fs (take (length fs - 2) (drop 2 fs)) to offset
-column_further [] d e to offset h n r = absurd (omega arith)
-column_further (f ∷ []) d e to offset h n r = absurd (omega arith)
-column_further (f ∷ g ∷ fs) d e to offset h n r =
+pub column_further : (columns : List Column) (fs : List (Bor (List ℕ))) (d e : Bor (List ℕ)) (to : DevRef) (offset : ℕ) → 2 ≤ length fs → number_of (slice_index_or fs 1 e).now ≡ Some offset
+    → dev_reading (slice_index_or fs 0 d).now ≡ Ok to
+    → after_columns (columns ++ record { to = to; offset = offset } ∷ []) (columns_reading (texts (take (length fs - 2) (drop 2 fs)))) ≡ after_columns columns (columns_reading (texts fs))
+column_further columns [] d e to offset h n r = absurd (omega arith)
+column_further columns (f ∷ []) d e to offset h n r = absurd (omega arith)
+column_further columns (f ∷ g ∷ fs) d e to offset h n r =
     let a = dev_parts f.now to r in
-    record {
-      made = rw (take_rest (f ∷ g ∷ fs) 2, a.1, n) refl;
-      known = rw (take_rest (f ∷ g ∷ fs) 2, n) refl;
-      named = rw (take_rest (f ∷ g ∷ fs) 2, a.0) refl;
-    }
+    let column : Column = record { to = to; offset = offset } in
+    rw (take_rest (f ∷ g ∷ fs) 2, n, a.1) (after_one columns column (columns_reading (texts fs)) ∙ ap (after_columns columns) (sym (one_before column (columns_in (texts fs)) a.0)))
 
 -- a column whose text is no name
+one_unnamed : (column : Column) (more : Option (List Column)) → is_dev_ref column.to ≡ false
+    → reading_of column_devs (option_map (λ columns. column ∷ columns) more) ≡ Err (if is_some more then Name else Field)
+one_unnamed column None h = refl
+one_unnamed column (Some columns) h = rw h refl
+
 pub column_unnamed : (fs : List (Bor (List ℕ))) (d e : Bor (List ℕ)) (offset : ℕ) (fault : RowFault) → 2 ≤ length fs → number_of (slice_index_or fs 1 e).now ≡ Some offset → dev_reading (slice_index_or fs 0 d).now ≡ Err fault
     → columns_reading (texts fs) ≡ Err (fault_before fault (texts (take (length fs - 2) (drop 2 fs))))
 column_unnamed [] d e offset fault h n r = absurd (omega arith)
 column_unnamed (f ∷ []) d e offset fault h n r = absurd (omega arith)
 column_unnamed (f ∷ g ∷ fs) d e offset fault h n r =
     let a = dev_unnamed f.now fault r in
-    elim (cases_Bool (are_columns (texts fs))) [
-      | inl c ↦ rw (take_rest (f ∷ g ∷ fs) 2, a.1, a.0, n, c) refl
-      | inr c ↦ rw (take_rest (f ∷ g ∷ fs) 2, a.1, a.0, n, c) refl
-    ]
+    rw (take_rest (f ∷ g ∷ fs) 2, a.1, n) (one_unnamed (record { to = dev_in f.now; offset = offset }) (columns_in (texts fs)) a.0)
 
 -- memory that ran out stays so
 pub memory_before : (fault : RowFault) (fields : List (List ℕ)) → fault ≡ Memory → fault_before fault fields ≡ Memory
@@ -104,68 +147,67 @@ column_unknown [] e h n = absurd (omega arith)
 column_unknown (f ∷ []) e h n = absurd (omega arith)
 column_unknown (f ∷ g ∷ fs) e h n = rw n refl
 
--- fields that differ in nothing that columns are tested for have the same fault
-pub same_columns_fault : (fs gs : List (List ℕ)) (fault : RowFault) → are_columns fs ≡ are_columns gs → are_devs fs ≡ are_devs gs → columns_reading fs ≡ Err fault → columns_reading gs ≡ Err fault
-same_columns_fault fs gs fault c d h = read_fault (value_fault (are_columns gs) (are_devs gs)) (columns_in fs) (columns_in gs) fault (rw (c, d) at h)
-
--- a field left over
-pub columns_odd : (fs : List (Bor (List ℕ))) → length fs < 2 → eqb (length fs) 0 ≡ false → columns_reading (texts fs) ≡ Err Field
-columns_odd [] h some = absurd cc
-columns_odd (f ∷ []) h some = refl
-columns_odd (f ∷ g ∷ fs) h some = absurd (omega arith)
-
 -- The arguments of a type
 
-pub linear_none : (fs : List (Bor (List ℕ))) → length fs ≢ 2 → linear_reading (texts fs) ≡ Err Field
+-- what is read of them, where this is what such arguments say
+abbrev pub arguments_reading : (List (List ℕ) → Option Target) → List (Bor (List ℕ)) → Result Target RowFault
+arguments_reading said fs = reading_of devs_of (said (texts fs))
+
+pub linear_none : (fs : List (Bor (List ℕ))) → length fs ≢ 2 → arguments_reading linear_in fs ≡ Err Field
 linear_none [] h = refl
 linear_none (f ∷ []) h = refl
 linear_none (f ∷ g ∷ []) h = absurd (h refl)
 linear_none (f ∷ g ∷ k ∷ fs) h = refl
 
 pub linear_unnamed : (fs : List (Bor (List ℕ))) (d e : Bor (List ℕ)) (offset : ℕ) (fault : RowFault) → length fs ≡ 2 → number_of (slice_index_or fs 1 e).now ≡ Some offset → dev_reading (slice_index_or fs 0 d).now ≡ Err fault
-    → linear_reading (texts fs) ≡ Err fault
+    → arguments_reading linear_in fs ≡ Err fault
 linear_unnamed [] d e offset fault h n r = absurd (omega arith)
 linear_unnamed (f ∷ []) d e offset fault h n r = absurd (omega arith)
 linear_unnamed (f ∷ g ∷ []) d e offset fault h n r = let a = dev_unnamed f.now fault r in rw (n, a.0, a.1) refl
 linear_unnamed (f ∷ g ∷ k ∷ fs) d e offset fault h n r = absurd (omega arith)
 
 pub linear_read : (fs : List (Bor (List ℕ))) (d e : Bor (List ℕ)) (offset : ℕ) (to : DevRef) → length fs ≡ 2 → number_of (slice_index_or fs 1 e).now ≡ Some offset → dev_reading (slice_index_or fs 0 d).now ≡ Ok to
-    → linear_reading (texts fs) ≡ Ok (Linear to offset)
+    → arguments_reading linear_in fs ≡ Ok (Linear to offset)
 linear_read [] d e offset to h n r = absurd (omega arith)
 linear_read (f ∷ []) d e offset to h n r = absurd (omega arith)
-linear_read (f ∷ g ∷ []) d e offset to h n r = let a = dev_parts f.now to r in rw (n, a.0, a.1) refl
+linear_read (f ∷ g ∷ []) d e offset to h n r = let a = dev_parts f.now to r in rw (n, a.1, a.0) refl
 linear_read (f ∷ g ∷ k ∷ fs) d e offset to h n r = absurd (omega arith)
 
-pub striped_none : (fs : List (Bor (List ℕ))) → length fs < 2 → striped_reading (texts fs) ≡ Err Field
+pub striped_none : (fs : List (Bor (List ℕ))) → length fs < 2 → arguments_reading striped_in fs ≡ Err Field
 striped_none [] h = refl
 striped_none (f ∷ []) h = refl
 striped_none (f ∷ g ∷ fs) h = absurd (omega arith)
+
+-- what is read of a striped line, once its columns were
+abbrev pub with_columns : ℕ → Result (List Column) RowFault → Result Target RowFault
+with_columns chunk (Ok columns) = Ok (Striped chunk columns)
+with_columns chunk (Err fault) = Err fault
+
+columns_striped : (chunk : ℕ) (columns : Option (List Column)) → reading_of devs_of (option_map (Striped chunk) columns) ≡ with_columns chunk (reading_of column_devs columns)
+columns_striped chunk None = refl
+columns_striped chunk (Some columns) = elim (cases_Bool (list_all is_dev_ref (column_devs columns))) [
+  | inl e ↦ rw e refl
+  | inr e ↦ rw e refl
+]
 
 -- columns in number and a chunk: what is read is what is read of the columns
 half_texts : (count : List ℕ) (fs : List (Bor (List ℕ))) (n : ℕ) → n ≡ length fs → is_half count n ≡ true → is_half count (length (texts fs)) ≡ true
 half_texts count fs n e h = rw (length-map, ← e) h
 
-pub striped_fault : (fs : List (Bor (List ℕ))) (d e : Bor (List ℕ)) (chunk : ℕ) (fault : RowFault) → 2 ≤ length fs → is_half (slice_index_or fs 0 d).now (length (take (length fs - 2) (drop 2 fs))) ≡ true
-    → number_of (slice_index_or fs 1 e).now ≡ Some chunk → columns_reading (texts (take (length fs - 2) (drop 2 fs))) ≡ Err fault → striped_reading (texts fs) ≡ Err fault
-striped_fault [] d e chunk fault h c n r = absurd (omega arith)
-striped_fault (f ∷ []) d e chunk fault h c n r = absurd (omega arith)
-striped_fault (f ∷ g ∷ fs) d e chunk fault h c n r =
+pub striped_read : (fs : List (Bor (List ℕ))) (d e : Bor (List ℕ)) (chunk : ℕ) (reading : Result (List Column) RowFault) → 2 ≤ length fs
+    → is_half (slice_index_or fs 0 d).now (length (take (length fs - 2) (drop 2 fs))) ≡ true → number_of (slice_index_or fs 1 e).now ≡ Some chunk
+    → columns_reading (texts (take (length fs - 2) (drop 2 fs))) ≡ reading → arguments_reading striped_in fs ≡ with_columns chunk reading
+striped_read [] d e chunk reading h c n r = absurd (omega arith)
+striped_read (f ∷ []) d e chunk reading h c n r = absurd (omega arith)
+striped_read (f ∷ g ∷ fs) d e chunk reading h c n r =
     let half : is_half f.now (length (texts fs)) ≡ true = half_texts f.now fs _ (ap length (take_rest (f ∷ g ∷ fs) 2)) c in
-    rw (half, n) (read_fault (value_fault (are_columns (texts fs)) (are_devs (texts fs))) (columns_in (texts fs)) _ fault (rw (take_rest (f ∷ g ∷ fs) 2) at r))
-
-pub striped_read : (fs : List (Bor (List ℕ))) (d e : Bor (List ℕ)) (chunk : ℕ) (columns : List Column) → 2 ≤ length fs → is_half (slice_index_or fs 0 d).now (length (take (length fs - 2) (drop 2 fs))) ≡ true
-    → number_of (slice_index_or fs 1 e).now ≡ Some chunk → columns_reading (texts (take (length fs - 2) (drop 2 fs))) ≡ Ok columns → striped_reading (texts fs) ≡ Ok (Striped chunk columns)
-striped_read [] d e chunk columns h c n r = absurd (omega arith)
-striped_read (f ∷ []) d e chunk columns h c n r = absurd (omega arith)
-striped_read (f ∷ g ∷ fs) d e chunk columns h c n r =
-    let half : is_half f.now (length (texts fs)) ≡ true = half_texts f.now fs _ (ap length (take_rest (f ∷ g ∷ fs) 2)) c in
-    let a = read_value (value_fault (are_columns (texts fs)) (are_devs (texts fs))) (columns_in (texts fs)) columns (rw (take_rest (f ∷ g ∷ fs) 2) at r) in
-    rw (half, n, a.0, a.1) refl
+    let read : columns_reading (texts fs) ≡ reading = rw (take_rest (f ∷ g ∷ fs) 2) at r in
+    rw (half, n) (columns_striped chunk (columns_in (texts fs)) ∙ ap (with_columns chunk) read)
 
 -- what is read of four fields
 of_four : (fs : List (Bor (List ℕ))) (d e g k : Bor (List ℕ)) (reading : Result Target RowFault) → length fs ≡ 4
-    → snapshot_reading ((slice_index_or fs 0 d).now ∷ (slice_index_or fs 1 e).now ∷ (slice_index_or fs 2 g).now ∷ (slice_index_or fs 3 k).now ∷ []) ≡ reading
-    → snapshot_reading (texts fs) ≡ reading
+    → reading_of devs_of (snapshot_in ((slice_index_or fs 0 d).now ∷ (slice_index_or fs 1 e).now ∷ (slice_index_or fs 2 g).now ∷ (slice_index_or fs 3 k).now ∷ [])) ≡ reading
+    → arguments_reading snapshot_in fs ≡ reading
 of_four [] d e g k reading h is = absurd (omega arith)
 of_four (a ∷ []) d e g k reading h is = absurd (omega arith)
 of_four (a ∷ b ∷ []) d e g k reading h is = absurd (omega arith)
@@ -173,7 +215,7 @@ of_four (a ∷ b ∷ c ∷ []) d e g k reading h is = absurd (omega arith)
 of_four (a ∷ b ∷ c ∷ f ∷ []) d e g k reading h is = is
 of_four (a ∷ b ∷ c ∷ f ∷ x ∷ fs) d e g k reading h is = absurd (omega arith)
 
-pub snapshot_none : (fs : List (Bor (List ℕ))) → length fs ≢ 4 → snapshot_reading (texts fs) ≡ Err Field
+pub snapshot_none : (fs : List (Bor (List ℕ))) → length fs ≢ 4 → arguments_reading snapshot_in fs ≡ Err Field
 snapshot_none [] h = refl
 snapshot_none (a ∷ []) h = refl
 snapshot_none (a ∷ b ∷ []) h = refl
@@ -181,45 +223,69 @@ snapshot_none (a ∷ b ∷ c ∷ []) h = refl
 snapshot_none (a ∷ b ∷ c ∷ f ∷ []) h = absurd (h refl)
 snapshot_none (a ∷ b ∷ c ∷ f ∷ x ∷ fs) h = refl
 
-pub snapshot_flag : (fs : List (Bor (List ℕ))) (g : Bor (List ℕ)) → length fs ≡ 4 → pointwise nat_eq (slice_index_or fs 2 g).now (codes "P") ≡ false → snapshot_reading (texts fs) ≡ Err Field
+pub snapshot_flag : (fs : List (Bor (List ℕ))) (g : Bor (List ℕ)) → length fs ≡ 4 → pointwise nat_eq (slice_index_or fs 2 g).now (codes "P") ≡ false → arguments_reading snapshot_in fs ≡ Err Field
 snapshot_flag fs g four p = of_four fs g g g g (Err Field) four (rw p refl)
 
 pub snapshot_chunk : (fs : List (Bor (List ℕ))) (g k : Bor (List ℕ)) → length fs ≡ 4 → pointwise nat_eq (slice_index_or fs 2 g).now (codes "P") ≡ true → number_of (slice_index_or fs 3 k).now ≡ None
-    → snapshot_reading (texts fs) ≡ Err Field
+    → arguments_reading snapshot_in fs ≡ Err Field
 snapshot_chunk fs g k four p n = of_four fs g g g k (Err Field) four (rw (p, n) refl)
 
 pub snapshot_origin : (fs : List (Bor (List ℕ))) (d g k : Bor (List ℕ)) (chunk : ℕ) (fault : RowFault) → length fs ≡ 4 → pointwise nat_eq (slice_index_or fs 2 g).now (codes "P") ≡ true
-    → number_of (slice_index_or fs 3 k).now ≡ Some chunk → dev_reading (slice_index_or fs 0 d).now ≡ Err fault → snapshot_reading (texts fs) ≡ Err fault
+    → number_of (slice_index_or fs 3 k).now ≡ Some chunk → dev_reading (slice_index_or fs 0 d).now ≡ Err fault → arguments_reading snapshot_in fs ≡ Err fault
 snapshot_origin fs d g k chunk fault four p n o =
     let a = dev_unnamed (slice_index_or fs 0 d).now fault o in
     of_four fs d d g k (Err fault) four (rw (p, n, a.0, a.1) refl)
 
 pub snapshot_store : (fs : List (Bor (List ℕ))) (d e g k : Bor (List ℕ)) (chunk : ℕ) (origin : DevRef) (fault : RowFault) → length fs ≡ 4 → pointwise nat_eq (slice_index_or fs 2 g).now (codes "P") ≡ true
-    → number_of (slice_index_or fs 3 k).now ≡ Some chunk → dev_reading (slice_index_or fs 0 d).now ≡ Ok origin → dev_reading (slice_index_or fs 1 e).now ≡ Err fault → snapshot_reading (texts fs) ≡ Err fault
+    → number_of (slice_index_or fs 3 k).now ≡ Some chunk → dev_reading (slice_index_or fs 0 d).now ≡ Ok origin → dev_reading (slice_index_or fs 1 e).now ≡ Err fault → arguments_reading snapshot_in fs ≡ Err fault
 snapshot_store fs d e g k chunk origin fault four p n o s =
     let a = dev_parts (slice_index_or fs 0 d).now origin o in
     let b = dev_unnamed (slice_index_or fs 1 e).now fault s in
-    of_four fs d e g k (Err fault) four (rw (p, n, a.0, b.0, b.1) refl)
+    of_four fs d e g k (Err fault) four (rw (p, n, a.1, a.0, b.0, b.1) refl)
 
 pub snapshot_read : (fs : List (Bor (List ℕ))) (d e g k : Bor (List ℕ)) (chunk : ℕ) (origin store : DevRef) → length fs ≡ 4 → pointwise nat_eq (slice_index_or fs 2 g).now (codes "P") ≡ true
-    → number_of (slice_index_or fs 3 k).now ≡ Some chunk → dev_reading (slice_index_or fs 0 d).now ≡ Ok origin → dev_reading (slice_index_or fs 1 e).now ≡ Ok store → snapshot_reading (texts fs) ≡ Ok (Snapshot origin store chunk)
+    → number_of (slice_index_or fs 3 k).now ≡ Some chunk → dev_reading (slice_index_or fs 0 d).now ≡ Ok origin → dev_reading (slice_index_or fs 1 e).now ≡ Ok store → arguments_reading snapshot_in fs ≡ Ok (Snapshot origin store chunk)
 snapshot_read fs d e g k chunk origin store four p n o s =
     let a = dev_parts (slice_index_or fs 0 d).now origin o in
     let b = dev_parts (slice_index_or fs 1 e).now store s in
-    of_four fs d e g k (Ok (Snapshot origin store chunk)) four (rw (p, n, a.0, b.0, a.1, b.1) refl)
-
--- the words linear, striped and snapshot differ
-pub linear_devs : (type : List ℕ) (arguments : List (List ℕ)) → type ≡ codes "linear" → has_devs (type ∷ arguments) ≡ are_devs arguments
-linear_devs type arguments is = rw is refl
-
-pub target_linear : (fs : List (Bor (List ℕ))) (d : Bor (List ℕ)) → 1 ≤ length fs → pointwise nat_eq (slice_index_or fs 0 d).now (codes "linear") ≡ true
-    → target_reading (texts fs) ≡ linear_reading (texts (take (length fs - 1) (drop 1 fs)))
-target_linear [] d h is = absurd (omega arith)
-target_linear (f ∷ fs) d h is = rw (take_rest (f ∷ fs) 1, is, linear_devs f.now (texts fs) (same_name f.now (codes "linear") is)) refl
+    of_four fs d e g k (Ok (Snapshot origin store chunk)) four (rw (p, n, a.1, a.0, b.1, b.0) refl)
 
 pub and_false : (b : Bool) → (b && false) ≡ false
 and_false true = refl
 and_false false = refl
+
+-- The fields of a body
+
+-- the fault of a target is that of a body
+target_fault : {X : Type 0} (target : Option Target) (x : X) (fault : RowFault) → reading_of devs_of target ≡ Err fault
+    → read_unless (value_fault (is_some target) (has_target_names target)) x ≡ Err fault
+target_fault None x fault h = let same : Field ≡ fault = cc in ap Err same
+target_fault (Some target) x fault h = elim (cases_Bool (list_all is_dev_ref (devs_of target))) [
+  | inl e ↦ absurd (let no : Ok target ≡ Err fault = rw e at h in cc)
+  | inr e ↦ rw e (let same : ◌≡◌ {A = Result Target RowFault} (Err Name) (Err fault) = rw e at h in let is : Name ≡ fault = cc in ap Err is)
+]
+
+target_parts : (said : Option Target) (target : Target) → reading_of devs_of said ≡ Ok target → (said ≡ Some target) × (list_all is_dev_ref (devs_of target) ≡ true)
+target_parts None target h = absurd cc
+target_parts (Some other) target h = elim (cases_Bool (list_all is_dev_ref (devs_of other))) [
+  | inl e ↦ let is : other ≡ target = read_ok other target (rw e at h) in (ap Some is, rw (← is) e)
+  | inr e ↦ absurd (let no : ◌≡◌ {A = Result Target RowFault} (Err Name) (Ok target) = rw e at h in cc)
+]
+
+pub body_fault : (at : Place) (fs : List (Bor (List ℕ))) (d e : Bor (List ℕ)) (start len : ℕ) (fault : RowFault) → 2 ≤ length fs → number_of (slice_index_or fs 0 d).now ≡ Some start
+    → number_of (slice_index_or fs 1 e).now ≡ Some len → target_reading (texts (take (length fs - 2) (drop 2 fs))) ≡ Err fault → body_reading at (texts fs) ≡ Err fault
+body_fault at [] d e start len fault h n m r = absurd (omega arith)
+body_fault at (f ∷ []) d e start len fault h n m r = absurd (omega arith)
+body_fault at (f ∷ g ∷ fs) d e start len fault h n m r = rw (n, m) (target_fault (target_in (texts fs)) _ fault (rw (take_rest (f ∷ g ∷ fs) 2) at r))
+
+pub body_read : (at : Place) (fs : List (Bor (List ℕ))) (d e : Bor (List ℕ)) (start len : ℕ) (target : Target) → 2 ≤ length fs → number_of (slice_index_or fs 0 d).now ≡ Some start
+    → number_of (slice_index_or fs 1 e).now ≡ Some len → target_reading (texts (take (length fs - 2) (drop 2 fs))) ≡ Ok target
+    → body_reading at (texts fs) ≡ Ok (record { start = start; len = len; target = target; at = at })
+body_read at [] d e start len target h n m r = absurd (omega arith)
+body_read at (f ∷ []) d e start len target h n m r = absurd (omega arith)
+body_read at (f ∷ g ∷ fs) d e start len target h n m r =
+    let a = target_parts (target_in (texts fs)) target (rw (take_rest (f ∷ g ∷ fs) 2) at r) in
+    rw (n, m, a.0, a.1) refl
 
 pub body_none : (at : Place) (fs : List (Bor (List ℕ))) → length fs < 2 → body_reading at (texts fs) ≡ Err Field
 body_none at [] h = refl

@@ -1,5 +1,6 @@
 -- The body of a table's line: a start, a length, and a target with its arguments (dmsetup(8)). What labels a line is its form's own.
-use Rattle.std.specs.Prelude.{◌≡◌, ℕ, ◌*◌, ◌^◌, ◌<◌, ◌==◌, Bool, true, false, ◌&&◌, ◌||◌, List, [], ◌∷◌, ◌++◌, length, nat_le, nat_lt, nat_eq, codes, decimal, drop, is_some, if◌then◌else◌}
+use Rattle.std.specs.Prelude.{◌≡◌, ℕ, ◌*◌, ◌^◌, ◌<◌, ◌==◌, Bool, true, false, ◌&&◌, List, [], ◌∷◌, ◌++◌, length, map, nat_le, nat_lt, nat_eq, codes, decimal, drop, Option, Some, None, is_some, if◌then◌else◌}
+use Rattle.std.specs.Option.{option_map}
 use Rattle.std.specs.List.{flat_map, list_all, AllByRecursion}
 use Rattle.std.specs.Cmp.Lexicographic.{pointwise}
 use Rattle.dm_table.specs.declared.table.DevRef.{DevRef}
@@ -34,10 +35,14 @@ target_text (Snapshot origin store chunk) = codes "snapshot " ++ dev_text origin
 abbrev pub body_text : Line → List ℕ
 body_text line = decimal line.start ++ 32 ∷ decimal line.len ++ 32 ∷ target_text line.target
 
+-- the name of a device or of a disk is one
+abbrev pub is_dev_ref : DevRef → Bool
+is_dev_ref (Device name) = is_device_name name
+is_dev_ref (Disk name) = is_disk_name name
+
 -- a text may name this device or disk
 abbrev pub IsDevRef : DevRef → Type 0
-IsDevRef (Device name) = is_device_name name ≡ true
-IsDevRef (Disk name) = is_disk_name name ≡ true
+IsDevRef dev = is_dev_ref dev ≡ true
 
 -- a text may say this column
 abbrev pub IsColumn : Column → Type 0
@@ -57,74 +62,88 @@ pub record IsBody (line : Line) : Type 0 where
   pub len : line.len < 10 ^ 19
   pub target : IsTarget line.target
 
--- Its checks
+-- What its fields say, where they are of a form that says anything. Whether a name in them is one is asked afterwards.
 
--- at least three fields, none of them empty
-abbrev pub is_body_row : List (List ℕ) → Bool
-is_body_row fields = nat_le 3 (length fields) && list_all (λ field. nat_lt 0 (length field)) fields
+-- what a text names: a device of the stack, or else a disk
+abbrev pub dev_in : List ℕ → DevRef
+dev_in text = if names_device text then Device (drop (length mapper) text) else Disk text
+
+-- what two values make, where both are there
+abbrev pub if_both : {X Y Z : Type 0} → (X → Y → Z) → Option X → Option Y → Option Z
+if_both make None y = None
+if_both make (Some x) y = option_map (make x) y
 
 -- a text and a number
-abbrev pub is_linear : List (List ℕ) → Bool
-is_linear (to ∷ offset ∷ []) = is_some (number_of offset)
-is_linear _ = false
+abbrev pub linear_in : List (List ℕ) → Option Target
+linear_in (to ∷ offset ∷ []) = option_map (λ n. Linear (dev_in to) n) (number_of offset)
+linear_in _ = None
 
 -- two fields for each column: a text and a number
-abbrev pub are_columns : List (List ℕ) → Bool
-are_columns [] = true
-are_columns (to ∷ []) = false
-are_columns (to ∷ offset ∷ more) = is_some (number_of offset) && are_columns more
+abbrev pub columns_in : List (List ℕ) → Option (List Column)
+columns_in [] = Some []
+columns_in (to ∷ []) = None
+columns_in (to ∷ offset ∷ more) = if_both (λ n columns. record { to = dev_in to; offset = n } ∷ columns) (number_of offset) (columns_in more)
 
 -- a number, which is half of n
 abbrev pub is_half : List ℕ → ℕ → Bool
 is_half count n = is_some (number_of count) && 2 * number_in count == n
 
 -- the number of columns, the number of sectors of a chunk, and the columns
-abbrev pub is_striped : List (List ℕ) → Bool
-is_striped (count ∷ chunk ∷ columns) = is_half count (length columns) && (is_some (number_of chunk) && are_columns columns)
-is_striped _ = false
+abbrev pub striped_in : List (List ℕ) → Option Target
+striped_in (count ∷ chunk ∷ columns) = if is_half count (length columns) then if_both Striped (number_of chunk) (columns_in columns) else None
+striped_in _ = None
 
 -- two texts, the flag of a store that keeps what it took, and a number
-abbrev pub is_snapshot : List (List ℕ) → Bool
-is_snapshot (origin ∷ store ∷ flag ∷ chunk ∷ []) = pointwise nat_eq flag (codes "P") && is_some (number_of chunk)
-is_snapshot _ = false
+abbrev pub snapshot_in : List (List ℕ) → Option Target
+snapshot_in (origin ∷ store ∷ flag ∷ chunk ∷ []) =
+    if pointwise nat_eq flag (codes "P") then option_map (λ n. Snapshot (dev_in origin) (dev_in store) n) (number_of chunk) else None
+snapshot_in _ = None
 
--- a known target type with as many arguments as it takes, its numbers among them
-abbrev pub is_target : List (List ℕ) → Bool
-is_target [] = false
-is_target (type ∷ arguments) =
-    if pointwise nat_eq type (codes "linear") then is_linear arguments
-    else (if pointwise nat_eq type (codes "striped") then is_striped arguments
-    else (if pointwise nat_eq type (codes "snapshot") then is_snapshot arguments
-    else (pointwise nat_eq type (codes "zero") || pointwise nat_eq type (codes "error")) && length arguments == 0))
+-- no arguments
+abbrev pub bare_in : Target → List (List ℕ) → Option Target
+bare_in target [] = Some target
+bare_in target _ = None
+
+-- a known target type, and its arguments
+abbrev pub target_in : List (List ℕ) → Option Target
+target_in [] = None
+target_in (type ∷ arguments) =
+    if pointwise nat_eq type (codes "linear") then linear_in arguments
+    else (if pointwise nat_eq type (codes "striped") then striped_in arguments
+    else (if pointwise nat_eq type (codes "snapshot") then snapshot_in arguments
+    else (if pointwise nat_eq type (codes "zero") then bare_in Zero arguments
+    else (if pointwise nat_eq type (codes "error") then bare_in Error arguments
+    else None))))
+
+-- what columns name
+abbrev pub column_devs : List Column → List DevRef
+column_devs = map (λ column. column.to)
+
+-- what a target names
+abbrev pub devs_of : Target → List DevRef
+devs_of (Linear to offset) = to ∷ []
+devs_of (Striped chunk columns) = column_devs columns
+devs_of Zero = []
+devs_of Error = []
+devs_of (Snapshot origin store chunk) = origin ∷ store ∷ []
+
+-- Its checks
+
+-- at least three fields, none of them empty
+abbrev pub is_body_row : List (List ℕ) → Bool
+is_body_row fields = nat_le 3 (length fields) && list_all (λ field. nat_lt 0 (length field)) fields
 
 -- a start, a length and a target
 abbrev pub is_body : List (List ℕ) → Bool
-is_body (start ∷ len ∷ target) = is_some (number_of start) && (is_some (number_of len) && is_target target)
+is_body (start ∷ len ∷ target) = is_some (number_of start) && (is_some (number_of len) && is_some (target_in target))
 is_body _ = false
 
--- a text that names a device of the stack, or a disk
-abbrev pub is_dev : List ℕ → Bool
-is_dev text = if names_device text then is_device_name (drop (length mapper) text) else is_disk_name text
+-- each name in a target is one; where there is no target, there is none to be wrong
+abbrev pub has_target_names : Option Target → Bool
+has_target_names None = true
+has_target_names (Some target) = list_all is_dev_ref (devs_of target)
 
--- the first of each two fields is such a text
-abbrev pub are_devs : List (List ℕ) → Bool
-are_devs (to ∷ offset ∷ more) = is_dev to && are_devs more
-are_devs _ = true
-
--- the first two fields are such texts
-abbrev pub are_both_devs : List (List ℕ) → Bool
-are_both_devs (origin ∷ store ∷ more) = is_dev origin && is_dev store
-are_both_devs _ = true
-
--- the arguments of a type that are to name something do so
-abbrev pub has_devs : List (List ℕ) → Bool
-has_devs [] = true
-has_devs (type ∷ arguments) =
-    if pointwise nat_eq type (codes "striped") then are_devs (drop 2 arguments)
-    else (if pointwise nat_eq type (codes "snapshot") then are_both_devs arguments
-    else are_devs arguments)
-
--- those of a body do so
+-- the same of a body
 abbrev pub has_body_names : List (List ℕ) → Bool
-has_body_names (start ∷ len ∷ target) = has_devs target
+has_body_names (start ∷ len ∷ target) = has_target_names (target_in target)
 has_body_names _ = true

@@ -3,7 +3,8 @@
 //!
 //! Texts go to the output part by part, with no memory taken; an output that is slow for small
 //! writes wants a buffer before it. A line is one part, save the columns of a striped one and the
-//! newline. A new target is an arm in `line_head` and in `target_text` of `specs/LineBody.antt`.
+//! newline. A new target is an arm in `line_head`; only one whose text has no greatest length, as a
+//! striped line's, is an arm here too.
 
 ghost use Rattle.std.specs.Prelude.{◌≡◌, ◌<◌, ◌≤◌, ◌∷◌, ◌++◌, length, map};
 ghost use Rattle.std.specs.List.{flat_map, join_with_byte};
@@ -50,9 +51,7 @@ fn write_columns_of<W: Output>(writer: &mut W, target: &Target) -> Result<(), Ou
 {
     match target {
         Target::Striped { columns, .. } => write_columns(writer, columns.as_slice()),
-        Target::Linear { .. } | Target::Zero | Target::Error | Target::Snapshot { .. } => {
-            write(writer, b"")
-        }
+        _ => write(writer, b""),
     }
 }
 

@@ -2,15 +2,15 @@
 //!
 //! Each form of a table labels such bodies in its own way, and hands their fields over. They are read
 //! once into a line: what isn't one is told as it is met. A new target type is an arm in
-//! `read_target` with a function that reads its arguments, and the same in `specs/LineBody.antt` and
-//! `specs/LineReading.antt`.
+//! `read_target` with a function that reads its arguments. In `specs/LineBody.antt` it has the same
+//! two, with an arm in `target_text`, in `IsTarget` and in `devs_of`.
 
 ghost use Rattle.std.specs.Prelude.{◌≡◌, true, false, length, drop, is_some, nat_lt, MatchOption};
 ghost use Rattle.std.specs.List.{list_all};
 ghost use Rattle.dm_table.specs.Fields.{texts};
 ghost use Rattle.dm_table.specs.Name.{names_device, mapper};
-ghost use Rattle.dm_table.specs.LineBody.{is_body_row, are_columns, is_half, is_dev};
-ghost use Rattle.dm_table.specs.LineReading.{dev_reading, columns_reading, fault_before, linear_reading, striped_reading, snapshot_reading, target_reading, body_reading};
+ghost use Rattle.dm_table.specs.LineBody.{is_body_row, columns_in, is_half, linear_in, striped_in, snapshot_in, devs_of};
+ghost use Rattle.dm_table.specs.LineReading.{dev_reading, reading_of, columns_reading, fault_before, target_reading, body_reading};
 ghost use Rattle.dm_table.specs.RowFaults.{Reads};
 
 use crate::disk_name::{DiskName, is_disk_name};
@@ -87,7 +87,7 @@ fn read_target(alloc: Global, target: &[&[u8]]) -> Result<Target, RowFault>
 }
 
 fn read_linear(alloc: Global, arguments: &[&[u8]]) -> Result<Target, RowFault>
-    ensures { Reads (λ target. target) result (linear_reading (texts arguments.now)) }
+    ensures { Reads (λ target. target) result (reading_of devs_of (linear_in (texts arguments.now))) }
 {
     let [to, offset] = arguments else {
         return Err(RowFault::Field);
@@ -100,7 +100,7 @@ fn read_linear(alloc: Global, arguments: &[&[u8]]) -> Result<Target, RowFault>
 }
 
 fn read_striped(alloc: Global, arguments: &[&[u8]]) -> Result<Target, RowFault>
-    ensures { Reads (λ target. target) result (striped_reading (texts arguments.now)) }
+    ensures { Reads (λ target. target) result (reading_of devs_of (striped_in (texts arguments.now))) }
 {
     let [count, chunk, columns @ ..] = arguments else {
         return Err(RowFault::Field);
@@ -117,7 +117,7 @@ fn read_striped(alloc: Global, arguments: &[&[u8]]) -> Result<Target, RowFault>
 
 /// A snapshot's origin and store, and the sectors of a chunk. Of the kinds of stores there is one, `P`.
 fn read_snapshot(alloc: Global, arguments: &[&[u8]]) -> Result<Target, RowFault>
-    ensures { Reads (λ target. target) result (snapshot_reading (texts arguments.now)) }
+    ensures { Reads (λ target. target) result (reading_of devs_of (snapshot_in (texts arguments.now))) }
 {
     let [origin, store, flag, chunk] = arguments else {
         return Err(RowFault::Field);
@@ -186,7 +186,7 @@ fn fault_before(fault: RowFault, fields: &[&[u8]]) -> RowFault
 
 /// Whether the fields go two by two, the second of each two a number. One pass.
 fn are_columns(fields: &[&[u8]]) -> bool
-    ensures { result ≡ are_columns (texts fields.now) }
+    ensures { result ≡ is_some (columns_in (texts fields.now)) }
 {
     let mut rest = fields;
     while let [_, offset, more @ ..] = rest {

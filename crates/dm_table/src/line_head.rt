@@ -2,7 +2,7 @@
 //! line, and one column.
 //!
 //! Such a text has a greatest length, and a striped line has none. A new target is an arm of
-//! `put_target` here, and of `target_head` in `specs/LineHead.antt`.
+//! `put_target` here; one whose text has no greatest length has arms in `specs/LineHead.antt` too.
 
 ghost use Rattle.std.specs.Prelude.{◌≡◌, ◌++◌, ◌+◌, ◌<◌, ◌≤◌, ◌∷◌, length, take, decimal};
 ghost use Rattle.dm_table.specs.LineBody.{column_text, dev_text};

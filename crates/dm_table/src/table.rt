@@ -2,7 +2,7 @@
 //!
 //! The words are those of dmsetup(8): a table is a list of lines, and a line maps a range of
 //! sectors to a target. A new target is a variant of `Target` here, an arm in `line_body` and one in
-//! `canonical_text`, and a definition of its text and its meaning.
+//! `line_head`, and a definition of its text, of its arguments and of its meaning.
 
 use crate::disk_name::DiskName;
 use crate::listed::Listed;

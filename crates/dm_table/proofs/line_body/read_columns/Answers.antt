@@ -1,25 +1,32 @@
-use Rattle.std.proofs.Common.{◌≢◌, ◌++◌, sym, ap, ◌∙◌, append_assoc}
+use Rattle.std.proofs.Common.{◌≢◌, sym, ◌∙◌}
 use Rattle.dm_table.specs.declared.row_faults.RowFault.TheVariants.{Memory}
 use Rattle.dm_table.specs.Fields.{texts}
-use Rattle.dm_table.proofs.TargetRows.{column_further, column_unnamed, memory_before, columns_odd, same_columns_fault}
+use Rattle.dm_table.specs.LineReading.{columns_reading}
+use Rattle.dm_table.proofs.TargetRows.{columns_first, column_further, column_unnamed, column_unknown, memory_before, columns_last, columns_odd, columns_fault}
 use Rattle.dm_table.proofs.line_body.read_columns.Goals as goal
+
+pub loop-rest-init : goal.loop-rest-init
+loop-rest-init c = rw c.new-columns.ensures.items (columns_first (columns_reading (texts c.args.fields.now)))
+
+pub returns-in_default-number : goal.returns-in_default-number
+returns-in_default-number c = λ other.
+    columns_fault c.loop-rest.columns.items (columns_reading (texts c.loop-rest.rest.now)) _ _ c.loop-rest.invariant
+    (column_unknown c.loop-rest.rest.now _ c.in-len2-up.len_at_least (sym c.in_default-number.ensures))
+
+pub returns : goal.returns
+returns c = rw c.from_vec.ensures (sym c.loop-rest.invariant ∙ columns_last c.loop-rest.columns.items c.loop-rest.rest.now c.in_default.len_below (sym c.is_empty.ensures ∙ c.if-not-is_empty.false))
 
 pub returns-in-Err : goal.returns-in-Err
 returns-in-Err c = λ other.
     let known : c.in-Err.fault ≢ Memory = λ e. other (c.fault_before.ensures ∙ memory_before c.in-Err.fault _ e) in
-    rw c.fault_before.ensures (same_columns_fault (texts c.loop-rest.rest.now) (texts c.args.fields.now) _ c.loop-rest.invariant.known c.loop-rest.invariant.named
+    rw c.fault_before.ensures (columns_fault c.loop-rest.columns.items (columns_reading (texts c.loop-rest.rest.now)) _ _ c.loop-rest.invariant
     (column_unnamed c.loop-rest.rest.now _ _ c.in-Some.offset c.in-Err.fault c.in-len2-up.len_at_least (sym c.in-Some.ensures) (c.in-Err.ensures known)))
 
 pub loop-rest-preserved : goal.loop-rest-preserved
 loop-rest-preserved c =
-    let step = column_further c.loop-rest.rest.now _ _ c.in-Ok.to c.in-Some.offset c.in-len2-up.len_at_least (sym c.in-Some.ensures) c.in-Ok.ensures in
-    record {
-      made = rw c.in-Ok-push.ensures.items (append_assoc c.loop-rest.columns.items _ _ ∙ ap (λ more. c.loop-rest.columns.items ++ more) (sym step.made) ∙ c.loop-rest.invariant.made);
-      known = sym step.known ∙ c.loop-rest.invariant.known;
-      named = sym step.named ∙ c.loop-rest.invariant.named;
-    }
+    rw c.in-Ok-push.ensures.items (column_further c.loop-rest.columns.items c.loop-rest.rest.now _ _ c.in-Ok.to c.in-Some.offset c.in-len2-up.len_at_least (sym c.in-Some.ensures) c.in-Ok.ensures ∙ c.loop-rest.invariant)
 
 pub returns-then-not-is_empty : goal.returns-then-not-is_empty
 returns-then-not-is_empty c = λ other.
-    same_columns_fault (texts c.loop-rest.rest.now) (texts c.args.fields.now) _ c.loop-rest.invariant.known c.loop-rest.invariant.named
+    columns_fault c.loop-rest.columns.items (columns_reading (texts c.loop-rest.rest.now)) _ _ c.loop-rest.invariant
     (columns_odd c.loop-rest.rest.now c.in_default.len_below (sym c.is_empty.ensures ∙ c.if-not-is_empty.true))

@@ -1,6 +1,6 @@
 use Rattle.std.proofs.Common.{sym, ◌∙◌}
 use Rattle.std.proofs.lemmas.Result.{err_from_is_err_and}
-use Rattle.dm_table.proofs.TargetRows.{striped_none, striped_fault, striped_read}
+use Rattle.dm_table.proofs.TargetRows.{striped_none, striped_read}
 use Rattle.dm_table.proofs.line_body.read_striped.Goals as goal
 
 pub returns-in_default : goal.returns-in_default
@@ -9,8 +9,8 @@ returns-in_default c = λ other. striped_none c.args.arguments.now c.in_default.
 pub returns-in_err-columns : goal.returns-in_err-columns
 returns-in_err-columns c =
     let p = err_from_is_err_and c.from_residual.result c.from_residual.ensures.1 in
-    rw (p.1, p.2) (λ other. striped_fault c.args.arguments.now _ _ c.in-Some.chunk c.in_err-columns.field-0.0 c.in-len2-up.len_at_least (sym c.is_half.ensures ∙ c.if-not-is_half.false) (sym c.in-Some.ensures) (c.in_err-columns.ensures other))
+    rw (p.1, p.2) (λ other. striped_read c.args.arguments.now _ _ c.in-Some.chunk _ c.in-len2-up.len_at_least (sym c.is_half.ensures ∙ c.if-not-is_half.false) (sym c.in-Some.ensures) (c.in_err-columns.ensures other))
 
 pub returns : goal.returns
 returns c =
-    striped_read c.args.arguments.now _ _ c.in-Some.chunk c.in_ok-columns.columns c.in-len2-up.len_at_least (sym c.is_half.ensures ∙ c.if-not-is_half.false) (sym c.in-Some.ensures) c.in_ok-columns.ensures
+    striped_read c.args.arguments.now _ _ c.in-Some.chunk _ c.in-len2-up.len_at_least (sym c.is_half.ensures ∙ c.if-not-is_half.false) (sym c.in-Some.ensures) c.in_ok-columns.ensures
