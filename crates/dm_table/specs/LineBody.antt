@@ -35,7 +35,7 @@ target_text (Snapshot origin store chunk) = codes "snapshot " ++ dev_text origin
 abbrev pub body_text : Line → List ℕ
 body_text line = decimal line.start ++ 32 ∷ decimal line.len ++ 32 ∷ target_text line.target
 
--- the name of a device or of a disk is one
+-- the name of a device or of a disk is valid
 abbrev pub is_dev_ref : DevRef → Bool
 is_dev_ref (Device name) = is_device_name name
 is_dev_ref (Disk name) = is_disk_name name
@@ -62,7 +62,7 @@ pub record IsBody (line : Line) : Type 0 where
   pub len : line.len < 10 ^ 19
   pub target : IsTarget line.target
 
--- What its fields say, where they are of a form that says anything. Whether a name in them is one is asked afterwards.
+-- What its fields say, if they are those of a body. Whether the names in them are valid is asked afterwards.
 
 -- what a text names: a device of the stack, or else a disk
 abbrev pub dev_in : List ℕ → DevRef
@@ -138,7 +138,7 @@ abbrev pub is_body : List (List ℕ) → Bool
 is_body (start ∷ len ∷ target) = is_some (number_of start) && (is_some (number_of len) && is_some (target_in target))
 is_body _ = false
 
--- each name in a target is one; where there is no target, there is none to be wrong
+-- each name in a target is valid; where there is no target, there is none to check
 abbrev pub has_target_names : Option Target → Bool
 has_target_names None = true
 has_target_names (Some target) = list_all is_dev_ref (devs_of target)

@@ -23,7 +23,7 @@ body_in at _ = record { start = 0; len = 0; target = Error; at = at }
 abbrev pub dev_reading : List ℕ → Result DevRef RowFault
 dev_reading text = if is_dev_ref (dev_in text) then Ok (dev_in text) else Err Name
 
--- what fields say, if they say anything, where each name in it is one
+-- what fields say, if they say anything, and each name in it is valid
 abbrev pub reading_of : {X : Type 0} → (X → List DevRef) → Option X → Result X RowFault
 reading_of devs None = Err Field
 reading_of devs (Some x) = if list_all is_dev_ref (devs x) then Ok x else Err Name
