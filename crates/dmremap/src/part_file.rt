@@ -26,6 +26,13 @@ impl<F> PartFile<F> {
     }
 }
 
+/// What reading a file gives that could not be opened.
+fn missing() -> io::Result<usize>
+    ensures { IsErr result }
+{
+    Err(io::Error::from(ErrorKind::NotFound))
+}
+
 impl<F: Read> Read for PartFile<F> {
     ghost remaining = { λ part. option_and_then F.remaining part.file };
 
@@ -39,7 +46,7 @@ impl<F: Read> Read for PartFile<F> {
     {
         match &mut self.file {
             Some(file) => file.read(buffer),
-            None => Err(io::Error::from(ErrorKind::NotFound)),
+            None => missing(),
         }
     }
 }
