@@ -170,35 +170,37 @@ snapshot_says (origin ∷ store ∷ flag ∷ chunk ∷ []) target h =
     }
 snapshot_says (origin ∷ store ∷ flag ∷ chunk ∷ more ∷ rest) target h = absurd cc
 
-zero_says : (fs : List (List ℕ)) (target : Target) → bare_in Zero fs ≡ Some target → SaysTarget (codes "zero" ∷ fs) target
-zero_says [] target h = let is : Zero ≡ target = cc in rw (← is) record { again = refl; said = λ named. tt }
-zero_says (f ∷ fs) target h = absurd cc
+-- a type that is this word, or else one of the words after it
+by_word : (type word : List ℕ) (fs : List (List ℕ)) (target : Target) (o p : Option Target) → (o ≡ Some target → SaysTarget (word ∷ fs) target) → (p ≡ Some target → SaysTarget (type ∷ fs) target)
+    → (if pointwise nat_eq type word then o else p) ≡ Some target → SaysTarget (type ∷ fs) target
+by_word type word fs target o p says others h = elim (cases_Bool (pointwise nat_eq type word)) [
+  | inl e ↦ rw (same_name type word e) (says (rw e at h))
+  | inr e ↦ others (rw e at h)
+]
 
-error_says : (fs : List (List ℕ)) (target : Target) → bare_in Error fs ≡ Some target → SaysTarget (codes "error" ∷ fs) target
-error_says [] target h = let is : Error ≡ target = cc in rw (← is) record { again = refl; said = λ named. tt }
-error_says (f ∷ fs) target h = absurd cc
+no_word : (type : List ℕ) (fs : List (List ℕ)) (target : Target) → None ≡ Some target → SaysTarget (type ∷ fs) target
+no_word type fs target h = absurd cc
 
--- the same after a type that is this word
-typed : (type word : List ℕ) (fs : List (List ℕ)) (target : Target) → pointwise nat_eq type word ≡ true → SaysTarget (word ∷ fs) target → SaysTarget (type ∷ fs) target
-typed type word fs target is says = rw (same_name type word is) says
+zero_says : (target : Target) → Some Zero ≡ Some target → SaysTarget (codes "zero" ∷ []) target
+zero_says target h = let is : Zero ≡ target = cc in rw (← is) record { again = refl; said = λ named. tt }
+
+error_says : (target : Target) → Some Error ≡ Some target → SaysTarget (codes "error" ∷ []) target
+error_says target h = let is : Error ≡ target = cc in rw (← is) record { again = refl; said = λ named. tt }
+
+bare_says : (type : List ℕ) (fs : List (List ℕ)) (target : Target) → bare_in type fs ≡ Some target → SaysTarget (type ∷ fs) target
+bare_says type [] target h =
+    by_word type (codes "zero") [] target _ _ (zero_says target)
+    (by_word type (codes "error") [] target _ _ (error_says target)
+    (no_word type [] target)) h
+bare_says type (f ∷ fs) target h = absurd cc
 
 target_says : (fs : List (List ℕ)) (target : Target) → target_in fs ≡ Some target → SaysTarget fs target
 target_says [] target h = absurd cc
-target_says (type ∷ fs) target h = elim (cases_Bool (pointwise nat_eq type (codes "linear"))) [
-  | inl e ↦ typed type (codes "linear") fs target e (linear_says fs target (rw e at h))
-  | inr e ↦ elim (cases_Bool (pointwise nat_eq type (codes "striped"))) [
-    | inl s ↦ typed type (codes "striped") fs target s (striped_says fs target (rw (e, s) at h))
-    | inr s ↦ elim (cases_Bool (pointwise nat_eq type (codes "snapshot"))) [
-      | inl p ↦ typed type (codes "snapshot") fs target p (snapshot_says fs target (rw (e, s, p) at h))
-      | inr p ↦ elim (cases_Bool (pointwise nat_eq type (codes "zero"))) [
-        | inl z ↦ typed type (codes "zero") fs target z (zero_says fs target (rw (e, s, p, z) at h))
-        | inr z ↦
-            let c = chosen (pointwise nat_eq type (codes "error")) (bare_in Error fs) target (rw (e, s, p, z) at h) in
-            typed type (codes "error") fs target c.0 (error_says fs target c.1)
-      ]
-    ]
-  ]
-]
+target_says (type ∷ fs) target h =
+    by_word type (codes "linear") fs target _ _ (linear_says fs target)
+    (by_word type (codes "striped") fs target _ _ (striped_says fs target)
+    (by_word type (codes "snapshot") fs target _ _ (snapshot_says fs target)
+    (bare_says type fs target))) h
 
 -- the target that fields say
 there : (o : Option Target) → is_some o ≡ true → o ≡ Some (unwrap_or o Error)
@@ -287,16 +289,6 @@ filled (f ∷ fs) h = and_from _ _ h.0.0 (filled fs h.1)
 le_three : (n : ℕ) → 3 ≤ n → nat_le 3 n ≡ true
 le_three n h = grind (arith, nat_tests)
 
-row_ok : (start len : List ℕ) (target : Target) → AllByRecursion IsInked (start ∷ len ∷ target_fields target) → is_body_row (start ∷ len ∷ target_fields target) ≡ true
-row_ok start len (Linear to offset) h = and_from _ _ refl (filled (start ∷ len ∷ target_fields (Linear to offset)) h)
-row_ok start len (Striped chunk columns) h = and_from _ _ (le_three (length (start ∷ len ∷ target_fields (Striped chunk columns))) (omega arith)) (filled (start ∷ len ∷ target_fields (Striped chunk columns)) h)
-row_ok start len Zero h = and_from _ _ refl (filled (start ∷ len ∷ target_fields Zero) h)
-row_ok start len Error h = and_from _ _ refl (filled (start ∷ len ∷ target_fields Error) h)
-row_ok start len (Snapshot origin store chunk) h = and_from _ _ refl (filled (start ∷ len ∷ target_fields (Snapshot origin store chunk)) h)
-
-pub body_row_passes : (line : Line) → IsBody line → is_body_row (body_fields line) ≡ true
-body_row_passes line h = row_ok (decimal line.start) (decimal line.len) line.target (body_inked line h)
-
 number_is : (n : ℕ) → n < 10 ^ 19 → number_in (decimal n) ≡ n
 number_is n h = ap (λ (o : Option ℕ). unwrap_or o 0) (number_of-decimal n h)
 
@@ -326,6 +318,15 @@ target_again (Striped chunk columns) h = rw (count_passes columns h.0, number_of
 target_again Zero h = refl
 target_again Error h = refl
 target_again (Snapshot origin store chunk) h = rw (number_of-decimal chunk h.2, dev_again origin h.0, dev_again store h.1) refl
+
+-- a start, a length, and at least the type of a target
+three_fields : (start len : List ℕ) (fs : List (List ℕ)) (target : Target) → target_in fs ≡ Some target → nat_le 3 (length (start ∷ len ∷ fs)) ≡ true
+three_fields start len [] target h = absurd cc
+three_fields start len (f ∷ fs) target h = le_three (length (start ∷ len ∷ f ∷ fs)) (omega arith)
+
+pub body_row_passes : (line : Line) → IsBody line → is_body_row (body_fields line) ≡ true
+body_row_passes line h =
+    and_from _ _ (three_fields (decimal line.start) (decimal line.len) (target_fields line.target) line.target (target_again line.target h.target)) (filled (body_fields line) (body_inked line h))
 
 columns_named : (columns : List Column) → AllByRecursion IsColumn columns → list_all is_dev_ref (column_devs columns) ≡ true
 columns_named [] h = refl

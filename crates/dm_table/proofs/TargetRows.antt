@@ -16,7 +16,7 @@ use Rattle.dm_table.specs.declared.row_faults.RowFault.{RowFault}
 use Rattle.dm_table.specs.declared.row_faults.RowFault.TheVariants.{Field, Name, Memory}
 use Rattle.dm_table.specs.Number.{number_of}
 use Rattle.dm_table.specs.Fields.{texts}
-use Rattle.dm_table.specs.LineBody.{is_dev_ref, dev_in, if_both, linear_in, columns_in, is_half, striped_in, snapshot_in, column_devs, devs_of, target_in, has_target_names}
+use Rattle.dm_table.specs.LineBody.{is_dev_ref, dev_in, if_both, linear_in, columns_in, is_half, striped_in, snapshot_in, bare_in, column_devs, devs_of, target_in, has_target_names}
 use Rattle.dm_table.specs.RowFaults.{value_fault, read_unless}
 use Rattle.dm_table.specs.LineReading.{dev_reading, reading_of, columns_reading, fault_before, target_reading, body_reading}
 
@@ -159,19 +159,20 @@ linear_none (f ∷ []) h = refl
 linear_none (f ∷ g ∷ []) h = absurd (h refl)
 linear_none (f ∷ g ∷ k ∷ fs) h = refl
 
+-- two arguments as the code has them
+texts_two : (fs : List (Bor (List ℕ))) (d e : Bor (List ℕ)) → length fs ≡ 2 → texts fs ≡ (slice_index_or fs 0 d).now ∷ (slice_index_or fs 1 e).now ∷ []
+texts_two [] d e h = absurd (omega arith)
+texts_two (f ∷ []) d e h = absurd (omega arith)
+texts_two (f ∷ g ∷ []) d e h = refl
+texts_two (f ∷ g ∷ k ∷ fs) d e h = absurd (omega arith)
+
 pub linear_unnamed : (fs : List (Bor (List ℕ))) (d e : Bor (List ℕ)) (offset : ℕ) (fault : RowFault) → length fs ≡ 2 → number_of (slice_index_or fs 1 e).now ≡ Some offset → dev_reading (slice_index_or fs 0 d).now ≡ Err fault
     → arguments_reading linear_in fs ≡ Err fault
-linear_unnamed [] d e offset fault h n r = absurd (omega arith)
-linear_unnamed (f ∷ []) d e offset fault h n r = absurd (omega arith)
-linear_unnamed (f ∷ g ∷ []) d e offset fault h n r = let a = dev_unnamed f.now fault r in rw (n, a.0, a.1) refl
-linear_unnamed (f ∷ g ∷ k ∷ fs) d e offset fault h n r = absurd (omega arith)
+linear_unnamed fs d e offset fault two n r = let a = dev_unnamed (slice_index_or fs 0 d).now fault r in rw (texts_two fs d e two, n, a.0, a.1) refl
 
 pub linear_read : (fs : List (Bor (List ℕ))) (d e : Bor (List ℕ)) (offset : ℕ) (to : DevRef) → length fs ≡ 2 → number_of (slice_index_or fs 1 e).now ≡ Some offset → dev_reading (slice_index_or fs 0 d).now ≡ Ok to
     → arguments_reading linear_in fs ≡ Ok (Linear to offset)
-linear_read [] d e offset to h n r = absurd (omega arith)
-linear_read (f ∷ []) d e offset to h n r = absurd (omega arith)
-linear_read (f ∷ g ∷ []) d e offset to h n r = let a = dev_parts f.now to r in rw (n, a.1, a.0) refl
-linear_read (f ∷ g ∷ k ∷ fs) d e offset to h n r = absurd (omega arith)
+linear_read fs d e offset to two n r = let a = dev_parts (slice_index_or fs 0 d).now to r in rw (texts_two fs d e two, n, a.1, a.0) refl
 
 pub striped_none : (fs : List (Bor (List ℕ))) → length fs < 2 → arguments_reading striped_in fs ≡ Err Field
 striped_none [] h = refl
@@ -204,16 +205,15 @@ striped_read (f ∷ g ∷ fs) d e chunk reading h c n r =
     let read : columns_reading (texts fs) ≡ reading = rw (take_rest (f ∷ g ∷ fs) 2) at r in
     rw (half, n) (columns_striped chunk (columns_in (texts fs)) ∙ ap (with_columns chunk) read)
 
--- what is read of four fields
-of_four : (fs : List (Bor (List ℕ))) (d e g k : Bor (List ℕ)) (reading : Result Target RowFault) → length fs ≡ 4
-    → reading_of devs_of (snapshot_in ((slice_index_or fs 0 d).now ∷ (slice_index_or fs 1 e).now ∷ (slice_index_or fs 2 g).now ∷ (slice_index_or fs 3 k).now ∷ [])) ≡ reading
-    → arguments_reading snapshot_in fs ≡ reading
-of_four [] d e g k reading h is = absurd (omega arith)
-of_four (a ∷ []) d e g k reading h is = absurd (omega arith)
-of_four (a ∷ b ∷ []) d e g k reading h is = absurd (omega arith)
-of_four (a ∷ b ∷ c ∷ []) d e g k reading h is = absurd (omega arith)
-of_four (a ∷ b ∷ c ∷ f ∷ []) d e g k reading h is = is
-of_four (a ∷ b ∷ c ∷ f ∷ x ∷ fs) d e g k reading h is = absurd (omega arith)
+-- four arguments
+texts_four : (fs : List (Bor (List ℕ))) (d e g k : Bor (List ℕ)) → length fs ≡ 4
+    → texts fs ≡ (slice_index_or fs 0 d).now ∷ (slice_index_or fs 1 e).now ∷ (slice_index_or fs 2 g).now ∷ (slice_index_or fs 3 k).now ∷ []
+texts_four [] d e g k h = absurd (omega arith)
+texts_four (a ∷ []) d e g k h = absurd (omega arith)
+texts_four (a ∷ b ∷ []) d e g k h = absurd (omega arith)
+texts_four (a ∷ b ∷ c ∷ []) d e g k h = absurd (omega arith)
+texts_four (a ∷ b ∷ c ∷ f ∷ []) d e g k h = refl
+texts_four (a ∷ b ∷ c ∷ f ∷ x ∷ fs) d e g k h = absurd (omega arith)
 
 pub snapshot_none : (fs : List (Bor (List ℕ))) → length fs ≢ 4 → arguments_reading snapshot_in fs ≡ Err Field
 snapshot_none [] h = refl
@@ -224,31 +224,43 @@ snapshot_none (a ∷ b ∷ c ∷ f ∷ []) h = absurd (h refl)
 snapshot_none (a ∷ b ∷ c ∷ f ∷ x ∷ fs) h = refl
 
 pub snapshot_flag : (fs : List (Bor (List ℕ))) (g : Bor (List ℕ)) → length fs ≡ 4 → pointwise nat_eq (slice_index_or fs 2 g).now (codes "P") ≡ false → arguments_reading snapshot_in fs ≡ Err Field
-snapshot_flag fs g four p = of_four fs g g g g (Err Field) four (rw p refl)
+snapshot_flag fs g four p = rw (texts_four fs g g g g four, p) refl
 
 pub snapshot_chunk : (fs : List (Bor (List ℕ))) (g k : Bor (List ℕ)) → length fs ≡ 4 → pointwise nat_eq (slice_index_or fs 2 g).now (codes "P") ≡ true → number_of (slice_index_or fs 3 k).now ≡ None
     → arguments_reading snapshot_in fs ≡ Err Field
-snapshot_chunk fs g k four p n = of_four fs g g g k (Err Field) four (rw (p, n) refl)
+snapshot_chunk fs g k four p n = rw (texts_four fs g g g k four, p, n) refl
 
 pub snapshot_origin : (fs : List (Bor (List ℕ))) (d g k : Bor (List ℕ)) (chunk : ℕ) (fault : RowFault) → length fs ≡ 4 → pointwise nat_eq (slice_index_or fs 2 g).now (codes "P") ≡ true
     → number_of (slice_index_or fs 3 k).now ≡ Some chunk → dev_reading (slice_index_or fs 0 d).now ≡ Err fault → arguments_reading snapshot_in fs ≡ Err fault
 snapshot_origin fs d g k chunk fault four p n o =
     let a = dev_unnamed (slice_index_or fs 0 d).now fault o in
-    of_four fs d d g k (Err fault) four (rw (p, n, a.0, a.1) refl)
+    rw (texts_four fs d d g k four, p, n, a.0, a.1) refl
 
 pub snapshot_store : (fs : List (Bor (List ℕ))) (d e g k : Bor (List ℕ)) (chunk : ℕ) (origin : DevRef) (fault : RowFault) → length fs ≡ 4 → pointwise nat_eq (slice_index_or fs 2 g).now (codes "P") ≡ true
     → number_of (slice_index_or fs 3 k).now ≡ Some chunk → dev_reading (slice_index_or fs 0 d).now ≡ Ok origin → dev_reading (slice_index_or fs 1 e).now ≡ Err fault → arguments_reading snapshot_in fs ≡ Err fault
 snapshot_store fs d e g k chunk origin fault four p n o s =
     let a = dev_parts (slice_index_or fs 0 d).now origin o in
     let b = dev_unnamed (slice_index_or fs 1 e).now fault s in
-    of_four fs d e g k (Err fault) four (rw (p, n, a.1, a.0, b.0, b.1) refl)
+    rw (texts_four fs d e g k four, p, n, a.1, a.0, b.0, b.1) refl
 
 pub snapshot_read : (fs : List (Bor (List ℕ))) (d e g k : Bor (List ℕ)) (chunk : ℕ) (origin store : DevRef) → length fs ≡ 4 → pointwise nat_eq (slice_index_or fs 2 g).now (codes "P") ≡ true
     → number_of (slice_index_or fs 3 k).now ≡ Some chunk → dev_reading (slice_index_or fs 0 d).now ≡ Ok origin → dev_reading (slice_index_or fs 1 e).now ≡ Ok store → arguments_reading snapshot_in fs ≡ Ok (Snapshot origin store chunk)
 snapshot_read fs d e g k chunk origin store four p n o s =
     let a = dev_parts (slice_index_or fs 0 d).now origin o in
     let b = dev_parts (slice_index_or fs 1 e).now store s in
-    of_four fs d e g k (Ok (Snapshot origin store chunk)) four (rw (p, n, a.1, a.0, b.1, b.0) refl)
+    rw (texts_four fs d e g k four, p, n, a.1, a.0, b.1, b.0) refl
+
+-- A type and its arguments
+
+bare_some : (type : List ℕ) (fs : List (Bor (List ℕ))) → eqb (length fs) 0 ≡ false → bare_in type (texts fs) ≡ None
+bare_some type [] h = absurd cc
+bare_some type (f ∷ fs) h = refl
+
+-- arguments after a type that takes none
+pub target_over : (fs : List (Bor (List ℕ))) (d : Bor (List ℕ)) → 1 ≤ length fs → pointwise nat_eq (slice_index_or fs 0 d).now (codes "linear") ≡ false → pointwise nat_eq (slice_index_or fs 0 d).now (codes "striped") ≡ false
+    → pointwise nat_eq (slice_index_or fs 0 d).now (codes "snapshot") ≡ false → eqb (length (take (length fs - 1) (drop 1 fs))) 0 ≡ false → target_reading (texts fs) ≡ Err Field
+target_over [] d h linear striped snapshot some = absurd (omega arith)
+target_over (f ∷ fs) d h linear striped snapshot some = rw (linear, striped, snapshot, bare_some f.now fs (rw (take_rest (f ∷ fs) 1) at some)) refl
 
 pub and_false : (b : Bool) → (b && false) ≡ false
 and_false true = refl

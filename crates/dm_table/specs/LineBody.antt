@@ -99,21 +99,19 @@ snapshot_in (origin ∷ store ∷ flag ∷ chunk ∷ []) =
     if pointwise nat_eq flag (codes "P") then option_map (λ n. Snapshot (dev_in origin) (dev_in store) n) (number_of chunk) else None
 snapshot_in _ = None
 
--- no arguments
-abbrev pub bare_in : Target → List (List ℕ) → Option Target
-bare_in target [] = Some target
-bare_in target _ = None
+-- a target type that takes no arguments, where there are none
+abbrev pub bare_in : List ℕ → List (List ℕ) → Option Target
+bare_in type [] = if pointwise nat_eq type (codes "zero") then Some Zero else (if pointwise nat_eq type (codes "error") then Some Error else None)
+bare_in type _ = None
 
--- a known target type, and its arguments
+-- a target type and its arguments
 abbrev pub target_in : List (List ℕ) → Option Target
 target_in [] = None
 target_in (type ∷ arguments) =
     if pointwise nat_eq type (codes "linear") then linear_in arguments
     else (if pointwise nat_eq type (codes "striped") then striped_in arguments
     else (if pointwise nat_eq type (codes "snapshot") then snapshot_in arguments
-    else (if pointwise nat_eq type (codes "zero") then bare_in Zero arguments
-    else (if pointwise nat_eq type (codes "error") then bare_in Error arguments
-    else None))))
+    else bare_in type arguments))
 
 -- what columns name
 abbrev pub column_devs : List Column → List DevRef
