@@ -10,8 +10,8 @@ ghost use Rattle.dm_stack.specs.Loaded.{found_table};
 ghost use Rattle.dm_stack.specs.Soundness.{is_unknown, unknown};
 
 use crate::divisor::Divisor;
-use crate::found_line::{FoundColumn, FoundLine, FoundSnapshot, FoundTable, FoundTarget};
 use crate::found_columns::FoundColumns;
+use crate::found_line::{FoundColumn, FoundLine, FoundSnapshot, FoundTable, FoundTarget};
 use crate::indexed::Indexed;
 use crate::placed::first_line;
 use crate::span::Spans;

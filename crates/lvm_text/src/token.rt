@@ -7,8 +7,8 @@ ghost use Rattle.lvm_text.specs.Spelling.{Spells, SomeElement, newlines, spellin
 ghost use Rattle.lvm_text.specs.Reading.{IsTokenFault};
 ghost use Rattle.lvm_text.specs.TokenView.{views, element_view};
 
-use crate::fault::TextFault;
 use crate::element::{Element, element_at};
+use crate::fault::TextFault;
 use crate::scan::is_end;
 use std::alloc::{AllocFailed, Global};
 
