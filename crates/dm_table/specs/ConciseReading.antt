@@ -36,7 +36,7 @@ line_in at text = body_in at (body_fields text)
 abbrev pub lines_in : Place → List (List ℕ) → List Line
 lines_in at texts = map (λ text. line_in at text) texts
 
--- what is wrong with entries, which stand on one line or do not
+-- what is wrong with entries, whether or not they stand on one line
 abbrev pub fault_of_entries : Bool → List (List ℕ) → Option RowFault
 fault_of_entries on_a_line entries =
     worse (row_fault (on_a_line && is_label entries) (value_fault (is_known entries) (is_named entries))) (fault_of_bodies (drop 4 entries))

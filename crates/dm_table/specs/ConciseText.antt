@@ -17,7 +17,7 @@ use Rattle.dm_table.specs.TableText.{row_of}
 
 -- Labels
 
--- nothing, or up to 128 of the bytes of a device's name
+-- nothing, or up to 128 bytes that a device's name may have
 abbrev pub is_uuid : List ℕ → Bool
 is_uuid text = nat_le (length text) 128 && list_all is_device_byte text
 
@@ -138,11 +138,11 @@ bodies_of text = drop 4 (entries text)
 abbrev pub is_device : List ℕ → Bool
 is_device text = (lacks 10 text && is_label (entries text)) && list_all (λ body. is_body_row (body_fields body)) (bodies_of text)
 
--- whose values are in order
+-- whose values are valid
 abbrev pub has_values : List ℕ → Bool
 has_values text = is_known (entries text) && list_all (λ body. is_body (body_fields body)) (bodies_of text)
 
--- whose names are names
+-- whose names are valid
 abbrev pub has_names : List ℕ → Bool
 has_names text = is_named (entries text) && list_all (λ body. has_body_names (body_fields body)) (bodies_of text)
 

@@ -32,7 +32,7 @@ lines_of text = all_but_last (parts_at 10 text)
 abbrev pub rest_of : List ℕ → List ℕ
 rest_of text = last_or [] (parts_at 10 text)
 
--- both of a text, and both of what a text was cut into
+-- the lines and the rest of a text, and those of a text that was cut
 abbrev pub lines_and_rest : List ℕ → List (List ℕ) × List ℕ
 lines_and_rest text = (lines_of text, rest_of text)
 

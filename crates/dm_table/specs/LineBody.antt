@@ -1,4 +1,4 @@
--- The body of a table's line: a start, a length, and a target with its arguments (dmsetup(8)). What labels a line is its form's own.
+-- The body of a table's line: a start, a length, and a target with its arguments (dmsetup(8)). How a line is labelled is up to the form.
 use Rattle.std.specs.Prelude.{◌≡◌, ℕ, ◌*◌, ◌^◌, ◌<◌, ◌==◌, Bool, true, false, ◌&&◌, List, [], ◌∷◌, ◌++◌, length, map, nat_le, nat_lt, nat_eq, codes, decimal, drop, Option, Some, None, is_some, if◌then◌else◌}
 use Rattle.std.specs.Option.{option_map}
 use Rattle.std.specs.List.{flat_map, list_all, AllByRecursion}
@@ -62,13 +62,13 @@ pub record IsBody (line : Line) : Type 0 where
   pub len : line.len < 10 ^ 19
   pub target : IsTarget line.target
 
--- What its fields say, if they are those of a body. Whether the names in them are valid is asked afterwards.
+-- What its fields say, if they are those of a body. Whether the names in them are valid is checked afterwards.
 
 -- what a text names: a device of the stack, or else a disk
 abbrev pub dev_in : List ℕ → DevRef
 dev_in text = if names_device text then Device (drop (length mapper) text) else Disk text
 
--- what two values make, where both are there
+-- what is made of two values, if both are there
 abbrev pub if_both : {X Y Z : Type 0} → (X → Y → Z) → Option X → Option Y → Option Z
 if_both make None y = None
 if_both make (Some x) y = option_map (make x) y
@@ -141,7 +141,7 @@ abbrev pub has_target_names : Option Target → Bool
 has_target_names None = true
 has_target_names (Some target) = list_all is_dev_ref (devs_of target)
 
--- the same of a body
+-- the same for a body
 abbrev pub has_body_names : List (List ℕ) → Bool
 has_body_names (start ∷ len ∷ target) = has_target_names (target_in target)
 has_body_names _ = true

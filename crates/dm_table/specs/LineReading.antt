@@ -1,4 +1,4 @@
--- What the fields of a body say, for the functions that read them once.
+-- What is read of the fields of a body, a value or a fault, for the functions that read them once.
 use Rattle.std.specs.Prelude.{ℕ, List, ◌∷◌, Option, Some, None, is_some, unwrap_or, Result, Ok, Err, if◌then◌else◌}
 use Rattle.std.specs.List.{list_all}
 use Rattle.dm_table.specs.declared.table.DevRef.{DevRef}
@@ -13,12 +13,12 @@ use Rattle.dm_table.specs.Number.{number_in}
 use Rattle.dm_table.specs.LineBody.{is_dev_ref, dev_in, columns_in, target_in, column_devs, devs_of, is_body, has_body_names}
 use Rattle.dm_table.specs.RowFaults.{value_fault, read_unless}
 
--- the line of a body's fields, at a place; it counts only where they are a body
+-- the line of a body's fields, at a place; it means something only if they are a body
 abbrev pub body_in : Place → List (List ℕ) → Line
 body_in at (start ∷ len ∷ target) = record { start = number_in start; len = number_in len; target = unwrap_or (target_in target) Error; at = at }
 body_in at _ = record { start = 0; len = 0; target = Error; at = at }
 
--- What is read: the value, or the fault of the first of the two tests that it fails
+-- What is read: the value, or the fault of the first test that it fails
 
 abbrev pub dev_reading : List ℕ → Result DevRef RowFault
 dev_reading text = if is_dev_ref (dev_in text) then Ok (dev_in text) else Err Name

@@ -1,4 +1,4 @@
--- Checks in a fixed order, and the one fault that is returned: the words that every check of a load is told in.
+-- Checks in a fixed order, and the one fault that is returned: the terms in which every check of a load is stated.
 use Rattle.std.specs.Prelude.{◌≡◌, ◌≢◌, ℕ, suc, ◌+◌, Bool, not, ◌&&◌, nat_le, List, [], ◌∷◌, ◌++◌, length, Option, Some, None, Result, Ok, Err, if◌then◌else◌}
 use Rattle.std.specs.List.{list_all}
 use Rattle.dm_table.specs.Fields.{parts_at}
@@ -66,7 +66,7 @@ abbrev pub unended : Part → ℕ → List ℕ → List LoadFault
 unended part n [] = []
 unended part n (byte ∷ bytes) = fault_at part Syntax n ∷ []
 
--- the checks of a part's rows, in their order: that each is a row, its values, and its names; a rest that no newline ends is no row
+-- the checks of a part's rows, in their order: whether each is a row, then its values, then its names; a rest that no newline ends is no row
 abbrev pub row_checks : {X : Type 0} → Part → (is_row has_values has_names : X → Bool) → List X → (rest : List ℕ) → List (List LoadFault)
 row_checks part is_row has_values has_names rows rest =
     (faults_from part Syntax (λ row. not (is_row row)) 1 rows ++ unended part (length rows + 1) rest)

@@ -17,14 +17,14 @@ is_device_name text = nat_le 1 (length text) && (nat_le (length text) 127 && lis
 abbrev pub is_disk_byte : ℕ → Bool
 is_disk_byte b = nat_le 33 b && (nat_le b 126 && not (b == 44 || (b == 59 || b == 92)))
 
--- what begins the text of a device of the stack
+-- how the text of a device of the stack begins
 abbrev pub mapper : List ℕ
 mapper = codes "/dev/mapper/"
 
--- the text speaks of a device of the stack
+-- the text names a device of the stack
 abbrev pub names_device : List ℕ → Bool
 names_device text = starts_with nat_eq text mapper
 
--- 1 to 255 of the bytes of a disk, not speaking of a device
+-- 1 to 255 bytes that a disk's name may have, and no name of a device of the stack
 abbrev pub is_disk_name : List ℕ → Bool
 is_disk_name text = nat_le 1 (length text) && (nat_le (length text) 255 && (list_all is_disk_byte text && not (names_device text)))

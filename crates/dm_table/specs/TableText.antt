@@ -39,11 +39,11 @@ Says n [] (named ∷ more) = ⊥
 Says n (text ∷ texts) [] = ⊥
 Says n (text ∷ texts) (named ∷ more) = Writes text named × IsSaid n named × Says (suc n) texts more
 
--- the lines of the devices in a row, each with its device's name
+-- the lines of all devices, one after another, each with its device's name
 abbrev pub named_lines : List DeviceSpec → List NamedLine
 named_lines = flat_map (λ device. map (λ line. record { name = device.name; line = line }) device.lines)
 
--- a device of table text: it has a first line, whose place is its own, and can be written
+-- a device of table text: it has a first line, whose place is its own, and is writable
 abbrev pub HasPlaceOf : List Line → Place → Type 0
 HasPlaceOf [] at = ⊥
 HasPlaceOf (line ∷ lines) at = at ≡ line.at
@@ -91,7 +91,7 @@ abbrev pub is_row : List (List ℕ) → Bool
 is_row (label ∷ body) = is_label label && is_body_row body
 is_row [] = false
 
--- a body whose values are in order
+-- a body whose values are valid
 abbrev pub is_line : List (List ℕ) → Bool
 is_line (label ∷ body) = is_body body
 is_line [] = false

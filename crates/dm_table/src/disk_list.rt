@@ -1,8 +1,8 @@
 //! Disk lists: a line `NAME SECTORS` for each disk.
 //!
 //! The lines are read one after the other, each once, and what is wrong with them is kept until the
-//! end, as in table text. A new column is a field of `Disk`, its text in `disk_line`, and a check in
-//! `disk_checks`, in `specs/DiskList.antt`.
+//! end, as in table text. A new column is a field of `Disk` and, in `specs/DiskList.antt`, its text in
+//! `disk_line`, its test in `is_pair` and in `has_sectors` or `has_name`, and its value in `disk_of`.
 
 ghost use Rattle.std.specs.Prelude.{◌≡◌, ◌++◌, Some, Ok, IfOk, OnOk, map};
 ghost use Rattle.dm_table.specs.declared.disk.Disk.{Disk};

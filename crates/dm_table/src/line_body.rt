@@ -1,9 +1,9 @@
 //! The body of a table's line: a start, a length, and a target with its arguments.
 //!
 //! Each form of a table labels such bodies in its own way, and hands their fields over. They are read
-//! once into a line: what isn't one is told as it is met. A new target type is an arm in
+//! once into a line: what isn't one is refused as it is met. A new target type is an arm in
 //! `read_target` with a function that reads its arguments. In `specs/LineBody.antt` it has the same
-//! two, with an arm in `target_text`, in `IsTarget` and in `devs_of`.
+//! two (or an arm in `bare_in`, without arguments), and arms in `target_text`, `IsTarget` and `devs_of`.
 
 ghost use Rattle.std.specs.Prelude.{◌≡◌, true, false, length, drop, is_some, nat_lt, MatchOption};
 ghost use Rattle.std.specs.List.{list_all};
@@ -21,7 +21,7 @@ use crate::row_faults::RowFault;
 use crate::table::{Column, Columns, DevRef, Line, Target};
 use std::alloc::Global;
 
-/// Whether the fields are as many as a body has, and none of them is empty.
+/// Whether the fields are enough for a body, and none of them is empty.
 pub(crate) fn is_body_row(fields: &[&[u8]]) -> bool
     ensures { result ≡ is_body_row (texts fields.now) }
 {
@@ -115,7 +115,7 @@ fn read_striped(alloc: Global, arguments: &[&[u8]]) -> Result<Target, RowFault>
     Ok(Target::Striped { chunk, columns })
 }
 
-/// A snapshot's origin and store, and the sectors of a chunk. Of the kinds of stores there is one, `P`.
+/// A snapshot's origin and store, and the sectors of a chunk. The only kind of store is `P`.
 fn read_snapshot(alloc: Global, arguments: &[&[u8]]) -> Result<Target, RowFault>
     ensures { Reads (λ target. target) result (reading_of devs_of (snapshot_in (texts arguments.now))) }
 {
@@ -147,7 +147,7 @@ fn is_half(count: &[u8], fields: usize) -> bool
     }
 }
 
-/// The columns of fields that go two by two, a name and a number. One pass.
+/// The columns of fields that come in pairs, a name and a number. One pass.
 fn read_columns(alloc: Global, fields: &[&[u8]]) -> Result<Columns, RowFault>
     ensures { Reads (λ columns. columns) result (columns_reading (texts fields.now)) }
 {
@@ -184,7 +184,7 @@ fn fault_before(fault: RowFault, fields: &[&[u8]]) -> RowFault
     }
 }
 
-/// Whether the fields go two by two, the second of each two a number. One pass.
+/// Whether the fields come in pairs, the second of each a number. One pass.
 fn are_columns(fields: &[&[u8]]) -> bool
     ensures { result ≡ is_some (columns_in (texts fields.now)) }
 {
@@ -218,7 +218,7 @@ fn read_dev(alloc: Global, text: &[u8]) -> Result<DevRef, RowFault>
     }
 }
 
-/// What follows `/dev/mapper/`, where the text speaks of a device of the stack.
+/// What follows `/dev/mapper/`, where the text names a device of the stack.
 fn device_name_in(text: &[u8]) -> Option<&[u8]>
     ensures { MatchOption result (names_device text.now ≡ false)
         (λ name. (names_device text.now ≡ true) × (name.now ≡ drop (length mapper) text.now)) }
