@@ -12,6 +12,7 @@ ZERO_LINE = "a: %d 1 zero\n"
 
 def check(tally, program):
     check_counts(tally, program)
+    check_rows(tally, program)
     check_sizes(tally, program)
     check_many_requests(tally, program)
     check_memory(tally, program)
@@ -55,6 +56,41 @@ def check_counts(tally, program):
     tally.same("2^50 sectors", got, 0, "1 W sda %d 1\n" % (most - 1))
     got = program.map("a: 0 %d linear sda 0\n" % most, "sda %d\n" % most, "R a 0 1048576\nR a 0 1048577\n")
     tally.same("1,048,576 sectors, and one more", got, 3, "1 R sda 0 1048576\n", "dmremap: request 2: length\n")
+
+
+def check_rows(tally, program):
+    """Rows of 64, 65 and more elements, in all that keeps one in memory: none of them is too long."""
+    for count in (64, 65, 128):
+        columns = "".join(" s%d 0" % it for it in range(count))
+        table = "a: 0 %d striped %d 1%s\n" % (count, count, columns)
+        disks = "".join("s%d 1\n" % it for it in range(count))
+        files = [program.file("table", table), program.file("disks", disks)]
+        report = "devices 1\ndisks %d\ndepth 1\ntidy\n" % count
+        tally.same("check of %d columns" % count, program.run(["check", "table"] + files), 0, report)
+        old = "".join("1 old s%d 0 1\n" % it for it in range(count))
+        got = program.run(["replay", "table"] + files, given="R a 0 %d\n" % count)
+        tally.same("replay of %d columns" % count, got, 0, old)
+        got = program.run(["map", "lvm", program.file("group", group_of(count))], given="R vg-lv 0 %d\n" % count)
+        tally.same("%d stripes of a volume" % count, got, 0, "".join("1 R /dev/s%d 8 1\n" % it for it in range(count)))
+    stores = "".join("s%d: 0 8 snapshot sda c%d P 8\n" % (it, it) for it in range(65))
+    disks = "sda 8\n" + "".join("c%d 64\n" % it for it in range(65))
+    got = program.map(stores, disks, "W s64 0 1\nR s64 0 8\nR s0 0 8\n")
+    tally.same("65 snapshots", got, 0, "1 copy sda 0 8 c64 16\n1 W c64 16 1\n2 R c64 16 8\n3 R sda 0 8\n")
+    devices = "".join("d%d: 0 1 linear sda %d\n" % (it, it) for it in range(1024))
+    files = [program.file("table", devices), program.file("disks", "sda 1024\n")]
+    got = program.run(["check", "table"] + files)
+    tally.same("check of 1,024 devices", got, 0, "devices 1024\ndisks 1\ndepth 1\ntidy\n")
+
+
+def group_of(stripes):
+    """Metadata of a volume of so many stripes, each an extent of one sector on a physical volume of its own."""
+    volume = 'pv%d { device = "/dev/s%d" dev_size = 9 pe_start = 8 pe_count = 1 }\n'
+    volumes = "".join(volume % (it, it) for it in range(stripes))
+    pairs = ", ".join('"pv%d", 0' % it for it in range(stripes))
+    segment = ('segment1 { start_extent = 0 extent_count = %d type = "striped" stripe_count = %d stripe_size = 1 '
+               'stripes = [%s] }' % (stripes, stripes, pairs))
+    return ('contents = "Text Format Volume Group" version = 1\nvg { extent_size = 1 physical_volumes {\n%s}\n'
+            'logical_volumes { lv { status = ["READ", "WRITE"] segment_count = 1 %s } } }\n' % (volumes, segment))
 
 
 def check_sizes(tally, program):
