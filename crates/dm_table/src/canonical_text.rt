@@ -2,7 +2,7 @@
 //! written as.
 //!
 //! Texts go to the output part by part, with no memory taken; an output that is slow for small
-//! writes wants a buffer before it. A line is one part, save the columns of a striped one and the
+//! writes wants a buffer before it. A line is one part, except the columns of a striped one and the
 //! newline. A new target is an arm in `line_head`; only one whose text has no greatest length, as a
 //! striped line's, is an arm here too.
 

@@ -32,13 +32,13 @@ use std::alloc::{AllocError, Global};
 /// have a space before it and one after it. A newline may end the text. The place of a device, and
 /// of its lines, is its number, from 1. The form is that of dmsetup(8), without its escapes.
 ///
-/// Else the fault of the first of these checks that finds anything, at its first device, counted by
+/// Otherwise the fault of the first of these checks that finds anything, at its first device, counted by
 /// the semicolons before it: `NotText`, a byte other than 0x20 to 0x7E and a newline; `Syntax`, fewer
 /// than five entries, a space in the first four, a newline before the end, or a line with fewer than
-/// three fields or more than single spaces between them; `Field`, a number that is none, flags other
+/// three fields or more than single spaces between them; `Field`, a number that isn't one, flags other
 /// than `ro` and `rw`, an unknown target type or wrong arguments; `Name`, no name of a device or a
-/// disk, or no uuid, which has up to 128 of the bytes of a device's name. Or `Memory`, of number 0,
-/// where an allocation was refused. The time is linear in the text.
+/// disk, or no uuid, which has up to 128 of the bytes of a device's name. Or `Memory`, with number
+/// 0, if an allocation was refused. The time is linear in the text.
 pub fn parse_concise(alloc: Global, text: &[u8]) -> Result<Vec<DeviceSpec>, LoadFault>
     // A text is accepted as the devices that it describes, and a refusal is the first fault of the first check
     // that finds any.

@@ -29,7 +29,7 @@ const CHUNK: usize = 16384;
 /// | `Long` | the part has more than 1,048,576 bytes, which takes precedence over `Read` |
 /// | `Memory` | an allocation was refused |
 ///
-/// Nothing is asked of the input after an end or a fault. Cost: linear in the bytes read, which are
+/// The input isn't read again after an end or a fault. Cost: linear in the bytes read, which are
 /// at most 16,384 more than the limit.
 pub fn read_part<I: Input>(alloc: Global, part: Part, input: &mut I) -> Result<Vec<u8>, LoadFault>
     ensures text { IfOk result (λ text. part_read part (delivery I.handed I.faults I.ends input.old input.new) ≡ TextOf text.items) }

@@ -30,11 +30,11 @@ use std::alloc::{AllocError, Global};
 /// lengths, chunks and offsets are sectors of 512 bytes, below 10^19. The form is that of
 /// dmsetup(8). A striped line counts its columns, and there may be none.
 ///
-/// Else the fault of the first of these checks that finds anything, at its first line: `NotText`,
+/// Otherwise the fault of the first of these checks that finds anything, at its first line: `NotText`,
 /// a byte other than 0x20 to 0x7E; `Syntax`, fewer than four fields with single spaces between
 /// them, a first field without a name and a colon, or no newline at the end; `Field`, a number
-/// that is none, an unknown target type or wrong arguments; `Name`, no name of a device or a disk.
-/// Or `Memory`, of number 0, where an allocation was refused. The time is linear in the text.
+/// that isn't one, an unknown target type or wrong arguments; `Name`, no name of a device or a disk.
+/// Or `Memory`, with number 0, if an allocation was refused. The time is linear in the text.
 pub fn parse_table(alloc: Global, text: &[u8]) -> Result<Vec<DeviceSpec>, LoadFault>
     // A text is accepted as the devices that it describes, and a refusal is the first fault of the first check
     // that finds any.

@@ -76,7 +76,7 @@ pub fn map_whole<S: Input, D: Input, Q: Input, W: Output, M: Output>(
     // The number of levels of devices that a sector is followed through never truncates a lookup.
     ensures levels { (description : Description) → IsSound description → IsFreeOfLevels description Op.Read × IsFreeOfLevels description Op.Write }
 
-    // Save where the output failed or memory ran out, all is what the deliveries give.
+    // Unless the output failed or memory ran out, the deliveries determine everything.
     ensures whole { result ≢ 5 → result ≢ 6 → (message : List ℕ) × GiveWhole format status
         (delivery S.handed S.faults S.ends source.old source.new)
         (delivery_if D.handed D.faults D.ends disks.old disks.new)

@@ -57,7 +57,7 @@ pub(crate) enum Printing {
 /// | 6 | memory ran out; nothing was written or flushed |
 ///
 /// At most one message is written, after the output was flushed. The source is there for a command
-/// that loads files, and the disk list where their format has one. No request is asked for.
+/// that loads files, and the disk list where their format has one. No requests are read.
 ///
 /// Cost: near-linear in the source and the disk list, and linear in what is printed.
 pub fn other_whole<S: Input, D: Input, Q: Input, W: Output, M: Output>(
@@ -76,7 +76,7 @@ pub fn other_whole<S: Input, D: Input, Q: Input, W: Output, M: Output>(
     // What the words and the deliveries give is one.
     ensures one { (asked : TaskWords) (s d : Delivery) (a b : Whole) → GiveOther asked s d a → GiveOther asked s d b → a ≡ b }
 
-    // Save where the output failed or memory ran out, all is what the words and the deliveries give.
+    // Unless the output failed or memory ran out, the words and the deliveries determine everything.
     ensures whole { result ≢ 5 → result ≢ 6 → (message : List ℕ) × GiveOther (words_of job.now.task)
         (delivery_if S.handed S.faults S.ends source.old source.new)
         (delivery_if D.handed D.faults D.ends disks.old disks.new)

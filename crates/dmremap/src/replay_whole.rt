@@ -1,6 +1,6 @@
 //! The command `replay`: from a source, a disk list and requests to what each sector answers.
 //!
-//! What comes out goes by the bytes that were delivered, save where memory runs out. `replay_run` plays
+//! What comes out depends on the bytes that were delivered, unless memory runs out. `replay_run` plays
 //! the requests; here are the load before it, and the flush and the message after it.
 
 ghost use Rattle.std.specs.Prelude.{◌≡◌, ◌≢◌, List, [], ℕ, is_some};
@@ -85,7 +85,7 @@ pub fn replay_whole<S: Input, D: Input, Q: Input, W: Output, M: Output>(
         × (result ≡ replay_status exit)
         × IsTold (replay_message exit) (since (M.written messages.old) (M.written messages.new)) (M.faults messages.old) (M.faults messages.new) }
 
-    // Save where the output failed or memory ran out, the deliveries give one exit and one output.
+    // Unless the output failed or memory ran out, the deliveries determine the exit and the output.
     ensures one { (f : Format) (s d q : Delivery) (a b : ReplayExit) (x y : List ℕ) (old new before after : ℕ) → IsPlain a → IsPlain b
         → ReplayGives f s d q x old new a → ReplayGives f s d q y before after b → (a ≡ b) × (x ≡ y) }
 

@@ -204,7 +204,7 @@ pub fn split_name(name: &str) -> Option<Parts<'_>>
 }
 
 /// A text in which, from the left, each two neighbouring hyphens have become one: of a slice of a name, its part.
-/// Fails only where a growth was refused.
+/// Fails only when out of memory.
 pub fn undouble(alloc: Global, text: &str) -> Result<String, AllocError>
     ensures text { IfOk result (λ s. string_bytes s ≡ undoubled text.now) }
     ensures part { (part : List ℕ) → text.now ≡ doubled part → IfOk result (λ s. string_bytes s ≡ part) }
@@ -235,7 +235,7 @@ fn spaced(alloc: Global, slices: Parts<'_>) -> Result<String, AllocError>
 }
 
 /// The parts of a name with single spaces between them, and `None` exactly where no parts build it.
-/// Fails only where a growth was refused.
+/// Fails only when out of memory.
 ///
 /// Source: dmsetup(8), splitname.
 pub fn spaced_parts(alloc: Global, name: &str) -> Result<Option<String>, AllocError>

@@ -7,7 +7,7 @@ use crate::walk::source_fault;
 use dm_table::{LoadFault, LoadKind, Part};
 use lvm_text::TextFault;
 
-/// The fault of a load that a fault of the metadata text is, at its line of the source.
+/// The fault of a load for a fault of the metadata text, at its line of the source.
 pub fn text_fault(fault: TextFault) -> LoadFault
     ensures { result ≡ text_fault fault }
 {

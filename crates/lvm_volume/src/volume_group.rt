@@ -59,7 +59,7 @@ pub(crate) struct Parts {
 }
 
 impl VolumeGroup {
-    /// The volume group that a text of metadata says, from the top of its tree.
+    /// The volume group that a metadata text describes, from the top of its tree.
     ///
     /// The checks run over the whole text one after the other, and the first that finds anything gives the fault, at
     /// the first place in its order, in which the segments of a volume go by their numbers: `Field` for a field that
