@@ -1,10 +1,10 @@
--- The parser's places say which tokens can still become a text.
+-- The parser's positions say which tokens can still become a text.
 use Rattle.std.proofs.Common.{◌≡◌, ◌≢◌, ℕ, zero, suc, ◌-◌, ◌≤◌, Bool, true, false, cond, nat_lt, List, [], ◌∷◌, ◌++◌, Option, Some, None, refl, sym, ap, ◌∙◌, arith}
 use Rattle.std.specs.Prelude.{is_some, option_and_then}
 use Rattle.std.proofs.lemmas.Bool.{lt-ltb, eqb-true, eq-eqb}
 use Rattle.std.proofs.lemmas.Option.{some_pair_parts}
 use Rattle.std.specs.Prelude.{MatchOption}
-use Rattle.lvm_text.specs.Token.{Token, Word, Text, Open, Close, ListOpen, ListClose, Equals, Comma, Placed}
+use Rattle.lvm_text.specs.Token.{Token, Word, Text, Open, Close, ListOpen, ListClose, Equals, Comma, TokenAtLine}
 use Rattle.lvm_text.specs.Tree.{Scalar, Values, Nothing, Section, Single, Several}
 use Rattle.lvm_text.specs.Grammar.{scalar_of, is_key, ReadsMore, ReadsList, Reads, IsText, BeginsText, IsBreak, IsUnfinished}
 use Rattle.lvm_text.specs.Machine.{State, scalar_then, step, run, is_over}
@@ -17,7 +17,7 @@ chain : (o : Option State) (f g h : State → Option State) → ((s : State) →
 chain None f g h e = refl
 chain (Some s) f g h e = e s
 
-pub run-append : (d : ℕ) (p : Position) (a b : List Placed) → run d p (a ++ b) ≡ option_and_then (λ s. run s.0 s.1 b) (run d p a)
+pub run-append : (d : ℕ) (p : Position) (a b : List TokenAtLine) → run d p (a ++ b) ≡ option_and_then (λ s. run s.0 s.1 b) (run d p a)
 run-append d p [] b = refl
 run-append d p (t ∷ a) b = chain (step d p t.0) (λ s. run s.0 s.1 a) (λ s. run s.0 s.1 b) (λ s. run s.0 s.1 (a ++ b)) (λ s. run-append s.0 s.1 a b)
 
@@ -29,7 +29,7 @@ done = (0, at.Key)
 scalar_next : (t : Token) (s : Scalar) (next : State) → scalar_of t ≡ Some s → scalar_then t next ≡ Some next
 scalar_next t s next e = ap (λ (o : Option Scalar). cond (is_some o) (Some next) None) e
 
--- a place where a word or a text stands is left as a scalar leaves it
+-- a position where a word or a text stands is left as a scalar leaves it
 scalar_step : (p : Position) (d : ℕ) (next : State) → ((w : List ℕ) → step d p (Word w) ≡ scalar_then (Word w) next) → ((w : List ℕ) → step d p (Text w) ≡ Some next) → (t : Token) (s : Scalar) → scalar_of t ≡ Some s → step d p t ≡ Some next
 scalar_step p d next word text (Word w) s e = word w ∙ scalar_next (Word w) s next e
 scalar_step p d next word text (Text w) s e = text w
@@ -46,29 +46,29 @@ content_step d = scalar_step at.Content d (d, at.Key) (λ w. refl) (λ w. refl)
 first_step : (d : ℕ) (t : Token) (s : Scalar) → scalar_of t ≡ Some s → step d at.First t ≡ Some (d, at.After)
 first_step d = scalar_step at.First d (d, at.After) (λ w. refl) (λ w. refl)
 
-then_run : (d : ℕ) (p : Position) (t : Placed) (a : List Placed) (s : State) → step d p t.0 ≡ Some s → run d p (t ∷ a) ≡ run s.0 s.1 a
+then_run : (d : ℕ) (p : Position) (t : TokenAtLine) (a : List TokenAtLine) (s : State) → step d p t.0 ≡ Some s → run d p (t ∷ a) ≡ run s.0 s.1 a
 then_run d p t a s e = ap (option_and_then (λ x. run x.0 x.1 a)) e
 
-close_run : (d n : ℕ) (b : List Placed) → run (suc d) at.Key ((Close, n) ∷ b) ≡ run d at.Key b
+close_run : (d n : ℕ) (b : List TokenAtLine) → run (suc d) at.Key ((Close, n) ∷ b) ≡ run d at.Key b
 close_run d n b =
     let lt : nat_lt 0 (suc d) ≡ true = lt-ltb _ _ (omega arith) in
     let back : suc d - 1 ≡ d = omega arith in
     rw (lt, back) refl
 
-key_run : (d n : ℕ) (k : List ℕ) (a : List Placed) → is_key k ≡ true → run d at.Key ((Word k, n) ∷ a) ≡ run d at.AfterKey a
+key_run : (d n : ℕ) (k : List ℕ) (a : List TokenAtLine) → is_key k ≡ true → run d at.Key ((Word k, n) ∷ a) ≡ run d at.AfterKey a
 key_run d n k a e = rw e refl
 
-more_run : (ss : List Scalar) (d : ℕ) (ts more : List Placed) → ReadsMore ts ss more → run d at.After ts ≡ run d at.Key more
+more_run : (ss : List Scalar) (d : ℕ) (ts more : List TokenAtLine) → ReadsMore ts ss more → run d at.After ts ≡ run d at.Key more
 more_run [] d ts more h = ap (run d at.After) h.1
 more_run (s ∷ ss) d ts more h =
     ap (run d at.After) h.4 ∙ then_run d at.Next (h.2, h.1) h.3 (d, at.After) (scalar_next h.2 s (d, at.After) h.5) ∙ more_run ss d h.3 more h.6
 
-list_run : (ss : List Scalar) (d : ℕ) (ts more : List Placed) → ReadsList ts ss more → run d at.First ts ≡ run d at.Key more
+list_run : (ss : List Scalar) (d : ℕ) (ts more : List TokenAtLine) → ReadsList ts ss more → run d at.First ts ≡ run d at.Key more
 list_run [] d ts more h = ap (run d at.First) h.1
 list_run (s ∷ ss) d ts more h =
     ap (run d at.First) h.3 ∙ then_run d at.First (h.1, h.0) h.2 (d, at.After) (first_step d h.1 s h.4) ∙ more_run ss d h.2 more h.5
 
-pub reads_run : (v : Values) (d : ℕ) (ts more : List Placed) → Reads ts v more → run d at.Key ts ≡ run d at.Key more
+pub reads_run : (v : Values) (d : ℕ) (ts more : List TokenAtLine) → Reads ts v more → run d at.Key ts ≡ run d at.Key more
 reads_run Nothing d ts more h = ap (run d at.Key) h
 reads_run (Section k n inner rest) d ts more h =
     ap (run d at.Key) h.5 ∙ key_run d n k ((Open, h.1) ∷ h.3) h.0 ∙ reads_run inner (suc d) h.3 ((Close, h.2) ∷ h.4) h.6 ∙ close_run d h.2 h.4 ∙ reads_run rest d h.4 more h.7
@@ -80,30 +80,30 @@ reads_run (Several k n ss rest) d ts more h =
 -- What is run through is a text
 
 -- values up to each closing brace of the open sections, and up to the end
-abbrev pub Stacked : ℕ → List Placed → Type 0
+abbrev pub Stacked : ℕ → List TokenAtLine → Type 0
 Stacked zero ts = (v : Values) × Reads ts v []
-Stacked (suc d) ts = (v : Values) × (c : ℕ) × (b : List Placed) × Reads ts v ((Close, c) ∷ b) × Stacked d b
+Stacked (suc d) ts = (v : Values) × (c : ℕ) × (b : List TokenAtLine) × Reads ts v ((Close, c) ∷ b) × Stacked d b
 
-before_section : (d : ℕ) (k : List ℕ) (n o : ℕ) (a : List Placed) → is_key k ≡ true → Stacked (suc d) a → Stacked d ((Word k, n) ∷ (Open, o) ∷ a)
+before_section : (d : ℕ) (k : List ℕ) (n o : ℕ) (a : List TokenAtLine) → is_key k ≡ true → Stacked (suc d) a → Stacked d ((Word k, n) ∷ (Open, o) ∷ a)
 before_section zero k n o a e h = (Section k n h.0 h.4.0, (e, o, h.1, a, h.2, refl, h.3, h.4.1))
 before_section (suc d) k n o a e h = (Section k n h.0 h.4.0, h.4.1, h.4.2, (e, o, h.1, a, h.2, refl, h.3, h.4.3), h.4.4)
 
-before_single : (d : ℕ) (k : List ℕ) (n e : ℕ) (t : Token) (m : ℕ) (s : Scalar) (b : List Placed) → is_key k ≡ true → scalar_of t ≡ Some s → Stacked d b → Stacked d ((Word k, n) ∷ (Equals, e) ∷ (t, m) ∷ b)
+before_single : (d : ℕ) (k : List ℕ) (n e : ℕ) (t : Token) (m : ℕ) (s : Scalar) (b : List TokenAtLine) → is_key k ≡ true → scalar_of t ≡ Some s → Stacked d b → Stacked d ((Word k, n) ∷ (Equals, e) ∷ (t, m) ∷ b)
 before_single zero k n e t m s b i x h = (Single k n s h.0, (i, e, m, t, b, refl, x, h.1))
 before_single (suc d) k n e t m s b i x h = (Single k n s h.0, h.1, h.2, (i, e, m, t, b, refl, x, h.3), h.4)
 
-before_list : (d : ℕ) (k : List ℕ) (n e o : ℕ) (ss : List Scalar) (a b : List Placed) → is_key k ≡ true → ReadsList a ss b → Stacked d b → Stacked d ((Word k, n) ∷ (Equals, e) ∷ (ListOpen, o) ∷ a)
+before_list : (d : ℕ) (k : List ℕ) (n e o : ℕ) (ss : List Scalar) (a b : List TokenAtLine) → is_key k ≡ true → ReadsList a ss b → Stacked d b → Stacked d ((Word k, n) ∷ (Equals, e) ∷ (ListOpen, o) ∷ a)
 before_list zero k n e o ss a b i x h = (Several k n ss h.0, (i, e, o, a, b, refl, x, h.1))
 before_list (suc d) k n e o ss a b i x h = (Several k n ss h.0, h.1, h.2, (i, e, o, a, b, refl, x, h.3), h.4)
 
--- what the tokens after a place are, if they end a text
-abbrev pub Holds : ℕ → Position → List Placed → Type 0
+-- what the tokens after a position are, if they end a text
+abbrev pub Holds : ℕ → Position → List TokenAtLine → Type 0
 Holds d at.Key ts = Stacked d ts
 Holds d at.AfterKey ts = (k : List ℕ) (n : ℕ) → is_key k ≡ true → Stacked d ((Word k, n) ∷ ts)
 Holds d at.Content ts = (k : List ℕ) (n e : ℕ) → is_key k ≡ true → Stacked d ((Word k, n) ∷ (Equals, e) ∷ ts)
-Holds d at.First ts = (ss : List Scalar) × (b : List Placed) × ReadsList ts ss b × Stacked d b
-Holds d at.Next ts = (n : ℕ) × (t : Token) × (a : List Placed) × (s : Scalar) × (ss : List Scalar) × (b : List Placed) × (ts ≡ (t, n) ∷ a) × (scalar_of t ≡ Some s) × ReadsMore a ss b × Stacked d b
-Holds d at.After ts = (ss : List Scalar) × (b : List Placed) × ReadsMore ts ss b × Stacked d b
+Holds d at.First ts = (ss : List Scalar) × (b : List TokenAtLine) × ReadsList ts ss b × Stacked d b
+Holds d at.Next ts = (n : ℕ) × (t : Token) × (a : List TokenAtLine) × (s : Scalar) × (ss : List Scalar) × (b : List TokenAtLine) × (ts ≡ (t, n) ∷ a) × (scalar_of t ≡ Some s) × ReadsMore a ss b × Stacked d b
+Holds d at.After ts = (ss : List Scalar) × (b : List TokenAtLine) × ReadsMore ts ss b × Stacked d b
 
 -- a step that was taken, and the run after it
 taken : (b : Bool) (next : State) (f : State → Option State) → option_and_then f (cond b (Some next) None) ≡ Some done → (b ≡ true) × (f next ≡ Some done)
@@ -126,34 +126,34 @@ end d at.First e = let wrong : at.First ≡ at.Key = (same_state d at.First e).1
 end d at.Next e = let wrong : at.Next ≡ at.Key = (same_state d at.Next e).1 in absurd cc
 end d at.After e = let wrong : at.After ≡ at.Key = (same_state d at.After e).1 in absurd cc
 
-abbrev After : List Placed → Type 0
+abbrev After : List TokenAtLine → Type 0
 After ts = (d : ℕ) (p : Position) → run d p ts ≡ Some done → Holds d p ts
 
-content_word : (t : Token) (n : ℕ) (ts : List Placed) (d : ℕ) → After ts → option_and_then (λ s. run s.0 s.1 ts) (scalar_then t (d, at.Key)) ≡ Some done → Holds d at.Content ((t, n) ∷ ts)
+content_word : (t : Token) (n : ℕ) (ts : List TokenAtLine) (d : ℕ) → After ts → option_and_then (λ s. run s.0 s.1 ts) (scalar_then t (d, at.Key)) ≡ Some done → Holds d at.Content ((t, n) ∷ ts)
 content_word t n ts d ih e =
     let a = taken (is_some (scalar_of t)) (d, at.Key) (λ s. run s.0 s.1 ts) e in
     let s = there (scalar_of t) a.0 in
     λ k m q i. before_single d k m q t n s.0 ts i s.1 (ih d at.Key a.1)
 
-first_word : (t : Token) (n : ℕ) (ts : List Placed) (d : ℕ) → After ts → option_and_then (λ s. run s.0 s.1 ts) (scalar_then t (d, at.After)) ≡ Some done → Holds d at.First ((t, n) ∷ ts)
+first_word : (t : Token) (n : ℕ) (ts : List TokenAtLine) (d : ℕ) → After ts → option_and_then (λ s. run s.0 s.1 ts) (scalar_then t (d, at.After)) ≡ Some done → Holds d at.First ((t, n) ∷ ts)
 first_word t n ts d ih e =
     let a = taken (is_some (scalar_of t)) (d, at.After) (λ s. run s.0 s.1 ts) e in
     let s = there (scalar_of t) a.0 in
     let h = ih d at.After a.1 in
     (s.0 ∷ h.0, h.1, (n, t, ts, refl, s.1, h.2), h.3)
 
-next_word : (t : Token) (n : ℕ) (ts : List Placed) (d : ℕ) → After ts → option_and_then (λ s. run s.0 s.1 ts) (scalar_then t (d, at.After)) ≡ Some done → Holds d at.Next ((t, n) ∷ ts)
+next_word : (t : Token) (n : ℕ) (ts : List TokenAtLine) (d : ℕ) → After ts → option_and_then (λ s. run s.0 s.1 ts) (scalar_then t (d, at.After)) ≡ Some done → Holds d at.Next ((t, n) ∷ ts)
 next_word t n ts d ih e =
     let a = taken (is_some (scalar_of t)) (d, at.After) (λ s. run s.0 s.1 ts) e in
     let s = there (scalar_of t) a.0 in
     let h = ih d at.After a.1 in
     (n, t, ts, s.0, h.0, h.1, refl, s.1, h.2, h.3)
 
-close_key : (d n : ℕ) (ts : List Placed) → After ts → run d at.Key ((Close, n) ∷ ts) ≡ Some done → Stacked d ((Close, n) ∷ ts)
+close_key : (d n : ℕ) (ts : List TokenAtLine) → After ts → run d at.Key ((Close, n) ∷ ts) ≡ Some done → Stacked d ((Close, n) ∷ ts)
 close_key zero n ts ih e = absurd cc
 close_key (suc d) n ts ih e = (Nothing, n, ts, refl, ih d at.Key (sym (close_run d n ts) ∙ e))
 
-one : (p : Position) (t : Token) (n : ℕ) (ts : List Placed) (d : ℕ) → After ts → run d p ((t, n) ∷ ts) ≡ Some done → Holds d p ((t, n) ∷ ts)
+one : (p : Position) (t : Token) (n : ℕ) (ts : List TokenAtLine) (d : ℕ) → After ts → run d p ((t, n) ∷ ts) ≡ Some done → Holds d p ((t, n) ∷ ts)
 one at.Key (Word w) n ts d ih e = let a = taken (is_key w) (d, at.AfterKey) (λ s. run s.0 s.1 ts) e in ih d at.AfterKey a.1 w n a.0
 one at.Key Close n ts d ih e = close_key d n ts ih e
 one at.AfterKey Open n ts d ih e = λ k m i. before_section d k m n ts i (ih (suc d) at.Key e)
@@ -165,23 +165,23 @@ one at.First ListClose n ts d ih e = ([], ts, (n, refl), ih d at.Key e)
 one at.First (Word w) n ts d ih e = first_word (Word w) n ts d ih e
 one at.First (Text w) n ts d ih e = first_word (Text w) n ts d ih e
 one at.After ListClose n ts d ih e = ([], ts, (n, refl), ih d at.Key e)
-one at.After Comma n ts d ih e = let h = ih d at.Next e in (h.3 ∷ h.4, h.5, (n, h.0, h.1, h.2, ap (λ (xs : List Placed). (Comma, n) ∷ xs) h.6, h.7, h.8), h.9)
+one at.After Comma n ts d ih e = let h = ih d at.Next e in (h.3 ∷ h.4, h.5, (n, h.0, h.1, h.2, ap (λ (xs : List TokenAtLine). (Comma, n) ∷ xs) h.6, h.7, h.8), h.9)
 one at.Next t n ts d ih e = next_word t n ts d ih e
 one p t n ts d ih e = absurd cc
 
-pub holds : (ts : List Placed) (d : ℕ) (p : Position) → run d p ts ≡ Some done → Holds d p ts
+pub holds : (ts : List TokenAtLine) (d : ℕ) (p : Position) → run d p ts ≡ Some done → Holds d p ts
 holds [] d p e = end d p e
 holds (t ∷ ts) d p e = one p t.0 t.1 ts d (λ x q. holds ts x q) e
 
-pub text_from : (ts : List Placed) → run 0 at.Key ts ≡ Some done → (v : Values) × IsText ts v
+pub text_from : (ts : List TokenAtLine) → run 0 at.Key ts ≡ Some done → (v : Values) × IsText ts v
 text_from ts e = holds ts 0 at.Key e
 
-pub text_run : (ts : List Placed) (v : Values) → IsText ts v → run 0 at.Key ts ≡ Some done
+pub text_run : (ts : List TokenAtLine) (v : Values) → IsText ts v → run 0 at.Key ts ≡ Some done
 text_run ts v h = reads_run v 0 ts [] h
 
--- Every place that is reached can be completed
+-- Every position that is reached can be completed
 
-abbrev closes : ℕ → List Placed
+abbrev closes : ℕ → List TokenAtLine
 closes zero = []
 closes (suc d) = (Close, 1) ∷ closes d
 
@@ -189,7 +189,7 @@ closes_run : (d : ℕ) → run d at.Key (closes d) ≡ Some done
 closes_run zero = refl
 closes_run (suc d) = close_run d 1 (closes d) ∙ closes_run d
 
-abbrev closing : ℕ → Position → List Placed
+abbrev closing : ℕ → Position → List TokenAtLine
 closing d at.Key = closes d
 closing d at.AfterKey = (Equals, 1) ∷ (Text [], 1) ∷ closes d
 closing d at.Content = (Text [], 1) ∷ closes d
@@ -205,7 +205,7 @@ closing_run d at.First = closes_run d
 closing_run d at.Next = closes_run d
 closing_run d at.After = closes_run d
 
-pub front_from : (ts : List Placed) (s : State) → run 0 at.Key ts ≡ Some s → BeginsText ts
+pub front_from : (ts : List TokenAtLine) (s : State) → run 0 at.Key ts ≡ Some s → BeginsText ts
 front_from ts s e =
     let more = closing s.0 s.1 in
     let whole = run-append 0 at.Key ts more ∙ ap (option_and_then (λ x. run x.0 x.1 more)) e ∙ closing_run s.0 s.1 in
@@ -216,15 +216,15 @@ reached : (o : Option State) (f : State → Option State) → option_and_then f 
 reached None f e = absurd cc
 reached (Some s) f e = (s, refl)
 
-pub front_run : (ts : List Placed) → BeginsText ts → (s : State) × (run 0 at.Key ts ≡ Some s)
+pub front_run : (ts : List TokenAtLine) → BeginsText ts → (s : State) × (run 0 at.Key ts ≡ Some s)
 front_run ts h = reached (run 0 at.Key ts) (λ s. run s.0 s.1 h.more) (sym (run-append 0 at.Key ts h.more) ∙ text_run (ts ++ h.more) h.values h.text)
 
 -- The line of a fault
 
-pub last_run : (before : List Placed) (t : Placed) (s : State) → run 0 at.Key before ≡ Some s → run 0 at.Key (before ++ t ∷ []) ≡ option_and_then (λ x. Some x) (step s.0 s.1 t.0)
+pub last_run : (before : List TokenAtLine) (t : TokenAtLine) (s : State) → run 0 at.Key before ≡ Some s → run 0 at.Key (before ++ t ∷ []) ≡ option_and_then (λ x. Some x) (step s.0 s.1 t.0)
 last_run before t s e = run-append 0 at.Key before (t ∷ []) ∙ ap (option_and_then (λ x. run x.0 x.1 (t ∷ []))) e
 
-pub broken : (before after : List Placed) (t : Token) (n : ℕ) (s : State) → run 0 at.Key before ≡ Some s → step s.0 s.1 t ≡ None → IsBreak (before ++ (t, n) ∷ after) n
+pub broken : (before after : List TokenAtLine) (t : Token) (n : ℕ) (s : State) → run 0 at.Key before ≡ Some s → step s.0 s.1 t ≡ None → IsBreak (before ++ (t, n) ∷ after) n
 broken before after t n s e none = record {
   before = before;
   token = t;
@@ -236,7 +236,7 @@ broken before after t n s e none = record {
       absurd cc;
 }
 
-pub unfinished : (ts : List Placed) (s : State) → run 0 at.Key ts ≡ Some s → s ≢ done → IsUnfinished ts
+pub unfinished : (ts : List TokenAtLine) (s : State) → run 0 at.Key ts ≡ Some s → s ≢ done → IsUnfinished ts
 unfinished ts s e ne = record {
   begun = front_from ts s e;
   unfinished = λ v h. let same : Some s ≡ Some done = sym e ∙ text_run ts v h in ne cc;

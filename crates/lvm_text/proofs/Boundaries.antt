@@ -9,7 +9,7 @@ use Rattle.lvm_text.specs.Spelling.{is_word_byte, is_escapable}
 use Rattle.lvm_text.specs.Scan.{line_length, word_length, raw_length}
 use Rattle.lvm_text.proofs.Cases.{cond_elim, mapped}
 
--- behind an ASCII byte at the front of what a text ends with
+-- after an ASCII byte at the front of what a text ends with
 pub after_byte : (text rest : List ℕ) (i : ℕ) → IsUtf8 text → i < length text → get_or text i 0 < 128 → rest ≡ drop i text → get_or rest 0 0 ≡ get_or text i 0 → 0 < length rest → IsCharBoundary rest 1
 after_byte text rest i u lt ascii e same some =
     let v : IsUtf8 rest = subst IsUtf8 (sym e) (IsUtf8-drop text i u (IsCharBoundary-before_ascii text i lt ascii)) in

@@ -2,7 +2,7 @@
 use Rattle.std.proofs.Common.{◌≡◌, ℕ, Bool, true, false, cond, ◌&&◌, List, [], ◌∷◌, Some, None, refl, sym, ap, ◌∙◌}
 use Rattle.std.specs.Prelude.{is_none, unwrap_or, nat_le, nat_lt, ◌^◌, length}
 use Rattle.std.specs.Str.Parse.{digits_value}
-use Rattle.lvm_text.specs.Token.{Token, Word, Text, Open, Close, ListOpen, ListClose, Equals, Comma, Placed}
+use Rattle.lvm_text.specs.Token.{Token, Word, Text, Open, Close, ListOpen, ListClose, Equals, Comma, TokenAtLine}
 use Rattle.lvm_text.specs.Tree as tree
 use Rattle.lvm_text.specs.Tree.{Scalar, Values, Nothing, Section, Single, Several}
 use Rattle.lvm_text.specs.Grammar.{are_digits, number_of, scalar_of, ReadsListBy, ReadsMoreBy, ReadsBy}
@@ -31,34 +31,34 @@ bounded_same Equals s h e = absurd cc
 bounded_same Comma s h e = absurd cc
 
 -- no integer among the tokens is out of range, whichever token stands before
-abbrev Fits : List Placed → Type 0
+abbrev Fits : List TokenAtLine → Type 0
 Fits ts = (before : Token) × (number_lines before ts ≡ [])
 
-after : (before : Token) (t : Placed) (ts : List Placed) → number_lines before (t ∷ ts) ≡ [] → number_lines t.0 ts ≡ []
+after : (before : Token) (t : TokenAtLine) (ts : List TokenAtLine) → number_lines before (t ∷ ts) ≡ [] → number_lines t.0 ts ≡ []
 after before t ts h = (no_hit (leads_scalar before && is_refused t.0) t.1 (number_lines t.0 ts) h).1
 
-first_fits : (before t : Token) (n : ℕ) (ts : List Placed) (s : Scalar) → leads_scalar before ≡ true → number_lines before ((t, n) ∷ ts) ≡ [] → scalar_of t ≡ Some s → bounded_of t ≡ Some s
+first_fits : (before t : Token) (n : ℕ) (ts : List TokenAtLine) (s : Scalar) → leads_scalar before ≡ true → number_lines before ((t, n) ∷ ts) ≡ [] → scalar_of t ≡ Some s → bounded_of t ≡ Some s
 first_fits before t n ts s leads h e =
     bounded_same t s (ap (λ (b : Bool). b && is_refused t) (sym leads) ∙ (no_hit (leads_scalar before && is_refused t) n (number_lines t ts) h).0) e
 
-at_tokens : (before : Token) (ts us : List Placed) → ts ≡ us → number_lines before ts ≡ [] → number_lines before us ≡ []
+at_tokens : (before : Token) (ts us : List TokenAtLine) → ts ≡ us → number_lines before ts ≡ [] → number_lines before us ≡ []
 at_tokens before ts us e h = ap (number_lines before) (sym e) ∙ h
 
-bounded_more : (ts : List Placed) (ss : List Scalar) (b : List Placed) → Fits ts → ReadsMoreBy scalar_of ts ss b → ReadsMoreBy bounded_of ts ss b × Fits b
+bounded_more : (ts : List TokenAtLine) (ss : List Scalar) (b : List TokenAtLine) → Fits ts → ReadsMoreBy scalar_of ts ss b → ReadsMoreBy bounded_of ts ss b × Fits b
 bounded_more ts [] b fits r = (r, (ListClose, after fits.0 (ListClose, r.0) b (at_tokens fits.0 ts ((ListClose, r.0) ∷ b) r.1 fits.1)))
 bounded_more ts (s ∷ ss) b fits r =
     let one = after fits.0 (Comma, r.0) ((r.2, r.1) ∷ r.3) (at_tokens fits.0 ts ((Comma, r.0) ∷ (r.2, r.1) ∷ r.3) r.4 fits.1) in
     let x = bounded_more r.3 ss b (r.2, after Comma (r.2, r.1) r.3 one) r.6 in
     ((r.0, r.1, r.2, r.3, r.4, first_fits Comma r.2 r.1 r.3 s refl one r.5, x.0), x.1)
 
-bounded_list : (ts : List Placed) (ss : List Scalar) (b : List Placed) → number_lines ListOpen ts ≡ [] → ReadsListBy scalar_of ts ss b → ReadsListBy bounded_of ts ss b × Fits b
+bounded_list : (ts : List TokenAtLine) (ss : List Scalar) (b : List TokenAtLine) → number_lines ListOpen ts ≡ [] → ReadsListBy scalar_of ts ss b → ReadsListBy bounded_of ts ss b × Fits b
 bounded_list ts [] b fits r = (r, (ListClose, after ListOpen (ListClose, r.0) b (at_tokens ListOpen ts ((ListClose, r.0) ∷ b) r.1 fits)))
 bounded_list ts (s ∷ ss) b fits r =
     let one = at_tokens ListOpen ts ((r.1, r.0) ∷ r.2) r.3 fits in
     let x = bounded_more r.2 ss b (r.1, after ListOpen (r.1, r.0) r.2 one) r.5 in
     ((r.0, r.1, r.2, r.3, first_fits ListOpen r.1 r.0 r.2 s refl one r.4, x.0), x.1)
 
-bounded_values : (ts : List Placed) (v : Values) (more : List Placed) → Fits ts → ReadsBy scalar_of ts v more → ReadsBy bounded_of ts v more × Fits more
+bounded_values : (ts : List TokenAtLine) (v : Values) (more : List TokenAtLine) → Fits ts → ReadsBy scalar_of ts v more → ReadsBy bounded_of ts v more × Fits more
 bounded_values ts Nothing more fits r = (r, (fits.0, at_tokens fits.0 ts more r fits.1))
 bounded_values ts (Section k n inner rest) more fits r =
     let one = after fits.0 (Word k, n) ((Open, r.1) ∷ r.3) (at_tokens fits.0 ts ((Word k, n) ∷ (Open, r.1) ∷ r.3) r.5 fits.1) in
@@ -78,5 +78,5 @@ bounded_values ts (Several k n ss rest) more fits r =
     ((r.0, r.1, r.2, r.3, r.4, r.5, x.0, y.0), y.1)
 
 -- a text of the grammar, as the builder reads it
-pub bounded_text : (ts : List Placed) (v : Values) → number_lines Close ts ≡ [] → ReadsBy scalar_of ts v [] → ReadsBy bounded_of ts v []
+pub bounded_text : (ts : List TokenAtLine) (v : Values) → number_lines Close ts ≡ [] → ReadsBy scalar_of ts v [] → ReadsBy bounded_of ts v []
 bounded_text ts v fits r = (bounded_values ts v [] (Close, fits) r).0

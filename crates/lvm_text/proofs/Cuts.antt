@@ -5,7 +5,7 @@ use Rattle.std.specs.List.{list_all}
 use Rattle.std.proofs.lemmas.Bool.{and_parts, eqb-true}
 use Rattle.std.proofs.lemmas.Bool.Decides.{nat_tests}
 use Rattle.std.proofs.lemmas.Option.{same_Some}
-use Rattle.lvm_text.specs.Token.{Token, Word, Text, Open, Close, ListOpen, ListClose, Equals, Comma, Placed}
+use Rattle.lvm_text.specs.Token.{Token, Word, Text, Open, Close, ListOpen, ListClose, Equals, Comma, TokenAtLine}
 use Rattle.lvm_text.specs.Spelling.{Element, White, Comment, Lexeme, spelling, token_spelling, IsWord, IsToken, IsElement, Begins, Cut, is_white, is_line, is_word_byte, is_end, line_after, tokens_from, put_token, newlines, Spells, IsBadToken}
 use Rattle.lvm_text.specs.Scan.{line_length, word_length, raw_length, sign_of, element_at}
 use Rattle.lvm_text.proofs.Cases.{cond_elim, mapped}
@@ -154,18 +154,18 @@ bad_none bs bad = found_none bs (element_at bs) (element_found bs) bad
 pub none_bad : (bs : List ℕ) → element_at bs ≡ None → (p : Element) (after : List ℕ) → ¬ (Begins bs p after)
 none_bad bs none p after h = both (element_at bs) p after (element_again bs p after h) none
 
-spelled_up : {text : List ℕ} {ts : List Placed} (h : Spells text ts) → CutUp text h.elements h.rest
+spelled_up : {text : List ℕ} {ts : List TokenAtLine} (h : Spells text ts) → CutUp text h.elements h.rest
 spelled_up h = record { cut = h.cut; over = end_none h.rest h.end }
 
 bad_up : {text : List ℕ} {n : ℕ} (h : IsBadToken text n) → CutUp text h.elements h.rest
 bad_up h = record { cut = h.cut; over = bad_none h.rest h.bad }
 
 -- a text spells one list of tokens
-pub one_spelling : (text : List ℕ) (ts us : List Placed) → Spells text ts → Spells text us → ts ≡ us
+pub one_spelling : (text : List ℕ) (ts us : List TokenAtLine) → Spells text ts → Spells text us → ts ≡ us
 one_spelling text ts us h k = h.tokens ∙ ap (tokens_from 1) (one_cut text h.elements k.elements h.rest k.rest (spelled_up h) (spelled_up k)).0 ∙ sym k.tokens
 
 -- a text that spells tokens has no bad one
-pub spelled_no_bad : (text : List ℕ) (ts : List Placed) (n : ℕ) → Spells text ts → IsBadToken text n → ⊥
+pub spelled_no_bad : (text : List ℕ) (ts : List TokenAtLine) (n : ℕ) → Spells text ts → IsBadToken text n → ⊥
 spelled_no_bad text ts n h k =
     let same = one_cut text h.elements k.elements h.rest k.rest (spelled_up h) (bad_up k) in
     let wrong : true ≡ false = sym h.end ∙ ap is_end same.1 ∙ k.more in
@@ -185,7 +185,7 @@ pub line_more : (n : ℕ) (ps : List Element) (p : Element) → line_after n (ps
 line_more n [] p = refl
 line_more n (q ∷ ps) p = line_more (n + newlines (spelling q)) ps p
 
-put_more : (p : Element) (n : ℕ) (xs ys : List Placed) → put_token p n (xs ++ ys) ≡ put_token p n xs ++ ys
+put_more : (p : Element) (n : ℕ) (xs ys : List TokenAtLine) → put_token p n (xs ++ ys) ≡ put_token p n xs ++ ys
 put_more (White b) n xs ys = refl
 put_more (Comment c) n xs ys = refl
 put_more (Lexeme t) n xs ys = refl
@@ -196,7 +196,7 @@ tokens_more n (q ∷ ps) p =
     ap (put_token q n) (tokens_more (n + newlines (spelling q)) ps p) ∙ put_more q n (tokens_from (n + newlines (spelling q)) ps) (put_token p (line_after (n + newlines (spelling q)) ps) [])
 
 -- the text so far: these tokens, and this line
-pub record Before (text : List ℕ) (line : ℕ) (tokens : List Placed) (rest : List ℕ) : Type 0 where
+pub record Before (text : List ℕ) (line : ℕ) (tokens : List TokenAtLine) (rest : List ℕ) : Type 0 where
   pub elements : List Element
   pub cut : Cut text elements rest
   pub at : line ≡ line_after 1 elements
@@ -205,7 +205,7 @@ pub record Before (text : List ℕ) (line : ℕ) (tokens : List Placed) (rest : 
 pub before_all : (text : List ℕ) → Before text 1 [] text
 before_all text = record { elements = []; cut = refl; at = refl; cut_tokens = refl }
 
-pub before_more : (text : List ℕ) (line : ℕ) (tokens : List Placed) (rest : List ℕ) (p : Element) (after : List ℕ) → Before text line tokens rest → Begins rest p after
+pub before_more : (text : List ℕ) (line : ℕ) (tokens : List TokenAtLine) (rest : List ℕ) (p : Element) (after : List ℕ) → Before text line tokens rest → Begins rest p after
     → Before text (line + newlines (spelling p)) (tokens ++ put_token p line []) after
 before_more text line tokens rest p after h b = record {
   elements = h.elements ++ p ∷ [];
@@ -214,8 +214,8 @@ before_more text line tokens rest p after h b = record {
   cut_tokens = rw (h.cut_tokens, h.at) (sym (tokens_more 1 h.elements p));
 }
 
-pub spells_whole : (text : List ℕ) (line : ℕ) (tokens : List Placed) (rest : List ℕ) → Before text line tokens rest → is_end rest ≡ true → Spells text tokens
+pub spells_whole : (text : List ℕ) (line : ℕ) (tokens : List TokenAtLine) (rest : List ℕ) → Before text line tokens rest → is_end rest ≡ true → Spells text tokens
 spells_whole text line tokens rest h e = record { elements = h.elements; rest = rest; cut = h.cut; end = e; tokens = h.cut_tokens }
 
-pub bad_here : (text : List ℕ) (line : ℕ) (tokens : List Placed) (rest : List ℕ) → Before text line tokens rest → is_end rest ≡ false → element_at rest ≡ None → IsBadToken text line
+pub bad_here : (text : List ℕ) (line : ℕ) (tokens : List TokenAtLine) (rest : List ℕ) → Before text line tokens rest → is_end rest ≡ false → element_at rest ≡ None → IsBadToken text line
 bad_here text line tokens rest h e none = record { elements = h.elements; rest = rest; cut = h.cut; more = e; bad = none_bad rest none; at = h.at }

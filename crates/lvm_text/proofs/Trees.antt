@@ -1,7 +1,7 @@
 -- From the tree of tokens to what the text says.
 use Rattle.std.proofs.Common.{◌≡◌, ◌≢◌, ℕ, List, [], ◌∷◌, Option, Some, None, refl, sym, ap, subst, ◌∙◌}
 use Rattle.std.specs.Prelude.{Result, Ok, Err, IfOk, IfErr}
-use Rattle.lvm_text.specs.Token.{Close, Placed}
+use Rattle.lvm_text.specs.Token.{Close, TokenAtLine}
 use Rattle.lvm_text.specs.Tree.{Values, Tree}
 use Rattle.lvm_text.specs.Spelling.{Spells}
 use Rattle.lvm_text.specs.Grammar.{IsText}
@@ -31,11 +31,11 @@ first_later : (f : ℕ → TextFault) (ns : List ℕ) (rest : Option TextFault) 
 first_later f [] rest g h = h
 first_later f (n ∷ ns) rest g h = g n
 
-fault_later : (ts : List Placed) (v : Values) → Later (fault_of ts v)
+fault_later : (ts : List TokenAtLine) (v : Values) → Later (fault_of ts v)
 fault_later ts v =
     first_later (λ l. fault.Deep l) (deep_lines 0 ts) _ (λ n. tt) (first_later (λ l. fault.Number l) (number_lines Close ts) _ (λ n. tt) (first_later (λ l. fault.KeyTwice l) (twice_lines [] v) None (λ n. tt) tt))
 
-accepted_by : (text : List ℕ) (ts : List Placed) (v : Values) (r : Result Tree TextFault) → Spells text ts → IsText ts v → TreeOf ts v r → IfOk r (Describes text)
+accepted_by : (text : List ℕ) (ts : List TokenAtLine) (v : Values) (r : Result Tree TextFault) → Spells text ts → IsText ts v → TreeOf ts v r → IfOk r (Describes text)
 accepted_by text ts v (Ok t) s h o = record {
   tokens = ts;
   spelled = s;
@@ -45,7 +45,7 @@ accepted_by text ts v (Ok t) s h o = record {
 }
 accepted_by text ts v (Err f) s h o = tt
 
-pub fault_here : (text : List ℕ) (ts : List Placed) (v : Values) (f : TextFault) → Spells text ts → IsText ts v → fault_of ts v ≡ Some f → HasFault text f
+pub fault_here : (text : List ℕ) (ts : List TokenAtLine) (v : Values) (f : TextFault) → Spells text ts → IsText ts v → fault_of ts v ≡ Some f → HasFault text f
 fault_here text ts v (fault.Token n) s h o = absurd (subst Later o (fault_later ts v))
 fault_here text ts v (fault.Syntax n) s h o = absurd (subst Later o (fault_later ts v))
 fault_here text ts v (fault.Deep n) s h o = record { tokens = ts; values = v; spelled = s; grammar = h; hit = o }
@@ -53,7 +53,7 @@ fault_here text ts v (fault.Number n) s h o = record { tokens = ts; values = v; 
 fault_here text ts v (fault.KeyTwice n) s h o = record { tokens = ts; values = v; spelled = s; grammar = h; hit = o }
 fault_here text ts v fault.Memory s h o = absurd (subst Later o (fault_later ts v))
 
-fault_by : (text : List ℕ) (ts : List Placed) (v : Values) (r : Result Tree TextFault) → Spells text ts → IsText ts v → TreeOf ts v r → IfErr r (λ f. f ≢ fault.Memory → HasFault text f)
+fault_by : (text : List ℕ) (ts : List TokenAtLine) (v : Values) (r : Result Tree TextFault) → Spells text ts → IsText ts v → TreeOf ts v r → IfErr r (λ f. f ≢ fault.Memory → HasFault text f)
 fault_by text ts v (Ok t) s h o = tt
 fault_by text ts v (Err (fault.Token n)) s h o = λ ne. fault_here text ts v (fault.Token n) s h o
 fault_by text ts v (Err (fault.Syntax n)) s h o = λ ne. fault_here text ts v (fault.Syntax n) s h o
@@ -73,12 +73,12 @@ first_head [] n fault e = absurd cc
 first_head (m ∷ ns) n fault e = ap (λ (l : ℕ). Some (fault l)) (same_Some _ _ e)
 
 -- the fault of keys, where no other check hits
-fault_twice : (ts : List Placed) (v : Values) → None ≡ head_line (deep_lines 0 ts) → None ≡ head_line (number_lines Close ts) → fault_of ts v ≡ first_line (λ n. fault.KeyTwice n) (twice_lines [] v) None
+fault_twice : (ts : List TokenAtLine) (v : Values) → None ≡ head_line (deep_lines 0 ts) → None ≡ head_line (number_lines Close ts) → fault_of ts v ≡ first_line (λ n. fault.KeyTwice n) (twice_lines [] v) None
 fault_twice ts v deep number =
     ap (λ (ns : List ℕ). first_line (λ l. fault.Deep l) ns (first_line (λ l. fault.Number l) (number_lines Close ts) (first_line (λ l. fault.KeyTwice l) (twice_lines [] v) None))) (no_head (deep_lines 0 ts) deep)
     ∙ ap (λ (ns : List ℕ). first_line (λ l. fault.Number l) ns (first_line (λ l. fault.KeyTwice l) (twice_lines [] v) None)) (no_head (number_lines Close ts) number)
 
-pub tree_twice : (ts : List Placed) (f : TextFault) → None ≡ head_line (deep_lines 0 ts) → None ≡ head_line (number_lines Close ts) → IsTwice ts f → (v : Values) → IsText ts v → TreeOf ts v (Err f)
+pub tree_twice : (ts : List TokenAtLine) (f : TextFault) → None ≡ head_line (deep_lines 0 ts) → None ≡ head_line (number_lines Close ts) → IsTwice ts f → (v : Values) → IsText ts v → TreeOf ts v (Err f)
 tree_twice ts (fault.KeyTwice n) deep number twice v h =
     fault_twice ts v deep number ∙ first_head (twice_lines [] v) n (λ l. fault.KeyTwice l) (twice v [] (bounded_text ts v (no_head (number_lines Close ts) number) h) refl)
 tree_twice ts fault.Memory deep number twice v h = tt
@@ -87,15 +87,15 @@ tree_twice ts (fault.Syntax n) deep number twice v h = absurd twice
 tree_twice ts (fault.Deep n) deep number twice v h = absurd twice
 tree_twice ts (fault.Number n) deep number twice v h = absurd twice
 
-pub tree_read : (ts rest : List Placed) (t : Tree) → None ≡ head_line (deep_lines 0 ts) → None ≡ head_line (number_lines Close ts) → t.line ≡ 1 → twice_lines [] t.values ≡ [] → ReadsValues ts t.values rest → (v : Values) → IsText ts v → TreeOf ts v (Ok t)
+pub tree_read : (ts rest : List TokenAtLine) (t : Tree) → None ≡ head_line (deep_lines 0 ts) → None ≡ head_line (number_lines Close ts) → t.line ≡ 1 → twice_lines [] t.values ≡ [] → ReadsValues ts t.values rest → (v : Values) → IsText ts v → TreeOf ts v (Ok t)
 tree_read ts rest t deep number line differ read v h =
     let same : v ≡ t.values = (read v [] (bounded_text ts v (no_head (number_lines Close ts) number) h) refl).0 in (
       ap (λ (n : ℕ). let u : Tree = record { line = n; values = t.values } in u) line ∙ ap (λ (w : Values). let u : Tree = record { line = 1; values = w } in u) (sym same),
       fault_twice ts v deep number ∙ ap (λ (ns : List ℕ). first_line (λ l. fault.KeyTwice l) ns None) (ap (twice_lines []) same ∙ differ),
     )
 
-pub tree_accepted : (text : List ℕ) (ts : List Placed) (r : Result Tree TextFault) → Spells text ts → run 0 at.Key ts ≡ Some (0, at.Key) → ((v : Values) → IsText ts v → TreeOf ts v r) → IfOk r (Describes text)
+pub tree_accepted : (text : List ℕ) (ts : List TokenAtLine) (r : Result Tree TextFault) → Spells text ts → run 0 at.Key ts ≡ Some (0, at.Key) → ((v : Values) → IsText ts v → TreeOf ts v r) → IfOk r (Describes text)
 tree_accepted text ts r s e h = let t = text_from ts e in accepted_by text ts t.0 r s t.1 (h t.0 t.1)
 
-pub tree_fault : (text : List ℕ) (ts : List Placed) (r : Result Tree TextFault) → Spells text ts → run 0 at.Key ts ≡ Some (0, at.Key) → ((v : Values) → IsText ts v → TreeOf ts v r) → IfErr r (λ f. f ≢ fault.Memory → HasFault text f)
+pub tree_fault : (text : List ℕ) (ts : List TokenAtLine) (r : Result Tree TextFault) → Spells text ts → run 0 at.Key ts ≡ Some (0, at.Key) → ((v : Values) → IsText ts v → TreeOf ts v r) → IfErr r (λ f. f ≢ fault.Memory → HasFault text f)
 tree_fault text ts r s e h = let t = text_from ts e in fault_by text ts t.0 r s t.1 (h t.0 t.1)

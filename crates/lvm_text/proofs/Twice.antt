@@ -1,7 +1,7 @@
 -- Keys that stand twice: those of the entries read so far, and the first that a new key hits.
 use Rattle.std.proofs.Common.{◌≡◌, ℕ, ◌+◌, Bool, true, false, cond, ◌||◌, List, [], ◌∷◌, ◌++◌, Option, Some, refl, sym, ap, subst, ◌∙◌, append_assoc}
 use Rattle.std.specs.Prelude.{bytes_eq, is_some}
-use Rattle.lvm_text.specs.Token.{Word, Open, Equals, ListOpen, Placed}
+use Rattle.lvm_text.specs.Token.{Word, Open, Equals, ListOpen, TokenAtLine}
 use Rattle.lvm_text.specs.Tree.{Values, Nothing, Section, Single, Several}
 use Rattle.lvm_text.specs.Grammar.{ReadsBy}
 use Rattle.lvm_text.specs.Checks.{head_line, hit, has_key, twice_lines}
@@ -84,7 +84,7 @@ differ_push es e h new inside =
 head_hit : (k key : List ℕ) (n line : ℕ) (ks : List (List ℕ)) (later : List ℕ) → k ≡ key → line ≡ n → has_key key ks ≡ true → head_line (hit (has_key k ks) n later) ≡ Some line
 head_hit k key n line ks later same at has = rw (same, sym at) (rw has refl)
 
-key_here : (key : List ℕ) (line : ℕ) (tokens : List Placed) (ks : List (List ℕ)) (left : Values) (more : List Placed) → has_key key ks ≡ true → ReadsBy bounded_of ((Word key, line) ∷ tokens) left more → begins_key more ≡ false → head_line (twice_lines ks left) ≡ Some line
+key_here : (key : List ℕ) (line : ℕ) (tokens : List TokenAtLine) (ks : List (List ℕ)) (left : Values) (more : List TokenAtLine) → has_key key ks ≡ true → ReadsBy bounded_of ((Word key, line) ∷ tokens) left more → begins_key more ≡ false → head_line (twice_lines ks left) ≡ Some line
 key_here key line tokens ks Nothing more has r stop = absurd (no_values key line tokens more r stop)
 key_here key line tokens ks (Section q n inner later) more has r stop =
     let s = same_key key q line n tokens ((Open, r.1) ∷ r.3) r.5 in
@@ -96,13 +96,13 @@ key_here key line tokens ks (Several q n xs later) more has r stop =
     let s = same_key key q line n tokens ((Equals, r.1) ∷ (ListOpen, r.2) ∷ r.3) r.5 in
     head_hit q key n line ks (twice_lines (q ∷ ks) later) (sym s.key) s.at has
 
-pub key_twice : (start : List Placed) (es : List Entry) (rest tokens : List Placed) (key : List ℕ) (line : ℕ) → ValuesSoFar start es rest → rest ≡ (Word key, line) ∷ tokens → twice_lines [] (values_of es) ≡ [] → true ≡ is_some (place_of key 0 es)
+pub key_twice : (start : List TokenAtLine) (es : List Entry) (rest tokens : List TokenAtLine) (key : List ℕ) (line : ℕ) → ValuesSoFar start es rest → rest ≡ (Word key, line) ∷ tokens → twice_lines [] (values_of es) ≡ [] → true ≡ is_some (place_of key 0 es)
     → IsTwice start (fault.KeyTwice line)
 key_twice start es rest tokens key line so_far same differ has = λ v more r stop.
     let x = so_far v more r stop in
     ap (λ (w : Values). head_line (twice_lines [] w)) x.1
     ∙ ap head_line (twice_left es x.0 differ)
-    ∙ key_here key line tokens (keys_after es []) x.0 more (has_placed es key true has) (subst (λ (ts : List Placed). ReadsBy bounded_of ts x.0 more) same x.2) stop
+    ∙ key_here key line tokens (keys_after es []) x.0 more (has_placed es key true has) (subst (λ (ts : List TokenAtLine). ReadsBy bounded_of ts x.0 more) same x.2) stop
 
 head_first : (xs ys : List ℕ) (n : ℕ) → head_line xs ≡ Some n → head_line (xs ++ ys) ≡ Some n
 head_first [] ys n e = absurd cc
@@ -112,11 +112,11 @@ hit_later : (b : Bool) (n line : ℕ) (inside later : List ℕ) → b ≡ false 
 hit_later b n line inside later new e = rw new (head_first inside later n e)
 
 -- a key that stands twice inside the section read last
-pub twice_inside : (start : List Placed) (es : List Entry) (rest tokens : List Placed) (key : List ℕ) (line : ℕ) (f : TextFault) → ValuesSoFar start es rest → rest ≡ (Word key, line) ∷ tokens → twice_lines [] (values_of es) ≡ [] → false ≡ is_some (place_of key 0 es)
+pub twice_inside : (start : List TokenAtLine) (es : List Entry) (rest tokens : List TokenAtLine) (key : List ℕ) (line : ℕ) (f : TextFault) → ValuesSoFar start es rest → rest ≡ (Word key, line) ∷ tokens → twice_lines [] (values_of es) ≡ [] → false ≡ is_some (place_of key 0 es)
     → IsTwiceInside line tokens f → IsTwice start f
 twice_inside start es rest tokens key line (fault.KeyTwice n) so_far same differ new inside = λ v more r stop.
     let x = so_far v more r stop in
-    let y = inside key x.0 more (subst (λ (ts : List Placed). ReadsBy bounded_of ts x.0 more) same x.2) stop in
+    let y = inside key x.0 more (subst (λ (ts : List TokenAtLine). ReadsBy bounded_of ts x.0 more) same x.2) stop in
     ap (λ (w : Values). head_line (twice_lines [] w)) x.1
     ∙ ap head_line (twice_left es x.0 differ)
     ∙ ap (λ (w : Values). head_line (twice_lines (keys_after es []) w)) y.2
@@ -128,7 +128,7 @@ twice_inside start es rest tokens key line (fault.Deep n) so_far same differ new
 twice_inside start es rest tokens key line (fault.Number n) so_far same differ new inside = absurd inside
 
 -- a key that stands twice inside the section that opens here
-pub twice_opened : (line : ℕ) (tokens : List Placed) (first : Placed) (inner : List Placed) (f : TextFault) → tokens ≡ first ∷ inner → is_open first.0 ≡ true → IsTwice inner f → IsTwiceInside line tokens f
+pub twice_opened : (line : ℕ) (tokens : List TokenAtLine) (first : TokenAtLine) (inner : List TokenAtLine) (f : TextFault) → tokens ≡ first ∷ inner → is_open first.0 ≡ true → IsTwice inner f → IsTwiceInside line tokens f
 twice_opened line tokens first inner (fault.KeyTwice n) e o twice = λ k v more r stop.
     let x = opened line tokens first inner e o k v more r stop in
     (x.inside, x.later, x.is, twice x.inside x.more x.read x.stop)

@@ -3,7 +3,7 @@ use Rattle.std.proofs.Common.{◌≡◌, ◌≢◌, ℕ, ◌+◌, true, false, L
 use Rattle.std.specs.Prelude.{Result, Ok, Err, IfOk, IfErr}
 use Rattle.std.proofs.lemmas.Option.{same_Some}
 use Rattle.std.proofs.lemmas.List.{append-nil}
-use Rattle.lvm_text.specs.Token.{Token, Word, Open, Close, ListOpen, ListClose, Equals, Comma, Placed}
+use Rattle.lvm_text.specs.Token.{Token, Word, Open, Close, ListOpen, ListClose, Equals, Comma, TokenAtLine}
 use Rattle.lvm_text.specs.Tree.{Scalar, Values, Nothing, Section, Single, Several, Tree}
 use Rattle.lvm_text.specs.Grammar.{scalar_of, ReadsList, ReadsMore, Reads, IsText, BeginsText, IsBreak, IsSyntaxLine}
 use Rattle.lvm_text.specs.Build.{begins_key}
@@ -18,48 +18,48 @@ use Rattle.lvm_text.proofs.Building.{SameKey, same_key, list_same}
 -- One tree
 
 -- the same scalars, and the same rest
-abbrev One : {X : Type 0} → X → X → List Placed → List Placed → Type 0
+abbrev One : {X : Type 0} → X → X → List TokenAtLine → List TokenAtLine → Type 0
 One v w m n = (v ≡ w) × (m ≡ n)
 
-token_same : (t u : Token) (m n : ℕ) (ts us : List Placed) → ◌≡◌ {A = List Placed} ((t, m) ∷ ts) ((u, n) ∷ us) → (t ≡ u) × (ts ≡ us)
-token_same t u m n ts us e = let x = list_same (t, m) (u, n) ts us e in (ap (λ (p : Placed). p.0) x.0, x.1)
+token_same : (t u : Token) (m n : ℕ) (ts us : List TokenAtLine) → ◌≡◌ {A = List TokenAtLine} ((t, m) ∷ ts) ((u, n) ∷ us) → (t ≡ u) × (ts ≡ us)
+token_same t u m n ts us e = let x = list_same (t, m) (u, n) ts us e in (ap (λ (p : TokenAtLine). p.0) x.0, x.1)
 
 scalar_same : (t u : Token) (s x : Scalar) → t ≡ u → scalar_of t ≡ Some s → scalar_of u ≡ Some x → s ≡ x
 scalar_same t u s x e p q = same_Some s x (sym p ∙ ap scalar_of e ∙ q)
 
-more_one : (ss xs : List Scalar) (ts m n : List Placed) → ReadsMore ts ss m → ReadsMore ts xs n → One ss xs m n
+more_one : (ss xs : List Scalar) (ts m n : List TokenAtLine) → ReadsMore ts ss m → ReadsMore ts xs n → One ss xs m n
 more_one [] [] ts m n h k = (refl, (token_same ListClose ListClose h.0 k.0 m n (sym h.1 ∙ k.1)).1)
 more_one [] (x ∷ xs) ts m n h k = let wrong : ListClose ≡ Comma = (token_same ListClose Comma h.0 k.0 m ((k.2, k.1) ∷ k.3) (sym h.1 ∙ k.4)).0 in absurd cc
 more_one (s ∷ ss) [] ts m n h k = let wrong : Comma ≡ ListClose = (token_same Comma ListClose h.0 k.0 ((h.2, h.1) ∷ h.3) n (sym h.4 ∙ k.1)).0 in absurd cc
 more_one (s ∷ ss) (x ∷ xs) ts m n h k =
     let a = token_same Comma Comma h.0 k.0 ((h.2, h.1) ∷ h.3) ((k.2, k.1) ∷ k.3) (sym h.4 ∙ k.4) in
     let b = token_same h.2 k.2 h.1 k.1 h.3 k.3 a.1 in
-    let rest = more_one ss xs h.3 m n h.6 (subst (λ (us : List Placed). ReadsMore us xs n) (sym b.1) k.6) in
+    let rest = more_one ss xs h.3 m n h.6 (subst (λ (us : List TokenAtLine). ReadsMore us xs n) (sym b.1) k.6) in
     (ap (λ (y : Scalar). y ∷ ss) (scalar_same h.2 k.2 s x b.0 h.5 k.5) ∙ ap (λ (ys : List Scalar). x ∷ ys) rest.0, rest.1)
 
 no_close : (t : Token) (s : Scalar) → t ≡ ListClose → scalar_of t ≡ Some s → ⊥
 no_close t s e p = let wrong : None ≡ Some s = sym (ap scalar_of e) ∙ p in cc
 
-list_one : (ss xs : List Scalar) (ts m n : List Placed) → ReadsList ts ss m → ReadsList ts xs n → One ss xs m n
+list_one : (ss xs : List Scalar) (ts m n : List TokenAtLine) → ReadsList ts ss m → ReadsList ts xs n → One ss xs m n
 list_one [] [] ts m n h k = (refl, (token_same ListClose ListClose h.0 k.0 m n (sym h.1 ∙ k.1)).1)
 list_one [] (x ∷ xs) ts m n h k = absurd (no_close k.1 x (token_same k.1 ListClose k.0 h.0 k.2 m (sym k.3 ∙ h.1)).0 k.4)
 list_one (s ∷ ss) [] ts m n h k = absurd (no_close h.1 s (token_same h.1 ListClose h.0 k.0 h.2 n (sym h.3 ∙ k.1)).0 h.4)
 list_one (s ∷ ss) (x ∷ xs) ts m n h k =
     let b = token_same h.1 k.1 h.0 k.0 h.2 k.2 (sym h.3 ∙ k.3) in
-    let rest = more_one ss xs h.2 m n h.5 (subst (λ (us : List Placed). ReadsMore us xs n) (sym b.1) k.5) in
+    let rest = more_one ss xs h.2 m n h.5 (subst (λ (us : List TokenAtLine). ReadsMore us xs n) (sym b.1) k.5) in
     (ap (λ (y : Scalar). y ∷ ss) (scalar_same h.1 k.1 s x b.0 h.4 k.4) ∙ ap (λ (ys : List Scalar). x ∷ ys) rest.0, rest.1)
 
 -- a key stands where no values are left
-key_left : (k : List ℕ) (n : ℕ) (ts us more : List Placed) → ts ≡ more → ts ≡ (Word k, n) ∷ us → begins_key more ≡ false → ⊥
+key_left : (k : List ℕ) (n : ℕ) (ts us more : List TokenAtLine) → ts ≡ more → ts ≡ (Word k, n) ∷ us → begins_key more ≡ false → ⊥
 key_left k n ts us more e h stop = let wrong : true ≡ false = sym (ap begins_key h) ∙ ap begins_key e ∙ stop in cc
 
-second : (k q : List ℕ) (n l : ℕ) (t u : Token) (i j : ℕ) (ts us : List Placed) → ◌≡◌ {A = List Placed} ((Word k, n) ∷ (t, i) ∷ ts) ((Word q, l) ∷ (u, j) ∷ us) → (SameKey k q n l ((t, i) ∷ ts) ((u, j) ∷ us)) × (t ≡ u) × (ts ≡ us)
+second : (k q : List ℕ) (n l : ℕ) (t u : Token) (i j : ℕ) (ts us : List TokenAtLine) → ◌≡◌ {A = List TokenAtLine} ((Word k, n) ∷ (t, i) ∷ ts) ((Word q, l) ∷ (u, j) ∷ us) → (SameKey k q n l ((t, i) ∷ ts) ((u, j) ∷ us)) × (t ≡ u) × (ts ≡ us)
 second k q n l t u i j ts us e =
     let s = same_key k q n l ((t, i) ∷ ts) ((u, j) ∷ us) e in
     let x = token_same t u i j ts us s.after in
     (s, x.0, x.1)
 
-pub reads_one : (v w : Values) (ts m n : List Placed) → Reads ts v m → Reads ts w n → begins_key m ≡ false → begins_key n ≡ false → One v w m n
+pub reads_one : (v w : Values) (ts m n : List TokenAtLine) → Reads ts v m → Reads ts w n → begins_key m ≡ false → begins_key n ≡ false → One v w m n
 reads_one Nothing Nothing ts m n h k p q = (refl, sym h ∙ k)
 reads_one Nothing (Section a l i r) ts m n h k p q = absurd (key_left a l ts ((Open, k.1) ∷ k.3) m h k.5 p)
 reads_one Nothing (Single a l s r) ts m n h k p q = absurd (key_left a l ts ((Equals, k.1) ∷ (k.3, k.2) ∷ k.4) m h k.5 p)
@@ -69,9 +69,9 @@ reads_one (Single a l s r) Nothing ts m n h k p q = absurd (key_left a l ts ((Eq
 reads_one (Several a l s r) Nothing ts m n h k p q = absurd (key_left a l ts ((Equals, h.1) ∷ (ListOpen, h.2) ∷ h.3) n k h.5 q)
 reads_one (Section a l i r) (Section b j x z) ts m n h k p q =
     let e = second a b l j Open Open h.1 k.1 h.3 k.3 (sym h.5 ∙ k.5) in
-    let inner = reads_one i x h.3 ((Close, h.2) ∷ h.4) ((Close, k.2) ∷ k.4) h.6 (subst (λ (us : List Placed). Reads us x ((Close, k.2) ∷ k.4)) (sym e.2) k.6) refl refl in
+    let inner = reads_one i x h.3 ((Close, h.2) ∷ h.4) ((Close, k.2) ∷ k.4) h.6 (subst (λ (us : List TokenAtLine). Reads us x ((Close, k.2) ∷ k.4)) (sym e.2) k.6) refl refl in
     let after = (token_same Close Close h.2 k.2 h.4 k.4 inner.1).1 in
-    let rest = reads_one r z h.4 m n h.7 (subst (λ (us : List Placed). Reads us z n) (sym after) k.7) p q in
+    let rest = reads_one r z h.4 m n h.7 (subst (λ (us : List TokenAtLine). Reads us z n) (sym after) k.7) p q in
     (ap (λ (c : List ℕ). Section c l i r) e.0.key ∙ ap (λ (c : ℕ). Section b c i r) e.0.at ∙ ap (λ (c : Values). Section b j c r) inner.0 ∙ ap (λ (c : Values). Section b j x c) rest.0, rest.1)
 reads_one (Section a l i r) (Single b j x z) ts m n h k p q =
     let e = second a b l j Open Equals h.1 k.1 h.3 ((k.3, k.2) ∷ k.4) (sym h.5 ∙ k.5) in let wrong : Open ≡ Equals = e.1 in absurd cc
@@ -84,7 +84,7 @@ reads_one (Several a l s r) (Section b j x z) ts m n h k p q =
 reads_one (Single a l s r) (Single b j x z) ts m n h k p q =
     let e = second a b l j Equals Equals h.1 k.1 ((h.3, h.2) ∷ h.4) ((k.3, k.2) ∷ k.4) (sym h.5 ∙ k.5) in
     let t = token_same h.3 k.3 h.2 k.2 h.4 k.4 e.2 in
-    let rest = reads_one r z h.4 m n h.7 (subst (λ (us : List Placed). Reads us z n) (sym t.1) k.7) p q in
+    let rest = reads_one r z h.4 m n h.7 (subst (λ (us : List TokenAtLine). Reads us z n) (sym t.1) k.7) p q in
     (ap (λ (c : List ℕ). Single c l s r) e.0.key ∙ ap (λ (c : ℕ). Single b c s r) e.0.at ∙ ap (λ (c : Scalar). Single b j c r) (scalar_same h.3 k.3 s x t.0 h.6 k.6) ∙ ap (λ (c : Values). Single b j x c) rest.0, rest.1)
 reads_one (Single a l s r) (Several b j x z) ts m n h k p q =
     let e = second a b l j Equals Equals h.1 k.1 ((h.3, h.2) ∷ h.4) ((ListOpen, k.2) ∷ k.3) (sym h.5 ∙ k.5) in
@@ -97,51 +97,51 @@ reads_one (Several a l s r) (Single b j x z) ts m n h k p q =
 reads_one (Several a l s r) (Several b j x z) ts m n h k p q =
     let e = second a b l j Equals Equals h.1 k.1 ((ListOpen, h.2) ∷ h.3) ((ListOpen, k.2) ∷ k.3) (sym h.5 ∙ k.5) in
     let t = token_same ListOpen ListOpen h.2 k.2 h.3 k.3 e.2 in
-    let items = list_one s x h.3 h.4 k.4 h.6 (subst (λ (us : List Placed). ReadsList us x k.4) (sym t.1) k.6) in
-    let rest = reads_one r z h.4 m n h.7 (subst (λ (us : List Placed). Reads us z n) (sym items.1) k.7) p q in
+    let items = list_one s x h.3 h.4 k.4 h.6 (subst (λ (us : List TokenAtLine). ReadsList us x k.4) (sym t.1) k.6) in
+    let rest = reads_one r z h.4 m n h.7 (subst (λ (us : List TokenAtLine). Reads us z n) (sym items.1) k.7) p q in
     (ap (λ (c : List ℕ). Several c l s r) e.0.key ∙ ap (λ (c : ℕ). Several b c s r) e.0.at ∙ ap (λ (c : List Scalar). Several b j c r) items.0 ∙ ap (λ (c : Values). Several b j x c) rest.0, rest.1)
 
-pub one_text : (ts : List Placed) (v w : Values) → IsText ts v → IsText ts w → v ≡ w
+pub one_text : (ts : List TokenAtLine) (v w : Values) → IsText ts v → IsText ts w → v ≡ w
 one_text ts v w h k = (reads_one v w ts [] [] h k refl refl).0
 
 -- One line of a fault of syntax
 
-shorter_front : (xs ys : List Placed) → BeginsText (xs ++ ys) → BeginsText xs
-shorter_front xs ys h = record { more = ys ++ h.more; values = h.values; text = subst (λ (ts : List Placed). IsText ts h.values) (append_assoc xs ys h.more) h.text }
+shorter_front : (xs ys : List TokenAtLine) → BeginsText (xs ++ ys) → BeginsText xs
+shorter_front xs ys h = record { more = ys ++ h.more; values = h.values; text = subst (λ (ts : List TokenAtLine). IsText ts h.values) (append_assoc xs ys h.more) h.text }
 
 -- a break is in no beginning of a text
-no_break : (before : List Placed) (t : Placed) (after ts : List Placed) → ts ≡ before ++ t ∷ after → ¬ (BeginsText (before ++ t ∷ [])) → ¬ (BeginsText ts)
+no_break : (before : List TokenAtLine) (t : TokenAtLine) (after ts : List TokenAtLine) → ts ≡ before ++ t ∷ after → ¬ (BeginsText (before ++ t ∷ [])) → ¬ (BeginsText ts)
 no_break before t after ts e broken h =
     broken (shorter_front (before ++ t ∷ []) after (subst BeginsText (e ∙ sym (append_assoc before (t ∷ []) after)) h))
 
-text_front : (ts : List Placed) (v : Values) → IsText ts v → BeginsText ts
-text_front ts v h = record { more = []; values = v; text = subst (λ (us : List Placed). IsText us v) (sym (append-nil ts)) h }
+text_front : (ts : List TokenAtLine) (v : Values) → IsText ts v → BeginsText ts
+text_front ts v h = record { more = []; values = v; text = subst (λ (us : List TokenAtLine). IsText us v) (sym (append-nil ts)) h }
 
-pub no_syntax : (ts : List Placed) (v : Values) (end n : ℕ) → IsText ts v → IsSyntaxLine ts end n → ⊥
+pub no_syntax : (ts : List TokenAtLine) (v : Values) (end n : ℕ) → IsText ts v → IsSyntaxLine ts end n → ⊥
 no_syntax ts v end n h (inl b) = no_break b.before (b.token, n) b.after ts b.whole b.broken (text_front ts v h)
 no_syntax ts v end n h (inr u) = u.0.unfinished v h
 
 -- two places in a list: one, or one before the other
-abbrev Places : List Placed → Placed → List Placed → Placed → Type 0
-Places b x c y = (x ≡ y) ⊎ (((d : List Placed) × (c ≡ b ++ x ∷ d)) ⊎ ((d : List Placed) × (b ≡ c ++ y ∷ d)))
+abbrev Places : List TokenAtLine → TokenAtLine → List TokenAtLine → TokenAtLine → Type 0
+Places b x c y = (x ≡ y) ⊎ (((d : List TokenAtLine) × (c ≡ b ++ x ∷ d)) ⊎ ((d : List TokenAtLine) × (b ≡ c ++ y ∷ d)))
 
-later : (z w : Placed) (b c : List Placed) (x y : Placed) → z ≡ w → Places b x c y → Places (z ∷ b) x (w ∷ c) y
+later : (z w : TokenAtLine) (b c : List TokenAtLine) (x y : TokenAtLine) → z ≡ w → Places b x c y → Places (z ∷ b) x (w ∷ c) y
 later z w b c x y e (inl h) = inl h
-later z w b c x y e (inr (inl h)) = inr (inl (h.0, ap (λ (p : Placed). p ∷ c) (sym e) ∙ ap (λ (ps : List Placed). z ∷ ps) h.1))
-later z w b c x y e (inr (inr h)) = inr (inr (h.0, ap (λ (p : Placed). p ∷ b) e ∙ ap (λ (ps : List Placed). w ∷ ps) h.1))
+later z w b c x y e (inr (inl h)) = inr (inl (h.0, ap (λ (p : TokenAtLine). p ∷ c) (sym e) ∙ ap (λ (ps : List TokenAtLine). z ∷ ps) h.1))
+later z w b c x y e (inr (inr h)) = inr (inr (h.0, ap (λ (p : TokenAtLine). p ∷ b) e ∙ ap (λ (ps : List TokenAtLine). w ∷ ps) h.1))
 
-places : (b c a d : List Placed) (x y : Placed) → b ++ x ∷ a ≡ c ++ y ∷ d → Places b x c y
+places : (b c a d : List TokenAtLine) (x y : TokenAtLine) → b ++ x ∷ a ≡ c ++ y ∷ d → Places b x c y
 places [] [] a d x y e = inl (list_same x y a d e).0
-places [] (w ∷ c) a d x y e = inr (inl (c, ap (λ (p : Placed). p ∷ c) (sym (list_same x w a (c ++ y ∷ d) e).0)))
-places (z ∷ b) [] a d x y e = inr (inr (b, ap (λ (p : Placed). p ∷ b) (list_same z y (b ++ x ∷ a) d e).0))
+places [] (w ∷ c) a d x y e = inr (inl (c, ap (λ (p : TokenAtLine). p ∷ c) (sym (list_same x w a (c ++ y ∷ d) e).0)))
+places (z ∷ b) [] a d x y e = inr (inr (b, ap (λ (p : TokenAtLine). p ∷ b) (list_same z y (b ++ x ∷ a) d e).0))
 places (z ∷ b) (w ∷ c) a d x y e = let s = list_same z w (b ++ x ∷ a) (c ++ y ∷ d) e in later z w b c x y s.0 (places b c a d x y s.1)
 
-two_breaks : (ts : List Placed) (m n : ℕ) (h : IsBreak ts m) (k : IsBreak ts n) → Places h.before (h.token, m) k.before (k.token, n) → m ≡ n
-two_breaks ts m n h k (inl e) = ap (λ (p : Placed). p.1) e
+two_breaks : (ts : List TokenAtLine) (m n : ℕ) (h : IsBreak ts m) (k : IsBreak ts n) → Places h.before (h.token, m) k.before (k.token, n) → m ≡ n
+two_breaks ts m n h k (inl e) = ap (λ (p : TokenAtLine). p.1) e
 two_breaks ts m n h k (inr (inl p)) = absurd (no_break h.before (h.token, m) p.0 k.before p.1 h.broken k.begun)
 two_breaks ts m n h k (inr (inr p)) = absurd (no_break k.before (k.token, n) p.0 h.before p.1 k.broken h.begun)
 
-pub one_line : (ts : List Placed) (end m n : ℕ) → IsSyntaxLine ts end m → IsSyntaxLine ts end n → m ≡ n
+pub one_line : (ts : List TokenAtLine) (end m n : ℕ) → IsSyntaxLine ts end m → IsSyntaxLine ts end n → m ≡ n
 one_line ts end m n (inl h) (inl k) = two_breaks ts m n h k (places h.before k.before h.after k.after (h.token, m) (k.token, n) (sym h.whole ∙ k.whole))
 one_line ts end m n (inl h) (inr u) = absurd (no_break h.before (h.token, m) h.after ts h.whole h.broken u.0.begun)
 one_line ts end m n (inr u) (inl k) = absurd (no_break k.before (k.token, n) k.after ts k.whole k.broken u.0.begun)
@@ -150,14 +150,14 @@ one_line ts end m n (inr u) (inr w) = u.1 ∙ sym w.1
 -- One answer
 
 -- a text of the grammar, and its values
-record Read (text : List ℕ) (ts : List Placed) (v : Values) : Type 0 where
+record Read (text : List ℕ) (ts : List TokenAtLine) (v : Values) : Type 0 where
   spelled : Spells text ts
   grammar : IsText ts v
 
-values_one : (text : List ℕ) (ts us : List Placed) (v w : Values) → Read text ts v → Read text us w → (ts ≡ us) × (v ≡ w)
+values_one : (text : List ℕ) (ts us : List TokenAtLine) (v w : Values) → Read text ts v → Read text us w → (ts ≡ us) × (v ≡ w)
 values_one text ts us v w h k =
     let same = one_spelling text ts us h.spelled k.spelled in
-    (same, one_text ts v w h.grammar (subst (λ (xs : List Placed). IsText xs w) (sym same) k.grammar))
+    (same, one_text ts v w h.grammar (subst (λ (xs : List TokenAtLine). IsText xs w) (sym same) k.grammar))
 
 described_read : (text : List ℕ) (t : Tree) (h : Describes text t) → Read text h.tokens t.values
 described_read text t h = record { spelled = h.spelled; grammar = h.grammar }
@@ -172,24 +172,24 @@ pub one_tree : (text : List ℕ) (t u : Tree) → Describes text t → Describes
 one_tree text t u h k = tree_same t u (h.top ∙ sym k.top) (values_one text h.tokens k.tokens t.values u.values (described_read text t h) (described_read text u k)).1
 
 -- a text that is no text of the grammar
-syntax_read : (text : List ℕ) (n : ℕ) (ts : List Placed) (v : Values) → IsBadSyntax text n → Read text ts v → ⊥
+syntax_read : (text : List ℕ) (n : ℕ) (ts : List TokenAtLine) (v : Values) → IsBadSyntax text n → Read text ts v → ⊥
 syntax_read text n ts v h k =
-    no_syntax ts v (1 + newlines text) n k.grammar (subst (λ (xs : List Placed). IsSyntaxLine xs (1 + newlines text) n) (one_spelling text h.tokens ts h.spelled k.spelled) h.place)
+    no_syntax ts v (1 + newlines text) n k.grammar (subst (λ (xs : List TokenAtLine). IsSyntaxLine xs (1 + newlines text) n) (one_spelling text h.tokens ts h.spelled k.spelled) h.place)
 
 sound_unsound : (text : List ℕ) (t : Tree) (f : TextFault) → Describes text t → IsUnsound text f → ⊥
 sound_unsound text t f h k =
     let same = values_one text h.tokens k.tokens t.values k.values (described_read text t h) (unsound_read text f k) in
-    let wrong : None ≡ Some f = sym h.sound ∙ ap (λ (ts : List Placed). fault_of ts t.values) same.0 ∙ ap (fault_of k.tokens) same.1 ∙ k.hit in
+    let wrong : None ≡ Some f = sym h.sound ∙ ap (λ (ts : List TokenAtLine). fault_of ts t.values) same.0 ∙ ap (fault_of k.tokens) same.1 ∙ k.hit in
     cc
 
 unsound_one : (text : List ℕ) (f g : TextFault) → IsUnsound text f → IsUnsound text g → f ≡ g
 unsound_one text f g h k =
     let same = values_one text h.tokens k.tokens h.values k.values (unsound_read text f h) (unsound_read text g k) in
-    same_Some f g (sym h.hit ∙ ap (λ (ts : List Placed). fault_of ts h.values) same.0 ∙ ap (fault_of k.tokens) same.1 ∙ k.hit)
+    same_Some f g (sym h.hit ∙ ap (λ (ts : List TokenAtLine). fault_of ts h.values) same.0 ∙ ap (fault_of k.tokens) same.1 ∙ k.hit)
 
 syntax_one : (text : List ℕ) (m n : ℕ) → IsBadSyntax text m → IsBadSyntax text n → m ≡ n
 syntax_one text m n h k =
-    one_line k.tokens (1 + newlines text) m n (subst (λ (xs : List Placed). IsSyntaxLine xs (1 + newlines text) m) (one_spelling text h.tokens k.tokens h.spelled k.spelled) h.place) k.place
+    one_line k.tokens (1 + newlines text) m n (subst (λ (xs : List TokenAtLine). IsSyntaxLine xs (1 + newlines text) m) (one_spelling text h.tokens k.tokens h.spelled k.spelled) h.place) k.place
 
 pub no_fault : (text : List ℕ) (t : Tree) (f : TextFault) → Describes text t → HasFault text f → ⊥
 no_fault text t (fault.Token n) h k = spelled_no_bad text h.tokens n h.spelled k

@@ -1,7 +1,7 @@
 -- Every text says a tree, or has a fault.
 use Rattle.std.proofs.Common.{◌≡◌, ℕ, zero, suc, ◌+◌, ◌<◌, false, List, [], ◌∷◌, ◌++◌, length, Option, Some, None, refl, sym, ap, subst, ◌∙◌, ◌⊎◌, inl, inr, append_assoc, arith}
 use Rattle.std.proofs.lemmas.List.{append-nil}
-use Rattle.lvm_text.specs.Token.{Placed}
+use Rattle.lvm_text.specs.Token.{TokenAtLine}
 use Rattle.lvm_text.specs.Tree.{Values, Tree}
 use Rattle.lvm_text.specs.Spelling.{Element, Spells, IsBadToken, is_end, newlines, spelling, put_token}
 use Rattle.lvm_text.specs.Scan.{element_at}
@@ -22,16 +22,16 @@ use Rattle.lvm_text.proofs.Trees.{fault_here}
 
 -- the text spells tokens, or something in it is none
 abbrev Tokens : List ℕ → Type 0
-Tokens text = ((ts : List Placed) × Spells text ts) ⊎ ((n : ℕ) × IsBadToken text n)
+Tokens text = ((ts : List TokenAtLine) × Spells text ts) ⊎ ((n : ℕ) × IsBadToken text n)
 
-next_element : (text : List ℕ) (line : ℕ) (tokens : List Placed) (rest : List ℕ) (element : Option (Element × List ℕ)) → Before text line tokens rest → is_end rest ≡ false → element ≡ element_at rest
-    → ((l : ℕ) (ts : List Placed) (after : List ℕ) → length after < length rest → Before text l ts after → Tokens text) → Tokens text
+next_element : (text : List ℕ) (line : ℕ) (tokens : List TokenAtLine) (rest : List ℕ) (element : Option (Element × List ℕ)) → Before text line tokens rest → is_end rest ≡ false → element ≡ element_at rest
+    → ((l : ℕ) (ts : List TokenAtLine) (after : List ℕ) → length after < length rest → Before text l ts after → Tokens text) → Tokens text
 next_element text line tokens rest None h e p go = inr (line, bad_here text line tokens rest h e (sym p))
 next_element text line tokens rest (Some q) h e p go =
     let b = begins rest q.0 q.1 p in
     go (line + newlines (spelling q.0)) (tokens ++ put_token q.0 line []) q.1 (shorter rest q.0 q.1 b).0 (before_more text line tokens rest q.0 q.1 h b)
 
-tokens_within : (n : ℕ) (text : List ℕ) (line : ℕ) (tokens : List Placed) (rest : List ℕ) → length rest < n → Before text line tokens rest → Tokens text
+tokens_within : (n : ℕ) (text : List ℕ) (line : ℕ) (tokens : List TokenAtLine) (rest : List ℕ) → length rest < n → Before text line tokens rest → Tokens text
 tokens_within zero text line tokens rest lt h = absurd (omega arith)
 tokens_within (suc n) text line tokens rest lt h =
     elim (bool_is (is_end rest)) [
@@ -42,24 +42,24 @@ tokens_within (suc n) text line tokens rest lt h =
 -- Syntax
 
 -- the tokens are a text, or break at a line
-abbrev Syntax : List Placed → ℕ → Type 0
+abbrev Syntax : List TokenAtLine → ℕ → Type 0
 Syntax ts end = (run 0 at.Key ts ≡ Some done) ⊎ ((n : ℕ) × IsSyntaxLine ts end n)
 
-ended : (ts : List Placed) (end : ℕ) (s : State) → run 0 at.Key ts ≡ Some s → Syntax ts end
+ended : (ts : List TokenAtLine) (end : ℕ) (s : State) → run 0 at.Key ts ≡ Some s → Syntax ts end
 ended ts end s h =
     elim (bool_is (is_over s.0 s.1)) [
       | inl e ↦ inl (h ∙ ap (λ (x : State). Some x) (over s.0 s.1 e))
       | inr e ↦ inr (end, inr (unfinished ts s h (not_over s.0 s.1 e), refl))
     ]
 
-next_token : (before : List Placed) (t : Placed) (ts : List Placed) (end : ℕ) (s : State) (next : Option State) → run 0 at.Key before ≡ Some s → step s.0 s.1 t.0 ≡ next
+next_token : (before : List TokenAtLine) (t : TokenAtLine) (ts : List TokenAtLine) (end : ℕ) (s : State) (next : Option State) → run 0 at.Key before ≡ Some s → step s.0 s.1 t.0 ≡ next
     → ((x : State) → run 0 at.Key (before ++ t ∷ []) ≡ Some x → Syntax ((before ++ t ∷ []) ++ ts) end) → Syntax (before ++ t ∷ ts) end
 next_token before t ts end s None h e go = inr (t.1, inl (broken before ts t.0 t.1 s h e))
 next_token before t ts end s (Some x) h e go =
-    subst (λ (us : List Placed). Syntax us end) (append_assoc before (t ∷ []) ts) (go x (last_run before t s h ∙ rw e refl))
+    subst (λ (us : List TokenAtLine). Syntax us end) (append_assoc before (t ∷ []) ts) (go x (last_run before t s h ∙ rw e refl))
 
-syntax_from : (ts before : List Placed) (end : ℕ) (s : State) → run 0 at.Key before ≡ Some s → Syntax (before ++ ts) end
-syntax_from [] before end s h = subst (λ (us : List Placed). Syntax us end) (sym (append-nil before)) (ended before end s h)
+syntax_from : (ts before : List TokenAtLine) (end : ℕ) (s : State) → run 0 at.Key before ≡ Some s → Syntax (before ++ ts) end
+syntax_from [] before end s h = subst (λ (us : List TokenAtLine). Syntax us end) (sym (append-nil before)) (ended before end s h)
 syntax_from (t ∷ ts) before end s h = next_token before t ts end s (step s.0 s.1 t.0) h refl (λ x e. syntax_from ts (before ++ t ∷ []) end x e)
 
 -- The text
@@ -67,11 +67,11 @@ syntax_from (t ∷ ts) before end s h = next_token before t ts end s (step s.0 s
 abbrev Answer : List ℕ → Type 0
 Answer text = ((t : Tree) × Describes text t) ⊎ ((f : TextFault) × HasFault text f)
 
-checked : (text : List ℕ) (ts : List Placed) (v : Values) (found : Option TextFault) → Spells text ts → IsText ts v → fault_of ts v ≡ found → Answer text
+checked : (text : List ℕ) (ts : List TokenAtLine) (v : Values) (found : Option TextFault) → Spells text ts → IsText ts v → fault_of ts v ≡ found → Answer text
 checked text ts v None s h e = inl (record { line = 1; values = v }, record { tokens = ts; spelled = s; grammar = h; sound = e; top = refl })
 checked text ts v (Some f) s h e = inr (f, fault_here text ts v f s h e)
 
-spelled : (text : List ℕ) (ts : List Placed) → Spells text ts → Answer text
+spelled : (text : List ℕ) (ts : List TokenAtLine) → Spells text ts → Answer text
 spelled text ts s =
     elim (syntax_from ts [] (1 + newlines text) (0, at.Key) refl) [
       | inl e ↦ let t = text_from ts e in checked text ts t.0 (fault_of ts t.0) s t.1 refl

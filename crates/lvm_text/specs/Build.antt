@@ -1,6 +1,6 @@
 -- What the tree's builder reads, from the tokens that are left.
 use Rattle.std.specs.Prelude.{◌≡◌, ℕ, Bool, true, false, List, [], ◌∷◌, Option, Some, None, unwrap_or, option_map, if◌then◌else◌}
-use Rattle.lvm_text.specs.Token.{Token, Word, Text, Open, Comma, ListOpen, Placed}
+use Rattle.lvm_text.specs.Token.{Token, Word, Text, Open, Comma, ListOpen, TokenAtLine}
 use Rattle.lvm_text.specs.Tree as tree
 use Rattle.lvm_text.specs.Tree.{Values, Nothing, Section, Single, Several}
 use Rattle.lvm_text.specs.Grammar.{are_digits, number_of, ReadsListBy, ReadsBy}
@@ -24,7 +24,7 @@ is_word (Word w) = true
 is_word _ = false
 
 -- the first token may be a key
-abbrev pub begins_key : List Placed → Bool
+abbrev pub begins_key : List TokenAtLine → Bool
 begins_key [] = false
 begins_key (t ∷ ts) = is_word t.0
 
@@ -44,50 +44,50 @@ is_list_open ListOpen = true
 is_list_open _ = false
 
 -- the first token as a scalar, and those after it
-abbrev pub scalar_first : List Placed → Option (tree.Scalar × List Placed)
+abbrev pub scalar_first : List TokenAtLine → Option (tree.Scalar × List TokenAtLine)
 scalar_first [] = None
 scalar_first (t ∷ ts) = option_map (λ s. (s, ts)) (bounded_of t.0)
 
 -- a scalar of a list, after a comma if there is one, and what comes after it
-abbrev pub item_of : List Placed → Option (tree.Scalar × List Placed)
+abbrev pub item_of : List TokenAtLine → Option (tree.Scalar × List TokenAtLine)
 item_of [] = None
 item_of (t ∷ ts) = if is_comma t.0 then scalar_first ts else scalar_first (t ∷ ts)
 
 -- after an opening bracket, the tokens are these scalars, and after the closing one the rest
-abbrev pub ReadsScalars : List Placed → List tree.Scalar → List Placed → Type 0
-ReadsScalars tokens scalars rest = (ss : List tree.Scalar) (b : List Placed) → ReadsListBy bounded_of tokens ss b → (ss ≡ scalars) × (b ≡ rest)
+abbrev pub ReadsScalars : List TokenAtLine → List tree.Scalar → List TokenAtLine → Type 0
+ReadsScalars tokens scalars rest = (ss : List tree.Scalar) (b : List TokenAtLine) → ReadsListBy bounded_of tokens ss b → (ss ≡ scalars) × (b ≡ rest)
 
 -- the value shows the scalar, if there is one
 abbrev pub ShowsScalar : Option Scalar → Value → Type 0
 ShowsScalar scalar value = (s : tree.Scalar) → option_map scalar_view scalar ≡ Some s → (k : List ℕ) (n : ℕ) (v : Values) → Single k n s v ≡ put k n value v
 
 -- after an equals sign, the tokens are this value's, and then the rest
-pub record ReadsLeaf (tokens : List Placed) (value : Value) (rest : List Placed) : Type 0 where
-  pub single : (t : Token) (m : ℕ) (s : tree.Scalar) (b : List Placed) → tokens ≡ (t, m) ∷ b → bounded_of t ≡ Some s
+pub record ReadsLeaf (tokens : List TokenAtLine) (value : Value) (rest : List TokenAtLine) : Type 0 where
+  pub single : (t : Token) (m : ℕ) (s : tree.Scalar) (b : List TokenAtLine) → tokens ≡ (t, m) ∷ b → bounded_of t ≡ Some s
       → ((k : List ℕ) (n : ℕ) (v : Values) → Single k n s v ≡ put k n value v) × (b ≡ rest)
-  pub several : (o : ℕ) (a : List Placed) (ss : List tree.Scalar) (b : List Placed) → tokens ≡ (ListOpen, o) ∷ a → ReadsListBy bounded_of a ss b
+  pub several : (o : ℕ) (a : List TokenAtLine) (ss : List tree.Scalar) (b : List TokenAtLine) → tokens ≡ (ListOpen, o) ∷ a → ReadsListBy bounded_of a ss b
       → ((k : List ℕ) (n : ℕ) (v : Values) → Several k n ss v ≡ put k n value v) × (b ≡ rest)
 
 -- after a key of this line, the tokens are the value's, and then those of the values after it
-abbrev pub ReadsValue : ℕ → List Placed → Value → List Placed → Type 0
+abbrev pub ReadsValue : ℕ → List TokenAtLine → Value → List TokenAtLine → Type 0
 ReadsValue line tokens value rest =
-    (k : List ℕ) (v : Values) (more : List Placed) → ReadsBy bounded_of ((Word k, line) ∷ tokens) v more → begins_key more ≡ false
+    (k : List ℕ) (v : Values) (more : List TokenAtLine) → ReadsBy bounded_of ((Word k, line) ∷ tokens) v more → begins_key more ≡ false
     → (later : Values) × (v ≡ put k line value later) × ReadsBy bounded_of rest later more
 
 -- the tokens are these values, and then the rest, which begins with no key
-abbrev pub ReadsValues : List Placed → Values → List Placed → Type 0
-ReadsValues tokens values rest = (v : Values) (more : List Placed) → ReadsBy bounded_of tokens v more → begins_key more ≡ false → (v ≡ values) × (more ≡ rest)
+abbrev pub ReadsValues : List TokenAtLine → Values → List TokenAtLine → Type 0
+ReadsValues tokens values rest = (v : Values) (more : List TokenAtLine) → ReadsBy bounded_of tokens v more → begins_key more ≡ false → (v ≡ values) × (more ≡ rest)
 
 -- the tokens are values of which this is the first fault: a key that an earlier one of its section equals
-abbrev pub IsTwice : List Placed → TextFault → Type 0
-IsTwice tokens (KeyTwice n) = (v : Values) (more : List Placed) → ReadsBy bounded_of tokens v more → begins_key more ≡ false → head_line (twice_lines [] v) ≡ Some n
+abbrev pub IsTwice : List TokenAtLine → TextFault → Type 0
+IsTwice tokens (KeyTwice n) = (v : Values) (more : List TokenAtLine) → ReadsBy bounded_of tokens v more → begins_key more ≡ false → head_line (twice_lines [] v) ≡ Some n
 IsTwice tokens Memory = Unit {0}
 IsTwice tokens _ = ⊥
 
 -- after a key of this line, the tokens are a section, inside which this is the first such fault
-abbrev pub IsTwiceInside : ℕ → List Placed → TextFault → Type 0
+abbrev pub IsTwiceInside : ℕ → List TokenAtLine → TextFault → Type 0
 IsTwiceInside line tokens (KeyTwice n) =
-    (k : List ℕ) (v : Values) (more : List Placed) → ReadsBy bounded_of ((Word k, line) ∷ tokens) v more → begins_key more ≡ false
+    (k : List ℕ) (v : Values) (more : List TokenAtLine) → ReadsBy bounded_of ((Word k, line) ∷ tokens) v more → begins_key more ≡ false
     → (inner later : Values) × (v ≡ Section k line inner later) × (head_line (twice_lines [] inner) ≡ Some n)
 IsTwiceInside line tokens Memory = Unit {0}
 IsTwiceInside line tokens _ = ⊥

@@ -1,7 +1,7 @@
 -- The checks of a text of the grammar: for each the lines where it finds something, in source order.
 use Rattle.std.specs.Prelude.{ℕ, suc, ◌-◌, Bool, true, false, ◌&&◌, nat_lt, List, [], ◌∷◌, ◌++◌, Option, Some, None, is_none, bytes_eq, if◌then◌else◌}
 use Rattle.std.specs.List.{list_any}
-use Rattle.lvm_text.specs.Token.{Token, Word, Open, Close, ListOpen, Equals, Comma, Placed}
+use Rattle.lvm_text.specs.Token.{Token, Word, Open, Close, ListOpen, Equals, Comma, TokenAtLine}
 use Rattle.lvm_text.specs.Tree.{Values, Nothing, Section, Single, Several}
 use Rattle.lvm_text.specs.Grammar.{number_of}
 use Rattle.lvm_text.specs.declared.fault.TextFault.{TextFault}
@@ -28,7 +28,7 @@ opens_deep Open level = nat_lt 15 level
 opens_deep _ level = false
 
 -- the braces that open a level above 16
-abbrev pub deep_lines : ℕ → List Placed → List ℕ
+abbrev pub deep_lines : ℕ → List TokenAtLine → List ℕ
 deep_lines level [] = []
 deep_lines level (t ∷ ts) = hit (opens_deep t.0 level) t.1 (deep_lines (level_after t.0 level) ts)
 
@@ -45,7 +45,7 @@ is_refused (Word w) = is_none (number_of w)
 is_refused _ = false
 
 -- the integers out of range, after this token
-abbrev pub number_lines : Token → List Placed → List ℕ
+abbrev pub number_lines : Token → List TokenAtLine → List ℕ
 number_lines before [] = []
 number_lines before (t ∷ ts) = hit (leads_scalar before && is_refused t.0) t.1 (number_lines t.0 ts)
 
@@ -66,5 +66,5 @@ first_line fault [] later = later
 first_line fault (n ∷ ns) later = Some (fault n)
 
 -- the first check that finds something, at its first line
-abbrev pub fault_of : List Placed → Values → Option TextFault
+abbrev pub fault_of : List TokenAtLine → Values → Option TextFault
 fault_of ts v = first_line (λ n. Deep n) (deep_lines 0 ts) (first_line (λ n. Number n) (number_lines Close ts) (first_line (λ n. KeyTwice n) (twice_lines [] v) None))

@@ -1,15 +1,15 @@
--- The parser's places. That they say which tokens can still become a text is proved, not assumed.
+-- The parser's positions. That they say which tokens can still become a text is proved, not assumed.
 use Rattle.std.specs.Prelude.{ℕ, suc, ◌-◌, Bool, false, ◌==◌, List, [], ◌∷◌, Option, Some, None, is_some, option_and_then, if◌then◌else◌, nat_lt}
-use Rattle.lvm_text.specs.Token.{Token, Word, Open, Close, ListOpen, ListClose, Equals, Comma, Placed}
+use Rattle.lvm_text.specs.Token.{Token, Word, Open, Close, ListOpen, ListClose, Equals, Comma, TokenAtLine}
 use Rattle.lvm_text.specs.Grammar.{scalar_of, is_key}
 use Rattle.lvm_text.specs.declared.syntax.Position.{Position}
 use Rattle.lvm_text.specs.declared.syntax.Position.TheVariants as at
 
--- the open sections, and the place in a value
+-- the open sections, and the position in a value
 abbrev pub State : Type 0
 State = ℕ × Position
 
--- the place after a scalar
+-- the next state, if a token is a scalar
 abbrev pub scalar_then : Token → State → Option State
 scalar_then t next = if is_some (scalar_of t) then Some next else None
 
@@ -31,11 +31,11 @@ step d at.After _ = None
 step d at.Next t = scalar_then t (d, at.After)
 
 -- the state after the tokens, if none of them is refused
-abbrev pub run : ℕ → Position → List Placed → Option State
+abbrev pub run : ℕ → Position → List TokenAtLine → Option State
 run d p [] = Some (d, p)
 run d p (t ∷ ts) = option_and_then (λ s. run s.0 s.1 ts) (step d p t.0)
 
--- a place where a text may end
+-- a position where a text may end
 abbrev pub is_over : ℕ → Position → Bool
 is_over d at.Key = d == 0
 is_over d _ = false

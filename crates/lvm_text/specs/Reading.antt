@@ -1,6 +1,6 @@
 -- What a text says, and the fault of one that says nothing.
 use Rattle.std.specs.Prelude.{◌≡◌, ℕ, ◌+◌, List, Some, None, Result, Ok, Err}
-use Rattle.lvm_text.specs.Token.{Placed}
+use Rattle.lvm_text.specs.Token.{TokenAtLine}
 use Rattle.lvm_text.specs.Tree.{Tree, Values}
 use Rattle.lvm_text.specs.Spelling.{Spells, IsBadToken, newlines}
 use Rattle.lvm_text.specs.Grammar.{IsText, IsSyntaxLine}
@@ -10,7 +10,7 @@ use Rattle.lvm_text.specs.declared.fault.TextFault.TheVariants.{Token, Syntax, D
 
 -- the text says this tree: it spells tokens that are a text of these values, and no check finds anything
 pub record Describes (text : List ℕ) (t : Tree) : Type 0 where
-  pub tokens : List Placed
+  pub tokens : List TokenAtLine
   pub spelled : Spells text tokens
   pub grammar : IsText tokens t.values
   pub sound : fault_of tokens t.values ≡ None
@@ -18,13 +18,13 @@ pub record Describes (text : List ℕ) (t : Tree) : Type 0 where
 
 -- tokens that are no text, at this line
 pub record IsBadSyntax (text : List ℕ) (line : ℕ) : Type 0 where
-  pub tokens : List Placed
+  pub tokens : List TokenAtLine
   pub spelled : Spells text tokens
   pub place : IsSyntaxLine tokens (1 + newlines text) line
 
 -- a text of the grammar, with this fault
 pub record IsUnsound (text : List ℕ) (fault : TextFault) : Type 0 where
-  pub tokens : List Placed
+  pub tokens : List TokenAtLine
   pub values : Values
   pub spelled : Spells text tokens
   pub grammar : IsText tokens values
@@ -51,7 +51,7 @@ Answers (Err Memory) said = Unit {0}
 Answers result said = result ≡ said
 
 -- of tokens that are a text of these values: the tree, or the fault of the first check that finds one
-abbrev pub TreeOf : List Placed → Values → Result Tree TextFault → Type 0
+abbrev pub TreeOf : List TokenAtLine → Values → Result Tree TextFault → Type 0
 TreeOf ts v (Ok t) = (t ≡ record { line = 1; values = v }) × (fault_of ts v ≡ None)
 TreeOf ts v (Err Memory) = Unit {0}
 TreeOf ts v (Err f) = fault_of ts v ≡ Some f

@@ -1,7 +1,7 @@
 -- How a text spells its tokens, with white space and comments between them.
 use Rattle.std.specs.Prelude.{◌≡◌, ◌≢◌, ℕ, ◌+◌, Bool, true, false, ◌&&◌, ◌||◌, not, ◌==◌, nat_le, List, [], ◌∷◌, ◌++◌, suc, if◌then◌else◌}
 use Rattle.std.specs.List.{list_all}
-use Rattle.lvm_text.specs.Token.{Token, Word, Text, Open, Close, ListOpen, ListClose, Equals, Comma, Placed}
+use Rattle.lvm_text.specs.Token.{Token, Word, Text, Open, Close, ListOpen, ListClose, Equals, Comma, TokenAtLine}
 
 -- The bytes
 
@@ -112,18 +112,18 @@ line_after n [] = n
 line_after n (p ∷ ps) = line_after (n + newlines (spelling p)) ps
 
 -- an element's token, before those of later elements
-abbrev pub put_token : Element → ℕ → List Placed → List Placed
+abbrev pub put_token : Element → ℕ → List TokenAtLine → List TokenAtLine
 put_token (Lexeme t) n later = (t, n) ∷ later
 put_token (White b) n later = later
 put_token (Comment c) n later = later
 
 -- the tokens of the elements, each with its line, from line n on
-abbrev pub tokens_from : ℕ → List Element → List Placed
+abbrev pub tokens_from : ℕ → List Element → List TokenAtLine
 tokens_from n [] = []
 tokens_from n (p ∷ ps) = put_token p n (tokens_from (n + newlines (spelling p)) ps)
 
 -- the text spells these tokens
-pub record Spells (text : List ℕ) (ts : List Placed) : Type 0 where
+pub record Spells (text : List ℕ) (ts : List TokenAtLine) : Type 0 where
   pub elements : List Element
   pub rest : List ℕ
   pub cut : Cut text elements rest

@@ -13,5 +13,5 @@ pub data Token : Type 0 where
   Comma : Token
 
 -- a token and the line where it begins
-abbrev pub Placed : Type 0
-Placed = Token × ℕ
+abbrev pub TokenAtLine : Type 0
+TokenAtLine = Token × ℕ

@@ -3,7 +3,7 @@ use Rattle.std.specs.Prelude.{ℕ, List, map, Option, option_map}
 use Rattle.lvm_text.specs.Token as spec
 use Rattle.lvm_text.specs.declared.token.Token.{Token}
 use Rattle.lvm_text.specs.declared.token.Token.TheVariants as token
-use Rattle.lvm_text.specs.declared.token.Placed.{Placed}
+use Rattle.lvm_text.specs.declared.token.TokenAtLine.{TokenAtLine}
 use Rattle.lvm_text.specs.declared.element.Element.{Element}
 use Rattle.lvm_text.specs.declared.element.Element.TheVariants as elements
 use Rattle.lvm_text.specs.Spelling as Spelling
@@ -21,11 +21,11 @@ token_view token.Equals = spec.Equals
 token_view token.Comma = spec.Comma
 
 -- a token and its line
-abbrev pub view : Placed → spec.Placed
+abbrev pub view : TokenAtLine → spec.TokenAtLine
 view t = (token_view t.token, t.line)
 
 -- tokens and their lines
-abbrev pub views : List Placed → List spec.Placed
+abbrev pub views : List TokenAtLine → List spec.TokenAtLine
 views = map view
 
 -- an element

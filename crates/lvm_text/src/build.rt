@@ -14,13 +14,13 @@ ghost use Rattle.lvm_text.specs.Repeat.{inner_lines};
 use crate::fault::TextFault;
 use crate::index::{place_of, put_entry};
 use crate::number::{are_digits, number_of};
-use crate::token::{Placed, Token};
+use crate::token::{Token, TokenAtLine};
 use crate::tree::{Entry, Node, Scalar, Section, Value};
 use std::alloc::{AllocError, Global};
 use std::collections::BTreeMap;
 
 /// The token at a place.
-fn token_at<'a>(tokens: &[Placed<'a>], at: usize) -> Option<Placed<'a>>
+fn token_at<'a>(tokens: &[TokenAtLine<'a>], at: usize) -> Option<TokenAtLine<'a>>
     ensures { MatchOption result (drop at tokens.now ≡ []) (λ t. (drop at tokens.now ≡ t ∷ drop (at + 1) tokens.now) × (at < length tokens.now)) }
 {
     if at < tokens.len() {
@@ -31,7 +31,7 @@ fn token_at<'a>(tokens: &[Placed<'a>], at: usize) -> Option<Placed<'a>>
 }
 
 /// The place after a token, or the end.
-fn behind(tokens: &[Placed<'_>], at: usize) -> usize
+fn place_after(tokens: &[TokenAtLine<'_>], at: usize) -> usize
     requires { at ≤ length tokens.now }
     ensures rest { drop result tokens.now ≡ drop 1 (drop at tokens.now) }
     ensures within { result ≤ length tokens.now }
@@ -41,7 +41,7 @@ fn behind(tokens: &[Placed<'_>], at: usize) -> usize
 }
 
 /// The key at a place, and its line.
-fn key_at<'a>(tokens: &[Placed<'a>], at: usize) -> Option<(&'a str, u64)>
+fn key_at<'a>(tokens: &[TokenAtLine<'a>], at: usize) -> Option<(&'a str, u64)>
     ensures { MatchOption result (begins_key (views (drop at tokens.now)) ≡ false) (λ r. (views (drop at tokens.now) ≡ (spec.Word r.0.now, r.1) ∷ views (drop (at + 1) tokens.now)) × (at < length tokens.now)) }
 {
     let first = token_at(tokens, at)?;
@@ -83,7 +83,7 @@ fn is_list_open(token: Token<'_>) -> bool
 }
 
 /// The place after a comma, if there is one here.
-fn behind_comma(tokens: &[Placed<'_>], at: usize) -> usize
+fn place_after_comma(tokens: &[TokenAtLine<'_>], at: usize) -> usize
     ensures same { item_of (views (drop at tokens.now)) ≡ scalar_first (views (drop result tokens.now)) }
     ensures later { at ≤ result }
 {
@@ -94,11 +94,11 @@ fn behind_comma(tokens: &[Placed<'_>], at: usize) -> usize
 }
 
 /// A scalar of a list, after a comma if there is one, and the place after it.
-fn item_at<'a>(tokens: &[Placed<'a>], at: usize) -> Option<(Scalar<'a>, usize)>
+fn item_at<'a>(tokens: &[TokenAtLine<'a>], at: usize) -> Option<(Scalar<'a>, usize)>
     ensures item { option_map (λ r. (scalar_view r.0, views (drop r.1 tokens.now))) result ≡ item_of (views (drop at tokens.now)) }
     ensures later { IfSome result (λ r. (at < r.1) × (r.1 ≤ length tokens.now)) }
 {
-    let place = behind_comma(tokens, at);
+    let place = place_after_comma(tokens, at);
     let first = token_at(tokens, place)?;
     match scalar_of(first.token) {
         Some(scalar) => Some((scalar, place + 1)),
@@ -122,7 +122,7 @@ fn value_of_scalar(scalar: Option<Scalar<'_>>) -> Value<'_>
 #[derive(Clone, Copy)]
 pub(crate) struct Builder<'t, 'a> {
     pub alloc: Global,
-    pub tokens: &'t [Placed<'a>],
+    pub tokens: &'t [TokenAtLine<'a>],
 }
 
 impl<'t, 'a> Builder<'t, 'a> {
@@ -138,7 +138,7 @@ impl<'t, 'a> Builder<'t, 'a> {
             scalars.push(scalar)?;
             at = after;
         }
-        Ok((scalars, behind(self.tokens, at)))
+        Ok((scalars, place_after(self.tokens, at)))
     }
 
     /// A scalar or a list, from after the equals sign, and the place after it.
@@ -173,7 +173,7 @@ impl<'t, 'a> Builder<'t, 'a> {
         };
         if is_open(first.token) {
             let (section, after) = self.section_at(line, start + 1)?;
-            return Ok((Value::Section(section), behind(self.tokens, after)));
+            return Ok((Value::Section(section), place_after(self.tokens, after)));
         }
         Ok(self.leaf_at(start + 1)?)
     }

@@ -7,7 +7,7 @@ ghost use Rattle.lvm_text.specs.TokenView.{token_view, views};
 ghost use Rattle.lvm_text.specs.Checks.{head_line, level_after, opens_deep, deep_lines, leads_scalar, is_refused, number_lines};
 
 use crate::number::number_of;
-use crate::token::{Placed, Token};
+use crate::token::{Token, TokenAtLine};
 
 /// Whether a token opens a level above 16.
 fn opens_deep(token: Token<'_>, level: u64) -> bool
@@ -32,15 +32,15 @@ fn level_after(token: Token<'_>, level: u64) -> u64
 }
 
 /// The line of the first brace that opens level 17.
-pub(crate) fn deep_line(tokens: &[Placed<'_>]) -> Option<u64>
+pub(crate) fn deep_line(tokens: &[TokenAtLine<'_>]) -> Option<u64>
     ensures { result ≡ head_line (deep_lines 0 (views tokens.now)) }
 {
     let mut level = 0;
-    for placed in tokens {
-        if opens_deep(placed.token, level) {
-            return Some(placed.line);
+    for at_line in tokens {
+        if opens_deep(at_line.token, level) {
+            return Some(at_line.line);
         }
-        level = level_after(placed.token, level);
+        level = level_after(at_line.token, level);
     }
     None
 }
@@ -66,15 +66,15 @@ fn is_refused(token: Token<'_>) -> bool
 }
 
 /// The line of the first integer out of range.
-pub(crate) fn number_line(tokens: &[Placed<'_>]) -> Option<u64>
+pub(crate) fn number_line(tokens: &[TokenAtLine<'_>]) -> Option<u64>
     ensures { result ≡ head_line (number_lines spec.Close (views tokens.now)) }
 {
     let mut before = Token::Close;
-    for placed in tokens {
-        if leads_scalar(before) && is_refused(placed.token) {
-            return Some(placed.line);
+    for at_line in tokens {
+        if leads_scalar(before) && is_refused(at_line.token) {
+            return Some(at_line.line);
         }
-        before = placed.token;
+        before = at_line.token;
     }
     None
 }

@@ -14,7 +14,7 @@ use crate::build::Builder;
 use crate::check::{deep_line, number_line};
 use crate::fault::TextFault;
 use crate::syntax::syntax_line;
-use crate::token::{Placed, tokens_of};
+use crate::token::{TokenAtLine, tokens_of};
 use crate::tree::Section;
 use std::alloc::Global;
 
@@ -32,7 +32,7 @@ pub fn end_line(bytes: &[u8]) -> u64
 }
 
 /// The tree of tokens that are a text, or the fault of the first check that finds one.
-fn tree_of<'a>(alloc: Global, tokens: &[Placed<'a>]) -> Result<Section<'a>, TextFault>
+fn tree_of<'a>(alloc: Global, tokens: &[TokenAtLine<'a>]) -> Result<Section<'a>, TextFault>
     ensures { (v : Values) → IsText (views tokens.now) v → TreeOf (views tokens.now) v result }
 {
     if let Some(line) = deep_line(tokens) {

@@ -1,6 +1,6 @@
-//! The grammar of a text, as the places where a parser may stand.
+//! The grammar of a text, as the positions of a parser in it.
 //! Sections may nest without bound here, so the number of open ones takes the place of a stack. A new form of value
-//! is a place and its steps; the proof then asks how a text can go on from there.
+//! is a position and its steps; the proof then asks how a text can go on from there.
 
 ghost use Rattle.std.specs.Prelude.{◌≡◌, ◌<◌, ◌^◌, Some, is_some, MatchOption};
 ghost use Rattle.lvm_text.specs.Grammar.{scalar_of, is_key, IsSyntaxLine};
@@ -9,9 +9,9 @@ ghost use Rattle.lvm_text.specs.TokenView.{token_view, views};
 ghost use Rattle.lvm_text.specs.declared.syntax.Position.TheVariants.{Key};
 
 use crate::number::are_digits;
-use crate::token::{Placed, Token};
+use crate::token::{Token, TokenAtLine};
 
-/// A place in a value, or between two.
+/// A position in a value, or between two.
 #[derive(Clone, Copy, PartialEq, Eq)]
 enum Position {
     /// Before a key or a closing brace.
@@ -47,12 +47,12 @@ fn is_scalar(token: Token<'_>) -> bool
     }
 }
 
-/// The open sections and the place after a token, if it may stand here.
-fn step(depth: u64, place: Position, token: Token<'_>) -> Option<(u64, Position)>
+/// The open sections and the position after a token, if it may stand here.
+fn step(depth: u64, position: Position, token: Token<'_>) -> Option<(u64, Position)>
     requires { depth < 2 ^ 63 }
-    ensures { result ≡ step depth place (token_view token.entry) }
+    ensures { result ≡ step depth position (token_view token.entry) }
 {
-    match (place, token) {
+    match (position, token) {
         (Position::Key, Token::Word(word)) if is_key(word) => Some((depth, Position::AfterKey)),
         (Position::Key, Token::Close) if depth > 0 => Some((depth - 1, Position::Key)),
         (Position::AfterKey, Token::Open) => Some((depth + 1, Position::Key)),
@@ -67,10 +67,10 @@ fn step(depth: u64, place: Position, token: Token<'_>) -> Option<(u64, Position)
 }
 
 /// Whether a text may end here.
-fn is_over(depth: u64, place: Position) -> bool
-    ensures { result ≡ is_over depth place }
+fn is_over(depth: u64, position: Position) -> bool
+    ensures { result ≡ is_over depth position }
 {
-    match place {
+    match position {
         Position::Key => depth == 0,
         _ => false,
     }
@@ -78,19 +78,19 @@ fn is_over(depth: u64, place: Position) -> bool
 
 /// The line of a fault of syntax, where `end` is that of the end of the text: the line of the first token
 /// that no text has in its place.
-pub(crate) fn syntax_line(tokens: &[Placed<'_>], end: u64) -> Option<u64>
+pub(crate) fn syntax_line(tokens: &[TokenAtLine<'_>], end: u64) -> Option<u64>
     ensures { MatchOption result (run 0 Key (views tokens.now) ≡ Some (0, Key)) (IsSyntaxLine (views tokens.now) end) }
 {
     let mut depth = 0;
-    let mut place = Position::Key;
-    for placed in tokens {
-        let Some((next_depth, next_place)) = step(depth, place, placed.token) else {
-            return Some(placed.line);
+    let mut position = Position::Key;
+    for at_line in tokens {
+        let Some((next_depth, next_position)) = step(depth, position, at_line.token) else {
+            return Some(at_line.line);
         };
         depth = next_depth;
-        place = next_place;
+        position = next_position;
     }
-    if is_over(depth, place) {
+    if is_over(depth, position) {
         None
     } else {
         Some(end)

@@ -27,7 +27,7 @@ pub(crate) enum Token<'a> {
 
 /// A token, and the line where it begins.
 #[derive(Clone, Copy)]
-pub(crate) struct Placed<'a> {
+pub(crate) struct TokenAtLine<'a> {
     pub(crate) token: Token<'a>,
     pub(crate) line: u64,
 }
@@ -46,20 +46,20 @@ fn newlines(element: Element<'_>) -> u64
 
 /// Keeps an element's token, if it has one.
 fn keep<'a>(
-    tokens: &mut Vec<Placed<'a>>,
+    tokens: &mut Vec<TokenAtLine<'a>>,
     element: Element<'a>,
     line: u64,
-) -> Result<(), AllocFailed<Placed<'a>>>
+) -> Result<(), AllocFailed<TokenAtLine<'a>>>
     ensures { OnOk result (views tokens.new.items ≡ views tokens.old.items ++ put_token (element_view element.entry) line []) }
 {
     match element {
-        Element::Lexeme(token) => tokens.push(Placed { token, line }),
+        Element::Lexeme(token) => tokens.push(TokenAtLine { token, line }),
         _ => Ok(()),
     }
 }
 
 /// The tokens of a text, or the line where something begins that is none.
-pub(crate) fn tokens_of(alloc: Global, text: &str) -> Result<Vec<Placed<'_>>, TextFault>
+pub(crate) fn tokens_of(alloc: Global, text: &str) -> Result<Vec<TokenAtLine<'_>>, TextFault>
     ensures { MatchResult result (λ v. Spells text.now (views v.items)) (IsTokenFault text.now) }
 {
     let mut tokens = Vec::new(alloc);

@@ -4,5 +4,5 @@ use Rattle.lvm_text.specs.TokenView.{token_view, views}
 use Rattle.lvm_text.specs.Checks.{head_line, number_lines}
 use Rattle.lvm_text.proofs.check.number_line.Given as goal
 
-abbrev pub invariant-loop-placed : goal.invariant-loop-placed
-invariant-loop-placed l = head_line (number_lines (token_view l.before) (views (drop l.placed-index l.tokens))) ≡ head_line (number_lines spec.Close (views l.tokens))
+abbrev pub invariant-loop-at_line : goal.invariant-loop-at_line
+invariant-loop-at_line l = head_line (number_lines (token_view l.before) (views (drop l.at_line-index l.tokens))) ≡ head_line (number_lines spec.Close (views l.tokens))

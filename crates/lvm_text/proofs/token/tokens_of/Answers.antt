@@ -1,5 +1,5 @@
 use Rattle.std.proofs.Common.{rules, sym, ◌∙◌, ap, subst, ◌≡◌, ◌+◌, ℕ, List, arith}
-use Rattle.lvm_text.specs.Token.{Placed}
+use Rattle.lvm_text.specs.Token.{TokenAtLine}
 use Rattle.lvm_text.specs.Spelling.{is_end, newlines, spelling}
 use Rattle.lvm_text.specs.TokenView.{views, element_view}
 use Rattle.lvm_text.proofs.Cuts.{Before, before_more, bad_here}
@@ -31,6 +31,6 @@ loop-rest-preserved c =
     let line : c.loop-rest.line + newlines (spelling (element_view c.in-Some.element)) ≡ c.loop-rest.line + c.newlines-line.result = ap (λ (n : ℕ). c.loop-rest.line + n) (sym c.newlines-line.ensures) in (
       search rules,
       subst (λ (n : ℕ). Before c.args.text.now n (views c.keep.new.tokens.items) c.in-Some.after.now) line
-          (subst (λ (ts : List Placed). Before c.args.text.now (c.loop-rest.line + newlines (spelling (element_view c.in-Some.element))) ts c.in-Some.after.now) (sym c.in_ok-keep.ensures) more),
+          (subst (λ (ts : List TokenAtLine). Before c.args.text.now (c.loop-rest.line + newlines (spelling (element_view c.in-Some.element))) ts c.in-Some.after.now) (sym c.in_ok-keep.ensures) more),
       omega (arith, s.1, c.newlines-line.ensures, c.loop-rest.invariant.2),
     )

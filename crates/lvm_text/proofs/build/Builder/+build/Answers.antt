@@ -8,7 +8,7 @@ use Rattle.lvm_text.specs.View.{values_of, lines_agree}
 use Rattle.lvm_text.specs.Checks.{twice_lines}
 use Rattle.lvm_text.specs.declared.tree.Entry.{Entry}
 use Rattle.lvm_text.specs.declared.tree.Value.TheVariants as values
-use Rattle.lvm_text.proofs.Building.{ValuesSoFar, values_more, values_end, value_nothing, value_section, value_leaf, behind_views, lines_agree-push}
+use Rattle.lvm_text.proofs.Building.{ValuesSoFar, values_more, values_end, value_nothing, value_section, value_leaf, views_after, lines_agree-push}
 use Rattle.lvm_text.proofs.Twice.{differ_push, key_twice, twice_inside, twice_opened}
 use Rattle.lvm_text.proofs.build.Builder.+build.Goals as goal
 
@@ -59,9 +59,9 @@ value_at-returns-in_default-clause-read t c = value_nothing c.args.line (views (
 pub value_at-returns-then-is_open-clause-read : goal.value_at-returns-then-is_open-clause-read
 value_at-returns-then-is_open-clause-read t c =
     value_section c.args.line (views (drop c.args.start c.args.self.now.tokens.now)) (view c.in-Some.first) (views (drop (c.args.start + 1) c.args.self.now.tokens.now)) c.in_ok-section.section.values
-    (views (drop c.in_ok-section.after c.args.self.now.tokens.now)) (views (drop c.behind.result c.args.self.now.tokens.now))
+    (views (drop c.in_ok-section.after c.args.self.now.tokens.now)) (views (drop c.place_after.result c.args.self.now.tokens.now))
     (ap views c.in-Some.ensures.0) (sym c.if-is_open.ensures) c.in_ok-section.ensures.read
-    (behind_views (drop c.in_ok-section.after c.args.self.now.tokens.now) (drop c.behind.result c.args.self.now.tokens.now) c.behind.ensures.rest)
+    (views_after (drop c.in_ok-section.after c.args.self.now.tokens.now) (drop c.place_after.result c.args.self.now.tokens.now) c.place_after.ensures.rest)
 
 pub value_at-returns-clause-read : goal.value_at-returns-clause-read
 value_at-returns-clause-read t c =

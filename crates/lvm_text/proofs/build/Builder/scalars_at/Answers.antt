@@ -3,7 +3,7 @@ use Rattle.std.proofs.lemmas.List.{map_push}
 use Rattle.lvm_text.specs.Tree as tree
 use Rattle.lvm_text.specs.TokenView.{views}
 use Rattle.lvm_text.specs.View.{scalar_view, scalar_views}
-use Rattle.lvm_text.proofs.Building.{ListSoFar, list_more, list_ends, behind_views}
+use Rattle.lvm_text.proofs.Building.{ListSoFar, list_more, list_ends, views_after}
 use Rattle.lvm_text.proofs.build.Builder.scalars_at.Goals as goal
 
 pub loop-scalar-preserved : goal.loop-scalar-preserved
@@ -21,5 +21,5 @@ loop-scalar-preserved c =
 
 pub returns-clause-read : goal.returns-clause-read
 returns-clause-read c =
-    list_ends (views (drop c.args.start c.args.self.now.tokens.now)) (scalar_views c.loop-scalar.scalars.items) (views (drop c.loop-scalar.at c.args.self.now.tokens.now)) (views (drop c.behind.result c.args.self.now.tokens.now))
-    c.loop-scalar.invariant.so_far c.in_default.ensures.item (behind_views (drop c.loop-scalar.at c.args.self.now.tokens.now) (drop c.behind.result c.args.self.now.tokens.now) c.behind.ensures.rest)
+    list_ends (views (drop c.args.start c.args.self.now.tokens.now)) (scalar_views c.loop-scalar.scalars.items) (views (drop c.loop-scalar.at c.args.self.now.tokens.now)) (views (drop c.place_after.result c.args.self.now.tokens.now))
+    c.loop-scalar.invariant.so_far c.in_default.ensures.item (views_after (drop c.loop-scalar.at c.args.self.now.tokens.now) (drop c.place_after.result c.args.self.now.tokens.now) c.place_after.ensures.rest)
