@@ -9,7 +9,7 @@ use Rattle.dm_stack.specs.declared.claim.ClaimKind.{ClaimKind}
 use Rattle.dm_stack.specs.declared.claim.ClaimKind.TheVariants.{Own, Reading}
 use Rattle.dm_stack.specs.declared.id.Lower.{Lower}
 use Rattle.dm_stack.specs.declared.id.Lower.TheVariants.{Device}
-use Rattle.dm_stack.specs.Claims.{AreApart, HasSector, IsTidy, IsTop, claim_kind, claims, device_claims, line_claims, may_share, span_claim, span_end}
+use Rattle.dm_stack.specs.Claims.{NeverMeet, HasSector, IsTidy, IsTop, claim_kind, claims, device_claims, line_claims, may_share, span_claim, span_end}
 use Rattle.dm_stack.specs.Description.{Description, lines_at, lower_len, lower_of}
 use Rattle.dm_stack.specs.Span.{Span, spans}
 use Rattle.dm_stack.proofs.Parts.{PairsAt, number_at, pairs_at, pairs_part, part_there, same_part, same_place}
@@ -53,13 +53,13 @@ has_it stack device place column line lower at reads via = record { on = via.on;
 line_is : (a b : Line) → Some a ≡ Some b → a ≡ b
 line_is a b e = cc
 
-one_in_device : (stack : Description) (device p q i j : ℕ) (l m : Line) (x y : Claim) → PairsAt AreApart (device_claims stack device) → slice_get (lines_at stack device) p ≡ Some l → slice_get (lines_at stack device) q ≡ Some m
-    → slice_get (line_claims stack device l) i ≡ Some x → slice_get (line_claims stack device m) j ≡ Some y → (AreApart x y → ⊥) → (AreApart y x → ⊥) → (l ≡ m) × (i ≡ j)
+one_in_device : (stack : Description) (device p q i j : ℕ) (l m : Line) (x y : Claim) → PairsAt NeverMeet (device_claims stack device) → slice_get (lines_at stack device) p ≡ Some l → slice_get (lines_at stack device) q ≡ Some m
+    → slice_get (line_claims stack device l) i ≡ Some x → slice_get (line_claims stack device m) j ≡ Some y → (NeverMeet x y → ⊥) → (NeverMeet y x → ⊥) → (l ≡ m) × (i ≡ j)
 one_in_device stack device p q i j l m x y pairs on_p on_q at_i at_j never neither =
-    let places : p ≡ q = same_part AreApart (line_claims stack device) (lines_at stack device) p q i j l m x y pairs on_p on_q at_i at_j never neither in
+    let places : p ≡ q = same_part NeverMeet (line_claims stack device) (lines_at stack device) p q i j l m x y pairs on_p on_q at_i at_j never neither in
     let lines : l ≡ m = line_is l m (sym on_p ∙ ap (slice_get (lines_at stack device)) places ∙ on_q) in (
       lines,
-      same_place AreApart (line_claims stack device l) i j x y (pairs_part AreApart (line_claims stack device) (lines_at stack device) p l pairs on_p)
+      same_place NeverMeet (line_claims stack device l) i j x y (pairs_part NeverMeet (line_claims stack device) (lines_at stack device) p l pairs on_p)
           at_i (subst (λ (z : Line). slice_get (line_claims stack device z) j ≡ Some y) (sym lines) at_j) never neither,
     )
 
@@ -68,8 +68,8 @@ pub record AreOne (d e i j : ℕ) (l m : Line) : Type 0 where
   pub lines : l ≡ m
   pub columns : i ≡ j
 
-by_device : (stack : Description) (d e p q i j : ℕ) (l m : Line) (x y : Claim) → d ≡ e → PairsAt AreApart (device_claims stack d) → slice_get (lines_at stack d) p ≡ Some l → slice_get (lines_at stack e) q ≡ Some m
-    → slice_get (line_claims stack d l) i ≡ Some x → slice_get (line_claims stack e m) j ≡ Some y → (AreApart x y → ⊥) → (AreApart y x → ⊥) → AreOne d e i j l m
+by_device : (stack : Description) (d e p q i j : ℕ) (l m : Line) (x y : Claim) → d ≡ e → PairsAt NeverMeet (device_claims stack d) → slice_get (lines_at stack d) p ≡ Some l → slice_get (lines_at stack e) q ≡ Some m
+    → slice_get (line_claims stack d l) i ≡ Some x → slice_get (line_claims stack e m) j ≡ Some y → (NeverMeet x y → ⊥) → (NeverMeet y x → ⊥) → AreOne d e i j l m
 by_device stack d e p q i j l m x y same pairs on_p on_q at_i at_j never neither =
     let parts = one_in_device stack d p q i j l m x y pairs on_p (subst (λ (z : ℕ). slice_get (lines_at stack z) q ≡ Some m) (sym same) on_q) at_i (subst (λ (z : ℕ). slice_get (line_claims stack z m) j ≡ Some y) (sym same) at_j) never neither in
     record { devices = same; lines = parts.0; columns = parts.1 }
@@ -81,16 +81,16 @@ one_via stack d e p q i j l m lower at reads tidy a b =
     let own : x.kind ≡ Own = ap claim_kind a.for_reading in
     let clash : may_share x.kind y.kind ≡ false = ap (λ (kind : ClaimKind). may_share kind y.kind) own in
     let has_x = has_it stack d p i l lower at false a in let has_y = has_it stack e q j m lower at reads b in
-    let never : AreApart x y → ⊥ = λ apart. apart lower at (record { here = has_x; there = has_y; rivals = clash }) in
-    let neither : AreApart y x → ⊥ = λ apart. apart lower at (record { here = has_y; there = has_x; rivals = share_sym y.kind x.kind ∙ clash }) in
-    let pairs = pairs_at AreApart (claims stack) tidy in
+    let never : NeverMeet x y → ⊥ = λ apart. apart lower at (record { here = has_x; there = has_y; rivals = clash }) in
+    let neither : NeverMeet y x → ⊥ = λ apart. apart lower at (record { here = has_y; there = has_x; rivals = share_sym y.kind x.kind ∙ clash }) in
+    let pairs = pairs_at NeverMeet (claims stack) tidy in
     let ids = range_with_len 0 (length stack.devices) in
     let at_d = claim_at stack d p i l lower at false a in let at_e = claim_at stack e q j m lower at reads b in
     let on_d = part_there (line_claims stack d) (lines_at stack d) p i l x a.line_at at_d in
     let on_e = part_there (line_claims stack e) (lines_at stack e) q j m y b.line_at at_e in
     let number_d = number_at (length stack.devices) d a.there in
-    let same : d ≡ e = same_part AreApart (device_claims stack) ids d e on_d.0 on_e.0 d e x y pairs number_d (number_at (length stack.devices) e b.there) on_d.1 on_e.1 never neither in
-    by_device stack d e p q i j l m x y same (pairs_part AreApart (device_claims stack) ids d d pairs number_d) a.line_at b.line_at at_d at_e never neither
+    let same : d ≡ e = same_part NeverMeet (device_claims stack) ids d e on_d.0 on_e.0 d e x y pairs number_d (number_at (length stack.devices) e b.there) on_d.1 on_e.1 never neither in
+    by_device stack d e p q i j l m x y same (pairs_part NeverMeet (device_claims stack) ids d d pairs number_d) a.line_at b.line_at at_d at_e never neither
 
 -- nothing names a top device
 pub top_named : (stack : Description) (top d p i : ℕ) (l : Line) (lower : Lower) → IsTop stack top → IsNamed stack d p i l lower → lower ≡ Device top → ⊥

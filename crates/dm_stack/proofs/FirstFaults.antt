@@ -91,7 +91,7 @@ line_in devices i left device within is inside =
     rw at (get_left device.lines (all_lines (drop (i + 1) devices)) left inside)
 
 pub line_later : (devices : List DeviceSpec) (i left : ℕ) (device : DeviceSpec) → i < length devices → device ≡ get_or devices i device → length device.lines ≤ left → slice_get (all_lines (drop (i + 1) devices)) (left - length device.lines) ≡ slice_get (all_lines (drop i devices)) left
-line_later devices i left device within is behind =
+line_later devices i left device within is after =
     let at : drop i devices ≡ device ∷ drop (i + 1) devices = drop_more devices i device within ∙ ap (λ (y : DeviceSpec). y ∷ drop (i + 1) devices) (sym is) in
     let sum : length device.lines + (left - length device.lines) ≡ left = omega arith in
     rw at (sym (get_right device.lines (all_lines (drop (i + 1) devices)) (left - length device.lines)) ∙ ap (λ (n : ℕ). slice_get (device.lines ++ all_lines (drop (i + 1) devices)) n) sum)

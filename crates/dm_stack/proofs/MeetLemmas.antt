@@ -8,7 +8,7 @@ use Rattle.dm_stack.specs.declared.claim.ClaimKind.TheVariants.{Own, Reading}
 use Rattle.dm_stack.specs.declared.id.Lower.{Lower}
 use Rattle.dm_stack.specs.declared.id.Lower.TheVariants.{Device, Disk}
 use Rattle.dm_stack.specs.declared.tidy.Numbered.{Numbered}
-use Rattle.dm_stack.specs.Claims.{AreApart, MeetAt, may_share}
+use Rattle.dm_stack.specs.Claims.{NeverMeet, MeetAt, may_share}
 use Rattle.dm_stack.specs.Sweep.{is_same, meets, rivals}
 
 pub same_is : (one other : Lower) → is_same one other ≡ true → one ≡ other
@@ -64,8 +64,8 @@ meets_at one other lower sector met =
     and_from _ _ (ap (λ (l : Lower). is_same l other.to) (met.here.on ∙ sym met.there.on) ∙ self_same other.to)
     (and_from _ _ (lt-ltb (max one.start other.start) (min one.end other.end) (omega (arith, met.here.from, met.here.before, met.there.from, met.there.before))) (ap not met.rivals))
 
-pub apart_from : (one other : Claim) → meets one other ≡ false → AreApart one other
-apart_from one other none lower sector met = true≢false (sym (meets_at one other lower sector met) ∙ none)
+pub never_meet_from : (one other : Claim) → meets one other ≡ false → NeverMeet one other
+never_meet_from one other none lower sector met = true≢false (sym (meets_at one other lower sector met) ∙ none)
 
 pub meet_from : (one other : Claim) → meets one other ≡ true → MeetAt one other other.to (max one.start other.start)
 meet_from one other some =
@@ -82,9 +82,9 @@ meet_from one other some =
     not_true true e = absurd (true≢false (sym e))
     not_true false e = refl
 
-by_test : (one other : Claim) (b : Bool) → meets one other ≡ b → AreApart one other → meets one other ≡ false
+by_test : (one other : Claim) (b : Bool) → meets one other ≡ b → NeverMeet one other → meets one other ≡ false
 by_test one other true some apart = absurd (apart other.to (max one.start other.start) (meet_from one other some))
 by_test one other false none apart = none
 
-pub none_from : (one other : Claim) → AreApart one other → meets one other ≡ false
+pub none_from : (one other : Claim) → NeverMeet one other → meets one other ≡ false
 none_from one other apart = by_test one other (meets one other) refl apart

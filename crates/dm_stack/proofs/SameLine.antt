@@ -14,7 +14,7 @@ use Rattle.dm_stack.proofs.SoundLines.{holds_from, there, device_sound, lines_th
 
 starts_here : (end sector : ℕ) (first line : Line) (lines : List Line) (b : Bool) → first.start ≡ end → (line_of lines sector ≡ Some line → first.start + first.len ≤ line.start) → cond b (Some first) (line_of lines sector) ≡ Some line → end ≤ line.start
 starts_here end sector first line lines true start later is = let same : first ≡ line = cc in let starts = ap (λ (l : Line). l.start) same in omega arith
-starts_here end sector first line lines false start later is = let behind = later is in omega arith
+starts_here end sector first line lines false start later is = let after = later is in omega arith
 
 -- a line that was found starts after the end of those before it
 starts_after : (end : ℕ) (lines : List Line) (sector : ℕ) (line : Line) → AreInRow end lines → line_of lines sector ≡ Some line → end ≤ line.start
@@ -32,12 +32,12 @@ holds_none line sector past = rw (le-ltb sector (line.start + line.len) past) (a
 same_here : (sector other : ℕ) (first line : Line) (lines : List Line) (b : Bool) → line.start ≤ other → other < line.start + line.len
     → (line_of lines sector ≡ Some line → first.start + first.len ≤ line.start) → (line_of lines sector ≡ Some line → line_of lines other ≡ Some line)
     → cond b (Some first) (line_of lines sector) ≡ Some line → line_of (first ∷ lines) other ≡ Some line
-same_here sector other first line lines true from before behind later is =
+same_here sector other first line lines true from before after later is =
     let same : first ≡ line = cc in
     let held : holds other first ≡ true = rw same (holds_from line other from before) in
     rw held (ap Some same)
-same_here sector other first line lines false from before behind later is =
-    let past = behind is in
+same_here sector other first line lines false from before after later is =
+    let past = after is in
     rw (holds_none first other (omega (arith, past, from))) (later is)
 
 same_line : (end : ℕ) (lines : List Line) (sector other : ℕ) (line : Line) → AreInRow end lines → line_of lines sector ≡ Some line → line.start ≤ other → other < line.start + line.len → line_of lines other ≡ Some line

@@ -39,7 +39,7 @@ marked_left visited d below fresh =
     let one : ◌≡◌ {A = ℕ} (cond (not (get_or visited d false)) 1 0) 1 = ap (λ (b : Bool). cond (not b) 1 0) fresh in
     omega (arith, sum_by-set (λ b. cond (not b) 1 0) visited d true false below, one)
 
--- the marks that a visit leaves behind are all that there are
+-- the marks that a visit leaves are all that there are
 marks_whole : (n : ℕ) (after before : List Bool) → length after ≡ length before → n ≡ length before → take n (after ++ drop (length after) before) ≡ after
 marks_whole n after before same is_n =
     let le : n ≤ length after = omega arith in

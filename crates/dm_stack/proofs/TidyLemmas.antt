@@ -11,9 +11,9 @@ use Rattle.std.proofs.lemmas.List.Sorted.{All-permutation, IsPermutation-sym, le
 use Rattle.std.proofs.lemmas.Option.{slice_get_read}
 use Rattle.dm_stack.specs.declared.claim.Claim.{Claim}
 use Rattle.dm_stack.specs.declared.tidy.Numbered.{Numbered}
-use Rattle.dm_stack.specs.Claims.{AreApart, IsFirstClash}
+use Rattle.dm_stack.specs.Claims.{NeverMeet, IsFirstClash}
 use Rattle.dm_stack.specs.Sweep.{HasPlace, clash_of, clash_with, has_pair, is_tidy_to, meets, numbered, rivals}
-use Rattle.dm_stack.proofs.MeetLemmas.{apart_from, meet_from, none_from, rivals_turn}
+use Rattle.dm_stack.proofs.MeetLemmas.{never_meet_from, meet_from, none_from, rivals_turn}
 use Rattle.dm_stack.proofs.PairLemmas.{no_pair_from_pairs, no_pair_moved, pairs_from_no_pair, pairs_from_search, search_from_pairs}
 use Rattle.dm_stack.proofs.SweepLemmas.{not_met}
 
@@ -68,18 +68,18 @@ rivals_at : (count : ℕ) (claims : List Claim) (i j : ℕ) (d : Numbered) → i
     → rivals count (get_or (numbered 0 claims) i d) (get_or (numbered 0 claims) j d) ≡ ((nat_lt i count && nat_lt j count) && meets (get_or claims i d.claim) (get_or claims j d.claim))
 rivals_at count claims i j d p q = rw (numbered_at 0 claims i i d p (omega arith), numbered_at 0 claims j j d q (omega arith)) refl
 
-below_apart : (count : ℕ) (claims : List Claim) → AllPairs (λ x y. rivals count x y ≡ false) (numbered 0 claims) → AllPairs AreApart (take count claims)
-below_apart count claims pairs i j d less within =
+never_meet_below : (count : ℕ) (claims : List Claim) → AllPairs (λ x y. rivals count x y ≡ false) (numbered 0 claims) → AllPairs NeverMeet (take count claims)
+never_meet_below count claims pairs i j d less within =
     let long = length-take count claims in
     let all = numbered_length 0 claims in
     let none : meets (get_or claims i d) (get_or claims j d) ≡ false =
     sym (counted_pair count i j (meets (get_or claims i d) (get_or claims j d)) (omega arith) (omega arith)) ∙ sym (rivals_at count claims i j (record { number = 0; claim = d }) (omega arith) (omega arith))
     ∙ pairs i j (record { number = 0; claim = d }) less (omega arith) in
-    subst (λ (one : Claim). AreApart one (get_or (take count claims) j d)) (sym (get_or-take count claims i d (omega arith)))
-    (subst (λ (other : Claim). AreApart (get_or claims i d) other) (sym (get_or-take count claims j d (omega arith))) (apart_from _ _ none))
+    subst (λ (one : Claim). NeverMeet one (get_or (take count claims) j d)) (sym (get_or-take count claims i d (omega arith)))
+    (subst (λ (other : Claim). NeverMeet (get_or claims i d) other) (sym (get_or-take count claims j d (omega arith))) (never_meet_from _ _ none))
 
-apart_below : (count : ℕ) (claims : List Claim) → AllPairs AreApart (take count claims) → AllPairs (λ x y. rivals count x y ≡ false) (numbered 0 claims)
-apart_below count claims pairs i j d less within =
+no_rivals_below : (count : ℕ) (claims : List Claim) → AllPairs NeverMeet (take count claims) → AllPairs (λ x y. rivals count x y ≡ false) (numbered 0 claims)
+no_rivals_below count claims pairs i j d less within =
     let all = numbered_length 0 claims in
     rivals_at count claims i j d (omega arith) (omega arith) ∙ by (nat_lt j count) refl (omega arith)
   where
@@ -99,15 +99,15 @@ tidy_pairs true e = absurd (true≢false (sym e))
 tidy_pairs false e = refl
 
 -- no two claims below a place meet exactly if the walk finds none
-pub tidy_below : (count : ℕ) (claims : List Claim) (order : List Numbered) → IsPermutation (numbered 0 claims) order → is_tidy_to count order ≡ true → AllPairs AreApart (take count claims)
+pub tidy_below : (count : ℕ) (claims : List Claim) (order : List Numbered) → IsPermutation (numbered 0 claims) order → is_tidy_to count order ≡ true → AllPairs NeverMeet (take count claims)
 tidy_below count claims order moved tidy =
     let found = pairs_from_search (rivals count) [] order (tidy_pairs _ tidy) (no_pairs (λ x y. rivals count x y ≡ false)) in
     let back = no_pair_moved (rivals count) order (numbered 0 claims) (IsPermutation-sym (numbered 0 claims) order moved) (no_pair_from_pairs (rivals count) order (rivals_turn count) found) in
-    below_apart count claims (pairs_from_no_pair (rivals count) (numbered 0 claims) back)
+    never_meet_below count claims (pairs_from_no_pair (rivals count) (numbered 0 claims) back)
 
-pub clash_below : (count : ℕ) (claims : List Claim) (order : List Numbered) → IsPermutation (numbered 0 claims) order → is_tidy_to count order ≡ false → AllPairs AreApart (take count claims) → ⊥
+pub clash_below : (count : ℕ) (claims : List Claim) (order : List Numbered) → IsPermutation (numbered 0 claims) order → is_tidy_to count order ≡ false → AllPairs NeverMeet (take count claims) → ⊥
 clash_below count claims order moved clash pairs =
-    let there = no_pair_moved (rivals count) (numbered 0 claims) order moved (no_pair_from_pairs (rivals count) (numbered 0 claims) (rivals_turn count) (apart_below count claims pairs)) in
+    let there = no_pair_moved (rivals count) (numbered 0 claims) order moved (no_pair_from_pairs (rivals count) (numbered 0 claims) (rivals_turn count) (no_rivals_below count claims pairs)) in
     let none = search_from_pairs (rivals count) [] order (pairs_from_no_pair (rivals count) order there) in
     true≢false (sym (ap not none) ∙ clash)
 
@@ -184,7 +184,7 @@ pub first_is : (claims : List Claim) (order : List Numbered) (place : ℕ) (late
     → is_tidy_to place order ≡ true → is_tidy_to (place + 1) order ≡ false → IsFirstClash claims (clash_with (take place claims) later)
 first_is claims order place later moved within is tidy clash = by (find (λ one. meets one later) (take place claims)) refl
   where
-    pairs : AllPairs AreApart (take place claims)
+    pairs : AllPairs NeverMeet (take place claims)
     pairs = tidy_below place claims order moved tidy
 
     more : take (place + 1) claims ≡ take place claims ++ later ∷ []
@@ -196,7 +196,7 @@ first_is claims order place later moved within is tidy clash = by (find (λ one.
     by : (result : Option Claim) → find (λ one. meets one later) (take place claims) ≡ result → IsFirstClash claims (option_map (λ one. clash_of one later) result)
     by None e =
         let none = none_found (λ one. meets one later) (take place claims) e in
-        absurd (clash_below (place + 1) claims order moved clash (subst (AllPairs AreApart) (sym more) (all_pairs_push AreApart (take place claims) later pairs (λ k d below. apart_from _ _ (none k d below)))))
+        absurd (clash_below (place + 1) claims order moved clash (subst (AllPairs NeverMeet) (sym more) (all_pairs_push NeverMeet (take place claims) later pairs (λ k d below. never_meet_from _ _ (none k d below)))))
     by (Some earlier) e =
         let f = found (λ one. meets one later) (take place claims) earlier e in
         let met = meet_from earlier later f.here in
@@ -207,8 +207,8 @@ first_is claims order place later moved within is tidy clash = by (find (λ one.
           later = later;
           after = drop (suc place) claims;
           split = whole ∙ ap (λ (front : List Claim). front ++ later ∷ drop (suc place) claims) f.split;
-          first = subst (AllPairs AreApart) f.split pairs;
-          earliest = λ k d below. apart_from _ _ (f.passed k d below);
+          first = subst (AllPairs NeverMeet) f.split pairs;
+          earliest = λ k d below. never_meet_from _ _ (f.passed k d below);
           meet = met;
           least = λ sector below other. omega (arith, below, other.here.from, other.there.from);
           of_earlier = refl;

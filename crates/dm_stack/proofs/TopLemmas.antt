@@ -18,7 +18,7 @@ use Rattle.dm_stack.specs.declared.claim.Claim.{Claim}
 use Rattle.dm_stack.specs.declared.clash.Clash.{Clash}
 use Rattle.dm_stack.specs.declared.id.Lower.{Lower}
 use Rattle.dm_stack.specs.declared.id.Lower.TheVariants.{Device, Disk}
-use Rattle.dm_stack.specs.Claims.{AreApart, IsClash, IsFirstClash, IsLower, IsThere, IsTidy, IsTop, MeetAt, claims, device_claims, line_claims, span_claim, span_end}
+use Rattle.dm_stack.specs.Claims.{NeverMeet, IsClash, IsFirstClash, IsLower, IsThere, IsTidy, IsTop, MeetAt, claims, device_claims, line_claims, span_claim, span_end}
 use Rattle.dm_stack.specs.Description.{Description, end_of, is_same, len_or_none, lines_at, lines_or_none, lower_len, lower_of}
 use Rattle.dm_stack.specs.Naming.{is_device, is_named, line_names}
 use Rattle.dm_stack.specs.Report.{IsReport, report_text}
@@ -126,14 +126,14 @@ pub top_is : (stack : Description) (device : ℕ) → IsTrue (not (is_named stac
 top_is stack device = top_by stack device (is_named stack device) refl
 
 -- claims with a clash are not tidy
-clash_unties : (all : List Claim) (clash : Clash) → IsClash all clash → AllPairs AreApart all → ⊥
+clash_unties : (all : List Claim) (clash : Clash) → IsClash all clash → AllPairs NeverMeet all → ⊥
 clash_unties all clash is pairs =
     let front = is.before ++ is.earlier ∷ is.between in
     let whole = front ++ is.later ∷ is.after in
-    let apart = subst (AllPairs AreApart) is.split pairs (length is.before) (length front) is.later (omega (arith, length-append is.before (is.earlier ∷ is.between))) (omega (arith, length-append front (is.later ∷ is.after))) in
+    let apart = subst (AllPairs NeverMeet) is.split pairs (length is.before) (length front) is.later (omega (arith, length-append is.before (is.earlier ∷ is.between))) (omega (arith, length-append front (is.later ∷ is.after))) in
     let one : get_or whole (length is.before) is.later ≡ is.earlier =
     get_or_append_left front (is.later ∷ is.after) is.later (length is.before) (omega (arith, length-append is.before (is.earlier ∷ is.between))) ∙ get_or-append_seam is.before is.earlier is.between is.later in
-    subst (λ (claim : Claim). AreApart claim is.later) one (subst (AreApart (get_or whole (length is.before) is.later)) (get_or-append_seam front is.later is.after is.later) apart) clash.lower clash.sector is.meet
+    subst (λ (claim : Claim). NeverMeet claim is.later) one (subst (NeverMeet (get_or whole (length is.before) is.later)) (get_or-append_seam front is.later is.after is.later) apart) clash.lower clash.sector is.meet
 
 untied : (stack : Description) (found : Option Clash) → IsFirstClash (claims stack) found → IsTrue (is_none found) ↔ IsTidy stack
 untied stack None pairs = (λ e. pairs, λ tidy. refl)
@@ -151,8 +151,8 @@ record Stands (all : List Claim) (clash : Clash) : Type 0 where
   other : ℕ
   in_order : one < other
   within : other < length all
-  pairs : (i j : ℕ) (d : Claim) → i < j → j < other → AreApart (get_or all i d) (get_or all j d)
-  earliest : (i : ℕ) (d : Claim) → i < one → AreApart (get_or all i d) (get_or all other d)
+  pairs : (i j : ℕ) (d : Claim) → i < j → j < other → NeverMeet (get_or all i d) (get_or all j d)
+  earliest : (i : ℕ) (d : Claim) → i < one → NeverMeet (get_or all i d) (get_or all other d)
   meet : (d : Claim) → MeetAt (get_or all one d) (get_or all other d) clash.lower clash.sector
   least : (d : Claim) (sector : ℕ) → sector < clash.sector → MeetAt (get_or all one d) (get_or all other d) clash.lower sector → ⊥
   of_one : (d : Claim) → clash.first ≡ (get_or all one d).device

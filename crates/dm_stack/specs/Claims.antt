@@ -60,12 +60,13 @@ pub record MeetAt (one other : Claim) (lower : Lower) (sector : ℕ) : Type 0 wh
   pub there : HasSector other lower sector
   pub rivals : may_share one.kind other.kind ≡ false
 
-abbrev pub AreApart : Claim → Claim → Type 0
-AreApart one other = (lower : Lower) (sector : ℕ) → MeetAt one other lower sector → ⊥
+-- no sector is one where they meet
+abbrev pub NeverMeet : Claim → Claim → Type 0
+NeverMeet one other = (lower : Lower) (sector : ℕ) → MeetAt one other lower sector → ⊥
 
 -- a stack is tidy if no two of its claims meet
 abbrev pub IsTidy : Description → Type 0
-IsTidy stack = AllPairs AreApart (claims stack)
+IsTidy stack = AllPairs NeverMeet (claims stack)
 
 -- a device is top if nothing claims any of it
 abbrev pub IsTop : Description → (device : ℕ) → Type 0
@@ -80,9 +81,9 @@ pub record IsClash (all : List Claim) (clash : Clash) : Type 0 where
   pub after : List Claim
   pub split : all ≡ (before ++ earlier ∷ between) ++ later ∷ after
   -- no claim before the later one meets an earlier one
-  pub first : AllPairs AreApart (before ++ earlier ∷ between)
+  pub first : AllPairs NeverMeet (before ++ earlier ∷ between)
   -- the later one meets none before the earlier one
-  pub earliest : All (λ claim. AreApart claim later) before
+  pub earliest : All (λ claim. NeverMeet claim later) before
   pub meet : MeetAt earlier later clash.lower clash.sector
   pub least : (sector : ℕ) → sector < clash.sector → MeetAt earlier later clash.lower sector → ⊥
   pub of_earlier : clash.first ≡ earlier.device
@@ -91,7 +92,7 @@ pub record IsClash (all : List Claim) (clash : Clash) : Type 0 where
 -- the clash of claims, and none exactly where no two meet
 abbrev pub IsFirstClash : List Claim → Option Clash → Type 0
 IsFirstClash all (Some clash) = IsClash all clash
-IsFirstClash all None = AllPairs AreApart all
+IsFirstClash all None = AllPairs NeverMeet all
 
 -- a device or a disk of the stack
 abbrev pub IsLower : Description → Lower → Type 0

@@ -1,4 +1,4 @@
--- what is left to claim, behind what was claimed so far, gives all claims of the line
+-- what is left to claim, after what was claimed so far, gives all claims of the line
 use Rattle.std.proofs.Common.{◌≡◌, ◌++◌, false, map}
 use Rattle.std.specs.List.{list_any}
 use Rattle.dm_stack.specs.Claims.{line_claims, span_claim}

@@ -15,5 +15,5 @@ returns-then-left-lines c =
 pub loop-device-preserved : goal.loop-device-preserved
 loop-device-preserved c =
     let within : c.loop-device.device-index < length c.args.devices.now = c.loop-device-test.true in
-    let behind : length c.device-item.result.lines ≤ c.loop-device.left = rw (← c.as_slice-lines.ensures) c.if-left-lines.false in
-    rw c.as_slice-lines.ensures (line_later _ _ _ _ within c.device-item.is behind ∙ c.loop-device.invariant)
+    let after : length c.device-item.result.lines ≤ c.loop-device.left = rw (← c.as_slice-lines.ensures) c.if-left-lines.false in
+    rw c.as_slice-lines.ensures (line_later _ _ _ _ within c.device-item.is after ∙ c.loop-device.invariant)

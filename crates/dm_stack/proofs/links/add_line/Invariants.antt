@@ -1,4 +1,4 @@
--- what is left to name, behind what was named so far, gives all of it
+-- what is left to name, after what was named so far, gives all of it
 use Rattle.std.proofs.Common.{◌≡◌, ◌++◌}
 use Rattle.std.specs.List.{flat_map}
 use Rattle.dm_stack.specs.Description.{line_links, ref_link}

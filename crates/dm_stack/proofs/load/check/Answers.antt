@@ -29,9 +29,9 @@ returns-in_err-depth-clause-fault c =
 
 pub returns-clause-loaded : goal.returns-clause-loaded
 returns-clause-loaded c =
-    let behind = subst (λ (stack : Description). HasNoLateFault stack) c.new-stack.ensures c.in_ok-depth.ensures.passed in
+    let later = subst (λ (stack : Description). HasNoLateFault stack) c.new-stack.ensures c.in_ok-depth.ensures.passed in
     record {
-      sound = record { before = c.in_ok-names.ensures.passed; acyclic = behind.0; after = behind.1 };
+      sound = record { before = c.in_ok-names.ensures.passed; acyclic = later.0; after = later.1 };
       device_names = c.in_ok-names.ensures.devices;
       disk_names = c.in_ok-names.ensures.disks;
       tables = c.in-Ok.ensures ∙ ap (λ (stack : Description). map (found_table stack) stack.devices) c.new-stack.ensures;

@@ -2,7 +2,7 @@ use Rattle.std.proofs.Common.{◌≡◌, ◌<◌, ◌+◌, true, List, ℕ, leng
 use Rattle.std.specs.List.{AllPairs}
 use Rattle.std.proofs.lemmas.List.{take_all}
 use Rattle.dm_stack.specs.declared.tidy.Numbered.{Numbered}
-use Rattle.dm_stack.specs.Claims.{AreApart, IsFirstClash}
+use Rattle.dm_stack.specs.Claims.{NeverMeet, IsFirstClash}
 use Rattle.dm_stack.specs.Sweep.{is_tidy_to}
 use Rattle.dm_stack.proofs.TidyLemmas.{at, first_is, order_length, places_kept, tidy_below}
 use Rattle.dm_stack.proofs.tidy.first_clash.Goals as goal
@@ -16,7 +16,7 @@ returns-then-branch c =
     let claims = c.args.claims.now in
     let tidy : is_tidy_to (length claims) c.in_ok-order.order.items ≡ true =
     ap (is_tidy_to (length claims)) (sym c.deref.ensures.value) ∙ sym c.in_ok-is_tidy_to.ensures ∙ c.if-branch.true in
-    subst (AllPairs AreApart) (take_all (length claims) claims (omega arith)) (tidy_below (length claims) claims c.in_ok-order.order.items c.in_ok-order.ensures.same tidy)
+    subst (AllPairs NeverMeet) (take_all (length claims) claims (omega arith)) (tidy_below (length claims) claims c.in_ok-order.order.items c.in_ok-order.ensures.same tidy)
 
 pub tidy_len-requires-clause-places : goal.tidy_len-requires-clause-places
 tidy_len-requires-clause-places c =
