@@ -29,7 +29,7 @@ use Rattle.dm_map.specs.Steps.{Step, steps}
 use Rattle.dm_map.specs.Walk.{Scene, Walking, below_step, line_step, range_step, scene, stripes_step, target_step, AreInChunk, AreReadAt, IsPlace}
 use Rattle.dm_map.proofs.Chunks.{same_chunk}
 use Rattle.dm_map.proofs.Depths.{below_less, depth_most, depth_some}
-use Rattle.dm_map.proofs.Paths.{other_chunk, other_start, searches_below, searches_line, searches_more, searches_on, stretches_behind, stretches_same}
+use Rattle.dm_map.proofs.Paths.{other_chunk, other_start, searches_below, searches_line, searches_more, searches_on, stretches_after, stretches_same}
 use Rattle.dm_map.proofs.Stripes.{after_chunk, below_chunk, in_chunk}
 
 -- A read keeps the state
@@ -70,7 +70,7 @@ linear_bound before after op levels device line to offset distance sector len fo
     let stack = before.stack in let state = before.state in
     let less = below_less stack state device line.start distance line to (offset + distance) sound found (ap (λ (t : FoundTarget). below_target (read_over (taken_at state device)) t distance) kind) in
     searches_below (line_paths stack state levels device line) (path stack state levels to) (lower_depth stack to) (depth_of stack device - 1) distance sector len before.looked.searches after.looked.searches less
-    (stretches_behind (line_paths stack state levels device line) (path stack state levels to) (record { device = device; start = line.start; chunk = chunk_at (Linear to offset) distance }) distance sector len (λ i within.
+    (stretches_after (line_paths stack state levels device line) (path stack state levels to) (record { device = device; start = line.start; chunk = chunk_at (Linear to offset) distance }) distance sector len (λ i within.
     ap (λ (t : FoundTarget). target_path stack state levels device line.start t (distance + i)) kind
     ∙ ap (λ (p : ℕ). record { device = device; start = line.start; chunk = chunk_at (Linear to offset) distance } ∷ path stack state levels to p) (let e : offset + (distance + i) ≡ sector + i = omega (arith, place) in e)))
     (bounded is sound)
@@ -86,7 +86,7 @@ stripe_bound before after op levels device chunk columns line column place dista
     let less = below_less stack state device line.start (distance + 0) line column.to (column.offset + (place.chunk_start + place.past) + 0) sound found
     (ap (λ (t : FoundTarget). below_target (read_over (taken_at state device)) t (distance + 0)) kind ∙ lies 0 (omega (arith, more))) in
     searches_below (line_paths stack state levels device line) (path stack state levels column.to) (lower_depth stack column.to) (depth_of stack device - 1) distance sector n before.looked.searches after.looked.searches less
-    (stretches_behind (line_paths stack state levels device line) (path stack state levels column.to) step distance sector n (λ i within.
+    (stretches_after (line_paths stack state levels device line) (path stack state levels column.to) step distance sector n (λ i within.
     ap (λ (t : FoundTarget). target_path stack state levels device line.start t (distance + i)) kind
     ∙ ap (λ (b : Below). record { device = device; start = line.start; chunk = Some ((distance + i) / chunk) } ∷ by_below b [] [] (λ to lower. path stack state levels to lower)) (lies i within)
     ∙ ap (λ (c : ℕ). record { device = device; start = line.start; chunk = Some c } ∷ path stack state levels column.to (column.offset + (place.chunk_start + place.past) + i)) (in_chunk chunk distance i chunk_some (omega (arith, within, most, at.past))).number
@@ -103,7 +103,7 @@ chunk_bound before after op levels device snapshot line place sector n found kin
     let less = below_less stack state device line.start (sector + 0) line place.to (place.sector + 0) sound found
     (ap (λ (t : FoundTarget). below_target (read_over (taken_at state device)) t (sector + 0)) kind ∙ at.lies 0 (omega (arith, some))) in
     searches_below (line_paths stack state levels device line) (path stack state levels place.to) (lower_depth stack place.to) (depth_of stack device - 1) sector place.sector n before.looked.searches after.looked.searches less
-    (stretches_behind (line_paths stack state levels device line) (path stack state levels place.to) step sector place.sector n (λ i within.
+    (stretches_after (line_paths stack state levels device line) (path stack state levels place.to) step sector place.sector n (λ i within.
     ap (λ (t : FoundTarget). target_path stack state levels device line.start t (sector + i)) kind
     ∙ ap (λ (b : Below). record { device = device; start = line.start; chunk = Some ((sector + i) / snapshot.chunk) } ∷ by_below b [] [] (λ to lower. path stack state levels to lower)) (at.lies i within)
     ∙ ap (λ (c : ℕ). record { device = device; start = line.start; chunk = Some c } ∷ path stack state levels place.to (place.sector + i)) (same_chunk snapshot sector i chunk.whole.sound.chunk_some (omega (arith, chunk.part, within)))))
@@ -188,7 +188,7 @@ lines_on before now looked after op levels fewer device sector at done n left li
     (λ later. subst (λ (p : ℕ). is_same_path (paths (p - 1)) (paths p) ≡ false) place (lines_apart stack state levels fewer device at line more (last later) holds.before (each at holds.from holds.before) each)) some (one is sound)
     (subst (λ (p : ℕ). after.looked.searches ≤ now.looked.searches + depth_of stack device * stretches paths p n) place next)
 
--- the line of the part before, where there is more behind it
+-- the line of the part before, where there is more after it
 pub line_before : (stack before : Description) (device at n left : ℕ) (line : FoundLine) → before ≡ stack → HoldsSoundly before device line at → n ≡ min left (line.len - (at - line.start)) → n < left
     → ((other : ℕ) → line.start ≤ other → other < line.start + line.len → found_at before device other ≡ Some line) → LineBefore stack device (at + n)
 line_before stack before device at n left line same holds part more all =

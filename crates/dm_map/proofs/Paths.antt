@@ -54,10 +54,10 @@ stretches_same f h s t zero each = refl
 stretches_same f h s t (suc n) each = ap suc (changes_same f h s t n (λ i within.
     ap (λ (p : List PathStep). is_same_path p (f (s + suc i))) (each i (omega (arith, within))) ∙ ap (λ (p : List PathStep). is_same_path (h (t + i)) p) (each (suc i) (omega (arith, within)))))
 
--- paths behind one step
-pub stretches_behind : (f h : ℕ → List PathStep) (step : PathStep) (s t n : ℕ) → ((i : ℕ) → i < n → f (s + i) ≡ step ∷ h (t + i)) → stretches f s n ≡ stretches h t n
-stretches_behind f h step s t zero each = refl
-stretches_behind f h step s t (suc n) each = ap suc (changes_same f h s t n (λ i within.
+-- paths after one step
+pub stretches_after : (f h : ℕ → List PathStep) (step : PathStep) (s t n : ℕ) → ((i : ℕ) → i < n → f (s + i) ≡ step ∷ h (t + i)) → stretches f s n ≡ stretches h t n
+stretches_after f h step s t zero each = refl
+stretches_after f h step s t (suc n) each = ap suc (changes_same f h s t n (λ i within.
     ap (λ (p : List PathStep). is_same_path p (f (s + suc i))) (each i (omega (arith, within))) ∙ ap (λ (p : List PathStep). is_same_path (step ∷ h (t + i)) p) (each (suc i) (omega (arith, within)))
     ∙ head_same step (h (t + i)) (h (t + suc i))))
 
@@ -101,7 +101,7 @@ sum_bound levels a b c first next last is one two =
     let sum : levels * (a + b) ≡ levels * a + levels * b = grind arith in
     rw is (omega (arith, sum, one, two))
 
--- of a range and what comes behind it, where the path changes
+-- of a range and what comes after it, where the path changes
 pub searches_on : (paths : ℕ → List PathStep) (levels sector done n first next last : ℕ) → (0 < done → is_same_path (paths (sector + done - 1)) (paths (sector + done)) ≡ false) → 1 ≤ n
     → next ≤ first + levels * stretches paths sector done → last ≤ next + levels * stretches paths (sector + done) n → last ≤ first + levels * stretches paths sector (done + n)
 searches_on paths levels sector done zero first next last apart some one two = absurd (omega (arith, some))

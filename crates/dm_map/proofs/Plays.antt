@@ -65,34 +65,34 @@ value_kept : {V : Type 0} (zeros : V) (values others : Values V) (unit : BlockUn
 value_kept zeros values others (ReadOf disk sector) same = same disk sector refl
 value_kept zeros values others unit same = refl
 
--- no two targets are one sector, and no target is a source
-pub record AreApart (reads : ℕ → BlockUnit) (homes : ℕ → Home) (s n : ℕ) : Type 0 where
+-- targets are fresh: no two are one sector, and none is a source
+pub record AreFreshTargets (reads : ℕ → BlockUnit) (homes : ℕ → Home) (s n : ℕ) : Type 0 where
   pub targets : (u v : ℕ) → s ≤ u → u < s + n → s ≤ v → v < s + n → homes u ≡ homes v → u ≡ v
   pub sources : (u v disk sector : ℕ) → s ≤ u → u < s + n → s ≤ v → v < s + n → reads u ≡ ReadOf disk sector → homes v ≡ home_at disk sector → ⊥
 
-apart_later : (from : ℕ → BlockUnit) (to : ℕ → Home) (s n : ℕ) → AreApart from to s (suc n) → AreApart from to (suc s) n
-apart_later from to s n apart = record {
-  targets = λ u v a b c d e. apart.targets u v (omega (arith, a)) (omega (arith, b)) (omega (arith, c)) (omega (arith, d)) e;
-  sources = λ u v k x a b c d e f. apart.sources u v k x (omega (arith, a)) (omega (arith, b)) (omega (arith, c)) (omega (arith, d)) e f;
+fresh_later : (from : ℕ → BlockUnit) (to : ℕ → Home) (s n : ℕ) → AreFreshTargets from to s (suc n) → AreFreshTargets from to (suc s) n
+fresh_later from to s n fresh = record {
+  targets = λ u v a b c d e. fresh.targets u v (omega (arith, a)) (omega (arith, b)) (omega (arith, c)) (omega (arith, d)) e;
+  sources = λ u v k x a b c d e f. fresh.sources u v k x (omega (arith, a)) (omega (arith, b)) (omega (arith, c)) (omega (arith, d)) e f;
 }
 
 -- a target has the value that its source had before them all
-pub copies_move : {V : Type 0} (zeros : V) (written : ℕ → V) (at : ℕ) (from : ℕ → BlockUnit) (to : ℕ → Home) (s n : ℕ) (values : Values V) (u : ℕ) → AreApart from to s n → s ≤ u → u < s + n
+pub copies_move : {V : Type 0} (zeros : V) (written : ℕ → V) (at : ℕ) (from : ℕ → BlockUnit) (to : ℕ → Home) (s n : ℕ) (values : Values V) (u : ℕ) → AreFreshTargets from to s n → s ≤ u → u < s + n
     → played zeros written at (copy_units from to s n) values (to u).disk (to u).sector ≡ value_of zeros values (from u)
 unfolding played
-copies_move zeros written at from to s zero values u apart low high = absurd (omega (arith, low, high))
-copies_move {V = V} zeros written at from to s (suc n) values u apart low high = elim (cases_lt s u) [
+copies_move zeros written at from to s zero values u fresh low high = absurd (omega (arith, low, high))
+copies_move {V = V} zeros written at from to s (suc n) values u fresh low high = elim (cases_lt s u) [
   | inl later ↦
       let next = stored values (to s).disk (to s).sector (value_of zeros values (from s)) in
       ap (λ (v : Values V). v (to u).disk (to u).sector) (played_copy zeros written at (from s) (to s) (copy_units from to (suc s) n) values)
-      ∙ copies_move zeros written at from to (suc s) n next u (apart_later from to s n apart) later (omega (arith, high))
-      ∙ value_kept zeros values next (from u) (λ k x is. stored_other values (to s).disk (to s).sector k x (value_of zeros values (from s)) (λ e. apart.sources u s k x low high (omega arith) (omega arith) is e))
+      ∙ copies_move zeros written at from to (suc s) n next u (fresh_later from to s n fresh) later (omega (arith, high))
+      ∙ value_kept zeros values next (from u) (λ k x is. stored_other values (to s).disk (to s).sector k x (value_of zeros values (from s)) (λ e. fresh.sources u s k x low high (omega arith) (omega arith) is e))
   | inr here ↦
       let same : u ≡ s = omega (arith, low, here) in
       let next = stored values (to s).disk (to s).sector (value_of zeros values (from s)) in
       rw same (
       ap (λ (v : Values V). v (to s).disk (to s).sector) (played_copy zeros written at (from s) (to s) (copy_units from to (suc s) n) values)
-      ∙ copies_keep zeros written at from to (suc s) n next (to s).disk (to s).sector (λ v a b e. never v a (apart.targets v s (omega (arith, a)) (omega (arith, b)) (omega arith) (omega arith) e))
+      ∙ copies_keep zeros written at from to (suc s) n next (to s).disk (to s).sector (λ v a b e. never v a (fresh.targets v s (omega (arith, a)) (omega (arith, b)) (omega arith) (omega arith) e))
       ∙ stored_same values (to s).disk (to s).sector (value_of zeros values (from s)))
 ]
   where

@@ -27,7 +27,7 @@ use Rattle.dm_map.proofs.FoundLines.{line_sound, snapshot_sound}
 use Rattle.dm_map.proofs.HomeLemmas.{fresh_apart, home_node, homes_apart}
 use Rattle.dm_map.proofs.Numbers.{chunk_rest, kept_inside, kept_parts, number_kept, number_new, number_other, of_chunk}
 use Rattle.dm_map.proofs.OneLevel.{by_depth, next_depth, read_disk, read_down}
-use Rattle.dm_map.proofs.Plays.{AreApart, IsReadable, copies_keep, copies_move, home_at, some_value}
+use Rattle.dm_map.proofs.Plays.{AreFreshTargets, IsReadable, copies_keep, copies_move, home_at, some_value}
 use Rattle.dm_map.proofs.Readies.{taken_other, taken_same}
 use Rattle.dm_map.proofs.Stores.{store_read}
 use Rattle.dm_map.proofs.TableLemmas.{number_within}
@@ -75,9 +75,9 @@ same_in_chunk : (m c u v n : ℕ) → n ≤ m → c * m ≤ u → u < c * m + n 
 same_in_chunk m c u v n most ul uh vl vh e =
     let a = chunk_rest c m u ul (omega (arith, uh, most)) in let b = chunk_rest c m v vl (omega (arith, vh, most)) in omega (arith, a, b, e, ul, vl)
 
-take_apart : (stack : Description) (state : State) (device chunk : ℕ) (snapshot : FoundSnapshot) → IsSound stack → IsFitting stack state → IsTidy stack → IsTake stack state device chunk snapshot
-    → AreApart (read stack state snapshot.origin) (home_kept stack snapshot (new_number state device)) (first_of snapshot chunk) (count_of stack snapshot device chunk)
-take_apart stack state device chunk snapshot sound fitting tidy take =
+take_fresh : (stack : Description) (state : State) (device chunk : ℕ) (snapshot : FoundSnapshot) → IsSound stack → IsFitting stack state → IsTidy stack → IsTake stack state device chunk snapshot
+    → AreFreshTargets (read stack state snapshot.origin) (home_kept stack snapshot (new_number state device)) (first_of snapshot chunk) (count_of stack snapshot device chunk)
+take_fresh stack state device chunk snapshot sound fitting tidy take =
     let some = (snapshot_sound stack device snapshot sound take.over).soundly.chunk_some in
     let n = new_number state device in
     let inside : (u : ℕ) → kept_at snapshot n u < lower_len stack snapshot.store = λ u. kept_inside snapshot n u (lower_len stack snapshot.store) some take.place_there in
@@ -210,7 +210,7 @@ keeps_step zeros written at stack state values device chunk snapshot a sound fit
           ∙ ap (λ (b : Below). by_below b (Some zeros) None (λ to place. content zeros stack other later to place)) moved.new
           ∙ ap (value_read zeros later) (store_read stack other MOST_DEPTH snapshot.store (kept_at snapshot n s) sound over.store (kept_inside snapshot n s (lower_len stack snapshot.store) over.chunk_some take.place_there))
           ∙ ap Some (copies_move zeros written at (read stack state snapshot.origin) (home_kept stack snapshot n) (first_of snapshot chunk) (count_of stack snapshot device chunk) values s
-          (take_apart stack state device chunk snapshot sound fitting tidy take) moved.from moved.before)
+          (take_fresh stack state device chunk snapshot sound fitting tidy take) moved.from moved.before)
           ∙ some_value zeros values (read stack state snapshot.origin s) (take.readable s moved.from moved.before)
           ∙ sym (ap (λ (b : Below). by_below b (Some zeros) None (λ to place. content zeros stack state values to place)) moved.old)
           ∙ sym (content_down zeros stack state values e s sound)

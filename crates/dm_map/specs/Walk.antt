@@ -72,8 +72,8 @@ abbrev pub refuses : Description → Op → ℕ → Bool
 refuses stack ops.Read device = false
 refuses stack ops.Write device = is_ro_at stack device
 
--- a sink is ready for len sectors of a stack: it is one of this stack, with room for them
-pub record IsReady {S : Type 0} (stack_of : S → Description) (room_of : S → ℕ) (sink : S) (of : Description) (len : ℕ) : Type 0 where
+-- a sink is one of this stack, and has room for len sectors
+pub record HasRoomFor {S : Type 0} (stack_of : S → Description) (room_of : S → ℕ) (sink : S) (of : Description) (len : ℕ) : Type 0 where
   pub stack : stack_of sink ≡ of
   pub room : len ≤ room_of sink
 

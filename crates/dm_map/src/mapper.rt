@@ -15,7 +15,7 @@ ghost use Rattle.dm_map.specs.Sink.{OfBeginning};
 ghost use Rattle.dm_map.specs.State.{start_state, taken_at};
 ghost use Rattle.dm_map.specs.Tables.{snapshot_at};
 ghost use Rattle.dm_map.specs.Usage.{usage_of};
-ghost use Rattle.dm_map.specs.Walk.{IsReady, IsWalked};
+ghost use Rattle.dm_map.specs.Walk.{HasRoomFor, IsWalked};
 
 use crate::sink::Sink;
 use crate::tables::empty_tables;
@@ -182,7 +182,7 @@ impl<'s, T: Taken> Mapper<'s, T> {
     ) -> Result<(), S::Fault>
         requires some { 1 ≤ len }
         requires device { device < length self.old.stack.devices }
-        requires sink { IsReady S.stack S.room sink.old self.old.stack len }
+        requires sink { HasRoomFor S.stack S.room sink.old self.old.stack len }
         ensures walked { IsWalked S.took S.left S.stack S.room S.faults result sink.old sink.new (walking_of self.old) (walking_of self.new) (request_step self.old.stack op device start len self.old.state) len }
         ensures bounded { op ≡ Read → self.new.looked.searches ≤ self.old.looked.searches + stack_depth self.old.stack * read_stretches self.old.stack self.old.state device start len }
         ensures stopped { self.new.stopped ≡ self.old.stopped }

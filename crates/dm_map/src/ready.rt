@@ -18,7 +18,7 @@ ghost use Rattle.dm_map.specs.Steps.{keep};
 ghost use Rattle.dm_map.specs.Stretch.{ground_unit, IsThere};
 ghost use Rattle.dm_map.specs.Tables.{snapshot_at};
 ghost use Rattle.dm_map.specs.Units.{diskless_len, piece_len, units_in, units_of, IsOnDisk, IsOnDisks};
-ghost use Rattle.dm_map.specs.Walk.{scene, IsReady, IsWalked};
+ghost use Rattle.dm_map.specs.Walk.{scene, HasRoomFor, IsWalked};
 
 use crate::piece::Piece;
 use crate::places::kept_at;
@@ -51,7 +51,7 @@ pub(crate) fn make_ready<S: Sink, T: Taken>(
     requires is { snapshot_at walker.old.stack device ≡ Some snapshot.now }
     requires sound { IsSnapshotSound walker.old.stack device 0 (device_len walker.old.stack device) snapshot.now }
     requires inside { first_of snapshot.now chunk < device_len walker.old.stack device }
-    requires sink { IsReady S.stack S.room sink.old walker.old.stack 0 }
+    requires sink { HasRoomFor S.stack S.room sink.old walker.old.stack 0 }
     ensures { IsWalked S.took S.left S.stack S.room S.faults result sink.old sink.new walker.old walker.new (ready walker.old.stack snapshot.now device chunk walker.old.state) 0 }
 {
     if is_settled(walker, device, chunk) {
@@ -133,7 +133,7 @@ fn copy_chunk<S: Sink, T: Taken>(
     requires chunk_small { snapshot.now.chunk ≤ 1024 }
     requires place { has_place walker.old.stack snapshot.now number ≡ true }
     requires part { sector % snapshot.now.chunk + len ≤ snapshot.now.chunk }
-    requires sink { IsReady S.stack S.room sink.old walker.old.stack 0 }
+    requires sink { HasRoomFor S.stack S.room sink.old walker.old.stack 0 }
     ensures { IsWalked S.took S.left S.stack S.room S.faults result sink.old sink.new walker.old walker.new (keep (copies walker.old.stack walker.old.state snapshot.now number sector len) walker.old.state) 0 }
 {
     walker.is_sound();
@@ -185,7 +185,7 @@ pub(crate) fn write_store<S: Sink, T: Taken>(
 ) -> Result<(), S::Fault>
     requires inside { sector + len ≤ lower_len walker.old.stack store.now }
     requires store { IsStore walker.old.stack store.now }
-    requires sink { IsReady S.stack S.room sink.old walker.old.stack 0 }
+    requires sink { HasRoomFor S.stack S.room sink.old walker.old.stack 0 }
     ensures { IsWalked S.took S.left S.stack S.room S.faults result sink.old sink.new walker.old walker.new (keep (store_writes walker.old.stack store.now sector len) walker.old.state) 0 }
 {
     walker.is_sound();

@@ -18,7 +18,7 @@ ghost use Rattle.dm_map.specs.Path.{path};
 ghost use Rattle.dm_map.specs.SnapshotWrites.{write_snapshot};
 ghost use Rattle.dm_map.specs.Steps.{steps};
 ghost use Rattle.dm_map.specs.Units.{Fails, diskless_len, piece_len, units_in, units_of, IsOnDisk, IsOnDisks};
-ghost use Rattle.dm_map.specs.Walk.{disk_unit, zero_unit, refuses, range_step, line_step, stripes_step, AreInChunk, AreInSnapshot, AreInStripes, IsHanded, IsReady, IsWalked};
+ghost use Rattle.dm_map.specs.Walk.{disk_unit, zero_unit, refuses, range_step, line_step, stripes_step, AreInChunk, AreInSnapshot, AreInStripes, IsHanded, HasRoomFor, IsWalked};
 
 use crate::chunk::{part_of_chunk, read_place};
 use crate::piece::Piece;
@@ -51,7 +51,7 @@ pub(crate) fn map_range<S: Sink, T: Taken>(
 ) -> Result<(), S::Fault>
     requires some { 1 ≤ len }
     requires inside { sector + len ≤ lower_len walker.old.stack lower }
-    requires sink { IsReady S.stack S.room sink.old walker.old.stack len }
+    requires sink { HasRoomFor S.stack S.room sink.old walker.old.stack len }
     ensures walked { IsWalked S.took S.left S.stack S.room S.faults result sink.old sink.new walker.old walker.new (range_step walker.old.stack op levels lower walker.old.state sector len) len }
     ensures bounded { IsBounded walker.old walker.new op (lower_depth walker.old.stack lower) (path walker.old.stack walker.old.state levels lower) sector len }
 {
@@ -75,7 +75,7 @@ fn map_device<S: Sink, T: Taken>(
 ) -> Result<(), S::Fault>
     requires some { 1 ≤ len }
     requires inside { sector + len ≤ device_len walker.old.stack device }
-    requires sink { IsReady S.stack S.room sink.old walker.old.stack len }
+    requires sink { HasRoomFor S.stack S.room sink.old walker.old.stack len }
     ensures walked { IsWalked S.took S.left S.stack S.room S.faults result sink.old sink.new walker.old walker.new (range_step walker.old.stack op levels (Device device) walker.old.state sector len) len }
     ensures bounded { IsBounded walker.old walker.new op (depth_of walker.old.stack device) (path walker.old.stack walker.old.state levels (Device device)) sector len }
 {
@@ -113,7 +113,7 @@ fn map_line<S: Sink, T: Taken>(
     requires small { line.now.len ≤ 2 ^ 50 }
     requires found { found_at walker.old.stack device line.now.start ≡ Some line.now }
     requires sound { IsTargetSound walker.old.stack device line.now.start line.now.len line.now.target }
-    requires sink { IsReady S.stack S.room sink.old walker.old.stack len }
+    requires sink { HasRoomFor S.stack S.room sink.old walker.old.stack len }
     ensures walked { IsWalked S.took S.left S.stack S.room S.faults result sink.old sink.new walker.old walker.new (line_step walker.old.stack op levels device line.now.target walker.old.state distance len) len }
     ensures bounded { IsLineBounded walker.old walker.new op levels device line.now distance len }
 {
@@ -153,7 +153,7 @@ fn map_stripes<S: Sink, T: Taken>(
     requires some { 1 ≤ len }
     requires inside { AreInStripes walker.old.stack chunk.now columns.now distance len }
     requires count { count.now ≡ length columns.now }
-    requires sink { IsReady S.stack S.room sink.old walker.old.stack len }
+    requires sink { HasRoomFor S.stack S.room sink.old walker.old.stack len }
     ensures walked { IsWalked S.took S.left S.stack S.room S.faults result sink.old sink.new walker.old walker.new (stripes_step walker.old.stack op levels chunk.now columns.now walker.old.state distance len) len }
     ensures bounded { (device : ℕ) → IsTargetBounded walker.old walker.new op levels device (Striped chunk.now columns.now) distance len }
 {
@@ -189,7 +189,7 @@ fn map_snapshot<S: Sink, T: Taken>(
 ) -> Result<(), S::Fault>
     requires inside { AreInSnapshot walker.old.stack device snapshot.now sector len }
     requires small { sector + len ≤ 2 ^ 50 }
-    requires sink { IsReady S.stack S.room sink.old walker.old.stack len }
+    requires sink { HasRoomFor S.stack S.room sink.old walker.old.stack len }
     ensures walked { IsWalked S.took S.left S.stack S.room S.faults result sink.old sink.new walker.old walker.new (line_step walker.old.stack op levels device (Snapshot snapshot.now) walker.old.state sector len) len }
     ensures bounded { IsTargetBounded walker.old walker.new op levels device (Snapshot snapshot.now) sector len }
 {
@@ -219,7 +219,7 @@ fn map_chunk<S: Sink, T: Taken>(
 ) -> Result<(), S::Fault>
     requires some { 1 ≤ len }
     requires chunk { AreInChunk walker.old.stack device snapshot.now sector len }
-    requires sink { IsReady S.stack S.room sink.old walker.old.stack len }
+    requires sink { HasRoomFor S.stack S.room sink.old walker.old.stack len }
     ensures walked { IsWalked S.took S.left S.stack S.room S.faults result sink.old sink.new walker.old walker.new (line_step walker.old.stack op levels device (Snapshot snapshot.now) walker.old.state sector len) len }
     ensures bounded { IsTargetBounded walker.old walker.new op levels device (Snapshot snapshot.now) sector len }
 {
@@ -244,7 +244,7 @@ fn write_chunk<S: Sink, T: Taken>(
 ) -> Result<(), S::Fault>
     requires some { 1 ≤ len }
     requires chunk { AreInChunk walker.old.stack device snapshot.now sector len }
-    requires sink { IsReady S.stack S.room sink.old walker.old.stack len }
+    requires sink { HasRoomFor S.stack S.room sink.old walker.old.stack len }
     ensures { IsWalked S.took S.left S.stack S.room S.faults result sink.old sink.new walker.old walker.new (steps (write_snapshot walker.old.stack snapshot.now device) walker.old.state sector len) len }
 {
     let chunk = sector / snapshot.chunk;

@@ -1,4 +1,4 @@
--- what is carried, behind the blocks so far, makes them a list with the id at its rank
+-- what is carried, after the blocks so far, makes them a list with the id at its rank
 use Rattle.std.proofs.Common.{◌<◌, ◌≤◌, ◌/◌}
 use Rattle.dm_map.specs.Blocks.{Carries}
 use Rattle.dm_map.proofs.run_taken.order.make_way.Given as goal
