@@ -4,7 +4,7 @@ use Rattle.std.specs.List.{AllByRecursion}
 use Rattle.std.proofs.lemmas.List.{append_cancel_left}
 use Rattle.dm_replay.specs.declared.value_run.ValueRun.{ValueRun}
 use Rattle.dm_replay.specs.declared.value_run.ValueRun.TheVariants as runs
-use Rattle.dm_replay.specs.Runs.{AreApart, AreMaximal, answers_in, first_answer, flat, further_answer, next_answer, run_answers, run_len}
+use Rattle.dm_replay.specs.Runs.{NoneJoins, AreMaximal, answers_in, first_answer, flat, further_answer, next_answer, run_answers, run_len}
 use Rattle.dm_replay.specs.Values.{Answer}
 use Rattle.dm_replay.proofs.RunLemmas.{answer_next, answer_none}
 
@@ -52,15 +52,15 @@ same_run (runs.Error len) (runs.Error len') first is = ap runs.Error is
 abbrev AreSome : List ValueRun → Type 0
 AreSome all = AllByRecursion (λ run. 0 < run_len run) all
 
-apart_rest : (run : ValueRun) (rest : List ValueRun) → AreApart (run ∷ rest) → AreApart rest
+apart_rest : (run : ValueRun) (rest : List ValueRun) → NoneJoins (run ∷ rest) → NoneJoins rest
 apart_rest run [] apart = tt
 apart_rest run (after ∷ rest) apart = apart.1
 
-ends_there : (run : ValueRun) (rest : List ValueRun) → AreSome rest → AreApart (run ∷ rest) → Begins (flat rest) (further_answer (first_answer run) (run_len run)) → ⊥
+ends_there : (run : ValueRun) (rest : List ValueRun) → AreSome rest → NoneJoins (run ∷ rest) → Begins (flat rest) (further_answer (first_answer run) (run_len run)) → ⊥
 ends_there run [] some apart begins = begins
 ends_there run (after ∷ rest) some apart begins = apart.0 (sym (begins_as (first_answer after) _ (run_len after) (flat rest) some.0 begins))
 
-one : (a b : List ValueRun) → AreSome a → AreApart a → AreSome b → AreApart b → flat a ≡ flat b → a ≡ b
+one : (a b : List ValueRun) → AreSome a → NoneJoins a → AreSome b → NoneJoins b → flat a ≡ flat b → a ≡ b
 one [] [] some apart some' apart' e = refl
 one [] (run ∷ rest) some apart some' apart' e = absurd (begins_with (first_answer run) (run_len run) (flat rest) [] some'.0 (sym e))
 one (run ∷ rest) [] some apart some' apart' e = absurd (begins_with (first_answer run) (run_len run) (flat rest) [] some.0 e)

@@ -10,7 +10,7 @@ use Rattle.dm_replay.specs.declared.value_run.ValueRun.{ValueRun}
 use Rattle.dm_replay.specs.Patches.{values_in}
 use Rattle.dm_replay.specs.Player.{HasPlayed}
 use Rattle.dm_replay.specs.PlayLaws.{played_both}
-use Rattle.dm_replay.specs.Ranges.{AreApart, HoldOn, ranged}
+use Rattle.dm_replay.specs.Ranges.{CanCopyAtOnce, HoldOn, ranged}
 use Rattle.dm_replay.specs.Runs.{answers_in, first_answer, flat, run_answers, run_len}
 use Rattle.dm_replay.specs.Values.{Answer, Gives, Failed, Values, played, played_answers, sector_past}
 use Rattle.dm_replay.proofs.UnitPlays.{reads_played, reads_answer, reads_past, zeros_played, zeros_answer, zeros_past, drops_played, drops_answer, drops_past, fails_played, fails_answer, fails_past, writes_played, writes_answer, writes_past, fills_played, fills_answer, fills_past, copies_played, copies_answer, copies_past}
@@ -80,10 +80,10 @@ fill_played old after disk start n stores = record {
   number_is = refl;
 }
 
-pub copy_played : (old : Playing) (after : DiskValues) (disk start to to_start n : ℕ) (first : Value) → HoldOn (held old) disk start n first → AreApart disk start to to_start n → HasStored old.values after to to_start n first
+pub copy_played : (old : Playing) (after : DiskValues) (disk start to to_start n : ℕ) (first : Value) → HoldOn (held old) disk start n first → CanCopyAtOnce disk start to to_start n → HasStored old.values after to to_start n first
     → HasPlayed old (units_in (CopyOf disk start to to_start) n) (record { values = after; number = old.number; next = old.next; runs = old.runs })
-copy_played old after disk start to to_start n first hold apart stores = record {
-  values_are = λ on sector. stores on sector ∙ sym (copies_played old.number old.next disk start to to_start n (held old) first hold apart on sector);
+copy_played old after disk start to to_start n first hold at_once stores = record {
+  values_are = λ on sector. stores on sector ∙ sym (copies_played old.number old.next disk start to to_start n (held old) first hold at_once on sector);
   answers_are = sym (append-nil (flat old.runs)) ∙ ap (λ (rest : List Answer). flat old.runs ++ rest) (sym (copies_answer old.number old.next disk start to to_start n (held old)));
   next_is = sym (copies_past disk start to to_start n old.next);
   number_is = refl;

@@ -4,7 +4,7 @@ use Rattle.std.specs.List.{AllByRecursion}
 use Rattle.std.proofs.lemmas.Grind.{flat_map-append}
 use Rattle.std.proofs.lemmas.List.{append-nil}
 use Rattle.dm_replay.specs.declared.value_run.ValueRun.{ValueRun}
-use Rattle.dm_replay.specs.Runs.{AreApart, AreMaximal, Joins, answers_in, first_answer, flat, further_answer, next_answer, run_answers, run_len}
+use Rattle.dm_replay.specs.Runs.{NoneJoins, AreMaximal, Joins, answers_in, first_answer, flat, further_answer, next_answer, run_answers, run_len}
 use Rattle.dm_replay.specs.Values.{Answer, Gives, Failed}
 use Rattle.dm_replay.proofs.PatchLemmas.{further_next, further_none}
 
@@ -51,18 +51,18 @@ some_push : (runs : List ValueRun) (last : ValueRun) → AreSome runs → 0 < ru
 some_push [] last each some = (some, tt)
 some_push (run ∷ runs) last each some = (each.0, some_push runs last each.1 some)
 
-apart_front : (runs : List ValueRun) (last : ValueRun) → AreApart (runs ++ last ∷ []) → AreApart runs
+apart_front : (runs : List ValueRun) (last : ValueRun) → NoneJoins (runs ++ last ∷ []) → NoneJoins runs
 apart_front [] last apart = tt
 apart_front (run ∷ []) last apart = tt
 apart_front (run ∷ after ∷ runs) last apart = (apart.0, apart_front (after ∷ runs) last apart.1)
 
-apart_push : (runs : List ValueRun) (last run : ValueRun) → AreApart (runs ++ last ∷ []) → (Joins last run → ⊥) → AreApart (runs ++ last ∷ [] ++ run ∷ [])
+apart_push : (runs : List ValueRun) (last run : ValueRun) → NoneJoins (runs ++ last ∷ []) → (Joins last run → ⊥) → NoneJoins (runs ++ last ∷ [] ++ run ∷ [])
 apart_push [] last run apart differ = (differ, tt)
 apart_push (first ∷ []) last run apart differ = (apart.0, (differ, tt))
 apart_push (first ∷ after ∷ runs) last run apart differ = (apart.0, apart_push (after ∷ runs) last run apart.1 differ)
 
 -- only where the last run begins plays a part
-apart_longer : (runs : List ValueRun) (last longer : ValueRun) → AreApart (runs ++ last ∷ []) → first_answer longer ≡ first_answer last → AreApart (runs ++ longer ∷ [])
+apart_longer : (runs : List ValueRun) (last longer : ValueRun) → NoneJoins (runs ++ last ∷ []) → first_answer longer ≡ first_answer last → NoneJoins (runs ++ longer ∷ [])
 apart_longer [] last longer apart first = tt
 apart_longer (run ∷ []) last longer apart first = (λ joins. apart.0 (joins ∙ first), tt)
 apart_longer (run ∷ after ∷ runs) last longer apart first = (apart.0, apart_longer (after ∷ runs) last longer apart.1 first)

@@ -4,7 +4,7 @@ use Rattle.dm_map.specs.Contents.{stored, played as contents_played}
 use Rattle.dm_map.specs.Units.{ReadOf, WriteOf, Zeros, Drops, Fails, CopyOf, FillOf, units_in}
 use Rattle.dm_replay.specs.declared.value.Value.{Value}
 use Rattle.dm_replay.specs.declared.value.Value.TheVariants as value
-use Rattle.dm_replay.specs.Ranges.{AreApart, HoldOn, ranged}
+use Rattle.dm_replay.specs.Ranges.{CanCopyAtOnce, HoldOn, ranged}
 use Rattle.dm_replay.specs.PlayLaws.{AreSame}
 use Rattle.dm_replay.specs.Runs.{answers_in}
 use Rattle.dm_replay.specs.Values.{Answer, Gives, Failed, Values, next_value, played, played_answers, sector_past}
@@ -128,16 +128,16 @@ unfolding contents_played
 fills_played request sector on at zero values disk s = sym (ranged_none values on at value.Zero disk s)
 fills_played request sector on at (suc n) values disk s = fills_played request sector on (suc at) n (stored values on at value.Zero) disk s ∙ ranged_step values on at n value.Zero disk s
 
-pub copies_played : (request sector disk start to to_start n : ℕ) (values : Values) (first : Value) → HoldOn values disk start n first → AreApart disk start to to_start n
+pub copies_played : (request sector disk start to to_start n : ℕ) (values : Values) (first : Value) → HoldOn values disk start n first → CanCopyAtOnce disk start to to_start n
     → AreSame (played request sector (units_in (CopyOf disk start to to_start) n) values) (ranged values to to_start n first)
 unfolding contents_played
-copies_played request sector disk start to to_start zero values first hold apart on s = sym (ranged_none values to to_start first on s)
-copies_played request sector disk start to to_start (suc n) values first hold apart on s =
+copies_played request sector disk start to to_start zero values first hold at_once on s = sym (ranged_none values to to_start first on s)
+copies_played request sector disk start to to_start (suc n) values first hold at_once on s =
     let here = hold_here values disk start n first hold in
     let after = stored values to to_start (values disk start) in
     copies_played request sector disk (suc start) to (suc to_start) n after (next_value first)
-    (λ i within. stored_other values to to_start (values disk start) disk (suc start + i) (λ same at. never start to_start n i within (apart same (omega (arith, at))) at) ∙ hold_later values disk start n first hold i within)
-    (λ same before. let far = apart same (omega (arith, before)) in omega (arith, far)) on s
+    (λ i within. stored_other values to to_start (values disk start) disk (suc start + i) (λ same at. never start to_start n i within (at_once same (omega (arith, at))) at) ∙ hold_later values disk start n first hold i within)
+    (λ same before. let far = at_once same (omega (arith, before)) in omega (arith, far)) on s
     ∙ ap (λ (x : Value). ranged (stored values to to_start x) to (suc to_start) n (next_value first) on s) here
     ∙ ranged_step values to to_start n first on s
   where

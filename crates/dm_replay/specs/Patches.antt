@@ -1,7 +1,7 @@
 -- The values of disks by what was stored, one range after the other.
 use Rattle.std.specs.Prelude.{ℕ, ◌≤◌, List, [], ◌∷◌}
 use Rattle.dm_replay.specs.declared.patch.Patch.{Patch}
-use Rattle.dm_replay.specs.declared.stretch.Stretch.{Stretch}
+use Rattle.dm_replay.specs.declared.range_values.RangeValues.{RangeValues}
 use Rattle.dm_replay.specs.Ranges.{HoldOn, ranged}
 use Rattle.dm_replay.specs.Values.{Values, old_values}
 
@@ -18,7 +18,7 @@ unfoldable pub values_in : List Patch → Values
 values_in patches = overlaid old_values patches
 
 -- the first of len sectors hold values that go on from one
-pub record AreFirst (values : Values) (disk start len : ℕ) (stretch : Stretch) : Type 0 where
-  pub some : 1 ≤ stretch.len
-  pub most : stretch.len ≤ len
-  pub hold : HoldOn values disk start stretch.len stretch.first
+pub record AreFirst (values : Values) (disk start len : ℕ) (range : RangeValues) : Type 0 where
+  pub some : 1 ≤ range.len
+  pub most : range.len ≤ len
+  pub hold : HoldOn values disk start range.len range.first

@@ -16,5 +16,5 @@ abbrev pub HoldOn : Values → (disk start len : ℕ) → Value → Type 0
 HoldOn values disk start len first = (i : ℕ) → i < len → values disk (start + i) ≡ further first i
 
 -- len sectors of a disk from a start on can be copied at once to others: none of them is read after it was written
-abbrev pub AreApart : (disk start to to_start len : ℕ) → Type 0
-AreApart disk start to to_start len = disk ≡ to → start < to_start → start + len ≤ to_start
+abbrev pub CanCopyAtOnce : (disk start to to_start len : ℕ) → Type 0
+CanCopyAtOnce disk start to to_start len = disk ≡ to → start < to_start → start + len ≤ to_start

@@ -45,12 +45,12 @@ abbrev pub Joins : ValueRun → ValueRun → Type 0
 Joins run after = further_answer (first_answer run) (run_len run) ≡ first_answer after
 
 -- no run joins the one before it
-abbrev pub AreApart : List ValueRun → Type 0
-AreApart [] = Unit {0}
-AreApart (run ∷ []) = Unit {0}
-AreApart (run ∷ after ∷ rest) = (Joins run after → ⊥) × AreApart (after ∷ rest)
+abbrev pub NoneJoins : List ValueRun → Type 0
+NoneJoins [] = Unit {0}
+NoneJoins (run ∷ []) = Unit {0}
+NoneJoins (run ∷ after ∷ rest) = (Joins run after → ⊥) × NoneJoins (after ∷ rest)
 
 -- maximal runs: none is empty, and none joins the one before it
 pub record AreMaximal (all : List ValueRun) : Type 0 where
   pub some : AllByRecursion (λ run. 0 < run_len run) all
-  pub apart : AreApart all
+  pub apart : NoneJoins all

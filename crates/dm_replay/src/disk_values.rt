@@ -9,7 +9,7 @@ ghost use Rattle.dm_replay.specs.Ranges.{ranged};
 ghost use Rattle.dm_replay.specs.Values.{further};
 
 use crate::patch::Patch;
-use crate::stretch::Stretch;
+use crate::range_values::RangeValues;
 use crate::value::Value;
 use dm_stack::DiskId;
 use std::alloc::{AllocError, Global};
@@ -35,7 +35,7 @@ impl DiskValues {
     ///
     /// Cost: linear in the patches that are newer than the one that has the first sector. No memory
     /// is taken.
-    pub(crate) fn first_stretch(&self, disk: DiskId, start: u64, len: u64) -> Stretch
+    pub(crate) fn first_values(&self, disk: DiskId, start: u64, len: u64) -> RangeValues
         requires some { 1 ≤ len }
         requires small { start + len < 2 ^ 64 }
         ensures { AreFirst (values_in self.now.patches.items) disk start len result }
@@ -51,7 +51,7 @@ impl DiskValues {
             left = patch.sectors_before(disk, start, left);
             older -= 1;
         }
-        Stretch {
+        RangeValues {
             first: Value::Old {
                 disk,
                 sector: start,
@@ -60,7 +60,7 @@ impl DiskValues {
         }
     }
 
-    /// Stores the values of a stretch in the sectors of a disk from `start` on.
+    /// Stores the values of a range in the sectors of a disk from `start` on.
     ///
     /// # Errors
     ///
@@ -69,16 +69,16 @@ impl DiskValues {
         &mut self,
         disk: DiskId,
         start: u64,
-        stretch: Stretch,
+        range: RangeValues,
     ) -> Result<(), AllocError>
-        requires { start + stretch.len < 2 ^ 64 }
-        ensures { OnOk result ((on sector : ℕ) → values_in self.new.patches.items on sector ≡ ranged (values_in self.old.patches.items) disk start stretch.len stretch.first on sector) }
+        requires { start + range.len < 2 ^ 64 }
+        ensures { OnOk result ((on sector : ℕ) → values_in self.new.patches.items on sector ≡ ranged (values_in self.old.patches.items) disk start range.len range.first on sector) }
     {
-        let first: Value = stretch.first;
+        let first: Value = range.first;
         self.patches.push(Patch {
             disk,
             start,
-            len: stretch.len,
+            len: range.len,
             first,
         })?;
         Ok(())
@@ -86,7 +86,7 @@ impl DiskValues {
 }
 
 /// The first sectors of a range of `len` sectors that a patch has, which has the first of them.
-fn rest_of(patch: &Patch, start: u64, len: u64) -> Stretch
+fn rest_of(patch: &Patch, start: u64, len: u64) -> RangeValues
     requires some { 1 ≤ len }
     requires from { patch.now.start ≤ start }
     requires before { start < patch.now.start + patch.now.len }
@@ -96,7 +96,7 @@ fn rest_of(patch: &Patch, start: u64, len: u64) -> Stretch
     ensures first { result.first ≡ further patch.now.first (start - patch.now.start) }
 {
     let past = start - patch.start;
-    Stretch {
+    RangeValues {
         first: patch.first.further(past),
         len: len.min(patch.len - past),
     }

@@ -2,12 +2,12 @@
 
 ghost use Rattle.std.specs.Prelude.{◌≡◌, ◌+◌, ◌<◌, ◌≤◌, ◌^◌, ◌∷◌, ◌++◌, [], OnOk};
 ghost use Rattle.dm_map.specs.Units.{ReadOf, WriteOf, CopyOf, FillOf, units_in};
-ghost use Rattle.dm_replay.specs.Ranges.{AreApart};
+ghost use Rattle.dm_replay.specs.Ranges.{CanCopyAtOnce};
 ghost use Rattle.dm_replay.specs.Player.{HasPlayed};
 ghost use Rattle.dm_replay.specs.Runs.{flat, run_answers, run_len};
 
 use crate::disk_values::DiskValues;
-use crate::stretch::Stretch;
+use crate::range_values::RangeValues;
 use crate::value::Value;
 use crate::value_run::ValueRun;
 use crate::value_runs::ValueRuns;
@@ -54,10 +54,10 @@ impl Playing {
         let mut at = start;
         let mut left = len;
         while left > 0 {
-            let stretch = self.values.first_stretch(disk, at, left);
-            self.answer(stretch.first.run(stretch.len))?;
-            at += stretch.len;
-            left -= stretch.len;
+            let range = self.values.first_values(disk, at, left);
+            self.answer(range.first.run(range.len))?;
+            at += range.len;
+            left -= range.len;
         }
         Ok(())
     }
@@ -78,7 +78,7 @@ impl Playing {
             request: number,
             sector,
         };
-        self.values.store(disk, start, Stretch { first, len })?;
+        self.values.store(disk, start, RangeValues { first, len })?;
         Ok(())
     }
 
@@ -88,7 +88,7 @@ impl Playing {
         ensures { OnOk result (HasPlayed self.old (units_in (FillOf disk start) len) self.new) }
     {
         let first = Value::Zero;
-        self.values.store(disk, start, Stretch { first, len })?;
+        self.values.store(disk, start, RangeValues { first, len })?;
         Ok(())
     }
 
@@ -109,10 +109,10 @@ impl Playing {
         let mut to_at = to_start;
         let mut left = len;
         while left > 0 {
-            let part = apart_len(disk, at, to, to_at, left);
-            let stretch = self.values.first_stretch(disk, at, part);
-            let copied = stretch.len;
-            self.values.store(to, to_at, stretch)?;
+            let part = len_at_once(disk, at, to, to_at, left);
+            let range = self.values.first_values(disk, at, part);
+            let copied = range.len;
+            self.values.store(to, to_at, range)?;
             at += copied;
             to_at += copied;
             left -= copied;
@@ -123,11 +123,11 @@ impl Playing {
 
 /// How many of `len` sectors can be copied at once: where the target begins inside the source, later
 /// sectors are read after earlier ones were written there.
-fn apart_len(disk: DiskId, start: u64, to: DiskId, to_start: u64, len: u64) -> u64
+fn len_at_once(disk: DiskId, start: u64, to: DiskId, to_start: u64, len: u64) -> u64
     requires { 1 ≤ len }
     ensures some { 1 ≤ result }
     ensures most { result ≤ len }
-    ensures apart { AreApart disk start to to_start result }
+    ensures at_once { CanCopyAtOnce disk start to to_start result }
 {
     if disk == to && start < to_start {
         len.min(to_start - start)

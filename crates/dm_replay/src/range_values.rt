@@ -1,4 +1,4 @@
-//! Stretches: consecutive sectors whose values go on from the first.
+//! The values of consecutive sectors, which go on from that of the first.
 
 ghost use Rattle.std.specs.Prelude.{◌<◌, ◌^◌};
 ghost use Rattle.dm_replay.specs.Values.{value_end};
@@ -7,7 +7,7 @@ use crate::value::Value;
 
 /// The value of the first of `len` sectors, from which the others go on.
 #[derive(Clone, Copy, Drop)]
-pub(crate) struct Stretch {
+pub(crate) struct RangeValues {
     pub first: Value,
     pub len: u64,
     ghost room: { value_end first len < 2 ^ 64 },

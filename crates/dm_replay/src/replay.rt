@@ -79,9 +79,9 @@ impl<'s, T: Taken> Replay<'s, T> {
     /// Plays a request of a top device, and returns what each of its sectors answered, in maximal
     /// runs: what a read gave, what a write stored, or that it failed.
     ///
-    /// Cost: that of mapping the request, and for each stretch of sectors that is read or copied time
-    /// linear in the ranges that were stored since the stretch was. Memory grows with the ranges that
-    /// were stored and with the requests, however long the disks are.
+    /// Cost: that of mapping the request, and for each range of sectors that is read or copied at once
+    /// time linear in the ranges that were stored since it was. Memory grows with the ranges that were
+    /// stored and with the requests, however long the disks are.
     ///
     /// # Errors
     ///

@@ -3,7 +3,7 @@ use Rattle.dm_replay.specs.declared.patch.Patch.{Patch}
 use Rattle.dm_replay.specs.Patches.{AreFirst, values_in}
 use Rattle.dm_replay.specs.Values.{Values}
 use Rattle.dm_replay.proofs.PatchLemmas.{in_patch, newest, none_older, out_of_patch}
-use Rattle.dm_replay.proofs.disk_values.DiskValues.first_stretch.Goals as goal
+use Rattle.dm_replay.proofs.disk_values.DiskValues.first_values.Goals as goal
 
 pub returns-then-has : goal.returns-then-has
 returns-then-has c =

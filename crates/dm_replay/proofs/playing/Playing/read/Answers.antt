@@ -17,7 +17,7 @@ loop-left-init c =
 
 pub loop-left-preserved : goal.loop-left-preserved
 loop-left-preserved c =
-    let a = c.args in let l = c.loop-left in let s = c.first_stretch-stretch in let n = s.result.len in let done = a.len - l.left in
+    let a = c.args in let l = c.loop-left in let s = c.first_values-range in let n = s.result.len in let done = a.len - l.left in
     let said = c.in_ok-answer.ensures in
     let on : l.at ≡ a.start + done = omega (arith, l.invariant.at_is, l.invariant.within) in
     let all : done + n ≡ a.len - (l.left - n) = omega (arith, l.invariant.within, s.ensures.most) in
