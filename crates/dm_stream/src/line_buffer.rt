@@ -38,7 +38,7 @@ pub(crate) fn make_room(buffer: &mut [u8], start: usize, end: usize, room: usize
 }
 
 /// Reads once, into the buffer after its first `end` bytes.
-pub(crate) fn read_behind<R: Input>(
+pub(crate) fn read_after<R: Input>(
     buffer: &mut [u8],
     end: usize,
     reader: &mut R,

@@ -6,7 +6,7 @@ ghost use Rattle.std.specs.Borrow.{sem};
 ghost use Rattle.std.specs.Io.BufRead.{Rests};
 ghost use Rattle.dm_table.specs.DeviceIo.{delivery, since, fault_of, end_of};
 
-use crate::line_buffer::{line_len, make_room, read_behind};
+use crate::line_buffer::{line_len, make_room, read_after};
 use dm_table::{InFault, Input};
 use memchr::memchr;
 use std::marker::Model;
@@ -143,7 +143,7 @@ impl Lines {
         let held = self.end - self.start;
         self.start = make_room(&mut self.buffer, self.start, self.end, MOST_LINE_BYTES);
         self.end = self.start + held;
-        let n = read_behind(&mut self.buffer, self.end, reader)?;
+        let n = read_after(&mut self.buffer, self.end, reader)?;
         self.end += n;
         Ok(n)
     }

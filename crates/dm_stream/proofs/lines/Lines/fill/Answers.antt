@@ -7,27 +7,27 @@ pub returns-clause-held : goal.returns-clause-held
 returns-clause-held g c =
     let start = c.make_room-self-inside.result in
     let len = c.self.inside.end - c.self.inside.start in
-    refilled c.read_behind.new.buffer c.args.self.now (g.R.Input.handed c.args.reader.now) (g.R.Input.handed c.read_behind.new.reader) start len c.in_ok-n.n
-    (same_range c.read_behind.new.buffer c.make_room-self-inside.new.buffer c.args.self.now start len c.read_behind.ensures.kept (c.make_room-self-inside.ensures.kept ∙ c.self.view_is))
+    refilled c.read_after.new.buffer c.args.self.now (g.R.Input.handed c.args.reader.now) (g.R.Input.handed c.read_after.new.reader) start len c.in_ok-n.n
+    (same_range c.read_after.new.buffer c.make_room-self-inside.new.buffer c.args.self.now start len c.read_after.ensures.kept (c.make_room-self-inside.ensures.kept ∙ c.self.view_is))
     c.in_ok-n.ensures.bytes
 
 pub returns-clause-none : goal.returns-clause-none
 returns-clause-none g c = λ none.
     let start = c.make_room-self-inside.result in
     let len = c.self.inside.end - c.self.inside.start in
-    none_behind c.read_behind.new.buffer c.args.self.now start len c.in_ok-n.n none
-    (same_range c.read_behind.new.buffer c.make_room-self-inside.new.buffer c.args.self.now start len c.read_behind.ensures.kept (c.make_room-self-inside.ensures.kept ∙ c.self.view_is))
+    none_behind c.read_after.new.buffer c.args.self.now start len c.in_ok-n.n none
+    (same_range c.read_after.new.buffer c.make_room-self-inside.new.buffer c.args.self.now start len c.read_after.ensures.kept (c.make_room-self-inside.ensures.kept ∙ c.self.view_is))
 
 pub returns-in_err-n-clause-err : goal.returns-in_err-n-clause-err
 returns-in_err-n-clause-err g c =
     let start = c.make_room-self-inside.result in
     let len = c.self.inside.end - c.self.inside.start in
     on_err c.from_residual.result _
-    (same_range c.read_behind.new.buffer c.make_room-self-inside.new.buffer c.args.self.now start len c.read_behind.ensures.kept (c.make_room-self-inside.ensures.kept ∙ c.self.view_is))
+    (same_range c.read_after.new.buffer c.make_room-self-inside.new.buffer c.args.self.now start len c.read_after.ensures.kept (c.make_room-self-inside.ensures.kept ∙ c.self.view_is))
 
 pub returns-in_err-n-clause-held : goal.returns-in_err-n-clause-held
 returns-in_err-n-clause-held g c =
     let start = c.make_room-self-inside.result in
     let len = c.self.inside.end - c.self.inside.start in
-    same_range c.read_behind.new.buffer c.make_room-self-inside.new.buffer c.args.self.now start len c.read_behind.ensures.kept (c.make_room-self-inside.ensures.kept ∙ c.self.view_is)
-    ∙ quiet_since (g.R.Input.handed c.args.reader.now) (g.R.Input.handed c.read_behind.new.reader) c.args.self.now c.in_err-n.ensures.bytes
+    same_range c.read_after.new.buffer c.make_room-self-inside.new.buffer c.args.self.now start len c.read_after.ensures.kept (c.make_room-self-inside.ensures.kept ∙ c.self.view_is)
+    ∙ quiet_since (g.R.Input.handed c.args.reader.now) (g.R.Input.handed c.read_after.new.reader) c.args.self.now c.in_err-n.ensures.bytes
