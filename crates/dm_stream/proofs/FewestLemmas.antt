@@ -4,21 +4,21 @@ use Rattle.std.specs.List.{flat_map, AllByRecursion}
 use Rattle.std.proofs.lemmas.List.{append-nil}
 use Rattle.dm_map.specs.Units.{BlockUnit, next_unit, units_in}
 use Rattle.dm_stream.specs.JoinLaws.{onto_begins}
-use Rattle.dm_stream.specs.Pieces.{UnitRun, piece_units, joins, is_after, onto, fewest, ArePiecesOf, AreApart, AreFewest}
+use Rattle.dm_stream.specs.Pieces.{UnitRun, piece_units, joins, is_after, onto, fewest, ArePiecesOf, NoneContinues, AreFewest}
 use Rattle.dm_stream.proofs.PieceLemmas.{joins-next, joined_next, is_after-one, is_after-more, onto-joined, fewest-apart, fewest-run}
 
 -- a unit before pieces: the units, the lengths and the number of the pieces that come of it
 record AddsUnit (unit : BlockUnit) (old new : List UnitRun) : Type 0 where
   flatten : flat_map piece_units new ≡ unit ∷ flat_map piece_units old
   each : AllByRecursion (λ piece. 0 < piece.len) old → AllByRecursion (λ piece. 0 < piece.len) new
-  apart : AreApart old → AreApart new
+  apart : NoneContinues old → NoneContinues new
   most : length new ≤ suc (length old)
 
 some_len : (len : ℕ) → 0 < suc len
 some_len len = omega arith
 
 -- pieces stay apart where the first of them is lengthened at its front
-apart-longer : (unit first : BlockUnit) (len : ℕ) (pieces : List UnitRun) → first ≡ next_unit unit → AreApart (record { first = first; len = len } ∷ pieces) → AreApart (record { first = unit; len = suc len } ∷ pieces)
+apart-longer : (unit first : BlockUnit) (len : ℕ) (pieces : List UnitRun) → first ≡ next_unit unit → NoneContinues (record { first = first; len = len } ∷ pieces) → NoneContinues (record { first = unit; len = suc len } ∷ pieces)
 apart-longer unit first len [] e h = tt
 apart-longer unit first len (next ∷ pieces) e h = (is_after-more unit len next.first ∙ ap (λ (u : BlockUnit). is_after u len next.first) (sym e) ∙ h.0, h.1)
 
@@ -46,7 +46,7 @@ fewest_are (unit ∷ units) =
     let adds = onto_adds unit (fewest units) in
     record { flatten = adds.flatten ∙ ap (λ (us : List BlockUnit). unit ∷ us) later.flatten; each = adds.each later.each }
 
-fewest_apart : (units : List BlockUnit) → AreApart (fewest units)
+fewest_apart : (units : List BlockUnit) → NoneContinues (fewest units)
 fewest_apart [] = tt
 fewest_apart (unit ∷ units) = (onto_adds unit (fewest units)).apart (fewest_apart units)
 
@@ -61,7 +61,7 @@ fewest-before first (suc len) next rest pieces some next_some apart e =
     ]) next_some e
 
 -- pieces that are apart are the fewest of their units
-fewest_only : (pieces : List UnitRun) → AllByRecursion (λ piece. 0 < piece.len) pieces → AreApart pieces → fewest (flat_map piece_units pieces) ≡ pieces
+fewest_only : (pieces : List UnitRun) → AllByRecursion (λ piece. 0 < piece.len) pieces → NoneContinues pieces → fewest (flat_map piece_units pieces) ≡ pieces
 fewest_only [] some apart = refl
 fewest_only (piece ∷ []) some apart =
     let P : ℕ → Type 0 = λ n. 0 < n → fewest (units_in piece.first n ++ []) ≡ record { first = piece.first; len = n } ∷ [] in
@@ -69,7 +69,7 @@ fewest_only (piece ∷ []) some apart =
 fewest_only (piece ∷ next ∷ pieces) some apart =
     fewest-before piece.first piece.len next (flat_map piece_units pieces) (next ∷ pieces) some.0 some.1.0 apart.0 (fewest_only (next ∷ pieces) some.1 apart.1)
 
-fewest_only_of : (units : List BlockUnit) (pieces : List UnitRun) → ArePiecesOf units pieces → AreApart pieces → pieces ≡ fewest units
+fewest_only_of : (units : List BlockUnit) (pieces : List UnitRun) → ArePiecesOf units pieces → NoneContinues pieces → pieces ≡ fewest units
 fewest_only_of units pieces are apart = sym (ap fewest (sym are.flatten) ∙ fewest_only pieces are.each apart)
 
 -- one piece more is needed for consecutive units, at the most

@@ -1,55 +1,40 @@
 -- How the fewest pieces of units in a row come about one unit at a time.
 use Rattle.std.proofs.Common.{◌≡◌, ℕ, zero, suc, ◌+◌, true, false, eqb, List, [], ◌∷◌, ◌++◌, refl, sym, ap, ◌∙◌, arith}
-use Rattle.std.specs.Prelude.{nat_eq}
-use Rattle.std.specs.Cmp.Lexicographic.{pointwise}
+use Rattle.std.specs.Prelude.{◌&&◌}
 use Rattle.std.proofs.lemmas.Bool.{and_parts, and_from, eqb-true, eq-eqb}
 use Rattle.dm_map.specs.Units.{BlockUnit, ReadOf, WriteOf, Zeros, Drops, Fails, CopyOf, FillOf, next_unit, units_in}
 use Rattle.dm_stream.specs.JoinLaws.{onto_begins}
-use Rattle.dm_stream.specs.Pieces.{UnitRun, unit_key, is_unit, joins, further, is_after, onto, fewest}
+use Rattle.dm_stream.specs.Pieces.{UnitRun, is_unit, joins, further, is_after, onto, fewest}
 
--- lists of numbers that are the same are equal, and the other way round
-same_numbers : (xs ys : List ℕ) → pointwise nat_eq xs ys ≡ true → xs ≡ ys
-same_numbers [] [] e = refl
-same_numbers [] (y ∷ ys) e = absurd cc
-same_numbers (x ∷ xs) [] e = absurd cc
-same_numbers (x ∷ xs) (y ∷ ys) e = let parts = and_parts (eqb x y) (pointwise nat_eq xs ys) e in rw (eqb-true x y parts.0, same_numbers xs ys parts.1) refl
+-- two numbers that equal two others make the same unit, and numbers equal themselves
+same_two : (unit : ℕ → ℕ → BlockUnit) (disk sector other_disk other_sector : ℕ) → (eqb disk other_disk && eqb sector other_sector) ≡ true → unit disk sector ≡ unit other_disk other_sector
+same_two unit disk sector other_disk other_sector e =
+    let parts = and_parts (eqb disk other_disk) (eqb sector other_sector) e in
+    rw (eqb-true disk other_disk parts.0, eqb-true sector other_sector parts.1) refl
 
-same_numbers-refl : (xs : List ℕ) → pointwise nat_eq xs xs ≡ true
-same_numbers-refl [] = refl
-same_numbers-refl (x ∷ xs) = and_from _ _ (eq-eqb x x refl) (same_numbers-refl xs)
-
--- a unit is told by its numbers
-abbrev number_at : List ℕ → ℕ → ℕ
-number_at [] at = 0
-number_at (x ∷ xs) zero = x
-number_at (x ∷ xs) (suc at) = number_at xs at
-
-abbrev unit_by : (kind disk sector to to_sector : ℕ) → BlockUnit
-unit_by zero disk sector to to_sector = ReadOf disk sector
-unit_by (suc zero) disk sector to to_sector = WriteOf disk sector
-unit_by (suc (suc zero)) disk sector to to_sector = Zeros
-unit_by (suc (suc (suc zero))) disk sector to to_sector = Drops
-unit_by (suc (suc (suc (suc zero)))) disk sector to to_sector = Fails
-unit_by (suc (suc (suc (suc (suc zero))))) disk sector to to_sector = CopyOf disk sector to to_sector
-unit_by (suc (suc (suc (suc (suc (suc more)))))) disk sector to to_sector = FillOf disk sector
-
-abbrev unit_from : List ℕ → BlockUnit
-unit_from numbers = unit_by (number_at numbers 0) (number_at numbers 1) (number_at numbers 2) (number_at numbers 3) (number_at numbers 4)
-
-unit_again : (unit : BlockUnit) → unit_from (unit_key unit) ≡ unit
-unit_again (ReadOf disk sector) = refl
-unit_again (WriteOf disk sector) = refl
-unit_again Zeros = refl
-unit_again Drops = refl
-unit_again Fails = refl
-unit_again (CopyOf disk sector to to_sector) = refl
-unit_again (FillOf disk sector) = refl
+two_same : (disk sector : ℕ) → (eqb disk disk && eqb sector sector) ≡ true
+two_same disk sector = and_from _ _ (eq-eqb disk disk refl) (eq-eqb sector sector refl)
 
 pub one_unit : (unit other : BlockUnit) → is_unit unit other ≡ true → unit ≡ other
-one_unit unit other e = sym (unit_again unit) ∙ ap unit_from (same_numbers (unit_key unit) (unit_key other) e) ∙ unit_again other
+one_unit (ReadOf disk sector) (ReadOf other_disk other_sector) e = same_two ReadOf disk sector other_disk other_sector e
+one_unit (WriteOf disk sector) (WriteOf other_disk other_sector) e = same_two WriteOf disk sector other_disk other_sector e
+one_unit Zeros Zeros e = refl
+one_unit Drops Drops e = refl
+one_unit Fails Fails e = refl
+one_unit (CopyOf disk sector to to_sector) (CopyOf other_disk other_sector other_to other_to_sector) e =
+    let parts = and_parts (eqb disk other_disk && eqb sector other_sector) (eqb to other_to && eqb to_sector other_to_sector) e in
+    same_two (λ d s. CopyOf d s to to_sector) disk sector other_disk other_sector parts.0 ∙ same_two (CopyOf other_disk other_sector) to to_sector other_to other_to_sector parts.1
+one_unit (FillOf disk sector) (FillOf other_disk other_sector) e = same_two FillOf disk sector other_disk other_sector e
+one_unit unit other e = absurd cc
 
 pub is_unit-refl : (unit : BlockUnit) → is_unit unit unit ≡ true
-is_unit-refl unit = same_numbers-refl (unit_key unit)
+is_unit-refl (ReadOf disk sector) = two_same disk sector
+is_unit-refl (WriteOf disk sector) = two_same disk sector
+is_unit-refl Zeros = refl
+is_unit-refl Drops = refl
+is_unit-refl Fails = refl
+is_unit-refl (CopyOf disk sector to to_sector) = and_from _ _ (two_same disk sector) (two_same to to_sector)
+is_unit-refl (FillOf disk sector) = two_same disk sector
 
 -- a unit goes on to its next one, and to no other
 pub joins-next : (unit : BlockUnit) → joins unit (next_unit unit) ≡ true

@@ -1,7 +1,6 @@
 -- Pieces of units: consecutive units as one, and the fewest of them.
-use Rattle.std.specs.Prelude.{◌≡◌, ℕ, suc, ◌+◌, ◌<◌, ◌≤◌, Bool, false, List, [], ◌∷◌, length, nat_eq, if◌then◌else◌}
+use Rattle.std.specs.Prelude.{◌≡◌, ℕ, suc, ◌+◌, ◌<◌, ◌≤◌, Bool, true, false, ◌&&◌, ◌==◌, List, [], ◌∷◌, length, if◌then◌else◌}
 use Rattle.std.specs.List.{flat_map, AllByRecursion}
-use Rattle.std.specs.Cmp.Lexicographic.{pointwise}
 use Rattle.dm_map.specs.Units.{BlockUnit, ReadOf, WriteOf, Zeros, Drops, Fails, CopyOf, FillOf, next_unit, units_in}
 
 -- a unit, and how many consecutive ones begin with it
@@ -13,19 +12,17 @@ pub record UnitRun : Type 0 where
 abbrev pub piece_units : UnitRun → List BlockUnit
 piece_units piece = units_in piece.first piece.len
 
--- by what units are compared: a number for the kind, then the disks and sectors
-abbrev pub unit_key : BlockUnit → List ℕ
-unit_key (ReadOf disk sector) = 0 ∷ disk ∷ sector ∷ []
-unit_key (WriteOf disk sector) = 1 ∷ disk ∷ sector ∷ []
-unit_key Zeros = 2 ∷ []
-unit_key Drops = 3 ∷ []
-unit_key Fails = 4 ∷ []
-unit_key (CopyOf disk sector to to_sector) = 5 ∷ disk ∷ sector ∷ to ∷ to_sector ∷ []
-unit_key (FillOf disk sector) = 6 ∷ disk ∷ sector ∷ []
-
--- they are the same unit
+-- they are the same unit: of one kind, at the same sectors of the same disks
 abbrev pub is_unit : BlockUnit → BlockUnit → Bool
-is_unit unit other = pointwise nat_eq (unit_key unit) (unit_key other)
+is_unit (ReadOf disk sector) (ReadOf other_disk other_sector) = disk == other_disk && sector == other_sector
+is_unit (WriteOf disk sector) (WriteOf other_disk other_sector) = disk == other_disk && sector == other_sector
+is_unit Zeros Zeros = true
+is_unit Drops Drops = true
+is_unit Fails Fails = true
+is_unit (CopyOf disk sector to to_sector) (CopyOf other_disk other_sector other_to other_to_sector) =
+    (disk == other_disk && sector == other_sector) && (to == other_to && to_sector == other_to_sector)
+is_unit (FillOf disk sector) (FillOf other_disk other_sector) = disk == other_disk && sector == other_sector
+is_unit _ _ = false
 
 -- the second unit continues the first: the same kind and disks, the next sectors
 abbrev pub joins : BlockUnit → BlockUnit → Bool
@@ -62,14 +59,14 @@ pub record ArePiecesOf (units : List BlockUnit) (pieces : List UnitRun) : Type 0
   pub each : AllByRecursion (λ piece. 0 < piece.len) pieces
 
 -- no piece continues the one before it
-abbrev pub AreApart : List UnitRun → Type 0
-AreApart [] = Unit {0}
-AreApart (piece ∷ []) = Unit {0}
-AreApart (piece ∷ next ∷ pieces) = (is_after piece.first piece.len next.first ≡ false) × AreApart (next ∷ pieces)
+abbrev pub NoneContinues : List UnitRun → Type 0
+NoneContinues [] = Unit {0}
+NoneContinues (piece ∷ []) = Unit {0}
+NoneContinues (piece ∷ next ∷ pieces) = (is_after piece.first piece.len next.first ≡ false) × NoneContinues (next ∷ pieces)
 
 -- the pieces that fewest gives: the only ones of the units of which none continues the one before, and no others are fewer
 pub record AreFewest (units : List BlockUnit) (pieces : List UnitRun) : Type 0 where
   pub are : ArePiecesOf units pieces
-  pub apart : AreApart pieces
-  pub only : (others : List UnitRun) → ArePiecesOf units others → AreApart others → others ≡ pieces
+  pub apart : NoneContinues pieces
+  pub only : (others : List UnitRun) → ArePiecesOf units others → NoneContinues others → others ≡ pieces
   pub least : (others : List UnitRun) → ArePiecesOf units others → length pieces ≤ length others
