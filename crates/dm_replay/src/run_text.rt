@@ -3,7 +3,7 @@
 ghost use Rattle.std.specs.Prelude.{◌≡◌, ◌++◌, ◌+◌, ◌<◌, ◌≤◌, ◌∷◌, [], length, take, decimal};
 ghost use Rattle.std.specs.List.{AllByRecursion};
 ghost use Rattle.dm_stack.specs.Description.{disk_name_at};
-ghost use Rattle.dm_table.specs.CanonicalText.{Wrote};
+ghost use Rattle.dm_table.specs.Progress.{Wrote};
 ghost use Rattle.dm_replay.specs.OfDisks.{IsRunOf};
 ghost use Rattle.dm_replay.specs.RunText.{run_line, run_text, runs_text};
 

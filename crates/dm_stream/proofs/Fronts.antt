@@ -7,7 +7,7 @@ use Rattle.dm_table.specs.RequestLine.{RequestValues, DescribesRequest, request_
 use Rattle.dm_table.specs.declared.request.RequestFault.{RequestFault}
 use Rattle.dm_table.proofs.RequestLemmas.{sound, values-said}
 use Rattle.dm_stream.specs.Lines.{ALine, line_parts, next_answer}
-use Rattle.dm_stream.specs.ProgressLaws.{since-same, grows-same}
+use Rattle.dm_table.proofs.ProgressLaws.{since-same, grows-same}
 use Rattle.dm_stream.specs.Requests.{NumberedRequest, Requests, after_requests, by_fault, is_bad, line_requests}
 use Rattle.dm_stream.specs.declared.ending.RequestWord as word
 use Rattle.dm_stream.specs.declared.lines.TheConstants.{MOST_LINE_BYTES}

@@ -16,7 +16,7 @@ use Rattle.dm_stream.specs.JoinLaws.{onto_begins, some_before}
 use Rattle.dm_map.specs.Mapper.{Mapping}
 use Rattle.dm_stream.specs.Mapped.{HasAnswered, HasStopped}
 use Rattle.dm_stream.specs.Outcome.{after_text, device_of, of_device, outcome_from, request_answer, step_of}
-use Rattle.dm_stream.specs.ProgressLaws.{since-same}
+use Rattle.dm_table.proofs.ProgressLaws.{since-same}
 use Rattle.dm_stream.specs.Requests.{NumberedRequest}
 use Rattle.dm_map.specs.State.{State}
 use Rattle.dm_stream.specs.declared.ending.Ending as ending
@@ -26,7 +26,8 @@ use Rattle.dm_stream.specs.Pieces.{UnitRun, fewest}
 use Rattle.dm_table.specs.Fields.{all_but_last}
 use Rattle.dm_stream.specs.PieceText.{piece_text, pieces_text, unit_text}
 use Rattle.dm_table.specs.WriteAll.{IsBeginning, IsCutShort}
-use Rattle.dm_table.proofs.Growth.{since_more}
+use Rattle.dm_table.proofs.WriteLemmas.{and_then}
+use Rattle.dm_table.specs.Progress.{HasWritten, Wrote}
 
 -- what follows at an answer
 pub on_ok : {T E : Type 0} (r : Result T E) (P Q : Type 0) → (P → Q) → OnOk r P → OnOk r Q
@@ -106,27 +107,16 @@ text_kept : (old new : Pending) (pieces : List UnitRun) → new.stack ≡ old.st
 text_kept old new pieces stack number =
     ap (λ (s : Description). pieces_text s new.number pieces) stack ∙ ap (λ (n : ℕ). pieces_text old.stack n pieces) number
 
--- all units were taken, and what was held was written
-pub all_written : (stack : Description) (number : ℕ) (old new : Pending) (units : List BlockUnit) (w0 w1 w2 : List ℕ) → old ≡ at_start stack number → HasTaken old new units w0 w1
-    → w2 ≡ w1 ++ since w1 w2 → since w1 w2 ≡ pieces_text new.stack new.number (fewest (held_units new.piece)) → since w0 w2 ≡ pieces_text stack number (fewest units)
-all_written stack number old new units w0 w1 w2 start taken appends wrote =
-    since_more w0 w1 w2 taken.appends appends
-    ∙ ap (λ (xs : List ℕ). since w0 w1 ++ xs) (wrote ∙ text_kept old new (fewest (held_units new.piece)) taken.stack taken.number)
-    ∙ sym (taken_text old new units w0 w1 (ap (λ (h : Pending). h.piece) start) taken)
-    ∙ same_text stack number old (fewest units) start
-
--- all units were taken, and what was held was cut short
-pub last_cut : (stack : Description) (number : ℕ) (old new : Pending) (units : List BlockUnit) (w0 w1 w2 : List ℕ) → old ≡ at_start stack number → HasTaken old new units w0 w1
-    → w2 ≡ w1 ++ since w1 w2 → IsCutShort (pieces_text new.stack new.number (fewest (held_units new.piece))) (since w1 w2) → IsCutShort (pieces_text stack number (fewest units)) (since w0 w2)
-last_cut stack number old new units w0 w1 w2 start taken appends wrote = (
-  wrote.0,
-  wrote.1,
-  sym (same_text stack number old (fewest units) start)
-      ∙ taken_text old new units w0 w1 (ap (λ (h : Pending). h.piece) start) taken
-      ∙ ap (λ (xs : List ℕ). since w0 w1 ++ xs) (sym (text_kept old new (fewest (held_units new.piece)) taken.stack taken.number) ∙ wrote.2)
-      ∙ sym (append_assoc (since w0 w1) (since w1 w2) (wrote.0 ∷ wrote.1))
-      ∙ ap (λ (xs : List ℕ). xs ++ wrote.0 ∷ wrote.1) (sym (since_more w0 w1 w2 taken.appends appends)),
-)
+-- all units were taken, and what was held was written, or cut short
+pub taken_wrote : {X E : Type 0} {written waiting : X → List ℕ} {faults flushes : X → ℕ} {a b c : X} {result : Result (Unit {0}) E} (stack : Description) (number : ℕ) (old new : Pending) (units : List BlockUnit) → old ≡ at_start stack number → HasTaken old new units (written a) (written b)
+    → HasWritten written waiting faults flushes a b 0 → Wrote written waiting faults flushes b c result (pieces_text new.stack new.number (fewest (held_units new.piece))) → Wrote written waiting faults flushes a c result (pieces_text stack number (fewest units))
+taken_wrote {written = written} {a = a} {b = b} stack number old new units start taken moved wrote =
+    let first = since (written a) (written b) in
+    let last = pieces_text new.stack new.number (fewest (held_units new.piece)) in
+    let whole : pieces_text stack number (fewest units) ≡ first ++ last =
+    sym (same_text stack number old (fewest units) start) ∙ taken_text old new units (written a) (written b) (ap (λ (h : Pending). h.piece) start) taken
+    ∙ ap (λ (xs : List ℕ). first ++ xs) (sym (text_kept old new (fewest (held_units new.piece)) taken.stack taken.number)) in
+    and_then first last whole (record { moved = moved; ok = refl; left = tt }) wrote
 
 -- the join failed at a piece
 pub cut_short : (stack : Description) (number : ℕ) (old new : Pending) (front rest units : List BlockUnit) (before after : List ℕ) → old ≡ at_start stack number → front ++ rest ≡ units → HasLeft old new front before after

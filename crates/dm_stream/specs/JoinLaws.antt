@@ -11,7 +11,7 @@ use Rattle.dm_stream.specs.Join.{HasUnits, HasTaken, HasLeft}
 use Rattle.dm_stream.specs.Pieces.{UnitRun, fewest, joins, onto}
 use Rattle.dm_table.specs.Fields.{all_but_last}
 use Rattle.dm_stream.specs.PieceText.{piece_text, pieces_text}
-use Rattle.dm_stream.specs.ProgressLaws.{grows-same, since-same}
+use Rattle.dm_table.proofs.ProgressLaws.{grows-same, since-same}
 use Rattle.dm_table.specs.WriteAll.{IsBeginning}
 
 -- the first of the fewest pieces begins with the first unit

@@ -12,8 +12,6 @@ pub mod Outcome
 pub mod Pending
 pub mod PieceText
 pub mod Pieces
-pub mod Progress
-pub mod ProgressLaws
 pub mod Requests
 pub mod Run
 pub mod StatusLines

@@ -7,7 +7,7 @@ use Rattle.dm_map.specs.Mapper.{Mapping}
 use Rattle.dm_map.specs.State.{State}
 use Rattle.dm_stream.specs.Mapped.{HasAnswered, HasStopped}
 use Rattle.dm_stream.specs.Outcome.{Outcome, after_text, outcome_from}
-use Rattle.dm_stream.specs.ProgressLaws.{since-same}
+use Rattle.dm_table.proofs.ProgressLaws.{since-same}
 use Rattle.dm_stream.specs.Requests.{NumberedRequest}
 use Rattle.dm_stream.specs.declared.ending.Ending as ending
 use Rattle.dm_stream.specs.declared.ending.NotMapped.{NotMapped}

@@ -1,5 +1,6 @@
--- The message of each ending.
-use Rattle.std.specs.Prelude.{◌≡◌, ℕ, List, [], ◌++◌, codes, decimal}
+-- The message of each ending, and how a message is told.
+use Rattle.std.specs.Prelude.{◌≡◌, ◌≤◌, ℕ, ◌+◌, List, [], ◌++◌, codes, decimal}
+use Rattle.dm_table.specs.DeviceIo.{since}
 use Rattle.dm_table.specs.WriteAll.{IsBeginning}
 use Rattle.dm_stream.specs.declared.ending.Ending.{Ending}
 use Rattle.dm_stream.specs.declared.ending.Ending.TheVariants as endings
@@ -16,9 +17,9 @@ request_word words.Number = codes "number"
 request_word words.Length = codes "length"
 request_word words.Unknown = codes "unknown"
 
--- the message of a bad request
-abbrev pub request_message : ℕ → RequestWord → List ℕ
-request_message number word = codes "dmremap: request " ++ decimal number ++ codes ": " ++ request_word word ++ codes "\n"
+-- the message of a request that is refused, with a word for why
+abbrev pub refused_request : ℕ → List ℕ → List ℕ
+refused_request number word = codes "dmremap: request " ++ decimal number ++ codes ": " ++ word ++ codes "\n"
 
 abbrev pub read_message : List ℕ
 read_message = codes "dmremap: requests: read\n"
@@ -29,7 +30,7 @@ write_message = codes "dmremap: output: write\n"
 -- the message of an ending: none if all requests were answered
 abbrev pub ending_message : Ending → List ℕ
 ending_message endings.Done = []
-ending_message (endings.BadRequest number word) = request_message number word
+ending_message (endings.BadRequest number word) = refused_request number (request_word word)
 ending_message endings.ReadFault = read_message
 ending_message endings.WriteFault = write_message
 
@@ -37,3 +38,11 @@ ending_message endings.WriteFault = write_message
 pub record IsTold (message written : List ℕ) (faults_old faults_new : ℕ) : Type 0 where
   pub beginning : IsBeginning message written
   pub whole : faults_new ≡ faults_old → written ≡ message
+
+-- it was told on a stream, which only took more, and was not flushed; nothing is told after a write that failed
+pub record HasTold {X : Type 0} (written : X → List ℕ) (faults flushes : X → ℕ) (message : List ℕ) (old new : X) : Type 0 where
+  pub tells : written new ≡ written old ++ since (written old) (written new)
+  pub told : IsTold message (since (written old) (written new)) (faults old) (faults new)
+  pub grows : faults old ≤ faults new
+  pub once : faults new ≤ faults old + 1
+  pub unflushed : flushes new ≡ flushes old

@@ -3,15 +3,13 @@
 //! Its invariant keeps it on the disks of the stack, so that its line can always be written. For a
 //! new kind of piece, say here when one continues another.
 
-ghost use Rattle.std.specs.Prelude.{◌≡◌, ◌+◌, ◌-◌, ◌≤◌, ◌==◌, ◌++◌, ◌^◌, List, Some, None, OnOk, OnErr};
+ghost use Rattle.std.specs.Prelude.{◌≡◌, ◌+◌, ◌-◌, ◌≤◌, ◌==◌, ◌++◌, ◌^◌, List, Some, None};
 ghost use Rattle.std.specs.Bool.{OnTrue, OnFalse};
-ghost use Rattle.dm_table.specs.DeviceIo.{fault_of, since};
 ghost use Rattle.dm_map.specs.Units.{BlockUnit, IsOnDisks, diskless_len, first_unit, piece_len, units_of};
 ghost use Rattle.dm_stream.specs.Pending.{Fits, IsHeld, held_diskless, held_units};
 ghost use Rattle.dm_stream.specs.Pieces.{fewest, is_after};
-ghost use Rattle.dm_stream.specs.Progress.{HasWritten};
+ghost use Rattle.dm_table.specs.Progress.{Wrote};
 ghost use Rattle.dm_stream.specs.PieceText.{pieces_text};
-ghost use Rattle.dm_table.specs.WriteAll.{IsCutShort};
 
 use crate::kept_range::KeptRange;
 use crate::number_prefix::NumberPrefix;
@@ -101,11 +99,8 @@ impl<'s> HeldPiece<'s> {
     /// Writes the line of the held piece, which is then held no longer. Writes nothing if none is held.
     #[inline(always)]
     pub(crate) fn write<W: Output>(&mut self, writer: &mut W) -> Result<(), OutFault>
-        ensures ok { OnOk result (since (W.written writer.old) (W.written writer.new)
-            ≡ pieces_text self.old.stack self.old.number (fewest (held_units self.old.piece))) }
-        ensures err { OnErr result (IsCutShort (pieces_text self.old.stack self.old.number (fewest (held_units self.old.piece)))
-            (since (W.written writer.old) (W.written writer.new))) }
-        ensures moved { HasWritten W.written W.waiting W.faults W.flushes writer.old writer.new (fault_of result) }
+        ensures wrote { Wrote W.written W.waiting W.faults W.flushes writer.old writer.new result
+            (pieces_text self.old.stack self.old.number (fewest (held_units self.old.piece))) }
         ensures nothing { self.new ≡ record { stack = self.old.stack; number = self.old.number; piece = None } }
     {
         let Some(piece) = &self.piece else {

@@ -3,18 +3,15 @@
 //! One piece is held while others continue it, so a request takes no memory however long it is. What
 //! a join took is stated in whole pieces, whatever units follow; keep that when you change it.
 
-ghost use Rattle.std.specs.Prelude.{◌≡◌, ◌+◌, ◌-◌, ◌++◌, ◌^◌, List, None, OnErr, OnOk};
-ghost use Rattle.dm_table.specs.DeviceIo.{since, fault_of};
+ghost use Rattle.std.specs.Prelude.{◌≡◌, ◌-◌, ◌^◌, List, None};
 ghost use Rattle.dm_map.specs.Units.{BlockUnit};
 ghost use Rattle.dm_stream.specs.Pending.{held_diskless, held_units};
 ghost use Rattle.dm_stream.specs.Join.{HasTaken, HasLeft};
 ghost use Rattle.dm_stream.specs.Pieces.{AreFewest, fewest};
 ghost use Rattle.dm_stream.specs.PieceText.{pieces_text};
-ghost use Rattle.dm_table.specs.WriteAll.{IsCutShort};
 ghost use Rattle.dm_stream.specs.JoinLaws.{took_none, took_more, left_more};
-ghost use Rattle.dm_stream.specs.Progress.{HasWritten};
-ghost use Rattle.dm_stream.specs.ProgressLaws.{written_none, written_more};
-ghost use Rattle.std.proofs.Common.{refl, ◌∙◌};
+ghost use Rattle.dm_table.specs.Progress.{HasWrittenTo, Wrote};
+ghost use Rattle.dm_table.proofs.ProgressLaws.{written_to_none, written_to_more};
 
 use crate::held_piece::HeldPiece;
 use dm_map::{Piece, Sink};
@@ -63,17 +60,9 @@ impl<'s, W: Output> Join<'s, W> {
     /// many writes as the one line takes, and none if nothing is held. No memory is taken.
     #[inline(always)]
     pub fn finish(&mut self) -> Result<(), OutFault>
-        ensures ok { OnOk result (since (W.written self.old.writer.now) (W.written self.new.writer.now)
-            ≡ pieces_text self.old.held.stack self.old.held.number (fewest (held_units self.old.held.piece))) }
-        ensures err { OnErr result (IsCutShort (pieces_text self.old.held.stack self.old.held.number (fewest (held_units self.old.held.piece)))
-            (since (W.written self.old.writer.now) (W.written self.new.writer.now))) }
-        ensures appends { W.written self.new.writer.now
-            ≡ W.written self.old.writer.now ++ since (W.written self.old.writer.now) (W.written self.new.writer.now) }
+        ensures wrote { Wrote W.written W.waiting W.faults W.flushes self.old.writer.now self.new.writer.now result
+            (pieces_text self.old.held.stack self.old.held.number (fewest (held_units self.old.held.piece))) }
         ensures nothing { self.new.held ≡ record { stack = self.old.held.stack; number = self.old.held.number; piece = None } }
-        ensures faults { W.faults self.new.writer.now ≡ W.faults self.old.writer.now + fault_of result }
-        ensures flushes { W.flushes self.new.writer.now ≡ W.flushes self.old.writer.now }
-        ensures waiting { W.waiting self.new.writer.now
-            ≡ W.waiting self.old.writer.now ++ since (W.written self.old.writer.now) (W.written self.new.writer.now) }
         ensures same_reference { self.new.writer.ghost_name ≡ self.old.writer.ghost_name }
         // They are the only pieces of the units of which none continues the one before, and no others are fewer.
         ensures fewest { (units : List BlockUnit) → AreFewest units (fewest units) }
@@ -84,9 +73,8 @@ impl<'s, W: Output> Join<'s, W> {
     /// Has the writer hand on what it gathered. Nothing is written or flushed.
     pub(crate) fn hand_on(&mut self)
         ensures held { self.new.held ≡ self.old.held }
-        ensures moved { HasWritten W.written W.waiting W.faults W.flushes self.old.writer.now self.new.writer.now 0 }
+        ensures moved { HasWrittenTo W.written W.waiting W.faults W.flushes self.old.writer self.new.writer 0 }
         ensures written { W.written self.new.writer.now ≡ W.written self.old.writer.now }
-        ensures same_reference { self.new.writer.ghost_name ≡ self.old.writer.ghost_name }
     {
         self.writer.hand_on();
     }
@@ -116,18 +104,16 @@ impl<W: Output> Sink for Join<'_, W> {
     ghost faults = { λ join. W.faults join.writer.now };
 
     ghost took = { λ old units new. HasTaken old.held new.held units (W.written old.writer.now) (W.written new.writer.now)
-        × HasWritten W.written W.waiting W.faults W.flushes old.writer.now new.writer.now 0
-        × (new.writer.ghost_name ≡ old.writer.ghost_name) };
+        × HasWrittenTo W.written W.waiting W.faults W.flushes old.writer new.writer 0 };
 
     ghost left = { λ old units new. HasLeft old.held new.held units (W.written old.writer.now) (W.written new.writer.now)
-        × HasWritten W.written W.waiting W.faults W.flushes old.writer.now new.writer.now 1
-        × (new.writer.ghost_name ≡ old.writer.ghost_name) };
+        × HasWrittenTo W.written W.waiting W.faults W.flushes old.writer new.writer 1 };
 
-    ghost took_nothing = { λ s. (took_none s.held (W.written s.writer.now), written_none W.written W.waiting W.faults W.flushes s.writer.now, refl) };
+    ghost took_nothing = { λ s. (took_none s.held (W.written s.writer.now), written_to_none W.written W.waiting W.faults W.flushes s.writer) };
 
-    ghost took_then_took = { λ a b c us vs first second. (took_more a.held b.held c.held us vs _ _ _ first.0 second.0, written_more W.written W.waiting W.faults W.flushes a.writer.now b.writer.now c.writer.now 0 first.1 second.1, second.2 ∙ first.2) };
+    ghost took_then_took = { λ a b c us vs first second. (took_more a.held b.held c.held us vs _ _ _ first.0 second.0, written_to_more W.written W.waiting W.faults W.flushes a.writer b.writer c.writer 0 first.1 second.1) };
 
-    ghost took_then_left = { λ a b c us vs first second. (left_more a.held b.held c.held us vs _ _ _ first.0 second.0, written_more W.written W.waiting W.faults W.flushes a.writer.now b.writer.now c.writer.now 1 first.1 second.1, second.2 ∙ first.2) };
+    ghost took_then_left = { λ a b c us vs first second. (left_more a.held b.held c.held us vs _ _ _ first.0 second.0, written_to_more W.written W.waiting W.faults W.flushes a.writer b.writer c.writer 1 first.1 second.1) };
 
     #[inline(always)]
     fn piece(&mut self, piece: Piece) -> Result<(), OutFault> {

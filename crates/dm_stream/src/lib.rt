@@ -26,8 +26,5 @@ pub use handler::Handler;
 pub use join::Join;
 pub use lines::{Lines, MOST_LINE_BYTES, Next};
 pub use map_run::run;
-pub use message::{Message, message_of, tell};
+pub use message::{Message, message_of, refused_request, tell};
 pub use requests::{MOST_REQUESTS, handle_requests};
-
-// For the program's own messages, which are put together as those of a run are.
-pub use dm_table::{put, put_number};

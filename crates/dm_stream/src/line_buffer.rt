@@ -2,8 +2,9 @@
 //! These work on a plain slice and two places in it, so that `lines` deals only with its value.
 //! Held bytes move only when there is too little room after them: a buffer full of short lines stays put.
 ghost use Rattle.std.specs.Prelude.{◌≡◌, ◌+◌, ◌-◌, ◌<◌, ◌≤◌, ◌++◌, ◌∷◌, [], length, take, drop, slice_range, IfOk, MatchOption};
-ghost use Rattle.dm_table.specs.DeviceIo.{given, fault_of, end_of};
+ghost use Rattle.dm_table.specs.DeviceIo.{given};
 ghost use Rattle.dm_table.specs.Fields.{parts_at};
+ghost use Rattle.dm_table.specs.Progress.{HasRead};
 
 use dm_table::{InFault, Input};
 use memchr::memchr;
@@ -46,9 +47,7 @@ pub(crate) fn read_after<R: Input>(
     requires { end < length buffer.old }
     ensures within { IfOk result (λ n. end + n ≤ length buffer.new) }
     ensures kept { take end buffer.new ≡ take end buffer.old }
-    ensures bytes { R.handed reader.new ≡ R.handed reader.old ++ given result (drop end buffer.new) }
-    ensures faults { R.faults reader.new ≡ R.faults reader.old + fault_of result }
-    ensures ends { R.ends reader.new ≡ R.ends reader.old + end_of result 1 }
+    ensures read { HasRead R.handed R.faults R.ends reader.old reader.new result (given result (drop end buffer.new)) }
 {
     reader.read(&mut buffer[end..])
 }

@@ -4,7 +4,8 @@
 ghost use Rattle.std.specs.Prelude.{◌≡◌, ◌+◌, ◌≤◌, ◌++◌, [], ◌∷◌, length, take, drop, IfOk, OnErr};
 ghost use Rattle.std.specs.Borrow.{sem};
 ghost use Rattle.std.specs.Io.BufRead.{Rests};
-ghost use Rattle.dm_table.specs.DeviceIo.{delivery, since, fault_of, end_of};
+ghost use Rattle.dm_table.specs.DeviceIo.{delivery, since};
+ghost use Rattle.dm_table.specs.Progress.{HasRead, IsReadOn};
 
 use crate::line_buffer::{line_len, make_room, read_after};
 use dm_table::{InFault, Input};
@@ -130,15 +131,12 @@ impl Lines {
     /// Reads once, after the held bytes.
     fn fill<R: Input>(&mut self, reader: &mut R) -> Result<usize, InFault>
         requires { length self.old ≤ MOST_LINE_BYTES }
+        ensures read { HasRead R.handed R.faults R.ends reader.old reader.new result (since (R.handed reader.old) (R.handed reader.new)) }
         ensures held { self.new ≡ self.old ++ since (R.handed reader.old) (R.handed reader.new) }
-        ensures bytes { R.handed reader.new
-            ≡ R.handed reader.old ++ since (R.handed reader.old) (R.handed reader.new) }
         ensures count { IfOk result (λ n. length self.new ≡ length self.old + n) }
         ensures none { IfOk result (λ n. n ≡ 0 → self.new ≡ self.old) }
         ensures err { OnErr result (self.new ≡ self.old) }
         ensures room { length self.new ≤ ROOM }
-        ensures faults { R.faults reader.new ≡ R.faults reader.old + fault_of result }
-        ensures ends { R.ends reader.new ≡ R.ends reader.old + end_of result 1 }
     {
         let held = self.end - self.start;
         self.start = make_room(&mut self.buffer, self.start, self.end, MOST_LINE_BYTES);
@@ -150,13 +148,11 @@ impl Lines {
 
     /// Reads until the held bytes settle what comes next. A line stays held.
     fn advance<R: Input>(&mut self, reader: &mut R) -> NextHeld
+        ensures reads { IsReadOn R.handed R.faults R.ends reader.old reader.new }
         ensures held { self.new ≡ self.old ++ since (R.handed reader.old) (R.handed reader.new) }
-        ensures bytes { R.handed reader.new
-            ≡ R.handed reader.old ++ since (R.handed reader.old) (R.handed reader.new) }
         ensures fits { FitsIn result self.new }
         ensures quiet { OnHeldLine result
             ((R.faults reader.new ≡ R.faults reader.old) × (R.ends reader.new ≡ R.ends reader.old)) }
-        ensures no_more { R.faults reader.new + R.ends reader.new ≤ R.faults reader.old + R.ends reader.old + 1 }
         ensures answer { next_answer (delivery R.handed R.faults R.ends reader.old reader.new).stand (line_parts self.new)
             ≡ held_answer result self.new }
     {
@@ -186,13 +182,11 @@ impl Lines {
     pub fn next<R: Input>(&mut self, reader: &mut R) -> Next<'_>
         ensures* after { sem 𝓛 (Rests the_row self.entry (λ new.
             new ≡ left_of (answer_of result) (self.old ++ since (R.handed reader.old) (R.handed reader.new)))) }
-        ensures bytes { R.handed reader.new
-            ≡ R.handed reader.old ++ since (R.handed reader.old) (R.handed reader.new) }
+        // Nothing is read after an end or a fault.
+        ensures reads { IsReadOn R.handed R.faults R.ends reader.old reader.new }
         // A line is returned before an end or a fault is met.
         ensures quiet { OnLine result
             ((R.faults reader.new ≡ R.faults reader.old) × (R.ends reader.new ≡ R.ends reader.old)) }
-        // Nothing is read after an end or a fault.
-        ensures no_more { R.faults reader.new + R.ends reader.new ≤ R.faults reader.old + R.ends reader.old + 1 }
         ensures answer { answer_of result ≡ next_answer (delivery R.handed R.faults R.ends reader.old reader.new).stand
             (line_parts (self.old ++ since (R.handed reader.old) (R.handed reader.new))) }
     {

@@ -3,20 +3,19 @@
 //! What is written depends on the bytes and ends that the requests delivered, and on the mapper's
 //! state: see `specs/Outcome.antt`. `requests` reads the lines, `request_mapper` answers them.
 
-ghost use Rattle.std.specs.Prelude.{◌≡◌, ◌≢◌, ◌+◌, ◌<◌, ◌≤◌, ◌++◌, ◌↔◌, [], List, None, false};
-ghost use Rattle.dm_table.specs.DeviceIo.{delivery, fault_of, since};
-ghost use Rattle.dm_table.specs.WriteAll.{IsCutShort};
+ghost use Rattle.std.specs.Prelude.{◌≡◌, ◌≢◌, List, None, false, OnOk};
+ghost use Rattle.dm_table.specs.DeviceIo.{delivery, since};
+ghost use Rattle.dm_table.specs.Progress.{HasWritten, HasWrittenTo, IsReadOn, Wrote};
+ghost use Rattle.dm_map.specs.Mapper.{with_looked};
 ghost use Rattle.dm_map.specs.Units.{BlockUnit};
 ghost use Rattle.dm_stream.specs.declared.lines.TheConstants.{MOST_LINE_BYTES};
 ghost use Rattle.dm_stream.specs.declared.requests.TheConstants.{MOST_REQUESTS};
 ghost use Rattle.dm_stream.specs.Mapped.{IsReady};
-ghost use Rattle.dm_stream.specs.Messages.{IsTold, ending_message};
-ghost use Rattle.dm_stream.specs.Outcome.{requests_outcome, run_outcome};
+ghost use Rattle.dm_stream.specs.Messages.{HasTold, ending_message};
+ghost use Rattle.dm_stream.specs.Outcome.{Outcome, requests_outcome, run_outcome, with_status};
 ghost use Rattle.dm_stream.specs.Pieces.{AreFewest, fewest};
-ghost use Rattle.dm_table.specs.PartInput.{IsReadOn};
-ghost use Rattle.dm_stream.specs.Progress.{HasWritten};
 ghost use Rattle.dm_stream.specs.Requests.{HasMet};
-ghost use Rattle.dm_stream.specs.Run.{CanMap, HasRun, IsMapped, IsServed, StaysMapper, ending_for, write_faults};
+ghost use Rattle.dm_stream.specs.Run.{CanMap, HasRun, IsMapped, StaysMapper, ending_for, write_faults};
 
 use crate::ending::{Ending, NotMapped, RequestWord};
 use crate::join::Join;
@@ -27,7 +26,7 @@ use crate::requests::handle_requests;
 use crate::status_lines::write_status;
 use dm_map::{Mapper, Taken};
 use dm_stack::Stack;
-use dm_table::{Input, OutFault, Output};
+use dm_table::{Input, OutFault, Output, close};
 use std::marker::PhantomData;
 
 /// How a run ends when a request was not mapped.
@@ -50,9 +49,8 @@ fn map_lines<'s, T: Taken, R: Input, W: Output>(
     requires { IsReady handler.old.devices mapper.old handler.old.join.held }
     ensures mapper { StaysMapper mapper.old mapper.new result }
     ensures nothing { handler.new.join.held.piece ≡ None }
-    ensures same_writer { handler.new.join.writer.ghost_name ≡ handler.old.join.writer.ghost_name }
     ensures reads { IsReadOn R.handed R.faults R.ends requests.old requests.new }
-    ensures writes { HasWritten W.written W.waiting W.faults W.flushes handler.old.join.writer.now handler.new.join.writer.now (write_faults result) }
+    ensures writes { HasWrittenTo W.written W.waiting W.faults W.flushes handler.old.join.writer handler.new.join.writer (write_faults result) }
     ensures mapped { IsMapped (requests_outcome handler.old.devices mapper.old.state (delivery R.handed R.faults R.ends requests.old requests.new))
         (since (W.written handler.old.join.writer.now) (W.written handler.new.join.writer.now)) mapper.new.state result }
     ensures met { HasMet result (R.faults requests.old) (R.faults requests.new) }
@@ -88,6 +86,30 @@ fn map_requests<'s, T: Taken, R: Input, W: Output>(
     ending
 }
 
+/// Writes what comes after the answers of a run that ended so: the status lines, if they are asked for
+/// and all requests were answered. It fails where a write failed, before or now.
+fn write_rest<T: Taken, W: Output>(
+    stack: &Stack,
+    mapper: &mut Mapper<'_, T>,
+    ending: Ending,
+    status: bool,
+    output: &mut W,
+) -> Result<(), OutFault>
+    requires { mapper.old.stack ≡ stack.now }
+    ensures same { mapper.new ≡ with_looked mapper.old mapper.new.looked }
+    ensures no_fault { OnOk result (ending ≢ Ending.WriteFault) }
+    // Wherever the answers began.
+    ensures wrote { (start : W) (outcome : Outcome) → HasWritten W.written W.waiting W.faults W.flushes start output.old (write_faults ending)
+        → IsMapped outcome (since (W.written start) (W.written output.old)) mapper.old.state ending
+        → Wrote W.written W.waiting W.faults W.flushes start output.new result (with_status stack.now status outcome).output }
+{
+    match ending {
+        Ending::WriteFault => Err(OutFault),
+        Ending::Done if status => write_status(stack, mapper, output),
+        _ => Ok(()),
+    }
+}
+
 /// Answers the requests up to the first bad one, an end or a fault, adds the status lines if they are
 /// asked for, and then flushes the output, once and only where no write failed.
 fn map_and_flush<'s, T: Taken, R: Input, W: Output>(
@@ -100,20 +122,13 @@ fn map_and_flush<'s, T: Taken, R: Input, W: Output>(
     requires { CanMap stack.now mapper.old }
     ensures mapper { StaysMapper mapper.old mapper.new result }
     ensures reads { IsReadOn R.handed R.faults R.ends requests.old requests.new }
-    ensures wrote { HasRun W.written W.waiting W.faults W.flushes output.old output.new
-        (run_outcome stack.now status mapper.old.state (delivery R.handed R.faults R.ends requests.old requests.new)) mapper.new.state result }
     ensures met { HasMet result (R.faults requests.old) (R.faults requests.new) }
+    ensures ran { HasRun W.written W.waiting W.faults W.flushes output.old output.new
+        (run_outcome stack.now status mapper.old.state (delivery R.handed R.faults R.ends requests.old requests.new)) mapper.new.state result }
 {
     let ending = map_requests(stack, mapper, requests, output);
-    if ending == Ending::WriteFault {
-        return ending;
-    }
-    if status && ending == Ending::Done {
-        if let Err(OutFault) = write_status(stack, mapper, output) {
-            return Ending::WriteFault;
-        }
-    }
-    match output.flush() {
+    let written = write_rest(stack, mapper, ending, status, output);
+    match close(written, output) {
         Ok(()) => ending,
         Err(OutFault) => Ending::WriteFault,
     }
@@ -145,46 +160,18 @@ pub fn run<'s, T: Taken, R: Input, W: Output, E: Output>(
 ) -> Ending
     requires stack { mapper.old.stack ≡ stack.now }
     requires going { mapper.old.stopped ≡ false }
-    // The mapper stays one of its stack, and can go on unless the output failed: in the state that the requests left.
+    // The mapper stays one of its stack, and can go on unless the output failed.
     ensures stack { mapper.new.stack ≡ mapper.old.stack }
     ensures going { result ≢ Ending.WriteFault → mapper.new.stopped ≡ false }
-    ensures state { result ≢ Ending.WriteFault → mapper.new.state
-        ≡ (run_outcome stack.now status mapper.old.state (delivery R.handed R.faults R.ends requests.old requests.new)).state }
-    // What was written, and how it ended, is given by what the requests delivered.
-    ensures served { IsServed (run_outcome stack.now status mapper.old.state (delivery R.handed R.faults R.ends requests.old requests.new))
-        (since (W.written output.old) (W.written output.new)) result }
-    ensures read_fault { result ≡ Ending.ReadFault → R.faults requests.old < R.faults requests.new }
-    ensures no_fault { result ≡ Ending.Done → R.faults requests.new ≤ R.faults requests.old }
-    ensures write_fault { W.faults output.old < W.faults output.new ↔ (result ≡ Ending.WriteFault) }
-    // If the output failed without a flush, something was left to write; if it was flushed, nothing was, and all of it still waits.
-    ensures left { result ≡ Ending.WriteFault → W.flushes output.new ≡ W.flushes output.old
-        → IsCutShort (run_outcome stack.now status mapper.old.state (delivery R.handed R.faults R.ends requests.old requests.new)).output
-        (since (W.written output.old) (W.written output.new)) }
-    ensures failed_flush { result ≡ Ending.WriteFault → W.flushes output.old < W.flushes output.new
-        → (run_outcome stack.now status mapper.old.state (delivery R.handed R.faults R.ends requests.old requests.new)).output
-        ≡ since (W.written output.old) (W.written output.new) }
-    ensures still_waiting { result ≡ Ending.WriteFault → W.flushes output.old < W.flushes output.new
-        → W.waiting output.new ≡ W.waiting output.old ++ since (W.written output.old) (W.written output.new) }
-    // Nothing is read after an end or a fault.
-    ensures no_more { R.faults requests.new + R.ends requests.new ≤ R.faults requests.old + R.ends requests.old + 1 }
-    ensures flushed { result ≢ Ending.WriteFault
-        → (W.waiting output.new ≡ []) × (W.flushes output.new ≡ W.flushes output.old + 1) }
-    ensures once { W.flushes output.new ≤ W.flushes output.old + 1 }
+    // What was written, how it ended and the state that is left are given by what the requests delivered. The output was flushed
+    // once; or it failed, which took a beginning of what there was to write: all of it where the flush failed, and else not all.
+    ensures ran { HasRun W.written W.waiting W.faults W.flushes output.old output.new
+        (run_outcome stack.now status mapper.old.state (delivery R.handed R.faults R.ends requests.old requests.new)) mapper.new.state result }
+    // Requests are only read on, and nothing is read after an end or a fault: a read fault where reading failed, and done where it did not.
+    ensures reads { IsReadOn R.handed R.faults R.ends requests.old requests.new }
+    ensures met { HasMet result (R.faults requests.old) (R.faults requests.new) }
     // The message of the ending, or a beginning of it if its stream failed.
-    ensures told { IsTold (ending_message result) (since (E.written messages.old) (E.written messages.new)) (E.faults messages.old) (E.faults messages.new) }
-    ensures unflushed { E.flushes messages.new ≡ E.flushes messages.old }
-    // Nothing is told after a message that failed.
-    ensures tells_grow { E.faults messages.old ≤ E.faults messages.new }
-    ensures tells_once { E.faults messages.new ≤ E.faults messages.old + 1 }
-    // Each input and output only moves on from where it was.
-    ensures reads { R.handed requests.new
-        ≡ R.handed requests.old ++ since (R.handed requests.old) (R.handed requests.new) }
-    ensures appends { W.written output.new
-        ≡ W.written output.old ++ since (W.written output.old) (W.written output.new) }
-    ensures tells { E.written messages.new
-        ≡ E.written messages.old ++ since (E.written messages.old) (E.written messages.new) }
-    ensures grows { W.faults output.old ≤ W.faults output.new }
-    ensures fails_once { W.faults output.new ≤ W.faults output.old + 1 }
+    ensures told { HasTold E.written E.faults E.flushes (ending_message result) messages.old messages.new }
     // No other pieces of a request's units are as few.
     ensures fewest { (units : List BlockUnit) → AreFewest units (fewest units) }
     // The figures of the limits.

@@ -3,9 +3,8 @@
 //! The words are fixed in `specs/Messages.antt`, since users match on them. A new ending is an arm
 //! here and there.
 
-ghost use Rattle.std.specs.Prelude.{◌≡◌, ◌+◌, ◌≤◌, ◌++◌, length};
-ghost use Rattle.dm_table.specs.DeviceIo.{since};
-ghost use Rattle.dm_stream.specs.Messages.{IsTold, request_word, request_message, ending_message};
+ghost use Rattle.std.specs.Prelude.{◌≡◌, ◌≤◌, length};
+ghost use Rattle.dm_stream.specs.Messages.{HasTold, ending_message, refused_request, request_word};
 
 use crate::ending::{Ending, RequestWord};
 use arrayvec::ArrayVec;
@@ -16,11 +15,7 @@ pub type Message = ArrayVec<u8, 64>;
 
 /// Writes a message, as far as its stream takes it. Nothing is flushed.
 pub fn tell<E: Output>(messages: &mut E, message: &[u8])
-    ensures appends { E.written messages.new ≡ E.written messages.old ++ since (E.written messages.old) (E.written messages.new) }
-    ensures told { IsTold message.now (since (E.written messages.old) (E.written messages.new)) (E.faults messages.old) (E.faults messages.new) }
-    ensures once { E.faults messages.new ≤ E.faults messages.old + 1 }
-    ensures grows { E.faults messages.old ≤ E.faults messages.new }
-    ensures flushes { E.flushes messages.new ≡ E.flushes messages.old }
+    ensures { HasTold E.written E.faults E.flushes message.now messages.old messages.new }
 {
     let _ = write_all(messages, message);
 }
@@ -32,22 +27,24 @@ pub fn message_of(ending: Ending) -> Message
     let mut text = ArrayVec::new();
     match ending {
         Ending::Done => {}
-        Ending::BadRequest(number, word) => return bad_request(number, word),
+        Ending::BadRequest(number, word) => return refused_request(number, word_text(word)),
         Ending::ReadFault => put(&mut text, b"dmremap: requests: read\n"),
         Ending::WriteFault => put(&mut text, b"dmremap: output: write\n"),
     }
     text
 }
 
-/// The message of a bad request.
-fn bad_request(number: u64, word: RequestWord) -> Message
-    ensures { result.items ≡ request_message number word }
+/// The message of a request that is refused: a line with its number, and a word of at most 16 bytes
+/// for why. Takes no memory.
+pub fn refused_request(number: u64, word: &[u8]) -> Message
+    requires { length word.now ≤ 16 }
+    ensures { result.items ≡ refused_request number word.now }
 {
     let mut text = ArrayVec::new();
     put(&mut text, b"dmremap: request ");
     put_number(&mut text, number);
     put(&mut text, b": ");
-    put(&mut text, word_text(word));
+    put(&mut text, word);
     put(&mut text, b"\n");
     text
 }

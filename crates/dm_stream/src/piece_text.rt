@@ -4,16 +4,14 @@
 //! through a function of their own. A new kind of piece is an arm of `put_other` here and of
 //! `unit_text` in `specs/PieceText`.
 
-ghost use Rattle.std.specs.Prelude.{◌≡◌, ◌++◌, ◌+◌, ◌<◌, ◌≤◌, ◌∷◌, [], length, take, decimal, OnErr, OnOk};
-ghost use Rattle.dm_table.specs.DeviceIo.{fault_of, since};
-ghost use Rattle.dm_table.specs.WriteAll.{IsCutShort};
+ghost use Rattle.std.specs.Prelude.{◌≡◌, ◌++◌, ◌+◌, ◌<◌, ◌≤◌, ◌∷◌, [], length, take, decimal};
 ghost use Rattle.dm_stack.specs.Description.{disk_name_at};
 ghost use Rattle.dm_stack.specs.Loaded.{disk_text};
 ghost use Rattle.dm_map.specs.Units.{CopyOf, FillOf, IsOnDisks, first_unit, piece_len};
 ghost use Rattle.dm_stream.specs.KeptRange.{IsKept};
 ghost use Rattle.dm_stream.specs.Pending.{piece_view};
 ghost use Rattle.dm_stream.specs.PieceText.{IsOther, letter_of, piece_text, place_text, range_line, unit_text};
-ghost use Rattle.dm_stream.specs.Progress.{HasWritten};
+ghost use Rattle.dm_table.specs.Progress.{Wrote};
 
 use crate::kept_range::KeptRange;
 use crate::number_prefix::NumberPrefix;
@@ -98,9 +96,7 @@ pub(crate) fn put_piece<W: Output>(
     piece: &Piece,
 ) -> Result<(), OutFault>
     requires lies { IsOnDisks stack.now piece.now }
-    ensures ok { OnOk result (since (W.written writer.old) (W.written writer.new) ≡ piece_text stack.now prefix.now (piece_view piece.now)) }
-    ensures err { OnErr result (IsCutShort (piece_text stack.now prefix.now (piece_view piece.now)) (since (W.written writer.old) (W.written writer.new))) }
-    ensures moved { HasWritten W.written W.waiting W.faults W.flushes writer.old writer.new (fault_of result) }
+    ensures { Wrote W.written W.waiting W.faults W.flushes writer.old writer.new result (piece_text stack.now prefix.now (piece_view piece.now)) }
 {
     match *piece {
         Piece::Read { disk, start, len } | Piece::Write { disk, start, len } => {

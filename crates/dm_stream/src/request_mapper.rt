@@ -3,14 +3,12 @@
 //! It finds a request's device, and hands its units through a mapper to a join, which writes them.
 //! `specs/Outcome.antt` says what is written, and `specs/Mapped.antt` what one request adds to it.
 
-ghost use Rattle.std.specs.Prelude.{◌≡◌, ◌<◌, None, false, length, OnErr, OnOk};
-ghost use Rattle.dm_table.specs.DeviceIo.{fault_of, since};
-ghost use Rattle.dm_table.specs.WriteAll.{IsCutShort};
+ghost use Rattle.std.specs.Prelude.{◌≡◌, ◌<◌, None, false, length, OnOk};
 ghost use Rattle.dm_stream.specs.Mapped.{IsReady, HasAnswered, HasStopped, failed_writes};
 ghost use Rattle.dm_stream.specs.MappedLaws.{answered_none, answered_more, stopped_more};
 ghost use Rattle.dm_stream.specs.Outcome.{request_answer, step_of};
-ghost use Rattle.dm_stream.specs.Progress.{HasWritten};
-ghost use Rattle.dm_stream.specs.ProgressLaws.{written_none, written_more};
+ghost use Rattle.dm_table.specs.Progress.{HasWrittenTo, Wrote};
+ghost use Rattle.dm_table.proofs.ProgressLaws.{written_to_none, written_to_more};
 ghost use Rattle.dm_stream.specs.Requests.{numbered};
 ghost use Rattle.std.proofs.Common.{refl, subst, ◌∙◌};
 
@@ -41,11 +39,8 @@ fn map_request<T: Taken, W: Output>(
     ensures of_stack { join.new.held.stack ≡ join.old.held.stack }
     ensures nothing { join.new.held.piece ≡ None }
     ensures same_reference { join.new.writer.ghost_name ≡ join.old.writer.ghost_name }
-    ensures moved { HasWritten W.written W.waiting W.faults W.flushes join.old.writer.now join.new.writer.now (fault_of result) }
-    ensures ok { OnOk result (since (W.written join.old.writer.now) (W.written join.new.writer.now)
-        ≡ request_answer join.old.held.stack device (numbered request.now) mapper.old.state) }
-    ensures err { OnErr result (IsCutShort (request_answer join.old.held.stack device (numbered request.now) mapper.old.state)
-        (since (W.written join.old.writer.now) (W.written join.new.writer.now))) }
+    ensures wrote { Wrote W.written W.waiting W.faults W.flushes join.old.writer.now join.new.writer.now result
+        (request_answer join.old.held.stack device (numbered request.now) mapper.old.state) }
 {
     join.begin(request.number);
     match mapper.request(request, device, join) {
@@ -73,42 +68,37 @@ impl<'s, T: Taken, W: Output> Handler for RequestMapper<'_, 's, T, W> {
 
     ghost answered = { λ old before requests new after.
         HasAnswered old.devices before.state after.state requests (W.written old.join.writer.now) (W.written new.join.writer.now)
-        × HasWritten W.written W.waiting W.faults W.flushes old.join.writer.now new.join.writer.now 0
-        × (new.devices ≡ old.devices) × (after.stack ≡ before.stack)
-        × (new.join.writer.ghost_name ≡ old.join.writer.ghost_name) };
+        × HasWrittenTo W.written W.waiting W.faults W.flushes old.join.writer new.join.writer 0
+        × (new.devices ≡ old.devices) × (after.stack ≡ before.stack) };
 
     ghost stopped = { λ old before requests fault new after.
         HasStopped old.devices fault before.state after requests (W.written old.join.writer.now) (W.written new.join.writer.now)
-        × HasWritten W.written W.waiting W.faults W.flushes old.join.writer.now new.join.writer.now (failed_writes fault)
+        × HasWrittenTo W.written W.waiting W.faults W.flushes old.join.writer new.join.writer (failed_writes fault)
         × (new.devices ≡ old.devices) × (after.stack ≡ before.stack)
-        × (new.join.writer.ghost_name ≡ old.join.writer.ghost_name)
         × (new.join.held.piece ≡ None) };
 
     ghost answered_none = { λ h mapper. (
       answered_none h.devices mapper.state (W.written h.join.writer.now),
-      written_none W.written W.waiting W.faults W.flushes h.join.writer.now,
-      refl,
+      written_to_none W.written W.waiting W.faults W.flushes h.join.writer,
       refl,
       refl,
     ) };
 
     ghost answered_then_answered = { λ a b c s t u us vs first second. (
-      answered_more a.devices s.state t.state u.state us vs _ _ _ first.1.appends second.1.appends first.0
+      answered_more a.devices s.state t.state u.state us vs _ _ _ first.1.moved.appends second.1.moved.appends first.0
           (subst (λ stack. HasAnswered stack t.state u.state vs (W.written b.join.writer.now) (W.written c.join.writer.now)) first.2 second.0),
-      written_more W.written W.waiting W.faults W.flushes a.join.writer.now b.join.writer.now c.join.writer.now 0 first.1 second.1,
+      written_to_more W.written W.waiting W.faults W.flushes a.join.writer b.join.writer c.join.writer 0 first.1 second.1,
       second.2 ∙ first.2,
       second.3 ∙ first.3,
-      second.4 ∙ first.4,
     ) };
 
     ghost answered_then_stopped = { λ a b c s t u us vs fault first second. (
-      stopped_more a.devices fault s.state t.state u us vs _ _ _ first.1.appends second.1.appends first.0
+      stopped_more a.devices fault s.state t.state u us vs _ _ _ first.1.moved.appends second.1.moved.appends first.0
           (subst (λ stack. HasStopped stack fault t.state u vs (W.written b.join.writer.now) (W.written c.join.writer.now)) first.2 second.0),
-      written_more W.written W.waiting W.faults W.flushes a.join.writer.now b.join.writer.now c.join.writer.now (failed_writes fault) first.1 second.1,
+      written_to_more W.written W.waiting W.faults W.flushes a.join.writer b.join.writer c.join.writer (failed_writes fault) first.1 second.1,
       second.2 ∙ first.2,
       second.3 ∙ first.3,
-      second.4 ∙ first.4,
-      second.5,
+      second.4,
     ) };
 
     #[inline(always)]

@@ -7,7 +7,7 @@ ghost use Rattle.std.specs.Prelude.{◌≡◌, ◌≢◌, ◌+◌, ◌<◌, ◌�
 ghost use Rattle.dm_table.specs.DeviceIo.{delivery};
 ghost use Rattle.dm_stream.specs.Lines.{line_parts};
 ghost use Rattle.dm_stream.specs.declared.lines.TheConstants.{MOST_LINE_BYTES};
-ghost use Rattle.dm_table.specs.PartInput.{IsReadOn};
+ghost use Rattle.dm_table.specs.Progress.{IsReadOn};
 ghost use Rattle.dm_stream.specs.Requests.{HasMet, IsAmong, Requests, after_requests, is_bad, line_requests, numbered, requests_of, word_for};
 
 use crate::ending::{Ending, RequestWord};

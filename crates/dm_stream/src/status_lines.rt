@@ -4,7 +4,7 @@
 //! written by plain calls. What they say is in `specs/StatusLines.antt`.
 
 ghost use Rattle.std.specs.Prelude.{◌≡◌, ◌++◌, ◌+◌, ◌<◌, ◌≤◌, length};
-ghost use Rattle.dm_table.specs.CanonicalText.{Wrote};
+ghost use Rattle.dm_table.specs.Progress.{Wrote};
 ghost use Rattle.dm_stack.specs.Description.{device_len, name_at};
 ghost use Rattle.dm_map.specs.Mapper.{with_looked};
 ghost use Rattle.dm_stream.specs.StatusLines.{after_name, status_text, usage_text};

@@ -1,10 +1,7 @@
 -- What a block holds up to the end of what was put into it.
 use Rattle.std.proofs.Common.{◌≡◌, ℕ, ◌+◌, ◌-◌, ◌≤◌, ◌++◌, List, [], ◌∷◌, ◌<◌, length, take, drop, slice_range, sym, ap, subst, ◌∙◌, append_assoc, arith}
 use Rattle.std.proofs.Math.Seq.{take-add, take-append-add, take-append_seam}
-use Rattle.std.proofs.lemmas.List.{take-take, append-nil}
-use Rattle.dm_table.specs.DeviceIo.{since}
-use Rattle.dm_table.specs.WriteAll.{IsCutShort}
-use Rattle.dm_table.proofs.Growth.{since_is}
+use Rattle.std.proofs.lemmas.List.{take-take}
 
 -- what was put after a front and a part of a room, where that is the next part
 pub next_part : (at end from to : ℕ) (new old front part room : List ℕ) → from ≤ to → take at old ≡ front ++ take from room → take end new ≡ take at old ++ part → part ≡ slice_range room from to → take end new ≡ front ++ take to room
@@ -56,8 +53,3 @@ passed_on old mid block new sent len within passed moved =
     ap (λ (xs : List ℕ). xs ++ take (len - sent) new) passed ∙ append_assoc old (take sent block) _
     ∙ ap (λ (xs : List ℕ). old ++ (take sent block ++ xs)) moved
     ∙ ap (λ (xs : List ℕ). old ++ xs) (sym (take-add sent (len - sent) block) ∙ ap (λ (n : ℕ). take n block) all)
-
--- a text of which nothing was taken
-pub none_taken : (old new text : List ℕ) → 0 < length text → new ≡ old → IsCutShort text (since old new)
-none_taken old new [] some same = absurd (omega (arith, some))
-none_taken old new (byte ∷ rest) some same = (byte, rest, ap (λ (xs : List ℕ). xs ++ byte ∷ rest) (sym (since_is old new [] (same ∙ sym (append-nil old)))))

@@ -3,6 +3,7 @@ use Rattle.std.proofs.Common.{Result, Ok, Err, OnErr, [], ◌∷◌, ◌≡◌, 
 use Rattle.std.proofs.Math.Seq.{take-add, drop-append_seam}
 use Rattle.std.proofs.lemmas.List.{take_rest, append-nil, drop-drop, length-drop}
 use Rattle.dm_table.specs.DeviceIo.{since}
+use Rattle.dm_table.specs.Progress.{HasWritten, Wrote}
 use Rattle.dm_table.specs.WriteAll.{IsBeginning, IsCutShort}
 
 -- what was added after a list
@@ -91,6 +92,58 @@ sent_further written waiting faults flushes old mid new bytes rest n so_far few 
   faults = failed ∙ add-zero _ ∙ so_far.faults;
   flushes = flushed ∙ so_far.flushes;
 }
+
+-- what moved on then, where no write failed after that, or one did
+sent_moved : {X : Type 0} (written waiting : X → List ℕ) (faults flushes : X → ℕ) (old new : X) (sent : List ℕ) (failed : ℕ) → written new ≡ written old ++ sent → waiting new ≡ waiting old ++ sent → faults new ≡ faults old + failed → flushes new ≡ flushes old
+    → HasWritten written waiting faults flushes old new failed
+sent_moved written waiting faults flushes old new sent failed more held fails flushed =
+    let is = sym (since_is (written old) (written new) sent more) in
+    record { appends = more ∙ ap (λ xs. written old ++ xs) is; waits = held ∙ ap (λ xs. waiting old ++ xs) is; fails = fails; unflushed = flushed }
+
+-- all of it is written
+pub sent_whole : {X E : Type 0} (written waiting : X → List ℕ) (faults flushes : X → ℕ) (old new : X) (bytes rest : List ℕ) → IsSent written waiting faults flushes old new bytes rest → length rest ≡ 0
+    → Wrote {E = E} written waiting faults flushes old new (Ok tt) bytes
+sent_whole written waiting faults flushes old new bytes [] so_far none =
+    let all : take (before bytes []) bytes ≡ bytes = sym (append-nil _) ∙ ap (λ xs. take (before bytes []) bytes ++ xs) so_far.rest ∙ take-append-drop (before bytes []) bytes in
+    record {
+      moved = sent_moved written waiting faults flushes old new (take (before bytes []) bytes) 0 so_far.written so_far.waiting (so_far.faults ∙ sym (add-zero _)) so_far.flushes;
+      ok = since_is (written old) (written new) _ so_far.written ∙ all;
+      left = tt;
+    }
+sent_whole written waiting faults flushes old new bytes (byte ∷ more) so_far none = absurd (omega (arith, none))
+
+-- a write of the rest failed
+pub sent_cut : {X E : Type 0} (written waiting : X → List ℕ) (faults flushes : X → ℕ) (old mid new : X) (fault : E) (bytes rest : List ℕ) → IsSent written waiting faults flushes old mid bytes rest → 0 < length rest
+    → written new ≡ written mid ++ [] → waiting new ≡ waiting mid ++ [] → faults new ≡ faults mid + 1 → flushes new ≡ flushes mid → Wrote written waiting faults flushes old new (Err fault) bytes
+sent_cut written waiting faults flushes old mid new fault bytes rest so_far some none same failed flushed =
+    let at = before bytes rest in
+    let more = none ∙ append-nil _ ∙ so_far.written in
+    record {
+      moved = sent_moved written waiting faults flushes old new (take at bytes) 1 more (same ∙ append-nil _ ∙ so_far.waiting) (failed ∙ ap (λ n. n + 1) so_far.faults) (flushed ∙ so_far.flushes);
+      ok = tt;
+      left = front_cut (written old) (written new) bytes rest at more so_far.rest some;
+    }
+
+-- a text is written at once
+pub wrote_at_once : {X E : Type 0} (written waiting : X → List ℕ) (faults flushes : X → ℕ) (old new : X) (text : List ℕ) → written new ≡ written old ++ text → waiting new ≡ waiting old ++ text → faults new ≡ faults old → flushes new ≡ flushes old
+    → Wrote {E = E} written waiting faults flushes old new (Ok tt) text
+wrote_at_once written waiting faults flushes old new text more held quiet same = record {
+  moved = sent_moved written waiting faults flushes old new text 0 more held (quiet ∙ sym (add-zero _)) same;
+  ok = since_is (written old) (written new) text more;
+  left = tt;
+}
+
+-- nothing of it is
+pub wrote_nothing : {X E : Type 0} (written waiting : X → List ℕ) (faults flushes : X → ℕ) (old new : X) (fault : E) (text : List ℕ) → 0 < length text → written new ≡ written old → waiting new ≡ waiting old → faults new ≡ faults old + 1 → flushes new ≡ flushes old
+    → Wrote written waiting faults flushes old new (Err fault) text
+wrote_nothing written waiting faults flushes old new fault [] some none same failed flushed = absurd (omega (arith, some))
+wrote_nothing written waiting faults flushes old new fault (byte ∷ rest) some none same failed flushed =
+    let more = none ∙ sym (append-nil (written old)) in
+    record {
+      moved = sent_moved written waiting faults flushes old new [] 1 more (same ∙ sym (append-nil (waiting old))) failed flushed;
+      ok = tt;
+      left = (byte, rest, ap (λ (xs : List ℕ). xs ++ byte ∷ rest) (sym (since_is (written old) (written new) [] more)));
+    }
 
 -- a fact is one at an error
 pub on_err : {T E : Type 0} (r : Result T E) (P : Type 0) → P → OnErr r P

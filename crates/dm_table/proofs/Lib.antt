@@ -16,6 +16,7 @@ pub mod TableDescribed
 pub mod TableFields
 pub mod TargetRows
 pub mod Growth
+pub mod ProgressLaws
 pub mod RowFaultLemmas
 pub mod WriteLemmas
 pub mod BlockLemmas

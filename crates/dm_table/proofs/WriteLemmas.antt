@@ -6,8 +6,9 @@ use Rattle.std.proofs.lemmas.Grind.{flat_map-append}
 use Rattle.std.proofs.lemmas.List.{drop_more, append-nil, take_rest}
 use Rattle.std.proofs.lemmas.Result.{err_from_is_err_and}
 use Rattle.std.specs.Prelude.{decimal}
-use Rattle.dm_table.specs.DeviceIo.{since}
-use Rattle.dm_table.specs.CanonicalText.{Wrote}
+use Rattle.dm_table.specs.DeviceIo.{fault_of, since, unflushed}
+use Rattle.dm_table.proofs.ProgressLaws.{written_more}
+use Rattle.dm_table.specs.Progress.{IsClosed, Wrote}
 use Rattle.dm_table.specs.declared.table.Line.{Line}
 use Rattle.dm_table.specs.declared.table.Target.{Target}
 use Rattle.dm_table.specs.declared.table.Target.TheVariants.{Linear, Striped, Zero, Error, Snapshot}
@@ -19,40 +20,89 @@ use Rattle.dm_table.proofs.Growth.{since_more, grows_more}
 pub wrote_stop : {X E : Type 0} (written waiting : X → List ℕ) (faults flushes : X → ℕ) (old new : X) (fault : E) (first rest text : List ℕ) → text ≡ first ++ rest
     → Wrote written waiting faults flushes old new (Err fault) first → Wrote written waiting faults flushes old new (Err fault) text
 wrote_stop written waiting faults flushes old new fault first rest text is h = record {
-  appends = h.appends;
+  moved = h.moved;
   ok = tt;
   left = (h.left.0, h.left.1 ++ rest, is ∙ ap (λ (t : List ℕ). t ++ rest) h.left.2 ∙ append_assoc (since (written old) (written new)) (h.left.0 ∷ h.left.1) rest);
-  waits = h.waits;
-  failed = h.failed;
-  flushed = h.flushed;
 }
-
-waits_more : {X : Type 0} (written waiting : X → List ℕ) (old mid new : X) → waiting mid ≡ waiting old ++ since (written old) (written mid) → waiting new ≡ waiting mid ++ since (written mid) (written new)
-    → since (written old) (written new) ≡ since (written old) (written mid) ++ since (written mid) (written new) → waiting new ≡ waiting old ++ since (written old) (written new)
-waits_more written waiting old mid new a b more = b ∙ ap (λ (w : List ℕ). w ++ since (written mid) (written new)) a ∙ append_assoc (waiting old) _ _ ∙ ap (λ (w : List ℕ). waiting old ++ w) (sym more)
 
 -- one part written, and the next
 pub wrote_then : {X E : Type 0} (written waiting : X → List ℕ) (faults flushes : X → ℕ) (old mid new : X) (result : Result (Unit {0}) E) (first next text : List ℕ) → text ≡ first ++ next
     → Wrote {E = E} written waiting faults flushes old mid (Ok tt) first → Wrote written waiting faults flushes mid new result next → Wrote written waiting faults flushes old new result text
 wrote_then written waiting faults flushes old mid new (Ok done) first next text is a b =
-    let more = since_more (written old) (written mid) (written new) a.appends b.appends in
+    let more = since_more (written old) (written mid) (written new) a.moved.appends b.moved.appends in
     record {
-      appends = grows_more (written old) (written mid) (written new) a.appends b.appends;
+      moved = written_more written waiting faults flushes old mid new 0 a.moved b.moved;
       ok = more ∙ ap (λ (t : List ℕ). t ++ since (written mid) (written new)) a.ok ∙ ap (λ (t : List ℕ). first ++ t) b.ok ∙ sym is;
       left = tt;
-      waits = waits_more written waiting old mid new a.waits b.waits more;
-      failed = b.failed ∙ add-zero _ ∙ a.failed;
-      flushed = b.flushed ∙ a.flushed;
     }
 wrote_then written waiting faults flushes old mid new (Err fault) first next text is a b =
-    let more = since_more (written old) (written mid) (written new) a.appends b.appends in
+    let more = since_more (written old) (written mid) (written new) a.moved.appends b.moved.appends in
     record {
-      appends = grows_more (written old) (written mid) (written new) a.appends b.appends;
+      moved = written_more written waiting faults flushes old mid new 1 a.moved b.moved;
       ok = tt;
       left = (b.left.0, b.left.1, is ∙ ap (λ (t : List ℕ). first ++ t) b.left.2 ∙ sym (append_assoc first (since (written mid) (written new)) (b.left.0 ∷ b.left.1)) ∙ ap (λ (t : List ℕ). t ++ b.left.0 ∷ b.left.1) (sym (more ∙ ap (λ (t : List ℕ). t ++ since (written mid) (written new)) a.ok)));
-      waits = waits_more written waiting old mid new a.waits b.waits more;
-      failed = b.failed ∙ ap (λ n. n + 1) (a.failed ∙ add-zero _);
-      flushed = b.flushed ∙ a.flushed;
+    }
+
+-- ---- an output that is closed
+
+-- a write failed, and no flush was asked for
+pub closed_unflushed : {X E : Type 0} (written waiting : X → List ℕ) (faults flushes : X → ℕ) (old new : X) (fault : E) (text : List ℕ) → Wrote written waiting faults flushes old new (Err fault) text
+    → IsClosed written waiting faults flushes old new (Err fault) text
+closed_unflushed written waiting faults flushes old new fault text wrote = record {
+  finished = record {
+    appends = wrote.moved.appends;
+    write_fault = (λ more. refl, λ err. omega (arith, wrote.moved.fails));
+    grows = omega (arith, wrote.moved.fails);
+    fails_once = omega (arith, wrote.moved.fails);
+    once = omega (arith, wrote.moved.unflushed);
+    still_waiting = λ err less. absurd (omega (arith, less, wrote.moved.unflushed));
+  };
+  whole = tt;
+  flushed = tt;
+  failed = record {
+    beginning = (wrote.left.0 ∷ wrote.left.1, wrote.left.2);
+    left = λ same. wrote.left;
+    failed_flush = λ less. absurd (omega (arith, less, wrote.moved.unflushed));
+  };
+}
+
+-- all was written, and a flush was asked for
+pub closed_flushed : {X E : Type 0} (written waiting : X → List ℕ) (faults flushes : X → ℕ) (old mid new : X) (result : Result (Unit {0}) E) (text : List ℕ) → Wrote {E = E} written waiting faults flushes old mid (Ok tt) text
+    → written new ≡ written mid → waiting new ≡ unflushed result (waiting mid) → faults new ≡ faults mid + fault_of result → flushes new ≡ flushes mid + 1 → IsClosed written waiting faults flushes old new result text
+closed_flushed written waiting faults flushes old mid new (Ok done) text wrote same waits fails more =
+    let all : since (written old) (written mid) ≡ since (written old) (written new) = ap (since (written old)) (sym same) in
+    record {
+      finished = record {
+        appends = same ∙ wrote.moved.appends ∙ ap (λ (xs : List ℕ). written old ++ xs) all;
+        write_fault = (λ less. absurd (omega (arith, less, fails, wrote.moved.fails)), λ err. absurd cc);
+        grows = omega (arith, fails, wrote.moved.fails);
+        fails_once = omega (arith, fails, wrote.moved.fails);
+        once = omega (arith, more, wrote.moved.unflushed);
+        still_waiting = λ err less. absurd cc;
+      };
+      whole = sym all ∙ wrote.ok;
+      flushed = (waits, more ∙ ap (λ (n : ℕ). n + 1) wrote.moved.unflushed);
+      failed = tt;
+    }
+closed_flushed written waiting faults flushes old mid new (Err fault) text wrote same waits fails more =
+    let all : since (written old) (written mid) ≡ since (written old) (written new) = ap (since (written old)) (sym same) in
+    let is : text ≡ since (written old) (written new) = sym wrote.ok ∙ all in
+    record {
+      finished = record {
+        appends = same ∙ wrote.moved.appends ∙ ap (λ (xs : List ℕ). written old ++ xs) all;
+        write_fault = (λ less. refl, λ err. omega (arith, fails, wrote.moved.fails));
+        grows = omega (arith, fails, wrote.moved.fails);
+        fails_once = omega (arith, fails, wrote.moved.fails);
+        once = omega (arith, more, wrote.moved.unflushed);
+        still_waiting = λ err less. waits ∙ wrote.moved.waits ∙ ap (λ (xs : List ℕ). waiting old ++ xs) all;
+      };
+      whole = tt;
+      flushed = tt;
+      failed = record {
+        beginning = ([], is ∙ sym (append-nil (since (written old) (written new))));
+        left = λ unchanged. absurd (omega (arith, unchanged, more, wrote.moved.unflushed));
+        failed_flush = λ less. is;
+      };
     }
 
 -- The same, as answers cite them

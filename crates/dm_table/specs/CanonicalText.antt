@@ -1,15 +1,13 @@
 -- The one text that a description is written as, in table text and in concise text (dmsetup(8)).
-use Rattle.std.specs.Prelude.{◌≡◌, ℕ, suc, Bool, false, length, List, [], ◌∷◌, ◌++◌, map, codes, Result, OnOk, OnErr, if◌then◌else◌, ◌+◌}
+use Rattle.std.specs.Prelude.{◌≡◌, ℕ, suc, Bool, false, length, List, [], ◌∷◌, ◌++◌, map, codes, if◌then◌else◌, ◌+◌}
 use Rattle.std.specs.List.{flat_map, join_with_byte}
 use Rattle.dm_table.specs.declared.table.Line.{Line}
 use Rattle.dm_table.specs.declared.table.DeviceSpec.{DeviceSpec}
 use Rattle.dm_table.specs.declared.place.Place.{Place}
 use Rattle.dm_table.specs.declared.place.Part.TheVariants.{Source}
-use Rattle.dm_table.specs.DeviceIo.{fault_of, since}
 use Rattle.dm_table.specs.LineBody.{body_text}
 use Rattle.dm_table.specs.TableText.{line_text}
 use Rattle.dm_table.specs.ConciseText.{place_of}
-use Rattle.dm_table.specs.WriteAll.{IsCutShort}
 
 -- the lines of a device, each with its name and a newline
 abbrev pub lines_text : List ℕ → List Line → List ℕ
@@ -61,13 +59,3 @@ as_concise n (device ∷ devices) =
 -- where some text says devices, as far as such a text can say them, the text that is written says them
 abbrev pub ReadsBack : (describes : List ℕ → List DeviceSpec → Type 0) (sayable : List DeviceSpec → List DeviceSpec) (text_of : List DeviceSpec → List ℕ) (devices : List DeviceSpec) → Type 0
 ReadsBack describes sayable text_of devices = (text : List ℕ) (said : List DeviceSpec) → describes text said → sayable said ≡ sayable devices → describes (text_of devices) (sayable devices)
-
--- What calls of an output did that write a text: all of it, or, at a fault, a beginning of it that lacks a byte
-
-pub record Wrote {X E : Type 0} (written waiting : X → List ℕ) (faults flushes : X → ℕ) (old new : X) (result : Result (Unit {0}) E) (text : List ℕ) : Type 0 where
-  pub appends : written new ≡ written old ++ since (written old) (written new)
-  pub ok : OnOk result (since (written old) (written new) ≡ text)
-  pub left : OnErr result (IsCutShort text (since (written old) (written new)))
-  pub waits : waiting new ≡ waiting old ++ since (written old) (written new)
-  pub failed : faults new ≡ faults old + fault_of result
-  pub flushed : flushes new ≡ flushes old

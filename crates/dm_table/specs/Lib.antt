@@ -19,4 +19,5 @@ pub mod RequestLine
 pub mod DeviceIo
 pub mod ShortIo
 pub mod WriteAll
+pub mod Progress
 pub mod CanonicalText

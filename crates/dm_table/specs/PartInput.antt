@@ -1,10 +1,10 @@
 -- What a part of a load delivers: a text, or why it was not read.
-use Rattle.std.specs.Prelude.{◌≡◌, ◌≤◌, ℕ, ◌+◌, List, ◌++◌, length, nat_lt, if◌then◌else◌}
+use Rattle.std.specs.Prelude.{ℕ, List, length, nat_lt, if◌then◌else◌}
 use Rattle.dm_table.specs.declared.place.Part.{Part}
 use Rattle.dm_table.specs.declared.load_fault.LoadFault.{LoadFault}
 use Rattle.dm_table.specs.declared.load_fault.LoadKind.TheVariants.{Read, Long}
 use Rattle.dm_table.specs.LoadFault.{fault_at}
-use Rattle.dm_table.specs.DeviceIo.{Stand, Clean, Failed, Open, Delivery, since}
+use Rattle.dm_table.specs.DeviceIo.{Stand, Clean, Failed, Open, Delivery}
 use Rattle.dm_table.specs.declared.part_input.TheConstants.{MOST_PART_BYTES}
 
 -- what reading a part gave: its text, why it is refused, or neither yet
@@ -23,8 +23,3 @@ part_by part Open bytes = Unread
 abbrev pub part_read : Part → Delivery → PartRead
 part_read part delivered =
     if nat_lt MOST_PART_BYTES (length delivered.bytes) then Refuses (fault_at part Long 0) else part_by part delivered.stand delivered.bytes
-
--- an input was only read on, and not after an end or a fault: what it handed out grew, and at most one of these was met
-pub record IsReadOn {X : Type 0} (handed : X → List ℕ) (faults ends : X → ℕ) (old new : X) : Type 0 where
-  pub grows : handed new ≡ handed old ++ since (handed old) (handed new)
-  pub no_more : faults new + ends new ≤ faults old + ends old + 1

@@ -6,41 +6,25 @@
 //! newline. A new target is an arm in `line_head`; only one whose text has no greatest length, as a
 //! striped line's, is an arm here too.
 
-ghost use Rattle.std.specs.Prelude.{◌≡◌, ◌<◌, ◌≤◌, ◌∷◌, ◌++◌, length, map};
+ghost use Rattle.std.specs.Prelude.{◌≡◌, ◌≤◌, ◌∷◌, ◌++◌, length, map};
 ghost use Rattle.std.specs.List.{flat_map, join_with_byte};
 ghost use Rattle.dm_table.specs.LineBody.{column_text, body_text};
 ghost use Rattle.dm_table.specs.LineHead.{columns_of};
 ghost use Rattle.dm_table.specs.TableText.{DescribesTable};
 ghost use Rattle.dm_table.specs.ConciseText.{DescribesConcise};
-ghost use Rattle.dm_table.specs.CanonicalText.{ReadsBack, Wrote, as_table, lines_text, table_text, flag_text, concise_device, concise_text, as_concise};
+ghost use Rattle.dm_table.specs.CanonicalText.{ReadsBack, as_table, lines_text, table_text, flag_text, concise_device, concise_text, as_concise};
+ghost use Rattle.dm_table.specs.Progress.{Wrote};
 
 use crate::device_io::{OutFault, Output};
 use crate::line_head::{ColumnText, LineHead};
 use crate::table::{Column, DeviceSpec, Line, Target};
-use crate::text::Text;
 use crate::writing::write_all;
-
-/// Writes these bytes.
-fn write<W: Output>(writer: &mut W, bytes: &[u8]) -> Result<(), OutFault>
-    ensures { Wrote W.written W.waiting W.faults W.flushes writer.old writer.new result bytes.now }
-{
-    write_all(writer, bytes)
-}
-
-/// Writes a text that isn't empty.
-#[inline(always)]
-fn put<W: Output, T: Text>(writer: &mut W, text: &T) -> Result<(), OutFault>
-    requires { 0 < length (T.text text.now) }
-    ensures { Wrote W.written W.waiting W.faults W.flushes writer.old writer.new result (T.text text.now) }
-{
-    writer.put(text)
-}
 
 fn write_columns<W: Output>(writer: &mut W, columns: &[Column]) -> Result<(), OutFault>
     ensures { Wrote W.written W.waiting W.faults W.flushes writer.old writer.new result (flat_map column_text columns.now) }
 {
     for column in columns {
-        put(&mut *writer, &ColumnText::new(column))?;
+        writer.put(&ColumnText::new(column))?;
     }
     Ok(())
 }
@@ -51,7 +35,7 @@ fn write_columns_of<W: Output>(writer: &mut W, target: &Target) -> Result<(), Ou
 {
     match target {
         Target::Striped { columns, .. } => write_columns(writer, columns.as_slice()),
-        _ => write(writer, b""),
+        _ => write_all(writer, b""),
     }
 }
 
@@ -66,7 +50,7 @@ fn write_body<W: Output>(
     requires mark { length mark.now ≤ 2 }
     ensures { Wrote W.written W.waiting W.faults W.flushes writer.old writer.new result (name.now ++ mark.now ++ body_text line.now) }
 {
-    put(&mut *writer, &LineHead::new(name, mark, line))?;
+    writer.put(&LineHead::new(name, mark, line))?;
     write_columns_of(writer, &line.target)
 }
 
@@ -77,7 +61,7 @@ fn write_lines<W: Output>(writer: &mut W, name: &[u8], lines: &[Line]) -> Result
 {
     for line in lines {
         write_body(&mut *writer, name, b": ", line)?;
-        write(&mut *writer, b"\n")?;
+        write_all(&mut *writer, b"\n")?;
     }
     Ok(())
 }
@@ -129,7 +113,7 @@ fn write_bodies<W: Output>(writer: &mut W, lines: &[Line]) -> Result<(), OutFaul
             write_body(&mut *writer, b"", b"", first)?;
             write_more_bodies(writer, rest)
         }
-        [] => write(writer, b""),
+        [] => write_all(writer, b""),
     }
 }
 
@@ -141,9 +125,9 @@ fn write_device<W: Output>(
 ) -> Result<(), OutFault>
     ensures { Wrote W.written W.waiting W.faults W.flushes writer.old writer.new result (before.now ++ concise_device device.now) }
 {
-    write(&mut *writer, before)?;
-    write(&mut *writer, device.name.as_str().as_bytes())?;
-    write(&mut *writer, flag_text(device.ro))?;
+    write_all(&mut *writer, before)?;
+    write_all(&mut *writer, device.name.as_str().as_bytes())?;
+    write_all(&mut *writer, flag_text(device.ro))?;
     write_bodies(writer, device.lines.as_slice())
 }
 
@@ -177,7 +161,7 @@ fn write_devices<W: Output>(writer: &mut W, devices: &[DeviceSpec]) -> Result<()
             write_device(&mut *writer, b"", first)?;
             write_more_devices(writer, rest)
         }
-        [] => write(writer, b""),
+        [] => write_all(writer, b""),
     }
 }
 
@@ -199,5 +183,5 @@ fn write_ended<W: Output>(writer: &mut W, devices: &[DeviceSpec]) -> Result<(), 
     ensures { Wrote W.written W.waiting W.faults W.flushes writer.old writer.new result (concise_text devices.now) }
 {
     write_devices(&mut *writer, devices)?;
-    write(writer, b"\n")
+    write_all(writer, b"\n")
 }

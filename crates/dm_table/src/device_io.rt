@@ -1,9 +1,9 @@
 //! The traits of what the product reads from and writes to, and their faults.
 //! Ghost members say what a device did so far, so that a caller's contract can speak of any device.
 //! A change of a clause here is a change for every reader and writer above: check them all.
-ghost use Rattle.std.specs.Prelude.{◌≡◌, ◌+◌, ◌<◌, ◌≤◌, ◌++◌, ℕ, List, length, IfOk, OnOk, OnErr};
-ghost use Rattle.dm_table.specs.DeviceIo.{given, fault_of, end_of, since, unflushed};
-ghost use Rattle.dm_table.specs.WriteAll.{IsCutShort};
+ghost use Rattle.std.specs.Prelude.{◌≡◌, ◌+◌, ◌<◌, ◌≤◌, ◌++◌, ℕ, List, length, IfOk};
+ghost use Rattle.dm_table.specs.DeviceIo.{given, fault_of, end_of, unflushed};
+ghost use Rattle.dm_table.specs.Progress.{Wrote};
 
 use crate::text::{TEXT_ROOM, Text};
 use thiserror::Error;
@@ -74,12 +74,7 @@ pub trait Output {
     /// is tried again.
     fn put<T: Text>(&mut self, text: &T) -> Result<(), OutFault>
         requires { 0 < length (T.text text.now) }
-        ensures appends { written self.new ≡ written self.old ++ since (written self.old) (written self.new) }
-        ensures ok { OnOk result (since (written self.old) (written self.new) ≡ T.text text.now) }
-        ensures left { OnErr result (IsCutShort (T.text text.now) (since (written self.old) (written self.new))) }
-        ensures waiting { waiting self.new ≡ waiting self.old ++ since (written self.old) (written self.new) }
-        ensures faults { faults self.new ≡ faults self.old + fault_of result }
-        ensures flushes { flushes self.new ≡ flushes self.old }
+        ensures { Wrote written waiting faults flushes self.old self.new result (T.text text.now) }
     {
         let mut room = [0; TEXT_ROOM];
         let len = text.put_into(&mut room, 0);

@@ -3,8 +3,8 @@
 //! The words are fixed by `specs/LoadMessage.antt`, since users match on them. A new kind of refusal
 //! is an arm there and of `LoadKind::word`.
 
-ghost use Rattle.std.specs.Prelude.{◌≡◌};
-ghost use Rattle.dm_table.specs.LoadMessage.{load_message};
+ghost use Rattle.std.specs.Prelude.{◌≡◌, ◌≤◌, length};
+ghost use Rattle.dm_table.specs.LoadMessage.{load_message, memory_message};
 
 use crate::load_fault::{LoadFault, LoadKind};
 use crate::number_text::{put, put_number};
@@ -22,11 +22,11 @@ impl LoadFault {
         ensures { result.items ≡ load_message self }
     {
         let mut text = ArrayVec::new();
-        put(&mut text, b"dmremap: ");
         if self.kind == LoadKind::Memory {
-            put(&mut text, b"memory\n");
+            put(&mut text, memory_message());
             return text;
         }
+        put(&mut text, b"dmremap: ");
         put(&mut text, self.at.part.word().as_bytes());
         put(&mut text, b": ");
         put(&mut text, self.kind.word().as_bytes());
@@ -40,4 +40,12 @@ impl LoadFault {
         put(&mut text, b"\n");
         text
     }
+}
+
+/// The message of a run that is out of memory: one line, with its newline.
+pub fn memory_message() -> &'static [u8]
+    ensures message { result.now ≡ memory_message }
+    ensures short { length result.now ≤ 16 }
+{
+    b"dmremap: memory\n"
 }

@@ -7,7 +7,8 @@
 ghost use Rattle.std.specs.Prelude.{◌≡◌, ◌≢◌, ◌++◌, IfOk, IfErr};
 ghost use Rattle.dm_table.specs.DeviceIo.{delivery, since};
 ghost use Rattle.dm_table.specs.LoadFault.{IsMemoryFault, fault_at};
-ghost use Rattle.dm_table.specs.PartInput.{IsReadOn, Refuses, TextOf, part_read};
+ghost use Rattle.dm_table.specs.PartInput.{Refuses, TextOf, part_read};
+ghost use Rattle.dm_table.specs.Progress.{IsReadOn};
 ghost use Rattle.dm_table.specs.declared.load_fault.LoadKind.TheVariants.{Memory};
 
 use crate::device_io::{InFault, Input};

@@ -1,25 +1,18 @@
-//! All of some bytes to an output, over as many writes as it takes.
+//! All of some bytes to an output, over as many writes as it takes, and the flush after the last of them.
 //! It loops here since an output may take less than it is given, and a byte must never go out twice.
 //! Keep what is left of the bytes as the only thing that a turn changes.
-ghost use Rattle.std.specs.Prelude.{◌≡◌, ◌+◌, ◌++◌, OnOk, OnErr};
-ghost use Rattle.dm_table.specs.DeviceIo.{since, fault_of};
-ghost use Rattle.dm_table.specs.WriteAll.{IsBeginning, IsCutShort};
+ghost use Rattle.std.specs.Prelude.{◌≡◌, ◌+◌, ℕ, List, IsErr, OnErr, OnOk};
+ghost use Rattle.dm_table.specs.DeviceIo.{since};
+ghost use Rattle.dm_table.specs.Progress.{IsClosed, Wrote};
+ghost use Rattle.dm_table.specs.WriteAll.{IsBeginning};
 
 use crate::device_io::{OutFault, Output};
 
 /// Writes all of the bytes, in order. After a fault a beginning of them is written, and nothing is
 /// tried again. No write is asked for where there are no bytes. Takes no memory.
 pub fn write_all<W: Output>(writer: &mut W, bytes: &[u8]) -> Result<(), OutFault>
-    ensures appends { W.written writer.new
-        ≡ W.written writer.old ++ since (W.written writer.old) (W.written writer.new) }
-    ensures ok { OnOk result (since (W.written writer.old) (W.written writer.new) ≡ bytes.now) }
+    ensures wrote { Wrote W.written W.waiting W.faults W.flushes writer.old writer.new result bytes.now }
     ensures err { OnErr result (IsBeginning bytes.now (since (W.written writer.old) (W.written writer.new))) }
-    // A write fails only where something is left to write.
-    ensures left { OnErr result (IsCutShort bytes.now (since (W.written writer.old) (W.written writer.new))) }
-    ensures waiting { W.waiting writer.new
-        ≡ W.waiting writer.old ++ since (W.written writer.old) (W.written writer.new) }
-    ensures faults { W.faults writer.new ≡ W.faults writer.old + fault_of result }
-    ensures flushes { W.flushes writer.new ≡ W.flushes writer.old }
 {
     let mut rest = bytes;
     while !rest.is_empty() {
@@ -27,4 +20,25 @@ pub fn write_all<W: Output>(writer: &mut W, bytes: &[u8]) -> Result<(), OutFault
         rest = &rest[taken..];
     }
     Ok(())
+}
+
+/// Ends an output that something was written to: flushes it, once, unless a write failed.
+///
+/// # Errors
+///
+/// `OutFault` if a write failed before, or if the flush fails.
+#[tactic(auto, using(crate::proofs::WriteLemmas::closed_unflushed, crate::proofs::WriteLemmas::closed_flushed))]
+pub fn close<W: Output>(written: Result<(), OutFault>, output: &mut W) -> Result<(), OutFault>
+    // Wherever the text began.
+    ensures closed { (start : W) (text : List ℕ) → Wrote W.written W.waiting W.faults W.flushes start output.old written text
+        → IsClosed W.written W.waiting W.faults W.flushes start output.new result text }
+    // Nothing is asked of an output after a write that failed.
+    ensures untouched { OnErr written (IsErr result × (output.new ≡ output.old)) }
+    ensures flushed { OnOk written (W.flushes output.new ≡ W.flushes output.old + 1) }
+    ensures bytes { W.written output.new ≡ W.written output.old }
+{
+    match written {
+        Ok(()) => output.flush(),
+        Err(OutFault) => Err(OutFault),
+    }
 }

@@ -5,20 +5,20 @@ use Rattle.dm_table.specs.declared.load_fault.LoadKind.{LoadKind}
 use Rattle.dm_table.specs.declared.load_fault.LoadKind.TheVariants as kinds
 use Rattle.dm_table.specs.DeviceIo.{Delivery}
 use Rattle.dm_table.specs.LoadMessage.{load_message}
-use Rattle.dm_table.specs.PartInput.{IsReadOn}
-use Rattle.dm_table.specs.WriteAll.{IsCutShort}
+use Rattle.dm_table.specs.Progress.{IsReadOn, FailedOutput}
 use Rattle.dm_stack.specs.Description.{Description}
 use Rattle.dm_map.specs.State.{State, start_state}
 use Rattle.dm_stream.specs.declared.ending.Ending.{Ending}
 use Rattle.dm_stream.specs.declared.ending.Ending.TheVariants as endings
-use Rattle.dm_stream.specs.Messages.{ending_message}
+use Rattle.dm_stream.specs.Messages.{HasTold, ending_message}
 use Rattle.dm_stream.specs.Outcome.{Outcome, run_outcome}
-use Rattle.dm_stream.specs.ProgressLaws.{grows-same}
-use Rattle.dm_stream.specs.Run.{IsServed}
+use Rattle.dm_table.proofs.ProgressLaws.{finished_as, finished_untouched, grows-same}
+use Rattle.dm_stream.specs.Requests.{HasMet}
+use Rattle.dm_stream.specs.Run.{HasRun, IsOutcome}
 use Rattle.dmremap.specs.declared.words.Format.{Format}
 use Rattle.dmremap.specs.Load.{RefusedBy, SoundAs, PartsGive}
 use Rattle.dmremap.specs.Status.{load_status, ending_status}
-use Rattle.dmremap.specs.Streams.{FailedOutput, OutputWritten, RequestsRead}
+use Rattle.dmremap.specs.Streams.{Exits, MessagesTold, OutputWritten, RequestsRead}
 use Rattle.dmremap.specs.Whole.{Whole, GiveWhole, ended_if, outcome_of}
 
 -- ---- a refused load
@@ -56,15 +56,14 @@ untouched_requests handed faults ends status requests refused = record {
 -- an output that nothing is asked of
 pub untouched_output : {X : Type 0} (written waiting : X → List ℕ) (faults flushes : X → ℕ) (status : ℕ) (output : X) → (status ≡ 1) ⊎ (status ≡ 6) → OutputWritten written waiting faults flushes status output output
 untouched_output written waiting faults flushes status output refused = record {
-  appends = grows-same (written output) (written output);
-  write_fault = ((λ less. absurd (omega (arith, less))), λ five. absurd (omega (arith, refused, five)));
-  grows = omega arith;
-  fails_once = omega arith;
+  finished = finished_untouched written waiting faults flushes output (status ≡ 5) (λ five. omega (arith, refused, five));
   flushed = λ one five six. absurd (omega (arith, refused, one, six));
   refused = λ _. refl;
-  once = omega arith;
-  still_waiting = λ five less. absurd (omega (arith, less));
 }
+
+-- what was told where a command exits
+pub exits_told : {X : Type 0} {written : X → List ℕ} {faults flushes : X → ℕ} {status result : ℕ} {message : List ℕ} {old new : X} → Exits written faults flushes status message result old new → MessagesTold written faults flushes result old new
+exits_told {message = message} exits = record { message = message; told = exits.told; write_fault = λ five. exits.write_fault (sym exits.is ∙ five) }
 
 -- ---- a run
 
@@ -77,43 +76,49 @@ four_is : (ending : Ending) → ending_status ending ≡ 4 → ending ≡ ending
 four_is endings.ReadFault four = refl
 four_is ending four = absurd (omega arith)
 
+five_is : (ending : Ending) → ending_status ending ≡ 5 → ending ≡ endings.WriteFault
+five_is endings.WriteFault five = refl
+five_is ending five = absurd (omega arith)
+
 never_one : (ending : Ending) → ending_status ending ≡ 1 → ⊥
 never_one endings.Done one = omega arith
 never_one ending one = omega arith
 
--- an ending that was served is that of the outcome
-served_is : (outcome : Outcome) (output : List ℕ) (ending : Ending) → ending_status ending ≢ 5 → IsServed outcome output ending → (outcome.output ≡ output) × (outcome.ending ≡ Some ending)
-served_is outcome output endings.Done other h = h
-served_is outcome output (endings.BadRequest number word) other h = h
-served_is outcome output endings.ReadFault other h = h
-served_is outcome output endings.WriteFault other h = absurd (other refl)
-
--- a run that was served is whole, unless the output failed
-pub served_whole : (format : Format) (flag : Bool) (source disks requests : Delivery) (description : Description) (start : State) (output : List ℕ) (ending : Ending) (status : ℕ) → PartsGive format source disks (SoundAs description)
-    → start ≡ start_state description → IsServed (run_outcome description flag start requests) output ending → status ≡ ending_status ending → status ≢ 5
+-- a run is whole, unless the output failed
+pub ran_whole : (format : Format) (flag : Bool) (source disks requests : Delivery) (description : Description) (start left : State) (output : List ℕ) (ending : Ending) (status : ℕ) → PartsGive format source disks (SoundAs description)
+    → start ≡ start_state description → (ending ≢ endings.WriteFault → IsOutcome (run_outcome description flag start requests) output ending × (left ≡ (run_outcome description flag start requests).state)) → status ≡ ending_status ending → status ≢ 5
     → GiveWhole format flag source disks requests (record { output = output; message = ending_message ending; status = status })
-served_whole format flag source disks requests description start output ending status gives starts served is other =
+ran_whole format flag source disks requests description start left output ending status gives starts is_whole is other =
     let outcome = outcome_of description flag requests in
-    let same = served_is outcome output ending (λ five. other (is ∙ five)) (subst (λ (state : State). IsServed (run_outcome description flag state requests) output ending) starts served) in
+    let same = subst (λ (state : State). IsOutcome (run_outcome description flag state requests) output ending) starts (is_whole (λ failed. other (is ∙ ap ending_status failed))).0 in
     let whole : ℕ → Option Whole = λ n. Some (record { output = output; message = ending_message ending; status = n }) in
     record { load = SoundAs description; loaded = gives; is = ap (ended_if outcome.output) same.1 ∙ ap (λ (out : List ℕ). ended_if out (Some ending)) same.0 ∙ ap whole (sym is) }
 
 -- where the output failed, it took a beginning of what there was to write
-pub failed_run : (flag : Bool) (requests : Delivery) (description : Description) (start : State) (output : List ℕ) (ending : Ending) (old new status : ℕ) → start ≡ start_state description
-    → IsServed (run_outcome description flag start requests) output ending
-    → (ending ≡ endings.WriteFault → new ≡ old → IsCutShort (run_outcome description flag start requests).output output)
-    → (ending ≡ endings.WriteFault → old < new → (run_outcome description flag start requests).output ≡ output)
-    → status ≡ ending_status ending → status ≡ 5 → FailedOutput (outcome_of description flag requests).output output old new
-failed_run flag requests description start output endings.WriteFault old new status starts served left failed_flush is five =
-    subst (λ (state : State). FailedOutput (run_outcome description flag state requests).output output old new) starts (record { beginning = served; left = left refl; failed_flush = failed_flush refl })
-failed_run flag requests description start output ending old new status starts served left failed_flush is five = absurd (omega (arith, is, five))
+pub ran_failed : (flag : Bool) (requests : Delivery) (description : Description) (start : State) (output : List ℕ) (ending : Ending) (old new status : ℕ) → start ≡ start_state description
+    → (ending ≡ endings.WriteFault → FailedOutput (run_outcome description flag start requests).output output old new) → status ≡ ending_status ending → status ≡ 5 → FailedOutput (outcome_of description flag requests).output output old new
+ran_failed flag requests description start output ending old new status starts failed is five =
+    subst (λ (state : State). FailedOutput (run_outcome description flag state requests).output output old new) starts (failed (five_is ending (sym is ∙ five)))
 
 -- how its requests were read
 pub ran_requests : {X : Type 0} (handed : X → List ℕ) (faults ends : X → ℕ) (ending : Ending) (status : ℕ) (old new : X) → status ≡ ending_status ending → IsReadOn handed faults ends old new
-    → (ending ≡ endings.ReadFault → faults old < faults new) → (ending ≡ endings.Done → faults new ≤ faults old) → RequestsRead handed faults ends status old new
-ran_requests handed faults ends ending status old new is read_on fault no_fault = record {
+    → HasMet ending (faults old) (faults new) → RequestsRead handed faults ends status old new
+ran_requests handed faults ends ending status old new is read_on met = record {
   read_on = read_on;
-  read_fault = λ four. fault (four_is ending (sym is ∙ four));
-  no_fault = λ zero. no_fault (zero_is ending (sym is ∙ zero));
+  read_fault = λ four. subst (λ (e : Ending). HasMet e (faults old) (faults new)) (four_is ending (sym is ∙ four)) met;
+  no_fault = λ zero. subst (λ (e : Ending). HasMet e (faults old) (faults new)) (zero_is ending (sym is ∙ zero)) met;
   unasked = λ one. absurd (never_one ending (sym is ∙ one));
 }
+
+-- what it wrote and flushed
+pub ran_output : {X : Type 0} (written waiting : X → List ℕ) (faults flushes : X → ℕ) (ending : Ending) (status : ℕ) (outcome : Outcome) (left : State) (old new : X) → status ≡ ending_status ending → HasRun written waiting faults flushes old new outcome left ending
+    → OutputWritten written waiting faults flushes status old new
+ran_output written waiting faults flushes ending status outcome left old new is ran = record {
+  finished = finished_as (ending ≡ endings.WriteFault) (status ≡ 5) (λ failed. is ∙ ap ending_status failed) (λ five. five_is ending (sym is ∙ five)) ran.output;
+  flushed = λ one five six. ran.flushed (λ failed. five (is ∙ ap ending_status failed));
+  refused = λ one. absurd (never_one ending (sym is ∙ one));
+}
+
+-- what it told
+pub ran_messages : {X : Type 0} (written : X → List ℕ) (faults flushes : X → ℕ) (ending : Ending) (status : ℕ) (old new : X) → status ≡ ending_status ending → HasTold written faults flushes (ending_message ending) old new → MessagesTold written faults flushes status old new
+ran_messages written faults flushes ending status old new is told = record { message = ending_message ending; told = told; write_fault = λ five. ap ending_message (five_is ending (sym is ∙ five)) }

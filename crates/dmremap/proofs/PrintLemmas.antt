@@ -1,8 +1,8 @@
 -- What a command that prints says of its output, its message and its status.
-use Rattle.std.proofs.Common.{◌≡◌, ◌≢◌, ◌∙◌, ℕ, ◌+◌, List, [], ◌∷◌, Ok, refl, sym, ap, subst, arith}
-use Rattle.std.proofs.lemmas.List.{append-nil}
-use Rattle.dm_table.specs.DeviceIo.{Delivery}
-use Rattle.dm_table.specs.WriteAll.{IsCutShort}
+use Rattle.std.proofs.Common.{◌≡◌, ◌≢◌, ◌∙◌, ℕ, ◌+◌, List, Ok, Err, IsErr, refl, sym, ap, subst, arith}
+use Rattle.dm_table.specs.DeviceIo.{Delivery, since}
+use Rattle.dm_table.specs.Progress.{FailedOutput, IsClosed}
+use Rattle.dm_table.proofs.ProgressLaws.{finished_as}
 use Rattle.lvm_volume.specs.declared.fault.NameFault.{NameFault}
 use Rattle.lvm_volume.specs.declared.fault.NameFault.TheVariants as names
 use Rattle.lvm_volume.specs.Names.{NameParts, built, spaced}
@@ -12,7 +12,7 @@ use Rattle.dmremap.specs.declared.other_whole.Printing.TheVariants as printing
 use Rattle.dmremap.specs.OtherWhole.{CheckSays, GiveOther, IsPrinted, IsRefusal, IsTextPrinted, Prints, Refuses, ReportSays, Said, SplitSays, TaskSays, devices_said, line, name_said, name_status, printing_message, printing_status, whole_said}
 use Rattle.dmremap.specs.declared.words.Format.{Format}
 use Rattle.dmremap.specs.Load.{Load, PartsGive, RefusedBy, SoundAs}
-use Rattle.dmremap.specs.Streams.{FailedOutput}
+use Rattle.dmremap.specs.Streams.{OutputWritten}
 use Rattle.dmremap.specs.Whole.{Whole}
 use Rattle.dm_stack.proofs.TopLemmas.{one_report}
 use Rattle.dm_stack.specs.Description.{Description}
@@ -28,13 +28,29 @@ says_printed Says text output old new (printing.Unloaded fault) says is = absurd
 says_printed Says text output old new (printing.Unnamed fault) says is = absurd is
 says_printed Says text output old new printing.Unsplit says is = absurd is
 
--- a write that failed left something to write
-pub failed_write : (text written : List ℕ) (old new : ℕ) → new ≡ old → IsCutShort text written → FailedOutput text written old new
-failed_write text written old new same cut = record { beginning = (cut.0 ∷ cut.1, cut.2); left = λ _. cut; failed_flush = λ less. absurd (omega (arith, same, less)) }
+-- all of a text was printed
+pub printed_whole : {X E : Type 0} (written waiting : X → List ℕ) (faults flushes : X → ℕ) (old new : X) (text : List ℕ) → IsClosed {E = E} written waiting faults flushes old new (Ok tt) text
+    → (text ≡ since (written old) (written new)) × OutputWritten written waiting faults flushes 0 old new
+printed_whole {E = E} written waiting faults flushes old new text closed = (
+  sym closed.whole,
+  record {
+    finished = finished_as (IsErr {T = Unit {0}} {E = E} (Ok tt)) (0 ≡ 5) (λ err. absurd cc) (λ five. absurd (omega (arith, five))) closed.finished;
+    flushed = λ one five six. closed.flushed;
+    refused = λ one. absurd (omega (arith, one));
+  },
+)
 
--- before a flush that failed all was written
-pub failed_flush : (text written : List ℕ) (old new : ℕ) → new ≡ old + 1 → text ≡ written → FailedOutput text written old new
-failed_flush text written old new more is = record { beginning = ([], is ∙ sym (append-nil written)); left = λ same. absurd (omega (arith, more, same)); failed_flush = λ _. is }
+-- the output failed
+pub printed_failed : {X E : Type 0} (written waiting : X → List ℕ) (faults flushes : X → ℕ) (old new : X) (fault : E) (text : List ℕ) → IsClosed written waiting faults flushes old new (Err fault) text
+    → FailedOutput text (since (written old) (written new)) (flushes old) (flushes new) × OutputWritten written waiting faults flushes 5 old new
+printed_failed written waiting faults flushes old new fault text closed = (
+  closed.failed,
+  record {
+    finished = finished_as _ _ (λ err. refl) (λ five. refl) closed.finished;
+    flushed = λ one five six. absurd (five refl);
+    refused = λ one. absurd (omega (arith, one));
+  },
+)
 
 -- the same text, said in another way
 pub text_printed : (a b output : List ℕ) (old new : ℕ) (ended : Printing) → a ≡ b → IsTextPrinted a output old new ended → IsTextPrinted b output old new ended

@@ -1,11 +1,12 @@
 -- What the requests that a player was handed say of a replay, and what the flush adds.
-use Rattle.std.proofs.Common.{◌≡◌, ◌≢◌, inl, inr, ℕ, ◌+◌, List, [], ◌∷◌, ◌++◌, Result, Err, IfErr, refl, sym, ap, subst, ◌∙◌, append_assoc, arith}
+use Rattle.std.proofs.Common.{◌≡◌, ◌≢◌, inl, inr, ℕ, ◌+◌, List, [], ◌∷◌, ◌++◌, Result, Ok, Err, IfErr, IsErr, OnErr, OnOk, refl, sym, ap, subst, ◌∙◌, append_assoc, arith}
 use Rattle.std.proofs.lemmas.List.{append-nil}
 use Rattle.dm_table.specs.DeviceIo.{since}
 use Rattle.dm_table.specs.WriteAll.{IsCutShort}
 use Rattle.dm_stack.specs.Description.{Description}
 use Rattle.dm_stream.specs.declared.ending.Ending.TheVariants as endings
-use Rattle.dm_stream.specs.ProgressLaws.{since-same}
+use Rattle.dm_table.proofs.ProgressLaws.{finished_as, since-same}
+use Rattle.dm_table.specs.Progress.{HasWritten, IsClosed, IsFlushed, Wrote}
 use Rattle.dm_stream.specs.Requests.{IsAmong, NumberedRequest, Requests}
 use Rattle.dm_replay.specs.declared.replay_fault.ReplayFault.{ReplayFault}
 use Rattle.dm_replay.specs.declared.value_run.ValueRun.{ValueRun}
@@ -18,8 +19,9 @@ use Rattle.dmremap.specs.declared.replay_run.NotPlayed.TheVariants as causes
 use Rattle.dmremap.specs.declared.replay_run.ReplayEnd.{ReplayEnd}
 use Rattle.dmremap.specs.declared.replay_run.ReplayEnd.TheVariants as ends
 use Rattle.dmremap.specs.Played.{HasPlayed, HasStopped, end_for}
-use Rattle.dmremap.specs.ReplayOutcome.{AreAnswered, IsAnswer, IsCutReplay, IsPlayed, StopsAt, asked_of}
-use Rattle.dmremap.specs.ReplayWhole.{FailedReplay, IsReplayed, end_status}
+use Rattle.dmremap.specs.ReplayOutcome.{AreAnswered, IsAnswer, IsCutReplay, IsPlayed, StopsAt, asked_of, end_faults}
+use Rattle.dmremap.specs.ReplayWhole.{IsReplayed, OnMemory, end_status}
+use Rattle.dmremap.specs.Streams.{OutputWritten}
 
 -- ---- one request
 
@@ -93,7 +95,7 @@ part_played stack cause ended requests w0 w1 Stopped ends_so stopped among =
 
 -- ---- the flush
 
-pub not_failed : (ended : ReplayEnd) → ended ≢ ends.Ran endings.WriteFault → end_status ended ≡ 5 → ⊥
+not_failed : (ended : ReplayEnd) → ended ≢ ends.Ran endings.WriteFault → end_status ended ≡ 5 → ⊥
 not_failed (ends.Ran endings.Done) other five = omega arith
 not_failed (ends.Ran (endings.BadRequest number word)) other five = omega arith
 not_failed (ends.Ran endings.ReadFault) other five = omega arith
@@ -101,8 +103,24 @@ not_failed (ends.Ran endings.WriteFault) other five = other refl
 not_failed (ends.NotTop number) other five = omega arith
 not_failed ends.Memory other five = omega arith
 
+never_refused : (ended : ReplayEnd) → end_status ended ≡ 1 → ⊥
+never_refused (ends.Ran endings.Done) one = omega arith
+never_refused (ends.Ran (endings.BadRequest number word)) one = omega arith
+never_refused (ends.Ran endings.ReadFault) one = omega arith
+never_refused (ends.Ran endings.WriteFault) one = omega arith
+never_refused (ends.NotTop number) one = omega arith
+never_refused ends.Memory one = omega arith
+
+no_write_failed : (ended : ReplayEnd) → ended ≢ ends.Ran endings.WriteFault → end_faults ended ≡ 0
+no_write_failed (ends.Ran endings.Done) other = refl
+no_write_failed (ends.Ran (endings.BadRequest number word)) other = refl
+no_write_failed (ends.Ran endings.ReadFault) other = refl
+no_write_failed (ends.Ran endings.WriteFault) other = absurd (other refl)
+no_write_failed (ends.NotTop number) other = refl
+no_write_failed ends.Memory other = refl
+
 -- after a flush, what was played is what was replayed
-pub replayed_flushed : (stack : Description) (requests : Requests) (text : List ℕ) (old new : ℕ) (ended : ReplayEnd) → ended ≢ ends.Ran endings.WriteFault → IsPlayed stack requests text ended → IsReplayed stack requests text old new ended
+replayed_flushed : (stack : Description) (requests : Requests) (text : List ℕ) (old new : ℕ) (ended : ReplayEnd) → ended ≢ ends.Ran endings.WriteFault → IsPlayed stack requests text ended → IsReplayed stack requests text old new ended
 replayed_flushed stack requests text old new (ends.Ran endings.Done) other played = played
 replayed_flushed stack requests text old new (ends.Ran (endings.BadRequest number word)) other played = played
 replayed_flushed stack requests text old new (ends.Ran endings.ReadFault) other played = played
@@ -110,11 +128,85 @@ replayed_flushed stack requests text old new (ends.Ran endings.WriteFault) other
 replayed_flushed stack requests text old new (ends.NotTop number) other played = played
 replayed_flushed stack requests text old new ends.Memory other played = played
 
--- a write failed before
-pub failed_write : (stack : Description) (requests : Requests) (text : List ℕ) (old new : ℕ) → new ≡ old → IsCutReplay stack [] requests.all text → FailedReplay stack requests text old new
-failed_write stack requests text old new same short = inl (same, short)
+on_memory : (ended : ReplayEnd) (P : Type 0) → P → OnMemory ended P
+on_memory (ends.Ran ending) P fact = tt
+on_memory (ends.NotTop number) P fact = tt
+on_memory ends.Memory P fact = fact
 
--- the flush failed
-pub failed_flush : (stack : Description) (requests : Requests) (text : List ℕ) (old new : ℕ) (ended : ReplayEnd) → new ≡ old + 1 → ended ≢ ends.Ran endings.WriteFault → IsPlayed stack requests text ended
-    → FailedReplay stack requests text old new
-failed_flush stack requests text old new ended more other played = inr (more, (ended, not_failed ended other, played))
+-- what was done with the output, by the end
+abbrev IsEnded : {X : Type 0} → (written waiting : X → List ℕ) → (faults flushes : X → ℕ) → Description → Requests → (old new : X) → ReplayEnd → Type 0
+IsEnded written waiting faults flushes stack requests old new ended =
+    IsReplayed stack requests (since (written old) (written new)) (flushes old) (flushes new) ended
+    × OutputWritten written waiting faults flushes (end_status ended) old new
+    × OnMemory ended (IsFlushed waiting flushes old new)
+
+-- all was written and flushed
+ended_whole : {X E : Type 0} (written waiting : X → List ℕ) (faults flushes : X → ℕ) (stack : Description) (requests : Requests) (old mid new : X) (ended : ReplayEnd) → ended ≢ ends.Ran endings.WriteFault
+    → HasWritten written waiting faults flushes old mid (end_faults ended) → IsPlayed stack requests (since (written old) (written mid)) ended
+    → ((text : List ℕ) → Wrote {E = E} written waiting faults flushes old mid (Ok tt) text → IsClosed {E = E} written waiting faults flushes old new (Ok tt) text) → IsEnded written waiting faults flushes stack requests old new ended
+ended_whole {E = E} written waiting faults flushes stack requests old mid new ended other moved played closes =
+    let text = since (written old) (written mid) in
+    let closed = closes text (record { moved = subst (λ (n : ℕ). HasWritten written waiting faults flushes old mid n) (no_write_failed ended other) moved; ok = refl; left = tt }) in (
+      replayed_flushed stack requests (since (written old) (written new)) (flushes old) (flushes new) ended other (subst (λ (t : List ℕ). IsPlayed stack requests t ended) (sym closed.whole) played),
+      record {
+        finished = finished_as (IsErr {T = Unit {0}} {E = E} (Ok tt)) (end_status ended ≡ 5) (λ err. absurd cc) (λ five. absurd (not_failed ended other five)) closed.finished;
+        flushed = λ one five six. closed.flushed;
+        refused = λ one. absurd (never_refused ended one);
+      },
+      on_memory ended _ closed.flushed,
+    )
+
+-- the output failed
+failed_output : {X E : Type 0} (written waiting : X → List ℕ) (faults flushes : X → ℕ) (old new : X) (fault : E) (text : List ℕ) → IsClosed written waiting faults flushes old new (Err fault) text → OutputWritten written waiting faults flushes 5 old new
+failed_output written waiting faults flushes old new fault text closed = record {
+  finished = finished_as _ _ (λ err. refl) (λ five. refl) closed.finished;
+  flushed = λ one five six. absurd (five refl);
+  refused = λ one. absurd (omega (arith, one));
+}
+
+-- at a write
+ended_unflushed : {X E : Type 0} (written waiting : X → List ℕ) (faults flushes : X → ℕ) (stack : Description) (requests : Requests) (old mid new : X) (fault before : E) (ended : ReplayEnd) → ended ≡ ends.Ran endings.WriteFault → new ≡ mid
+    → HasWritten written waiting faults flushes old mid (end_faults ended) → IsPlayed stack requests (since (written old) (written mid)) ended
+    → ((text : List ℕ) → Wrote written waiting faults flushes old mid (Err before) text → IsClosed written waiting faults flushes old new (Err fault) text) → IsEnded written waiting faults flushes stack requests old new (ends.Ran endings.WriteFault)
+ended_unflushed written waiting faults flushes stack requests old mid new fault before ended is same moved played closes =
+    let wrote = subst (λ (e : ReplayEnd). HasWritten written waiting faults flushes old mid (end_faults e)) is moved in
+    let cut = subst (λ (e : ReplayEnd). IsPlayed stack requests (since (written old) (written mid)) e) is played in
+    let closed = closes cut.whole (record { moved = wrote; ok = tt; left = cut.cut }) in (
+      inl (
+        ap flushes same ∙ wrote.unflushed,
+        subst (λ (x : _). IsCutReplay stack [] requests.all (since (written old) (written x))) (sym same) cut,
+      ),
+      failed_output written waiting faults flushes old new fault cut.whole closed,
+      tt,
+    )
+
+-- at the flush
+ended_unsent : {X E : Type 0} (written waiting : X → List ℕ) (faults flushes : X → ℕ) (stack : Description) (requests : Requests) (old mid new : X) (fault : E) (ended : ReplayEnd) → ended ≢ ends.Ran endings.WriteFault → written new ≡ written mid → flushes new ≡ flushes mid + 1
+    → HasWritten written waiting faults flushes old mid (end_faults ended) → IsPlayed stack requests (since (written old) (written mid)) ended
+    → ((text : List ℕ) → Wrote {E = E} written waiting faults flushes old mid (Ok tt) text → IsClosed written waiting faults flushes old new (Err fault) text) → IsEnded written waiting faults flushes stack requests old new (ends.Ran endings.WriteFault)
+ended_unsent written waiting faults flushes stack requests old mid new fault ended other same more moved played closes =
+    let text = since (written old) (written mid) in
+    let closed = closes text (record { moved = subst (λ (n : ℕ). HasWritten written waiting faults flushes old mid n) (no_write_failed ended other) moved; ok = refl; left = tt }) in (
+      inr (
+        more ∙ ap (λ (n : ℕ). n + 1) moved.unflushed,
+        (ended, not_failed ended other, subst (λ (w : List ℕ). IsPlayed stack requests (since (written old) w) ended) (sym same) played),
+      ),
+      failed_output written waiting faults flushes old new fault text closed,
+      tt,
+    )
+
+-- the same by whether all was written before the output was closed, and by how it was closed
+pub closed_whole : {X E : Type 0} (written waiting : X → List ℕ) (faults flushes : X → ℕ) (stack : Description) (requests : Requests) (old mid new : X) (ended : ReplayEnd) (wrote : Result (Unit {0}) E) → OnOk wrote (ended ≢ ends.Ran endings.WriteFault)
+    → OnErr wrote (IsErr {T = Unit {0}} {E = E} (Ok tt) × (new ≡ mid)) → HasWritten written waiting faults flushes old mid (end_faults ended) → IsPlayed stack requests (since (written old) (written mid)) ended
+    → ((text : List ℕ) → Wrote written waiting faults flushes old mid wrote text → IsClosed {E = E} written waiting faults flushes old new (Ok tt) text) → IsEnded written waiting faults flushes stack requests old new ended
+closed_whole written waiting faults flushes stack requests old mid new ended (Ok done) other failed moved played closes = ended_whole written waiting faults flushes stack requests old mid new ended other moved played closes
+closed_whole written waiting faults flushes stack requests old mid new ended (Err fault) other failed moved played closes = let err = failed.0 in absurd cc
+
+pub closed_failed : {X E : Type 0} (written waiting : X → List ℕ) (faults flushes : X → ℕ) (stack : Description) (requests : Requests) (old mid new : X) (fault : E) (ended : ReplayEnd) (wrote : Result (Unit {0}) E) → OnOk wrote (ended ≢ ends.Ran endings.WriteFault)
+    → OnErr wrote (ended ≡ ends.Ran endings.WriteFault) → OnErr wrote (IsErr {T = Unit {0}} (Err fault) × (new ≡ mid)) → OnOk wrote (flushes new ≡ flushes mid + 1) → written new ≡ written mid
+    → HasWritten written waiting faults flushes old mid (end_faults ended) → IsPlayed stack requests (since (written old) (written mid)) ended
+    → ((text : List ℕ) → Wrote written waiting faults flushes old mid wrote text → IsClosed written waiting faults flushes old new (Err fault) text) → IsEnded written waiting faults flushes stack requests old new (ends.Ran endings.WriteFault)
+closed_failed written waiting faults flushes stack requests old mid new fault ended (Ok done) other is failed more same moved played closes =
+    ended_unsent written waiting faults flushes stack requests old mid new fault ended other same more moved played closes
+closed_failed written waiting faults flushes stack requests old mid new fault ended (Err before) other is failed more same moved played closes =
+    ended_unflushed written waiting faults flushes stack requests old mid new fault before ended is failed.1 moved played closes

@@ -1,7 +1,7 @@
 -- What the inputs of a run delivered, where the disk list may be missing.
 use Rattle.std.specs.Prelude.{◌≡◌, ℕ, List, [], Option, None, Some}
 use Rattle.dm_table.specs.DeviceIo.{Open, Delivery, delivery}
-use Rattle.dm_table.specs.PartInput.{IsReadOn}
+use Rattle.dm_table.specs.Progress.{IsReadOn}
 
 -- the delivery of an input that may be missing: nothing, where there is none
 abbrev pub delivery_if : {X : Type 0} → (X → List ℕ) → (X → ℕ) → (X → ℕ) → Option X → Option X → Delivery

@@ -18,7 +18,7 @@ use Rattle.dmremap.specs.declared.words.Form.TheVariants as forms
 use Rattle.dmremap.specs.declared.words.Format.{Format}
 use Rattle.dmremap.specs.Load.{Load, PartsGive, RefusedBy, SoundAs}
 use Rattle.dmremap.specs.Status.{load_status}
-use Rattle.dmremap.specs.Streams.{FailedOutput}
+use Rattle.dm_table.specs.Progress.{FailedOutput}
 use Rattle.dmremap.specs.Whole.{Whole}
 use Rattle.dmremap.specs.Words.{TaskWords, map_words, print_words, check_words, replay_words, name_words, split_words, files_of, has_disk_list}
 

@@ -9,7 +9,7 @@ use Rattle.dmremap.specs.declared.replay_run.NotPlayed.TheVariants as causes
 use Rattle.dmremap.specs.declared.replay_run.ReplayEnd.{ReplayEnd}
 use Rattle.dmremap.specs.declared.replay_run.ReplayEnd.TheVariants as ends
 use Rattle.dm_stream.specs.declared.ending.Ending.TheVariants as endings
-use Rattle.dmremap.specs.ReplayOutcome.{AreAnswered, IsCutReplay, IsOfNone, IsOfTop, StopsAt, asked_of}
+use Rattle.dmremap.specs.ReplayOutcome.{AreAnswered, IsCutReplay, IsOfNone, IsOfTop, StopsAt, asked_of, end_faults}
 
 -- the replay accepted these requests, and what is written for them was written
 pub record HasPlayed (stack : Description) (old new : List Asked) (requests : List NumberedRequest) (before after : List ℕ) : Type 0 where
@@ -22,14 +22,12 @@ HasStopped stack (causes.NotTop number) old requests before after = StopsAt (IsO
 HasStopped stack causes.Memory old requests before after = StopsAt (IsOfTop stack) stack old requests (since before after)
 HasStopped stack causes.Output old requests before after = IsCutReplay stack old requests (since before after)
 
--- how many writes failed
-abbrev pub failed_writes : NotPlayed → ℕ
-failed_writes (causes.NotTop number) = 0
-failed_writes causes.Memory = 0
-failed_writes causes.Output = 1
-
 -- where a replay ends that stopped so
 abbrev pub end_for : NotPlayed → ReplayEnd
 end_for (causes.NotTop number) = ends.NotTop number
 end_for causes.Memory = ends.Memory
 end_for causes.Output = ends.Ran endings.WriteFault
+
+-- how many writes failed
+abbrev pub failed_writes : NotPlayed → ℕ
+failed_writes cause = end_faults (end_for cause)

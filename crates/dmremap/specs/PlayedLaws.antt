@@ -4,7 +4,7 @@ use Rattle.std.proofs.lemmas.List.{append-nil, map-append}
 use Rattle.dm_table.specs.DeviceIo.{since}
 use Rattle.dm_table.proofs.Growth.{since_more}
 use Rattle.dm_stack.specs.Description.{Description}
-use Rattle.dm_stream.specs.ProgressLaws.{since-same}
+use Rattle.dm_table.proofs.ProgressLaws.{since-same}
 use Rattle.dm_stream.specs.Requests.{NumberedRequest}
 use Rattle.dm_replay.specs.Histories.{Asked}
 use Rattle.dmremap.specs.declared.replay_run.NotPlayed.{NotPlayed}

@@ -5,6 +5,7 @@ use Rattle.dm_stack.specs.Description.{Description, device_id}
 use Rattle.dm_stream.specs.declared.ending.Ending.{Ending}
 use Rattle.dm_stream.specs.declared.ending.Ending.TheVariants as endings
 use Rattle.dm_stream.specs.Requests.{HasMet, NumberedRequest, Requests}
+use Rattle.dm_stream.specs.Run.{write_faults}
 use Rattle.dm_replay.specs.declared.value_run.ValueRun.{ValueRun}
 use Rattle.dm_replay.specs.Histories.{Asked, asked_answers, world_after}
 use Rattle.dm_replay.specs.Replay.{HasTop}
@@ -82,10 +83,7 @@ IsPlayed stack requests text ends.Memory = StopsAt (IsOfTop stack) stack [] requ
 
 -- how many writes failed until then
 abbrev pub end_faults : ReplayEnd → ℕ
-end_faults (ends.Ran endings.Done) = 0
-end_faults (ends.Ran (endings.BadRequest number word)) = 0
-end_faults (ends.Ran endings.ReadFault) = 0
-end_faults (ends.Ran endings.WriteFault) = 1
+end_faults (ends.Ran ending) = write_faults ending
 end_faults (ends.NotTop number) = 0
 end_faults ends.Memory = 0
 

@@ -1,5 +1,5 @@
 -- The whole of `replay`: what it writes, its message and its exit status, by what was delivered.
-use Rattle.std.specs.Prelude.{◌≡◌, ◌≢◌, ◌⊎◌, ℕ, ◌+◌, List, [], ◌++◌, codes, decimal}
+use Rattle.std.specs.Prelude.{◌≡◌, ◌≢◌, ◌⊎◌, ℕ, ◌+◌, List, [], codes}
 use Rattle.dm_table.specs.declared.load_fault.LoadKind.TheVariants.{Memory}
 use Rattle.dm_table.specs.DeviceIo.{Delivery}
 use Rattle.dm_table.specs.LoadMessage.{load_message, memory_message}
@@ -7,7 +7,7 @@ use Rattle.dm_stack.specs.declared.clash.Clash.{Clash}
 use Rattle.dm_stack.specs.Claims.{IsClash, IsTidy, claims}
 use Rattle.dm_stack.specs.Description.{Description}
 use Rattle.dm_stream.specs.declared.ending.Ending.TheVariants as endings
-use Rattle.dm_stream.specs.Messages.{ending_message}
+use Rattle.dm_stream.specs.Messages.{ending_message, refused_request}
 use Rattle.dm_stream.specs.Requests.{Requests, requests_of}
 use Rattle.dmremap.specs.declared.replay_run.ReplayEnd.{ReplayEnd}
 use Rattle.dmremap.specs.declared.replay_run.ReplayEnd.TheVariants as ends
@@ -22,7 +22,7 @@ use Rattle.dmremap.specs.Status.{ending_status, load_status}
 
 -- the message of a request that names no top device
 abbrev pub not_top_message : ℕ → List ℕ
-not_top_message number = codes "dmremap: request " ++ decimal number ++ codes ": not top\n"
+not_top_message number = refused_request number (codes "not top")
 
 abbrev pub untidy_message : List ℕ
 untidy_message = codes "dmremap: replay: untidy\n"

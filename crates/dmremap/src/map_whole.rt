@@ -9,7 +9,7 @@ ghost use Rattle.dm_table.specs.DeviceIo.{Delivery, delivery, since};
 ghost use Rattle.dm_table.specs.declared.part_input.TheConstants.{MOST_PART_BYTES};
 ghost use Rattle.dm_table.specs.declared.request.Op.TheVariants as Op;
 ghost use Rattle.dm_table.specs.LoadMessage.{memory_message};
-ghost use Rattle.dm_table.specs.PartInput.{IsReadOn};
+ghost use Rattle.dm_table.specs.Progress.{IsReadOn, FailedOutput};
 ghost use Rattle.dm_stack.specs.Description.{Description};
 ghost use Rattle.dm_stack.specs.declared.graph.TheConstants.{MOST_DEPTH};
 ghost use Rattle.dm_stack.specs.declared.limits.TheConstants.{MOST_CHUNK, MOST_DEVICES, MOST_DISKS, MOST_LENGTH, MOST_LINES, MOST_STRIPES};
@@ -23,7 +23,7 @@ ghost use Rattle.dm_stream.specs.Pieces.{AreFewest, fewest};
 ghost use Rattle.dmremap.specs.declared.words.Format.{Format};
 ghost use Rattle.dmremap.specs.Inputs.{IsReadOnIf, IsUnchanged, delivery_if};
 ghost use Rattle.dmremap.specs.Load.{PartsGive, SoundAs};
-ghost use Rattle.dmremap.specs.Streams.{FailedOutput, MessagesTold, OutputWritten, RequestsRead};
+ghost use Rattle.dmremap.specs.Streams.{MessagesTold, OutputWritten, RequestsRead};
 ghost use Rattle.dmremap.specs.Whole.{GiveWhole, Whole, outcome_of};
 ghost use Rattle.dmremap.specs.Words.{has_disk_list};
 
@@ -56,6 +56,7 @@ use std::alloc::Global;
 ///
 /// Cost: near-linear in the source and the disk list; then in the requests, and for each request
 /// in its stretches times the binary digits of the line counts of the devices that they go through.
+#[tactic(auto, using(crate::proofs::ExitLemmas::exits_told))]
 pub fn map_whole<S: Input, D: Input, Q: Input, W: Output, M: Output>(
     alloc: Global,
     format: Format,

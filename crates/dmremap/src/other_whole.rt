@@ -4,7 +4,7 @@
 //! command is an arm of `print` here and of `TaskSays` in `specs/OtherWhole.antt`.
 
 ghost use Rattle.std.specs.Prelude.{◌≡◌, ◌≢◌, [], List, ℕ, IsSome, true, is_some, option_map};
-ghost use Rattle.dm_table.specs.CanonicalText.{Wrote};
+ghost use Rattle.dm_table.specs.Progress.{Wrote, FailedOutput};
 ghost use Rattle.dm_table.specs.DeviceIo.{Delivery, delivery, since};
 ghost use Rattle.dm_table.specs.LoadMessage.{memory_message};
 ghost use Rattle.dm_stream.specs.Messages.{IsTold};
@@ -12,7 +12,7 @@ ghost use Rattle.lvm_volume.specs.Names.{built};
 ghost use Rattle.dmremap.specs.Load.{Loads, PartsGive, SoundAs};
 ghost use Rattle.dmremap.specs.Inputs.{IsReadOnIf, IsUnchanged, delivery_if};
 ghost use Rattle.dmremap.specs.OtherWhole.{GiveOther, IsPrinted, IsTextPrinted, Prints, ReportSays, SplitSays, TaskSays, has_list, has_source, is_other, line, name_said, name_status, printing_message, printing_status, written_as};
-ghost use Rattle.dmremap.specs.Streams.{Exits, FailedOutput, MessagesTold, OutputWritten};
+ghost use Rattle.dmremap.specs.Streams.{Exits, MessagesTold, OutputWritten};
 ghost use Rattle.dmremap.specs.Whole.{Whole};
 ghost use Rattle.dmremap.specs.Words.{TaskWords, file_words, has_disk_list, words_of};
 
@@ -20,12 +20,13 @@ ghost use Rattle.dmremap.specs.Words.{TaskWords, file_words, has_disk_list, word
 mod tests;
 
 use crate::load::load;
-use crate::status::refuse;
+use crate::status::{refuse, tell_ending};
 use crate::words::{Files, Form, Format, Job, Task};
 use dm_stack::{Stack, check_report};
-use dm_stream::tell;
+use dm_stream::{Ending, tell};
 use dm_table::{
-    DeviceSpec, Input, LoadFault, OutFault, Output, Part, write_all, write_concise, write_table,
+    DeviceSpec, Input, LoadFault, OutFault, Output, Part, close, write_all, write_concise,
+    write_table,
 };
 use lvm_volume::{NameFault, build_name, spaced_parts};
 use std::alloc::Global;
@@ -60,6 +61,7 @@ pub(crate) enum Printing {
 /// that loads files, and the disk list where their format has one. No requests are read.
 ///
 /// Cost: near-linear in the source and the disk list, and linear in what is printed.
+#[tactic(auto, using(crate::proofs::ExitLemmas::exits_told))]
 pub fn other_whole<S: Input, D: Input, Q: Input, W: Output, M: Output>(
     alloc: Global,
     job: &Job<'_>,
@@ -170,7 +172,7 @@ fn print_stack<W: Output>(form: Form, stack: Stack, output: &mut W) -> Printing
 {
     let (devices, _) = stack.into_parts();
     let written = write_devices(form, &devices, &mut *output);
-    close(written, output)
+    end_printing(written, output)
 }
 
 /// Writes devices in a form.
@@ -236,14 +238,8 @@ fn print_text<W: Output>(text: &[u8], output: &mut W) -> Printing
         (since (W.written output.old) (W.written output.new)) (W.flushes output.old) (W.flushes output.new) result }
     ensures output { OutputWritten W.written W.waiting W.faults W.flushes (printing_status result) output.old output.new }
 {
-    let written = write_text(text, &mut *output);
-    close(written, output)
-}
-
-fn write_text<W: Output>(text: &[u8], output: &mut W) -> Result<(), OutFault>
-    ensures { Wrote W.written W.waiting W.faults W.flushes output.old output.new result text.now }
-{
-    write_all(output, text)
+    let written = write_all(&mut *output, text);
+    end_printing(written, output)
 }
 
 /// Prints a line.
@@ -253,7 +249,7 @@ fn print_line<W: Output>(text: &[u8], output: &mut W) -> Printing
     ensures output { OutputWritten W.written W.waiting W.faults W.flushes (printing_status result) output.old output.new }
 {
     let written = write_line(text, &mut *output);
-    close(written, output)
+    end_printing(written, output)
 }
 
 fn write_line<W: Output>(text: &[u8], output: &mut W) -> Result<(), OutFault>
@@ -264,16 +260,13 @@ fn write_line<W: Output>(text: &[u8], output: &mut W) -> Result<(), OutFault>
 }
 
 /// Ends the printing of a text: flushes the output, unless a write to it failed.
-#[tactic(auto, using(crate::proofs::PrintLemmas::failed_write, crate::proofs::PrintLemmas::failed_flush))]
-fn close<W: Output>(written: Result<(), OutFault>, output: &mut W) -> Printing
+#[tactic(auto, using(crate::proofs::PrintLemmas::printed_whole, crate::proofs::PrintLemmas::printed_failed))]
+fn end_printing<W: Output>(written: Result<(), OutFault>, output: &mut W) -> Printing
     ensures { (start : W) (text : List ℕ) → Wrote W.written W.waiting W.faults W.flushes start output.old written text
         → IsTextPrinted text (since (W.written start) (W.written output.new)) (W.flushes start) (W.flushes output.new) result
         × OutputWritten W.written W.waiting W.faults W.flushes (printing_status result) start output.new }
 {
-    if written.is_err() {
-        return Printing::WriteFault;
-    }
-    match output.flush() {
+    match close(written, output) {
         Ok(()) => Printing::Done,
         Err(OutFault) => Printing::WriteFault,
     }
@@ -293,11 +286,8 @@ fn finish<M: Output>(printing: Printing, messages: &mut M) -> u8
             tell(messages, b"dmremap: name: split\n");
             1
         }
-        Printing::Done => 0,
-        Printing::WriteFault => {
-            tell(messages, b"dmremap: output: write\n");
-            5
-        }
+        Printing::Done => tell_ending(Ending::Done, messages),
+        Printing::WriteFault => tell_ending(Ending::WriteFault, messages),
     }
 }
 

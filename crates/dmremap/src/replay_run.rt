@@ -5,9 +5,8 @@
 
 ghost use Rattle.std.specs.Prelude.{◌≡◌, ◌∷◌, [], false, length, IfErr, OnOk, OnErr};
 ghost use Rattle.dm_table.specs.DeviceIo.{delivery, since};
-ghost use Rattle.dm_table.specs.PartInput.{IsReadOn};
-ghost use Rattle.dm_stream.specs.Progress.{HasWritten};
-ghost use Rattle.dm_stream.specs.ProgressLaws.{written_none, written_more};
+ghost use Rattle.dm_table.specs.Progress.{HasWritten, HasWrittenTo, IsReadOn};
+ghost use Rattle.dm_table.proofs.ProgressLaws.{written_to_none, written_to_more};
 ghost use Rattle.dm_stream.specs.Requests.{numbered, requests_of};
 ghost use Rattle.dm_replay.specs.Replay.{new_replay};
 ghost use Rattle.dmremap.specs.Played.{HasPlayed, HasStopped, end_for, failed_writes};
@@ -61,35 +60,30 @@ impl<'s, W: Output> Handler for RequestPlayer<'_, 's, W> {
 
     ghost answered = { λ old before requests new after.
         HasPlayed before.stack before.asked after.asked requests (W.written old.output.now) (W.written new.output.now)
-        × HasWritten W.written W.waiting W.faults W.flushes old.output.now new.output.now 0
-        × (after.stack ≡ before.stack)
-        × (new.output.ghost_name ≡ old.output.ghost_name) };
+        × HasWrittenTo W.written W.waiting W.faults W.flushes old.output new.output 0
+        × (after.stack ≡ before.stack) };
 
     ghost stopped = { λ old before requests fault new after.
         HasStopped before.stack fault before.asked requests (W.written old.output.now) (W.written new.output.now)
-        × HasWritten W.written W.waiting W.faults W.flushes old.output.now new.output.now (failed_writes fault)
-        × (new.output.ghost_name ≡ old.output.ghost_name) };
+        × HasWrittenTo W.written W.waiting W.faults W.flushes old.output new.output (failed_writes fault) };
 
     ghost answered_none = { λ h replay. (
       played_none replay.stack replay.asked (W.written h.output.now),
-      written_none W.written W.waiting W.faults W.flushes h.output.now,
-      refl,
+      written_to_none W.written W.waiting W.faults W.flushes h.output,
       refl,
     ) };
 
     ghost answered_then_answered = { λ a b c s t u us vs first second. (
-      played_more s.stack s.asked t.asked u.asked us vs _ _ _ first.1.appends second.1.appends first.0
+      played_more s.stack s.asked t.asked u.asked us vs _ _ _ first.1.moved.appends second.1.moved.appends first.0
           (subst (λ stack. HasPlayed stack t.asked u.asked vs (W.written b.output.now) (W.written c.output.now)) first.2 second.0),
-      written_more W.written W.waiting W.faults W.flushes a.output.now b.output.now c.output.now 0 first.1 second.1,
+      written_to_more W.written W.waiting W.faults W.flushes a.output b.output c.output 0 first.1 second.1,
       second.2 ∙ first.2,
-      second.3 ∙ first.3,
     ) };
 
     ghost answered_then_stopped = { λ a b c s t u us vs fault first second. (
-      stopped_more s.stack fault s.asked t.asked us vs _ _ _ first.1.appends second.1.appends first.0
+      stopped_more s.stack fault s.asked t.asked us vs _ _ _ first.1.moved.appends second.1.moved.appends first.0
           (subst (λ stack. HasStopped stack fault t.asked vs (W.written b.output.now) (W.written c.output.now)) first.2 second.0),
-      written_more W.written W.waiting W.faults W.flushes a.output.now b.output.now c.output.now (failed_writes fault) first.1 second.1,
-      second.2 ∙ first.3,
+      written_to_more W.written W.waiting W.faults W.flushes a.output b.output c.output (failed_writes fault) first.1 second.1,
     ) };
 
     fn handle(
@@ -131,10 +125,9 @@ fn play_lines<'s, Q: Input, W: Output>(
     player: &mut RequestPlayer<'_, 's, W>,
 ) -> ReplayEnd
     requires new { replay.old ≡ new_replay player.old.stack.now }
-    ensures same_output { player.new.output.ghost_name ≡ player.old.output.ghost_name }
     ensures reads { IsReadOn Q.handed Q.faults Q.ends requests.old requests.new }
     ensures met { HasMetEnd result (Q.faults requests.old) (Q.faults requests.new) }
-    ensures writes { HasWritten W.written W.waiting W.faults W.flushes player.old.output.now player.new.output.now (end_faults result) }
+    ensures writes { HasWrittenTo W.written W.waiting W.faults W.flushes player.old.output player.new.output (end_faults result) }
     ensures played { IsPlayed player.old.stack.now (requests_of (delivery Q.handed Q.faults Q.ends requests.old requests.new))
         (since (W.written player.old.output.now) (W.written player.new.output.now)) result }
 {

@@ -3,12 +3,11 @@
 //! What comes out depends on the bytes that were delivered, unless memory runs out. `replay_run` plays
 //! the requests; here are the load before it, and the flush and the message after it.
 
-ghost use Rattle.std.specs.Prelude.{◌≡◌, ◌≢◌, List, [], ℕ, is_some};
+ghost use Rattle.std.specs.Prelude.{◌≡◌, ◌≢◌, List, [], ℕ, OnErr, OnOk, is_some};
 ghost use Rattle.dm_table.specs.DeviceIo.{Delivery, delivery, since};
 ghost use Rattle.dm_table.specs.LoadMessage.{memory_message};
-ghost use Rattle.dm_table.specs.PartInput.{IsReadOn};
+ghost use Rattle.dm_table.specs.Progress.{IsReadOn, HasWritten, IsFlushed};
 ghost use Rattle.dm_stream.specs.Messages.{IsTold};
-ghost use Rattle.dm_stream.specs.Progress.{HasWritten};
 ghost use Rattle.dm_stream.specs.Requests.{Requests, requests_of};
 ghost use Rattle.dm_stack.specs.Claims.{IsTidy};
 ghost use Rattle.dm_stack.specs.Description.{Description};
@@ -16,8 +15,8 @@ ghost use Rattle.dmremap.specs.declared.replay_whole.ReplayExit.{ReplayExit};
 ghost use Rattle.dmremap.specs.declared.words.Format.{Format};
 ghost use Rattle.dmremap.specs.Inputs.{IsReadOnIf, IsUnchanged, delivery_if};
 ghost use Rattle.dmremap.specs.ReplayOutcome.{HasMetEnd, IsPlayed, end_faults};
-ghost use Rattle.dmremap.specs.ReplayWhole.{IsPlain, IsReplayed, OnMemory, ReplayGives, StackGives, WhereMemoryRanOut, end_status, not_top_message, replay_message, replay_status};
-ghost use Rattle.dmremap.specs.Streams.{Exits, IsFlushed, MessagesTold, OutputWritten, RequestsRead};
+ghost use Rattle.dmremap.specs.ReplayWhole.{IsPlain, IsReplayed, OnMemory, ReplayGives, StackGives, WhereMemoryRanOut, end_status, replay_message, replay_status};
+ghost use Rattle.dmremap.specs.Streams.{Exits, MessagesTold, OutputWritten, RequestsRead};
 ghost use Rattle.dmremap.specs.Words.{has_disk_list};
 
 #[cfg(test)]
@@ -25,13 +24,13 @@ mod tests;
 
 use crate::load::load;
 use crate::replay_run::{ReplayEnd, play_requests};
-use crate::status::{ending_status, refuse};
+use crate::status::{refuse, tell_ending};
 use crate::words::Format;
 use dm_map::RunTaken;
 use dm_replay::{Replay, ReplayFault};
 use dm_stack::Stack;
-use dm_stream::{Ending, Message, message_of, put, put_number, tell};
-use dm_table::{Input, LoadFault, OutFault, Output, Part};
+use dm_stream::{Ending, refused_request, tell};
+use dm_table::{Input, LoadFault, OutFault, Output, Part, close, memory_message};
 use std::alloc::Global;
 
 /// Why a replay exits.
@@ -62,6 +61,7 @@ pub(crate) enum ReplayExit {
 ///
 /// Cost: near-linear in the source and the disk list; then that of `Replay::request` for each request.
 /// Memory grows with the ranges that are stored and with the requests.
+#[tactic(auto, using(crate::proofs::ExitLemmas::exits_told))]
 pub fn replay_whole<S: Input, D: Input, Q: Input, W: Output, M: Output>(
     alloc: Global,
     format: Format,
@@ -120,16 +120,26 @@ fn replay_stack<Q: Input, W: Output>(
     match Replay::<RunTaken>::new(alloc, stack) {
         Ok(mut replay) => {
             let ended = play_requests(alloc, stack, &mut replay, requests, &mut *output);
-            ReplayExit::Ended(close(ended, output))
+            ReplayExit::Ended(end_replay(ended, output))
         }
         Err(ReplayFault::Untidy) => ReplayExit::Untidy,
         Err(_) => ReplayExit::Refused(LoadFault::memory(Part::Source)),
     }
 }
 
-/// Flushes the output, unless a write to it failed.
-#[tactic(auto, using(crate::proofs::ReplayLemmas::replayed_flushed, crate::proofs::ReplayLemmas::failed_write, crate::proofs::ReplayLemmas::failed_flush))]
-fn close<W: Output>(ended: ReplayEnd, output: &mut W) -> ReplayEnd
+/// Whether all was written up to an end.
+fn written_by(ended: ReplayEnd) -> Result<(), OutFault>
+    ensures ok { OnOk result (ended ≢ ReplayEnd.Ran Ending.WriteFault) }
+    ensures err { OnErr result (ended ≡ ReplayEnd.Ran Ending.WriteFault) }
+{
+    match ended {
+        ReplayEnd::Ran(Ending::WriteFault) => Err(OutFault),
+        _ => Ok(()),
+    }
+}
+
+/// Ends a replay: flushes the output, unless a write to it failed.
+fn end_replay<W: Output>(ended: ReplayEnd, output: &mut W) -> ReplayEnd
     ensures closed { (start : W) (stack : Description) (requests : Requests) → HasWritten W.written W.waiting W.faults W.flushes start output.old (end_faults ended)
         → IsPlayed stack requests (since (W.written start) (W.written output.old)) ended
         → IsReplayed stack requests (since (W.written start) (W.written output.new)) (W.flushes start) (W.flushes output.new) result
@@ -137,10 +147,7 @@ fn close<W: Output>(ended: ReplayEnd, output: &mut W) -> ReplayEnd
         × OnMemory result (IsFlushed W.waiting W.flushes start output.new) }
     ensures met { (old new : ℕ) → HasMetEnd ended old new → HasMetEnd result old new }
 {
-    if ended == ReplayEnd::Ran(Ending::WriteFault) {
-        return ended;
-    }
-    match output.flush() {
+    match close(written_by(ended), output) {
         Ok(()) => ended,
         Err(OutFault) => ReplayEnd::Ran(Ending::WriteFault),
     }
@@ -156,28 +163,14 @@ fn finish<M: Output>(exit: ReplayExit, messages: &mut M) -> u8
             tell(messages, b"dmremap: replay: untidy\n");
             1
         }
-        ReplayExit::Ended(ReplayEnd::Ran(ending)) => {
-            tell(messages, message_of(ending).as_slice());
-            ending_status(ending)
-        }
+        ReplayExit::Ended(ReplayEnd::Ran(ending)) => tell_ending(ending, messages),
         ReplayExit::Ended(ReplayEnd::NotTop(number)) => {
-            tell(messages, not_top(number).as_slice());
+            tell(messages, refused_request(number, b"not top").as_slice());
             3
         }
         ReplayExit::Ended(ReplayEnd::Memory) => {
-            tell(messages, b"dmremap: memory\n");
+            tell(messages, memory_message());
             6
         }
     }
-}
-
-/// The message of a request that names no top device.
-fn not_top(number: u64) -> Message
-    ensures { result.items ≡ not_top_message number }
-{
-    let mut text = Message::new();
-    put(&mut text, b"dmremap: request ");
-    put_number(&mut text, number);
-    put(&mut text, b": not top\n");
-    text
 }

@@ -5,6 +5,7 @@
 ghost use Rattle.std.specs.Prelude.{◌≡◌};
 ghost use Rattle.lvm_volume.specs.NameMessage.{name_message};
 
+use dm_table::memory_message;
 use thiserror::Error;
 
 /// Why a name was not built.
@@ -38,7 +39,7 @@ impl NameFault {
             NameFault::HyphenFirst => b"dmremap: name: hyphen\n",
             NameFault::Empty => b"dmremap: name: empty\n",
             NameFault::Long => b"dmremap: name: long\n",
-            NameFault::Memory => b"dmremap: memory\n",
+            NameFault::Memory => memory_message(),
         }
     }
 }

@@ -1,4 +1,4 @@
-use Rattle.dm_stream.specs.ProgressLaws.{grows-same}
+use Rattle.dm_table.proofs.ProgressLaws.{grows-same}
 use Rattle.std.proofs.Common.{rules, ℕ, List, ◌+◌, ◌++◌, ◌∙◌, ap, sym, subst, refl, [], ◌∷◌, take}
 use Rattle.dm_table.specs.DeviceIo.{since, stand_of}
 use Rattle.dm_table.proofs.Growth.{grows_more}
@@ -78,35 +78,35 @@ lines-preserved g c =
       turned = record {
         done = so_far.done ++ more;
         answered = g.met.H.Handler.answered_then_answered c.args.handler.now c.before_read.new.handler c.handle-in-Ok.new.self c.args.source.now c.lines.source c.handle-in-Ok.new.source so_far.done more so_far.answered c.in_default-handle-2.ensures.answered;
-        reads = grows_more h0 h1 h2 so_far.reads c.in-Line.ensures.bytes;
+        reads = grows_more h0 h1 h2 so_far.reads c.in-Line.ensures.reads.grows;
         faults = c.in-Line.ensures.quiet.0 ∙ so_far.faults;
         ends = c.in-Line.ensures.quiet.1 ∙ so_far.ends;
         told =
             told_turn h0 h1 h2 c.lines.lines c.next.follows.lender-at-none c.in-Line.line.now so_far.done more (c.lines.number + 1) _ so_far.told
-            so_far.reads c.in-Line.ensures.bytes c.in-Line.ensures.answer c.in-Ok.ensures.good
+            so_far.reads c.in-Line.ensures.reads.grows c.in-Line.ensures.answer c.in-Ok.ensures.good
             (c.next.follows.holds-at-none ∙ ap (λ (r : next.Next). left_of (answer_of r) (c.lines.lines ++ since h1 h2)) c.in-Line.is);
       };
     }
 
 pub returns-in-Err-request_of-clause-answered : goal.returns-in-Err-request_of-clause-answered
 returns-in-Err-request_of-clause-answered g c =
-    ended g.R.Input.handed g.R.Input.faults g.R.Input.ends g.H.Handler.answered (ALine c.in-Line.line.now) (ending.TheVariants.BadRequest (c.lines.number + 1) c.in-Err-request_of.word) g.met.H.Handler.answered_then_answered c.lines.invariant.turned (c.before_read.ensures.answered c.lines.source) c.in-Line.ensures.bytes c.in-Line.ensures.answer c.in-Err-request_of.ensures.bad
+    ended g.R.Input.handed g.R.Input.faults g.R.Input.ends g.H.Handler.answered (ALine c.in-Line.line.now) (ending.TheVariants.BadRequest (c.lines.number + 1) c.in-Err-request_of.word) g.met.H.Handler.answered_then_answered c.lines.invariant.turned (c.before_read.ensures.answered c.lines.source) c.in-Line.ensures.reads.grows c.in-Line.ensures.answer c.in-Err-request_of.ensures.bad
 
 pub returns-in-End-clause-answered : goal.returns-in-End-clause-answered
 returns-in-End-clause-answered g c =
-    ended g.R.Input.handed g.R.Input.faults g.R.Input.ends g.H.Handler.answered AnEnd ending.TheVariants.Done g.met.H.Handler.answered_then_answered c.lines.invariant.turned (c.before_read.ensures.answered c.lines.source) c.in-End.ensures.bytes c.in-End.ensures.answer (λ rest. refl)
+    ended g.R.Input.handed g.R.Input.faults g.R.Input.ends g.H.Handler.answered AnEnd ending.TheVariants.Done g.met.H.Handler.answered_then_answered c.lines.invariant.turned (c.before_read.ensures.answered c.lines.source) c.in-End.ensures.reads.grows c.in-End.ensures.answer (λ rest. refl)
 
 pub returns-in-Unended-clause-answered : goal.returns-in-Unended-clause-answered
 returns-in-Unended-clause-answered g c =
-    ended g.R.Input.handed g.R.Input.faults g.R.Input.ends g.H.Handler.answered AnUnended (ending.TheVariants.BadRequest (c.lines.number + 1) word.TheVariants.Unended) g.met.H.Handler.answered_then_answered c.lines.invariant.turned (c.before_read.ensures.answered c.lines.source) c.in-Unended.ensures.bytes c.in-Unended.ensures.answer (λ rest. refl)
+    ended g.R.Input.handed g.R.Input.faults g.R.Input.ends g.H.Handler.answered AnUnended (ending.TheVariants.BadRequest (c.lines.number + 1) word.TheVariants.Unended) g.met.H.Handler.answered_then_answered c.lines.invariant.turned (c.before_read.ensures.answered c.lines.source) c.in-Unended.ensures.reads.grows c.in-Unended.ensures.answer (λ rest. refl)
 
 pub returns-in-Long-clause-answered : goal.returns-in-Long-clause-answered
 returns-in-Long-clause-answered g c =
-    ended g.R.Input.handed g.R.Input.faults g.R.Input.ends g.H.Handler.answered ALong (ending.TheVariants.BadRequest (c.lines.number + 1) word.TheVariants.Long) g.met.H.Handler.answered_then_answered c.lines.invariant.turned (c.before_read.ensures.answered c.lines.source) c.in-Long.ensures.bytes c.in-Long.ensures.answer (λ rest. refl)
+    ended g.R.Input.handed g.R.Input.faults g.R.Input.ends g.H.Handler.answered ALong (ending.TheVariants.BadRequest (c.lines.number + 1) word.TheVariants.Long) g.met.H.Handler.answered_then_answered c.lines.invariant.turned (c.before_read.ensures.answered c.lines.source) c.in-Long.ensures.reads.grows c.in-Long.ensures.answer (λ rest. refl)
 
 pub returns-in-ReadFault-clause-answered : goal.returns-in-ReadFault-clause-answered
 returns-in-ReadFault-clause-answered g c =
-    ended g.R.Input.handed g.R.Input.faults g.R.Input.ends g.H.Handler.answered AFault ending.TheVariants.ReadFault g.met.H.Handler.answered_then_answered c.lines.invariant.turned (c.before_read.ensures.answered c.lines.source) c.in-ReadFault.ensures.bytes c.in-ReadFault.ensures.answer (λ rest. refl)
+    ended g.R.Input.handed g.R.Input.faults g.R.Input.ends g.H.Handler.answered AFault ending.TheVariants.ReadFault g.met.H.Handler.answered_then_answered c.lines.invariant.turned (c.before_read.ensures.answered c.lines.source) c.in-ReadFault.ensures.reads.grows c.in-ReadFault.ensures.answer (λ rest. refl)
 
 pub returns-in-Err-handle-clause-stopped : goal.returns-in-Err-handle-clause-stopped
 returns-in-Err-handle-clause-stopped g c =
@@ -117,5 +117,5 @@ returns-in-Err-handle-clause-stopped g c =
     let last = c.next.new.reader in
     let more = numbered c.in-Ok.request ∷ [] in
     among (input.handed first) (input.handed mid) (input.handed last) c.lines.lines (input.faults first) (input.faults mid) (input.faults last) (input.ends first) (input.ends mid) (input.ends last) (c.lines.number + 1) so_far.done more c.in-Line.line.now _
-    so_far.told so_far.reads c.in-Line.ensures.bytes so_far.faults so_far.ends c.in-Line.ensures.answer c.in-Ok.ensures.good
+    so_far.told so_far.reads c.in-Line.ensures.reads.grows so_far.faults so_far.ends c.in-Line.ensures.answer c.in-Ok.ensures.good
     (g.met.H.Handler.answered_then_stopped c.args.handler.now c.before_read.new.handler c.handle-in-Ok.new.self c.args.source.now c.lines.source c.handle-in-Ok.new.source so_far.done more _ so_far.answered c.in-Err-handle.ensures.stopped)

@@ -20,16 +20,16 @@ returns-in_err-write_body g c =
     each_stopped (ended name) c.args.lines.now c.loop-line.line-index line c.from_residual.result c.loop-line-test.true c.line-item.is c.from_residual.ensures.1 c.loop-line.invariant
     (stopped (labelled name line) (10 ∷ []) (simp append_assoc) c.in_err-write_body.ensures)
 
-pub returns-in_err-write : goal.returns-in_err-write
-returns-in_err-write g c =
+pub returns-in_err-write_all : goal.returns-in_err-write_all
+returns-in_err-write_all g c =
     let name = c.args.name.now in
     let line = c.line-item.result in
-    each_stopped (ended name) c.args.lines.now c.loop-line.line-index line c.from_residual-in_err-write.result c.loop-line-test.true c.line-item.is c.from_residual-in_err-write.ensures.1 c.loop-line.invariant
-    (and_then (labelled name line) (10 ∷ []) (simp append_assoc) c.in_ok-write_body.ensures c.in_err-write.ensures)
+    each_stopped (ended name) c.args.lines.now c.loop-line.line-index line c.from_residual-in_err-write_all.result c.loop-line-test.true c.line-item.is c.from_residual-in_err-write_all.ensures.1 c.loop-line.invariant
+    (and_then (labelled name line) (10 ∷ []) (simp append_assoc) c.in_ok-write_body.ensures c.in_err-write_all.ensures.wrote)
 
 pub loop-line-preserved : goal.loop-line-preserved
 loop-line-preserved g c =
     let name = c.args.name.now in
     let line = c.line-item.result in
     each_further (ended name) c.args.lines.now c.loop-line.line-index line c.loop-line-test.true c.line-item.is c.loop-line.invariant
-    (and_then (labelled name line) (10 ∷ []) (simp append_assoc) c.in_ok-write_body.ensures c.in_ok-write.ensures)
+    (and_then (labelled name line) (10 ∷ []) (simp append_assoc) c.in_ok-write_body.ensures c.in_ok-write_all.ensures.wrote)

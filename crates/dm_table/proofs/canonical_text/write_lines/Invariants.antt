@@ -1,6 +1,7 @@
 -- the text of the items so far is written, and nothing failed
 use Rattle.std.proofs.Common.{take, Ok}
-use Rattle.dm_table.specs.CanonicalText.{Wrote, lines_text}
+use Rattle.dm_table.specs.CanonicalText.{lines_text}
+use Rattle.dm_table.specs.Progress.{Wrote}
 use Rattle.dm_table.specs.declared.device_io.OutFault.{OutFault}
 use Rattle.dm_table.proofs.canonical_text.write_lines.Given as goal
 

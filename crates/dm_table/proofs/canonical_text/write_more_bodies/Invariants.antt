@@ -2,7 +2,7 @@
 use Rattle.std.proofs.Common.{◌∷◌, take, Ok}
 use Rattle.std.specs.List.{flat_map}
 use Rattle.dm_table.specs.LineBody.{body_text}
-use Rattle.dm_table.specs.CanonicalText.{Wrote}
+use Rattle.dm_table.specs.Progress.{Wrote}
 use Rattle.dm_table.specs.declared.device_io.OutFault.{OutFault}
 use Rattle.dm_table.proofs.canonical_text.write_more_bodies.Given as goal
 

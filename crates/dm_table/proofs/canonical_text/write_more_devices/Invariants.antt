@@ -1,7 +1,8 @@
 -- the text of the items so far is written, and nothing failed
 use Rattle.std.proofs.Common.{◌∷◌, take, Ok}
 use Rattle.std.specs.List.{flat_map}
-use Rattle.dm_table.specs.CanonicalText.{Wrote, concise_device}
+use Rattle.dm_table.specs.CanonicalText.{concise_device}
+use Rattle.dm_table.specs.Progress.{Wrote}
 use Rattle.dm_table.specs.declared.device_io.OutFault.{OutFault}
 use Rattle.dm_table.proofs.canonical_text.write_more_devices.Given as goal
 

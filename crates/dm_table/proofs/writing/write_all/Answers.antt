@@ -1,19 +1,26 @@
-use Rattle.std.proofs.Common.{◌<◌, ◌∙◌, length, rules}
+use Rattle.std.proofs.Common.{◌≡◌, ◌<◌, ◌∙◌, length, rules}
 use Rattle.std.proofs.lemmas.List.{append-nil}
-use Rattle.dm_table.proofs.Growth.{before, sent_further, front_beginning, front_cut, on_err}
+use Rattle.std.proofs.lemmas.Result.{err_from_is_err_and}
+use Rattle.dm_table.proofs.Growth.{before, sent_cut, sent_further, sent_whole, front_beginning, on_err}
 use Rattle.dm_table.proofs.writing.write_all.Goals as goal
 
 pub returns-in_err-taken-clause-err : goal.returns-in_err-taken-clause-err
 returns-in_err-taken-clause-err g c =
     on_err c.from_residual.result _ (front_beginning _ _ c.args.bytes.now (before c.args.bytes.now c.loop-rest.rest.now) (c.in_err-taken.ensures.bytes ∙ append-nil _ ∙ c.loop-rest.invariant.written))
 
-pub returns-in_err-taken-clause-left : goal.returns-in_err-taken-clause-left
-returns-in_err-taken-clause-left g c =
-    let bytes = c.args.bytes.now in let rest = c.loop-rest.rest.now in let so_far = c.loop-rest.invariant in
-    let some : 0 < length rest = search rules in
-    on_err c.from_residual.result _ (front_cut _ _ bytes rest (before bytes rest) (c.in_err-taken.ensures.bytes ∙ append-nil _ ∙ so_far.written) so_far.rest some)
+pub returns-in_err-taken-clause-wrote : goal.returns-in_err-taken-clause-wrote
+returns-in_err-taken-clause-wrote g c =
+    let some : 0 < length c.loop-rest.rest.now = search rules in
+    let is = err_from_is_err_and c.from_residual.result c.from_residual.ensures.1 in
+    let failed = c.in_err-taken.ensures in
+    rw (is.1, is.2) (sent_cut g.W.Output.written g.W.Output.waiting g.W.Output.faults g.W.Output.flushes _ _ _ is.0 c.args.bytes.now c.loop-rest.rest.now c.loop-rest.invariant some failed.bytes failed.waiting failed.faults failed.flushes)
 
 pub loop-rest-preserved : goal.loop-rest-preserved
 loop-rest-preserved g c =
     let taken = c.in_ok-taken.ensures in
     sent_further g.W.Output.written g.W.Output.waiting g.W.Output.faults g.W.Output.flushes _ _ _ c.args.bytes.now c.loop-rest.rest.now c.in_ok-taken.taken c.loop-rest.invariant taken.within taken.bytes taken.waiting taken.faults taken.flushes
+
+pub returns-clause-wrote : goal.returns-clause-wrote
+returns-clause-wrote g c =
+    let none : length c.loop-rest.rest.now ≡ 0 = search rules in
+    sent_whole g.W.Output.written g.W.Output.waiting g.W.Output.faults g.W.Output.flushes _ _ c.args.bytes.now c.loop-rest.rest.now c.loop-rest.invariant none

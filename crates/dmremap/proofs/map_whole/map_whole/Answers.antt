@@ -4,9 +4,9 @@ use Rattle.dm_table.specs.LoadMessage.{load_message}
 use Rattle.dm_map.specs.State.{start_state}
 use Rattle.dm_map.proofs.LevelLemmas.{reads_free, writes_free}
 use Rattle.dm_stream.specs.Messages.{ending_message}
-use Rattle.dm_stream.specs.ProgressLaws.{since-same}
+use Rattle.dm_table.proofs.ProgressLaws.{since-same}
 use Rattle.dm_stream.proofs.FewestLemmas.{fewest_is}
-use Rattle.dmremap.proofs.ExitLemmas.{failed_run, one_or_six, ran_requests, refused_whole, served_whole, untouched_output, untouched_requests}
+use Rattle.dmremap.proofs.ExitLemmas.{one_or_six, ran_failed, ran_messages, ran_output, ran_requests, ran_whole, refused_whole, untouched_output, untouched_requests}
 use Rattle.dmremap.proofs.OneWhole.{one_whole}
 use Rattle.dmremap.proofs.map_whole.map_whole.Goals as goal
 
@@ -16,7 +16,7 @@ pub returns-in-Err-clause-whole : goal.returns-in-Err-clause-whole
 returns-in-Err-clause-whole g c = λ five six. (
   load_message c.in-Err.fault,
   refused_whole _ _ _ _ _ _ c.in-Err.fault _ c.in-Err.ensures.gives.refused (since-same (g.W.Output.written c.args.output.now)) c.refuse.ensures.is six,
-  c.refuse.ensures.told,
+  c.refuse.ensures.told.told,
 )
 
 -- ---- the requests were run
@@ -25,8 +25,8 @@ pub returns-in-Ok-new-clause-whole : goal.returns-in-Ok-new-clause-whole
 returns-in-Ok-new-clause-whole g c = λ five six.
     let starts : c.in-Ok-new.mapper.state ≡ start_state c.in-Ok.stack = c.in-Ok-new.ensures.state ∙ ap start_state c.looker.ensures.stack in (
       ending_message c.run.result,
-      served_whole _ _ _ _ _ c.in-Ok.stack c.in-Ok-new.mapper.state _ c.run.result _ c.in-Ok.ensures.gives.sound starts c.run.ensures.served c.ending_status.ensures five,
-      c.run.ensures.told,
+      ran_whole _ _ _ _ _ c.in-Ok.stack c.in-Ok-new.mapper.state _ _ c.run.result _ c.in-Ok.ensures.gives.sound starts c.run.ensures.ran.whole c.ending_status.ensures five,
+      c.run.ensures.told.told,
     )
 
 pub returns-in-Ok-new-clause-beginning : goal.returns-in-Ok-new-clause-beginning
@@ -35,12 +35,17 @@ returns-in-Ok-new-clause-beginning g c = λ five.
     let starts : c.in-Ok-new.mapper.state ≡ start_state c.in-Ok.stack = c.in-Ok-new.ensures.state ∙ ap start_state c.looker.ensures.stack in (
       c.in-Ok.stack,
       c.in-Ok.ensures.gives.sound,
-      failed_run c.args.status requests c.in-Ok.stack c.in-Ok-new.mapper.state _ c.run.result _ _ _ starts c.run.ensures.served c.run.ensures.left c.run.ensures.failed_flush c.ending_status.ensures five,
+      ran_failed c.args.status requests c.in-Ok.stack c.in-Ok-new.mapper.state _ c.run.result _ _ _ starts c.run.ensures.ran.failed c.ending_status.ensures five,
     )
 
 pub returns-in-Ok-new-clause-requests : goal.returns-in-Ok-new-clause-requests
-returns-in-Ok-new-clause-requests g c =
-    ran_requests _ _ _ c.run.result _ _ _ c.ending_status.ensures (record { grows = c.run.ensures.reads; no_more = c.run.ensures.no_more }) c.run.ensures.read_fault c.run.ensures.no_fault
+returns-in-Ok-new-clause-requests g c = ran_requests _ _ _ c.run.result _ _ _ c.ending_status.ensures c.run.ensures.reads c.run.ensures.met
+
+pub returns-in-Ok-new-clause-output : goal.returns-in-Ok-new-clause-output
+returns-in-Ok-new-clause-output g c = ran_output _ _ _ _ c.run.result _ _ _ _ _ c.ending_status.ensures c.run.ensures.ran
+
+pub returns-in-Ok-new-clause-messages : goal.returns-in-Ok-new-clause-messages
+returns-in-Ok-new-clause-messages g c = ran_messages _ _ _ c.run.result _ _ _ c.ending_status.ensures c.run.ensures.told
 
 -- ---- there was no memory for them
 

@@ -7,7 +7,7 @@ pub returns-clause-whole : goal.returns-clause-whole
 returns-clause-whole g c = λ five six. (
   printing_message c.print.result,
   other_at _ _ _ _ _ _ c.print.result c.finish.result c.finish.ensures.is c.print.ensures.printed five six,
-  c.finish.ensures.told,
+  c.finish.ensures.told.told,
 )
 
 pub returns-clause-beginning : goal.returns-clause-beginning

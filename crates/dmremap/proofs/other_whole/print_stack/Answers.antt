@@ -6,7 +6,7 @@ use Rattle.dmremap.proofs.other_whole.print_stack.Goals as goal
 pub returns-clause-printed : goal.returns-clause-printed
 returns-clause-printed g c =
     let same : c.deref.result.now ≡ c.args.stack.devices = search rules in
-    text_printed _ _ _ _ _ c.close.result (ap (written_as c.args.form) same) (c.close.ensures _ _ c.write_devices-written.ensures).0
+    text_printed _ _ _ _ _ c.end_printing.result (ap (written_as c.args.form) same) (c.end_printing.ensures _ _ c.write_devices-written.ensures).0
 
 pub returns-clause-output : goal.returns-clause-output
-returns-clause-output g c = (c.close.ensures _ _ c.write_devices-written.ensures).1
+returns-clause-output g c = (c.end_printing.ensures _ _ c.write_devices-written.ensures).1

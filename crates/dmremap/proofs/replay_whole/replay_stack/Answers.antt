@@ -2,10 +2,10 @@ use Rattle.dmremap.proofs.replay_whole.replay_stack.Goals as goal
 
 pub returns-in-Ok-clause-exit : goal.returns-in-Ok-clause-exit
 returns-in-Ok-clause-exit g c =
-    (c.in-Ok.ensures.tidy, (c.close.ensures.closed _ _ _ c.play_requests-ended.ensures.writes c.play_requests-ended.ensures.played).0)
+    (c.in-Ok.ensures.tidy, (c.end_replay.ensures.closed _ _ _ c.play_requests-ended.ensures.writes c.play_requests-ended.ensures.played).0)
 
 pub returns-in-Ok-clause-output : goal.returns-in-Ok-clause-output
-returns-in-Ok-clause-output g c = (c.close.ensures.closed _ _ _ c.play_requests-ended.ensures.writes c.play_requests-ended.ensures.played).1
+returns-in-Ok-clause-output g c = (c.end_replay.ensures.closed _ _ _ c.play_requests-ended.ensures.writes c.play_requests-ended.ensures.played).1
 
 pub returns-in-Ok-clause-memory : goal.returns-in-Ok-clause-memory
-returns-in-Ok-clause-memory g c = (c.close.ensures.closed _ _ _ c.play_requests-ended.ensures.writes c.play_requests-ended.ensures.played).2
+returns-in-Ok-clause-memory g c = (c.end_replay.ensures.closed _ _ _ c.play_requests-ended.ensures.writes c.play_requests-ended.ensures.played).2

@@ -1,5 +1,5 @@
 use Rattle.std.proofs.Common.{refl}
-use Rattle.dm_stream.specs.ProgressLaws.{since-same}
+use Rattle.dm_table.proofs.ProgressLaws.{since-same}
 use Rattle.dmremap.specs.declared.replay_whole.ReplayExit.TheVariants as exits
 use Rattle.dmremap.proofs.OneReplay.{one_replay}
 use Rattle.dmremap.proofs.replay_whole.replay_whole.Goals as goal
@@ -10,7 +10,7 @@ returns-in-Err-clause-replayed g c = (
   (since-same (g.W.Output.written c.args.output.now), c.in-Err.ensures.gives.refused),
   (record { same_handed = refl; same_faults = refl; same_ends = refl }, refl),
   c.finish-in-Err.ensures.is,
-  c.finish-in-Err.ensures.told,
+  c.finish-in-Err.ensures.told.told,
 )
 
 pub returns-in-Ok-clause-one : goal.returns-in-Ok-clause-one

@@ -13,9 +13,8 @@ returns-in-Line g c =
       (refl, λ _. tt, behind_bytes a.buffer held a.start a.end n c.self.view_is c.in-Line.ensures.fits ∙ ap (drop _) c.in-Line.ensures.held),
       record {
         after = tt;
-        bytes = c.in-Line.ensures.bytes;
+        reads = c.in-Line.ensures.reads;
         quiet = c.in-Line.ensures.quiet;
-        no_more = c.in-Line.ensures.no_more;
         answer =
             ap ALine (line_at a.buffer held a.start a.end n c.self.view_is c.in-Line.ensures.fits)
             ∙ sym c.in-Line.ensures.answer ∙ ap (λ (h : List ℕ). next_answer stand (line_parts h)) c.in-Line.ensures.held;

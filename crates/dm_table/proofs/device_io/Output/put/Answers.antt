@@ -1,23 +1,21 @@
-use Rattle.std.proofs.Common.{◌<◌, ◌∙◌, add-zero, length, rules}
-use Rattle.std.proofs.lemmas.List.{append-nil}
-use Rattle.dm_table.proofs.Growth.{before, behind_within, rest_step, write_step, front_cut, on_err}
+use Rattle.std.proofs.Common.{◌≡◌, ◌<◌, length, rules}
+use Rattle.std.proofs.lemmas.Result.{err_from_is_err_and}
+use Rattle.dm_table.proofs.Growth.{sent_cut, sent_further, sent_whole}
 use Rattle.dm_table.proofs.device_io.Output.put.Goals as goal
 
-pub returns-in_err-taken-clause-left : goal.returns-in_err-taken-clause-left
-returns-in_err-taken-clause-left g c =
-    let text = g.T.Text.text c.args.text.now in let rest = c.rest.rest.now in let so_far = c.rest.invariant in
-    let some : 0 < length rest = search rules in
-    on_err c.from_residual.result _ (front_cut _ _ text rest (before text rest) (c.in_err-taken.ensures.bytes ∙ append-nil _ ∙ so_far.written) so_far.rest some)
+pub returns-in_err-taken : goal.returns-in_err-taken
+returns-in_err-taken g c =
+    let some : 0 < length c.rest.rest.now = search rules in
+    let is = err_from_is_err_and c.from_residual.result c.from_residual.ensures.1 in
+    let failed = c.in_err-taken.ensures in
+    rw (is.1, is.2) (sent_cut g.Self.Output.written g.Self.Output.waiting g.Self.Output.faults g.Self.Output.flushes _ _ _ is.0 (g.T.Text.text c.args.text.now) c.rest.rest.now c.rest.invariant some failed.bytes failed.waiting failed.faults failed.flushes)
+
+pub returns : goal.returns
+returns g c =
+    let none : length c.rest.rest.now ≡ 0 = search rules in
+    sent_whole g.Self.Output.written g.Self.Output.waiting g.Self.Output.faults g.Self.Output.flushes _ _ (g.T.Text.text c.args.text.now) c.rest.rest.now c.rest.invariant none
 
 pub rest-preserved : goal.rest-preserved
 rest-preserved g c =
-    let text = g.T.Text.text c.args.text.now in let rest = c.rest.rest.now in let n = c.in_ok-taken.taken in
-    let so_far = c.rest.invariant in
-    record {
-      within = behind_within text rest n so_far.within;
-      rest = rest_step text rest n so_far.within c.in_ok-taken.ensures.within so_far.rest;
-      written = write_step _ _ _ text rest n so_far.within c.in_ok-taken.ensures.within so_far.rest so_far.written c.in_ok-taken.ensures.bytes;
-      waiting = write_step _ _ _ text rest n so_far.within c.in_ok-taken.ensures.within so_far.rest so_far.waiting c.in_ok-taken.ensures.waiting;
-      faults = c.in_ok-taken.ensures.faults ∙ add-zero _ ∙ so_far.faults;
-      flushes = c.in_ok-taken.ensures.flushes ∙ so_far.flushes;
-    }
+    let taken = c.in_ok-taken.ensures in
+    sent_further g.Self.Output.written g.Self.Output.waiting g.Self.Output.faults g.Self.Output.flushes _ _ _ (g.T.Text.text c.args.text.now) c.rest.rest.now c.in_ok-taken.taken c.rest.invariant taken.within taken.bytes taken.waiting taken.faults taken.flushes

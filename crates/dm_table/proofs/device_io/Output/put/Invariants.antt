@@ -1,20 +1,10 @@
-use Rattle.std.proofs.Common.{◌≡◌, ◌≤◌, ◌++◌, length, take, drop}
-use Rattle.dm_table.proofs.Growth.{before}
+use Rattle.std.proofs.Common.{length}
+use Rattle.dm_table.proofs.Growth.{IsSent}
 use Rattle.dm_table.proofs.device_io.Output.put.Given as goal
 
 -- the bytes before the rest are written, and nothing failed
 abbrev pub invariant-rest : goal.invariant-rest
-invariant-rest g l =
-    let text = g.T.Text.text l.text in
-    let at = before text l.rest in
-    record {
-      within : length l.rest ≤ length text;
-      rest : l.rest ≡ drop at text;
-      written : g.Self.Output.written l.self ≡ g.Self.Output.written l.fn.self ++ take at text;
-      waiting : g.Self.Output.waiting l.self ≡ g.Self.Output.waiting l.fn.self ++ take at text;
-      faults : g.Self.Output.faults l.self ≡ g.Self.Output.faults l.fn.self;
-      flushes : g.Self.Output.flushes l.self ≡ g.Self.Output.flushes l.fn.self;
-    }
+invariant-rest g l = IsSent g.Self.Output.written g.Self.Output.waiting g.Self.Output.faults g.Self.Output.flushes l.fn.self l.self (g.T.Text.text l.text) l.rest
 
 abbrev pub decreases-rest : goal.decreases-rest
 decreases-rest g l = length l.rest

@@ -1,0 +1,5 @@
+use Rattle.dm_stream.proofs.Runs.{rest_cut, rest_none, rest_status}
+use Rattle.dm_stream.proofs.map_run.write_rest.Goals as goal
+
+pub returns-in-WriteFault-clause-wrote : goal.returns-in-WriteFault-clause-wrote
+returns-in-WriteFault-clause-wrote g c = λ start outcome moved mapped. rest_cut _ _ _ _ _ start c.args.output.now c.args.stack.now c.args.status outcome _ c.args.ending c.in-WriteFault.is moved mapped

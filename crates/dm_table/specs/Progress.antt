@@ -1,0 +1,67 @@
+-- How inputs and outputs moved on, told by their ghost members: each fact once, for every contract that speaks of one.
+use Rattle.std.specs.Prelude.{◌≡◌, ◌≤◌, ◌<◌, ◌↔◌, ◌+◌, ◌++◌, ℕ, List, [], Result, IsErr, OnOk, OnErr}
+use Rattle.std.specs.Borrow.{MutBor}
+use Rattle.dm_table.specs.DeviceIo.{end_of, fault_of, since}
+use Rattle.dm_table.specs.WriteAll.{IsBeginning, IsCutShort}
+
+-- ---- inputs
+
+-- an input was only read on, and not after an end or a fault: what it handed out grew, and at most one of these was met
+pub record IsReadOn {X : Type 0} (handed : X → List ℕ) (faults ends : X → ℕ) (old new : X) : Type 0 where
+  pub grows : handed new ≡ handed old ++ since (handed old) (handed new)
+  pub no_more : faults new + ends new ≤ faults old + ends old + 1
+
+-- an input was read once, into a slice with room, and handed out these bytes
+pub record HasRead {X E : Type 0} (handed : X → List ℕ) (faults ends : X → ℕ) (old new : X) (result : Result ℕ E) (got : List ℕ) : Type 0 where
+  pub hands : handed new ≡ handed old ++ got
+  pub fails : faults new ≡ faults old + fault_of result
+  pub ends_as : ends new ≡ ends old + end_of result 1
+
+-- ---- outputs that were written to
+
+-- an output only took more, and all of that still waits for a flush: none was asked for. This many writes failed
+pub record HasWritten {X : Type 0} (written waiting : X → List ℕ) (faults flushes : X → ℕ) (old new : X) (failed : ℕ) : Type 0 where
+  pub appends : written new ≡ written old ++ since (written old) (written new)
+  pub waits : waiting new ≡ waiting old ++ since (written old) (written new)
+  pub fails : faults new ≡ faults old + failed
+  pub unflushed : flushes new ≡ flushes old
+
+-- the same of an output that is borrowed, by a reference that stays the same
+pub record HasWrittenTo {X : Type 0} (written waiting : X → List ℕ) (faults flushes : X → ℕ) (old new : MutBor X) (failed : ℕ) : Type 0 where
+  pub moved : HasWritten written waiting faults flushes old.now new.now failed
+  pub same_reference : new.ghost_name ≡ old.ghost_name
+
+-- an output wrote a text: all of it, or, at a fault, a beginning of it that lacks a byte
+pub record Wrote {X E : Type 0} (written waiting : X → List ℕ) (faults flushes : X → ℕ) (old new : X) (result : Result (Unit {0}) E) (text : List ℕ) : Type 0 where
+  pub moved : HasWritten written waiting faults flushes old new (fault_of result)
+  pub ok : OnOk result (since (written old) (written new) ≡ text)
+  pub left : OnErr result (IsCutShort text (since (written old) (written new)))
+
+-- ---- outputs that are done with
+
+-- an output was flushed once, and nothing waits
+abbrev pub IsFlushed : {X : Type 0} → (waiting : X → List ℕ) → (flushes : X → ℕ) → (old new : X) → Type 0
+IsFlushed waiting flushes old new = (waiting new ≡ []) × (flushes new ≡ flushes old + 1)
+
+-- an output only took more, and was flushed after that, if at all. Whether it failed; nothing is tried again after a write or a flush that failed
+pub record IsFinished {X : Type 0} (written waiting : X → List ℕ) (faults flushes : X → ℕ) (old new : X) (HasFailed : Type 0) : Type 0 where
+  pub appends : written new ≡ written old ++ since (written old) (written new)
+  pub write_fault : faults old < faults new ↔ HasFailed
+  pub grows : faults old ≤ faults new
+  pub fails_once : faults new ≤ faults old + 1
+  pub once : flushes new ≤ flushes old + 1
+  -- where the flush failed, all that was written still waits
+  pub still_waiting : HasFailed → flushes old < flushes new → waiting new ≡ waiting old ++ since (written old) (written new)
+
+-- what an output took of a text that failed: a beginning, of which something was left where no flush was asked, and nothing where the flush failed
+pub record FailedOutput (text written : List ℕ) (flushes_old flushes_new : ℕ) : Type 0 where
+  pub beginning : IsBeginning text written
+  pub left : flushes_new ≡ flushes_old → IsCutShort text written
+  pub failed_flush : flushes_old < flushes_new → text ≡ written
+
+-- an output wrote a text and was flushed after it, unless a write failed
+pub record IsClosed {X E : Type 0} (written waiting : X → List ℕ) (faults flushes : X → ℕ) (old new : X) (result : Result (Unit {0}) E) (text : List ℕ) : Type 0 where
+  pub finished : IsFinished written waiting faults flushes old new (IsErr result)
+  pub whole : OnOk result (since (written old) (written new) ≡ text)
+  pub flushed : OnOk result (IsFlushed waiting flushes old new)
+  pub failed : OnErr result (FailedOutput text (since (written old) (written new)) (flushes old) (flushes new))
