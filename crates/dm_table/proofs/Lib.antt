@@ -6,7 +6,7 @@ pub mod Parsing
 pub mod RequestLemmas
 pub mod FrontRequest
 pub mod FrontNames
-mod Portions
+pub mod Portions
 pub mod DiskLemmas
 pub mod TableGroups
 pub mod BodyRows

@@ -39,7 +39,7 @@ pub add_same : (r : Result (Unit {0}) AllocError) (ds : List DeviceSpec) (n : �
 add_same (Ok x) ds n d lines named len last same added = rw added (set_last ds n d named len (sym last) same)
 add_same (Err e) ds n d lines named len last same added = tt
 
--- and one that comes behind it
+-- and one that comes after it
 pub add_other : (ds : List DeviceSpec) (n : ℕ) (d : DeviceSpec) (named : NamedLine) → n + 1 ≡ length ds → d ≡ slice_index_or ds n d → pointwise nat_eq named.name d.name ≡ false
     → slice_set ds n (record d { lines = d.lines }) ++ alone named ∷ [] ≡ add_line ds named
 add_other [] n d named len last other = absurd (omega arith)

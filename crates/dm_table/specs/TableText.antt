@@ -53,10 +53,10 @@ pub record IsDescribed (device : DeviceSpec) : Type 0 where
   pub at : HasPlaceOf device.lines device.at
 
 -- neighbouring lines of one name are one device: neighbouring devices have different names
-abbrev pub AreApart : List DeviceSpec → Type 0
-AreApart [] = Unit {0}
-AreApart (device ∷ []) = Unit {0}
-AreApart (device ∷ next ∷ devices) = (device.name ≢ next.name) × AreApart (next ∷ devices)
+abbrev pub DifferInName : List DeviceSpec → Type 0
+DifferInName [] = Unit {0}
+DifferInName (device ∷ []) = Unit {0}
+DifferInName (device ∷ next ∷ devices) = (device.name ≢ next.name) × DifferInName (next ∷ devices)
 
 -- the text says these devices
 pub record DescribesTable (text : List ℕ) (devices : List DeviceSpec) : Type 0 where
@@ -64,7 +64,7 @@ pub record DescribesTable (text : List ℕ) (devices : List DeviceSpec) : Type 0
   pub ended : text ≡ flat_map (λ line. line ++ 10 ∷ []) lines
   pub said : Says 1 lines (named_lines devices)
   pub each : AllByRecursion IsDescribed devices
-  pub apart : AreApart devices
+  pub apart : DifferInName devices
 
 -- Its checks
 
