@@ -17,6 +17,7 @@ pub mod TableFields
 pub mod TargetRows
 pub mod Growth
 pub mod RowFaultLemmas
+pub mod ReadLines
 pub mod WriteLemmas
 pub mod BlockLemmas
 pub mod CanonicalTable
