@@ -11,7 +11,7 @@ use Rattle.std.proofs.lemmas.List.Sums.{prefix_len-le-length, prefix_len_stops}
 use Rattle.std.proofs.lemmas.List.Elements.{All-from_recursion}
 use Rattle.std.proofs.lemmas.Str.Ascii.{IsAscii-from_all}
 use Rattle.dm_table.specs.Fields.{parts_at}
-use Rattle.dm_table.specs.LoadFault.{is_text}
+use Rattle.dm_table.specs.LoadFault.{is_printed}
 use Rattle.dm_table.specs.Name.{is_device_byte, is_device_name, is_disk_byte, is_disk_name, names_device}
 use Rattle.dm_table.proofs.FieldLemmas.{IsClearOf, join-parts_at}
 
@@ -36,12 +36,22 @@ list_all-both test (b ∷ xs) ys h k = let a = and_parts (test b) (list_all test
 
 -- Bytes of a line, of names and of numbers
 
+-- bytes from 0x20 to 0x7E
+abbrev pub is_shown : List ℕ → Bool
+is_shown line = list_all (λ b. nat_le 32 b && nat_le b 126) line
+
+shown_byte : (b : ℕ) → (nat_le 32 b && nat_le b 126) ≡ true → (eqb b 10 || (nat_le 32 b && nat_le b 126)) ≡ true
+shown_byte b h = grind (arith, nat_tests)
+
+pub is_shown-printed : (line : List ℕ) → is_shown line ≡ true → is_printed line ≡ true
+is_shown-printed line h = list_all-weaker (λ b. nat_le 32 b && nat_le b 126) (λ b. eqb b 10 || (nat_le 32 b && nat_le b 126)) shown_byte line h
+
 text_newline : (b : ℕ) → (nat_le 32 b && nat_le b 126) ≡ true → eqb b 10 ≡ false
 text_newline b h = grind (arith, nat_tests)
 
--- a line of text has no newline in it
-pub is_text-clear : (line : List ℕ) → is_text line ≡ true → IsClearOf 10 line
-is_text-clear line h = All-list_all (λ b. nat_le 32 b && nat_le b 126) (λ b. eqb b 10 ≡ false) text_newline line h
+-- such a line has no newline in it
+pub is_shown-clear : (line : List ℕ) → is_shown line ≡ true → IsClearOf 10 line
+is_shown-clear line h = All-list_all (λ b. nat_le 32 b && nat_le b 126) (λ b. eqb b 10 ≡ false) text_newline line h
 
 digit_text : (b : ℕ) → is_ascii_digit b ≡ true → (nat_le 32 b && nat_le b 126) ≡ true
 digit_text b h = grind (arith, nat_tests)
@@ -49,9 +59,9 @@ digit_text b h = grind (arith, nat_tests)
 digit_space : (b : ℕ) → is_ascii_digit b ≡ true → eqb b 32 ≡ false
 digit_space b h = grind (arith, nat_tests)
 
--- digits are text and no space
-pub is_text-digits : (text : List ℕ) → list_all is_ascii_digit text ≡ true → is_text text ≡ true
-is_text-digits text h = list_all-weaker is_ascii_digit (λ b. nat_le 32 b && nat_le b 126) digit_text text h
+-- digits are such bytes and no space
+pub is_shown-digits : (text : List ℕ) → list_all is_ascii_digit text ≡ true → is_shown text ≡ true
+is_shown-digits text h = list_all-weaker is_ascii_digit (λ b. nat_le 32 b && nat_le b 126) digit_text text h
 
 pub digits-clear : (text : List ℕ) → list_all is_ascii_digit text ≡ true → IsClearOf 32 text
 digits-clear text h = All-list_all is_ascii_digit (λ b. eqb b 32 ≡ false) digit_space text h
@@ -78,9 +88,9 @@ disk_space b h = grind (arith, nat_tests)
 disk_ascii : (b : ℕ) → is_disk_byte b ≡ true → b < 128
 disk_ascii b h = grind (arith, nat_tests)
 
--- the bytes of a disk's name are text, no space and ASCII
+-- the bytes of a disk's name are shown, no space and ASCII
 pub record IsPlain (text : List ℕ) : Type 0 where
-  pub printed : is_text text ≡ true
+  pub printed : is_shown text ≡ true
   pub clear : IsClearOf 32 text
   pub ascii : IsAscii text
 
@@ -191,20 +201,16 @@ onto_pass : (test : ℕ → Bool) (b : ℕ) (parts : List (List ℕ)) → test b
 onto_pass test b [] h more = (not_from_true _ (and_from (test b) true h refl), tt)
 onto_pass test b (part ∷ parts) h more = (not_from_true _ (and_from (test b) (list_all test part) h (not-false _ more.0)), more.1)
 
--- they pass one that such a byte passes where it isn't that at which the text is cut
-pub parts_pass : (test within : ℕ → Bool) (c : ℕ) → ((b : ℕ) → test b ≡ true → eqb b c ≡ false → within b ≡ true)
-    → (text : List ℕ) → list_all test text ≡ true → AllByRecursion (λ part. not (list_all within part) ≡ false) (parts_at c text)
-parts_pass test within c says [] h = (refl, tt)
-parts_pass test within c says (b ∷ text) h =
+-- they pass it too
+pub parts_pass : (test : ℕ → Bool) (c : ℕ) (text : List ℕ) → list_all test text ≡ true → AllByRecursion (λ part. not (list_all test part) ≡ false) (parts_at c text)
+parts_pass test c [] h = (refl, tt)
+parts_pass test c (b ∷ text) h =
     let a = and_parts (test b) (list_all test text) h in
-    let more = parts_pass test within c says text a.1 in
+    let more = parts_pass test c text a.1 in
     elim (cases_Bool (eqb b c)) [
       | inl e ↦ rw e (refl, more)
-      | inr e ↦ rw e (onto_pass within b (parts_at c text) (says b a.0 e) more)
+      | inr e ↦ rw e (onto_pass test b (parts_at c text) a.0 more)
     ]
-
-pub printed_text : (b : ℕ) → (eqb b 10 || (nat_le 32 b && nat_le b 126)) ≡ true → eqb b 10 ≡ false → (nat_le 32 b && nat_le b 126) ≡ true
-printed_text b h other = grind (arith, nat_tests)
 
 -- The greatest lengths of names
 

@@ -9,7 +9,7 @@ use Rattle.dm_table.specs.declared.place.Place.{Place}
 use Rattle.dm_table.specs.declared.place.Part.TheVariants.{Source}
 use Rattle.dm_table.specs.Name.{is_device_name}
 use Rattle.dm_table.specs.LineBody.{IsBody}
-use Rattle.dm_table.specs.TableText.{NamedLine, line_text, Says, named_lines, HasPlaceOf, IsDescribed, AreApart, DescribesTable}
+use Rattle.dm_table.specs.TableText.{NamedLine, line_text, Says, named_lines, HasPlaceOf, IsDescribed, DifferInName, DescribesTable}
 use Rattle.dm_table.specs.CanonicalText.{ReadsBack, lines_text, table_text, placed_lines, as_table}
 use Rattle.dm_table.proofs.TableGroups.{named_of}
 
@@ -87,7 +87,7 @@ described_as : (n : ℕ) (devices : List DeviceSpec) → AllByRecursion IsDescri
 described_as n [] h = tt
 described_as n (device ∷ devices) h = (record { writable = refl; at = described_lines n device.lines device.at h.0.at }, described_as (n + length device.lines) devices h.1)
 
-apart_as : (n : ℕ) (devices : List DeviceSpec) → AreApart devices → AreApart (as_table n devices)
+apart_as : (n : ℕ) (devices : List DeviceSpec) → DifferInName devices → DifferInName (as_table n devices)
 apart_as n [] h = tt
 apart_as n (device ∷ []) h = tt
 apart_as n (device ∷ next ∷ devices) h = (h.0, apart_as (n + length device.lines) (next ∷ devices) h.1)

@@ -1,5 +1,5 @@
 -- A text of the concise form in which no check finds anything describes the devices that are read from it, and one that describes devices is read as them.
-use Rattle.std.proofs.Common.{◌≡◌, ◌⊎◌, inl, inr, ℕ, suc, ◌≤◌, Bool, true, false, not, eqb, List, [], ◌∷◌, ◌++◌, length, take, get_or, ◌-◌, None, Result, refl, sym, ap, ◌∙◌, arith}
+use Rattle.std.proofs.Common.{◌≡◌, ◌⊎◌, inl, inr, ℕ, suc, ◌≤◌, Bool, true, false, not, eqb, List, [], ◌∷◌, ◌++◌, length, take, get_or, ◌-◌, None, Result, Ok, Err, refl, sym, ap, ◌∙◌, arith}
 use Rattle.std.specs.Global.{Vec}
 use Rattle.std.specs.List.{list_all, join_with_byte, AllByRecursion}
 use Rattle.std.proofs.lemmas.Bool.{and_parts, cases_Bool, not-true, not-false, not_from_true, eqb-true}
@@ -9,12 +9,12 @@ use Rattle.dm_table.specs.declared.place.Part.TheVariants.{Source}
 use Rattle.dm_table.specs.declared.load_fault.LoadKind.TheVariants.{NotText, Syntax, Field, Name}
 use Rattle.dm_table.specs.declared.load_fault.LoadFault.{LoadFault}
 use Rattle.dm_table.specs.Fields.{parts_at, all_but_last, last_or}
-use Rattle.dm_table.specs.LoadFault.{Answers, first_fault, faults_from, row_checks}
+use Rattle.dm_table.specs.LoadFault.{Answers, first_fault, first_or, is_printed, not_text, row_checks, unless}
 use Rattle.dm_table.specs.Parsed.{IsParsed}
-use Rattle.dm_table.specs.ConciseText.{SaysDevices, DescribesConcise, lacks, without_newline, parts_of, devices_of, is_printed, is_device, has_values, has_names, concise_checks}
+use Rattle.dm_table.specs.ConciseText.{SaysDevices, DescribesConcise, lacks, without_newline, parts_of, devices_of, is_device, has_values, has_names, concise_checks}
 use Rattle.dm_table.specs.ConciseReading.{devices_from, parts_reading, read_concise}
 use Rattle.dm_table.proofs.ByteLemmas.{All-list_all, list_all-weaker}
-use Rattle.dm_table.proofs.FaultLemmas.{append-nil_both, first_fault-none, first_fault-all, faults_from-nil, faults_from-good}
+use Rattle.dm_table.proofs.FaultLemmas.{Answers-refused, append-nil_both, first_fault-none, first_fault-all, faults_from-nil, faults_from-good, unless-passed}
 use Rattle.dm_table.proofs.Parsing.{parsed}
 use Rattle.dm_table.proofs.FieldLemmas.{IsClearOf, join-parts_at, parts_at-join, all_but_last-push, last_or-push}
 use Rattle.dm_table.proofs.TableFields.{take-all_but_last, get_or-last_or}
@@ -137,7 +137,7 @@ parts_again n (text ∷ texts) (device ∷ devices) s clear =
     parts_some (join_with_byte 59 (text ∷ texts)) (join_some text texts (device_some n text device s.0)) ∙ parts_at-join 59 text texts clear
 
 abbrev checks_of : List (List ℕ) → List (List LoadFault)
-checks_of parts = faults_from Source NotText (λ device. not (is_printed device)) 1 parts ∷ row_checks Source is_device has_values has_names parts []
+checks_of parts = not_text Source parts ∷ row_checks Source is_device has_values has_names parts []
 
 pub again : (text : List ℕ) (ds : List DeviceSpec) → DescribesConcise text ds → (first_fault (concise_checks text) ≡ None) × (devices_from 1 (devices_of text) ≡ ds)
 again text ds d =
@@ -169,7 +169,20 @@ pub read_as_promised : (text : List ℕ) (answer : Result (Vec DeviceSpec) LoadF
 unfolding read_concise
 read_as_promised text answer h = parsed Source (DescribesConcise text) (concise_checks text) (devices_from 1 (devices_of text)) answer (described text) (again text) h
 
--- a text is read by its parts
-pub read_concise-parts : (text bare : List ℕ) (parts : List (List ℕ)) → bare ≡ without_newline text → parts ≡ parts_of bare → parts_reading parts ≡ read_concise text
+-- the check of the pieces between semicolons is that of the devices
+pieces_checked : (text : List ℕ) → not_text Source (parts_at 59 text) ≡ not_text Source (parts_of text)
+pieces_checked [] = refl
+pieces_checked (b ∷ text) = refl
+
+-- a text whose bytes are text is read by its parts, and any other is refused
+pub read_concise-parts : (text bare : List ℕ) (parts : List (List ℕ)) (done : Unit {0}) → bare ≡ without_newline text → parts ≡ parts_of bare → unless (first_or (not_text Source (parts_at 59 bare)) None) tt ≡ Ok done → parts_reading parts ≡ read_concise text
 unfolding read_concise
-read_concise-parts text bare parts is cut = rw (cut, is) refl
+read_concise-parts text bare parts done is cut passed =
+    let pass = rw is at (rw (pieces_checked bare) at passed) in
+    rw (cut, is) (sym (unless-passed (not_text Source (devices_of text)) (first_fault (row_checks Source is_device has_values has_names (devices_of text) [])) tt done (devices_from 1 (devices_of text)) pass).1)
+
+pub read_concise-refused : (text bare : List ℕ) (fault : LoadFault) → bare ≡ without_newline text → Answers Source (λ (done : Unit {0}). done) (Err fault) (unless (first_or (not_text Source (parts_at 59 bare)) None) tt) → Answers Source (λ (v : Vec DeviceSpec). v.items) (Err fault) (read_concise text)
+unfolding read_concise
+read_concise-refused text bare fault is refused =
+    Answers-refused Source (λ (done : Unit {0}). done) (λ (v : Vec DeviceSpec). v.items) fault (not_text Source (devices_of text)) (first_fault (row_checks Source is_device has_values has_names (devices_of text) [])) tt (devices_from 1 (devices_of text))
+    (rw is at (rw (pieces_checked bare) at refused))

@@ -1,8 +1,7 @@
 -- What is wrong with the parts of a device of the concise form, and with the device.
-use Rattle.std.proofs.Common.{◌≡◌, ◌≢◌, OnOk, ℕ, suc, ◌+◌, ◌-◌, ◌<◌, ◌≤◌, Bool, true, false, not, eqb, nat_le, ◌&&◌, ◌||◌, List, [], ◌∷◌, ◌++◌, length, take, drop, get_or, Option, Some, None, Result, Ok, Err, refl, sym, ap, subst, ◌∙◌, append_assoc, arith}
+use Rattle.std.proofs.Common.{◌≡◌, ◌≢◌, OnOk, ℕ, suc, ◌+◌, ◌-◌, ◌<◌, ◌≤◌, Bool, true, false, ◌&&◌, List, [], ◌∷◌, ◌++◌, length, take, drop, get_or, Option, Some, None, Result, Ok, Err, refl, sym, ap, subst, ◌∙◌, append_assoc, arith}
 use Rattle.std.specs.Prelude.{slice_index_or}
-use Rattle.std.specs.List.{list_all, AllByRecursion}
-use Rattle.std.specs.declared.alloc.AllocError.{AllocError}
+use Rattle.std.specs.List.{list_all}
 use Rattle.std.proofs.lemmas.Bool.{and_parts}
 use Rattle.std.proofs.lemmas.List.{take_rest, append-nil, drop_more, drop_all}
 use denote.Ref.{Bor}
@@ -10,21 +9,16 @@ use Rattle.dm_table.specs.declared.table.Line.{Line}
 use Rattle.dm_table.specs.declared.table.DeviceSpec.{DeviceSpec}
 use Rattle.dm_table.specs.declared.place.Place.{Place}
 use Rattle.dm_table.specs.declared.place.Part.TheVariants.{Source}
-use Rattle.dm_table.specs.declared.load_fault.LoadKind.TheVariants as kinds
-use Rattle.dm_table.specs.declared.load_fault.LoadFault.{LoadFault}
 use Rattle.dm_table.specs.declared.row_faults.RowFault.{RowFault}
 use Rattle.dm_table.specs.declared.row_faults.RowFault.TheVariants.{Syntax, Field, Name, Memory}
 use Rattle.dm_table.specs.declared.row_faults.FirstFaults.{FirstFaults}
 use Rattle.dm_table.specs.Fields.{texts}
 use Rattle.dm_table.specs.Name.{is_device_name}
-use Rattle.dm_table.specs.LoadFault.{faults_from, first_or, first_fault, row_checks, unless}
-use Rattle.dm_table.specs.RowFaults.{value_fault, row_fault, read_unless, Reads, no_faults, noted, noted_at, noted_rows, first_noted}
+use Rattle.dm_table.specs.RowFaults.{value_fault, row_fault, read_unless, Reads, fault_in, noted_at, first_noted}
 use Rattle.dm_table.specs.LineBody.{is_body_row, is_body, has_body_names}
-use Rattle.dm_table.specs.ConciseText.{place_of, parts_of, lacks, is_uuid, is_ro, entries, body_fields, is_printed, is_label, is_known, is_named, is_device, has_values, has_names}
-use Rattle.dm_table.specs.ConciseReading.{worse, fault_of_body, fault_of_bodies, fault_of_entries, fault_of_device, line_in, lines_in, device_of, entries_reading, device_reading, bodies_reading, with_reading, with_devices, devices_from, parts_reading}
-use Rattle.dm_table.proofs.ByteLemmas.{parts_pass}
-use Rattle.dm_table.proofs.FaultLemmas.{first_or-passed}
-use Rattle.dm_table.proofs.RowFaultLemmas.{names_true, noted_faulty, noted_none, noted_refused}
+use Rattle.dm_table.specs.ConciseText.{place_of, lacks, is_uuid, is_ro, entries, body_fields, is_label, is_known, is_named}
+use Rattle.dm_table.specs.ConciseReading.{worse, fault_of_body, fault_of_bodies, fault_of_entries, fault_of_device, line_in, lines_in, device_of, entries_reading, device_reading, bodies_reading, devices_from}
+use Rattle.dm_table.proofs.RowFaultLemmas.{names_true, read_clear}
 use Rattle.dm_table.proofs.TargetRows.{read_fault, read_value, and_false}
 
 -- The worse of two
@@ -157,54 +151,15 @@ entries_named n on_a_line (a ∷ b ∷ es) k bodies lines label h is r =
 
 -- Devices one after the other
 
-abbrev AreRead : List (List ℕ) → Type 0
-AreRead = AllByRecursion (λ text. fault_of_device text ≡ None)
-
-with_read : (ds : List DeviceSpec) (n : ℕ) (parts : List (List ℕ)) → AreRead parts → with_devices ds n parts ≡ ds ++ devices_from n parts
-with_read ds n [] h = sym (append-nil ds)
-with_read ds n (text ∷ parts) h =
-    rw h.0 (with_read (ds ++ device_of n (entries text) ∷ []) (suc n) parts h.1 ∙ append_assoc ds (device_of n (entries text) ∷ []) (devices_from (suc n) parts))
-
--- where all bytes of a text are printed, those of its parts are
-pub printed_parts : (text : List ℕ) (parts : List (List ℕ)) → parts ≡ parts_of text → is_printed text ≡ true → AllByRecursion (λ part. not (is_printed part) ≡ false) parts
-printed_parts [] parts cut h = rw cut tt
-printed_parts (byte ∷ text) parts cut h =
-    let test : ℕ → Bool = λ b. eqb b 10 || (nat_le 32 b && nat_le b 126) in
-    rw cut (parts_pass test test 59 (λ b passes other. passes) (byte ∷ text) h)
-
--- where all bytes are text, these checks are all that is left
-pub parts_after : (parts : List (List ℕ)) → None ≡ first_or (faults_from Source kinds.NotText (λ text. not (is_printed text)) 1 parts) None
-    → parts_reading parts ≡ unless (first_fault (row_checks Source is_device has_values has_names parts [])) (devices_from 1 parts)
-parts_after parts none =
-    ap (λ (found : Option LoadFault). unless found (devices_from 1 parts)) (first_or-passed (faults_from Source kinds.NotText (λ text. not (is_printed text)) 1 parts) (first_fault (row_checks Source is_device has_values has_names parts [])) (sym none))
-
-pub parts_refused : (parts : List (List ℕ)) (fault : LoadFault) → first_noted (noted_rows Source fault_of_device no_faults 1 parts) ≡ Some fault
-    → (fault.kind ≢ kinds.Memory) × (unless (first_fault (row_checks Source is_device has_values has_names parts [])) (devices_from 1 parts) ≡ Err fault)
-parts_refused parts fault h =
-    let a = noted_refused Source is_device has_values has_names parts [] fault h in
-    (a.0, ap (λ (found : Option LoadFault). unless found (devices_from 1 parts)) a.1)
-
-pub parts_taken : (parts : List (List ℕ)) → first_noted (noted_rows Source fault_of_device no_faults 1 parts) ≡ None
-    → unless (first_fault (row_checks Source is_device has_values has_names parts [])) (devices_from 1 parts) ≡ Ok (with_devices [] 1 parts)
-parts_taken parts h =
-    let a = noted_none Source is_device has_values has_names parts [] h in
-    ap (λ (found : Option LoadFault). unless found (devices_from 1 parts)) a.0 ∙ ap Ok (sym (with_read [] 1 parts a.1))
-
--- a device that is read has no fault, and one that is not has it noted, where memory is left
-pub read_faultless : (n : ℕ) (text : List ℕ) (device : DeviceSpec) → device_reading n text ≡ Ok device → fault_of_device text ≡ None
-read_faultless n text device h = (read_value (fault_of_device text) (device_of n (entries text)) device h).0
-
-left_out : (r : Result (Unit {0}) AllocError) (n : ℕ) (text : List ℕ) (devices : List DeviceSpec) (fault : RowFault) → OnOk r (fault ≢ Memory)
-    → (fault ≢ Memory → device_reading n text ≡ Err fault) → OnOk r (devices ≡ with_reading devices (device_reading n text))
-left_out (Ok x) n text devices fault other reading = rw (reading other) refl
-left_out (Err e) n text devices fault other reading = tt
-
-pub read_faulty : (r : Result (Unit {0}) AllocError) (n : ℕ) (text : List ℕ) (devices : List DeviceSpec) (old new : FirstFaults) (fault : RowFault) → OnOk r (new ≡ noted Source old n fault) → OnOk r (fault ≢ Memory)
-    → (fault ≢ Memory → device_reading n text ≡ Err fault) → OnOk r (devices ≡ with_reading devices (device_reading n text)) × OnOk r (new ≡ noted_at Source old n (fault_of_device text))
-read_faulty r n text devices old new fault is other reading = (
-  left_out r n text devices fault other reading,
-  noted_faulty r Source n (fault_of_device text) (device_of n (entries text)) old new fault is other reading,
-)
+-- one device further, where nothing is wrong so far
+pub devices_further : (parts : List (Bor (List ℕ))) (i : ℕ) (d : Bor (List ℕ)) (read : Result (Unit {0}) RowFault) (seen new : FirstFaults) (old devices : List DeviceSpec) → i < length parts → OnOk read (devices ≡ old ++ device_of (i + 1) (entries (get_or parts i d).now) ∷ []) → fault_in read ≢ Some Memory
+    → new ≡ noted_at Source seen (i + 1) (fault_in read) → (first_noted seen ≡ None → old ++ devices_from (i + 1) (texts (drop i parts)) ≡ devices_from 1 (texts parts))
+    → first_noted new ≡ None → devices ++ devices_from (i + 1 + 1) (texts (drop (i + 1) parts)) ≡ devices_from 1 (texts parts)
+devices_further parts i d read seen new old devices below taken text is so_far clear =
+    let next : drop i parts ≡ get_or parts i d ∷ drop (i + 1) parts = drop_more parts i d below in
+    let number : i + 1 + 1 ≡ suc (i + 1) = omega arith in
+    let here = read_clear read Source seen (i + 1) taken text (sym (ap first_noted is) ∙ clear) in
+    rw (number, here.0) (append_assoc old (device_of (i + 1) (entries (get_or parts i d).now) ∷ []) (devices_from (suc (i + 1)) (texts (drop (i + 1) parts))) ∙ (rw next at (so_far here.1)))
 
 -- Bodies one after the other
 

@@ -1,33 +1,37 @@
 -- What no check finds fault with describes its disks, and what describes disks no check finds fault with.
-use Rattle.std.proofs.Common.{◌≡◌, ◌≢◌, ℕ, Bool, suc, ◌+◌, ◌^◌, ◌<◌, true, false, nat_le, not, ◌&&◌, List, [], ◌∷◌, ◌++◌, length, map, Option, Some, None, Result, Ok, Err, refl, sym, ap, ◌∙◌}
+use Rattle.std.proofs.Common.{◌≡◌, ◌≢◌, ℕ, Bool, suc, ◌+◌, ◌^◌, ◌<◌, true, false, nat_le, not, ◌&&◌, List, [], ◌∷◌, ◌++◌, length, map, None, Result, Err, refl, sym, ap, ◌∙◌, append_assoc}
 use Rattle.std.specs.Global.{Vec}
 use Rattle.std.specs.Prelude.{decimal, is_some}
 use Rattle.std.specs.List.{flat_map, join_with_byte, AllByRecursion}
 use Rattle.std.proofs.lemmas.Bool.{and_from, not-false, not_from_true, lt-ltb}
+use Rattle.std.proofs.lemmas.List.{append-nil}
 use Rattle.dm_table.specs.declared.disk.Disk.{Disk}
 use Rattle.dm_table.specs.declared.place.Part.TheVariants.{Disks}
-use Rattle.dm_table.specs.declared.load_fault.LoadKind.TheVariants.{NotText, Syntax, Field, Name, Memory}
+use Rattle.dm_table.specs.declared.load_fault.LoadKind.TheVariants.{NotText, Syntax, Field, Name}
 use Rattle.dm_table.specs.declared.load_fault.LoadFault.{LoadFault}
 use Rattle.dm_table.specs.declared.row_faults.RowFault.TheVariants as rows
 use Rattle.dm_table.specs.Number.{number_of}
 use Rattle.dm_table.specs.Name.{is_disk_name}
-use Rattle.dm_table.specs.Fields.{texts, parts_at, lines_of, rest_of, lines_and_rest, fields}
-use Rattle.dm_table.specs.LoadFault.{Answers, first_or, first_fault, faults_from, unless, is_text, not_text, unended, row_checks}
+use Rattle.dm_table.specs.Fields.{texts, parts_at, lines_of, rest_of, fields}
+use Rattle.dm_table.specs.LoadFault.{Answers, first_fault, faults_from, unless, is_printed, not_text, unended, row_checks}
 use Rattle.dm_table.specs.Parsed.{IsParsed}
-use Rattle.dm_table.specs.DiskList.{disk_line, AreListed, DescribesDisks, is_pair, has_sectors, has_name, second, disk_checks, disk_fault, disk_of, disk_reading, disks_from, disks_read, read_disk_rows, read_disks}
-use Rattle.dm_table.specs.RowFaults.{no_faults, noted_rows, noted_rest, first_noted}
-use Rattle.dm_table.proofs.RowFaultLemmas.{noted_none, noted_refused}
+use Rattle.dm_table.specs.DiskList.{disk_line, AreListed, DescribesDisks, is_pair, has_sectors, has_name, second, disk_checks, disk_of, disk_reading, disks_from, read_disks}
+use Rattle.dm_table.specs.Reading.{line_checks, with_lines}
 use Rattle.dm_table.proofs.NumberLemmas.{Spells-number_of, number_of-decimal, decimal_digits, decimal_some, Some-is_some}
-use Rattle.dm_table.proofs.ByteLemmas.{list_all-both, disk_name_parts, is_text-clear, is_text-digits, digits-clear, plain-disk_name}
+use Rattle.dm_table.proofs.ByteLemmas.{is_shown, list_all-both, disk_name_parts, is_shown-clear, is_shown-digits, is_shown-printed, digits-clear, plain-disk_name}
 use Rattle.dm_table.proofs.FieldLemmas.{IsClearOf, parts_at-first, parts_at-clear, join-parts_at, lines_of-whole, parts_at-lines, lines_of-lines, rest_of-lines}
-use Rattle.dm_table.proofs.FaultLemmas.{first_or-none, first_fault-all, faults_from-nil, faults_from-good, append-nil_both, unended-nil, unless-passed}
+use Rattle.dm_table.proofs.FaultLemmas.{first_or-none, first_fault-all, faults_from-nil, faults_from-good, append-nil_both, row_checks-map, unended-nil}
 use Rattle.dm_table.proofs.Parsing.{parsed}
 use denote.Ref.{Bor}
+
+-- the disks after one more line
+abbrev with_disk : List Disk → ℕ → List ℕ → List Disk
+with_disk disks n line = disks ++ disk_of n (fields line) ∷ []
 
 -- the tests of the checks
 
 abbrev no_text : List ℕ → Bool
-no_text line = not (is_text line)
+no_text line = not (is_printed line)
 
 abbrev no_pair : List (List ℕ) → Bool
 no_pair row = not (is_pair row)
@@ -66,7 +70,7 @@ rows_listed n (row ∷ rows) numbers names = (
 pub disk_checks-none : (text : List ℕ) → first_fault (disk_checks text) ≡ None → DescribesDisks text (disks_from 1 (map fields (lines_of text)))
 disk_checks-none text h =
     let rows = map fields (lines_of text) in
-    let a = first_or-none (not_text Disks text) _ h in
+    let a = first_or-none (not_text Disks (parts_at 10 text)) _ h in
     let b = first_or-none (faults_from Disks Syntax no_pair 1 rows ++ unended Disks (length rows + 1) (rest_of text)) _ a.1 in
     let c = first_or-none (faults_from Disks Field no_number 1 rows) _ b.1 in
     let d = first_or-none (faults_from Disks Name no_name 1 rows) _ c.1 in
@@ -90,8 +94,8 @@ named : (n : ℕ) (disks : List Disk) → AreListed n disks → AreNamed disks
 named n [] listed = tt
 named n (disk ∷ disks) listed = ((listed.0.name, listed.0.len), named (suc n) disks listed.1)
 
-line_text : (disk : Disk) → is_disk_name disk.name ≡ true → disk.len < 10 ^ 19 → is_text (disk_line disk) ≡ true
-line_text disk name len = list_all-both (λ b. nat_le 32 b && nat_le b 126) disk.name (32 ∷ decimal disk.len) (plain-disk_name disk.name name).printed (is_text-digits (decimal disk.len) (decimal_digits disk.len len))
+line_text : (disk : Disk) → is_disk_name disk.name ≡ true → disk.len < 10 ^ 19 → is_shown (disk_line disk) ≡ true
+line_text disk name len = list_all-both (λ b. nat_le 32 b && nat_le b 126) disk.name (32 ∷ decimal disk.len) (plain-disk_name disk.name name).printed (is_shown-digits (decimal disk.len) (decimal_digits disk.len len))
 
 line_fields : (disk : Disk) → is_disk_name disk.name ≡ true → disk.len < 10 ^ 19 → fields (disk_line disk) ≡ disk_row disk
 line_fields disk name len =
@@ -108,13 +112,13 @@ over_lines (disk ∷ disks) = rw (over_lines disks) refl
 
 lines_clear : (disks : List Disk) → AreNamed disks → AllByRecursion (IsClearOf 10) (map disk_line disks)
 lines_clear [] h = tt
-lines_clear (disk ∷ disks) h = (is_text-clear (disk_line disk) (line_text disk h.0.0 h.0.1), lines_clear disks h.1)
+lines_clear (disk ∷ disks) h = (is_shown-clear (disk_line disk) (line_text disk h.0.0 h.0.1), lines_clear disks h.1)
 
 -- each check of the rows that disks are written as
 
 texts_pass : (disks : List Disk) → AreNamed disks → AllByRecursion (λ line. no_text line ≡ false) (map disk_line disks ++ [] ∷ [])
 texts_pass [] h = (refl, tt)
-texts_pass (disk ∷ disks) h = (not_from_true _ (line_text disk h.0.0 h.0.1), texts_pass disks h.1)
+texts_pass (disk ∷ disks) h = (not_from_true _ (is_shown-printed (disk_line disk) (line_text disk h.0.0 h.0.1)), texts_pass disks h.1)
 
 pairs_pass : (disks : List Disk) → AreNamed disks → AllByRecursion (λ row. no_pair row ≡ false) (map disk_row disks)
 pairs_pass [] h = tt
@@ -145,14 +149,14 @@ again text disks describes =
     let parts : parts_at 10 text ≡ map disk_line disks ++ [] ∷ [] = ap (parts_at 10) whole ∙ parts_at-lines (map disk_line disks) clear in
     let rows : map fields (lines_of text) ≡ map disk_row disks = ap (λ (t : List ℕ). map fields (lines_of t)) whole ∙ ap (map fields) (lines_of-lines (map disk_line disks) clear) ∙ rows_again disks names in
     let rest : rest_of text ≡ [] = ap rest_of whole ∙ rest_of-lines (map disk_line disks) clear in
-    let no_byte : not_text Disks text ≡ [] = ap (faults_from Disks NotText no_text 1) parts ∙ faults_from-good Disks NotText no_text 1 (map disk_line disks ++ [] ∷ []) (texts_pass disks names) in
+    let no_byte : not_text Disks (parts_at 10 text) ≡ [] = ap (faults_from Disks NotText no_text 1) parts ∙ faults_from-good Disks NotText no_text 1 (map disk_line disks ++ [] ∷ []) (texts_pass disks names) in
     let no_row : faults_from Disks Syntax no_pair 1 (map disk_row disks) ≡ [] = faults_from-good Disks Syntax no_pair 1 (map disk_row disks) (pairs_pass disks names) in
     let no_syntax : faults_from Disks Syntax no_pair 1 (map disk_row disks) ++ [] ≡ [] = rw no_row refl in
     let no_field : faults_from Disks Field no_number 1 (map disk_row disks) ≡ [] = faults_from-good Disks Field no_number 1 (map disk_row disks) (numbers_pass disks names) in
     let no_named : faults_from Disks Name no_name 1 (map disk_row disks) ≡ [] = faults_from-good Disks Name no_name 1 (map disk_row disks) (names_pass disks names) in
-    let same : disk_checks text ≡ checks_of (not_text Disks text) (map disk_row disks) [] =
-    ap (λ (r : List (List (List ℕ))). checks_of (not_text Disks text) r (rest_of text)) rows ∙ ap (checks_of (not_text Disks text) (map disk_row disks)) rest in (
-      ap first_fault same ∙ first_fault-all (checks_of (not_text Disks text) (map disk_row disks) []) (no_byte, (no_syntax, (no_field, (no_named, tt)))),
+    let same : disk_checks text ≡ checks_of (not_text Disks (parts_at 10 text)) (map disk_row disks) [] =
+    ap (λ (r : List (List (List ℕ))). checks_of (not_text Disks (parts_at 10 text)) r (rest_of text)) rows ∙ ap (checks_of (not_text Disks (parts_at 10 text)) (map disk_row disks)) rest in (
+      ap first_fault same ∙ first_fault-all (checks_of (not_text Disks (parts_at 10 text)) (map disk_row disks) []) (no_byte, (no_syntax, (no_field, (no_named, tt)))),
       ap (disks_from 1) rows ∙ disks_again 1 disks describes.listed,
     )
 
@@ -167,29 +171,19 @@ read_as_promised text answer h = parsed Disks (DescribesDisks text) (disk_checks
 pub DescribesDisks-unique : (text : List ℕ) (a b : List Disk) → DescribesDisks text a → DescribesDisks text b → a ≡ b
 DescribesDisks-unique text a b is_a is_b = sym (again text a is_a).1 ∙ (again text b is_b).1
 
--- a text whose bytes are all text is read by its rows and its rest
-pub read_disks-rows : (text : List ℕ) (lines : List (List ℕ)) (rest : List ℕ) → unless (first_or (not_text Disks text) None) (lines_and_rest text) ≡ Ok (lines, rest) → read_disks text ≡ read_disk_rows (map fields lines) rest
+-- Line by line
+
+-- each line adds its disk
+disks_after : (disks : List Disk) (n : ℕ) (lines : List (List ℕ)) → with_lines with_disk disks n lines ≡ disks ++ disks_from n (map fields lines)
+disks_after disks n [] = sym (append-nil disks)
+disks_after disks n (line ∷ lines) =
+    disks_after (disks ++ disk_of n (fields line) ∷ []) (suc n) lines ∙ append_assoc disks (disk_of n (fields line) ∷ []) (disks_from (suc n) (map fields lines))
+
+pub read_disks-lines : (text : List ℕ) → unless (first_fault (line_checks Disks (λ line. is_pair (fields line)) (λ line. has_sectors (fields line)) (λ line. has_name (fields line)) text)) (with_lines with_disk [] 1 (lines_of text)) ≡ read_disks text
 unfolding read_disks
-read_disks-rows text lines rest passed =
-    let own = map fields (lines_of text) in
-    let a = unless-passed (not_text Disks text) (first_fault (row_checks Disks is_pair has_sectors has_name own (rest_of text))) (lines_and_rest text) (lines, rest) (disks_from 1 own) passed in
-    a.1 ∙ ap (λ (cut : List (List ℕ) × List ℕ). read_disk_rows (map fields cut.0) cut.1) a.0
-
--- Row by row
-
-abbrev kept_faults : List (List (List ℕ)) → List ℕ → Option LoadFault
-kept_faults rows rest = first_noted (noted_rest Disks (noted_rows Disks disk_fault no_faults 1 rows) (length rows + 1) rest)
-
--- where no row has a fault, each says its disk
-each_read : (n : ℕ) (rows : List (List (List ℕ))) → AllByRecursion (λ row. disk_fault row ≡ None) rows → disks_read n rows ≡ disks_from n rows
-each_read n [] h = refl
-each_read n (row ∷ rows) h = rw (h.0, each_read (suc n) rows h.1) refl
-
-pub disk_rows_refused : (rows : List (List (List ℕ))) (rest : List ℕ) (fault : LoadFault) → kept_faults rows rest ≡ Some fault → (fault.kind ≢ Memory) × (read_disk_rows rows rest ≡ Err fault)
-disk_rows_refused rows rest fault h = let a = noted_refused Disks is_pair has_sectors has_name rows rest fault h in (a.0, rw a.1 refl)
-
-pub disk_rows_taken : (rows : List (List (List ℕ))) (rest : List ℕ) → kept_faults rows rest ≡ None → read_disk_rows rows rest ≡ Ok (disks_read 1 rows)
-disk_rows_taken rows rest h = let a = noted_none Disks is_pair has_sectors has_name rows rest h in rw (a.0, each_read 1 rows a.1) refl
+read_disks-lines text =
+    ap (λ (checks : List (List LoadFault)). unless (first_fault (not_text Disks (parts_at 10 text) ∷ checks)) (with_lines with_disk [] 1 (lines_of text))) (row_checks-map Disks is_pair has_sectors has_name fields (lines_of text) (rest_of text))
+    ∙ ap (unless (first_fault (disk_checks text))) (disks_after [] 1 (lines_of text))
 
 -- a row of another number of fields says no disk
 pub not_pair : (n : ℕ) (row : List (Bor (List ℕ))) → length row ≢ 2 → disk_reading n (texts row) ≡ Err rows.Syntax

@@ -1,7 +1,6 @@
 -- Texts cut at a byte, and put together again.
 use Rattle.std.proofs.Common.{◌≡◌, ℕ, ◌+◌, ◌-◌, ◌<◌, ◌≤◌, false, eqb, List, [], ◌∷◌, ◌++◌, length, get_or, take, drop, All, Option, Some, None, refl, sym, ap, ◌∙◌, append_assoc, arith, add-one, drop-cons}
 use Rattle.std.specs.Option.{option_to_list}
-use Rattle.std.specs.Prelude.{unwrap_or}
 use Rattle.std.specs.List.{flat_map, join_with_byte, AllByRecursion}
 use Rattle.std.proofs.lemmas.Bool.{eq-eqb, false_from_ne_true}
 use Rattle.std.proofs.lemmas.Grind.{elements, common_steps}
@@ -85,10 +84,6 @@ last_or-push d (y ∷ z ∷ xs) x = last_or-push d (z ∷ xs) x
 pub all_but_last-popped : (parts lines : List (Bor (List ℕ))) (last : Option (Bor (List ℕ))) → parts ≡ lines ++ option_to_list last → (last ≡ None → lines ≡ []) → texts lines ≡ all_but_last (texts parts)
 all_but_last-popped parts lines None popped empty = rw (popped, append-nil, empty refl) refl
 all_but_last-popped parts lines (Some slice) popped empty = sym (ap all_but_last (ap texts popped ∙ map-append _ lines (slice ∷ [])) ∙ all_but_last-push (texts lines) slice.now)
-
-pub last_or-popped : (parts lines : List (Bor (List ℕ))) (last : Option (Bor (List ℕ))) (d : Bor (List ℕ)) → parts ≡ lines ++ option_to_list last → (last ≡ None → lines ≡ []) → d.now ≡ [] → (unwrap_or last d).now ≡ last_or [] (texts parts)
-last_or-popped parts lines None d popped empty none = rw (popped, append-nil, empty refl) none
-last_or-popped parts lines (Some slice) d popped empty none = sym (ap (last_or []) (ap texts popped ∙ map-append _ lines (slice ∷ [])) ∙ last_or-push [] (texts lines) slice.now)
 
 -- Lines
 

@@ -7,12 +7,11 @@ use Rattle.std.proofs.lemmas.Fmt.{length-decimal-le}
 use Rattle.dm_table.specs.declared.request.TheConstants.{MOST_SECTORS}
 use Rattle.dm_table.specs.declared.request.Op.{Op}
 use Rattle.dm_table.specs.declared.request.Op.TheVariants.{Read, Write}
-use Rattle.dm_table.specs.LoadFault.{is_text}
 use Rattle.dm_table.specs.Name.{is_device_name}
 use Rattle.dm_table.specs.Number.{number_of}
 use Rattle.dm_table.specs.Fields.{parts_at}
 use Rattle.dm_table.specs.RequestLine.{RequestValues, IsFront, request_text, op_text}
-use Rattle.dm_table.proofs.ByteLemmas.{is_text-clear, is_text-digits, list_all-both, plain-device_name}
+use Rattle.dm_table.proofs.ByteLemmas.{is_shown, is_shown-clear, is_shown-digits, list_all-both, plain-device_name}
 use Rattle.dm_table.proofs.FieldLemmas.{IsClearOf, parts_at-first}
 use Rattle.dm_table.proofs.NumberLemmas.{Spells-number_of, decimal_digits}
 
@@ -30,18 +29,18 @@ flat op device s l = simp append_assoc
 size : (op : Op) (device : List ℕ) (s l : ℕ) → length (request_text (values_with op device s l)) ≡ 4 + length device + length (decimal s) + length (decimal l)
 size op device s l = omega (arith, ap length (flat op device s l), length-append device (32 ∷ (decimal s ++ 32 ∷ decimal l)), length-append (decimal s) (32 ∷ decimal l))
 
-op_text-is_text : (op : Op) (rest : List ℕ) → is_text rest ≡ true → is_text (op_text op ∷ 32 ∷ rest) ≡ true
-op_text-is_text Read rest h = h
-op_text-is_text Write rest h = h
+op_text-is_shown : (op : Op) (rest : List ℕ) → is_shown rest ≡ true → is_shown (op_text op ∷ 32 ∷ rest) ≡ true
+op_text-is_shown Read rest h = h
+op_text-is_shown Write rest h = h
 
 -- no byte of a request's text is a newline, and it is short
 request-clear : (op : Op) (device : List ℕ) (s l : ℕ) → is_device_name device ≡ true → s < 10 ^ 19 → l < 10 ^ 19 → IsClearOf 10 (request_text (values_with op device s l))
 request-clear op device s l named small small' =
     let ink : ℕ → Bool = λ b. nat_le 32 b && nat_le b 126 in
-    let numbers : is_text (decimal s ++ 32 ∷ decimal l) ≡ true =
-    list_all-both ink (decimal s) (32 ∷ decimal l) (is_text-digits (decimal s) (decimal_digits s small)) (is_text-digits (decimal l) (decimal_digits l small')) in
-    let all : is_text (device ++ 32 ∷ (decimal s ++ 32 ∷ decimal l)) ≡ true = list_all-both ink device (32 ∷ (decimal s ++ 32 ∷ decimal l)) (plain-device_name device named).printed numbers in
-    is_text-clear (request_text (values_with op device s l)) (ap is_text (flat op device s l) ∙ op_text-is_text op (device ++ 32 ∷ (decimal s ++ 32 ∷ decimal l)) all)
+    let numbers : is_shown (decimal s ++ 32 ∷ decimal l) ≡ true =
+    list_all-both ink (decimal s) (32 ∷ decimal l) (is_shown-digits (decimal s) (decimal_digits s small)) (is_shown-digits (decimal l) (decimal_digits l small')) in
+    let all : is_shown (device ++ 32 ∷ (decimal s ++ 32 ∷ decimal l)) ≡ true = list_all-both ink device (32 ∷ (decimal s ++ 32 ∷ decimal l)) (plain-device_name device named).printed numbers in
+    is_shown-clear (request_text (values_with op device s l)) (ap is_shown (flat op device s l) ∙ op_text-is_shown op (device ++ 32 ∷ (decimal s ++ 32 ∷ decimal l)) all)
 
 request-short : (op : Op) (device : List ℕ) (s l : ℕ) → is_device_name device ≡ true → s < 10 ^ 19 → l < 10 ^ 19 → length (request_text (values_with op device s l)) ≤ 200
 request-short op device s l named small small' =

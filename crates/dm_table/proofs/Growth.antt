@@ -5,6 +5,7 @@ use Rattle.std.proofs.lemmas.List.{take_rest, append-nil, drop-drop, length-drop
 use Rattle.dm_table.specs.DeviceIo.{since}
 use Rattle.dm_table.specs.Progress.{HasWritten, Wrote}
 use Rattle.dm_table.specs.WriteAll.{IsBeginning, IsCutShort}
+use Rattle.dm_table.proofs.Portions.{rest_after}
 
 -- what was added after a list
 pub since_is : (old new more : List ℕ) → new ≡ old ++ more → since old new ≡ more
@@ -38,35 +39,31 @@ front_cut old new bytes (byte ∷ more) at e is some = (
   sym (take-append-drop at bytes) ∙ ap (λ xs. xs ++ drop at bytes) (sym (since_is old new (take at bytes) e)) ∙ ap (λ xs. since old new ++ xs) (sym is),
 )
 
--- what is left of a rest after its first n bytes
-abbrev pub behind : List ℕ → ℕ → List ℕ
-behind rest n = take (length rest - n) (drop n rest)
-
 -- how many bytes stand before a rest of them
 abbrev pub before : List ℕ → List ℕ → ℕ
 before bytes rest = length bytes - length rest
 
-behind_len : (rest : List ℕ) (n : ℕ) → length (behind rest n) ≡ length rest - n
-behind_len rest n = ap length (take_rest rest n) ∙ length-drop n rest
+rest_after_len : (rest : List ℕ) (n : ℕ) → length (rest_after rest n) ≡ length rest - n
+rest_after_len rest n = ap length (take_rest rest n) ∙ length-drop n rest
 
-pub behind_within : (bytes rest : List ℕ) (n : ℕ) → length rest ≤ length bytes → length (behind rest n) ≤ length bytes
-behind_within bytes rest n within = let len = behind_len rest n in omega (arith, len, within)
+pub rest_after_within : (bytes rest : List ℕ) (n : ℕ) → length rest ≤ length bytes → length (rest_after rest n) ≤ length bytes
+rest_after_within bytes rest n within = let len = rest_after_len rest n in omega (arith, len, within)
 
-before_behind : (bytes rest : List ℕ) (n : ℕ) → length rest ≤ length bytes → n ≤ length rest → before bytes (behind rest n) ≡ before bytes rest + n
-before_behind bytes rest n within few = let len = behind_len rest n in omega (arith, len, within, few)
+before_rest_after : (bytes rest : List ℕ) (n : ℕ) → length rest ≤ length bytes → n ≤ length rest → before bytes (rest_after rest n) ≡ before bytes rest + n
+before_rest_after bytes rest n within few = let len = rest_after_len rest n in omega (arith, len, within, few)
 
 -- a rest of some bytes, a write further on
-pub rest_step : (bytes rest : List ℕ) (n : ℕ) → length rest ≤ length bytes → n ≤ length rest → rest ≡ drop (before bytes rest) bytes → behind rest n ≡ drop (before bytes (behind rest n)) bytes
+pub rest_step : (bytes rest : List ℕ) (n : ℕ) → length rest ≤ length bytes → n ≤ length rest → rest ≡ drop (before bytes rest) bytes → rest_after rest n ≡ drop (before bytes (rest_after rest n)) bytes
 rest_step bytes rest n within few is =
-    take_rest rest n ∙ ap (drop n) is ∙ drop-drop n (before bytes rest) bytes ∙ ap (λ at. drop at bytes) (sym (before_behind bytes rest n within few))
+    take_rest rest n ∙ ap (drop n) is ∙ drop-drop n (before bytes rest) bytes ∙ ap (λ at. drop at bytes) (sym (before_rest_after bytes rest n within few))
 
 -- the bytes before it are written then
-pub write_step : (old mid new bytes rest : List ℕ) (n : ℕ) → length rest ≤ length bytes → n ≤ length rest → rest ≡ drop (before bytes rest) bytes → mid ≡ old ++ take (before bytes rest) bytes → new ≡ mid ++ take n rest → new ≡ old ++ take (before bytes (behind rest n)) bytes
+pub write_step : (old mid new bytes rest : List ℕ) (n : ℕ) → length rest ≤ length bytes → n ≤ length rest → rest ≡ drop (before bytes rest) bytes → mid ≡ old ++ take (before bytes rest) bytes → new ≡ mid ++ take n rest → new ≡ old ++ take (before bytes (rest_after rest n)) bytes
 write_step old mid new bytes rest n within few is e f =
     let at = before bytes rest in
     f ∙ ap (λ xs. mid ++ take n xs) is ∙ ap (λ xs. xs ++ take n (drop at bytes)) e
     ∙ append_assoc old (take at bytes) (take n (drop at bytes)) ∙ ap (λ xs. old ++ xs) (sym (take-add at n bytes))
-    ∙ ap (λ at. old ++ take at bytes) (sym (before_behind bytes rest n within few))
+    ∙ ap (λ at. old ++ take at bytes) (sym (before_rest_after bytes rest n within few))
 
 -- how far some bytes are written: those before a rest of them, and nothing failed
 abbrev pub IsSent : {X : Type 0} (written waiting : X → List ℕ) (faults flushes : X → ℕ) (old new : X) (bytes rest : List ℕ) → Type 0
@@ -83,9 +80,9 @@ IsSent written waiting faults flushes old new bytes rest =
 
 -- a write further on
 pub sent_further : {X : Type 0} (written waiting : X → List ℕ) (faults flushes : X → ℕ) (old mid new : X) (bytes rest : List ℕ) (n : ℕ) → IsSent written waiting faults flushes old mid bytes rest → n ≤ length rest
-    → written new ≡ written mid ++ take n rest → waiting new ≡ waiting mid ++ take n rest → faults new ≡ faults mid + 0 → flushes new ≡ flushes mid → IsSent written waiting faults flushes old new bytes (behind rest n)
+    → written new ≡ written mid ++ take n rest → waiting new ≡ waiting mid ++ take n rest → faults new ≡ faults mid + 0 → flushes new ≡ flushes mid → IsSent written waiting faults flushes old new bytes (rest_after rest n)
 sent_further written waiting faults flushes old mid new bytes rest n so_far few more held failed flushed = record {
-  within = behind_within bytes rest n so_far.within;
+  within = rest_after_within bytes rest n so_far.within;
   rest = rest_step bytes rest n so_far.within few so_far.rest;
   written = write_step _ _ _ bytes rest n so_far.within few so_far.rest so_far.written more;
   waiting = write_step _ _ _ bytes rest n so_far.within few so_far.rest so_far.waiting held;

@@ -6,7 +6,7 @@ pub mod Parsing
 pub mod RequestLemmas
 pub mod FrontRequest
 pub mod FrontNames
-mod Portions
+pub mod Portions
 pub mod DiskLemmas
 pub mod TableGroups
 pub mod BodyRows
@@ -18,6 +18,7 @@ pub mod TargetRows
 pub mod Growth
 pub mod ProgressLaws
 pub mod RowFaultLemmas
+pub mod ReadLines
 pub mod WriteLemmas
 pub mod BlockLemmas
 pub mod CanonicalTable

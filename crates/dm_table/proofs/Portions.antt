@@ -3,18 +3,18 @@ use Rattle.std.proofs.Common.{◌≡◌, ◌≤◌, ◌+◌, ◌-◌, ◌++◌, 
 use Rattle.std.proofs.Math.Seq.{take-add}
 use Rattle.std.proofs.lemmas.List.{take_at, take_all, take-append-drop, drop-drop}
 
--- all that lies after a place
-abbrev pub behind : List ℕ → ℕ → List ℕ
-behind bytes at = take (length bytes - at) (drop at bytes)
+-- what is left of some bytes after the first of them, up to a place
+abbrev pub rest_after : List ℕ → ℕ → List ℕ
+rest_after bytes at = take (length bytes - at) (drop at bytes)
 
-pub behind_is : (bytes : List ℕ) (at : ℕ) → behind bytes at ≡ drop at bytes
-behind_is bytes at = take_all (length bytes - at) (drop at bytes) (omega (arith, length-drop at bytes))
+pub rest_after_is : (bytes : List ℕ) (at : ℕ) → rest_after bytes at ≡ drop at bytes
+rest_after_is bytes at = take_all (length bytes - at) (drop at bytes) (omega (arith, length-drop at bytes))
 
 -- the front of a slice that begins with a portion is the portion
-pub front_is : (bytes portion tail : List ℕ) (at n : ℕ) → portion ≡ take n (behind bytes at) → n ≤ length (behind bytes at)
+pub front_is : (bytes portion tail : List ℕ) (at n : ℕ) → portion ≡ take n (rest_after bytes at) → n ≤ length (rest_after bytes at)
     → take n (portion ++ tail) ≡ take n (drop at bytes)
 front_is bytes portion tail at n e fits =
-    take_at portion tail n (ap length e ∙ length-take-le n (behind bytes at) fits) ∙ e ∙ ap (λ xs. take n xs) (behind_is bytes at)
+    take_at portion tail n (ap length e ∙ length-take-le n (rest_after bytes at) fits) ∙ e ∙ ap (λ xs. take n xs) (rest_after_is bytes at)
 
 -- what was handed out grows by the portion
 pub handed_grows : (bytes given : List ℕ) (at n : ℕ) → given ≡ take n (drop at bytes) → take (at + n) bytes ≡ take at bytes ++ given

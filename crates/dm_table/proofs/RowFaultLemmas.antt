@@ -1,18 +1,17 @@
 -- Rows read once, and the checks that run over all of them one after another: the first fault is the same.
 use Rattle.std.proofs.Common.{◌≡◌, ◌≢◌, OnOk, inl, inr, ℕ, suc, ◌+◌, Bool, true, false, not, List, [], ◌∷◌, ◌++◌, length, Option, Some, None, Result, Ok, Err, refl, sym, ap, ◌∙◌, arith}
-use Rattle.std.specs.List.{AllByRecursion}
-use Rattle.std.specs.declared.alloc.AllocError.{AllocError}
-use Rattle.std.proofs.lemmas.Bool.{cases_Bool, not-false}
+use Rattle.std.specs.Global.{Vec}
+use Rattle.std.proofs.lemmas.Bool.{cases_Bool}
 use Rattle.dm_table.specs.declared.place.Part.{Part}
 use Rattle.dm_table.specs.declared.load_fault.LoadKind.TheVariants.{Syntax, Field, Name, Memory}
 use Rattle.dm_table.specs.declared.load_fault.LoadFault.{LoadFault}
 use Rattle.dm_table.specs.declared.row_faults.RowFault.{RowFault}
 use Rattle.dm_table.specs.declared.row_faults.RowFault.TheVariants as rows
 use Rattle.dm_table.specs.declared.row_faults.FirstFaults.{FirstFaults}
-use Rattle.dm_table.specs.LoadFault.{fault_at, first_or, first_fault, faults_from, row_checks, unended}
-use Rattle.dm_table.specs.RowFaults.{value_fault, row_fault, read_unless, no_faults, either, noted, noted_at, noted_rows, noted_rest, first_noted}
-use Rattle.dm_table.proofs.FaultLemmas.{append-nil_both, faults_from-nil, faults_from-text, first_fault-none, first_fault-text, text-append, unended-text}
-use Rattle.dm_table.proofs.TargetRows.{read_none}
+use Rattle.dm_table.specs.LoadFault.{Answers, fault_at, first_or, first_fault, faults_from, row_checks, unended, unless}
+use Rattle.dm_table.specs.RowFaults.{Reads, value_fault, row_fault, read_unless, fault_in, no_faults, either, noted, noted_at, noted_rows, noted_rest, first_noted}
+use Rattle.dm_table.proofs.FaultLemmas.{Answers-unless, faults_from-text, first_fault-text, text-append, unended-text}
+use Rattle.dm_table.proofs.TargetRows.{read_fault, read_none, read_value}
 
 -- one more fault of a kind, before what comes later
 either_more : (first : Option LoadFault) (fault : LoadFault) (later : Option LoadFault) → either (either first (Some fault)) later ≡ either first (Some fault)
@@ -61,7 +60,7 @@ noted_checks part is_row is_line has_names rows rest =
     let place : length rows + 1 ≡ 1 + length rows = omega arith in
     rw place (noted_all part is_row is_line has_names no_faults 1 rows rest)
 
--- What the kept faults say: one of them is no fault of memory, and none of them is one in no row
+-- What the kept faults say: none of them is of memory, and the first of them is that of the checks
 
 pub noted_refused : {X : Type 0} (part : Part) (is_row is_line has_names : X → Bool) (rows : List X) (rest : List ℕ) (fault : LoadFault)
     → first_noted (noted_rest part (noted_rows part (λ x. row_fault (is_row x) (value_fault (is_line x) (has_names x))) no_faults 1 rows) (length rows + 1) rest) ≡ Some fault
@@ -73,20 +72,15 @@ noted_refused part is_row is_line has_names rows rest fault h =
     let name = faults_from-text part Name (λ x. not (has_names x)) 1 rows (λ e. cc) in
     (first_fault-text (row_checks part is_row is_line has_names rows rest) fault (syntax, (field, (name, tt))) found, found)
 
-no_faults_in : {X : Type 0} (is_row is_line has_names : X → Bool) (rows : List X) → AllByRecursion (λ x. not (is_row x) ≡ false) rows → AllByRecursion (λ x. not (is_line x) ≡ false) rows → AllByRecursion (λ x. not (has_names x) ≡ false) rows
-    → AllByRecursion (λ x. row_fault (is_row x) (value_fault (is_line x) (has_names x)) ≡ None) rows
-no_faults_in is_row is_line has_names [] r l h = tt
-no_faults_in is_row is_line has_names (x ∷ xs) r l h =
-    (rw (not-false _ r.0, not-false _ l.0, not-false _ h.0) refl, no_faults_in is_row is_line has_names xs r.1 l.1 h.1)
-
-pub noted_none : {X : Type 0} (part : Part) (is_row is_line has_names : X → Bool) (rows : List X) (rest : List ℕ)
-    → first_noted (noted_rest part (noted_rows part (λ x. row_fault (is_row x) (value_fault (is_line x) (has_names x))) no_faults 1 rows) (length rows + 1) rest) ≡ None
-    → (first_fault (row_checks part is_row is_line has_names rows rest) ≡ None) × AllByRecursion (λ x. row_fault (is_row x) (value_fault (is_line x) (has_names x)) ≡ None) rows
-noted_none part is_row is_line has_names rows rest h =
-    let none : first_fault (row_checks part is_row is_line has_names rows rest) ≡ None = sym (noted_checks part is_row is_line has_names rows rest) ∙ h in
-    let each = first_fault-none (row_checks part is_row is_line has_names rows rest) none in
-    let syntax = append-nil_both (faults_from part Syntax (λ x. not (is_row x)) 1 rows) _ each.0 in
-    (none, no_faults_in is_row is_line has_names rows (faults_from-nil part Syntax (λ x. not (is_row x)) 1 rows syntax.0) (faults_from-nil part Field (λ x. not (is_line x)) 1 rows each.1.0) (faults_from-nil part Name (λ x. not (has_names x)) 1 rows each.1.1.0))
+-- what is read of rows one by one is what their checks and their values give
+pub rows_answer : {X Y : Type 0} (part : Part) (is_row is_line has_names : X → Bool) (rows : List X) (rest : List ℕ) (seen : FirstFaults) (values : Vec Y) (all : List Y) (answer : Result (Vec Y) LoadFault)
+    → answer ≡ unless (first_noted seen) values → seen ≡ noted_rest part (noted_rows part (λ x. row_fault (is_row x) (value_fault (is_line x) (has_names x))) no_faults 1 rows) (length rows + 1) rest
+    → (first_noted seen ≡ None → values.items ≡ all) → Answers part (λ v. v.items) answer (unless (first_fault (row_checks part is_row is_line has_names rows rest)) all)
+rows_answer {Y = Y} part is_row is_line has_names rows rest seen values all answer is kept read =
+    let noted = ap first_noted kept in
+    Answers-unless part (λ (v : Vec Y). v.items) (first_noted seen) values answer _ is
+    (λ fault found. let a = noted_refused part is_row is_line has_names rows rest fault (sym noted ∙ found) in (a.0, rw a.1 refl))
+    (λ none. let clear : first_fault (row_checks part is_row is_line has_names rows rest) ≡ None = sym (noted_checks part is_row is_line has_names rows rest) ∙ sym noted ∙ none in rw (clear, read none) refl)
 
 -- One row
 
@@ -97,9 +91,32 @@ names_true true true false h = absurd cc
 names_true true false has_names h = absurd cc
 names_true false is_line has_names h = absurd cc
 
--- a row that has a fault is noted, where memory is left
-pub noted_faulty : {X : Type 0} (r : Result (Unit {0}) AllocError) (part : Part) (n : ℕ) (found : Option RowFault) (x : X) (old new : FirstFaults) (fault : RowFault)
-    → OnOk r (new ≡ noted part old n fault) → OnOk r (fault ≢ rows.Memory) → (fault ≢ rows.Memory → read_unless found x ≡ Err fault)
-    → OnOk r (new ≡ noted_at part old n found)
-noted_faulty (Ok done) part n found x old new fault is text reading = is ∙ ap (noted_at part old n) (sym (read_none found x fault (reading text)))
-noted_faulty (Err e) part n found x old new fault is text reading = tt
+-- what was read of a row that is that of a line
+pub row_taken : {X : Type 0} (found : List (List ℕ) → Option RowFault) (value : List (List ℕ) → X) (cut row : List (List ℕ)) (x : X) → cut ≡ row → read_unless (found cut) (value cut) ≡ Ok x → (read_unless (found row) (tt {0}) ≡ Ok (tt {0})) × (x ≡ value row)
+row_taken found value cut row x is h = let a = read_value (found row) (value row) x (rw is at h) in (rw a.0 refl, sym a.1)
+
+pub row_refused : {X : Type 0} (found : List (List ℕ) → Option RowFault) (value : List (List ℕ) → X) (cut row : List (List ℕ)) (fault : RowFault) → cut ≡ row → read_unless (found cut) (value cut) ≡ Err fault → read_unless (found row) (tt {0}) ≡ Err fault
+row_refused found value cut row fault is h = read_fault (found row) (value row) (tt {0}) fault (rw is at h)
+
+-- what is wrong with a row is why it was not read, where memory is left
+pub found_read : (read : Result (Unit {0}) RowFault) (found : Option RowFault) → Reads (λ done. done) read (read_unless found tt) → fault_in read ≢ Some rows.Memory → found ≡ fault_in read
+found_read (Ok done) found reads text = (read_value found tt done reads).0
+found_read (Err fault) found reads text = read_none found tt fault (reads (λ e. text (ap Some e)))
+
+-- nothing is clear in which a fault was noted
+either_none-both : (first later : Option LoadFault) → either first later ≡ None → (first ≡ None) × (later ≡ None)
+either_none-both None later h = (refl, h)
+either_none-both (Some fault) later h = absurd cc
+
+some_noted : (first : Option LoadFault) (fault : LoadFault) → either first (Some fault) ≢ None
+some_noted first fault h = absurd (let none = (either_none-both first (Some fault) h).1 in cc)
+
+noted_some : (part : Part) (seen : FirstFaults) (n : ℕ) (fault : RowFault) → fault ≢ rows.Memory → first_noted (noted part seen n fault) ≢ None
+noted_some part seen n rows.Memory text h = text refl
+noted_some part seen n rows.Syntax text h = some_noted seen.syntax (fault_at part Syntax n) (either_none-both _ _ h).0
+noted_some part seen n rows.Field text h = some_noted seen.field (fault_at part Field n) (either_none-both _ _ (either_none-both _ _ h).1).0
+noted_some part seen n rows.Name text h = some_noted seen.name (fault_at part Name n) (either_none-both _ _ (either_none-both _ _ h).1).1
+
+pub read_clear : {P : Type 0} (read : Result (Unit {0}) RowFault) (part : Part) (seen : FirstFaults) (n : ℕ) → OnOk read P → fault_in read ≢ Some rows.Memory → first_noted (noted_at part seen n (fault_in read)) ≡ None → P × (first_noted seen ≡ None)
+read_clear (Ok done) part seen n taken text none = (taken, none)
+read_clear (Err fault) part seen n taken text none = absurd (noted_some part seen n fault (λ e. text (ap Some e)) none)

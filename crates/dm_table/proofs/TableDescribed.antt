@@ -1,5 +1,5 @@
 -- Table text in which no check finds anything describes the devices that are read from it, and text that describes devices is read as them.
-use Rattle.std.proofs.Common.{◌≡◌, ℕ, suc, ◌+◌, Bool, true, false, not, List, [], ◌∷◌, ◌++◌, length, map, None, Result, Ok, refl, ap, ◌∙◌}
+use Rattle.std.proofs.Common.{◌≡◌, ℕ, suc, ◌+◌, Bool, true, false, not, List, [], ◌∷◌, ◌++◌, length, map, None, Result, refl, ap, ◌∙◌}
 use Rattle.std.specs.Global.{Vec}
 use Rattle.std.specs.List.{AllByRecursion}
 use Rattle.std.proofs.lemmas.Bool.{not-false, not_from_true}
@@ -7,13 +7,13 @@ use Rattle.dm_table.specs.declared.table.DeviceSpec.{DeviceSpec}
 use Rattle.dm_table.specs.declared.place.Part.TheVariants.{Source}
 use Rattle.dm_table.specs.declared.load_fault.LoadKind.TheVariants.{NotText, Syntax, Field, Name}
 use Rattle.dm_table.specs.declared.load_fault.LoadFault.{LoadFault}
-use Rattle.dm_table.specs.Fields.{parts_at, all_but_last, last_or, lines_of, rest_of, lines_and_rest}
-use Rattle.dm_table.specs.LoadFault.{Answers, first_or, first_fault, faults_from, row_checks, unless, is_text, not_text, unended}
+use Rattle.dm_table.specs.Fields.{parts_at, all_but_last, last_or, lines_of, rest_of}
+use Rattle.dm_table.specs.LoadFault.{Answers, first_fault, faults_from, is_printed, not_text, unended}
 use Rattle.dm_table.specs.Parsed.{IsParsed}
 use Rattle.dm_table.specs.TableText.{NamedLine, Says, DescribesTable, named_lines, row_of, is_row, is_line, has_names, table_checks}
-use Rattle.dm_table.specs.TableReading.{named_in, named_from, joined, devices_from, rows_of, read_rows, read_table}
-use Rattle.dm_table.proofs.ByteLemmas.{is_text-clear}
-use Rattle.dm_table.proofs.FaultLemmas.{first_fault-none, first_fault-all, faults_from-nil, faults_from-good, append-nil_both, unended-nil, unless-passed}
+use Rattle.dm_table.specs.TableReading.{named_in, named_from, joined, devices_from, read_table}
+use Rattle.dm_table.proofs.ByteLemmas.{is_shown, is_shown-clear, is_shown-printed}
+use Rattle.dm_table.proofs.FaultLemmas.{first_fault-none, first_fault-all, faults_from-nil, faults_from-good, append-nil_both, unended-nil}
 use Rattle.dm_table.proofs.Parsing.{parsed}
 use Rattle.dm_table.proofs.FieldLemmas.{IsClearOf, lines_of-whole, parts_at-lines, all_but_last-push, last_or-push}
 use Rattle.dm_table.proofs.TableGroups.{lines_of_joined, each_joined, apart_joined, devices_again}
@@ -55,7 +55,7 @@ described text h =
 
 -- What lines that say something are
 
-texts_said : (n : ℕ) (ls : List (List ℕ)) (ns : List NamedLine) → Says n ls ns → AllByRecursion (λ line. is_text line ≡ true) ls
+texts_said : (n : ℕ) (ls : List (List ℕ)) (ns : List NamedLine) → Says n ls ns → AllByRecursion (λ line. is_shown line ≡ true) ls
 texts_said n [] [] s = tt
 texts_said n [] (named ∷ ns) s = absurd s
 texts_said n (line ∷ ls) [] s = absurd s
@@ -93,13 +93,13 @@ named_again n (line ∷ ls) (named ∷ ns) s =
     ap (λ (more : List NamedLine). named_in n (row_for named) ∷ more) (named_again (suc n) ls ns s.2)
     ∙ ap (λ (one : NamedLine). one ∷ ns) (line_again n named s.1)
 
-lines_clear : (ls : List (List ℕ)) → AllByRecursion (λ line. is_text line ≡ true) ls → AllByRecursion (IsClearOf 10) ls
+lines_clear : (ls : List (List ℕ)) → AllByRecursion (λ line. is_shown line ≡ true) ls → AllByRecursion (IsClearOf 10) ls
 lines_clear [] h = tt
-lines_clear (line ∷ ls) h = (is_text-clear line h.0, lines_clear ls h.1)
+lines_clear (line ∷ ls) h = (is_shown-clear line h.0, lines_clear ls h.1)
 
-texts_pass : (ls : List (List ℕ)) → AllByRecursion (λ line. is_text line ≡ true) ls → AllByRecursion (λ line. not (is_text line) ≡ false) (ls ++ [] ∷ [])
+texts_pass : (ls : List (List ℕ)) → AllByRecursion (λ line. is_shown line ≡ true) ls → AllByRecursion (λ line. not (is_printed line) ≡ false) (ls ++ [] ∷ [])
 texts_pass [] h = (refl, tt)
-texts_pass (line ∷ ls) h = (not_from_true _ h.0, texts_pass ls h.1)
+texts_pass (line ∷ ls) h = (not_from_true _ (is_shown-printed line h.0), texts_pass ls h.1)
 
 none_along : (check : List (List (List ℕ)) → List LoadFault) (rs qs : List (List (List ℕ))) → rs ≡ qs → check qs ≡ [] → check rs ≡ []
 none_along check rs qs e h = ap check e ∙ h
@@ -112,7 +112,7 @@ again text ds d =
     let lines : lines_of text ≡ d.lines = ap all_but_last parts ∙ all_but_last-push d.lines [] in
     let rest : rest_of text ≡ [] = ap (last_or []) parts ∙ last_or-push [] d.lines [] in
     let rs : rows text ≡ map row_for ns = ap (map row_of) lines ∙ rows_said 1 d.lines ns d.said in
-    let no_bytes : not_text Source text ≡ [] = ap (λ (ls : List (List ℕ)). faults_from Source NotText (λ line. not (is_text line)) 1 ls) parts ∙ faults_from-good Source NotText (λ line. not (is_text line)) 1 (d.lines ++ [] ∷ []) (texts_pass d.lines clean) in
+    let no_bytes : not_text Source (parts_at 10 text) ≡ [] = ap (not_text Source) parts ∙ faults_from-good Source NotText (λ line. not (is_printed line)) 1 (d.lines ++ [] ∷ []) (texts_pass d.lines clean) in
     let no_rows = none_along (λ r. faults_from Source Syntax (λ row. not (is_row row)) 1 r) (rows text) (map row_for ns) rs (faults_from-good Source Syntax (λ row. not (is_row row)) 1 (map row_for ns) (rows_pass 1 d.lines ns d.said)) in
     let no_lines = none_along (λ r. faults_from Source Field (λ row. not (is_line row)) 1 r) (rows text) (map row_for ns) rs (faults_from-good Source Field (λ row. not (is_line row)) 1 (map row_for ns) (lines_pass 1 d.lines ns d.said)) in
     let no_names = none_along (λ r. faults_from Source Name (λ row. not (has_names row)) 1 r) (rows text) (map row_for ns) rs (faults_from-good Source Name (λ row. not (has_names row)) 1 (map row_for ns) (all_names_pass 1 d.lines ns d.said)) in
@@ -125,10 +125,3 @@ pub read_as_promised : (text : List ℕ) (answer : Result (Vec DeviceSpec) LoadF
     → IsParsed Source (DescribesTable text) (table_checks text) answer
 unfolding read_table
 read_as_promised text answer h = parsed Source (DescribesTable text) (table_checks text) (devices_from 1 (rows text)) answer (described text) (again text) h
-
--- a text whose bytes are all text is read by its rows and its rest
-pub read_table-rows : (text : List ℕ) → unless (first_or (not_text Source text) None) (lines_and_rest text) ≡ Ok (lines_and_rest text) → read_table text ≡ read_rows (rows_of (lines_of text)) (rest_of text)
-unfolding read_table
-read_table-rows text passed =
-    let own = rows text in
-    (unless-passed (not_text Source text) (first_fault (row_checks Source is_row is_line has_names own (rest_of text))) (lines_and_rest text) (lines_and_rest text) (devices_from 1 own) passed).1

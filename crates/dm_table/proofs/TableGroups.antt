@@ -7,7 +7,7 @@ use Rattle.std.proofs.lemmas.Bool.{cases_Bool, false_from_ne_true}
 use Rattle.dm_table.specs.declared.table.Line.{Line}
 use Rattle.dm_table.specs.declared.table.DeviceSpec.{DeviceSpec}
 use Rattle.dm_table.specs.declared.place.Place.{Place}
-use Rattle.dm_table.specs.TableText.{NamedLine, named_lines, HasPlaceOf, IsDescribed, AreApart}
+use Rattle.dm_table.specs.TableText.{NamedLine, named_lines, HasPlaceOf, IsDescribed, DifferInName}
 use Rattle.dm_table.specs.TableReading.{alone, join_line, joined}
 
 -- the test of names, and what it says
@@ -55,7 +55,7 @@ pub each_joined : (ns : List NamedLine) → AllByRecursion IsDescribed (joined n
 each_joined [] = tt
 each_joined (n ∷ ns) = each_join n (joined ns) (each_joined ns)
 
-apart_join : (named : NamedLine) (ds : List DeviceSpec) → AreApart ds → AreApart (join_line named ds)
+apart_join : (named : NamedLine) (ds : List DeviceSpec) → DifferInName ds → DifferInName (join_line named ds)
 apart_join named [] h = tt
 apart_join named (d ∷ []) h = elim (cases_Bool (pointwise nat_eq named.name d.name)) [
   | inl e ↦ rw e tt
@@ -66,7 +66,7 @@ apart_join named (d ∷ next ∷ ds) h = elim (cases_Bool (pointwise nat_eq name
   | inr e ↦ rw e (other_name named.name d.name e, h)
 ]
 
-pub apart_joined : (ns : List NamedLine) → AreApart (joined ns)
+pub apart_joined : (ns : List NamedLine) → DifferInName (joined ns)
 apart_joined [] = tt
 apart_joined (n ∷ ns) = apart_join n (joined ns) (apart_joined ns)
 
@@ -92,16 +92,16 @@ device_again : (name : List ℕ) (ro : Bool) (lines : List Line) (at : Place) (r
 device_again name ro [] at rest w h other = absurd h
 device_again name ro (line ∷ lines) at rest w h other = run_joins name line lines rest other ∙ rw (w, h) refl
 
-begins_other : (device : DeviceSpec) (ds : List DeviceSpec) → AreApart (device ∷ ds) → BeginsOther device.name ds
+begins_other : (device : DeviceSpec) (ds : List DeviceSpec) → DifferInName (device ∷ ds) → BeginsOther device.name ds
 begins_other device [] h = tt
 begins_other device (d ∷ ds) h = h.0
 
-apart_rest : (device : DeviceSpec) (ds : List DeviceSpec) → AreApart (device ∷ ds) → AreApart ds
+apart_rest : (device : DeviceSpec) (ds : List DeviceSpec) → DifferInName (device ∷ ds) → DifferInName ds
 apart_rest device [] h = tt
 apart_rest device (d ∷ ds) h = h.1
 
 -- devices that are described and apart are those that their lines give
-pub devices_again : (ds : List DeviceSpec) → AllByRecursion IsDescribed ds → AreApart ds → joined (named_lines ds) ≡ ds
+pub devices_again : (ds : List DeviceSpec) → AllByRecursion IsDescribed ds → DifferInName ds → joined (named_lines ds) ≡ ds
 devices_again [] each apart = refl
 devices_again (d ∷ ds) each apart =
     let rest : joined (named_lines ds) ≡ ds = devices_again ds each.1 (apart_rest d ds apart) in

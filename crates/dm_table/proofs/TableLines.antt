@@ -1,25 +1,23 @@
--- Lines of table text added one after the other: the devices are those of all of them, where no row has a fault.
-use Rattle.std.proofs.Common.{◌≡◌, ◌≢◌, OnOk, inl, inr, ℕ, zero, suc, ◌+◌, true, false, nat_eq, List, [], ◌∷◌, ◌++◌, length, Option, Some, None, Result, Ok, Err, refl, sym, ap, ◌∙◌, append_assoc, arith}
+-- Lines of table text added one after the other: the devices are those of all of them.
+use Rattle.std.proofs.Common.{◌≡◌, OnOk, inl, inr, ℕ, zero, suc, ◌+◌, true, false, nat_eq, List, [], ◌∷◌, ◌++◌, length, Result, Ok, Err, refl, sym, ap, ◌∙◌, append_assoc, arith}
 use Rattle.std.specs.Cmp.Lexicographic.{pointwise}
 use Rattle.std.specs.Prelude.{slice_index_or, slice_set}
-use Rattle.std.specs.List.{AllByRecursion}
 use Rattle.std.proofs.lemmas.Bool.{and_parts, cases_Bool}
 use Rattle.std.proofs.lemmas.List.{append-nil}
 use Rattle.dm_table.specs.declared.table.Line.{Line}
 use Rattle.dm_table.specs.declared.table.DeviceSpec.{DeviceSpec}
 use Rattle.dm_table.specs.declared.place.Part.TheVariants.{Source}
-use Rattle.dm_table.specs.declared.load_fault.LoadKind.TheVariants.{Memory}
-use Rattle.dm_table.specs.declared.load_fault.LoadFault.{LoadFault}
-use Rattle.dm_table.specs.declared.row_faults.RowFault.{RowFault}
-use Rattle.dm_table.specs.declared.row_faults.FirstFaults.{FirstFaults}
-use Rattle.dm_table.specs.declared.row_faults.RowFault.TheVariants as rows
 use Rattle.std.specs.declared.alloc.AllocError.{AllocError}
 use Rattle.dm_table.specs.Name.{is_device_name}
-use Rattle.dm_table.specs.RowFaults.{no_faults, noted_at, noted_rows, noted_rest, first_noted}
+use Rattle.dm_table.specs.declared.load_fault.LoadFault.{LoadFault}
+use Rattle.dm_table.specs.Fields.{parts_at, lines_of, rest_of}
+use Rattle.dm_table.specs.LoadFault.{first_fault, not_text, unless}
+use Rattle.dm_table.specs.Reading.{line_checks, with_lines}
 use Rattle.dm_table.specs.LineBody.{has_body_names}
-use Rattle.dm_table.specs.TableText.{NamedLine, name_in, row_of, is_row, is_line, has_names}
-use Rattle.dm_table.specs.TableReading.{named_in, named_from, alone, join_line, joined, add_line, fault_of_row, row_reading, with_reading, with_rows, rows_of, read_rows}
-use Rattle.dm_table.proofs.RowFaultLemmas.{names_true, noted_none, noted_refused}
+use Rattle.dm_table.specs.TableText.{NamedLine, name_in, row_of, is_row, is_line, has_names, table_checks}
+use Rattle.dm_table.specs.TableReading.{named_in, named_from, alone, join_line, joined, add_line, fault_of_row, row_reading, rows_of, read_table}
+use Rattle.dm_table.proofs.FaultLemmas.{row_checks-map}
+use Rattle.dm_table.proofs.RowFaultLemmas.{names_true}
 use Rattle.dm_table.proofs.TableGroups.{same_name, is_same_name, other_name, is_other_name}
 use Rattle.dm_table.proofs.TargetRows.{read_value}
 
@@ -39,7 +37,7 @@ pub add_same : (r : Result (Unit {0}) AllocError) (ds : List DeviceSpec) (n : �
 add_same (Ok x) ds n d lines named len last same added = rw added (set_last ds n d named len (sym last) same)
 add_same (Err e) ds n d lines named len last same added = tt
 
--- and one that comes behind it
+-- and one that comes after it
 pub add_other : (ds : List DeviceSpec) (n : ℕ) (d : DeviceSpec) (named : NamedLine) → n + 1 ≡ length ds → d ≡ slice_index_or ds n d → pointwise nat_eq named.name d.name ≡ false
     → slice_set ds n (record d { lines = d.lines }) ++ alone named ∷ [] ≡ add_line ds named
 add_other [] n d named len last other = absurd (omega arith)
@@ -81,53 +79,27 @@ joined_more : (ns : List NamedLine) (named : NamedLine) → add_line (joined ns)
 joined_more [] named = refl
 joined_more (one ∷ ns) named = add_join one (joined ns) named ∙ ap (join_line one) (joined_more ns named)
 
--- Rows without faults
+-- Lines one after the other
 
-abbrev AreRead : List (List (List ℕ)) → Type 0
-AreRead = AllByRecursion (λ row. fault_of_row row ≡ None)
+-- the devices after one more line
+abbrev with_named : List DeviceSpec → ℕ → List ℕ → List DeviceSpec
+with_named devices n line = add_line devices (named_in n (row_of line))
 
-with_read : (ns : List NamedLine) (n : ℕ) (rows : List (List (List ℕ))) → AreRead rows → with_rows (joined ns) n rows ≡ joined (ns ++ named_from n rows)
-with_read ns n [] h = ap joined (sym (append-nil ns))
-with_read ns n (row ∷ rows) h =
-    rw (h.0, joined_more ns (named_in n row)) (with_read (ns ++ named_in n row ∷ []) (suc n) rows h.1 ∙ ap joined (append_assoc ns (named_in n row ∷ []) (named_from (suc n) rows)))
+lines_joined : (ns : List NamedLine) (n : ℕ) (lines : List (List ℕ)) → with_lines with_named (joined ns) n lines ≡ joined (ns ++ named_from n (rows_of lines))
+lines_joined ns n [] = ap joined (sym (append-nil ns))
+lines_joined ns n (line ∷ lines) =
+    rw (joined_more ns (named_in n (row_of line))) (lines_joined (ns ++ named_in n (row_of line) ∷ []) (suc n) lines ∙ ap joined (append_assoc ns (named_in n (row_of line) ∷ []) (named_from (suc n) (rows_of lines))))
 
-abbrev kept_faults : List (List (List ℕ)) → List ℕ → Option LoadFault
-kept_faults rows rest = first_noted (noted_rest Source (noted_rows Source fault_of_row no_faults 1 rows) (length rows + 1) rest)
+pub read_table-lines : (text : List ℕ) → unless (first_fault (line_checks Source (λ line. is_row (row_of line)) (λ line. is_line (row_of line)) (λ line. has_names (row_of line)) text)) (with_lines with_named [] 1 (lines_of text)) ≡ read_table text
+unfolding read_table
+read_table-lines text =
+    ap (λ (checks : List (List LoadFault)). unless (first_fault (not_text Source (parts_at 10 text) ∷ checks)) (with_lines with_named [] 1 (lines_of text))) (row_checks-map Source is_row is_line has_names row_of (lines_of text) (rest_of text))
+    ∙ ap (unless (first_fault (table_checks text))) (lines_joined [] 1 (lines_of text))
 
--- what is read row by row is what the checks and the rows give
-pub rows_refused : (rows : List (List (List ℕ))) (rest : List ℕ) (fault : LoadFault) → kept_faults rows rest ≡ Some fault → (fault.kind ≢ Memory) × (read_rows rows rest ≡ Err fault)
-rows_refused rows rest fault h = let a = noted_refused Source is_row is_line has_names rows rest fault h in (a.0, rw a.1 refl)
-
-pub rows_taken : (rows : List (List (List ℕ))) (rest : List ℕ) → kept_faults rows rest ≡ None → read_rows rows rest ≡ Ok (with_rows [] 1 rows)
-rows_taken rows rest h = let a = noted_none Source is_row is_line has_names rows rest h in rw a.0 (ap Ok (sym (with_read [] 1 rows a.1)))
-
--- a row that is read has no fault, and its name is one of a device
-pub read_faultless : (n : ℕ) (row : List (List ℕ)) (named : NamedLine) → row_reading n row ≡ Ok named → fault_of_row row ≡ None
-read_faultless n row named h = (read_value (fault_of_row row) (named_in n row) named h).0
-
--- and one that has a fault is noted, where memory is left
-pub read_faulty : (r : Result (Unit {0}) AllocError) (n : ℕ) (row : List (List ℕ)) (devices : List DeviceSpec) (fault : RowFault) → OnOk r (fault ≢ rows.Memory)
-    → (fault ≢ rows.Memory → row_reading n row ≡ Err fault) → OnOk r (devices ≡ with_reading devices (row_reading n row))
-read_faulty (Ok x) n row devices fault text reading = let faulty : row_reading n row ≡ Err fault = reading text in rw faulty refl
-read_faulty (Err e) n row devices fault text reading = tt
-
--- a fact is one at a success
-pub on_ok : {T E : Type 0} (r : Result T E) (P : Type 0) → P → OnOk r P
-on_ok (Ok x) P fact = fact
-on_ok (Err e) P fact = tt
-
+-- the name of a row that is read is one of a device
 pub read_named : (n : ℕ) (row : List (List ℕ)) (named : NamedLine) → row_reading n row ≡ Ok named → is_device_name named.name ≡ true
 read_named n [] named h = absurd cc
 read_named n (label ∷ fs) named h =
     let a = read_value (fault_of_row (label ∷ fs)) (named_in n (label ∷ fs)) named h in
     let b = and_parts (is_device_name (name_in label)) (has_body_names fs) (names_true (is_row (label ∷ fs)) (is_line (label ∷ fs)) (has_names (label ∷ fs)) a.0) in
     rw (← a.1) b.0
-
--- a line that was read, and those that are left
-pub devices_left : (lines more : List (List ℕ)) (line : List ℕ) (n m : ℕ) (row : List (List ℕ)) (devices new all : List DeviceSpec) → lines ≡ line ∷ more → m ≡ suc n → row ≡ row_of line → new ≡ with_reading devices (row_reading n row)
-    → with_rows devices n (rows_of lines) ≡ all → with_rows new m (rows_of more) ≡ all
-devices_left lines more line n m row devices new all is_first is_next is_row is_read so_far = rw (is_next, is_read, is_row) (rw is_first at so_far)
-
-pub faults_left : (lines more : List (List ℕ)) (line : List ℕ) (n m : ℕ) (row : List (List ℕ)) (seen new all : FirstFaults) → lines ≡ line ∷ more → m ≡ suc n → row ≡ row_of line → new ≡ noted_at Source seen n (fault_of_row row)
-    → noted_rows Source fault_of_row seen n (rows_of lines) ≡ all → noted_rows Source fault_of_row new m (rows_of more) ≡ all
-faults_left lines more line n m row seen new all is_first is_next is_row is_read so_far = rw (is_next, is_read, is_row) (rw is_first at so_far)

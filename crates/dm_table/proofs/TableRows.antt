@@ -7,11 +7,10 @@ use Rattle.dm_table.specs.declared.place.Place.{Place}
 use Rattle.dm_table.specs.declared.place.Part.TheVariants.{Source}
 use Rattle.dm_table.specs.Name.{is_device_name}
 use Rattle.dm_table.specs.Fields.{all_but_last, last_or, fields}
-use Rattle.dm_table.specs.LoadFault.{is_text}
 use Rattle.dm_table.specs.LineBody.{is_body_row, has_body_names}
 use Rattle.dm_table.specs.TableText.{NamedLine, line_text, Writes, IsSaid, without_last_space, row_of, is_label, name_in, is_row, is_line, has_names}
 use Rattle.dm_table.specs.TableReading.{named_in}
-use Rattle.dm_table.proofs.ByteLemmas.{list_all-weaker, list_all-both}
+use Rattle.dm_table.proofs.ByteLemmas.{is_shown, list_all-weaker, list_all-both}
 use Rattle.dm_table.proofs.FieldLemmas.{parts_at-first, parts_at-clear, join-parts_at, all_but_last-push, last_or-push}
 use Rattle.dm_table.proofs.BodyRows.{body_fields, body_joined, body_again, body_said, is_ink, IsInked, ink_clear, ink_text, name_inked, body_inked, body_row_passes, body_passes, body_names_pass}
 use Rattle.dm_table.proofs.BodyRows as body
@@ -140,17 +139,17 @@ row_written n text named w h =
       | inr e ↦ ap row_of (e ∙ ap (λ (t : List ℕ). t ++ 32 ∷ []) (sym (line_joined named))) ∙ row_kept_spaced (label_for named) (body_fields named.line) inked
     ]
 
-joined_text : (f : List ℕ) (fs : List (List ℕ)) → AllByRecursion IsInked (f ∷ fs) → is_text (join_with_byte 32 (f ∷ fs)) ≡ true
+joined_text : (f : List ℕ) (fs : List (List ℕ)) → AllByRecursion IsInked (f ∷ fs) → is_shown (join_with_byte 32 (f ∷ fs)) ≡ true
 joined_text f [] h = list_all-weaker is_ink _ ink_text f h.0.1
 joined_text f (g ∷ fs) h = list_all-both _ f (32 ∷ join_with_byte 32 (g ∷ fs)) (list_all-weaker is_ink _ ink_text f h.0.1) (joined_text g fs h.1)
 
--- and is text
-pub text_written : (n : ℕ) (text : List ℕ) (named : NamedLine) → Writes text named → IsSaid n named → is_text text ≡ true
+-- and its bytes are shown
+pub text_written : (n : ℕ) (text : List ℕ) (named : NamedLine) → Writes text named → IsSaid n named → is_shown text ≡ true
 text_written n text named w h =
-    let clean : is_text (line_text named) ≡ true = ap is_text (sym (line_joined named)) ∙ joined_text (label_for named) (body_fields named.line) (row_inked n named h) in
+    let clean : is_shown (line_text named) ≡ true = ap is_shown (sym (line_joined named)) ∙ joined_text (label_for named) (body_fields named.line) (row_inked n named h) in
     elim w [
-      | inl e ↦ ap is_text e ∙ clean
-      | inr e ↦ ap is_text e ∙ list_all-both _ (line_text named) (32 ∷ []) clean refl
+      | inl e ↦ ap is_shown e ∙ clean
+      | inr e ↦ ap is_shown e ∙ list_all-both _ (line_text named) (32 ∷ []) clean refl
     ]
 
 -- The row of a line passes the tests

@@ -1,18 +1,17 @@
 -- How a device of the concise form is read, for the functions that the public call stands on.
-use Rattle.std.specs.Prelude.{ℕ, suc, Bool, not, ◌&&◌, List, [], ◌∷◌, ◌++◌, map, drop, Option, Some, None, Result, Ok, Err}
+use Rattle.std.specs.Prelude.{ℕ, suc, Bool, ◌&&◌, List, [], ◌∷◌, map, drop, Option, Some, None, Result}
 use Rattle.dm_table.specs.declared.table.Line.{Line}
 use Rattle.dm_table.specs.declared.table.DeviceSpec.{DeviceSpec}
 use Rattle.dm_table.specs.declared.place.Place.{Place}
 use Rattle.dm_table.specs.declared.place.Part.TheVariants.{Source}
-use Rattle.dm_table.specs.declared.load_fault.LoadKind.TheVariants as kinds
 use Rattle.dm_table.specs.declared.load_fault.LoadFault.{LoadFault}
 use Rattle.dm_table.specs.declared.row_faults.RowFault.{RowFault}
 use Rattle.dm_table.specs.declared.row_faults.RowFault.TheVariants.{Syntax, Field, Name}
-use Rattle.dm_table.specs.LoadFault.{faults_from, first_fault, row_checks, unless}
+use Rattle.dm_table.specs.LoadFault.{first_fault, row_checks, unless}
 use Rattle.dm_table.specs.RowFaults.{value_fault, row_fault, read_unless}
 use Rattle.dm_table.specs.LineBody.{is_body_row, is_body, has_body_names}
 use Rattle.dm_table.specs.LineReading.{body_in}
-use Rattle.dm_table.specs.ConciseText.{place_of, is_ro, entries, body_fields, is_printed, is_label, is_known, is_named, is_device, has_values, has_names, devices_of, concise_checks}
+use Rattle.dm_table.specs.ConciseText.{place_of, is_ro, entries, body_fields, is_label, is_known, is_named, is_device, has_values, has_names, devices_of, concise_checks}
 
 -- of two faults, the one whose check runs first
 abbrev pub worse : Option RowFault → Option RowFault → Option RowFault
@@ -61,23 +60,14 @@ entries_reading n on_a_line entries = read_unless (fault_of_entries on_a_line en
 abbrev pub device_reading : ℕ → List ℕ → Result DeviceSpec RowFault
 device_reading n text = read_unless (fault_of_device text) (device_of n (entries text))
 
--- devices after one more was read, and after all were, numbered from n
-abbrev pub with_reading : List DeviceSpec → Result DeviceSpec RowFault → List DeviceSpec
-with_reading devices (Ok device) = devices ++ device ∷ []
-with_reading devices (Err fault) = devices
-
-abbrev pub with_devices : List DeviceSpec → ℕ → List (List ℕ) → List DeviceSpec
-with_devices devices n [] = devices
-with_devices devices n (text ∷ texts) = with_devices (with_reading devices (device_reading n text)) (suc n) texts
-
 -- the devices of texts, numbered from n
 abbrev pub devices_from : ℕ → List (List ℕ) → List DeviceSpec
 devices_from n [] = []
 devices_from n (text ∷ texts) = device_of n (entries text) ∷ devices_from (suc n) texts
 
--- the devices of parts, or the fault of their checks
+-- the devices of parts whose bytes are text, or the fault of their checks
 abbrev pub parts_reading : List (List ℕ) → Result (List DeviceSpec) LoadFault
-parts_reading parts = unless (first_fault (faults_from Source kinds.NotText (λ device. not (is_printed device)) 1 parts ∷ row_checks Source is_device has_values has_names parts [])) (devices_from 1 parts)
+parts_reading parts = unless (first_fault (row_checks Source is_device has_values has_names parts [])) (devices_from 1 parts)
 
 -- the devices of a text, or the fault of its checks
 unfoldable pub read_concise : List ℕ → Result (List DeviceSpec) LoadFault

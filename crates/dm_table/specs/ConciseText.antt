@@ -6,12 +6,11 @@ use Rattle.dm_table.specs.declared.table.Line.{Line}
 use Rattle.dm_table.specs.declared.table.DeviceSpec.{DeviceSpec}
 use Rattle.dm_table.specs.declared.place.Place.{Place}
 use Rattle.dm_table.specs.declared.place.Part.TheVariants.{Source}
-use Rattle.dm_table.specs.declared.load_fault.LoadKind.TheVariants.{NotText}
 use Rattle.dm_table.specs.declared.load_fault.LoadFault.{LoadFault}
 use Rattle.dm_table.specs.Name.{is_device_byte, is_device_name}
 use Rattle.dm_table.specs.Number.{number_of}
 use Rattle.dm_table.specs.Fields.{parts_at, all_but_last, last_or}
-use Rattle.dm_table.specs.LoadFault.{faults_from, row_checks}
+use Rattle.dm_table.specs.LoadFault.{not_text, row_checks}
 use Rattle.dm_table.specs.LineBody.{body_text, IsBody, is_body_row, is_body, has_body_names}
 use Rattle.dm_table.specs.TableText.{row_of}
 
@@ -111,10 +110,6 @@ without_first_space fields = fields
 abbrev pub body_fields : List ℕ → List (List ℕ)
 body_fields text = without_first_space (row_of text)
 
--- bytes from 0x20 to 0x7E, and newlines
-abbrev pub is_printed : List ℕ → Bool
-is_printed text = list_all (λ b. b == 10 || (nat_le 32 b && nat_le b 126)) text
-
 -- four entries without a space, and at least one more
 abbrev pub is_label : List (List ℕ) → Bool
 is_label (name ∷ uuid ∷ minor ∷ flags ∷ body ∷ bodies) = lacks 32 name && (lacks 32 uuid && (lacks 32 minor && lacks 32 flags))
@@ -150,4 +145,4 @@ has_names text = is_named (entries text) && list_all (λ body. has_body_names (b
 abbrev pub concise_checks : List ℕ → List (List LoadFault)
 concise_checks text =
     let devices = devices_of text in
-    faults_from Source NotText (λ device. not (is_printed device)) 1 devices ∷ row_checks Source is_device has_values has_names devices []
+    not_text Source devices ∷ row_checks Source is_device has_values has_names devices []

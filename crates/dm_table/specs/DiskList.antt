@@ -1,12 +1,12 @@
 -- Disk lists: a line NAME SECTORS for each disk.
-use Rattle.std.specs.Prelude.{◌≡◌, ℕ, suc, ◌^◌, ◌<◌, Bool, true, false, ◌&&◌, List, [], ◌∷◌, ◌++◌, length, nat_lt, decimal, is_some, unwrap_or, map, Option, Result, Ok, Err}
+use Rattle.std.specs.Prelude.{◌≡◌, ℕ, suc, ◌^◌, ◌<◌, Bool, true, false, ◌&&◌, List, [], ◌∷◌, ◌++◌, length, nat_lt, decimal, is_some, unwrap_or, map, Option, Result}
 use Rattle.std.specs.List.{flat_map}
 use Rattle.dm_table.specs.declared.disk.Disk.{Disk}
 use Rattle.dm_table.specs.declared.place.Part.TheVariants.{Disks}
 use Rattle.dm_table.specs.declared.load_fault.LoadFault.{LoadFault}
 use Rattle.dm_table.specs.Name.{is_disk_name}
 use Rattle.dm_table.specs.Number.{number_of}
-use Rattle.dm_table.specs.Fields.{fields, lines_of, rest_of}
+use Rattle.dm_table.specs.Fields.{fields, parts_at, lines_of, rest_of}
 use Rattle.dm_table.specs.declared.row_faults.RowFault.{RowFault}
 use Rattle.dm_table.specs.RowFaults.{read_unless, row_fault, value_fault}
 use Rattle.dm_table.specs.LoadFault.{first_fault, not_text, row_checks, unless}
@@ -57,7 +57,7 @@ has_name row = is_disk_name (first row)
 
 -- the checks of a list, in their order
 abbrev pub disk_checks : List ℕ → List (List LoadFault)
-disk_checks text = not_text Disks text ∷ row_checks Disks is_pair has_sectors has_name (map fields (lines_of text)) (rest_of text)
+disk_checks text = not_text Disks (parts_at 10 text) ∷ row_checks Disks is_pair has_sectors has_name (map fields (lines_of text)) (rest_of text)
 
 -- How rows are read, for the functions that the public call stands on
 
@@ -69,25 +69,12 @@ abbrev pub disks_from : ℕ → List (List (List ℕ)) → List Disk
 disks_from n [] = []
 disks_from n (row ∷ rows) = disk_of n row ∷ disks_from (suc n) rows
 
--- what is wrong with a row, what it says, and the disk where it says one
+-- what is wrong with a row, and what it says
 abbrev pub disk_fault : List (List ℕ) → Option RowFault
 disk_fault row = row_fault (is_pair row) (value_fault (has_sectors row) (has_name row))
 
 abbrev pub disk_reading : ℕ → List (List ℕ) → Result Disk RowFault
 disk_reading n row = read_unless (disk_fault row) (disk_of n row)
-
-abbrev pub disk_in : Result Disk RowFault → List Disk
-disk_in (Ok disk) = disk ∷ []
-disk_in (Err fault) = []
-
--- the disks of the rows that say one, numbered from n
-abbrev pub disks_read : ℕ → List (List (List ℕ)) → List Disk
-disks_read n [] = []
-disks_read n (row ∷ rows) = disk_in (disk_reading n row) ++ disks_read (suc n) rows
-
--- the disks of rows, or the fault of their checks
-abbrev pub read_disk_rows : List (List (List ℕ)) → List ℕ → Result (List Disk) LoadFault
-read_disk_rows rows rest = unless (first_fault (row_checks Disks is_pair has_sectors has_name rows rest)) (disks_from 1 rows)
 
 -- the disks of a text, or the fault of its checks
 unfoldable pub read_disks : List ℕ → Result (List Disk) LoadFault

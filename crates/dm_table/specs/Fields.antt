@@ -1,7 +1,6 @@
 -- Texts cut at a byte: lines at newlines, fields at spaces.
 use Rattle.std.specs.Prelude.{ℕ, ◌==◌, List, [], ◌∷◌, map}
 use Rattle.std.specs.List.{slice_split}
-use Rattle.dm_table.specs.declared.fields.Lines.{Lines}
 use denote.Ref.{Bor}
 
 -- what slices point to
@@ -31,13 +30,6 @@ lines_of text = all_but_last (parts_at 10 text)
 -- what stands after the last newline
 abbrev pub rest_of : List ℕ → List ℕ
 rest_of text = last_or [] (parts_at 10 text)
-
--- the lines and the rest of a text, and those of a text that was cut
-abbrev pub lines_and_rest : List ℕ → List (List ℕ) × List ℕ
-lines_and_rest text = (lines_of text, rest_of text)
-
-abbrev pub cut_text : Lines → List (List ℕ) × List ℕ
-cut_text cut = (texts cut.lines.items, cut.rest.now)
 
 -- the fields of a line, at single spaces
 abbrev pub fields : List ℕ → List (List ℕ)

@@ -5,6 +5,7 @@ pub mod Fields
 pub mod Gathered
 pub mod LoadFault
 pub mod Parsed
+pub mod Reading
 pub mod LoadMessage
 pub mod DiskList
 pub mod RowFaults

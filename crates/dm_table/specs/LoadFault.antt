@@ -1,7 +1,6 @@
 -- Checks in a fixed order, and the one fault that is returned: the terms in which every check of a load is stated.
-use Rattle.std.specs.Prelude.{◌≡◌, ◌≢◌, ℕ, suc, ◌+◌, Bool, not, ◌&&◌, nat_le, List, [], ◌∷◌, ◌++◌, length, Option, Some, None, Result, Ok, Err, if◌then◌else◌}
+use Rattle.std.specs.Prelude.{◌≡◌, ◌≢◌, ℕ, suc, ◌+◌, ◌==◌, Bool, not, ◌&&◌, ◌||◌, nat_le, List, [], ◌∷◌, ◌++◌, length, Option, Some, None, Result, Ok, Err, if◌then◌else◌}
 use Rattle.std.specs.List.{list_all}
-use Rattle.dm_table.specs.Fields.{parts_at}
 use Rattle.dm_table.specs.declared.place.Part.{Part}
 use Rattle.dm_table.specs.declared.place.Place.{Place}
 use Rattle.dm_table.specs.declared.load_fault.LoadKind.{LoadKind}
@@ -53,13 +52,13 @@ Answers part view (Err fault) reading = (fault.kind ≡ Memory → IsMemoryFault
 
 -- The checks that texts share
 
--- bytes from 0x20 to 0x7E
-abbrev pub is_text : List ℕ → Bool
-is_text line = list_all (λ b. nat_le 32 b && nat_le b 126) line
+-- bytes from 0x20 to 0x7E, and newlines
+abbrev pub is_printed : List ℕ → Bool
+is_printed text = list_all (λ b. b == 10 || (nat_le 32 b && nat_le b 126)) text
 
--- a byte of a line that is no text, also in a rest that no newline ends
-abbrev pub not_text : Part → List ℕ → List LoadFault
-not_text part text = faults_from part NotText (λ line. not (is_text line)) 1 (parts_at 10 text)
+-- the pieces that a text is cut into, as its lines, that have another byte
+abbrev pub not_text : Part → List (List ℕ) → List LoadFault
+not_text part pieces = faults_from part NotText (λ piece. not (is_printed piece)) 1 pieces
 
 -- a rest that no newline ends, as line n
 abbrev pub unended : Part → ℕ → List ℕ → List LoadFault

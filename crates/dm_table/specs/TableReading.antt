@@ -1,5 +1,5 @@
 -- How a row of table text is read, for the functions that the public call stands on.
-use Rattle.std.specs.Prelude.{ℕ, suc, Bool, true, false, List, [], ◌∷◌, ◌++◌, map, nat_eq, Option, Result, Ok, Err, if◌then◌else◌}
+use Rattle.std.specs.Prelude.{ℕ, suc, Bool, true, false, List, [], ◌∷◌, ◌++◌, map, nat_eq, Option, Result, if◌then◌else◌}
 use Rattle.std.specs.Cmp.Lexicographic.{pointwise}
 use Rattle.dm_table.specs.declared.table.Line.{Line}
 use Rattle.dm_table.specs.declared.table.DeviceSpec.{DeviceSpec}
@@ -8,7 +8,7 @@ use Rattle.dm_table.specs.declared.load_fault.LoadFault.{LoadFault}
 use Rattle.dm_table.specs.declared.row_faults.RowFault.{RowFault}
 use Rattle.dm_table.specs.declared.table_row.Row.{Row}
 use Rattle.dm_table.specs.Fields.{lines_of}
-use Rattle.dm_table.specs.LoadFault.{first_fault, row_checks, unless}
+use Rattle.dm_table.specs.LoadFault.{first_fault, unless}
 use Rattle.dm_table.specs.RowFaults.{value_fault, row_fault, read_unless}
 use Rattle.dm_table.specs.LineReading.{body_in}
 use Rattle.dm_table.specs.TableText.{NamedLine, name_in, row_of, is_row, is_line, has_names, table_checks}
@@ -80,22 +80,9 @@ fault_of_row row = row_fault (is_row row) (value_fault (is_line row) (has_names 
 abbrev pub row_reading : ℕ → List (List ℕ) → Result NamedLine RowFault
 row_reading n row = read_unless (fault_of_row row) (named_in n row)
 
--- devices after a row was read, as line number n, and after all rows were, numbered from n
-abbrev pub with_reading : List DeviceSpec → Result NamedLine RowFault → List DeviceSpec
-with_reading devices (Ok named) = add_line devices named
-with_reading devices (Err fault) = devices
-
-abbrev pub with_rows : List DeviceSpec → ℕ → List (List (List ℕ)) → List DeviceSpec
-with_rows devices n [] = devices
-with_rows devices n (row ∷ rows) = with_rows (with_reading devices (row_reading n row)) (suc n) rows
-
 -- the devices of rows, whose lines are numbered from n
 abbrev pub devices_from : ℕ → List (List (List ℕ)) → List DeviceSpec
 devices_from n rows = joined (named_from n rows)
-
--- the devices of rows, or the fault of their checks
-abbrev pub read_rows : List (List (List ℕ)) → List ℕ → Result (List DeviceSpec) LoadFault
-read_rows rows rest = unless (first_fault (row_checks Source is_row is_line has_names rows rest)) (devices_from 1 rows)
 
 -- the devices of a text, or the fault of its checks
 unfoldable pub read_table : List ℕ → Result (List DeviceSpec) LoadFault

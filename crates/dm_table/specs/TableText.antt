@@ -7,7 +7,7 @@ use Rattle.dm_table.specs.declared.place.Place.{Place}
 use Rattle.dm_table.specs.declared.place.Part.TheVariants.{Source}
 use Rattle.dm_table.specs.declared.load_fault.LoadFault.{LoadFault}
 use Rattle.dm_table.specs.Name.{is_device_name}
-use Rattle.dm_table.specs.Fields.{fields, all_but_last, last_or, lines_of, rest_of}
+use Rattle.dm_table.specs.Fields.{fields, parts_at, all_but_last, last_or, lines_of, rest_of}
 use Rattle.dm_table.specs.LoadFault.{not_text, row_checks}
 use Rattle.dm_table.specs.LineBody.{body_text, IsBody, is_body_row, is_body, has_body_names}
 
@@ -53,10 +53,10 @@ pub record IsDescribed (device : DeviceSpec) : Type 0 where
   pub at : HasPlaceOf device.lines device.at
 
 -- neighbouring lines of one name are one device: neighbouring devices have different names
-abbrev pub AreApart : List DeviceSpec → Type 0
-AreApart [] = Unit {0}
-AreApart (device ∷ []) = Unit {0}
-AreApart (device ∷ next ∷ devices) = (device.name ≢ next.name) × AreApart (next ∷ devices)
+abbrev pub DifferInName : List DeviceSpec → Type 0
+DifferInName [] = Unit {0}
+DifferInName (device ∷ []) = Unit {0}
+DifferInName (device ∷ next ∷ devices) = (device.name ≢ next.name) × DifferInName (next ∷ devices)
 
 -- the text says these devices
 pub record DescribesTable (text : List ℕ) (devices : List DeviceSpec) : Type 0 where
@@ -64,7 +64,7 @@ pub record DescribesTable (text : List ℕ) (devices : List DeviceSpec) : Type 0
   pub ended : text ≡ flat_map (λ line. line ++ 10 ∷ []) lines
   pub said : Says 1 lines (named_lines devices)
   pub each : AllByRecursion IsDescribed devices
-  pub apart : AreApart devices
+  pub apart : DifferInName devices
 
 -- Its checks
 
@@ -103,4 +103,4 @@ has_names [] = false
 
 -- the checks of a text, in their order
 abbrev pub table_checks : List ℕ → List (List LoadFault)
-table_checks text = not_text Source text ∷ row_checks Source is_row is_line has_names (map row_of (lines_of text)) (rest_of text)
+table_checks text = not_text Source (parts_at 10 text) ∷ row_checks Source is_row is_line has_names (map row_of (lines_of text)) (rest_of text)

@@ -5,24 +5,23 @@
 //! end, where the checks take precedence in the order of the definitions. What a device says is read
 //! by `concise_device`; a new target type belongs in `line_body`.
 
-ghost use Rattle.std.specs.Prelude.{◌≡◌, ◌≢◌, [], None, Some, Ok, IfOk, IfSome, OnOk, not};
+ghost use Rattle.std.specs.Prelude.{◌≡◌, ◌++◌, ◌∷◌, [], None, Ok, IfOk, OnOk};
 ghost use Rattle.dm_table.specs.declared.place.Part.TheVariants.{Source};
-ghost use Rattle.dm_table.specs.declared.load_fault.LoadKind.TheVariants.{Memory, NotText};
-ghost use Rattle.dm_table.specs.declared.table.DeviceSpec.{DeviceSpec};
 ghost use Rattle.dm_table.specs.Fields.{texts};
-ghost use Rattle.dm_table.specs.LoadFault.{Answers, faults_from, first_or};
-ghost use Rattle.dm_table.specs.RowFaults.{no_faults, noted_at, noted_rows};
+ghost use Rattle.dm_table.specs.LoadFault.{Answers};
+ghost use Rattle.dm_table.specs.RowFaults.{Reads, first_noted, no_faults, noted_rows, read_unless};
 ghost use Rattle.dm_table.specs.Parsed.{IsParsed};
-ghost use Rattle.dm_table.specs.ConciseText.{DescribesConcise, without_newline, parts_of, is_printed, concise_checks};
-ghost use Rattle.dm_table.specs.ConciseReading.{fault_of_device, device_reading, with_reading, with_devices, parts_reading};
+ghost use Rattle.dm_table.specs.ConciseText.{DescribesConcise, without_newline, parts_of, entries as entries_of, concise_checks};
+ghost use Rattle.dm_table.specs.ConciseReading.{fault_of_device, device_of, devices_from, parts_reading};
 
 use crate::concise_device::read_device;
 use crate::fields::cut;
-use crate::load_fault::{LoadFault, LoadKind};
+use crate::load_fault::LoadFault;
 use crate::place::Part;
 use crate::reading::Reading;
+use crate::row_faults::RowFault;
 use crate::table::DeviceSpec;
-use crate::text_checks::is_printed;
+use crate::text_checks::check_text;
 use std::alloc::{AllocError, Global};
 
 /// The devices of a text in the concise form, in its order: `NAME,UUID,MINOR,FLAGS` and the lines of
@@ -45,8 +44,11 @@ pub fn parse_concise(alloc: Global, text: &[u8]) -> Result<Vec<DeviceSpec>, Load
     ensures { IsParsed Source (DescribesConcise text.now) (concise_checks text.now) result }
 {
     let text = without_newline(text);
+    if let Err(fault) = check_text(alloc, Part::Source, b';', text) {
+        return Err(fault);
+    }
     match parts_of(alloc, text) {
-        Ok(parts) => read_parts(alloc, text, &parts),
+        Ok(parts) => read_parts(alloc, &parts),
         Err(_) => Err(LoadFault::memory(Part::Source)),
     }
 }
@@ -71,50 +73,20 @@ fn parts_of(alloc: Global, text: &[u8]) -> Result<Vec<&[u8]>, AllocError>
     cut(alloc, b';', text)
 }
 
-/// The devices of a text that is cut into these parts.
-fn read_parts(alloc: Global, text: &[u8], parts: &[&[u8]]) -> Result<Vec<DeviceSpec>, LoadFault>
-    requires { texts parts.now ≡ parts_of text.now }
+/// The devices of parts whose bytes are text.
+fn read_parts(alloc: Global, parts: &[&[u8]]) -> Result<Vec<DeviceSpec>, LoadFault>
     ensures { Answers Source (λ v. v.items) result (parts_reading (texts parts.now)) }
 {
-    if let Some(fault) = not_text(text, parts) {
-        return Err(fault);
-    }
     match read_devices(alloc, parts) {
         Ok(reading) => reading.finish(),
         Err(_) => Err(LoadFault::memory(Part::Source)),
     }
 }
 
-/// The first part with a byte that is neither a newline nor one from 0x20 to 0x7E.
-fn not_text(text: &[u8], parts: &[&[u8]]) -> Option<LoadFault>
-    requires { texts parts.now ≡ parts_of text.now }
-    ensures value { result ≡ first_or (faults_from Source NotText (λ part. not (is_printed part)) 1 (texts parts.now)) None }
-    ensures kind { IfSome result (λ fault. fault.kind ≢ Memory) }
-{
-    // Most texts have no such byte, and the whole is asked faster than part after part.
-    if is_printed(text) {
-        return None;
-    }
-    bad_part(parts)
-}
-
-/// The first of parts with a byte that is neither a newline nor one from 0x20 to 0x7E.
-fn bad_part(parts: &[&[u8]]) -> Option<LoadFault>
-    ensures value { result ≡ first_or (faults_from Source NotText (λ part. not (is_printed part)) 1 (texts parts.now)) None }
-    ensures kind { IfSome result (λ fault. fault.kind ≢ Memory) }
-{
-    for (index, part) in parts.iter().enumerate() {
-        if !is_printed(*part) {
-            return Some(LoadFault::at_index(Part::Source, LoadKind::NotText, index));
-        }
-    }
-    None
-}
-
 /// Reads each device, with two lists of slices for all of them.
 fn read_devices(alloc: Global, parts: &[&[u8]]) -> Result<Reading<DeviceSpec>, AllocError>
-    ensures devices { IfOk result (λ reading. reading.values.items
-        ≡ with_devices [] 1 (texts parts.now)) }
+    ensures devices { IfOk result (λ reading. first_noted reading.faults ≡ None → reading.values.items
+        ≡ devices_from 1 (texts parts.now)) }
     ensures faults { IfOk result (λ reading. reading.faults
         ≡ noted_rows Source fault_of_device no_faults 1 (texts parts.now)) }
 {
@@ -122,32 +94,33 @@ fn read_devices(alloc: Global, parts: &[&[u8]]) -> Result<Reading<DeviceSpec>, A
     let mut entries = Vec::new(alloc);
     let mut fields = Vec::new(alloc);
     for (index, part) in parts.iter().enumerate() {
-        reading.read_part(alloc, &mut entries, &mut fields, *part, index as u64 + 1)?;
+        let number = index as u64 + 1;
+        let read = read_part(
+            alloc,
+            &mut reading.values,
+            &mut entries,
+            &mut fields,
+            *part,
+            number,
+        );
+        reading.faults.note(Part::Source, number, read)?;
     }
     Ok(reading)
 }
 
-impl Reading<DeviceSpec> {
-    /// Reads the part that is device `number` of the text.
-    fn read_part<'a>(
-        &mut self,
-        alloc: Global,
-        entries: &mut Vec<&'a [u8]>,
-        fields: &mut Vec<&'a [u8]>,
-        part: &'a [u8],
-        number: u64,
-    ) -> Result<(), AllocError>
-        ensures devices { OnOk result (self.new.values.items
-            ≡ with_reading self.old.values.items (device_reading number part.now)) }
-        ensures faults { OnOk result (self.new.faults
-            ≡ noted_at Source self.old.faults number (fault_of_device part.now)) }
-    {
-        match read_device(alloc, entries, fields, part, number) {
-            Ok(device) => {
-                self.values.push(device)?;
-                Ok(())
-            }
-            Err(fault) => self.faults.note(Part::Source, number, fault),
-        }
-    }
+/// Reads the part that is device `number` of the text.
+fn read_part<'a>(
+    alloc: Global,
+    devices: &mut Vec<DeviceSpec>,
+    entries: &mut Vec<&'a [u8]>,
+    fields: &mut Vec<&'a [u8]>,
+    part: &'a [u8],
+    number: u64,
+) -> Result<(), RowFault>
+    ensures devices { OnOk result (devices.new.items
+        ≡ devices.old.items ++ device_of number (entries_of part.now) ∷ []) }
+    ensures fault { Reads (λ done. done) result (read_unless (fault_of_device part.now) tt) }
+{
+    devices.push(read_device(alloc, entries, fields, part, number)?)?;
+    Ok(())
 }

@@ -4,14 +4,12 @@
 //! end, as in table text. A new column is a field of `Disk` and, in `specs/DiskList.antt`, its text in
 //! `disk_line`, its test in `is_pair` and in `has_sectors` or `has_name`, and its value in `disk_of`.
 
-ghost use Rattle.std.specs.Prelude.{◌≡◌, ◌++◌, Some, Ok, IfOk, OnOk, map};
-ghost use Rattle.dm_table.specs.declared.disk.Disk.{Disk};
+ghost use Rattle.std.specs.Prelude.{◌++◌, ◌∷◌, []};
 ghost use Rattle.dm_table.specs.declared.place.Part.TheVariants.{Disks};
 ghost use Rattle.dm_table.specs.Fields.{fields, texts};
-ghost use Rattle.dm_table.specs.LoadFault.{Answers};
-ghost use Rattle.dm_table.specs.RowFaults.{Reads, no_faults, noted_at, noted_rows};
+ghost use Rattle.dm_table.specs.RowFaults.{Reads};
 ghost use Rattle.dm_table.specs.Parsed.{IsParsed};
-ghost use Rattle.dm_table.specs.DiskList.{DescribesDisks, disk_checks, disk_fault, disk_in, disk_reading, disks_read, read_disk_rows};
+ghost use Rattle.dm_table.specs.DiskList.{DescribesDisks, disk_checks, disk_of, disk_reading, has_name, has_sectors, is_pair};
 
 use crate::disk::Disk;
 use crate::disk_name::{DiskName, is_disk_name};
@@ -19,10 +17,9 @@ use crate::fields::cut_into;
 use crate::load_fault::LoadFault;
 use crate::number;
 use crate::place::{Part, Place};
-use crate::reading::Reading;
+use crate::reading::{FromLines, read_lines};
 use crate::row_faults::RowFault;
-use crate::text_checks::text_lines;
-use std::alloc::{AllocError, Global};
+use std::alloc::Global;
 
 /// The disks of a disk list, in its order.
 ///
@@ -41,53 +38,28 @@ pub fn parse_disks(alloc: Global, text: &[u8]) -> Result<Vec<Disk>, LoadFault>
     // that finds any.
     ensures { IsParsed Disks (DescribesDisks text.now) (disk_checks text.now) result }
 {
-    let cut = text_lines(alloc, Part::Disks, text)?;
-    read_lines(alloc, &cut.lines, cut.rest)
+    read_lines(alloc, Part::Disks, text)
 }
 
-fn read_lines(alloc: Global, lines: &[&[u8]], rest: &[u8]) -> Result<Vec<Disk>, LoadFault>
-    ensures { Answers Disks (λ v. v.items) result (read_disk_rows (map fields (texts lines.now)) rest.now) }
-{
-    let mut reading = match read_rows(alloc, lines) {
-        Ok(reading) => reading,
-        Err(_) => return Err(LoadFault::memory(Part::Disks)),
-    };
-    reading
-        .faults
-        .note_rest(Part::Disks, lines.len() as u64 + 1, rest);
-    reading.finish()
-}
+impl FromLines for Disk {
+    ghost is_row = { λ line. is_pair (fields line) };
 
-/// Reads each line, with one list of fields for all of them.
-fn read_rows(alloc: Global, lines: &[&[u8]]) -> Result<Reading<Disk>, AllocError>
-    ensures disks { IfOk result (λ reading. reading.values.items ≡ disks_read 1 (map fields (texts lines.now))) }
-    ensures faults { IfOk result (λ reading. reading.faults
-        ≡ noted_rows Disks disk_fault no_faults 1 (map fields (texts lines.now))) }
-{
-    let mut reading = Reading::new(alloc);
-    let mut fields = Vec::new(alloc);
-    for (index, line) in lines.iter().enumerate() {
-        cut_into(&mut fields, b' ', *line)?;
-        reading.read_row(alloc, &fields, index as u64 + 1)?;
-    }
-    Ok(reading)
-}
+    ghost has_values = { λ line. has_sectors (fields line) };
 
-impl Reading<Disk> {
-    /// Reads the row that is line `number` of the text.
-    fn read_row(&mut self, alloc: Global, row: &[&[u8]], number: u64) -> Result<(), AllocError>
-        ensures disks { OnOk result (self.new.values.items
-            ≡ self.old.values.items ++ disk_in (disk_reading number (texts row.now))) }
-        ensures faults { OnOk result (self.new.faults
-            ≡ noted_at Disks self.old.faults number (disk_fault (texts row.now))) }
-    {
-        match read_disk(alloc, row, number) {
-            Ok(disk) => {
-                self.values.push(disk)?;
-                Ok(())
-            }
-            Err(fault) => self.faults.note(Part::Disks, number, fault),
-        }
+    ghost has_names = { λ line. has_name (fields line) };
+
+    ghost with_line = { λ disks n line. disks ++ disk_of n (fields line) ∷ [] };
+
+    fn read_line<'a>(
+        alloc: Global,
+        disks: &mut Vec<Disk>,
+        fields: &mut Vec<&'a [u8]>,
+        line: &'a [u8],
+        number: u64,
+    ) -> Result<(), RowFault> {
+        cut_into(&mut *fields, b' ', line)?;
+        disks.push(read_disk(alloc, &*fields, number)?)?;
+        Ok(())
     }
 }
 

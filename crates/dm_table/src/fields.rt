@@ -1,20 +1,13 @@
-//! Texts cut at a byte: lines at newlines, fields at spaces.
+//! Texts cut at a byte: fields at spaces, devices of the concise form at semicolons.
 //!
 //! A text is cut once, and all checks look at its parts; the parts borrow the text. A form that
 //! cuts at another byte calls `cut` too.
 
-ghost use Rattle.std.specs.Prelude.{◌≡◌, [], IfOk, OnOk};
-ghost use Rattle.dm_table.specs.Fields.{texts, parts_at, all_but_last, last_or};
+ghost use Rattle.std.specs.Prelude.{◌≡◌, IfOk, OnOk};
+ghost use Rattle.dm_table.specs.Fields.{texts, parts_at};
 
 use memchr::memchr;
 use std::alloc::{AllocError, Global};
-
-/// The lines that a newline ends, and what stands after the last newline.
-#[derive(Drop)]
-pub(crate) struct Lines<'a> {
-    pub lines: Vec<&'a [u8]>,
-    pub rest: &'a [u8],
-}
 
 /// The parts of a text between the bytes that are `at`. One pass over the text.
 pub(crate) fn cut<'a>(alloc: Global, at: u8, text: &'a [u8]) -> Result<Vec<&'a [u8]>, AllocError>
@@ -42,13 +35,4 @@ pub(crate) fn cut_into<'a>(
     }
     parts.push(rest)?;
     Ok(())
-}
-
-/// The last part is what stands after the last newline, the others are lines.
-pub(crate) fn without_rest<'a>(mut parts: Vec<&'a [u8]>) -> Lines<'a>
-    ensures lines { texts result.lines.items ≡ all_but_last (texts parts.entry.items) }
-    ensures rest { result.rest.now ≡ last_or [] (texts parts.entry.items) }
-{
-    let rest = parts.pop().unwrap_or(b"");
-    Lines { lines: parts, rest }
 }

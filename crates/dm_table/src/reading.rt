@@ -1,15 +1,21 @@
 //! What was read of a text so far: the values of its rows, and what is wrong with the others.
 //!
 //! The checks of a text run one after another by their definition, so that a fault is known only at
-//! the end; a text with one has no values.
+//! the end; a text with one has no values. A form whose rows are the lines of its texts implements
+//! `FromLines`, and `read_lines` reads them.
 
-ghost use Rattle.std.specs.Prelude.{◌≡◌, []};
-ghost use Rattle.dm_table.specs.LoadFault.{unless};
-ghost use Rattle.dm_table.specs.RowFaults.{no_faults, first_noted};
+ghost use Rattle.std.specs.Prelude.{◌≡◌, ◌+◌, ℕ, Bool, List, [], None, Ok, IfOk, OnOk, length};
+ghost use Rattle.dm_table.specs.Fields.{lines_of, rest_of};
+ghost use Rattle.dm_table.specs.LoadFault.{Answers, first_fault, unless};
+ghost use Rattle.dm_table.specs.Reading.{line_checks, line_fault, with_lines};
+ghost use Rattle.dm_table.specs.RowFaults.{Reads, no_faults, noted_rest, noted_rows, read_unless, first_noted};
 
 use crate::load_fault::LoadFault;
-use crate::row_faults::FirstFaults;
-use std::alloc::Global;
+use crate::place::Part;
+use crate::row_faults::{FirstFaults, RowFault};
+use crate::text_checks::check_text;
+use memchr::memchr;
+use std::alloc::{AllocError, Global};
 
 /// The values so far, and the faults. Where there are faults, the values are not returned.
 #[derive(Drop)]
@@ -38,4 +44,71 @@ impl<T: Drop> Reading<T> {
             None => Ok(self.values),
         }
     }
+}
+
+/// What the lines of a text are read into: disks, or devices, which take the lines of their name.
+pub(crate) trait FromLines: Drop {
+    /// Whether a line has the fields of a row.
+    ghost is_row: { List ℕ → Bool };
+
+    /// Whether its values are valid.
+    ghost has_values: { List ℕ → Bool };
+
+    /// Whether its names are valid.
+    ghost has_names: { List ℕ → Bool };
+
+    /// The values after one more line with which nothing is wrong, by its number in the text.
+    ghost with_line: { List Self → ℕ → List ℕ → List Self };
+
+    /// Reads line `number` of a text into the values of the lines before it. Its fields are put in place
+    /// of those of another line, so that one list serves all lines. After a fault the values may be any.
+    fn read_line<'a>(
+        alloc: Global,
+        values: &mut Vec<Self>,
+        fields: &mut Vec<&'a [u8]>,
+        line: &'a [u8],
+        number: u64,
+    ) -> Result<(), RowFault>
+        ensures values { OnOk result (values.new.items ≡ with_line values.old.items number line.now) }
+        ensures fault { Reads (λ done. done) result (read_unless (line_fault is_row has_values has_names line.now) tt) };
+}
+
+/// The values of the lines of a text, or the first fault of the first check that finds any. One pass
+/// to check the text, one to read it.
+pub(crate) fn read_lines<T: FromLines>(
+    alloc: Global,
+    part: Part,
+    text: &[u8],
+) -> Result<Vec<T>, LoadFault>
+    ensures { Answers part (λ v. v.items) result (unless (first_fault (line_checks part T.is_row T.has_values T.has_names text.now)) (with_lines T.with_line [] 1 (lines_of text.now))) }
+{
+    if let Err(fault) = check_text(alloc, part, b'\n', text) {
+        return Err(fault);
+    }
+    match read_each::<T>(alloc, part, text) {
+        Ok(reading) => reading.finish(),
+        Err(_) => Err(LoadFault::memory(part)),
+    }
+}
+
+/// Reads each line where it stands, with one list of fields for all of them, and then what stands
+/// after the last newline.
+fn read_each<T: FromLines>(alloc: Global, part: Part, text: &[u8]) -> Result<Reading<T>, AllocError>
+    ensures values { IfOk result (λ reading. first_noted reading.faults ≡ None → reading.values.items ≡ with_lines T.with_line [] 1 (lines_of text.now)) }
+    ensures faults { IfOk result (λ reading. reading.faults ≡ noted_rest part
+        (noted_rows part (line_fault T.is_row T.has_values T.has_names) no_faults 1 (lines_of text.now)) (length (lines_of text.now) + 1) (rest_of text.now)) }
+{
+    let mut reading = Reading::new(alloc);
+    let mut fields = Vec::new(alloc);
+    let mut number = 1u64;
+    let mut rest = text;
+    while let Some(end) = memchr(b'\n', rest) {
+        let (line, after) = rest.split_at(end);
+        let read = T::read_line(alloc, &mut reading.values, &mut fields, line, number);
+        reading.faults.note(part, number, read)?;
+        number += 1;
+        rest = &after[1..];
+    }
+    reading.faults.note_rest(part, number, rest);
+    Ok(reading)
 }

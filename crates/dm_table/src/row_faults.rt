@@ -6,12 +6,12 @@
 
 ghost use Rattle.std.specs.Prelude.{◌≡◌, ◌≢◌, Some, OnOk};
 ghost use Rattle.dm_table.specs.LoadFault.{fault_at};
-ghost use Rattle.dm_table.specs.RowFaults.{no_faults, either, noted, noted_rest, first_noted};
+ghost use Rattle.dm_table.specs.RowFaults.{no_faults, either, fault_in, noted_at, noted_rest, first_noted};
 ghost use Rattle.dm_table.specs.declared.row_faults.RowFault.TheVariants.{Memory};
 
 use crate::load_fault::{LoadFault, LoadKind};
 use crate::place::{Part, Place};
-use std::alloc::AllocError;
+use std::alloc::{AllocError, AllocFailed};
 
 /// Why a row of fields, or a part of one, was not read.
 #[derive(Clone, Copy)]
@@ -30,6 +30,14 @@ impl From<AllocError> for RowFault {
     ghost from_gives = { λ _ fault. fault ≡ Memory };
 
     fn from(_error: AllocError) -> RowFault {
+        RowFault::Memory
+    }
+}
+
+impl<T: Drop> From<AllocFailed<T>> for RowFault {
+    ghost from_gives = { λ _ fault. fault ≡ Memory };
+
+    fn from(_failed: AllocFailed<T>) -> RowFault {
         RowFault::Memory
     }
 }
@@ -53,22 +61,23 @@ impl FirstFaults {
         }
     }
 
-    /// Keeps the fault of the row that is line `number`, if it is the first of its kind. Where memory
-    /// ran out, nothing is read on.
+    /// Keeps the fault of the row that is line `number`, if it has one and it is the first of its kind.
+    /// Where memory ran out, nothing is read on.
     pub(crate) fn note(
         &mut self,
         part: Part,
         number: u64,
-        fault: RowFault,
+        read: Result<(), RowFault>,
     ) -> Result<(), AllocError>
-        ensures noted { OnOk result (self.new ≡ noted part self.old number fault) }
-        ensures text { OnOk result (fault ≢ Memory) }
+        ensures noted { OnOk result (self.new ≡ noted_at part self.old number (fault_in read)) }
+        ensures text { OnOk result (fault_in read ≢ Some Memory) }
     {
-        match fault {
-            RowFault::Syntax => keep(&mut self.syntax, part, LoadKind::Syntax, number),
-            RowFault::Field => keep(&mut self.field, part, LoadKind::Field, number),
-            RowFault::Name => keep(&mut self.name, part, LoadKind::Name, number),
-            RowFault::Memory => return Err(AllocError),
+        match read {
+            Ok(()) => {}
+            Err(RowFault::Syntax) => keep(&mut self.syntax, part, LoadKind::Syntax, number),
+            Err(RowFault::Field) => keep(&mut self.field, part, LoadKind::Field, number),
+            Err(RowFault::Name) => keep(&mut self.name, part, LoadKind::Name, number),
+            Err(RowFault::Memory) => return Err(AllocError),
         }
         Ok(())
     }

@@ -4,25 +4,20 @@
 //! them is kept until the end, where the checks take precedence in the order of the definitions. A
 //! new target type belongs in `line_body`.
 
-ghost use Rattle.std.specs.Prelude.{◌≡◌, ◌+◌, [], length, Some, Ok, IfOk, OnOk, IsTrue};
+ghost use Rattle.std.specs.Prelude.{◌≡◌, IfOk, OnOk, IsTrue};
 ghost use Rattle.dm_table.specs.declared.place.Part.TheVariants.{Source};
-ghost use Rattle.dm_table.specs.declared.table.DeviceSpec.{DeviceSpec};
-ghost use Rattle.dm_table.specs.Fields.{texts, lines_of, rest_of};
-ghost use Rattle.dm_table.specs.LoadFault.{Answers};
 ghost use Rattle.dm_table.specs.Name.{is_device_name};
-ghost use Rattle.dm_table.specs.RowFaults.{no_faults, noted_at, noted_rest, noted_rows};
 ghost use Rattle.dm_table.specs.Parsed.{IsParsed};
-ghost use Rattle.dm_table.specs.TableText.{DescribesTable, table_checks};
-ghost use Rattle.dm_table.specs.TableReading.{named_of, alone, add_line, fault_of_row, row_reading, with_reading, with_rows, rows_of, read_rows};
+ghost use Rattle.dm_table.specs.TableText.{DescribesTable, row_of, is_row, is_line, has_names, table_checks};
+ghost use Rattle.dm_table.specs.TableReading.{named_in, named_of, alone, add_line};
 
 use crate::load_fault::LoadFault;
 use crate::name::Name;
 use crate::place::Part;
-use crate::reading::Reading;
+use crate::reading::{FromLines, read_lines};
+use crate::row_faults::RowFault;
 use crate::table::{DeviceSpec, Table};
 use crate::table_row::{Row, cut_row, read_row};
-use crate::text_checks::check_text;
-use memchr::memchr;
 use std::alloc::{AllocError, Global};
 
 /// The devices of table text, in its order. Neighbouring lines of one name are one device, whose
@@ -40,56 +35,28 @@ pub fn parse_table(alloc: Global, text: &[u8]) -> Result<Vec<DeviceSpec>, LoadFa
     // that finds any.
     ensures { IsParsed Source (DescribesTable text.now) (table_checks text.now) result }
 {
-    match check_text(alloc, Part::Source, text) {
-        Ok(()) => read_lines(alloc, text),
-        Err(fault) => Err(fault),
-    }
+    read_lines(alloc, Part::Source, text)
 }
 
-fn read_lines(alloc: Global, text: &[u8]) -> Result<Vec<DeviceSpec>, LoadFault>
-    ensures { Answers Source (λ v. v.items) result (read_rows (rows_of (lines_of text.now)) (rest_of text.now)) }
-{
-    match read_rows(alloc, text) {
-        Ok(reading) => reading.finish(),
-        Err(_) => Err(LoadFault::memory(Part::Source)),
-    }
-}
+impl FromLines for DeviceSpec {
+    ghost is_row = { λ line. is_row (row_of line) };
 
-/// Reads each line where it stands, with one list of fields for all of them, and then what stands
-/// after the last newline.
-fn read_rows(alloc: Global, text: &[u8]) -> Result<Reading<DeviceSpec>, AllocError>
-    ensures devices { IfOk result (λ reading. reading.values.items
-        ≡ with_rows [] 1 (rows_of (lines_of text.now))) }
-    ensures faults { IfOk result (λ reading. reading.faults ≡ noted_rest Source
-        (noted_rows Source fault_of_row no_faults 1 (rows_of (lines_of text.now))) (length (lines_of text.now) + 1) (rest_of text.now)) }
-{
-    let mut reading = Reading::new(alloc);
-    let mut fields = Vec::new(alloc);
-    let mut number = 1u64;
-    let mut rest = text;
-    while let Some(end) = memchr(b'\n', rest) {
-        let (line, after) = rest.split_at(end);
-        cut_row(&mut fields, line)?;
-        reading.read_row(alloc, &fields, number)?;
-        number += 1;
-        rest = &after[1..];
-    }
-    reading.faults.note_rest(Part::Source, number, rest);
-    Ok(reading)
-}
+    ghost has_values = { λ line. is_line (row_of line) };
 
-impl Reading<DeviceSpec> {
-    /// Reads the row that is line `number` of the text.
-    fn read_row(&mut self, alloc: Global, row: &[&[u8]], number: u64) -> Result<(), AllocError>
-        ensures devices { OnOk result (self.new.values.items
-            ≡ with_reading self.old.values.items (row_reading number (texts row.now))) }
-        ensures faults { OnOk result (self.new.faults
-            ≡ noted_at Source self.old.faults number (fault_of_row (texts row.now))) }
-    {
-        match read_row(alloc, row, number) {
-            Ok(row) => add_line(alloc, &mut self.values, row),
-            Err(fault) => self.faults.note(Part::Source, number, fault),
-        }
+    ghost has_names = { λ line. has_names (row_of line) };
+
+    ghost with_line = { λ devices n line. add_line devices (named_in n (row_of line)) };
+
+    fn read_line<'a>(
+        alloc: Global,
+        devices: &mut Vec<DeviceSpec>,
+        fields: &mut Vec<&'a [u8]>,
+        line: &'a [u8],
+        number: u64,
+    ) -> Result<(), RowFault> {
+        cut_row(&mut *fields, line)?;
+        add_line(alloc, devices, read_row(alloc, &*fields, number)?)?;
+        Ok(())
     }
 }
 

@@ -1,6 +1,6 @@
 -- what was asked, and the bytes that are left, give what the whole gives
 use Rattle.std.proofs.Common.{◌≡◌, ◌&&◌, drop}
-use Rattle.dm_table.specs.ConciseText.{is_printed}
+use Rattle.dm_table.specs.LoadFault.{is_printed}
 use Rattle.dm_table.proofs.text_checks.is_printed.Given as goal
 
 abbrev pub invariant-loop-byte : goal.invariant-loop-byte

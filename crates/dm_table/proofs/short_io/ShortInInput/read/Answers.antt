@@ -1,7 +1,7 @@
 use Rattle.std.proofs.Common.{rules, ◌≡◌, ◌<◌, ◌++◌, ℕ, List, length, take, drop, sym, ap, ◌∙◌, arith, length-append, length-drop, length-take}
 use Rattle.std.proofs.lemmas.Bool.{eqb-false}
 use Rattle.dm_table.specs.ShortIo.{Supply, portion}
-use Rattle.dm_table.proofs.Portions.{behind, behind_is, front_is, handed_grows, left_shrinks}
+use Rattle.dm_table.proofs.Portions.{rest_after, rest_after_is, front_is, handed_grows, left_shrinks}
 use Rattle.dm_table.proofs.short_io.ShortInInput.read.Goals as goal
 
 -- all the bytes of the input, the place in them before the read, and the slice after it
@@ -31,12 +31,12 @@ count_is : (c : goal.After-self-1) → c.min-n.result ≡ portion c.args.self.no
 count_is c =
     let step = ap (λ (s : Supply). s.step) c.self.view_is in
     let left = ap (λ (s : Supply). length s.left) c.self.view_is in
-    omega (arith, room_is c, c.min-n.ensures, c.min.ensures, ap length (behind_is (bytes c) (at c)), step, left)
+    omega (arith, room_is c, c.min-n.ensures, c.min.ensures, ap length (rest_after_is (bytes c) (at c)), step, left)
 
 -- a portion of what is left is a byte at least
 moves : (c : goal.After-self-1) → c.min-n.result ≡ 0 → 0 < length (filled c) → ⊥
 moves c zero roomy =
-    let some_left = eqb-false (length (behind (bytes c) (at c))) 0 (sym c.is_empty.ensures ∙ c.if-is_empty.false) in
+    let some_left = eqb-false (length (rest_after (bytes c) (at c))) 0 (sym c.is_empty.ensures ∙ c.if-is_empty.false) in
     omega (arith, room_is c, c.min-n.ensures, c.min.ensures, c.self.invariant.1)
 
 pub returns-clause-bytes : goal.returns-clause-bytes
