@@ -46,10 +46,14 @@ impl FrontReader {
         FrontReader { text, len: 1 }
     }
 
-    /// The request that a text begins with, as [`front_request`](crate::front_request) returns it.
+    /// The request that a text begins with, and the bytes of its line without the newline: the quick
+    /// way for line `number` of a stream, which is read where it stands and not cut off first.
     ///
-    /// `None` says nothing of the text. Cost: as there, and less for the device of the request
-    /// before.
+    /// `None` says nothing about the text: the line is not whole, is no request, or is one that isn't read
+    /// this way, as at the end of a text. [`parse_request`](crate::parse_request) finds its fault.
+    ///
+    /// Cost: no memory, and one pass over each field; the name of the device that the request before
+    /// named is only compared.
     #[inline(always)]
     pub fn read<'a>(&mut self, text: &'a [u8], number: u64) -> Option<(Request<'a>, usize)>
         // The line says the request, and ends there.

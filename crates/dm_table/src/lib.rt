@@ -61,7 +61,7 @@ pub use number_text::{MOST_DIGITS, put, put_number};
 pub use part_input::{MOST_PART_BYTES, read_part};
 pub use place::{Part, Place};
 pub use request::{MOST_SECTORS, Op, Request, RequestFault};
-pub use request_line::{front_request, parse_request};
+pub use request_line::parse_request;
 pub use same_bytes::are_same;
 pub use short_io::{ShortIn, ShortOut};
 pub use table::{Column, Columns, DevRef, DeviceSpec, Line, Table, Target};

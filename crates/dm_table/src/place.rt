@@ -11,7 +11,7 @@ use std::fmt;
 /// What a load reads.
 #[derive(Clone, Copy, Debug, PartialEq, Eq)]
 pub enum Part {
-    /// The table text.
+    /// The text of the tables, or the metadata of a volume group.
     Source,
     /// The disk list.
     Disks,

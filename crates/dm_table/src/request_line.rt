@@ -233,22 +233,3 @@ pub(crate) fn front_after_name<'a>(
     };
     Some((request, text.len() - last.len() + digits))
 }
-
-/// The request that a text begins with, and the bytes of its line without the newline: the quick
-/// way for line `number` of a stream, which is read where it stands and not cut off first.
-///
-/// `None` says nothing about the text: the line is not whole, is no request, or is one that isn't read this
-/// way, as at the end of a text. [`parse_request`] finds its fault.
-///
-/// Cost: no memory, and one pass over each field.
-pub fn front_request<'a>(text: &'a [u8], number: u64) -> Option<(Request<'a>, usize)>
-    // The line says the request, and ends there.
-    ensures front { IfSome result (λ front. IsFront text.now (values_of front.0) front.1) }
-    ensures numbered { IfSome result (λ front. front.0.number ≡ number) }
-{
-    let (op, device, rest) = head(text)?;
-    if rest.len() < NUMBERS_ROOM {
-        return None;
-    }
-    front_after_name(text, rest, number, op, device)
-}
