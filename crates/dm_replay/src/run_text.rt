@@ -1,8 +1,9 @@
 //! The lines of runs, written to an output.
 
-ghost use Rattle.std.specs.Prelude.{◌≡◌, ◌++◌, ◌+◌, ◌<◌, ◌≤◌, ◌∷◌, [], length, take, decimal};
+ghost use Rattle.std.specs.Prelude.{◌++◌, ◌+◌, ◌≤◌, ◌∷◌, length, decimal};
 ghost use Rattle.std.specs.List.{AllByRecursion};
 ghost use Rattle.dm_stack.specs.Description.{disk_name_at};
+ghost use Rattle.dm_table.specs.Block.{IsPut};
 ghost use Rattle.dm_table.specs.Progress.{Wrote};
 ghost use Rattle.dm_replay.specs.OfDisks.{IsRunOf};
 ghost use Rattle.dm_replay.specs.RunText.{run_line, run_text, runs_text};
@@ -47,9 +48,8 @@ impl<'a> Text for RunLine<'a> {
 fn put_run(block: &mut [u8], at: usize, stack: &Stack, run: &ValueRun) -> usize
     requires room { at + 400 ≤ length block.old }
     requires disks { IsRunOf (length stack.now.disks) run.now }
+    ensures put { IsPut (run_text stack.now run.now) at block.old block.new result }
     ensures few { result ≤ at + 350 }
-    ensures end { result ≡ at + length (run_text stack.now run.now) }
-    ensures text { take result block.new ≡ take at block.old ++ run_text stack.now run.now }
 {
     match *run {
         ValueRun::Old { disk, start, len } => {
@@ -80,9 +80,8 @@ fn put_run(block: &mut [u8], at: usize, stack: &Stack, run: &ValueRun) -> usize
 /// Puts a start and a length at a place of a block, each after a space.
 fn put_range(block: &mut [u8], at: usize, start: u64, len: u64) -> usize
     requires room { at + 60 ≤ length block.old }
+    ensures put { IsPut (32 ∷ decimal start ++ 32 ∷ decimal len) at block.old block.new result }
     ensures few { result ≤ at + 42 }
-    ensures end { result ≡ at + length (32 ∷ decimal start ++ 32 ∷ decimal len) }
-    ensures text { take result block.new ≡ take at block.old ++ 32 ∷ decimal start ++ 32 ∷ decimal len }
 {
     let at = put_bytes(block, at, b" ");
     let at = put_digits(block, at, start);

@@ -3,7 +3,8 @@
 //! Disks are few and lines come by the hundreds of millions, so these texts are made once, at load.
 //! A name is mostly short, and then a room of a fixed size is copied, past the end of its text.
 
-ghost use Rattle.std.specs.Prelude.{◌≡◌, ◌+◌, ◌≤◌, ◌++◌, IfOk, length, map, take};
+ghost use Rattle.std.specs.Prelude.{◌≡◌, ◌+◌, ◌≤◌, IfOk, length, map, take};
+ghost use Rattle.dm_table.specs.Block.{IsPut};
 ghost use Rattle.dm_stack.specs.Loaded.{disk_text};
 
 use dm_table::{Disk, DiskName, put_bytes, put_room};
@@ -49,9 +50,8 @@ impl DiskText {
     #[inline(always)]
     pub fn put_into(&self, block: &mut [u8], at: usize) -> usize
         requires { at + ROOM ≤ length block.old }
+        ensures put { IsPut self.now at block.old block.new result }
         ensures few { result ≤ at + ROOM }
-        ensures end { result ≡ at + length self.now }
-        ensures text { take result block.new ≡ take at block.old ++ self.now }
     {
         if self.len > SHORT {
             return put_long(block, at, &self.text, self.len);
@@ -69,8 +69,7 @@ impl DiskText {
 fn put_long(block: &mut [u8], at: usize, text: &[u8], len: usize) -> usize
     requires within { len ≤ length text.now }
     requires room { at + len ≤ length block.old }
-    ensures end { result ≡ at + len }
-    ensures text { take result block.new ≡ take at block.old ++ take len text.now }
+    ensures { IsPut (take len text.now) at block.old block.new result }
 {
     put_bytes(block, at, &text[..len])
 }

@@ -4,7 +4,8 @@
 //! a second time, and then copied whole; a range after one that came again is kept at once. Any other
 //! has its digits written where they belong.
 
-ghost use Rattle.std.specs.Prelude.{◌≡◌, ◌++◌, ◌+◌, ◌<◌, ◌≤◌, length, take};
+ghost use Rattle.std.specs.Prelude.{◌≡◌, ◌+◌, ◌≤◌, length};
+ghost use Rattle.dm_table.specs.Block.{IsPut};
 ghost use Rattle.dm_stream.specs.KeptRange.{range_text, IsKept};
 
 use dm_table::{put_bytes, put_digits, put_room};
@@ -84,9 +85,8 @@ impl KeptRange {
     pub(crate) fn put_into(&self, block: &mut [u8], at: usize, start: u64, len: u64) -> usize
         requires room { at + ROOM ≤ length block.old }
         requires kept { IsKept self.now start len }
+        ensures put { IsPut (range_text start len) at block.old block.new result }
         ensures few { result ≤ at + ROOM }
-        ensures end { result ≡ at + length (range_text start len) }
-        ensures text { take result block.new ≡ take at block.old ++ range_text start len }
     {
         if self.end > 0 {
             return put_room(block, at, &self.text, self.end);
@@ -99,9 +99,8 @@ impl KeptRange {
 #[inline(never)]
 fn put_range(block: &mut [u8], at: usize, start: u64, len: u64) -> usize
     requires { at + ROOM ≤ length block.old }
+    ensures put { IsPut (range_text start len) at block.old block.new result }
     ensures few { result ≤ at + 43 }
-    ensures end { result ≡ at + length (range_text start len) }
-    ensures text { take result block.new ≡ take at block.old ++ range_text start len }
 {
     let at = put_digits(block, at, start);
     let at = put_bytes(block, at, b" ");

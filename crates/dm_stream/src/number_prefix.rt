@@ -3,7 +3,8 @@
 //! The numbers of requests mostly rise by one, so if only the last digit differs it is changed in
 //! place. The room is copied whole.
 
-ghost use Rattle.std.specs.Prelude.{◌≡◌, ◌++◌, ◌+◌, ◌≤◌, length, take, decimal};
+ghost use Rattle.std.specs.Prelude.{◌≡◌, ◌+◌, ◌≤◌, length, take};
+ghost use Rattle.dm_table.specs.Block.{IsPut};
 ghost use Rattle.dm_stream.specs.NumberPrefix.{number_prefix};
 
 use dm_table::{put_bytes, put_digits, put_room};
@@ -63,9 +64,8 @@ impl NumberPrefix {
     #[inline(always)]
     pub(crate) fn put_into(&self, block: &mut [u8], at: usize) -> usize
         requires { at + ROOM ≤ length block.old }
+        ensures put { IsPut (number_prefix self.now) at block.old block.new result }
         ensures few { result ≤ at + ROOM }
-        ensures end { result ≡ at + length (number_prefix self.now) }
-        ensures text { take result block.new ≡ take at block.old ++ number_prefix self.now }
     {
         put_room(block, at, &self.text, self.last + 2)
     }

@@ -4,7 +4,8 @@
 //! through a function of their own. A new kind of piece is an arm of `put_other` here and of
 //! `unit_text` in `specs/PieceText`.
 
-ghost use Rattle.std.specs.Prelude.{◌≡◌, ◌++◌, ◌+◌, ◌<◌, ◌≤◌, ◌∷◌, [], length, take, decimal};
+ghost use Rattle.std.specs.Prelude.{◌≡◌, ◌++◌, ◌+◌, ◌<◌, ◌≤◌, ◌∷◌, [], length, decimal};
+ghost use Rattle.dm_table.specs.Block.{IsPut};
 ghost use Rattle.dm_stack.specs.Description.{disk_name_at};
 ghost use Rattle.dm_stack.specs.Loaded.{disk_text};
 ghost use Rattle.dm_map.specs.Units.{CopyOf, FillOf, IsOnDisks, first_unit, piece_len};
@@ -145,9 +146,8 @@ fn put_other(block: &mut [u8], at: usize, stack: &Stack, piece: &Piece) -> usize
     requires room { at + 800 ≤ length block.old }
     requires lies { IsOnDisks stack.now piece.now }
     requires other { IsOther piece.now }
+    ensures put { IsPut (unit_text stack.now (first_unit piece.now) (piece_len piece.now) ++ 10 ∷ []) at block.old block.new result }
     ensures few { result ≤ at + 800 }
-    ensures end { result ≡ at + length (unit_text stack.now (first_unit piece.now) (piece_len piece.now) ++ 10 ∷ []) }
-    ensures text { take result block.new ≡ take at block.old ++ unit_text stack.now (first_unit piece.now) (piece_len piece.now) ++ 10 ∷ [] }
 {
     match *piece {
         Piece::Read { .. } | Piece::Write { .. } => unreachable!(),
@@ -179,9 +179,8 @@ fn put_copy(
     requires room { at + 800 ≤ length block.old }
     requires there { disk < length stack.now.disks }
     requires target { to < length stack.now.disks }
+    ensures put { IsPut (unit_text stack.now (CopyOf disk start to to_start) len ++ 10 ∷ []) at block.old block.new result }
     ensures few { result ≤ at + 800 }
-    ensures end { result ≡ at + length (unit_text stack.now (CopyOf disk start to to_start) len ++ 10 ∷ []) }
-    ensures text { take result block.new ≡ take at block.old ++ unit_text stack.now (CopyOf disk start to to_start) len ++ 10 ∷ [] }
 {
     let at = put_bytes(block, at, b"copy ");
     let at = put_place(block, at, stack, disk, start);
@@ -196,9 +195,8 @@ fn put_copy(
 fn put_fill(block: &mut [u8], at: usize, stack: &Stack, disk: DiskId, start: u64, len: u64) -> usize
     requires room { at + 800 ≤ length block.old }
     requires there { disk < length stack.now.disks }
+    ensures put { IsPut (unit_text stack.now (FillOf disk start) len ++ 10 ∷ []) at block.old block.new result }
     ensures few { result ≤ at + 400 }
-    ensures end { result ≡ at + length (unit_text stack.now (FillOf disk start) len ++ 10 ∷ []) }
-    ensures text { take result block.new ≡ take at block.old ++ unit_text stack.now (FillOf disk start) len ++ 10 ∷ [] }
 {
     let at = put_bytes(block, at, b"fill ");
     let at = put_digits(block, at, len);
@@ -213,9 +211,8 @@ fn put_named(block: &mut [u8], at: usize, word: &[u8], stack: &Stack, disk: Disk
     requires room { at + 300 ≤ length block.old }
     requires short { length word.now ≤ 9 }
     requires there { disk < length stack.now.disks }
+    ensures put { IsPut (word.now ++ disk_text (disk_name_at stack.now disk)) at block.old block.new result }
     ensures few { result ≤ at + 265 }
-    ensures end { result ≡ at + length (word.now ++ disk_text (disk_name_at stack.now disk)) }
-    ensures text { take result block.new ≡ take at block.old ++ word.now ++ disk_text (disk_name_at stack.now disk) }
 {
     let at = put_bytes(block, at, word);
     stack.disk_text(disk).put_into(block, at)
@@ -225,9 +222,8 @@ fn put_named(block: &mut [u8], at: usize, word: &[u8], stack: &Stack, disk: Disk
 fn put_counted(block: &mut [u8], at: usize, word: &[u8], number: u64) -> usize
     requires room { at + 300 ≤ length block.old }
     requires short { length word.now ≤ 9 }
+    ensures put { IsPut (word.now ++ decimal number ++ 10 ∷ []) at block.old block.new result }
     ensures few { result ≤ at + 30 }
-    ensures end { result ≡ at + length (word.now ++ decimal number ++ 10 ∷ []) }
-    ensures text { take result block.new ≡ take at block.old ++ word.now ++ decimal number ++ 10 ∷ [] }
 {
     let at = put_bytes(block, at, word);
     let at = put_digits(block, at, number);
@@ -238,9 +234,8 @@ fn put_counted(block: &mut [u8], at: usize, word: &[u8], number: u64) -> usize
 fn put_place(block: &mut [u8], at: usize, stack: &Stack, disk: DiskId, sector: u64) -> usize
     requires room { at + 300 ≤ length block.old }
     requires there { disk < length stack.now.disks }
+    ensures put { IsPut (place_text stack.now disk sector) at block.old block.new result }
     ensures few { result ≤ at + 276 }
-    ensures end { result ≡ at + length (place_text stack.now disk sector) }
-    ensures text { take result block.new ≡ take at block.old ++ place_text stack.now disk sector }
 {
     let at = stack.disk_text(disk).put_into(block, at);
     put_digits(block, at, sector)

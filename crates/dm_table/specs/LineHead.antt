@@ -1,5 +1,5 @@
 -- The line of a table in two parts: one that has a greatest length, and the columns of a striped line.
-use Rattle.std.specs.Prelude.{◌≡◌, ◌≤◌, ◌+◌, ℕ, List, [], ◌∷◌, ◌++◌, length, take, codes, decimal}
+use Rattle.std.specs.Prelude.{ℕ, List, [], ◌∷◌, ◌++◌, length, codes, decimal}
 use Rattle.dm_table.specs.declared.table.Column.{Column}
 use Rattle.dm_table.specs.declared.table.Line.{Line}
 use Rattle.dm_table.specs.declared.table.Target.{Target}
@@ -19,9 +19,3 @@ columns_of _ = []
 -- a body without its columns
 abbrev pub body_head : Line → List ℕ
 body_head line = decimal line.start ++ 32 ∷ decimal line.len ++ 32 ∷ target_head line.target
-
--- a text of at most `most` bytes was put at a place of a block: where it ends, and what the block holds up to there
-pub record IsPut (text : List ℕ) (most at : ℕ) (old new : List ℕ) (end : ℕ) : Type 0 where
-  pub few : end ≤ at + most
-  pub ends : end ≡ at + length text
-  pub holds : take end new ≡ take at old ++ text

@@ -5,6 +5,7 @@
 //! copy is the cheapest.
 
 ghost use Rattle.std.specs.Prelude.{◌≡◌, ◌++◌, ◌+◌, ◌<◌, ◌≤◌, length, take, drop, decimal};
+ghost use Rattle.dm_table.specs.Block.{IsPut};
 
 use crate::number_text::MOST_DIGITS;
 
@@ -54,7 +55,7 @@ pub fn put_room<const ROOM: usize>(
     requires within { at + ROOM ≤ length block.old }
     requires text { len ≤ ROOM }
     ensures end { result ≡ at + len }
-    ensures text { take result block.new ≡ take at block.old ++ take len room.now }
+    ensures put { IsPut (take len room.now) at block.old block.new result }
 {
     let bytes = room.as_slice();
     let mut done = 0;
@@ -76,8 +77,7 @@ pub fn put_room<const ROOM: usize>(
 #[inline(always)]
 pub fn put_bytes(block: &mut [u8], at: usize, bytes: &[u8]) -> usize
     requires { at + length bytes.now ≤ length block.old }
-    ensures end { result ≡ at + length bytes.now }
-    ensures text { take result block.new ≡ take at block.old ++ bytes.now }
+    ensures { IsPut bytes.now at block.old block.new result }
 {
     match bytes.len() {
         1 => put_known::<1>(block, at, bytes),
@@ -98,8 +98,7 @@ pub fn put_bytes(block: &mut [u8], at: usize, bytes: &[u8]) -> usize
 fn put_known<const LEN: usize>(block: &mut [u8], at: usize, bytes: &[u8]) -> usize
     requires known { length bytes.now ≡ LEN }
     requires within { at + length bytes.now ≤ length block.old }
-    ensures end { result ≡ at + length bytes.now }
-    ensures text { take result block.new ≡ take at block.old ++ bytes.now }
+    ensures { IsPut bytes.now at block.old block.new result }
 {
     set_room(&mut block[at..at + LEN], as_room::<LEN>(bytes));
     at + bytes.len()
@@ -110,8 +109,7 @@ fn put_known<const LEN: usize>(block: &mut [u8], at: usize, bytes: &[u8]) -> usi
 #[inline(always)]
 fn put_any(block: &mut [u8], at: usize, bytes: &[u8]) -> usize
     requires { at + length bytes.now ≤ length block.old }
-    ensures end { result ≡ at + length bytes.now }
-    ensures text { take result block.new ≡ take at block.old ++ bytes.now }
+    ensures { IsPut bytes.now at block.old block.new result }
 {
     copy_to(block, at, bytes);
     at + bytes.len()
@@ -123,9 +121,8 @@ fn put_any(block: &mut [u8], at: usize, bytes: &[u8]) -> usize
 #[inline(always)]
 pub fn put_digits(block: &mut [u8], at: usize, number: u64) -> usize
     requires { at + MOST_DIGITS ≤ length block.old }
-    ensures end { result ≡ at + length (decimal number) }
+    ensures put { IsPut (decimal number) at block.old block.new result }
     ensures few { result ≤ at + MOST_DIGITS }
-    ensures text { take result block.new ≡ take at block.old ++ decimal number }
 {
     let end = at + count_digits(number);
     let _start = itoa::write_digits(number, block, end);

@@ -4,9 +4,10 @@
 //! Such a text has a greatest length, and a striped line has none. A new target is an arm of
 //! `put_target` here; one whose text has no greatest length has arms in `specs/LineHead.antt` too.
 
-ghost use Rattle.std.specs.Prelude.{◌≡◌, ◌++◌, ◌+◌, ◌<◌, ◌≤◌, ◌∷◌, length, take, decimal};
+ghost use Rattle.std.specs.Prelude.{◌≡◌, ◌++◌, ◌+◌, ◌<◌, ◌≤◌, length, decimal};
+ghost use Rattle.dm_table.specs.Block.{IsPut};
 ghost use Rattle.dm_table.specs.LineBody.{column_text, dev_text};
-ghost use Rattle.dm_table.specs.LineHead.{IsPut, body_head, target_head};
+ghost use Rattle.dm_table.specs.LineHead.{body_head, target_head};
 
 use crate::block::{put_bytes, put_digits};
 use crate::table::{Column, DevRef, Line, Target};
@@ -94,7 +95,8 @@ impl<'a> Text for ColumnText<'a> {
 #[inline(always)]
 fn put_head(block: &mut [u8], at: usize, line: &Line) -> usize
     requires room { at + 700 ≤ length block.old }
-    ensures { IsPut (body_head line.now) 700 at block.old block.new result }
+    ensures put { IsPut (body_head line.now) at block.old block.new result }
+    ensures few { result ≤ at + 700 }
 {
     let at = put_digits(block, at, line.start);
     let at = put_number(block, at, b" ", line.len);
@@ -106,7 +108,8 @@ fn put_head(block: &mut [u8], at: usize, line: &Line) -> usize
 #[inline(always)]
 fn put_target(block: &mut [u8], at: usize, target: &Target) -> usize
     requires room { at + 600 ≤ length block.old }
-    ensures { IsPut (target_head target.now) 600 at block.old block.new result }
+    ensures put { IsPut (target_head target.now) at block.old block.new result }
+    ensures few { result ≤ at + 600 }
 {
     match target {
         Target::Linear { to, offset } => {
@@ -136,7 +139,8 @@ fn put_target(block: &mut [u8], at: usize, target: &Target) -> usize
 fn put_number(block: &mut [u8], at: usize, before: &[u8], number: u64) -> usize
     requires room { at + 30 ≤ length block.old }
     requires before { length before.now ≤ 9 }
-    ensures { IsPut (before.now ++ decimal number) 30 at block.old block.new result }
+    ensures put { IsPut (before.now ++ decimal number) at block.old block.new result }
+    ensures few { result ≤ at + 30 }
 {
     let at = put_bytes(block, at, before);
     put_digits(block, at, number)
@@ -147,7 +151,8 @@ fn put_number(block: &mut [u8], at: usize, before: &[u8], number: u64) -> usize
 fn put_dev(block: &mut [u8], at: usize, before: &[u8], dev: &DevRef) -> usize
     requires room { at + 264 ≤ length block.old }
     requires before { length before.now ≤ 9 }
-    ensures { IsPut (before.now ++ dev_text dev.now) 264 at block.old block.new result }
+    ensures put { IsPut (before.now ++ dev_text dev.now) at block.old block.new result }
+    ensures few { result ≤ at + 264 }
 {
     let at = put_bytes(block, at, before);
     put_name(block, at, dev)
@@ -157,7 +162,8 @@ fn put_dev(block: &mut [u8], at: usize, before: &[u8], dev: &DevRef) -> usize
 #[tactic(auto, using(crate::proofs::ByteLemmas::device_name_len, crate::proofs::ByteLemmas::disk_name_len))]
 fn put_name(block: &mut [u8], at: usize, dev: &DevRef) -> usize
     requires room { at + 255 ≤ length block.old }
-    ensures { IsPut (dev_text dev.now) 255 at block.old block.new result }
+    ensures put { IsPut (dev_text dev.now) at block.old block.new result }
+    ensures few { result ≤ at + 255 }
 {
     match dev {
         DevRef::Device(name) => {

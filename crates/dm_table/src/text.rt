@@ -4,7 +4,8 @@
 //! of a fixed size is copied whole, past the end of its text: the cheapest copy, and what stands
 //! after a text in a block is never read.
 
-ghost use Rattle.std.specs.Prelude.{◌≡◌, ◌++◌, ◌+◌, ◌<◌, ◌≤◌, ℕ, List, length, take, drop};
+ghost use Rattle.std.specs.Prelude.{◌≡◌, ◌+◌, ◌≤◌, ℕ, List, length};
+ghost use Rattle.dm_table.specs.Block.{IsPut};
 
 /// The bytes of a block that a text may use from its place on.
 pub const TEXT_ROOM: usize = 1024;
@@ -18,8 +19,7 @@ pub trait Text {
     /// changed.
     fn put_into(&self, block: &mut [u8], at: usize) -> usize
         requires room { at + TEXT_ROOM ≤ length block.old }
-        ensures end { result ≡ at + length (text self.now) }
+        ensures put { IsPut (text self.now) at block.old block.new result }
         ensures short { length (text self.now) ≤ TEXT_ROOM }
-        ensures len { length block.new ≡ length block.old }
-        ensures written { take result block.new ≡ take at block.old ++ text self.now };
+        ensures len { length block.new ≡ length block.old };
 }

@@ -18,7 +18,10 @@ returns-clause-few c =
     let few : length (decimal c.args.number) ≤ 20 = search (rules, length-decimal-le 20) in
     omega (arith, few)
 
-pub returns-clause-text : goal.returns-clause-text
-returns-clause-text c =
+pub returns-clause-put : goal.returns-clause-put
+returns-clause-put c =
     let put = c.write_digits-start in
-    digits_front c.args.at put.result _ put.new.buf c.args.block.now _ _ (omega arith) (omega arith) put.ensures.before put.ensures.written
+    record {
+      ends = omega arith;
+      holds = digits_front c.args.at put.result _ put.new.buf c.args.block.now _ _ (omega arith) (omega arith) put.ensures.before put.ensures.written;
+    }

@@ -10,7 +10,9 @@ returns-in-Device c =
     let known = c.as_bytes.ensures.value ∙ c.as_str.ensures.text in
     let short : length bytes ≤ 127 = rw known (device_name_len _ c.as_str.ensures.name) in
     rw c.in-Device.is (record {
-      few = omega (arith, short, c.put_bytes-at.ensures.end, c.put_bytes.ensures.end);
-      ends = omega (arith, ap length known, c.put_bytes-at.ensures.end, c.put_bytes.ensures.end);
-      holds = c.put_bytes.ensures.text ∙ ap (λ (t : List ℕ). t ++ bytes) c.put_bytes-at.ensures.text ∙ append_assoc before mapper bytes ∙ ap (λ (name : List ℕ). before ++ (mapper ++ name)) known;
+      put = record {
+        ends = omega (arith, ap length known, c.put_bytes-at.ensures.ends, c.put_bytes.ensures.ends);
+        holds = c.put_bytes.ensures.holds ∙ ap (λ (t : List ℕ). t ++ bytes) c.put_bytes-at.ensures.holds ∙ append_assoc before mapper bytes ∙ ap (λ (name : List ℕ). before ++ (mapper ++ name)) known;
+      };
+      few = omega (arith, short, c.put_bytes-at.ensures.ends, c.put_bytes.ensures.ends);
     })

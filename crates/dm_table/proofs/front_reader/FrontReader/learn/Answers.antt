@@ -20,6 +20,6 @@ invariant_of-self c =
     let cut = c.in_ok-rest.ensures.cut in
     let within : len ≤ length text = omega (arith, c.in_ok-len.ensures.len, prefix_len-le-length is_device_byte text) in
     let long : len + 1 ≤ length text = omega (arith, ap length cut, length-append (take len text) (32 ∷ rest), length-take-le len text within) in
-    let end : c.put_bytes-end.result ≡ len + 1 = omega (arith, c.put_bytes-end.ensures.end, length-take-le (len + 1) text long) in
-    let put : take (len + 1) new ≡ take (len + 1) text = ap (λ (n : ℕ). take n new) (sym end) ∙ c.put_bytes-end.ensures.text in
+    let end : c.put_bytes-end.result ≡ len + 1 = omega (arith, c.put_bytes-end.ensures.ends, length-take-le (len + 1) text long) in
+    let put : take (len + 1) new ≡ take (len + 1) text = ap (λ (n : ℕ). take n new) (sym end) ∙ c.put_bytes-end.ensures.holds in
     (search rules, (take len text, put ∙ space_front text rest len within cut, c.in_ok-len.ensures.name))
