@@ -169,11 +169,12 @@ is_bad_snapshot stack lines len (targets.Snapshot origin store chunk) =
     not (lines == 1) || (is_bad_chunk chunk || not (len == lower_len stack (lower_of stack origin)))
 is_bad_snapshot stack lines len _ = false
 
-abbrev pub snapshot_in : Description → List Line → List LoadFault
-snapshot_in stack lines = faults_by Snapshot (λ line. line.at) (λ line. is_bad_snapshot stack (length lines) line.len line.target) lines
+-- the lines of a device that are bad snapshots
+abbrev pub bad_snapshots_in : Description → List Line → List LoadFault
+bad_snapshots_in stack lines = faults_by Snapshot (λ line. line.at) (λ line. is_bad_snapshot stack (length lines) line.len line.target) lines
 
 abbrev pub snapshot : Description → List LoadFault
-snapshot stack = flat_map (λ device. snapshot_in stack device.lines) stack.devices
+snapshot stack = flat_map (λ device. bad_snapshots_in stack device.lines) stack.devices
 
 -- a chunk within its limits
 abbrev pub HasGoodChunk : Target → Type 0
