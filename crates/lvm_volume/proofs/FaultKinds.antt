@@ -12,7 +12,7 @@ use Rattle.lvm_volume.specs.declared.field.Kind.{Kind}
 use Rattle.lvm_volume.specs.declared.physical.Physical.{Physical}
 use Rattle.lvm_volume.specs.declared.segment.Segment.{Segment}
 use Rattle.lvm_volume.specs.declared.volume.Volume.{Volume}
-use Rattle.lvm_volume.specs.Fields.{Field, faults_of_fields, field_faults, fields_faults, group_faults, group_fields, is_asked, is_wrong, load_kind, missing, node_faults, number_at, one_group_faults, physical_fields, sections_at, segment_field, segment_fields, segments_of, source_fault, top_fields, volume_faults, volume_fields}
+use Rattle.lvm_volume.specs.Fields.{Field, faults_of_fields, field_faults, fields_faults, group_faults, group_fields, is_asked, is_wrong, load_kind, missing, node_faults, number_at, one_group_faults, physical_fields, sections_at, segment_field, segment_fields, segments_of, source_faults, top_fields, volume_faults, volume_fields}
 use Rattle.lvm_volume.specs.Extents as extents
 use Rattle.lvm_volume.specs.Extents.{Claim, at_line, claims_of, used_after, used_by, hit, is_misplaced, is_too_long, least_unknown_of, segment_faults, size_faults, unknown_faults}
 use Rattle.lvm_volume.specs.Group.{Group, Keyed}
@@ -48,7 +48,7 @@ of_missing (Limits n) line = tt
 of_node : (check : Check) (kind : Kind) (tree : Tree) (node : Option Shown) → NoMemory (node_faults check kind tree node)
 of_node check kind tree None = of_missing check tree.line
 of_node check kind tree (Some shown) = by_test (is_wrong check kind tree shown.content) where
-  by_test : (b : Bool) → NoMemory (if b then source_fault (load_kind check) shown.line else [])
+  by_test : (b : Bool) → NoMemory (if b then source_faults (load_kind check) shown.line else [])
   by_test true = (check_kind check, tt)
   by_test false = tt
 

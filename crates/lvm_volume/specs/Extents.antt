@@ -11,12 +11,12 @@ use Rattle.lvm_volume.specs.declared.segment.SegmentType.TheVariants.{Zero, Erro
 use Rattle.lvm_volume.specs.declared.segment.Segment.{Segment}
 use Rattle.lvm_volume.specs.declared.volume.Volume.{Volume}
 use Rattle.lvm_volume.specs.declared.physical.Physical.{Physical}
-use Rattle.lvm_volume.specs.Fields.{source_fault}
+use Rattle.lvm_volume.specs.Fields.{source_faults}
 use Rattle.lvm_volume.specs.Group.{Group}
 
 -- a fault where a test hits
 abbrev pub hit : Bool → LoadKind → ℕ → List LoadFault
-hit bad kind line = if bad then source_fault kind line else []
+hit bad kind line = if bad then source_faults kind line else []
 
 -- Names: a physical volume whose disk gets no name of a disk. A key is a word, so this is one of more than 255 bytes.
 abbrev pub name_faults : List Physical → List LoadFault
@@ -49,7 +49,7 @@ least_unknown_of physicals (volume ∷ volumes) = least_unknown physicals volume
 
 abbrev pub at_line : LoadKind → Option ℕ → List LoadFault
 at_line kind None = []
-at_line kind (Some line) = source_fault kind line
+at_line kind (Some line) = source_faults kind line
 
 abbrev pub unknown_faults : Group → List LoadFault
 unknown_faults group = at_line Unknown (least_unknown_of (length group.physicals) group.volumes)
