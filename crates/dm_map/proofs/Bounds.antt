@@ -17,7 +17,7 @@ use Rattle.dm_stack.specs.Below.{Below, Lies, IsError, IsZero, HoldsSoundly, bel
 use Rattle.dm_stack.specs.Description.{Description, device_len}
 use Rattle.dm_stack.specs.Loaded.{lower_depth, stack_depth}
 use Rattle.dm_stack.specs.Soundness.{IsSound, depth_of}
-use Rattle.dm_map.specs.declared.chunk.ReadPlace.{ReadPlace}
+use Rattle.dm_map.specs.declared.chunk.ReadAt.{ReadAt}
 use Rattle.dm_map.specs.declared.stripe.ChunkPlace.{ChunkPlace}
 use Rattle.dm_map.specs.Bound.{IsBounded, IsLineBounded, line_paths}
 use Rattle.dm_map.specs.Mapping.{sector_step}
@@ -94,7 +94,7 @@ stripe_bound before after op levels device chunk columns line column place dista
     (bounded is sound)
 
 -- a chunk of a snapshot
-pub chunk_bound : (before after : Walking) (op : Op) (levels device : ℕ) (snapshot : FoundSnapshot) (line : FoundLine) (place : ReadPlace) (sector n : ℕ) → found_at before.stack device line.start ≡ Some line → line.target ≡ Snapshot snapshot
+pub chunk_bound : (before after : Walking) (op : Op) (levels device : ℕ) (snapshot : FoundSnapshot) (line : FoundLine) (place : ReadAt) (sector n : ℕ) → found_at before.stack device line.start ≡ Some line → line.target ≡ Snapshot snapshot
     → AreInChunk before.stack device snapshot sector n → 1 ≤ n → AreReadAt before.stack before.state device snapshot sector n place
     → IsBounded before after op (lower_depth before.stack place.to) (path before.stack before.state levels place.to) place.sector n → IsLineBounded before after op levels device line sector n
 chunk_bound before after op levels device snapshot line place sector n found kind chunk some at bounded is sound =

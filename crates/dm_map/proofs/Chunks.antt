@@ -13,7 +13,7 @@ use Rattle.dm_stack.specs.declared.found_line.FoundTarget.TheVariants.{Snapshot}
 use Rattle.dm_stack.specs.Below.{Below, Lies, IsError, found_at, IsSnapshotSound, IsTargetSound}
 use Rattle.dm_stack.specs.Description.{Description, device_len, lower_len}
 use Rattle.dm_stack.specs.Places.{place}
-use Rattle.dm_map.specs.declared.chunk.ReadPlace.{ReadPlace}
+use Rattle.dm_map.specs.declared.chunk.ReadAt.{ReadAt}
 use Rattle.dm_map.specs.Homes.{home}
 use Rattle.dm_map.specs.Reads.{by_below, read_unit}
 use Rattle.dm_map.specs.Snapshots.{number_in, kept_at, read_numbered, read_over}
@@ -98,7 +98,7 @@ read_origin stack state device sector len snapshot chunk valid is =
       inside = omega (arith, chunk.whole.inside, chunk.whole.sound.origin);
     }
 
-pub chunk_read : (stack : Description) (levels device sector n len : ℕ) (snapshot : FoundSnapshot) (state : State) (place : ReadPlace) → AreReadAt stack state device snapshot sector len place → n ≤ len → line_step stack ops.Read levels device (Snapshot snapshot) state sector n ≡ range_step stack ops.Read levels place.to state place.sector n
+pub chunk_read : (stack : Description) (levels device sector n len : ℕ) (snapshot : FoundSnapshot) (state : State) (place : ReadAt) → AreReadAt stack state device snapshot sector len place → n ≤ len → line_step stack ops.Read levels device (Snapshot snapshot) state sector n ≡ range_step stack ops.Read levels place.to state place.sector n
 chunk_read stack levels device sector n len snapshot state place at few =
     steps_read (target_step stack ops.Read levels device (Snapshot snapshot)) (sector_step stack ops.Read levels place.to) state sector place.sector n
     (λ i within. ap (λ (b : Below). keep (by_below b Zeros Fails (λ to s. read_unit stack state levels to s) ∷ []) state) (at.lies i (omega (arith, within, few)))) (λ i within. refl)
@@ -130,7 +130,7 @@ kept stack snapshot device sector state to at settled lies =
     kept_by stack snapshot sector (taken_at state device).valid (number_in (sector / snapshot.chunk) (taken_at state device).chunks) to at settled lies
 
 -- all sectors of the chunk
-pub row_kept : (stack : Description) (snapshot : FoundSnapshot) (device sector len : ℕ) (state : State) (place : ReadPlace) → AreInChunk stack device snapshot sector len → is_settled (taken_at state device) (sector / snapshot.chunk) ≡ true → AreReadAt stack state device snapshot sector len place
+pub row_kept : (stack : Description) (snapshot : FoundSnapshot) (device sector len : ℕ) (state : State) (place : ReadAt) → AreInChunk stack device snapshot sector len → is_settled (taken_at state device) (sector / snapshot.chunk) ≡ true → AreReadAt stack state device snapshot sector len place
     → row (unit_kept stack snapshot device state) sector len ≡ store_writes stack place.to place.sector len
 row_kept stack snapshot device sector len state place chunk settled at =
     row_same (unit_kept stack snapshot device state) (λ s. write_to (home stack place.to s)) sector place.sector len

@@ -14,7 +14,7 @@ use Rattle.dm_stack.specs.Soundness.{IsSound}
 use Rattle.dm_stack.proofs.LayoutLemmas.{AreInRow}
 use Rattle.dm_stack.proofs.SameLine.{same_found}
 use Rattle.dm_stack.proofs.SoundLines.{device_sound, lines_there, sector_found, there}
-use Rattle.dm_map.specs.Tables.{snapshot_at, snapshot_in, snapshot_of}
+use Rattle.dm_map.specs.Tables.{snapshot_at, snapshot_of_line, snapshot_of}
 
 -- A sector that has a line is before its device's end
 
@@ -98,7 +98,7 @@ target_snapshot line (founds.Snapshot other) snapshot is e = is ∙ ap founds.Sn
     some_is : (a b : FoundSnapshot) → Some a ≡ Some b → a ≡ b
     some_is a b same = cc
 
-pub first_line : (stack : Description) (device : ℕ) (snapshot : FoundSnapshot) (found : Option FoundLine) → found_at stack device 0 ≡ found → snapshot_in found ≡ Some snapshot → (line : FoundLine) × (found_at stack device 0 ≡ Some line) × (line.target ≡ founds.Snapshot snapshot)
+pub first_line : (stack : Description) (device : ℕ) (snapshot : FoundSnapshot) (found : Option FoundLine) → found_at stack device 0 ≡ found → snapshot_of_line found ≡ Some snapshot → (line : FoundLine) × (found_at stack device 0 ≡ Some line) × (line.target ≡ founds.Snapshot snapshot)
 first_line stack device snapshot None is e = absurd cc
 first_line stack device snapshot (Some line) is e = (line, is, target_snapshot line line.target snapshot refl e)
 

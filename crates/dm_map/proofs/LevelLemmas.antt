@@ -26,7 +26,7 @@ use Rattle.dm_stack.specs.Span.{Span, column_span, target_spans, whole_span}
 use Rattle.dm_stack.specs.Graph.{links_of, greatest, depth_to}
 use Rattle.dm_stack.specs.declared.found_line.FoundSnapshot.{FoundSnapshot}
 use Rattle.dm_stack.specs.Below.{Below, Lies, IsZero, IsError, below, below_line, below_stripes, below_target, below_column, column_of, in_column, found_line, found_target, found_columns, found_at, holds, line_of}
-use Rattle.dm_stack.specs.Soundness.{IsSound, faults_at, depth_of}
+use Rattle.dm_stack.specs.Soundness.{IsSound, faults_by_id, depth_of}
 use Rattle.dm_stack.proofs.Passes.{all_parts, passes_all}
 use Rattle.dm_stack.proofs.SoundLines.{found}
 use Rattle.dm_map.specs.Units.{BlockUnit, Zeros, Drops, Fails}
@@ -187,7 +187,7 @@ cond_none : (fault : LoadFault) (later : List LoadFault) (b : Bool) → cond b (
 cond_none fault later true e = absurd cc
 cond_none fault later false e = (refl, e)
 
-none_at : (kind : LoadKind) (bad : ℕ → Bool) (id i : ℕ) (devices : List DeviceSpec) → faults_at kind bad id devices ≡ [] → i < length devices → bad (id + i) ≡ false
+none_at : (kind : LoadKind) (bad : ℕ → Bool) (id i : ℕ) (devices : List DeviceSpec) → faults_by_id kind bad id devices ≡ [] → i < length devices → bad (id + i) ≡ false
 none_at kind bad id i [] e below = absurd (omega arith)
 none_at kind bad id zero (device ∷ devices) e below =
     let same : id + 0 ≡ id = omega arith in rw same (cond_none _ _ (bad id) e).0

@@ -28,7 +28,7 @@ use Rattle.dm_stack.proofs.SoundLines.{device_some, disk_some, found, of_device,
 use Rattle.dm_map.specs.Snapshots.{number_in}
 use Rattle.dm_map.specs.SnapshotWrites.{lost, put, with_chunk}
 use Rattle.dm_map.specs.State.{State, Taken, none_taken, taken_at}
-use Rattle.dm_map.specs.Tables.{AreTables, has_room, snapshot_in, snapshot_of, state_of}
+use Rattle.dm_map.specs.Tables.{AreTables, has_room, snapshot_of_line, snapshot_of, state_of}
 
 -- One table
 
@@ -145,7 +145,7 @@ each_plain : (lines : List Line) → has_snapshot lines ≡ false → AllByRecur
 each_plain [] e = tt
 each_plain (line ∷ lines) e = let parts = or_parts (is_snapshot line.target) (has_snapshot lines) e in (parts.0, each_plain lines parts.1)
 
-plain_line : (stack : Description) (lines : List Line) (sector : ℕ) (line : Option Line) → has_snapshot lines ≡ false → line_of lines sector ≡ line → snapshot_in (option_map (found_line stack) line) ≡ None
+plain_line : (stack : Description) (lines : List Line) (sector : ℕ) (line : Option Line) → has_snapshot lines ≡ false → line_of lines sector ≡ line → snapshot_of_line (option_map (found_line stack) line) ≡ None
 plain_line stack lines sector None e is = refl
 plain_line stack lines sector (Some line) e is = plain_target stack line.target (found (λ l. is_snapshot l.target ≡ false) (holds sector) lines line (each_plain lines e) is).1
 

@@ -16,16 +16,16 @@ ground_unit grounds.Zeros = Zeros
 ground_unit grounds.Fails = Fails
 
 -- len sectors are there, if they lie on a disk
-abbrev pub IsThere : Description → Ground → (len : ℕ) → Type 0
-IsThere stack (grounds.Disk disk start) len = IsOnDisk stack disk start len
-IsThere stack grounds.Zeros len = Unit {0}
-IsThere stack grounds.Fails len = Unit {0}
+abbrev pub IsGroundInStack : Description → Ground → (len : ℕ) → Type 0
+IsGroundInStack stack (grounds.Disk disk start) len = IsOnDisk stack disk start len
+IsGroundInStack stack grounds.Zeros len = Unit {0}
+IsGroundInStack stack grounds.Fails len = Unit {0}
 
 -- the first sectors of a range of len are read from its ground, which is there; reads gives the step of the first ones
 pub record IsFirst (before after : Walking) (reads : ℕ → Step) (len : ℕ) (stretch : Stretch) : Type 0 where
   pub some : 1 ≤ stretch.len
   pub most : stretch.len ≤ len
   pub read : reads stretch.len ≡ keep (units_in (ground_unit stretch.ground) stretch.len) before.state
-  pub lies : IsThere before.stack stretch.ground stretch.len
+  pub lies : IsGroundInStack before.stack stretch.ground stretch.len
   pub same : scene after ≡ scene before
   pub looked : AreAdded before.looked after.looked

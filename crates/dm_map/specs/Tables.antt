@@ -18,12 +18,12 @@ abbrev pub snapshot_of : FoundTarget → Option FoundSnapshot
 snapshot_of (found.Snapshot snapshot) = Some snapshot
 snapshot_of _ = None
 
-abbrev pub snapshot_in : Option FoundLine → Option FoundSnapshot
-snapshot_in (Some line) = snapshot_of line.target
-snapshot_in None = None
+abbrev pub snapshot_of_line : Option FoundLine → Option FoundSnapshot
+snapshot_of_line (Some line) = snapshot_of line.target
+snapshot_of_line None = None
 
 abbrev pub snapshot_at : Description → (device : ℕ) → Option FoundSnapshot
-snapshot_at stack device = snapshot_in (found_at stack device 0)
+snapshot_at stack device = snapshot_of_line (found_at stack device 0)
 
 -- its store has a place for the taken chunk of this number; a device that is no snapshot has none
 abbrev pub room_of : Description → Option FoundSnapshot → (number : ℕ) → Bool

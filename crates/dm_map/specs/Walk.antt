@@ -9,7 +9,7 @@ use Rattle.dm_stack.specs.declared.found_line.FoundSnapshot.{FoundSnapshot}
 use Rattle.dm_stack.specs.declared.found_line.FoundTarget.{FoundTarget}
 use Rattle.dm_stack.specs.Description.{Description, device_len, is_ro_at, lower_len}
 use Rattle.dm_stack.specs.Below.{Below, Lies, below_stripes, below_target, column_of, AreStripes, IsSnapshotSound}
-use Rattle.dm_map.specs.declared.chunk.ReadPlace.{ReadPlace}
+use Rattle.dm_map.specs.declared.chunk.ReadAt.{ReadAt}
 use Rattle.dm_map.specs.declared.stripe.ChunkPlace.{ChunkPlace}
 use Rattle.dm_map.specs.Counts.{AreAdded, Counts}
 use Rattle.dm_map.specs.Sink.{OfBeginning}
@@ -121,6 +121,6 @@ pub record AreInChunk (stack : Description) (device : ℕ) (snapshot : FoundSnap
   pub part : sector % snapshot.chunk + len ≤ snapshot.chunk
 
 -- where len sectors of one chunk are read: in a row on a device or a disk, which has them
-pub record AreReadAt (stack : Description) (state : State) (device : ℕ) (snapshot : FoundSnapshot) (sector len : ℕ) (place : ReadPlace) : Type 0 where
+pub record AreReadAt (stack : Description) (state : State) (device : ℕ) (snapshot : FoundSnapshot) (sector len : ℕ) (place : ReadAt) : Type 0 where
   pub lies : (i : ℕ) → i < len → read_over (taken_at state device) snapshot (sector + i) ≡ Lies place.to (place.sector + i)
   pub inside : place.sector + len ≤ lower_len stack place.to

@@ -11,7 +11,7 @@ use dm_stack::{DeviceId, FoundSnapshot, Lower};
 
 /// Where a sector is read: at a sector of a device or a disk.
 #[derive(Clone, Copy, Drop)]
-pub(crate) struct ReadPlace {
+pub(crate) struct ReadAt {
     pub(crate) to: Lower,
     pub(crate) sector: u64,
 }
@@ -32,7 +32,7 @@ pub(crate) fn read_place<T: Taken>(
     snapshot: &FoundSnapshot,
     sector: u64,
     len: u64,
-) -> Option<ReadPlace>
+) -> Option<ReadAt>
     requires some { 1 ≤ len }
     requires chunk { AreInChunk walker.now.stack device snapshot.now sector len }
     ensures place { IfSome result (λ place. AreReadAt walker.now.stack walker.now.state device snapshot.now sector len place) }
@@ -44,11 +44,11 @@ pub(crate) fn read_place<T: Taken>(
     }
     walker.is_sound();
     match walker.find(device, sector / snapshot.chunk) {
-        Some(number) => Some(ReadPlace {
+        Some(number) => Some(ReadAt {
             to: snapshot.store,
             sector: kept_at(snapshot, number, sector),
         }),
-        None => Some(ReadPlace {
+        None => Some(ReadAt {
             to: snapshot.origin,
             sector,
         }),

@@ -15,7 +15,7 @@ ghost use Rattle.dm_map.specs.Homes.{IsFirstHomes};
 ghost use Rattle.dm_map.specs.SnapshotWrites.{can_take, copies, copy_to, count_of, first_of, has_place, is_settled, reads_all, ready, store_writes};
 ghost use Rattle.dm_map.specs.State.{taken_at};
 ghost use Rattle.dm_map.specs.Steps.{keep};
-ghost use Rattle.dm_map.specs.Stretch.{ground_unit, IsThere};
+ghost use Rattle.dm_map.specs.Stretch.{ground_unit, IsGroundInStack};
 ghost use Rattle.dm_map.specs.Tables.{snapshot_at};
 ghost use Rattle.dm_map.specs.Units.{diskless_len, piece_len, units_in, units_of, IsOnDisk, IsOnDisks};
 ghost use Rattle.dm_map.specs.Walk.{scene, HasRoomFor, IsWalked};
@@ -157,7 +157,7 @@ fn copy_piece(from: &Stretch, to: &HomeStretch) -> Piece
     ensures units { units_of result ≡ units_in (copy_to (ground_unit from.now.ground) (record { disk = to.now.disk; sector = to.now.start })) to.now.len }
     ensures len { piece_len result ≡ to.now.len }
     ensures diskless { diskless_len result ≡ 0 }
-    ensures lies { (stack : Description) → IsThere stack from.now.ground to.now.len → IsOnDisk stack to.now.disk to.now.start to.now.len → IsOnDisks stack result }
+    ensures lies { (stack : Description) → IsGroundInStack stack from.now.ground to.now.len → IsOnDisk stack to.now.disk to.now.start to.now.len → IsOnDisks stack result }
 {
     match &from.ground {
         Ground::Disk { disk, start } => Piece::Copy {

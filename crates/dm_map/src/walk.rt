@@ -2,9 +2,10 @@
 //!
 //! A range goes down as one step: it is cut where a line or a chunk ends, of stripes or of a
 //! snapshot, and nowhere else, and each line that it passes is looked up once. A new target is an arm
-//! of `map_line`, with a loop of its own where it cuts, and one of `below_target` and `write_target`.
-//! Each function says which units it hands over, which state it leaves, and, of a read, how often it
-//! searches: at most once a level for each stretch of sectors with one path (`specs/Path`).
+//! of `map_line`, with a loop of its own where it cuts, and one of `line_stretch`, `below_target` and
+//! `write_target`. Each function says which units it hands over, which state it leaves, and, of a
+//! read, how often it searches: at most once a level for each stretch of sectors with one path
+//! (`specs/Path`).
 
 ghost use Rattle.std.specs.Prelude.{◌≡◌, ℕ, ◌+◌, ◌-◌, ◌<◌, ◌≤◌, ◌^◌, Some, length, min};
 ghost use Rattle.dm_stack.specs.Below.{found_at, IsTargetSound};

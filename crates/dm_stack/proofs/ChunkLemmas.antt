@@ -12,7 +12,7 @@ use Rattle.dm_table.specs.declared.table.Line.{Line}
 use Rattle.dm_table.specs.declared.table.Target.{Target}
 use Rattle.dm_table.specs.declared.table.Target.TheVariants as targets
 use Rattle.dm_stack.specs.Description.{Description, lower_len, lower_of}
-use Rattle.dm_stack.specs.Soundness.{HasGoodChunk, HaveGoodChunks, is_bad_chunk, is_bad_snapshot, snapshot, snapshot_in}
+use Rattle.dm_stack.specs.Soundness.{HasGoodChunk, HaveGoodChunks, is_bad_chunk, is_bad_snapshot, snapshot, bad_snapshots_in}
 use Rattle.dm_stack.proofs.Passes.{append_none, faults_by_none}
 
 pub chunk_within : (chunk : ℕ) → is_bad_chunk chunk ≡ false → (0 < chunk) × (chunk ≤ 1024)
@@ -34,10 +34,10 @@ good_lines : (stack : Description) (count : ℕ) (lines : List Line) → AllByRe
 good_lines stack count [] good = tt
 good_lines stack count (line ∷ lines) good = (good_chunk stack count line.len line.target good.0, good_lines stack count lines good.1)
 
-good_devices : (stack : Description) (devices : List DeviceSpec) → flat_map (λ device. snapshot_in stack device.lines) devices ≡ [] → AllByRecursion (λ device. HaveGoodChunks device.lines) devices
+good_devices : (stack : Description) (devices : List DeviceSpec) → flat_map (λ device. bad_snapshots_in stack device.lines) devices ≡ [] → AllByRecursion (λ device. HaveGoodChunks device.lines) devices
 good_devices stack [] none = tt
 good_devices stack (device ∷ devices) none =
-    let parts = append_none (snapshot_in stack device.lines) _ none in
+    let parts = append_none (bad_snapshots_in stack device.lines) _ none in
     let good = faults_by_none Snapshot (λ line. line.at) (λ line. is_bad_snapshot stack (length device.lines) line.len line.target) device.lines parts.0 in
     (All-from_recursion (λ line. HasGoodChunk line.target) device.lines (good_lines stack (length device.lines) device.lines good), good_devices stack devices parts.1)
 

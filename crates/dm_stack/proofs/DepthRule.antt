@@ -14,7 +14,7 @@ use Rattle.dm_table.specs.declared.table.Line.{Line}
 use Rattle.dm_stack.specs.Description.{Description, device_links, line_links, links, lower_of, ref_link}
 use Rattle.dm_stack.specs.Graph.{greatest, links_of}
 use Rattle.dm_stack.specs.Loaded.{IsDeeperByOne, lower_depth}
-use Rattle.dm_stack.specs.Soundness.{IsSound, depth_of, faults_at}
+use Rattle.dm_stack.specs.Soundness.{IsSound, depth_of, faults_by_id}
 use Rattle.dm_stack.specs.Span.{Span, spans}
 use Rattle.dm_stack.proofs.DepthLemmas.{depth_to-deeper}
 use Rattle.dm_stack.proofs.Passes.{cond_none, passes_all}
@@ -22,13 +22,13 @@ use Rattle.dm_stack.proofs.SoundLines.{lines_there, there}
 
 -- Depths within the limit
 
-none_at : (kind : LoadKind) (bad : ℕ → Bool) (id i : ℕ) (devices : List DeviceSpec) → faults_at kind bad id devices ≡ [] → i < length devices → bad (id + i) ≡ false
+none_at : (kind : LoadKind) (bad : ℕ → Bool) (id i : ℕ) (devices : List DeviceSpec) → faults_by_id kind bad id devices ≡ [] → i < length devices → bad (id + i) ≡ false
 none_at kind bad id i [] e within = absurd (omega arith)
 none_at kind bad id zero (device ∷ devices) e within =
-    let parts = cond_none _ (faults_at kind bad (suc id) devices) (bad id) e in
+    let parts = cond_none _ (faults_by_id kind bad (suc id) devices) (bad id) e in
     let here : id + zero ≡ id = omega arith in rw here parts.0
 none_at kind bad id (suc i) (device ∷ devices) e within =
-    let parts = cond_none _ (faults_at kind bad (suc id) devices) (bad id) e in
+    let parts = cond_none _ (faults_by_id kind bad (suc id) devices) (bad id) e in
     let next : id + suc i ≡ suc id + i = omega arith in rw next (none_at kind bad (suc id) i devices parts.1 (omega arith))
 
 pub shallow_device : (stack : Description) (device : ℕ) → IsSound stack → device < length stack.devices → depth_of stack device ≤ 32

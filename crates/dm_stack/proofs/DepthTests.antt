@@ -9,19 +9,19 @@ use Rattle.dm_table.specs.declared.table.DeviceSpec.{DeviceSpec}
 use Rattle.dm_table.specs.LoadFault.{first_or}
 use Rattle.dm_stack.specs.Description.{Description, device_links, links}
 use Rattle.dm_stack.specs.Graph.{depths_to}
-use Rattle.dm_stack.specs.Soundness.{deep, depth_of, faults_at}
+use Rattle.dm_stack.specs.Soundness.{deep, depth_of, faults_by_id}
 use Rattle.dm_stack.proofs.RoundLemmas.{depths_to-at, depths_to-length}
 
 -- tests that agree on the ids of these devices
-same_tests : (kind : LoadKind) (p q : ℕ → Bool) (i : ℕ) (devices : List DeviceSpec) → ((id : ℕ) → id < i + length devices → p id ≡ q id) → faults_at kind p i devices ≡ faults_at kind q i devices
+same_tests : (kind : LoadKind) (p q : ℕ → Bool) (i : ℕ) (devices : List DeviceSpec) → ((id : ℕ) → id < i + length devices → p id ≡ q id) → faults_by_id kind p i devices ≡ faults_by_id kind q i devices
 same_tests kind p q i [] same = refl
 same_tests kind p q i (device ∷ devices) same =
     let here : p i ≡ q i = same i (omega arith) in
-    let later : faults_at kind p (suc i) devices ≡ faults_at kind q (suc i) devices = same_tests kind p q (suc i) devices (λ id below. same id (omega arith)) in
+    let later : faults_by_id kind p (suc i) devices ≡ faults_by_id kind q (suc i) devices = same_tests kind p q (suc i) devices (λ id below. same id (omega arith)) in
     rw (here, later) refl
 
 -- depths that were counted, and those that the check asks for
-pub told_depths : (stack : Description) (depths : List ℕ) → depths ≡ depths_to (links stack) 33 → faults_at Deep (λ id. nat_lt 32 (get_or depths id 0)) 0 stack.devices ≡ deep stack
+pub told_depths : (stack : Description) (depths : List ℕ) → depths ≡ depths_to (links stack) 33 → faults_by_id Deep (λ id. nat_lt 32 (get_or depths id 0)) 0 stack.devices ≡ deep stack
 told_depths stack depths e =
     same_tests Deep (λ id. nat_lt 32 (get_or depths id 0)) (λ id. nat_lt 32 (depth_of stack id)) 0 stack.devices
     (λ id below. ap (λ (all : List ℕ). nat_lt 32 (get_or all id 0)) e ∙ ap (nat_lt 32) (depths_to-at (links stack) 33 id (omega (arith, length-map stack.devices (device_links stack)))))
@@ -29,6 +29,6 @@ told_depths stack depths e =
 pub depth_each : (stack : Description) (depths : List ℕ) → depths ≡ depths_to (links stack) 33 → length depths ≡ length stack.devices
 depth_each stack depths e = ap (λ (all : List ℕ). length all) e ∙ depths_to-length (links stack) 33 ∙ length-map stack.devices (device_links stack)
 
-pub told_deep : (stack : Description) (depths : List ℕ) (devices : List DeviceSpec) → depths ≡ depths_to (links stack) 33 → devices ≡ stack.devices → first_or (faults_at Deep (λ id. nat_lt 32 (get_or depths id 0)) 0 devices) None ≡ first_or (deep stack) None
+pub told_deep : (stack : Description) (depths : List ℕ) (devices : List DeviceSpec) → depths ≡ depths_to (links stack) 33 → devices ≡ stack.devices → first_or (faults_by_id Deep (λ id. nat_lt 32 (get_or depths id 0)) 0 devices) None ≡ first_or (deep stack) None
 told_deep stack depths devices e same =
-    ap (λ (all : List DeviceSpec). first_or (faults_at Deep (λ id. nat_lt 32 (get_or depths id 0)) 0 all) None) same ∙ ap (λ (faults : List LoadFault). first_or faults None) (told_depths stack depths e)
+    ap (λ (all : List DeviceSpec). first_or (faults_by_id Deep (λ id. nat_lt 32 (get_or depths id 0)) 0 all) None) same ∙ ap (λ (faults : List LoadFault). first_or faults None) (told_depths stack depths e)

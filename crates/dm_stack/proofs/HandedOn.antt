@@ -13,7 +13,7 @@ use Rattle.dm_table.specs.declared.load_fault.LoadFault.{LoadFault}
 use Rattle.dm_table.specs.LoadFault.{fault, faults_by, first_or, first_fault}
 use Rattle.dm_stack.specs.Description.{Description, end_of}
 use Rattle.dm_stack.specs.Load.{IsLateFault}
-use Rattle.dm_stack.specs.Soundness.{HaveSmallEnds, WithBefore, all_lines, checks_after, checks_before, crowded, deep, depth_of, empty, empty_in, faults_at, has_bad_store, has_bad_stripes, is_crowded, is_far, is_large, is_misplaced, is_repeated, is_unknown, misplaced, misplaced_in, misplaced_kind, passes_end, past, range, snapshot, snapshot_in, is_bad_snapshot, store, stripe, too_large, too_many, twice, twice_in, unknown, with_before, without_lines}
+use Rattle.dm_stack.specs.Soundness.{HaveSmallEnds, WithBefore, all_lines, checks_after, checks_before, crowded, deep, depth_of, empty, empty_in, faults_by_id, has_bad_store, has_bad_stripes, is_crowded, is_far, is_large, is_misplaced, is_repeated, is_unknown, misplaced, misplaced_in, misplaced_kind, passes_end, past, range, snapshot, bad_snapshots_in, is_bad_snapshot, store, stripe, too_large, too_many, twice, twice_in, unknown, with_before, without_lines}
 use Rattle.dm_stack.specs.Span.{spans}
 use Rattle.dm_stack.proofs.Passes.{all_parts, append_none, faults_by_none}
 
@@ -101,9 +101,9 @@ empty_not_memory device =
     all_append IsNotMemory (without_lines device device.lines) (faults_by Empty (λ line. line.at) (λ line. line.len == 0) device.lines) (without_not_memory device device.lines)
     (by_not_memory Empty (λ line. line.at) (λ line. line.len == 0) device.lines (λ e. cc))
 
-at_not_memory : (kind : LoadKind) (bad : ℕ → Bool) (id : ℕ) (devices : List DeviceSpec) → kind ≢ Memory → AllByRecursion IsNotMemory (faults_at kind bad id devices)
+at_not_memory : (kind : LoadKind) (bad : ℕ → Bool) (id : ℕ) (devices : List DeviceSpec) → kind ≢ Memory → AllByRecursion IsNotMemory (faults_by_id kind bad id devices)
 at_not_memory kind bad id [] other = tt
-at_not_memory kind bad id (device ∷ devices) other = cond_not_memory (fault kind device.at) (faults_at kind bad (suc id) devices) (bad id) other (at_not_memory kind bad (suc id) devices other)
+at_not_memory kind bad id (device ∷ devices) other = cond_not_memory (fault kind device.at) (faults_by_id kind bad (suc id) devices) (bad id) other (at_not_memory kind bad (suc id) devices other)
 
 -- a fault of the checks before the one for cycles, and of those after it
 pub before_not_memory : (stack : Description) (at : LoadFault) → first_fault (checks_before stack) ≡ Some at → IsNotMemory at
@@ -123,7 +123,7 @@ after_not_memory stack at e =
     (first_not_memory (stripe stack) _ at (by_not_memory Stripe (λ line. line.at) (λ line. has_bad_stripes line line.target) (all_lines stack.devices) (λ e. cc))
     (first_not_memory (range stack) _ at (by_not_memory Range (λ line. line.at) (passes_end stack) (all_lines stack.devices) (λ e. cc))
     (first_not_memory (snapshot stack) _ at
-    (all_each IsNotMemory (λ device. snapshot_in stack device.lines) stack.devices (λ device. by_not_memory Snapshot (λ line. line.at) (λ line. is_bad_snapshot stack (length device.lines) line.len line.target) device.lines (λ e. cc)))
+    (all_each IsNotMemory (λ device. bad_snapshots_in stack device.lines) stack.devices (λ device. by_not_memory Snapshot (λ line. line.at) (λ line. is_bad_snapshot stack (length device.lines) line.len line.target) device.lines (λ e. cc)))
     (first_not_memory (store stack) _ at (by_not_memory Store (λ line. line.at) (λ line. has_bad_store stack line.target) (all_lines stack.devices) (λ e. cc))
     (first_not_memory (crowded stack) None at (by_not_memory Limit (λ line. line.it.at) (is_crowded stack) (with_before (all_lines stack.devices)) (λ e. cc)) (λ none. absurd cc)))))) e
 

@@ -9,15 +9,15 @@ use Rattle.dm_stack.specs.declared.id.Lower.{Lower}
 use Rattle.dm_stack.specs.declared.id.Lower.TheVariants.{Device, Disk}
 use Rattle.dm_stack.specs.declared.tidy.Numbered.{Numbered}
 use Rattle.dm_stack.specs.Claims.{NeverMeet, MeetAt, may_share}
-use Rattle.dm_stack.specs.Sweep.{is_same, meets, rivals}
+use Rattle.dm_stack.specs.Sweep.{is_same_lower, meets, rivals}
 
-pub same_is : (one other : Lower) → is_same one other ≡ true → one ≡ other
+pub same_is : (one other : Lower) → is_same_lower one other ≡ true → one ≡ other
 same_is (Device one) (Device other) e = ap (λ (id : ℕ). Device id) (eqb-true one other e)
 same_is (Device one) (Disk other) e = absurd (true≢false (sym e))
 same_is (Disk one) (Device other) e = absurd (true≢false (sym e))
 same_is (Disk one) (Disk other) e = ap (λ (id : ℕ). Disk id) (eqb-true one other e)
 
-self_same : (lower : Lower) → is_same lower lower ≡ true
+self_same : (lower : Lower) → is_same_lower lower lower ≡ true
 self_same (Device id) = eq-eqb id id refl
 self_same (Disk id) = eq-eqb id id refl
 
@@ -26,7 +26,7 @@ self_same (Disk id) = eq-eqb id id refl
 eq_turn : (a b : ℕ) → (a == b) ≡ (b == a)
 eq_turn a b = grind arith
 
-same_turn : (one other : Lower) → is_same one other ≡ is_same other one
+same_turn : (one other : Lower) → is_same_lower one other ≡ is_same_lower other one
 same_turn (Device one) (Device other) = eq_turn one other
 same_turn (Device one) (Disk other) = refl
 same_turn (Disk one) (Device other) = refl
@@ -61,7 +61,7 @@ rivals_turn count one other = rw (and_turn (nat_lt one.number count) (nat_lt oth
 
 meets_at : (one other : Claim) (lower : Lower) (sector : ℕ) → MeetAt one other lower sector → meets one other ≡ true
 meets_at one other lower sector met =
-    and_from _ _ (ap (λ (l : Lower). is_same l other.to) (met.here.on ∙ sym met.there.on) ∙ self_same other.to)
+    and_from _ _ (ap (λ (l : Lower). is_same_lower l other.to) (met.here.on ∙ sym met.there.on) ∙ self_same other.to)
     (and_from _ _ (lt-ltb (max one.start other.start) (min one.end other.end) (omega (arith, met.here.from, met.here.before, met.there.from, met.there.before))) (ap not met.rivals))
 
 pub never_meet_from : (one other : Claim) → meets one other ≡ false → NeverMeet one other

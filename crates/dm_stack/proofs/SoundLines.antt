@@ -17,7 +17,7 @@ use Rattle.dm_table.specs.declared.load_fault.LoadKind.TheVariants.{Limit, Empty
 use Rattle.dm_stack.specs.declared.found_line.FoundLine.{FoundLine}
 use Rattle.dm_stack.specs.Description.{Description, lines_at, lines_or_none, end_of, device_len, lower_len, lower_of}
 use Rattle.dm_stack.specs.Below.{holds, line_of, found_line, found_columns, found_target, found_at, LiesIn, AreStripes, IsSnapshotSound, IsTargetSound, HoldsSoundly}
-use Rattle.dm_stack.specs.Soundness.{all_lines, is_large, without_lines, empty_in, misplaced_in, is_bad_chunk, is_bad_snapshot, is_bad_stripe, has_bad_store, has_bad_stripes, is_past, passes_end, snapshot_in, HaveSmallEnds, IsSound}
+use Rattle.dm_stack.specs.Soundness.{all_lines, is_large, without_lines, empty_in, misplaced_in, is_bad_chunk, is_bad_snapshot, is_bad_stripe, has_bad_store, has_bad_stripes, is_past, passes_end, bad_snapshots_in, HaveSmallEnds, IsSound}
 use Rattle.dm_stack.specs.Span.{column_span, target_spans}
 use Rattle.dm_stack.proofs.HandedOn.{line_within, lines_within}
 use Rattle.dm_stack.proofs.LayoutLemmas.{AreInRow, in_row}
@@ -168,7 +168,7 @@ device_sound stack id device sound at =
       small = of_device (λ line. is_large line ≡ false) stack.devices id device (faults_by_none Limit (λ line. line.at) is_large (all_lines stack.devices) (append_none _ _ p.small).0) at;
       striped = of_device (λ line. has_bad_stripes line line.target ≡ false) stack.devices id device (faults_by_none Stripe (λ line. line.at) (λ line. has_bad_stripes line line.target) (all_lines stack.devices) p.divided) at;
       inside = of_device (λ line. passes_end stack line ≡ false) stack.devices id device (faults_by_none Range (λ line. line.at) (passes_end stack) (all_lines stack.devices) p.inside) at;
-      fitting = faults_by_none Snapshot (λ line. line.at) (λ line. is_bad_snapshot stack (length device.lines) line.len line.target) device.lines (part_of (λ d. snapshot_in stack d.lines) stack.devices id device p.fitting at);
+      fitting = faults_by_none Snapshot (λ line. line.at) (λ line. is_bad_snapshot stack (length device.lines) line.len line.target) device.lines (part_of (λ d. bad_snapshots_in stack d.lines) stack.devices id device p.fitting at);
       stored = of_device (λ line. has_bad_store stack line.target ≡ false) stack.devices id device (faults_by_none Store (λ line. line.at) (λ line. has_bad_store stack line.target) (all_lines stack.devices) p.stored) at;
       filled = part_of empty_in stack.devices id device (append_none _ _ p.filled).0 at;
       placed = in_row device.lines (part_of (λ d. misplaced_in d.lines) stack.devices id device p.placed at);

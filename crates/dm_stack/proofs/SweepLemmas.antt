@@ -14,7 +14,7 @@ use Rattle.dm_stack.specs.declared.id.Lower.{Lower}
 use Rattle.dm_stack.specs.declared.reach.Reach.{Reach}
 use Rattle.dm_stack.specs.declared.tidy.Numbered.{Numbered}
 use Rattle.dm_stack.specs.Claims.{may_share}
-use Rattle.dm_stack.specs.Sweep.{has_pair, is_same, meets, no_reach, own_end, reach_meets, reach_next, reach_of, reach_with, rival_end, rivals}
+use Rattle.dm_stack.specs.Sweep.{has_pair, is_same_lower, meets, no_reach, own_end, reach_meets, reach_next, reach_of, reach_with, rival_end, rivals}
 
 -- a claim that starts no earlier meets one of these, or the reach of others, exactly if it meets the reach of all
 ends_meet : (start first end last reach : ℕ) → first ≤ start → ((nat_lt (max first start) (min last end) && true) || (nat_lt start end && nat_lt start reach)) ≡ (nat_lt start end && nat_lt start (max reach last))
@@ -49,7 +49,7 @@ step : (count : ℕ) (one next : Numbered) (reach : Reach) → one.claim.start �
     → (rivals count one next || reach_meets reach next.claim) ≡ reach_meets (reach_next count next.claim.to reach one) next.claim
 step count one next reach le below =
     ap (λ (b : Bool). ((nat_lt one.number count && b) && meets one.claim next.claim) || reach_meets reach next.claim) below
-    ∙ one_more (nat_lt one.number count) (is_same one.claim.to next.claim.to) one.claim.kind next.claim.kind next.claim.start one.claim.start next.claim.end one.claim.end reach le
+    ∙ one_more (nat_lt one.number count) (is_same_lower one.claim.to next.claim.to) one.claim.kind next.claim.kind next.claim.start one.claim.start next.claim.end one.claim.end reach le
 
 met_from : (count : ℕ) (next : Numbered) → nat_lt next.number count ≡ true → (reach : Reach) (before : List Numbered) → AllByRecursion (λ one. one.claim.start ≤ next.claim.start) before
     → (list_any (λ one. rivals count one next) before || reach_meets reach next.claim) ≡ reach_meets (fold (reach_next count next.claim.to) reach before) next.claim
@@ -109,11 +109,11 @@ pub reach_more : (count : ℕ) (lower : Lower) (order : List Numbered) (k : ℕ)
 reach_more count lower order k next within is =
     ap (fold (reach_next count lower) no_reach) (taken_next order k next within is) ∙ fold-append (reach_next count lower) no_reach (take k order) (next ∷ [])
 
-pub counted : (count : ℕ) (lower : Lower) (reach : Reach) (next : Numbered) → next.number < count → cond (is_same next.claim.to lower) (reach_with reach next.claim) reach ≡ reach_next count lower reach next
-counted count lower reach next below = ap (λ (b : Bool). cond (b && is_same next.claim.to lower) (reach_with reach next.claim) reach) (sym (lt-ltb next.number count below))
+pub counted : (count : ℕ) (lower : Lower) (reach : Reach) (next : Numbered) → next.number < count → cond (is_same_lower next.claim.to lower) (reach_with reach next.claim) reach ≡ reach_next count lower reach next
+counted count lower reach next below = ap (λ (b : Bool). cond (b && is_same_lower next.claim.to lower) (reach_with reach next.claim) reach) (sym (lt-ltb next.number count below))
 
 pub uncounted : (count : ℕ) (lower : Lower) (reach : Reach) (next : Numbered) → count ≤ next.number → reach ≡ reach_next count lower reach next
-uncounted count lower reach next past = ap (λ (b : Bool). cond (b && is_same next.claim.to lower) (reach_with reach next.claim) reach) (sym (le-ltb next.number count past))
+uncounted count lower reach next past = ap (λ (b : Bool). cond (b && is_same_lower next.claim.to lower) (reach_with reach next.claim) reach) (sym (le-ltb next.number count past))
 
 -- the search for a pair, from the next claim on
 search_here : (count : ℕ) (order : List Numbered) (k : ℕ) (next : Numbered) → k < length order → next ≡ get_or order k next

@@ -12,7 +12,7 @@ use Rattle.std.proofs.lemmas.Option.{slice_get_read}
 use Rattle.dm_stack.specs.declared.claim.Claim.{Claim}
 use Rattle.dm_stack.specs.declared.tidy.Numbered.{Numbered}
 use Rattle.dm_stack.specs.Claims.{NeverMeet, IsFirstClash}
-use Rattle.dm_stack.specs.Sweep.{HasPlace, clash_of, clash_with, has_pair, is_tidy_to, meets, numbered, rivals}
+use Rattle.dm_stack.specs.Sweep.{IsCounted, clash_of, clash_with, has_pair, is_tidy_to, meets, numbered, rivals}
 use Rattle.dm_stack.proofs.MeetLemmas.{never_meet_from, meet_from, none_from, rivals_turn}
 use Rattle.dm_stack.proofs.PairLemmas.{no_pair_from_pairs, no_pair_moved, pairs_from_no_pair, pairs_from_search, search_from_pairs}
 use Rattle.dm_stack.proofs.SweepLemmas.{not_met}
@@ -33,23 +33,23 @@ pub numbered_length : (number : ℕ) (claims : List Claim) → length (numbered 
 numbered_length number [] = refl
 numbered_length number (x ∷ xs) = ap suc (numbered_length (suc number) xs)
 
-numbered_at : (number : ℕ) (claims : List Claim) (k place : ℕ) (d : Numbered) → k < length claims → place ≡ number + k → get_or (numbered number claims) k d ≡ record { number = place; claim = get_or claims k d.claim }
-numbered_at number [] k place d within e = absurd (omega (arith, within))
-numbered_at number (x ∷ xs) zero place d within e = let same : number ≡ place = omega (arith, e) in ap (λ (n : ℕ). record { number = n; claim = x }) same
-numbered_at number (x ∷ xs) (suc k) place d within e = numbered_at (suc number) xs k place d (omega (arith, within)) (omega (arith, e))
+numbered_at : (number : ℕ) (claims : List Claim) (k index : ℕ) (d : Numbered) → k < length claims → index ≡ number + k → get_or (numbered number claims) k d ≡ record { number = index; claim = get_or claims k d.claim }
+numbered_at number [] k index d within e = absurd (omega (arith, within))
+numbered_at number (x ∷ xs) zero index d within e = let same : number ≡ index = omega (arith, e) in ap (λ (n : ℕ). record { number = n; claim = x }) same
+numbered_at number (x ∷ xs) (suc k) index d within e = numbered_at (suc number) xs k index d (omega (arith, within)) (omega (arith, e))
 
 numbered_all : (P : Claim → Type 0) (number : ℕ) (claims : List Claim) → All P claims → All (λ next. P next.claim) (numbered number claims)
 numbered_all P number [] all k d within = absurd (omega (arith, within))
 numbered_all P number (x ∷ xs) all zero d within = all zero x (omega arith)
 numbered_all P number (x ∷ xs) all (suc k) d within = numbered_all P (suc number) xs (λ i e below. all (suc i) e (omega (arith, below))) k d (omega (arith, within))
 
-pub places_kept : (devices disks : ℕ) (claims : List Claim) (order : List Numbered) → IsPermutation (numbered 0 claims) order → All (λ claim. HasPlace devices disks claim.to) claims → All (λ next. HasPlace devices disks next.claim.to) order
-places_kept devices disks claims order moved places = All-permutation (λ next. HasPlace devices disks next.claim.to) (numbered 0 claims) order moved (numbered_all (λ claim. HasPlace devices disks claim.to) 0 claims places)
+pub counted_kept : (devices disks : ℕ) (claims : List Claim) (order : List Numbered) → IsPermutation (numbered 0 claims) order → All (λ claim. IsCounted devices disks claim.to) claims → All (λ next. IsCounted devices disks next.claim.to) order
+counted_kept devices disks claims order moved counted = All-permutation (λ next. IsCounted devices disks next.claim.to) (numbered 0 claims) order moved (numbered_all (λ claim. IsCounted devices disks claim.to) 0 claims counted)
 
 pub order_length : (claims : List Claim) (order : List Numbered) → IsPermutation (numbered 0 claims) order → length order ≡ length claims
 order_length claims order moved = length_permutation (numbered 0 claims) order moved ∙ numbered_length 0 claims
 
--- Pairs of claims below a place
+-- Pairs of claims below an index
 
 no_pairs : {X : Type 0} (R : X → X → Type 0) → AllPairs R []
 no_pairs R i j d less within = absurd (omega (arith, within))
@@ -98,7 +98,7 @@ tidy_pairs : (b : Bool) → not b ≡ true → b ≡ false
 tidy_pairs true e = absurd (true≢false (sym e))
 tidy_pairs false e = refl
 
--- no two claims below a place meet exactly if the walk finds none
+-- no two claims below an index meet exactly if the walk finds none
 pub tidy_below : (count : ℕ) (claims : List Claim) (order : List Numbered) → IsPermutation (numbered 0 claims) order → is_tidy_to count order ≡ true → AllPairs NeverMeet (take count claims)
 tidy_below count claims order moved tidy =
     let found = pairs_from_search (rivals count) [] order (tidy_pairs _ tidy) (no_pairs (λ x y. rivals count x y ≡ false)) in
@@ -122,7 +122,7 @@ pub some_order : (order : List Numbered) → is_tidy_to (length order) order ≡
 some_order [] clash = absurd (true≢false clash)
 some_order (next ∷ order) clash = omega arith
 
--- The clash with the claim at a place
+-- The clash with the claim at an index
 
 pub clash_none : (before : List Claim) (k : ℕ) (later : Claim) → length before ≤ k → clash_with (drop k before) later ≡ None
 clash_none before k later past = ap (λ (left : List Claim). clash_with left later) (drop_all k before past)
@@ -167,46 +167,46 @@ none_found : (test : Claim → Bool) (xs : List Claim) → find test xs ≡ None
 none_found test [] e k d within = absurd (omega (arith, within))
 none_found test (y ∷ xs) e k d within = none_in test y xs (test y) refl (none_found test xs) e k d within
 
--- the claim at a place
-pub record At (claims : List Claim) (place : ℕ) : Type 0 where
+-- the claim at an index
+pub record At (claims : List Claim) (index : ℕ) : Type 0 where
   pub claim : Claim
-  pub is : claim ≡ get_or claims place claim
-  pub read : slice_get claims place ≡ Some claim
+  pub is : claim ≡ get_or claims index claim
+  pub read : slice_get claims index ≡ Some claim
 
-pub at : (claims : List Claim) (place : ℕ) → place < length claims → At claims place
-at [] place within = absurd (omega (arith, within))
-at (x ∷ xs) place within =
-    let claim = get_or (x ∷ xs) place x in
-    let is : claim ≡ get_or (x ∷ xs) place claim = get_or_default (x ∷ xs) place x claim within in
-    record { claim = claim; is = is; read = slice_get_read (x ∷ xs) (length (x ∷ xs)) place claim refl within is }
+pub at : (claims : List Claim) (index : ℕ) → index < length claims → At claims index
+at [] index within = absurd (omega (arith, within))
+at (x ∷ xs) index within =
+    let claim = get_or (x ∷ xs) index x in
+    let is : claim ≡ get_or (x ∷ xs) index claim = get_or_default (x ∷ xs) index x claim within in
+    record { claim = claim; is = is; read = slice_get_read (x ∷ xs) (length (x ∷ xs)) index claim refl within is }
 
-pub first_is : (claims : List Claim) (order : List Numbered) (place : ℕ) (later : Claim) → IsPermutation (numbered 0 claims) order → place < length claims → later ≡ get_or claims place later
-    → is_tidy_to place order ≡ true → is_tidy_to (place + 1) order ≡ false → IsFirstClash claims (clash_with (take place claims) later)
-first_is claims order place later moved within is tidy clash = by (find (λ one. meets one later) (take place claims)) refl
+pub first_is : (claims : List Claim) (order : List Numbered) (index : ℕ) (later : Claim) → IsPermutation (numbered 0 claims) order → index < length claims → later ≡ get_or claims index later
+    → is_tidy_to index order ≡ true → is_tidy_to (index + 1) order ≡ false → IsFirstClash claims (clash_with (take index claims) later)
+first_is claims order index later moved within is tidy clash = by (find (λ one. meets one later) (take index claims)) refl
   where
-    pairs : AllPairs NeverMeet (take place claims)
-    pairs = tidy_below place claims order moved tidy
+    pairs : AllPairs NeverMeet (take index claims)
+    pairs = tidy_below index claims order moved tidy
 
-    more : take (place + 1) claims ≡ take place claims ++ later ∷ []
-    more = take_more claims place later within ∙ ap (λ (one : Claim). take place claims ++ one ∷ []) (sym is)
+    more : take (index + 1) claims ≡ take index claims ++ later ∷ []
+    more = take_more claims index later within ∙ ap (λ (one : Claim). take index claims ++ one ∷ []) (sym is)
 
-    whole : claims ≡ take place claims ++ later ∷ drop (suc place) claims
-    whole = sym (take-append-drop place claims) ∙ ap (λ (left : List Claim). take place claims ++ left) (drop-cons claims place later within ∙ ap (λ (one : Claim). one ∷ drop (suc place) claims) (sym is))
+    whole : claims ≡ take index claims ++ later ∷ drop (suc index) claims
+    whole = sym (take-append-drop index claims) ∙ ap (λ (left : List Claim). take index claims ++ left) (drop-cons claims index later within ∙ ap (λ (one : Claim). one ∷ drop (suc index) claims) (sym is))
 
-    by : (result : Option Claim) → find (λ one. meets one later) (take place claims) ≡ result → IsFirstClash claims (option_map (λ one. clash_of one later) result)
+    by : (result : Option Claim) → find (λ one. meets one later) (take index claims) ≡ result → IsFirstClash claims (option_map (λ one. clash_of one later) result)
     by None e =
-        let none = none_found (λ one. meets one later) (take place claims) e in
-        absurd (clash_below (place + 1) claims order moved clash (subst (AllPairs NeverMeet) (sym more) (all_pairs_push NeverMeet (take place claims) later pairs (λ k d below. never_meet_from _ _ (none k d below)))))
+        let none = none_found (λ one. meets one later) (take index claims) e in
+        absurd (clash_below (index + 1) claims order moved clash (subst (AllPairs NeverMeet) (sym more) (all_pairs_push NeverMeet (take index claims) later pairs (λ k d below. never_meet_from _ _ (none k d below)))))
     by (Some earlier) e =
-        let f = found (λ one. meets one later) (take place claims) earlier e in
+        let f = found (λ one. meets one later) (take index claims) earlier e in
         let met = meet_from earlier later f.here in
         record {
           before = f.before;
           earlier = earlier;
           between = f.after;
           later = later;
-          after = drop (suc place) claims;
-          split = whole ∙ ap (λ (front : List Claim). front ++ later ∷ drop (suc place) claims) f.split;
+          after = drop (suc index) claims;
+          split = whole ∙ ap (λ (front : List Claim). front ++ later ∷ drop (suc index) claims) f.split;
           first = subst (AllPairs NeverMeet) f.split pairs;
           earliest = λ k d below. never_meet_from _ _ (f.passed k d below);
           meet = met;

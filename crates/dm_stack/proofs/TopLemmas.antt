@@ -24,7 +24,7 @@ use Rattle.dm_stack.specs.Naming.{is_device, is_named, line_names}
 use Rattle.dm_stack.specs.Report.{IsReport, report_text}
 use Rattle.dm_stack.specs.Soundness.{IsSound, is_past, passes, passes_end}
 use Rattle.dm_stack.specs.Span.{Span, spans}
-use Rattle.dm_stack.specs.Sweep.{HasPlace}
+use Rattle.dm_stack.specs.Sweep.{IsCounted}
 use Rattle.dm_stack.proofs.HandedOn.{all_append, all_each}
 use Rattle.dm_stack.proofs.PairLemmas.{none_before}
 use Rattle.dm_stack.proofs.SoundLines.{device_sound, lines_there, there}
@@ -46,17 +46,17 @@ id_within : {X : Type 0} (test : X → Bool) (xs : List X) → position_or_len t
 id_within test [] = omega arith
 id_within test (x ∷ xs) = id_more (test x) (position_or_len test xs) (length xs) (id_within test xs)
 
-to_within : (stack : Description) (to : DevRef) → HasPlace (length stack.devices + 1) (length stack.disks + 1) (lower_of stack to)
+to_within : (stack : Description) (to : DevRef) → IsCounted (length stack.devices + 1) (length stack.disks + 1) (lower_of stack to)
 to_within stack (refs.Device name) = id_within (λ device. is_same device.name name) stack.devices
 to_within stack (refs.Disk name) = id_within (λ disk. is_same disk.name name) stack.disks
 
-spans_within : (stack : Description) (device : ℕ) (list : List Span) → AllByRecursion (λ claim. HasPlace (length stack.devices + 1) (length stack.disks + 1) claim.to) (map (span_claim stack device) list)
+spans_within : (stack : Description) (device : ℕ) (list : List Span) → AllByRecursion (λ claim. IsCounted (length stack.devices + 1) (length stack.disks + 1) claim.to) (map (span_claim stack device) list)
 spans_within stack device [] = tt
 spans_within stack device (span ∷ list) = (to_within stack span.to, spans_within stack device list)
 
-pub claims_within : (stack : Description) → All (λ claim. HasPlace (length stack.devices + 1) (length stack.disks + 1) claim.to) (claims stack)
+pub claims_within : (stack : Description) → All (λ claim. IsCounted (length stack.devices + 1) (length stack.disks + 1) claim.to) (claims stack)
 claims_within stack =
-    let P = λ (claim : Claim). HasPlace (length stack.devices + 1) (length stack.disks + 1) claim.to in
+    let P = λ (claim : Claim). IsCounted (length stack.devices + 1) (length stack.disks + 1) claim.to in
     All-from_recursion P (claims stack)
     (all_each P (device_claims stack) (range_with_len 0 (length stack.devices)) (λ device. all_each P (line_claims stack device) (lines_at stack device) (λ line. spans_within stack device (spans line))))
 

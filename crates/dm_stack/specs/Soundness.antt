@@ -119,10 +119,10 @@ abbrev pub unknown : Description → List LoadFault
 unknown stack = line_faults Unknown (is_unknown stack) stack
 
 -- the faults of a kind at the devices whose id is bad, where the first has this id
-abbrev pub faults_at : LoadKind → (ℕ → Bool) → ℕ → List DeviceSpec → List LoadFault
-faults_at kind bad id [] = []
-faults_at kind bad id (device ∷ devices) =
-    if bad id then fault kind device.at ∷ faults_at kind bad (suc id) devices else faults_at kind bad (suc id) devices
+abbrev pub faults_by_id : LoadKind → (ℕ → Bool) → ℕ → List DeviceSpec → List LoadFault
+faults_by_id kind bad id [] = []
+faults_by_id kind bad id (device ∷ devices) =
+    if bad id then fault kind device.at ∷ faults_by_id kind bad (suc id) devices else faults_by_id kind bad (suc id) devices
 
 -- the depth of a device: 1 plus the greatest of the devices that it names, followed up to one above the limit
 abbrev pub depth_of : Description → ℕ → ℕ
@@ -130,7 +130,7 @@ depth_of stack device = depth_to (links stack) (suc MOST_DEPTH) device
 
 -- a device of too great a depth
 abbrev pub deep : Description → List LoadFault
-deep stack = faults_at Deep (λ id. nat_lt MOST_DEPTH (depth_of stack id)) 0 stack.devices
+deep stack = faults_by_id Deep (λ id. nat_lt MOST_DEPTH (depth_of stack id)) 0 stack.devices
 
 -- a number of stripes or a chunk out of its limits, or a length that the stripes or their chunks do not divide
 abbrev pub is_bad_stripe : (len chunk count : ℕ) → Bool
@@ -169,11 +169,12 @@ is_bad_snapshot stack lines len (targets.Snapshot origin store chunk) =
     not (lines == 1) || (is_bad_chunk chunk || not (len == lower_len stack (lower_of stack origin)))
 is_bad_snapshot stack lines len _ = false
 
-abbrev pub snapshot_in : Description → List Line → List LoadFault
-snapshot_in stack lines = faults_by Snapshot (λ line. line.at) (λ line. is_bad_snapshot stack (length lines) line.len line.target) lines
+-- the lines of a device that are bad snapshots
+abbrev pub bad_snapshots_in : Description → List Line → List LoadFault
+bad_snapshots_in stack lines = faults_by Snapshot (λ line. line.at) (λ line. is_bad_snapshot stack (length lines) line.len line.target) lines
 
 abbrev pub snapshot : Description → List LoadFault
-snapshot stack = flat_map (λ device. snapshot_in stack device.lines) stack.devices
+snapshot stack = flat_map (λ device. bad_snapshots_in stack device.lines) stack.devices
 
 -- a chunk within its limits
 abbrev pub HasGoodChunk : Target → Type 0

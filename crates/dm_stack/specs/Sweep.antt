@@ -12,15 +12,15 @@ use Rattle.dm_stack.specs.declared.reach.Reaches.{Reaches}
 use Rattle.dm_stack.specs.declared.tidy.Numbered.{Numbered}
 use Rattle.dm_stack.specs.Claims.{may_share}
 
-abbrev pub is_same : Lower → Lower → Bool
-is_same (Device one) (Device other) = one == other
-is_same (Device one) (Disk other) = false
-is_same (Disk one) (Device other) = false
-is_same (Disk one) (Disk other) = one == other
+abbrev pub is_same_lower : Lower → Lower → Bool
+is_same_lower (Device one) (Device other) = one == other
+is_same_lower (Device one) (Disk other) = false
+is_same_lower (Disk one) (Device other) = false
+is_same_lower (Disk one) (Disk other) = one == other
 
 -- whether two claims meet at any sector
 abbrev pub meets : Claim → Claim → Bool
-meets one other = is_same one.to other.to && (nat_lt (max one.start other.start) (min one.end other.end) && not (may_share one.kind other.kind))
+meets one other = is_same_lower one.to other.to && (nat_lt (max one.start other.start) (min one.end other.end) && not (may_share one.kind other.kind))
 
 -- the clash with a later claim, where an earlier one meets it
 abbrev pub clash_of : (earlier later : Claim) → Clash
@@ -55,9 +55,9 @@ reach_at reaches (Device id) = slice_index_or reaches.devices.items id no_reach
 reach_at reaches (Disk id) = slice_index_or reaches.disks.items id no_reach
 
 -- an id below these counts
-abbrev pub HasPlace : (devices disks : ℕ) → Lower → Type 0
-HasPlace devices disks (Device id) = id < devices
-HasPlace devices disks (Disk id) = id < disks
+abbrev pub IsCounted : (devices disks : ℕ) → Lower → Type 0
+IsCounted devices disks (Device id) = id < devices
+IsCounted devices disks (Disk id) = id < disks
 
 -- claims with their numbers, in the order of the list
 abbrev pub numbered : ℕ → List Claim → List Numbered
@@ -66,7 +66,7 @@ numbered number (claim ∷ claims) = record { number = number; claim = claim } �
 
 -- how far the claims of a list reach whose numbers are below a count
 abbrev pub reach_next : (count : ℕ) → Lower → Reach → Numbered → Reach
-reach_next count lower reach next = if nat_lt next.number count && is_same next.claim.to lower then reach_with reach next.claim else reach
+reach_next count lower reach next = if nat_lt next.number count && is_same_lower next.claim.to lower then reach_with reach next.claim else reach
 
 abbrev pub reach_of : (count : ℕ) → Lower → List Numbered → Reach
 reach_of count lower claims = fold (reach_next count lower) no_reach claims

@@ -8,7 +8,7 @@ ghost use Rattle.std.specs.List.{slice_index_or};
 ghost use Rattle.dm_table.specs.LoadFault.{first_or};
 ghost use Rattle.dm_table.specs.declared.load_fault.LoadKind.TheVariants.{Deep};
 ghost use Rattle.dm_stack.specs.Graph.{greatest};
-ghost use Rattle.dm_stack.specs.Soundness.{faults_at};
+ghost use Rattle.dm_stack.specs.Soundness.{faults_by_id};
 
 use crate::graph::MOST_DEPTH;
 use dm_table::{DeviceSpec, LoadFault, LoadKind};
@@ -18,7 +18,7 @@ use dm_table::{DeviceSpec, LoadFault, LoadKind};
 /// Cost: a walk over the devices.
 pub(crate) fn deep(devices: &[DeviceSpec], depths: &[u32]) -> Option<LoadFault>
     requires { length depths.now ≡ length devices.now }
-    ensures { result ≡ first_or (faults_at Deep (λ id. nat_lt MOST_DEPTH (slice_index_or depths.now id 0)) 0 devices.now) None }
+    ensures { result ≡ first_or (faults_by_id Deep (λ id. nat_lt MOST_DEPTH (slice_index_or depths.now id 0)) 0 devices.now) None }
 {
     for (id, device) in devices.iter().enumerate() {
         if MOST_DEPTH < depths[id] {

@@ -13,12 +13,12 @@ use std::marker::Model;
 /// The columns of a striped line in their order. A clause sees them as a list.
 #[derive(Debug, Drop)]
 pub struct FoundColumns {
-    counted: Box<Counted>,
+    counted: Box<CountedColumns>,
 }
 
 /// Columns, and how many these are.
 #[derive(Debug, Drop)]
-struct Counted {
+struct CountedColumns {
     columns: Listed<FoundColumn>,
     count: Divisor,
 }
@@ -45,7 +45,7 @@ impl FoundColumns {
     {
         let count = Divisor::new(columns.len() as u64);
         let columns = Listed::from_vec(columns);
-        let counted = Box::new(alloc, Counted { columns, count })?;
+        let counted = Box::new(alloc, CountedColumns { columns, count })?;
         Ok(FoundColumns { counted })
     }
 

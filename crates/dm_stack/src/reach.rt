@@ -4,7 +4,7 @@
 //! one that starts below their greatest end meets some of them.
 
 ghost use Rattle.std.specs.Prelude.{◌≡◌, IfOk, length, if◌then◌else◌};
-ghost use Rattle.dm_stack.specs.Sweep.{HasPlace, is_same, no_reach, reach_at, reach_meets, reach_with};
+ghost use Rattle.dm_stack.specs.Sweep.{IsCounted, is_same_lower, no_reach, reach_at, reach_meets, reach_with};
 ghost use Rattle.dm_stack.specs.declared.id.Lower.{Lower};
 
 use crate::claim::{Claim, ClaimKind};
@@ -69,7 +69,7 @@ impl Reaches {
 
     /// How far the claims on a device or a disk reach.
     pub(crate) fn at(&self, lower: Lower) -> Reach
-        requires { HasPlace (length self.now.devices.items) (length self.now.disks.items) lower }
+        requires { IsCounted (length self.now.devices.items) (length self.now.disks.items) lower }
         ensures { result ≡ reach_at self.now lower }
     {
         match lower {
@@ -80,8 +80,8 @@ impl Reaches {
 
     /// Adds a claim.
     pub(crate) fn add(&mut self, claim: &Claim)
-        requires { HasPlace (length self.old.devices.items) (length self.old.disks.items) claim.now.to }
-        ensures reach { (lower : Lower) → reach_at self.new lower ≡ (if is_same claim.now.to lower then reach_with (reach_at self.old lower) claim.now else reach_at self.old lower) }
+        requires { IsCounted (length self.old.devices.items) (length self.old.disks.items) claim.now.to }
+        ensures reach { (lower : Lower) → reach_at self.new lower ≡ (if is_same_lower claim.now.to lower then reach_with (reach_at self.old lower) claim.now else reach_at self.old lower) }
         ensures devices { length self.new.devices.items ≡ length self.old.devices.items }
         ensures disks { length self.new.disks.items ≡ length self.old.disks.items }
     {

@@ -6,7 +6,7 @@
 ghost use Rattle.std.specs.Prelude.{◌≡◌, ◌∷◌, ◌++◌, [], IfOk, None, OnOk, if◌then◌else◌};
 ghost use Rattle.dm_table.specs.LoadFault.{first_or};
 ghost use Rattle.dm_stack.specs.Loaded.{has_snapshot, snapshots};
-ghost use Rattle.dm_stack.specs.Soundness.{is_bad_chunk, is_bad_snapshot, snapshot, snapshot_in};
+ghost use Rattle.dm_stack.specs.Soundness.{is_bad_chunk, is_bad_snapshot, snapshot, bad_snapshots_in};
 
 use crate::id::DeviceId;
 use crate::indexed::Indexed;
@@ -23,15 +23,15 @@ pub(crate) fn bad_snapshots(stack: &Indexed) -> Option<LoadFault>
     ensures { result ≡ first_or (snapshot stack.now) None }
 {
     for device in stack.devices() {
-        if let Some(fault) = snapshot_in(stack, device.lines.as_slice()) {
+        if let Some(fault) = bad_snapshots_in(stack, device.lines.as_slice()) {
             return Some(fault);
         }
     }
     None
 }
 
-fn snapshot_in(stack: &Indexed, lines: &[Line]) -> Option<LoadFault>
-    ensures { result ≡ first_or (snapshot_in stack.now lines.now) None }
+fn bad_snapshots_in(stack: &Indexed, lines: &[Line]) -> Option<LoadFault>
+    ensures { result ≡ first_or (bad_snapshots_in stack.now lines.now) None }
 {
     let count = lines.len();
     first_bad(LoadKind::Snapshot, lines, |line| {

@@ -1,7 +1,8 @@
 //! What a line names below, and where: its spans.
 //!
-//! Every check of what lines name reads their spans, and none knows a target: a new target says
-//! what it names here, in `span_at` and in `target_spans` of the specs. No memory is taken.
+//! Unknown names, offsets, ranges, cycles, depths and claims are checked on spans, so these checks
+//! know no target: a new target says what it names here, in `span_at` and in `target_spans` of the
+//! specs. No memory is taken.
 
 ghost use Rattle.std.specs.Prelude.{◌≡◌, ◌+◌, ◌/◌, ◌<◌, ◌^◌, IfSome, drop, length, map, slice_get};
 ghost use Rattle.std.specs.Iterator.{YieldsFirst, item_count};

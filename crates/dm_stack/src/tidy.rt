@@ -1,7 +1,7 @@
 //! The clash of claims: the first that meets an earlier one.
 //!
-//! The claims are put in the order of their starts once. Whether those before some place in the
-//! list meet is then a walk in that order, and halving finds the greatest place up to which none
+//! The claims are put in the order of their starts once. Whether those before some index in the
+//! list meet is then a walk in that order, and halving finds the greatest index up to which none
 //! do: the claim there is the first that meets an earlier one.
 
 ghost use Rattle.std.specs.Prelude.{◌≡◌, ◌+◌, ◌<◌, IfOk, Some, false, length, slice_get, take, true};
@@ -9,7 +9,7 @@ ghost use Rattle.std.specs.List.{All};
 ghost use Rattle.std.specs.List.Sorted.{IsNonDecreasingBy, IsPermutation};
 ghost use Rattle.dm_stack.specs.Claims.{IsFirstClash};
 ghost use Rattle.dm_stack.specs.declared.claim.Claim.{Claim};
-ghost use Rattle.dm_stack.specs.Sweep.{HasPlace, clash_with, is_same, is_tidy_to, meets, numbered};
+ghost use Rattle.dm_stack.specs.Sweep.{IsCounted, clash_with, is_same_lower, is_tidy_to, meets, numbered};
 
 use crate::claim::{Claim, ClaimKind};
 use crate::clash::Clash;
@@ -17,7 +17,7 @@ use crate::id::Lower;
 use crate::reach::Reaches;
 use std::alloc::{AllocError, Global};
 
-/// A claim, and its place among the claims of its stack.
+/// A claim, and its number among the claims of its stack.
 #[derive(Clone, Copy, Drop)]
 pub(crate) struct Numbered {
     number: usize,
@@ -35,7 +35,7 @@ pub(crate) fn first_clash(
     devices: usize,
     disks: usize,
 ) -> Result<Option<Clash>, AllocError>
-    requires { All (λ claim. HasPlace devices disks claim.to) claims.now }
+    requires { All (λ claim. IsCounted devices disks claim.to) claims.now }
     ensures { IfOk result (λ found. IsFirstClash claims.now found) }
 {
     let order = in_order(alloc, claims)?;
@@ -46,7 +46,7 @@ pub(crate) fn first_clash(
     Ok(clash_at(claims, tidy))
 }
 
-/// The claims with their places, in the order of their starts.
+/// The claims with their numbers, in the order of their starts.
 fn in_order(alloc: Global, claims: &[Claim]) -> Result<Vec<Numbered>, AllocError>
     ensures same { IfOk result (λ order. IsPermutation (numbered 0 claims.now) order.items) }
     ensures sorted { IfOk result (λ order. IsNonDecreasingBy (λ next. next.claim.start) order.items) }
@@ -60,7 +60,7 @@ fn in_order(alloc: Global, claims: &[Claim]) -> Result<Vec<Numbered>, AllocError
     Ok(order)
 }
 
-/// Whether no two of the claims meet whose places are below a count.
+/// Whether no two of the claims meet whose numbers are below a count.
 fn is_tidy_to(
     alloc: Global,
     order: &[Numbered],
@@ -68,7 +68,7 @@ fn is_tidy_to(
     devices: usize,
     disks: usize,
 ) -> Result<bool, AllocError>
-    requires places { All (λ next. HasPlace devices disks next.claim.to) order.now }
+    requires counted { All (λ next. IsCounted devices disks next.claim.to) order.now }
     requires sorted { IsNonDecreasingBy (λ next. next.claim.start) order.now }
     ensures { IfOk result (λ tidy. tidy ≡ is_tidy_to count order.now) }
 {
@@ -84,14 +84,14 @@ fn is_tidy_to(
     Ok(true)
 }
 
-/// The greatest count such that no two of the claims meet whose places are below it, where some do.
+/// The greatest count such that no two of the claims meet whose numbers are below it, where some do.
 fn tidy_len(
     alloc: Global,
     order: &[Numbered],
     devices: usize,
     disks: usize,
 ) -> Result<usize, AllocError>
-    requires places { All (λ next. HasPlace devices disks next.claim.to) order.now }
+    requires counted { All (λ next. IsCounted devices disks next.claim.to) order.now }
     requires sorted { IsNonDecreasingBy (λ next. next.claim.start) order.now }
     requires clash { is_tidy_to (length order.now) order.now ≡ false }
     ensures within { IfOk result (λ tidy. tidy < length order.now) }
@@ -111,13 +111,13 @@ fn tidy_len(
     Ok(tidy)
 }
 
-/// The clash of the claim at a place with the first that meets it.
-fn clash_at(claims: &[Claim], place: usize) -> Option<Clash>
-    requires { place < length claims.now }
-    ensures { (later : Claim) → slice_get claims.now place ≡ Some later → result ≡ clash_with (take place claims.now) later }
+/// The clash of the claim at an index with the first that meets it.
+fn clash_at(claims: &[Claim], index: usize) -> Option<Clash>
+    requires { index < length claims.now }
+    ensures { (later : Claim) → slice_get claims.now index ≡ Some later → result ≡ clash_with (take index claims.now) later }
 {
-    let later = &claims[place];
-    for earlier in &claims[..place] {
+    let later = &claims[index];
+    for earlier in &claims[..index] {
         if meets(earlier, later) {
             return Some(Clash {
                 lower: later.to,
@@ -134,13 +134,13 @@ fn clash_at(claims: &[Claim], place: usize) -> Option<Clash>
 fn meets(one: &Claim, other: &Claim) -> bool
     ensures { result ≡ meets one.now other.now }
 {
-    is_same(one.to, other.to)
+    is_same_lower(one.to, other.to)
         && one.start.max(other.start) < one.end.min(other.end)
         && !(one.kind == ClaimKind::Reading && other.kind == ClaimKind::Reading)
 }
 
-fn is_same(one: Lower, other: Lower) -> bool
-    ensures { result ≡ is_same one other }
+fn is_same_lower(one: Lower, other: Lower) -> bool
+    ensures { result ≡ is_same_lower one other }
 {
     one == other
 }

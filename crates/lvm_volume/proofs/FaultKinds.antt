@@ -5,16 +5,17 @@ use Rattle.lvm_text.specs.Tree.{Tree, Shown, node_of, sections_of}
 use Rattle.dm_table.specs.declared.load_fault.LoadKind.{LoadKind}
 use Rattle.dm_table.specs.declared.load_fault.LoadKind.TheVariants.{Memory, Unknown, Extents}
 use Rattle.dm_table.specs.declared.load_fault.LoadFault.{LoadFault}
-use Rattle.dm_table.specs.LoadFault.{first_or}
+use Rattle.dm_table.specs.declared.place.Place.{Place}
+use Rattle.dm_table.specs.LoadFault.{fault, faults_by, first_or}
 use Rattle.lvm_volume.specs.declared.check.Check.{Check}
 use Rattle.lvm_volume.specs.declared.check.Check.TheVariants.{Fields, Limits}
 use Rattle.lvm_volume.specs.declared.field.Kind.{Kind}
 use Rattle.lvm_volume.specs.declared.physical.Physical.{Physical}
 use Rattle.lvm_volume.specs.declared.segment.Segment.{Segment}
 use Rattle.lvm_volume.specs.declared.volume.Volume.{Volume}
-use Rattle.lvm_volume.specs.Fields.{Field, faults_of_fields, field_faults, fields_faults, group_faults, group_fields, is_asked, is_wrong, load_kind, missing, node_faults, number_at, one_group_faults, physical_fields, sections_at, segment_field, segment_fields, segments_of, source_fault, top_fields, volume_faults, volume_fields}
+use Rattle.lvm_volume.specs.Fields.{Field, faults_of_fields, field_faults, fields_faults, group_faults, group_fields, is_asked, is_wrong, load_kind, missing, node_faults, number_at, one_group_faults, physical_fields, sections_at, segment_field, segment_fields, segments_of, source_faults, top_fields, volume_faults, volume_fields}
 use Rattle.lvm_volume.specs.Extents as extents
-use Rattle.lvm_volume.specs.Extents.{Claim, at_line, claims_of, used_after, used_by, hit, is_misplaced, is_too_long, least_unknown_of, segment_faults, size_faults, unknown_faults}
+use Rattle.lvm_volume.specs.Extents.{Claim, at_line, claims_of, used_after, used_by, hit, is_misplaced, is_too_long, least_unknown_of, segment_faults, size_faults, source_place, unknown_faults}
 use Rattle.lvm_volume.specs.Group.{Group, Keyed}
 
 abbrev pub NoMemory : List LoadFault → Type 0
@@ -37,6 +38,15 @@ if_hit : (b : Bool) (kind : LoadKind) (line : ℕ) → kind ≢ Memory → NoMem
 if_hit true kind line h = (h, tt)
 if_hit false kind line h = tt
 
+-- the faults of a kind at what is bad
+if_bad : (b : Bool) (one : LoadFault) (more : List LoadFault) → one.kind ≢ Memory → NoMemory more → NoMemory (if b then one ∷ more else more)
+if_bad true one more h left = (h, left)
+if_bad false one more h left = left
+
+by_kind : {X : Type 0} (kind : LoadKind) (place : X → Place) (bad : X → Bool) (xs : List X) → kind ≢ Memory → NoMemory (faults_by kind place bad xs)
+by_kind kind place bad [] h = tt
+by_kind kind place bad (x ∷ xs) h = if_bad (bad x) (fault kind (place x)) (faults_by kind place bad xs) h (by_kind kind place bad xs h)
+
 check_kind : (check : Check) → load_kind check ≢ Memory
 check_kind Fields = λ e. absurd cc
 check_kind (Limits n) = λ e. absurd cc
@@ -48,7 +58,7 @@ of_missing (Limits n) line = tt
 of_node : (check : Check) (kind : Kind) (tree : Tree) (node : Option Shown) → NoMemory (node_faults check kind tree node)
 of_node check kind tree None = of_missing check tree.line
 of_node check kind tree (Some shown) = by_test (is_wrong check kind tree shown.content) where
-  by_test : (b : Bool) → NoMemory (if b then source_fault (load_kind check) shown.line else [])
+  by_test : (b : Bool) → NoMemory (if b then source_faults (load_kind check) shown.line else [])
   by_test true = (check_kind check, tt)
   by_test false = tt
 
@@ -110,4 +120,4 @@ of_unknown group = of_line (least_unknown_of (length group.physicals) group.volu
 
 pub of_extents : (group : Group) → NoMemory (size_faults group.extent_size group.physicals ++ extents.volume_faults group.physicals [] group.volumes)
 of_extents group =
-    both (size_faults group.extent_size group.physicals) (extents.volume_faults group.physicals [] group.volumes) (each (λ (physical : Physical). hit (is_too_long group.extent_size physical) Extents physical.line) (λ (physical : Physical). if_hit (is_too_long group.extent_size physical) Extents physical.line (λ e. absurd cc)) group.physicals) (of_volumes group.physicals [] group.volumes)
+    both (size_faults group.extent_size group.physicals) (extents.volume_faults group.physicals [] group.volumes) (by_kind Extents (λ physical. source_place physical.line) (is_too_long group.extent_size) group.physicals (λ e. absurd cc)) (of_volumes group.physicals [] group.volumes)

@@ -1,5 +1,5 @@
 -- Physical volumes as they are read, one after the other.
-use Rattle.std.proofs.Common.{◌≡◌, ℕ, ◌+◌, ◌<◌, Bool, true, false, not, List, [], ◌∷◌, ◌++◌, length, get_or, drop, map, Option, Some, None, Ok, Err, refl, sym, ap, ◌∙◌}
+use Rattle.std.proofs.Common.{◌≡◌, ℕ, ◌+◌, ◌<◌, Bool, true, false, not, List, [], ◌∷◌, length, if◌then◌else◌, get_or, drop, map, Option, Some, None, Ok, Err, refl, sym, ap, ◌∙◌}
 use Rattle.std.proofs.lemmas.List.{drop_more}
 use Rattle.lvm_text.specs.Tree.{Tree}
 use Rattle.lvm_text.specs.Iterate.{item_view}
@@ -7,7 +7,7 @@ use Rattle.dm_table.specs.Name.{is_disk_name}
 use Rattle.dm_table.specs.declared.load_fault.LoadFault.{LoadFault}
 use Rattle.dm_table.specs.LoadFault.{first_or, unless}
 use Rattle.lvm_volume.specs.declared.physical.Physical.{Physical}
-use Rattle.lvm_volume.specs.Extents.{hit, name_faults}
+use Rattle.lvm_volume.specs.Extents.{name_faults}
 use Rattle.lvm_volume.specs.Group.{Keyed, chosen, device_of, disk_name, is_shared}
 use Rattle.dm_table.specs.declared.load_fault.LoadKind.TheVariants.{Name}
 use Rattle.dm_table.specs.LoadFault.{fault_at}
@@ -31,13 +31,13 @@ ok_is : {X : Type 0} (o : Option LoadFault) (x y : X) → unless o x ≡ Ok y �
 ok_is None x y e = (refl, cc)
 ok_is (Some f) x y e = absurd cc
 
-alone : (xs ys : List LoadFault) (fault : LoadFault) → first_or (xs ++ []) None ≡ Some fault → first_or (xs ++ ys) None ≡ Some fault
-alone [] ys fault e = absurd cc
-alone (x ∷ xs) ys fault e = e
+alone : (b : Bool) (x : LoadFault) (ys : List LoadFault) (fault : LoadFault) → first_or (if b then x ∷ [] else []) None ≡ Some fault → first_or (if b then x ∷ ys else ys) None ≡ Some fault
+alone true x ys fault e = e
+alone false x ys fault e = absurd cc
 
-nothing : (xs ys : List LoadFault) → first_or (xs ++ []) None ≡ None → first_or (xs ++ ys) None ≡ first_or ys None
-nothing [] ys e = refl
-nothing (x ∷ xs) ys e = absurd cc
+nothing : (b : Bool) (x : LoadFault) (ys : List LoadFault) → first_or (if b then x ∷ [] else []) None ≡ None → first_or (if b then x ∷ ys else ys) None ≡ first_or ys None
+nothing true x ys e = absurd cc
+nothing false x ys e = refl
 
 at_place : (f : Keyed → Physical) (xs : List (Bor (List ℕ) × Bor Tree)) (i : ℕ) (x : Bor (List ℕ) × Bor Tree) → i < length xs → x ≡ get_or xs i x → map f (map item_view (drop i xs)) ≡ f (item_view x) ∷ map f (map item_view (drop (i + 1) xs))
 at_place f xs i x within is =
@@ -48,7 +48,7 @@ pub refused_here : (f : Keyed → Physical) (xs : List (Bor (List ℕ) × Bor Tr
     → first_or (name_faults (map f (map item_view (drop i xs)))) None ≡ first_or (name_faults all) None
     → unless (first_or (name_faults (f (item_view x) ∷ [])) None) (f (item_view x)) ≡ Err fault → unless (first_or (name_faults all) None) all ≡ Err fault
 refused_here f xs i x all fault within is left e =
-    let found = alone (hit (not (is_disk_name (f (item_view x)).disk)) Name (f (item_view x)).line) (name_faults (map f (map item_view (drop (i + 1) xs)))) fault (err_is _ _ fault e) in
+    let found = alone (not (is_disk_name (f (item_view x)).disk)) (fault_at Source Name (f (item_view x)).line) (name_faults (map f (map item_view (drop (i + 1) xs)))) fault (err_is _ _ fault e) in
     let first : first_or (name_faults all) None ≡ Some fault = sym left ∙ ap (λ (ps : List Physical). first_or (name_faults ps) None) (at_place f xs i x within is) ∙ found in
     ap (λ (o : Option LoadFault). unless o all) first
 
@@ -60,5 +60,5 @@ taken_here f xs i x p within is e =
     let more = map f (map item_view (drop (i + 1) xs)) in
     let at = at_place f xs i x within is in (
       at ∙ ap (λ (q : Physical). q ∷ more) a.1,
-      sym (ap (λ (ps : List Physical). first_or (name_faults ps) None) at ∙ nothing (hit (not (is_disk_name (f (item_view x)).disk)) Name (f (item_view x)).line) (name_faults more) a.0),
+      sym (ap (λ (ps : List Physical). first_or (name_faults ps) None) at ∙ nothing (not (is_disk_name (f (item_view x)).disk)) (fault_at Source Name (f (item_view x)).line) (name_faults more) a.0),
     )

@@ -1,9 +1,12 @@
 -- The checks of a group beyond its fields: names of disks, stripes that name nothing, and how extents lie.
 use Rattle.std.specs.Prelude.{ℕ, ◌+◌, ◌*◌, ◌/◌, ◌%◌, Bool, false, not, ◌&&◌, ◌||◌, ◌==◌, List, [], ◌∷◌, ◌++◌, Option, Some, None, nat_lt, length, map, min, slice_index, if◌then◌else◌}
-use Rattle.std.specs.List.{flat_map, list_any}
+use Rattle.std.specs.List.{list_any}
+use Rattle.dm_table.specs.declared.place.Part.TheVariants.{Source}
+use Rattle.dm_table.specs.declared.place.Place.{Place}
 use Rattle.dm_table.specs.declared.load_fault.LoadKind.{LoadKind}
 use Rattle.dm_table.specs.declared.load_fault.LoadKind.TheVariants.{Name, Unknown, Extents}
 use Rattle.dm_table.specs.declared.load_fault.LoadFault.{LoadFault}
+use Rattle.dm_table.specs.LoadFault.{faults_by}
 use Rattle.dm_table.specs.Name.{is_disk_name}
 use Rattle.lvm_volume.specs.declared.segment.Stripe.{Stripe}
 use Rattle.lvm_volume.specs.declared.segment.SegmentType.{SegmentType}
@@ -11,16 +14,20 @@ use Rattle.lvm_volume.specs.declared.segment.SegmentType.TheVariants.{Zero, Erro
 use Rattle.lvm_volume.specs.declared.segment.Segment.{Segment}
 use Rattle.lvm_volume.specs.declared.volume.Volume.{Volume}
 use Rattle.lvm_volume.specs.declared.physical.Physical.{Physical}
-use Rattle.lvm_volume.specs.Fields.{source_fault}
+use Rattle.lvm_volume.specs.Fields.{source_faults}
 use Rattle.lvm_volume.specs.Group.{Group}
+
+-- a line of the text, as a place
+abbrev pub source_place : ℕ → Place
+source_place line = record { part = Source; number = line }
 
 -- a fault where a test hits
 abbrev pub hit : Bool → LoadKind → ℕ → List LoadFault
-hit bad kind line = if bad then source_fault kind line else []
+hit bad kind line = if bad then source_faults kind line else []
 
 -- Names: a physical volume whose disk gets no name of a disk. A key is a word, so this is one of more than 255 bytes.
 abbrev pub name_faults : List Physical → List LoadFault
-name_faults physicals = flat_map (λ physical. hit (not (is_disk_name physical.disk)) Name physical.line) physicals
+name_faults physicals = faults_by Name (λ physical. source_place physical.line) (λ physical. not (is_disk_name physical.disk)) physicals
 
 -- Unknown: a stripe that names no physical volume, the first in the text, whose lines ascend
 
@@ -49,7 +56,7 @@ least_unknown_of physicals (volume ∷ volumes) = least_unknown physicals volume
 
 abbrev pub at_line : LoadKind → Option ℕ → List LoadFault
 at_line kind None = []
-at_line kind (Some line) = source_fault kind line
+at_line kind (Some line) = source_faults kind line
 
 abbrev pub unknown_faults : Group → List LoadFault
 unknown_faults group = at_line Unknown (least_unknown_of (length group.physicals) group.volumes)
@@ -60,7 +67,7 @@ abbrev pub is_too_long : ℕ → Physical → Bool
 is_too_long extent_size physical = nat_lt physical.size (physical.start + physical.count * extent_size)
 
 abbrev pub size_faults : ℕ → List Physical → List LoadFault
-size_faults extent_size physicals = flat_map (λ physical. hit (is_too_long extent_size physical) Extents physical.line) physicals
+size_faults extent_size physicals = faults_by Extents (λ physical. source_place physical.line) (is_too_long extent_size) physicals
 
 -- Extents: what the stripes of segments use
 

@@ -191,8 +191,9 @@ is_far extent_size kind (Inner tree) = false
 
 -- What a check finds at the fields of a section
 
-abbrev pub source_fault : LoadKind → ℕ → List LoadFault
-source_fault kind line = fault_at Source kind line ∷ []
+-- one fault, at a line of the text
+abbrev pub source_faults : LoadKind → ℕ → List LoadFault
+source_faults kind line = fault_at Source kind line ∷ []
 
 abbrev pub load_kind : Check → LoadKind
 load_kind Fields = loads.Field
@@ -204,13 +205,13 @@ is_wrong (Limits extent_size) kind tree content = is_far extent_size kind conten
 
 -- a missing field, which only the check of fields finds
 abbrev pub missing : Check → ℕ → List LoadFault
-missing Fields line = source_fault loads.Field line
+missing Fields line = source_faults loads.Field line
 missing (Limits extent_size) line = []
 
 -- what is found at a key: a missing one at the line of the section, another at its own
 abbrev pub node_faults : Check → Kind → Tree → Option Shown → List LoadFault
 node_faults check kind tree None = missing check tree.line
-node_faults check kind tree (Some shown) = if is_wrong check kind tree shown.content then source_fault (load_kind check) shown.line else []
+node_faults check kind tree (Some shown) = if is_wrong check kind tree shown.content then source_faults (load_kind check) shown.line else []
 
 unfoldable pub field_faults : Check → Tree → Field → List LoadFault
 field_faults check tree f = if is_asked f.when f.key tree then node_faults check f.kind tree (node_of f.key tree.values) else []

@@ -1,6 +1,6 @@
 use Rattle.std.proofs.Common.{ap, ◌∙◌, subst, arith}
 use Rattle.dm_map.specs.Homes.{home}
-use Rattle.dm_map.specs.Stretch.{ground_unit, IsThere}
+use Rattle.dm_map.specs.Stretch.{ground_unit, IsGroundInStack}
 use Rattle.dm_map.specs.Units.{units_in}
 use Rattle.dm_map.proofs.Stores.{not_on_disk, store_row}
 use Rattle.dm_map.proofs.UnitRows.{first_reads, homes_go_on}
@@ -21,5 +21,5 @@ returns-clause-is g c =
       homes = homes_go_on (home w.stack a.store) a.sector c.in-Disk.disk c.in-Disk.start n
           (store_row w.stack w.state a.store a.sector n c.is_sound.ensures c.requires.store (omega (arith, s.most, c.requires.inside))
           ∙ first_reads w.stack w.state a.store a.sector n (ground_unit ground) s.read ∙ ap (λ on. units_in (ground_unit on) n) c.in-Disk.is);
-      lies = subst (λ on. IsThere w.stack on n) c.in-Disk.is s.lies;
+      lies = subst (λ on. IsGroundInStack w.stack on n) c.in-Disk.is s.lies;
     }

@@ -12,7 +12,7 @@ use Rattle.dm_map.specs.declared.stretch.Ground.TheVariants as grounds
 use Rattle.dm_map.specs.declared.stretch.Stretch.{Stretch}
 use Rattle.dm_map.specs.declared.stripe.ChunkPlace.{ChunkPlace}
 use Rattle.dm_map.specs.Steps.{Step, keep}
-use Rattle.dm_map.specs.Stretch.{ground_unit, IsFirst, IsThere}
+use Rattle.dm_map.specs.Stretch.{ground_unit, IsFirst, IsGroundInStack}
 use Rattle.dm_map.specs.Units.{units_in}
 use Rattle.dm_map.specs.Walk.{Scene, Walking, line_step, range_step, scene, IsPlace}
 use Rattle.dm_map.proofs.Ranges.{range_deepest, range_disk, range_line, line_errors, line_linear, line_striped, line_zeros, stripes_chunk}
@@ -24,7 +24,7 @@ use Rattle.dm_map.proofs.stretch.+stretch.Goals as goal
 
 -- A first stretch that is known without a look-up, and one that goes on from a stretch below
 
-known : (walk : Walking) (reads : ℕ → Step) (n len : ℕ) (ground : Ground) → 1 ≤ n → n ≤ len → reads n ≡ keep (units_in (ground_unit ground) n) walk.state → IsThere walk.stack ground n → IsFirst walk walk reads len (record { ground = ground; len = n })
+known : (walk : Walking) (reads : ℕ → Step) (n len : ℕ) (ground : Ground) → 1 ≤ n → n ≤ len → reads n ≡ keep (units_in (ground_unit ground) n) walk.state → IsGroundInStack walk.stack ground n → IsFirst walk walk reads len (record { ground = ground; len = n })
 known walk reads n len ground some most read lies = record { some = some; most = most; read = read; lies = lies; same = refl; looked = none_added walk.looked }
 
 below : (before after : Walking) (reads reads_below : ℕ → Step) (part len : ℕ) (stretch : Stretch) → IsFirst before after reads_below part stretch → part ≤ len → reads stretch.len ≡ reads_below stretch.len → IsFirst before after reads len stretch
@@ -65,7 +65,7 @@ first_stretch-returns-else-levels-eq0 g t c =
           ∙ range_line w.stack Read a.levels (a.levels - 1) c.in-Device.device a.sector n w.state line (omega (arith, c.if-levels-eq0.false)) refl holds.from each
           ∙ sym (looked (λ v. line_step v.stack Read (a.levels - 1) c.in-Device.device line.target v.state (a.sector - line.start) n)) ∙ s.read
           ∙ looked (λ v. keep (units_in (ground_unit c.line_stretch.result.ground) n) v.state);
-      lies = subst (λ (v : Scene). IsThere v.stack c.line_stretch.result.ground n) c.look-line.ensures.same s.lies;
+      lies = subst (λ (v : Scene). IsGroundInStack v.stack c.line_stretch.result.ground n) c.look-line.ensures.same s.lies;
       same = s.same ∙ c.look-line.ensures.same;
       looked = added_then w.looked c.look-line.new.self.looked c.line_stretch.new.walker.looked c.look-line.ensures.looked s.looked;
     }

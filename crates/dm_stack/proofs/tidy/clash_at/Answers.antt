@@ -12,18 +12,18 @@ some_is one other e = cc
 pub returns-then-meets : goal.returns-then-meets
 returns-then-meets c later there =
     let claims = c.args.claims.now in
-    let before = take c.args.place claims in
-    let read = slice_get_read claims (length claims) c.args.place c.index-claims-place.result refl c.requires c.index-claims-place.is in
-    let same = some_is c.index-claims-place.result later (sym read ∙ there) in
-    ap (λ (sector : _). Some (record { lower = c.index-claims-place.result.to; sector = sector; first = c.earlier-item.result.device; second = c.index-claims-place.result.device })) c.max.ensures
-    ∙ sym (clash_here before c.loop-earlier.earlier-index c.earlier-item.result c.index-claims-place.result c.loop-earlier-test.true c.earlier-item.is (sym c.meets.ensures ∙ c.if-meets.true))
+    let before = take c.args.index claims in
+    let read = slice_get_read claims (length claims) c.args.index c.index-claims-index.result refl c.requires c.index-claims-index.is in
+    let same = some_is c.index-claims-index.result later (sym read ∙ there) in
+    ap (λ (sector : _). Some (record { lower = c.index-claims-index.result.to; sector = sector; first = c.earlier-item.result.device; second = c.index-claims-index.result.device })) c.max.ensures
+    ∙ sym (clash_here before c.loop-earlier.earlier-index c.earlier-item.result c.index-claims-index.result c.loop-earlier-test.true c.earlier-item.is (sym c.meets.ensures ∙ c.if-meets.true))
     ∙ c.loop-earlier.invariant ∙ ap (clash_with before) same
 
 pub returns : goal.returns
 returns c later there =
     let claims = c.args.claims.now in
-    let before = take c.args.place claims in
-    let read = slice_get_read claims (length claims) c.args.place c.index-claims-place.result refl c.requires c.index-claims-place.is in
-    let same = some_is c.index-claims-place.result later (sym read ∙ there) in
-    sym (clash_none before c.loop-earlier.earlier-index c.index-claims-place.result c.loop-earlier-test.false)
+    let before = take c.args.index claims in
+    let read = slice_get_read claims (length claims) c.args.index c.index-claims-index.result refl c.requires c.index-claims-index.is in
+    let same = some_is c.index-claims-index.result later (sym read ∙ there) in
+    sym (clash_none before c.loop-earlier.earlier-index c.index-claims-index.result c.loop-earlier-test.false)
     ∙ c.loop-earlier.invariant ∙ ap (clash_with before) same

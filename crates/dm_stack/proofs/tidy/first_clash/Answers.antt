@@ -4,12 +4,12 @@ use Rattle.std.proofs.lemmas.List.{take_all}
 use Rattle.dm_stack.specs.declared.tidy.Numbered.{Numbered}
 use Rattle.dm_stack.specs.Claims.{NeverMeet, IsFirstClash}
 use Rattle.dm_stack.specs.Sweep.{is_tidy_to}
-use Rattle.dm_stack.proofs.TidyLemmas.{at, first_is, order_length, places_kept, tidy_below}
+use Rattle.dm_stack.proofs.TidyLemmas.{at, first_is, order_length, counted_kept, tidy_below}
 use Rattle.dm_stack.proofs.tidy.first_clash.Goals as goal
 
-pub is_tidy_to-requires-clause-places : goal.is_tidy_to-requires-clause-places
-is_tidy_to-requires-clause-places c =
-    rw c.deref.ensures.value (places_kept c.args.devices c.args.disks c.args.claims.now c.in_ok-order.order.items c.in_ok-order.ensures.same c.requires)
+pub is_tidy_to-requires-clause-counted : goal.is_tidy_to-requires-clause-counted
+is_tidy_to-requires-clause-counted c =
+    rw c.deref.ensures.value (counted_kept c.args.devices c.args.disks c.args.claims.now c.in_ok-order.order.items c.in_ok-order.ensures.same c.requires)
 
 pub returns-then-branch : goal.returns-then-branch
 returns-then-branch c =
@@ -18,9 +18,9 @@ returns-then-branch c =
     ap (is_tidy_to (length claims)) (sym c.deref.ensures.value) ∙ sym c.in_ok-is_tidy_to.ensures ∙ c.if-branch.true in
     subst (AllPairs NeverMeet) (take_all (length claims) claims (omega arith)) (tidy_below (length claims) claims c.in_ok-order.order.items c.in_ok-order.ensures.same tidy)
 
-pub tidy_len-requires-clause-places : goal.tidy_len-requires-clause-places
-tidy_len-requires-clause-places c =
-    rw c.deref-2.ensures.value (places_kept c.args.devices c.args.disks c.args.claims.now c.in_ok-order.order.items c.in_ok-order.ensures.same c.requires)
+pub tidy_len-requires-clause-counted : goal.tidy_len-requires-clause-counted
+tidy_len-requires-clause-counted c =
+    rw c.deref-2.ensures.value (counted_kept c.args.devices c.args.disks c.args.claims.now c.in_ok-order.order.items c.in_ok-order.ensures.same c.requires)
 
 pub tidy_len-requires-clause-clash : goal.tidy_len-requires-clause-clash
 tidy_len-requires-clause-clash c =
@@ -38,10 +38,10 @@ pub returns : goal.returns
 returns c =
     let claims = c.args.claims.now in
     let order = c.in_ok-order.order.items in
-    let place = c.in_ok-tidy.tidy in
-    let within : place < length claims =
+    let index = c.in_ok-tidy.tidy in
+    let within : index < length claims =
     omega (arith, c.in_ok-tidy.ensures.within, ap (λ (all : List Numbered). length all) c.deref-2.ensures.value, order_length claims order c.in_ok-order.ensures.same) in
-    let later = at claims place within in
+    let later = at claims index within in
     subst (IsFirstClash claims) (sym (c.clash_at.ensures later.claim later.read))
-    (first_is claims order place later.claim c.in_ok-order.ensures.same within later.is
-    (ap (is_tidy_to place) (sym c.deref-2.ensures.value) ∙ c.in_ok-tidy.ensures.tidy) (ap (is_tidy_to (place + 1)) (sym c.deref-2.ensures.value) ∙ c.in_ok-tidy.ensures.next))
+    (first_is claims order index later.claim c.in_ok-order.ensures.same within later.is
+    (ap (is_tidy_to index) (sym c.deref-2.ensures.value) ∙ c.in_ok-tidy.ensures.tidy) (ap (is_tidy_to (index + 1)) (sym c.deref-2.ensures.value) ∙ c.in_ok-tidy.ensures.next))

@@ -1,4 +1,4 @@
--- the claims so far, with their places
+-- the claims so far, with their numbers
 use Rattle.std.proofs.Common.{◌≡◌, take}
 use Rattle.dm_stack.specs.Sweep.{numbered}
 use Rattle.dm_stack.proofs.tidy.in_order.Given as goal

@@ -2,7 +2,7 @@ use Rattle.std.proofs.Common.{◌≡◌, false, true, not, sym, ap, ◌∙◌, c
 use Rattle.std.specs.List.{list_any}
 use Rattle.dm_stack.specs.declared.reach.Reach.{Reach}
 use Rattle.dm_stack.specs.declared.reach.Reaches.{Reaches}
-use Rattle.dm_stack.specs.Sweep.{is_same, reach_at, reach_meets, reach_of, reach_with, rivals}
+use Rattle.dm_stack.specs.Sweep.{is_same_lower, reach_at, reach_meets, reach_of, reach_with, rivals}
 use Rattle.dm_stack.proofs.SweepLemmas.{counted, met, not_met, reach_more, search_ends, search_more, uncounted}
 use Rattle.dm_stack.proofs.tidy.is_tidy_to.Goals as goal
 use Rattle.dm_stack.proofs.tidy.is_tidy_to.Goals.{then-next-count+else-meets, else-next-count}
@@ -22,7 +22,7 @@ loop-next-preserved c =
           record {
             reaches = λ lower.
                 ap (λ (all : Reaches). reach_at all lower) w.reaches-is ∙ w.add.ensures.reach lower
-                ∙ ap (λ (reach : Reach). cond (is_same next.claim.to lower) (reach_with reach next.claim) reach) (c.loop-next.invariant.reaches lower)
+                ∙ ap (λ (reach : Reach). cond (is_same_lower next.claim.to lower) (reach_with reach next.claim) reach) (c.loop-next.invariant.reaches lower)
                 ∙ counted c.args.count lower (reach_of c.args.count lower (take k order)) next w.if-next-count.true ∙ sym (reach_more c.args.count lower order k next within is);
             left = search_more c.args.count order k next _ within is none c.loop-next.invariant.left;
             devices = ap (λ (all : Reaches). length all.devices.items) w.reaches-is ∙ w.add.ensures.devices ∙ c.loop-next.invariant.devices;

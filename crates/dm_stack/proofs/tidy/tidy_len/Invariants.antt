@@ -1,4 +1,4 @@
--- none of the claims below the one place meet, and some below the other do
+-- none of the claims below the one index meet, and some below the other do
 use Rattle.std.proofs.Common.{◌≡◌, ◌<◌, ◌≤◌, ◌-◌, false, length, true}
 use Rattle.dm_stack.specs.Sweep.{is_tidy_to}
 use Rattle.dm_stack.proofs.tidy.tidy_len.Given as goal
