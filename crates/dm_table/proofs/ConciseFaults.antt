@@ -1,7 +1,8 @@
 -- What is wrong with the parts of a device of the concise form, and with the device.
 use Rattle.std.proofs.Common.{◌≡◌, ◌≢◌, OnOk, ℕ, suc, ◌+◌, ◌-◌, ◌<◌, ◌≤◌, Bool, true, false, not, eqb, nat_le, ◌&&◌, ◌||◌, List, [], ◌∷◌, ◌++◌, length, take, drop, get_or, Option, Some, None, Result, Ok, Err, refl, sym, ap, subst, ◌∙◌, append_assoc, arith}
-use Rattle.std.specs.Prelude.{slice_index_or}
-use Rattle.std.specs.List.{list_all, AllByRecursion}
+use Rattle.std.specs.Prelude.{is_some, slice_index_or}
+use Rattle.std.specs.List.{cons_option, list_all, AllByRecursion}
+use Rattle.std.specs.Option.{ok_or, option_to_list}
 use Rattle.std.specs.declared.alloc.AllocError.{AllocError}
 use Rattle.std.proofs.lemmas.Bool.{and_parts}
 use Rattle.std.proofs.lemmas.List.{take_rest, append-nil, drop_more, drop_all}
@@ -20,12 +21,13 @@ use Rattle.dm_table.specs.Name.{is_device_name}
 use Rattle.dm_table.specs.LoadFault.{faults_from, first_or, first_fault, row_checks, unless}
 use Rattle.dm_table.specs.RowFaults.{value_fault, row_fault, read_unless, Reads, no_faults, noted, noted_at, noted_rows, first_noted}
 use Rattle.dm_table.specs.LineBody.{is_body_row, is_body, has_body_names}
+use Rattle.dm_table.specs.LineReading.{line_in}
 use Rattle.dm_table.specs.ConciseText.{place_of, parts_of, lacks, is_uuid, is_ro, entries, body_fields, is_printed, is_label, is_known, is_named, is_device, has_values, has_names}
-use Rattle.dm_table.specs.ConciseReading.{worse, fault_of_body, fault_of_bodies, fault_of_entries, fault_of_device, line_in, lines_in, device_of, entries_reading, device_reading, bodies_reading, with_reading, with_devices, devices_from, parts_reading}
+use Rattle.dm_table.specs.ConciseReading.{worse, fault_of_body, fault_of_bodies, fault_of_entries, fault_of_device, lines_in, device_in, device_unless, entries_reading, device_reading, bodies_reading, with_reading, with_devices, devices_from, parts_reading}
 use Rattle.dm_table.proofs.ByteLemmas.{parts_pass}
 use Rattle.dm_table.proofs.FaultLemmas.{first_or-passed}
 use Rattle.dm_table.proofs.RowFaultLemmas.{names_true, noted_faulty, noted_none, noted_refused}
-use Rattle.dm_table.proofs.TargetRows.{read_fault, read_value, and_false}
+use Rattle.dm_table.proofs.TargetRows.{read_none, read_value, and_false}
 
 -- The worse of two
 
@@ -107,7 +109,7 @@ pub device_read : (r : Result DeviceSpec RowFault) (n : ℕ) (text : List ℕ) (
     → Reads (λ device. device) r (entries_reading n on_a_line es) → Reads (λ device. device) r (device_reading n text)
 device_read r n text es on_a_line line cut h =
     let same : entries_reading n on_a_line es ≡ device_reading n text =
-    rw (line, cut) (ap (λ (fault : Option RowFault). read_unless fault (device_of n (entries text))) (device_fault text)) in
+    rw (line, cut) (ap (λ (fault : Option RowFault). device_unless fault (device_in n (entries text))) (device_fault text)) in
     subst (λ (x : Result DeviceSpec RowFault). Reads (λ device. device) r x) same h
 
 -- Entries in hand
@@ -130,8 +132,8 @@ entries_fault n on_a_line (a ∷ []) fault label h is r = absurd (omega arith)
 entries_fault n on_a_line (a ∷ b ∷ []) fault label h is r = absurd (omega arith)
 entries_fault n on_a_line (a ∷ b ∷ c ∷ []) fault label h is r = absurd (omega arith)
 entries_fault n on_a_line (a ∷ b ∷ c ∷ d ∷ es) fault label h is r =
-    read_fault (worse (label_of on_a_line (texts (a ∷ b ∷ c ∷ d ∷ es))) (fault_of_bodies (texts es))) (lines_in (place_of n) (texts es)) (device_of n (texts (a ∷ b ∷ c ∷ d ∷ es))) fault
-    (rw (take_rest (a ∷ b ∷ c ∷ d ∷ es) 4, is) at r)
+    let found = read_none (worse (label_of on_a_line (texts (a ∷ b ∷ c ∷ d ∷ es))) (fault_of_bodies (texts es))) (lines_in (place_of n) (texts es)) fault (rw (take_rest (a ∷ b ∷ c ∷ d ∷ es) 4, is) at r) in
+    ap (λ (x : Option RowFault). device_unless x (device_in n (texts (a ∷ b ∷ c ∷ d ∷ es)))) found
 
 pub entries_read : (n : ℕ) (on_a_line : Bool) (es : List (Bor (List ℕ))) (k e : Bor (List ℕ)) (lines : List Line) (label : Option RowFault) → 4 ≤ length es → label ≡ label_of on_a_line (texts es)
     → bodies_reading (place_of n) label (texts (take (length es - 4) (drop 4 es))) ≡ Ok lines
@@ -160,10 +162,15 @@ entries_named n on_a_line (a ∷ b ∷ es) k bodies lines label h is r =
 abbrev AreRead : List (List ℕ) → Type 0
 AreRead = AllByRecursion (λ text. fault_of_device text ≡ None)
 
+one_more : (ds : List DeviceSpec) (n : ℕ) (parts : List (List ℕ)) (said : Option DeviceSpec) → ((more : List DeviceSpec) → with_devices more n parts ≡ more ++ devices_from n parts)
+    → with_devices (with_reading ds (ok_or said Syntax)) n parts ≡ ds ++ cons_option said (devices_from n parts)
+one_more ds n parts None later = later ds
+one_more ds n parts (Some device) later = later (ds ++ device ∷ []) ∙ append_assoc ds (device ∷ []) (devices_from n parts)
+
 with_read : (ds : List DeviceSpec) (n : ℕ) (parts : List (List ℕ)) → AreRead parts → with_devices ds n parts ≡ ds ++ devices_from n parts
 with_read ds n [] h = sym (append-nil ds)
 with_read ds n (text ∷ parts) h =
-    rw h.0 (with_read (ds ++ device_of n (entries text) ∷ []) (suc n) parts h.1 ∙ append_assoc ds (device_of n (entries text) ∷ []) (devices_from (suc n) parts))
+    rw h.0 (one_more ds (suc n) parts (device_in n (entries text)) (λ more. with_read more (suc n) parts h.1))
 
 -- where all bytes of a text are printed, those of its parts are
 pub printed_parts : (text : List ℕ) (parts : List (List ℕ)) → parts ≡ parts_of text → is_printed text ≡ true → AllByRecursion (λ part. not (is_printed part) ≡ false) parts
@@ -192,7 +199,34 @@ parts_taken parts h =
 
 -- a device that is read has no fault, and one that is not has it noted, where memory is left
 pub read_faultless : (n : ℕ) (text : List ℕ) (device : DeviceSpec) → device_reading n text ≡ Ok device → fault_of_device text ≡ None
-read_faultless n text device h = (read_value (fault_of_device text) (device_of n (entries text)) device h).0
+read_faultless n text device h = none_found (fault_of_device text) (device_in n (entries text)) h where
+  none_found : (found : Option RowFault) (said : Option DeviceSpec) → device_unless found said ≡ Ok device → found ≡ None
+  none_found None said h = refl
+  none_found (Some fault) said h = absurd cc
+
+-- entries with a label say a device
+labelled : (n : ℕ) (es : List (List ℕ)) → is_label es ≡ true → is_some (device_in n es) ≡ true
+labelled n [] h = absurd cc
+labelled n (a ∷ []) h = absurd cc
+labelled n (a ∷ b ∷ []) h = absurd cc
+labelled n (a ∷ b ∷ c ∷ []) h = absurd cc
+labelled n (a ∷ b ∷ c ∷ d ∷ es) h = refl
+
+found_by : (row known named : Bool) (said : Option DeviceSpec) (fault : RowFault) → (row ≡ true → is_some said ≡ true) → device_unless (row_fault row (value_fault known named)) said ≡ Err fault
+    → row_fault row (value_fault known named) ≡ Some fault
+found_by true true true None fault there h = absurd (let no : false ≡ true = there refl in cc)
+found_by true true true (Some device) fault there h = absurd cc
+found_by true true false said fault there h = let same : Name ≡ fault = cc in ap Some same
+found_by true false named said fault there h = let same : Field ≡ fault = cc in ap Some same
+found_by false known named said fault there h = let same : Syntax ≡ fault = cc in ap Some same
+
+-- a fault that was read is what is wrong with the device
+read_found : (n : ℕ) (text : List ℕ) (fault : RowFault) → device_reading n text ≡ Err fault → read_unless (fault_of_device text) text ≡ Err fault
+read_found n text fault h =
+    let there : is_device text ≡ true → is_some (device_in n (entries text)) ≡ true =
+    λ is. labelled n (entries text) (and_parts (lacks 10 text) (is_label (entries text)) (and_parts (lacks 10 text && is_label (entries text)) _ is).0).1 in
+    let found : fault_of_device text ≡ Some fault = found_by (is_device text) (has_values text) (has_names text) (device_in n (entries text)) fault there h in
+    ap (λ (x : Option RowFault). read_unless x text) found
 
 left_out : (r : Result (Unit {0}) AllocError) (n : ℕ) (text : List ℕ) (devices : List DeviceSpec) (fault : RowFault) → OnOk r (fault ≢ Memory)
     → (fault ≢ Memory → device_reading n text ≡ Err fault) → OnOk r (devices ≡ with_reading devices (device_reading n text))
@@ -203,10 +237,15 @@ pub read_faulty : (r : Result (Unit {0}) AllocError) (n : ℕ) (text : List ℕ)
     → (fault ≢ Memory → device_reading n text ≡ Err fault) → OnOk r (devices ≡ with_reading devices (device_reading n text)) × OnOk r (new ≡ noted_at Source old n (fault_of_device text))
 read_faulty r n text devices old new fault is other reading = (
   left_out r n text devices fault other reading,
-  noted_faulty r Source n (fault_of_device text) (device_of n (entries text)) old new fault is other reading,
+  noted_faulty r Source n (fault_of_device text) text old new fault is other (λ known. read_found n text fault (reading known)),
 )
 
 -- Bodies one after the other
+
+-- a line, if there is one, after those so far
+one_line : (old : List Line) (said : Option Line) (more : List Line) → (old ++ option_to_list said) ++ more ≡ old ++ cons_option said more
+one_line old None more = ap (λ (lines : List Line). lines ++ more) (append-nil old)
+one_line old (Some line) more = append_assoc old (line ∷ []) more
 
 -- one body further
 pub record IsBodyFurther (bodies : List (Bor (List ℕ))) (i : ℕ) (at : Place) (label fault found : Option RowFault) (old new : List Line) : Type 0 where
@@ -214,7 +253,7 @@ pub record IsBodyFurther (bodies : List (Bor (List ℕ))) (i : ℕ) (at : Place)
   pub made : worse fault found ≡ None → new ++ lines_in at (texts (drop (i + 1) bodies)) ≡ lines_in at (texts bodies)
 
 pub body_further : (bodies : List (Bor (List ℕ))) (i : ℕ) (d : Bor (List ℕ)) (at : Place) (label fault found : Option RowFault) (old new : List Line)
-    → i < length bodies → found ≡ fault_of_body (get_or bodies i d).now → (fault_of_body (get_or bodies i d).now ≡ None → new ≡ old ++ line_in at (get_or bodies i d).now ∷ [])
+    → i < length bodies → found ≡ fault_of_body (get_or bodies i d).now → (fault_of_body (get_or bodies i d).now ≡ None → new ≡ old ++ option_to_list (line_in at (body_fields (get_or bodies i d).now)))
     → worse fault (fault_of_bodies (texts (drop i bodies))) ≡ worse label (fault_of_bodies (texts bodies))
     → (fault ≡ None → old ++ lines_in at (texts (drop i bodies)) ≡ lines_in at (texts bodies)) → IsBodyFurther bodies i at label fault found old new
 body_further bodies i d at label fault found old new below is added known made =
@@ -226,7 +265,7 @@ body_further bodies i d at label fault found old new below is added known made =
       known = worse-more fault found _ text ∙ ap (λ (x : Option RowFault). worse fault (worse x (fault_of_bodies (texts (drop (i + 1) bodies))))) is ∙ (rw next at known);
       made = λ clear.
           let both = worse-clear fault found clear in
-          rw (added (sym is ∙ both.1)) (append_assoc old (line_in at body.now ∷ []) (lines_in at (texts (drop (i + 1) bodies))) ∙ (rw next at (made both.0)));
+          rw (added (sym is ∙ both.1)) (one_line old (line_in at fields) (lines_in at (texts (drop (i + 1) bodies))) ∙ (rw next at (made both.0)));
     }
 
 -- no body left

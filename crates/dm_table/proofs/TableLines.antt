@@ -2,7 +2,7 @@
 use Rattle.std.proofs.Common.{◌≡◌, ◌≢◌, OnOk, inl, inr, ℕ, zero, suc, ◌+◌, true, false, nat_eq, List, [], ◌∷◌, ◌++◌, length, Option, Some, None, Result, Ok, Err, refl, sym, ap, ◌∙◌, append_assoc, arith}
 use Rattle.std.specs.Cmp.Lexicographic.{pointwise}
 use Rattle.std.specs.Prelude.{slice_index_or, slice_set}
-use Rattle.std.specs.List.{AllByRecursion}
+use Rattle.std.specs.List.{AllByRecursion, cons_option}
 use Rattle.std.proofs.lemmas.Bool.{and_parts, cases_Bool}
 use Rattle.std.proofs.lemmas.List.{append-nil}
 use Rattle.dm_table.specs.declared.table.Line.{Line}
@@ -15,13 +15,14 @@ use Rattle.dm_table.specs.declared.row_faults.FirstFaults.{FirstFaults}
 use Rattle.dm_table.specs.declared.row_faults.RowFault.TheVariants as rows
 use Rattle.std.specs.declared.alloc.AllocError.{AllocError}
 use Rattle.dm_table.specs.Name.{is_device_name}
-use Rattle.dm_table.specs.RowFaults.{no_faults, noted_at, noted_rows, noted_rest, first_noted}
-use Rattle.dm_table.specs.LineBody.{has_body_names}
-use Rattle.dm_table.specs.TableText.{NamedLine, name_in, row_of, is_row, is_line, has_names}
-use Rattle.dm_table.specs.TableReading.{named_in, named_from, alone, join_line, joined, add_line, fault_of_row, row_reading, with_reading, with_rows, rows_of, read_rows}
-use Rattle.dm_table.proofs.RowFaultLemmas.{names_true, noted_none, noted_refused}
+use Rattle.dm_table.specs.RowFaults.{read_unless, no_faults, noted_at, noted_rows, noted_rest, first_noted}
+use Rattle.dm_table.specs.LineBody.{has_target_names}
+use Rattle.dm_table.specs.TableText.{NamedLine, row_of, is_row, is_line, has_names}
+use Rattle.dm_table.specs.TableReading.{named_from, alone, join_line, joined, add_line, fault_of_row, row_reading, with_reading, with_rows, rows_of, read_rows}
+use Rattle.dm_table.proofs.RowFaultLemmas.{noted_none, noted_refused}
 use Rattle.dm_table.proofs.TableGroups.{same_name, is_same_name, other_name, is_other_name}
-use Rattle.dm_table.proofs.TargetRows.{read_value}
+use Rattle.dm_table.proofs.TableFields.{row_fault_is, row_taken}
+use Rattle.dm_table.proofs.TargetRows.{read_ok}
 
 -- A line after devices
 
@@ -89,7 +90,12 @@ AreRead = AllByRecursion (λ row. fault_of_row row ≡ None)
 with_read : (ns : List NamedLine) (n : ℕ) (rows : List (List (List ℕ))) → AreRead rows → with_rows (joined ns) n rows ≡ joined (ns ++ named_from n rows)
 with_read ns n [] h = ap joined (sym (append-nil ns))
 with_read ns n (row ∷ rows) h =
-    rw (h.0, joined_more ns (named_in n row)) (with_read (ns ++ named_in n row ∷ []) (suc n) rows h.1 ∙ ap joined (append_assoc ns (named_in n row ∷ []) (named_from (suc n) rows)))
+    let taken = row_taken n row h.0 in
+    ap (λ (reading : Result NamedLine RowFault). with_rows (with_reading (joined ns) reading) (suc n) rows) taken.read
+    ∙ ap (λ (devices : List DeviceSpec). with_rows devices (suc n) rows) (joined_more ns taken.named)
+    ∙ with_read (ns ++ taken.named ∷ []) (suc n) rows h.1
+    ∙ ap joined (append_assoc ns (taken.named ∷ []) (named_from (suc n) rows))
+    ∙ ap (λ (said : Option NamedLine). joined (ns ++ cons_option said (named_from (suc n) rows))) (sym taken.said)
 
 abbrev kept_faults : List (List (List ℕ)) → List ℕ → Option LoadFault
 kept_faults rows rest = first_noted (noted_rest Source (noted_rows Source fault_of_row no_faults 1 rows) (length rows + 1) rest)
@@ -103,7 +109,7 @@ rows_taken rows rest h = let a = noted_none Source is_row is_line has_names rows
 
 -- a row that is read has no fault, and its name is one of a device
 pub read_faultless : (n : ℕ) (row : List (List ℕ)) (named : NamedLine) → row_reading n row ≡ Ok named → fault_of_row row ≡ None
-read_faultless n row named h = (read_value (fault_of_row row) (named_in n row) named h).0
+read_faultless n row named h = row_fault_is n row (Ok named) h
 
 -- and one that has a fault is noted, where memory is left
 pub read_faulty : (r : Result (Unit {0}) AllocError) (n : ℕ) (row : List (List ℕ)) (devices : List DeviceSpec) (fault : RowFault) → OnOk r (fault ≢ rows.Memory)
@@ -117,11 +123,14 @@ on_ok (Ok x) P fact = fact
 on_ok (Err e) P fact = tt
 
 pub read_named : (n : ℕ) (row : List (List ℕ)) (named : NamedLine) → row_reading n row ≡ Ok named → is_device_name named.name ≡ true
-read_named n [] named h = absurd cc
-read_named n (label ∷ fs) named h =
-    let a = read_value (fault_of_row (label ∷ fs)) (named_in n (label ∷ fs)) named h in
-    let b = and_parts (is_device_name (name_in label)) (has_body_names fs) (names_true (is_row (label ∷ fs)) (is_line (label ∷ fs)) (has_names (label ∷ fs)) a.0) in
-    rw (← a.1) b.0
+read_named n row named h =
+    let taken = row_taken n row (read_faultless n row named h) in
+    let same : taken.named ≡ named = read_ok taken.named named (sym taken.read ∙ h) in
+    rw (← same) (and_parts (is_device_name taken.named.name) (has_target_names taken.named.line.target) taken.names).0
+
+-- a fault that was read is what is wrong with the row
+pub read_found : (n : ℕ) (row : List (List ℕ)) (fault : RowFault) → row_reading n row ≡ Err fault → read_unless (fault_of_row row) row ≡ Err fault
+read_found n row fault h = let found : fault_of_row row ≡ Some fault = row_fault_is n row (Err fault) h in rw found refl
 
 -- a line that was read, and those that are left
 pub devices_left : (lines more : List (List ℕ)) (line : List ℕ) (n m : ℕ) (row : List (List ℕ)) (devices new all : List DeviceSpec) → lines ≡ line ∷ more → m ≡ suc n → row ≡ row_of line → new ≡ with_reading devices (row_reading n row)

@@ -1,7 +1,6 @@
 -- What is read of the slices that the code has in hand, field by field.
 use Rattle.std.proofs.Common.{◌≡◌, ◌≢◌, inl, inr, ℕ, ◌-◌, ◌<◌, ◌≤◌, Bool, true, false, eqb, nat_eq, ◌&&◌, List, [], ◌∷◌, ◌++◌, length, take, drop, slice_index_or, Option, Some, None, Result, Ok, Err, refl, sym, ap, ◌∙◌, append_assoc, arith}
 use Rattle.std.specs.Prelude.{codes, is_some, if◌then◌else◌}
-use Rattle.std.specs.List.{list_all}
 use Rattle.std.specs.Option.{option_map}
 use Rattle.std.specs.Cmp.Lexicographic.{pointwise}
 use Rattle.std.proofs.lemmas.Bool.{cases_Bool}
@@ -11,21 +10,17 @@ use Rattle.dm_table.specs.declared.table.Column.{Column}
 use Rattle.dm_table.specs.declared.table.DevRef.{DevRef}
 use Rattle.dm_table.specs.declared.table.Target.{Target}
 use Rattle.dm_table.specs.declared.table.Target.TheVariants.{Linear, Striped, Snapshot}
+use Rattle.dm_table.specs.declared.table.Line.{Line}
 use Rattle.dm_table.specs.declared.place.Place.{Place}
 use Rattle.dm_table.specs.declared.row_faults.RowFault.{RowFault}
 use Rattle.dm_table.specs.declared.row_faults.RowFault.TheVariants.{Field, Name, Memory}
 use Rattle.dm_table.specs.Number.{number_of}
 use Rattle.dm_table.specs.Fields.{texts}
-use Rattle.dm_table.specs.LineBody.{is_dev_ref, dev_in, if_both, linear_in, columns_in, is_half, striped_in, snapshot_in, bare_in, column_devs, devs_of, target_in, has_target_names}
-use Rattle.dm_table.specs.RowFaults.{value_fault, read_unless}
-use Rattle.dm_table.specs.LineReading.{dev_reading, reading_of, columns_reading, fault_before, target_reading, body_reading}
+use Rattle.dm_table.specs.LineBody.{is_dev_ref, dev_in, if_both, linear_in, columns_in, is_half, striped_in, snapshot_in, bare_in, target_in, Body, has_column_names, has_target_names}
+use Rattle.dm_table.specs.RowFaults.{read_unless}
+use Rattle.dm_table.specs.LineReading.{line_at, dev_reading, reading_of, columns_reading, fault_before, target_reading, body_reading}
 
 -- What is read of a value
-
--- a fault is that of any value
-pub read_fault : {X Y : Type 0} (found : Option RowFault) (x : X) (y : Y) (fault : RowFault) → read_unless found x ≡ Err fault → read_unless found y ≡ Err fault
-read_fault None x y fault h = absurd cc
-read_fault (Some other) x y fault h = let same : other ≡ fault = cc in ap Err same
 
 pub read_none : {X : Type 0} (found : Option RowFault) (x : X) (fault : RowFault) → read_unless found x ≡ Err fault → found ≡ Some fault
 read_none None x fault h = absurd cc
@@ -101,9 +96,9 @@ columns_fault columns reading all fault whole h = sym whole ∙ rw h refl
 
 -- one column before others
 one_before : (column : Column) (more : Option (List Column)) → is_dev_ref column.to ≡ true
-    → reading_of column_devs (option_map (λ columns. column ∷ columns) more) ≡ after_columns (column ∷ []) (reading_of column_devs more)
+    → reading_of has_column_names (option_map (λ columns. column ∷ columns) more) ≡ after_columns (column ∷ []) (reading_of has_column_names more)
 one_before column None h = refl
-one_before column (Some columns) h = rw h (elim (cases_Bool (list_all is_dev_ref (column_devs columns))) [
+one_before column (Some columns) h = rw h (elim (cases_Bool (has_column_names columns)) [
   | inl e ↦ rw e refl
   | inr e ↦ rw e refl
 ])
@@ -125,7 +120,7 @@ column_further columns (f ∷ g ∷ fs) d e to offset h n r =
 
 -- a column whose text is no name
 one_unnamed : (column : Column) (more : Option (List Column)) → is_dev_ref column.to ≡ false
-    → reading_of column_devs (option_map (λ columns. column ∷ columns) more) ≡ Err (if is_some more then Name else Field)
+    → reading_of has_column_names (option_map (λ columns. column ∷ columns) more) ≡ Err (if is_some more then Name else Field)
 one_unnamed column None h = refl
 one_unnamed column (Some columns) h = rw h refl
 
@@ -151,7 +146,7 @@ column_unknown (f ∷ g ∷ fs) e h n = rw n refl
 
 -- what is read of them, where this is what such arguments say
 abbrev pub arguments_reading : (List (List ℕ) → Option Target) → List (Bor (List ℕ)) → Result Target RowFault
-arguments_reading said fs = reading_of devs_of (said (texts fs))
+arguments_reading said fs = reading_of has_target_names (said (texts fs))
 
 pub linear_none : (fs : List (Bor (List ℕ))) → length fs ≢ 2 → arguments_reading linear_in fs ≡ Err Field
 linear_none [] h = refl
@@ -184,9 +179,9 @@ abbrev pub with_columns : ℕ → Result (List Column) RowFault → Result Targe
 with_columns chunk (Ok columns) = Ok (Striped chunk columns)
 with_columns chunk (Err fault) = Err fault
 
-columns_striped : (chunk : ℕ) (columns : Option (List Column)) → reading_of devs_of (option_map (Striped chunk) columns) ≡ with_columns chunk (reading_of column_devs columns)
+columns_striped : (chunk : ℕ) (columns : Option (List Column)) → reading_of has_target_names (option_map (Striped chunk) columns) ≡ with_columns chunk (reading_of has_column_names columns)
 columns_striped chunk None = refl
-columns_striped chunk (Some columns) = elim (cases_Bool (list_all is_dev_ref (column_devs columns))) [
+columns_striped chunk (Some columns) = elim (cases_Bool (has_column_names columns)) [
   | inl e ↦ rw e refl
   | inr e ↦ rw e refl
 ]
@@ -268,27 +263,41 @@ and_false false = refl
 
 -- The fields of a body
 
--- the fault of a target is that of a body
-target_fault : {X : Type 0} (target : Option Target) (x : X) (fault : RowFault) → reading_of devs_of target ≡ Err fault
-    → read_unless (value_fault (is_some target) (has_target_names target)) x ≡ Err fault
-target_fault None x fault h = let same : Field ≡ fault = cc in ap Err same
-target_fault (Some target) x fault h = elim (cases_Bool (list_all is_dev_ref (devs_of target))) [
-  | inl e ↦ absurd (let no : Ok target ≡ Err fault = rw e at h in cc)
-  | inr e ↦ rw e (let same : ◌≡◌ {A = Result Target RowFault} (Err Name) (Err fault) = rw e at h in let is : Name ≡ fault = cc in ap Err is)
+-- a fault is that of what is made of the value, under the same test of names
+pub made_fault : {X Y : Type 0} (of_x : X → Bool) (of_y : Y → Bool) (make : X → Y) → ((x : X) → of_x x ≡ false → of_y (make x) ≡ false) → (o : Option X) (fault : RowFault)
+    → reading_of of_x o ≡ Err fault → reading_of of_y (option_map make o) ≡ Err fault
+made_fault of_x of_y make same None fault h = let is : Field ≡ fault = cc in ap Err is
+made_fault {X} of_x of_y make same (Some x) fault h = elim (cases_Bool (of_x x)) [
+  | inl e ↦ absurd (let no : Ok x ≡ Err fault = rw e at h in cc)
+  | inr e ↦ rw (same x e) (let both : ◌≡◌ {A = Result X RowFault} (Err Name) (Err fault) = rw e at h in let is : Name ≡ fault = cc in ap Err is)
 ]
 
-target_parts : (said : Option Target) (target : Target) → reading_of devs_of said ≡ Ok target → (said ≡ Some target) × (list_all is_dev_ref (devs_of target) ≡ true)
-target_parts None target h = absurd cc
-target_parts (Some other) target h = elim (cases_Bool (list_all is_dev_ref (devs_of other))) [
-  | inl e ↦ let is : other ≡ target = read_ok other target (rw e at h) in (ap Some is, rw (← is) e)
-  | inr e ↦ absurd (let no : ◌≡◌ {A = Result Target RowFault} (Err Name) (Ok target) = rw e at h in cc)
+-- what was read is there, and its names are valid
+pub read_parts : {X : Type 0} (has_names : X → Bool) (o : Option X) (x : X) → reading_of has_names o ≡ Ok x → (o ≡ Some x) × (has_names x ≡ true)
+read_parts has_names None x h = absurd cc
+read_parts {X} has_names (Some other) x h = elim (cases_Bool (has_names other)) [
+  | inl e ↦ let is : other ≡ x = read_ok other x (rw e at h) in (ap Some is, rw (← is) e)
+  | inr e ↦ absurd (let no : ◌≡◌ {A = Result X RowFault} (Err Name) (Ok x) = rw e at h in cc)
 ]
+
+-- the line of a start, a length and a target
+abbrev line_with : Place → (start len : ℕ) → Target → Line
+line_with at start len target = record { start = start; len = len; target = target; at = at }
+
+with_target : (at : Place) (start len : ℕ) (o : Option Target)
+    → option_map (line_at at) (option_map (λ target. let body : Body = record { start = start; len = len; target = target } in body) o) ≡ option_map (line_with at start len) o
+with_target at start len None = refl
+with_target at start len (Some target) = refl
 
 pub body_fault : (at : Place) (fs : List (Bor (List ℕ))) (d e : Bor (List ℕ)) (start len : ℕ) (fault : RowFault) → 2 ≤ length fs → number_of (slice_index_or fs 0 d).now ≡ Some start
     → number_of (slice_index_or fs 1 e).now ≡ Some len → target_reading (texts (take (length fs - 2) (drop 2 fs))) ≡ Err fault → body_reading at (texts fs) ≡ Err fault
 body_fault at [] d e start len fault h n m r = absurd (omega arith)
 body_fault at (f ∷ []) d e start len fault h n m r = absurd (omega arith)
-body_fault at (f ∷ g ∷ fs) d e start len fault h n m r = rw (n, m) (target_fault (target_in (texts fs)) _ fault (rw (take_rest (f ∷ g ∷ fs) 2) at r))
+body_fault at (f ∷ g ∷ fs) d e start len fault h n m r =
+    rw (n, m) (
+    ap (reading_of (λ (line : Line). has_target_names line.target)) (with_target at start len (target_in (texts fs)))
+    ∙ made_fault has_target_names (λ line. has_target_names line.target) (line_with at start len) (λ target unnamed. unnamed) (target_in (texts fs)) fault (rw (take_rest (f ∷ g ∷ fs) 2) at r)
+    )
 
 pub body_read : (at : Place) (fs : List (Bor (List ℕ))) (d e : Bor (List ℕ)) (start len : ℕ) (target : Target) → 2 ≤ length fs → number_of (slice_index_or fs 0 d).now ≡ Some start
     → number_of (slice_index_or fs 1 e).now ≡ Some len → target_reading (texts (take (length fs - 2) (drop 2 fs))) ≡ Ok target
@@ -296,10 +305,15 @@ pub body_read : (at : Place) (fs : List (Bor (List ℕ))) (d e : Bor (List ℕ))
 body_read at [] d e start len target h n m r = absurd (omega arith)
 body_read at (f ∷ []) d e start len target h n m r = absurd (omega arith)
 body_read at (f ∷ g ∷ fs) d e start len target h n m r =
-    let a = target_parts (target_in (texts fs)) target (rw (take_rest (f ∷ g ∷ fs) 2) at r) in
+    let a = read_parts has_target_names (target_in (texts fs)) target (rw (take_rest (f ∷ g ∷ fs) 2) at r) in
     rw (n, m, a.0, a.1) refl
 
 pub body_none : (at : Place) (fs : List (Bor (List ℕ))) → length fs < 2 → body_reading at (texts fs) ≡ Err Field
 body_none at [] h = refl
 body_none at (f ∷ []) h = refl
 body_none at (f ∷ g ∷ fs) h = absurd (omega arith)
+
+-- the fault of a reading
+abbrev pub fault_in : {X : Type 0} → Result X RowFault → Option RowFault
+fault_in (Ok x) = None
+fault_in (Err fault) = Some fault

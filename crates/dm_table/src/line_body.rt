@@ -9,7 +9,7 @@ ghost use Rattle.std.specs.Prelude.{◌≡◌, true, false, length, drop, is_som
 ghost use Rattle.std.specs.List.{list_all};
 ghost use Rattle.dm_table.specs.Fields.{texts};
 ghost use Rattle.dm_table.specs.Name.{names_device, mapper};
-ghost use Rattle.dm_table.specs.LineBody.{is_body_row, columns_in, is_half, linear_in, striped_in, snapshot_in, devs_of};
+ghost use Rattle.dm_table.specs.LineBody.{is_body_row, columns_in, is_half, linear_in, striped_in, snapshot_in, has_target_names};
 ghost use Rattle.dm_table.specs.LineReading.{dev_reading, reading_of, columns_reading, fault_before, target_reading, body_reading};
 ghost use Rattle.dm_table.specs.RowFaults.{Reads};
 
@@ -87,7 +87,7 @@ fn read_target(alloc: Global, target: &[&[u8]]) -> Result<Target, RowFault>
 }
 
 fn read_linear(alloc: Global, arguments: &[&[u8]]) -> Result<Target, RowFault>
-    ensures { Reads (λ target. target) result (reading_of devs_of (linear_in (texts arguments.now))) }
+    ensures { Reads (λ target. target) result (reading_of has_target_names (linear_in (texts arguments.now))) }
 {
     let [to, offset] = arguments else {
         return Err(RowFault::Field);
@@ -100,7 +100,7 @@ fn read_linear(alloc: Global, arguments: &[&[u8]]) -> Result<Target, RowFault>
 }
 
 fn read_striped(alloc: Global, arguments: &[&[u8]]) -> Result<Target, RowFault>
-    ensures { Reads (λ target. target) result (reading_of devs_of (striped_in (texts arguments.now))) }
+    ensures { Reads (λ target. target) result (reading_of has_target_names (striped_in (texts arguments.now))) }
 {
     let [count, chunk, columns @ ..] = arguments else {
         return Err(RowFault::Field);
@@ -117,7 +117,7 @@ fn read_striped(alloc: Global, arguments: &[&[u8]]) -> Result<Target, RowFault>
 
 /// A snapshot's origin and store, and the sectors of a chunk. The only kind of store is `P`.
 fn read_snapshot(alloc: Global, arguments: &[&[u8]]) -> Result<Target, RowFault>
-    ensures { Reads (λ target. target) result (reading_of devs_of (snapshot_in (texts arguments.now))) }
+    ensures { Reads (λ target. target) result (reading_of has_target_names (snapshot_in (texts arguments.now))) }
 {
     let [origin, store, flag, chunk] = arguments else {
         return Err(RowFault::Field);
