@@ -18,8 +18,11 @@ use Rattle.dm_table.specs.declared.table.Line.{Line}
 use Rattle.dm_table.specs.declared.place.Place.{Place}
 use Rattle.dm_table.specs.Name.{is_device_byte, is_device_name, is_disk_byte, names_device, mapper}
 use Rattle.dm_table.specs.Number.{Spells, number_of, number_in}
-use Rattle.dm_table.specs.LineBody.{dev_text, column_text, target_text, body_text, is_dev_ref, IsDevRef, IsColumn, IsTarget, IsBody, dev_in, if_both, linear_in, columns_in, is_half, if_all, striped_in, snapshot_in, bare_in, target_in, Body, body_in, is_body_row, is_body, has_column_names, has_target_names, has_body_names}
-use Rattle.dm_table.specs.LineReading.{line_at, line_in}
+use Rattle.dm_table.specs.LineBody.{dev_text, column_text, target_text, body_text, is_dev_ref, IsDevRef, IsColumn, IsTarget, IsBody, dev_in, if_both, linear_in, columns_in, is_half, if_all, striped_in, snapshot_in, bare_in, target_in, Body, body_in, is_body_row, is_body, has_target_names, has_body_names}
+use Rattle.dm_table.specs.Span.{column_span}
+use Rattle.dm_table.specs.LineReading.{line_at, line_in, has_column_names}
+use Rattle.std.specs.Prelude.{◌/◌, map}
+use Rattle.std.proofs.lemmas.List.Folds.{list_all-map}
 use Rattle.dm_table.proofs.NumberLemmas.{Spells-number_of, number_of-decimal, decimal_digits, decimal_some, Some-is_some}
 use Rattle.dm_table.proofs.ByteLemmas.{All-list_all, list_all-weaker, device_name_parts, disk_name_parts}
 use Rattle.dm_table.proofs.FieldLemmas.{IsClearOf}
@@ -95,7 +98,7 @@ chosen false o x h = absurd cc
 -- fields say a target: they are its fields, and a text may say it where its names are names
 record SaysTarget (fields : List (List ℕ)) (target : Target) : Type 0 where
   again : target_fields target ≡ fields
-  said : has_target_names target ≡ true → IsTarget target
+  said : (len : ℕ) → has_target_names len target ≡ true → IsTarget target
 
 linear_says : (fs : List (List ℕ)) (target : Target) → linear_in fs ≡ Some target → SaysTarget (codes "linear" ∷ fs) target
 linear_says [] target h = absurd cc
@@ -105,9 +108,13 @@ linear_says (to ∷ offset ∷ []) target h =
     let spelled = Spells-number_of offset m.0 m.1 in
     rw (← m.2) record {
       again = rw (dev_spelled to, ← spelled.digits) refl;
-      said = λ named. ((and_parts (is_dev_ref (dev_in to)) true named).0, spelled.short);
+      said = λ len named. ((and_parts (is_dev_ref (dev_in to)) true named).0, spelled.short);
     }
 linear_says (to ∷ offset ∷ more ∷ rest) target h = absurd cc
+
+-- the names of columns are those of their spans
+pub column_names : (share : ℕ) (columns : List Column) → list_all (λ span. is_dev_ref span.to) (map (column_span share) columns) ≡ has_column_names columns
+column_names share columns = list_all-map (λ span. is_dev_ref span.to) (column_span share) columns
 
 -- fields say columns, which are half as many
 record SaysColumns (fields : List (List ℕ)) (columns : List Column) : Type 0 where
@@ -150,7 +157,7 @@ striped_says (count ∷ chunk ∷ columns) target h =
     let counted = count_row count (length columns) (length m.1) c.0 says.half in
     rw (← m.4) record {
       again = rw (counted.0, ← spelled.digits, says.again) refl;
-      said = λ named. (counted.1, spelled.short, says.said named);
+      said = λ len named. (counted.1, spelled.short, says.said (sym (column_names (len / length m.1) m.1) ∙ named));
     }
 
 snapshot_again : (origin store flag chunk : List ℕ) (n : ℕ) → pointwise nat_eq flag (codes "P") ≡ true → chunk ≡ decimal n
@@ -169,9 +176,9 @@ snapshot_says (origin ∷ store ∷ flag ∷ chunk ∷ []) target h =
     let spelled = Spells-number_of chunk m.0 m.1 in
     rw (← m.2) record {
       again = snapshot_again origin store flag chunk m.0 c.0 spelled.digits;
-      said = λ named.
-          let a = and_parts (is_dev_ref (dev_in origin)) (is_dev_ref (dev_in store) && true) named in
-          (a.0, (and_parts (is_dev_ref (dev_in store)) true a.1).0, spelled.short);
+      said = λ len named.
+          let a = and_parts (is_dev_ref (dev_in store)) (is_dev_ref (dev_in origin) && true) named in
+          ((and_parts (is_dev_ref (dev_in origin)) true a.1).0, a.0, spelled.short);
     }
 snapshot_says (origin ∷ store ∷ flag ∷ chunk ∷ more ∷ rest) target h = absurd cc
 
@@ -187,10 +194,10 @@ no_word : (type : List ℕ) (fs : List (List ℕ)) (target : Target) → None �
 no_word type fs target h = absurd cc
 
 zero_says : (target : Target) → Some Zero ≡ Some target → SaysTarget (codes "zero" ∷ []) target
-zero_says target h = let is : Zero ≡ target = cc in rw (← is) record { again = refl; said = λ named. tt }
+zero_says target h = let is : Zero ≡ target = cc in rw (← is) record { again = refl; said = λ len named. tt }
 
 error_says : (target : Target) → Some Error ≡ Some target → SaysTarget (codes "error" ∷ []) target
-error_says target h = let is : Error ≡ target = cc in rw (← is) record { again = refl; said = λ named. tt }
+error_says target h = let is : Error ≡ target = cc in rw (← is) record { again = refl; said = λ len named. tt }
 
 bare_says : (type : List ℕ) (fs : List (List ℕ)) (target : Target) → bare_in type fs ≡ Some target → SaysTarget (type ∷ fs) target
 bare_says type [] target h =
@@ -217,7 +224,7 @@ body_there at fs h = there (body_in fs) (line_at at) h where
 -- fields say a body: they are its fields, and a text may say it where its names are names
 record SaysBody (at : Place) (fields : List (List ℕ)) (body : Body) : Type 0 where
   again : body_fields (line_at at body) ≡ fields
-  said : has_target_names body.target ≡ true → IsBody (line_at at body)
+  said : has_target_names body.len body.target ≡ true → IsBody (line_at at body)
 
 body_says : (at : Place) (fs : List (List ℕ)) (body : Body) → body_in fs ≡ Some body → SaysBody at fs body
 body_says at [] body h = absurd cc
@@ -229,7 +236,7 @@ body_says at (start ∷ len ∷ target) body h =
     let says = target_says target a.2 a.5 in
     rw (← a.6) record {
       again = rw (← first.digits, ← second.digits, says.again) refl;
-      said = λ named. record { start = first.short; len = second.short; target = says.said named };
+      said = λ named. record { start = first.short; len = second.short; target = says.said a.1 named };
     }
 
 -- a line is that of the fields that say it
@@ -346,12 +353,12 @@ columns_named : (columns : List Column) → AllByRecursion IsColumn columns → 
 columns_named [] h = refl
 columns_named (column ∷ columns) h = and_from _ _ h.0.0 (columns_named columns h.1)
 
-target_named : (target : Target) → IsTarget target → has_target_names target ≡ true
-target_named (Linear to offset) h = and_from _ _ h.0 refl
-target_named (Striped chunk columns) h = columns_named columns h.2
-target_named Zero h = refl
-target_named Error h = refl
-target_named (Snapshot origin store chunk) h = and_from _ _ h.0 (and_from _ _ h.1 refl)
+target_named : (len : ℕ) (target : Target) → IsTarget target → has_target_names len target ≡ true
+target_named len (Linear to offset) h = and_from _ _ h.0 refl
+target_named len (Striped chunk columns) h = column_names (len / length columns) columns ∙ columns_named columns h.2
+target_named len Zero h = refl
+target_named len Error h = refl
+target_named len (Snapshot origin store chunk) h = and_from _ _ h.1 (and_from _ _ h.0 refl)
 
 -- and say that body
 abbrev body_of : Line → Body
@@ -365,7 +372,7 @@ body_passes line h = ap is_some (fields_say line h)
 
 pub body_names_pass : (line : Line) → IsBody line → has_body_names (body_fields line) ≡ true
 body_names_pass line h =
-    ap (λ (said : Option Body). unwrap_or (option_map (λ (body : Body). has_target_names body.target) said) true) (fields_say line h) ∙ target_named line.target h.target
+    ap (λ (said : Option Body). unwrap_or (option_map (λ (body : Body). has_target_names body.len body.target) said) true) (fields_say line h) ∙ target_named line.len line.target h.target
 
 -- and are read as that line
 pub line_again : (at : Place) (line : Line) → IsBody line → line.at ≡ at → line_in at (body_fields line) ≡ Some line

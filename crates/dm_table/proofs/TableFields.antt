@@ -75,9 +75,9 @@ with_label label line = record { name = name_in label; line = line }
 
 -- what is wrong with a row is what its tests say
 label_found : (n : ℕ) (label : List ℕ) (o : Option Body) → fault_in (reading_of has_line_names (option_map (with_label label) (option_map (line_at (place n)) o)))
-    ≡ value_fault (is_some o) (is_device_name (name_in label) && unwrap_or (option_map (λ body. has_target_names body.target) o) true)
+    ≡ value_fault (is_some o) (is_device_name (name_in label) && unwrap_or (option_map (λ body. has_target_names body.len body.target) o) true)
 label_found n label None = refl
-label_found n label (Some body) = elim (cases_Bool (is_device_name (name_in label) && has_target_names body.target)) [
+label_found n label (Some body) = elim (cases_Bool (is_device_name (name_in label) && has_target_names body.len body.target)) [
   | inl e ↦ rw e refl
   | inr e ↦ rw e refl
 ]
@@ -120,6 +120,6 @@ row_body_fault n [] d fault h l b r = absurd (omega arith)
 row_body_fault n (f ∷ fs) d fault h l b r =
     let is_row : is_body_row (texts fs) ≡ true = rw (take_rest (f ∷ fs) 1) at b in
     rw (l, is_row) (
-    made_fault (λ (line : Line). has_target_names line.target) has_line_names (with_label f.now) (λ line unnamed. rw unnamed (and_false (is_device_name (name_in f.now)))) (line_in (place n) (texts fs)) fault
+    made_fault (λ (line : Line). has_target_names line.len line.target) has_line_names (with_label f.now) (λ line unnamed. rw unnamed (and_false (is_device_name (name_in f.now)))) (line_in (place n) (texts fs)) fault
     (rw (take_rest (f ∷ fs) 1) at r)
     )

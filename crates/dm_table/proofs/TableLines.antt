@@ -126,7 +126,7 @@ pub read_named : (n : ℕ) (row : List (List ℕ)) (named : NamedLine) → row_r
 read_named n row named h =
     let taken = row_taken n row (read_faultless n row named h) in
     let same : taken.named ≡ named = read_ok taken.named named (sym taken.read ∙ h) in
-    rw (← same) (and_parts (is_device_name taken.named.name) (has_target_names taken.named.line.target) taken.names).0
+    rw (← same) (and_parts (is_device_name taken.named.name) (has_target_names taken.named.line.len taken.named.line.target) taken.names).0
 
 -- a fault that was read is what is wrong with the row
 pub read_found : (n : ℕ) (row : List (List ℕ)) (fault : RowFault) → row_reading n row ≡ Err fault → read_unless (fault_of_row row) row ≡ Err fault

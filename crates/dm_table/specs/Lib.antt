@@ -8,6 +8,7 @@ pub mod Parsed
 pub mod LoadMessage
 pub mod DiskList
 pub mod RowFaults
+pub mod Span
 pub mod LineBody
 pub mod LineHead
 pub mod LineReading

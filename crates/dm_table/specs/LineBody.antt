@@ -1,5 +1,5 @@
 -- The body of a table's line: a start, a length, and a target with its arguments (dmsetup(8)). How a line is labelled is up to the form.
-use Rattle.std.specs.Prelude.{◌≡◌, ℕ, ◌*◌, ◌^◌, ◌<◌, ◌==◌, Bool, true, ◌&&◌, List, [], ◌∷◌, ◌++◌, length, map, nat_le, nat_lt, nat_eq, codes, decimal, drop, Option, Some, None, is_some, unwrap_or, if◌then◌else◌}
+use Rattle.std.specs.Prelude.{◌≡◌, ℕ, ◌*◌, ◌^◌, ◌<◌, ◌==◌, Bool, true, ◌&&◌, List, [], ◌∷◌, ◌++◌, length, nat_le, nat_lt, nat_eq, codes, decimal, drop, Option, Some, None, is_some, unwrap_or, if◌then◌else◌}
 use Rattle.std.specs.Option.{option_map}
 use Rattle.std.specs.List.{flat_map, list_all, AllByRecursion}
 use Rattle.std.specs.Cmp.Lexicographic.{pointwise}
@@ -11,6 +11,7 @@ use Rattle.dm_table.specs.declared.table.Target.TheVariants.{Linear, Striped, Ze
 use Rattle.dm_table.specs.declared.table.Line.{Line}
 use Rattle.dm_table.specs.Name.{is_device_name, is_disk_name, names_device, mapper}
 use Rattle.dm_table.specs.Number.{number_of, number_in}
+use Rattle.dm_table.specs.Span.{target_spans}
 
 -- What a body says
 
@@ -129,18 +130,6 @@ abbrev pub body_in : List (List ℕ) → Option Body
 body_in (start ∷ len ∷ target) = if_all (λ start len target. record { start = start; len = len; target = target }) (number_of start) (number_of len) (target_in target)
 body_in _ = None
 
--- what columns name
-abbrev pub column_devs : List Column → List DevRef
-column_devs = map (λ column. column.to)
-
--- what a target names
-abbrev pub devs_of : Target → List DevRef
-devs_of (Linear to offset) = to ∷ []
-devs_of (Striped chunk columns) = column_devs columns
-devs_of Zero = []
-devs_of Error = []
-devs_of (Snapshot origin store chunk) = origin ∷ store ∷ []
-
 -- Its checks
 
 -- at least three fields, none of them empty
@@ -151,14 +140,10 @@ is_body_row fields = nat_le 3 (length fields) && list_all (λ field. nat_lt 0 (l
 abbrev pub is_body : List (List ℕ) → Bool
 is_body fields = is_some (body_in fields)
 
--- each name in columns is valid
-abbrev pub has_column_names : List Column → Bool
-has_column_names columns = list_all is_dev_ref (column_devs columns)
-
--- each name in a target is valid
-abbrev pub has_target_names : Target → Bool
-has_target_names target = list_all is_dev_ref (devs_of target)
+-- each name in the target of a line of this length is valid: they are those of its spans
+abbrev pub has_target_names : (len : ℕ) → Target → Bool
+has_target_names len target = list_all (λ span. is_dev_ref span.to) (target_spans len target)
 
 -- the same for the body that fields say; where they say none, there is no name to check
 abbrev pub has_body_names : List (List ℕ) → Bool
-has_body_names fields = unwrap_or (option_map (λ body. has_target_names body.target) (body_in fields)) true
+has_body_names fields = unwrap_or (option_map (λ body. has_target_names body.len body.target) (body_in fields)) true

@@ -1,6 +1,7 @@
 -- What is read of the fields of a body, a value or a fault, for the functions that read them once.
 use Rattle.std.specs.Prelude.{ℕ, Bool, List, Option, Some, None, is_some, Result, Ok, Err, if◌then◌else◌}
 use Rattle.std.specs.Option.{option_map}
+use Rattle.std.specs.List.{list_all}
 use Rattle.dm_table.specs.declared.table.DevRef.{DevRef}
 use Rattle.dm_table.specs.declared.table.Column.{Column}
 use Rattle.dm_table.specs.declared.table.Target.{Target}
@@ -8,7 +9,7 @@ use Rattle.dm_table.specs.declared.table.Line.{Line}
 use Rattle.dm_table.specs.declared.place.Place.{Place}
 use Rattle.dm_table.specs.declared.row_faults.RowFault.{RowFault}
 use Rattle.dm_table.specs.declared.row_faults.RowFault.TheVariants.{Syntax, Field, Name, Memory}
-use Rattle.dm_table.specs.LineBody.{is_dev_ref, dev_in, columns_in, target_in, Body, body_in, has_column_names, has_target_names}
+use Rattle.dm_table.specs.LineBody.{is_dev_ref, dev_in, columns_in, target_in, Body, body_in, has_target_names}
 
 -- the line of a body, at a place
 abbrev pub line_at : Place → Body → Line
@@ -28,6 +29,10 @@ abbrev pub reading_of : {X : Type 0} → (has_names : X → Bool) → Option X �
 reading_of has_names None = Err Field
 reading_of has_names (Some x) = if has_names x then Ok x else Err Name
 
+-- each name in columns is valid
+abbrev pub has_column_names : List Column → Bool
+has_column_names columns = list_all (λ column. is_dev_ref column.to) columns
+
 abbrev pub columns_reading : List (List ℕ) → Result (List Column) RowFault
 columns_reading fields = reading_of has_column_names (columns_in fields)
 
@@ -38,8 +43,9 @@ fault_before Syntax fields = Syntax
 fault_before Field fields = Field
 fault_before Memory fields = Memory
 
-abbrev pub target_reading : List (List ℕ) → Result Target RowFault
-target_reading fields = reading_of has_target_names (target_in fields)
+-- the target of a line of this length
+abbrev pub target_reading : (len : ℕ) → List (List ℕ) → Result Target RowFault
+target_reading len fields = reading_of (has_target_names len) (target_in fields)
 
 abbrev pub body_reading : Place → List (List ℕ) → Result Line RowFault
-body_reading at fields = reading_of (λ line. has_target_names line.target) (line_in at fields)
+body_reading at fields = reading_of (λ line. has_target_names line.len line.target) (line_in at fields)

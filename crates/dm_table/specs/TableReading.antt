@@ -74,7 +74,7 @@ fault_of_row row = row_fault (is_row row) (value_fault (is_line row) (has_names 
 
 -- the name of a line, and each in its target, is valid
 abbrev pub has_line_names : NamedLine → Bool
-has_line_names named = is_device_name named.name && has_target_names named.line.target
+has_line_names named = is_device_name named.name && has_target_names named.line.len named.line.target
 
 abbrev pub row_reading : ℕ → List (List ℕ) → Result NamedLine RowFault
 row_reading n row = if is_row row then reading_of has_line_names (named_in n row) else Err Syntax
