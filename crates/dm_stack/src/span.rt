@@ -1,11 +1,11 @@
 //! What a line names below, and where: its spans.
 //!
 //! Every check of what lines name reads their spans, and none knows a target: a new target says
-//! what it names here, in `span_at` and in `target_spans` of the specs. No memory is taken.
+//! what it names here, in `span_at`, and in `target_spans` (`specs/Span` of `dm_table`). No memory is taken.
 
 ghost use Rattle.std.specs.Prelude.{◌≡◌, ◌+◌, ◌/◌, ◌<◌, ◌^◌, IfSome, drop, length, map, slice_get};
 ghost use Rattle.std.specs.Iterator.{YieldsFirst, item_count};
-ghost use Rattle.dm_stack.specs.Span.{column_span, spans, whole_span};
+ghost use Rattle.dm_table.specs.Span.{column_span, spans, whole_span};
 
 use dm_table::{Column, DevRef, Line, Target};
 use std::marker::Model;
@@ -22,7 +22,7 @@ pub(crate) struct Span<'a> {
 }
 
 impl<'a> Model for Span<'a> {
-    ghost use Rattle.dm_stack.specs.Span.{Span};
+    ghost use Rattle.dm_table.specs.Span.{Span};
 
     ghost Value = { Span };
 

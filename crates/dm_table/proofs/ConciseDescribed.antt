@@ -68,7 +68,9 @@ AllPass test texts = AllByRecursion (λ text. not (test text) ≡ false) texts
 
 devices_said : (n : ℕ) (texts : List (List ℕ)) → AllPass is_device texts → AllPass has_values texts → AllPass has_names texts → SaysDevices n texts (devices_from n texts)
 devices_said n [] r l h = tt
-devices_said n (text ∷ texts) r l h = (device_said n text (not-false _ r.0) (not-false _ l.0) (not-false _ h.0), devices_said (suc n) texts r.1 l.1 h.1)
+devices_said n (text ∷ texts) r l h =
+    let said = device_said n text (not-false _ r.0) (not-false _ l.0) (not-false _ h.0) in
+    rw said.is (said.says, devices_said (suc n) texts r.1 l.1 h.1)
 
 pub described : (text : List ℕ) → first_fault (concise_checks text) ≡ None → DescribesConcise text (devices_from 1 (devices_of text))
 described text h =

@@ -1,7 +1,7 @@
 -- Table text in which no check finds anything describes the devices that are read from it, and text that describes devices is read as them.
-use Rattle.std.proofs.Common.{◌≡◌, ℕ, suc, ◌+◌, Bool, true, false, not, List, [], ◌∷◌, ◌++◌, length, map, None, Result, refl, ap, ◌∙◌}
+use Rattle.std.proofs.Common.{◌≡◌, ℕ, suc, ◌+◌, Bool, true, false, not, List, [], ◌∷◌, ◌++◌, length, map, Option, None, Result, refl, ap, ◌∙◌}
 use Rattle.std.specs.Global.{Vec}
-use Rattle.std.specs.List.{AllByRecursion}
+use Rattle.std.specs.List.{AllByRecursion, cons_option}
 use Rattle.std.proofs.lemmas.Bool.{not-false, not_from_true}
 use Rattle.dm_table.specs.declared.table.DeviceSpec.{DeviceSpec}
 use Rattle.dm_table.specs.declared.place.Part.TheVariants.{Source}
@@ -17,7 +17,7 @@ use Rattle.dm_table.proofs.FaultLemmas.{first_fault-none, first_fault-all, fault
 use Rattle.dm_table.proofs.Parsing.{parsed}
 use Rattle.dm_table.proofs.FieldLemmas.{IsClearOf, lines_of-whole, parts_at-lines, all_but_last-push, last_or-push}
 use Rattle.dm_table.proofs.TableGroups.{lines_of_joined, each_joined, apart_joined, devices_again}
-use Rattle.dm_table.proofs.TableRows.{row_for, row_said, line_writes, row_written, text_written, row_passes, line_passes, names_pass, line_again}
+use Rattle.dm_table.proofs.TableRows.{row_for, row_said, row_there, line_writes, row_written, text_written, row_passes, line_passes, names_pass, line_again}
 
 -- the rows of a text
 abbrev rows : List ℕ → List (List (List ℕ))
@@ -32,8 +32,8 @@ lines_say : (n : ℕ) (ls : List (List ℕ)) → AllRowsPass is_row (map row_of 
 lines_say n [] r l h = tt
 lines_say n (line ∷ ls) r l h =
     let a = not-false _ r.0 in
-    let b = not-false _ l.0 in
-    (line_writes n line a b, row_said n (row_of line) b (not-false _ h.0), lines_say (suc n) ls r.1 l.1 h.1)
+    let b = row_there n (row_of line) (not-false _ l.0) in
+    rw b.1 (line_writes n line b.0 a b.1, row_said n (row_of line) b.0 b.1 (not-false _ h.0), lines_say (suc n) ls r.1 l.1 h.1)
 
 pub described : (text : List ℕ) → first_fault (table_checks text) ≡ None → DescribesTable text (devices_from 1 (rows text))
 described text h =
@@ -90,8 +90,8 @@ named_again n [] [] s = refl
 named_again n [] (named ∷ ns) s = absurd s
 named_again n (line ∷ ls) [] s = absurd s
 named_again n (line ∷ ls) (named ∷ ns) s =
-    ap (λ (more : List NamedLine). named_in n (row_for named) ∷ more) (named_again (suc n) ls ns s.2)
-    ∙ ap (λ (one : NamedLine). one ∷ ns) (line_again n named s.1)
+    ap (cons_option (named_in n (row_for named))) (named_again (suc n) ls ns s.2)
+    ∙ ap (λ (one : Option NamedLine). cons_option one ns) (line_again n named s.1)
 
 lines_clear : (ls : List (List ℕ)) → AllByRecursion (λ line. is_shown line ≡ true) ls → AllByRecursion (IsClearOf 10) ls
 lines_clear [] h = tt

@@ -9,6 +9,7 @@ pub mod Reading
 pub mod LoadMessage
 pub mod DiskList
 pub mod RowFaults
+pub mod Span
 pub mod LineBody
 pub mod LineHead
 pub mod LineReading

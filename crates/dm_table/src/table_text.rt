@@ -9,7 +9,7 @@ ghost use Rattle.dm_table.specs.declared.place.Part.TheVariants.{Source};
 ghost use Rattle.dm_table.specs.Name.{is_device_name};
 ghost use Rattle.dm_table.specs.Parsed.{IsParsed};
 ghost use Rattle.dm_table.specs.TableText.{DescribesTable, row_of, is_row, is_line, has_names, table_checks};
-ghost use Rattle.dm_table.specs.TableReading.{named_in, named_of, alone, add_line};
+ghost use Rattle.dm_table.specs.TableReading.{named_in, named_of, alone, add_line, add_said};
 
 use crate::load_fault::LoadFault;
 use crate::name::Name;
@@ -45,7 +45,7 @@ impl FromLines for DeviceSpec {
 
     ghost has_names = { λ line. has_names (row_of line) };
 
-    ghost with_line = { λ devices n line. add_line devices (named_in n (row_of line)) };
+    ghost with_line = { λ devices n line. add_said devices (named_in n (row_of line)) };
 
     fn read_line<'a>(
         alloc: Global,
