@@ -55,8 +55,13 @@ impl FromLines for DeviceSpec {
         number: u64,
     ) -> Result<(), RowFault> {
         cut_row(&mut *fields, line)?;
-        add_line(alloc, devices, read_row(alloc, &*fields, number)?)?;
-        Ok(())
+        match read_row(alloc, &*fields, number) {
+            Ok(row) => {
+                add_line(alloc, devices, row)?;
+                Ok(())
+            }
+            Err(fault) => Err(fault),
+        }
     }
 }
 
