@@ -22,7 +22,7 @@ use Rattle.dm_stack.specs.Description.{Description, device_id, disk_id, is_same,
 use Rattle.dm_stack.specs.Loaded.{has_snapshot, is_snapshot, snapshots}
 use Rattle.dm_stack.specs.Places.{place}
 use Rattle.dm_stack.specs.Soundness.{IsSound, all_lines, is_unknown, is_unknown_ref}
-use Rattle.dm_stack.specs.Span.{target_spans, whole_span}
+use Rattle.dm_table.specs.Span.{target_spans, whole_span}
 use Rattle.dm_stack.proofs.Passes.{faults_by_none, passes_all}
 use Rattle.dm_stack.proofs.SoundLines.{device_some, disk_some, found, of_device, there}
 use Rattle.dm_map.specs.Snapshots.{number_in}

@@ -19,7 +19,7 @@ use Rattle.dm_stack.specs.Below.{AreStripes, IsTargetSound, column_of, found_at,
 use Rattle.dm_stack.specs.Claims.{span_end}
 use Rattle.dm_stack.specs.Description.{Description, lines_at, lower_len, lower_of}
 use Rattle.dm_stack.specs.Soundness.{IsSound}
-use Rattle.dm_stack.specs.Span.{Span, column_span, target_spans, whole_span}
+use Rattle.dm_table.specs.Span.{Span, column_span, target_spans, whole_span}
 use Rattle.dm_stack.proofs.Apart.{IsNamed, IsVia}
 use Rattle.dm_stack.proofs.Parts.{found_place}
 use Rattle.dm_map.specs.Tables.{snapshot_at}

@@ -2,7 +2,6 @@
 
 ghost use Rattle.std.specs.Prelude.{◌++◌, ◌+◌, ◌≤◌, ◌∷◌, length, decimal};
 ghost use Rattle.std.specs.List.{AllByRecursion};
-ghost use Rattle.dm_stack.specs.Description.{disk_name_at};
 ghost use Rattle.dm_table.specs.Block.{IsPut};
 ghost use Rattle.dm_table.specs.Progress.{Wrote};
 ghost use Rattle.dm_replay.specs.OfDisks.{IsRunOf};

@@ -11,7 +11,7 @@ use Rattle.dm_stack.specs.declared.id.Lower.{Lower}
 use Rattle.dm_stack.specs.declared.id.Lower.TheVariants.{Device}
 use Rattle.dm_stack.specs.Claims.{NeverMeet, HasSector, IsTidy, IsTop, claim_kind, claims, device_claims, line_claims, may_share, span_claim, span_end}
 use Rattle.dm_stack.specs.Description.{Description, lines_at, lower_len, lower_of}
-use Rattle.dm_stack.specs.Span.{Span, spans}
+use Rattle.dm_table.specs.Span.{Span, spans}
 use Rattle.dm_stack.proofs.Parts.{PairsAt, number_at, pairs_at, pairs_part, part_there, same_part, same_place}
 
 -- a column of a line of a device, which names this lower one

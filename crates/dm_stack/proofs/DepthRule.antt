@@ -15,7 +15,7 @@ use Rattle.dm_stack.specs.Description.{Description, device_links, line_links, li
 use Rattle.dm_stack.specs.Graph.{greatest, links_of}
 use Rattle.dm_stack.specs.Loaded.{IsDeeperByOne, lower_depth}
 use Rattle.dm_stack.specs.Soundness.{IsSound, depth_of, faults_by_id}
-use Rattle.dm_stack.specs.Span.{Span, spans}
+use Rattle.dm_table.specs.Span.{Span, spans}
 use Rattle.dm_stack.proofs.DepthLemmas.{depth_to-deeper}
 use Rattle.dm_stack.proofs.Passes.{cond_none, passes_all}
 use Rattle.dm_stack.proofs.SoundLines.{lines_there, there}

@@ -14,7 +14,7 @@ use Rattle.dm_table.specs.LoadFault.{fault, faults_by, first_or, first_fault}
 use Rattle.dm_stack.specs.Description.{Description, end_of}
 use Rattle.dm_stack.specs.Load.{IsLateFault}
 use Rattle.dm_stack.specs.Soundness.{HaveSmallEnds, WithBefore, all_lines, checks_after, checks_before, crowded, deep, depth_of, empty, empty_in, faults_by_id, has_bad_store, has_bad_stripes, is_crowded, is_far, is_large, is_misplaced, is_repeated, is_unknown, misplaced, misplaced_in, misplaced_kind, passes_end, past, range, snapshot, bad_snapshots_in, is_bad_snapshot, store, stripe, too_large, too_many, twice, twice_in, unknown, with_before, without_lines}
-use Rattle.dm_stack.specs.Span.{spans}
+use Rattle.dm_table.specs.Span.{spans}
 use Rattle.dm_stack.proofs.Passes.{all_parts, append_none, faults_by_none}
 
 -- Ends within the limit

@@ -17,7 +17,7 @@ use Rattle.dm_stack.specs.Graph.{IsClosed, Reaches, depths_to, greatest, links_i
 use Rattle.dm_stack.specs.Load.{IsLateResult, IsFirstRing, IsLateFault}
 use Rattle.dm_stack.specs.Loaded.{stack_depth}
 use Rattle.dm_stack.specs.Soundness.{HasNoCycle, IsFirstCycle, IsRefusedBy, Late, OnCycle, all_lines, checks_after, checks_before, depth_of, empty, is_unknown, is_unknown_ref, misplaced, too_large, too_many, twice, unknown}
-use Rattle.dm_stack.specs.Span.{Span, spans}
+use Rattle.dm_table.specs.Span.{Span, spans}
 use Rattle.dm_stack.proofs.HandedOn.{all_append}
 use Rattle.dm_table.proofs.FaultLemmas.{first_or-none}
 use Rattle.dm_stack.proofs.Passes.{all_parts, faults_by_none}

@@ -18,7 +18,7 @@ use Rattle.dm_stack.specs.declared.found_line.FoundLine.{FoundLine}
 use Rattle.dm_stack.specs.Description.{Description, lines_at, lines_or_none, end_of, device_len, lower_len, lower_of}
 use Rattle.dm_stack.specs.Below.{holds, line_of, found_line, found_columns, found_target, found_at, LiesIn, AreStripes, IsSnapshotSound, IsTargetSound, HoldsSoundly}
 use Rattle.dm_stack.specs.Soundness.{all_lines, is_large, without_lines, empty_in, misplaced_in, is_bad_chunk, is_bad_snapshot, is_bad_stripe, has_bad_store, has_bad_stripes, is_past, passes_end, bad_snapshots_in, HaveSmallEnds, IsSound}
-use Rattle.dm_stack.specs.Span.{column_span, target_spans}
+use Rattle.dm_table.specs.Span.{column_span, target_spans}
 use Rattle.dm_stack.proofs.HandedOn.{line_within, lines_within}
 use Rattle.dm_stack.proofs.LayoutLemmas.{AreInRow, in_row}
 use Rattle.dm_stack.proofs.ChunkLemmas.{chunk_within}

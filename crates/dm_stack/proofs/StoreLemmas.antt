@@ -20,7 +20,7 @@ use Rattle.dm_stack.specs.declared.id.Lower.{Lower}
 use Rattle.dm_stack.specs.declared.id.Lower.TheVariants.{Device, Disk}
 use Rattle.dm_stack.specs.Description.{Description, device_links, is_read_only, is_ro_at, line_links, lines_at, lines_or_none, links, lower_of, ref_link}
 use Rattle.dm_stack.specs.Graph.{IsClosed, depth_to, depths_to, greatest, links_in, links_of}
-use Rattle.dm_stack.specs.Span.{Span, spans}
+use Rattle.dm_table.specs.Span.{Span, spans}
 use Rattle.dm_stack.specs.Soundness.{all_lines, has_bad_store, store}
 use Rattle.dm_stack.specs.Store.{has_deep_store, is_plain, is_shallow, is_store_to, may_store, store_links, store_links_at, store_links_of}
 use Rattle.dm_stack.proofs.CrowdLemmas.{by_same}

@@ -23,7 +23,7 @@ use Rattle.dm_stack.specs.Description.{Description, end_of, is_same, len_or_none
 use Rattle.dm_stack.specs.Naming.{is_device, is_named, line_names}
 use Rattle.dm_stack.specs.Report.{IsReport, report_text}
 use Rattle.dm_stack.specs.Soundness.{IsSound, is_past, passes, passes_end}
-use Rattle.dm_stack.specs.Span.{Span, spans}
+use Rattle.dm_table.specs.Span.{Span, spans}
 use Rattle.dm_stack.specs.Sweep.{IsCounted}
 use Rattle.dm_stack.proofs.HandedOn.{all_append, all_each}
 use Rattle.dm_stack.proofs.PairLemmas.{none_before}

@@ -9,7 +9,7 @@ use Rattle.dm_stack.specs.declared.clash.Clash.{Clash}
 use Rattle.dm_stack.specs.declared.id.Lower.{Lower}
 use Rattle.dm_stack.specs.declared.id.Lower.TheVariants.{Device, Disk}
 use Rattle.dm_stack.specs.Description.{Description, lines_at, lower_len, lower_of}
-use Rattle.dm_stack.specs.Span.{Span, spans}
+use Rattle.dm_table.specs.Span.{Span, spans}
 
 -- where a span ends: what is named whole is claimed to its end
 abbrev pub span_end : (whole offset : ℕ) → Option ℕ → ℕ

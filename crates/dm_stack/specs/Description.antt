@@ -9,7 +9,7 @@ use Rattle.dm_table.specs.declared.table.DeviceSpec.{DeviceSpec}
 use Rattle.dm_table.specs.declared.disk.Disk.{Disk}
 use Rattle.dm_stack.specs.declared.id.Lower.{Lower}
 use Rattle.dm_stack.specs.declared.id.Lower.TheVariants as lowers
-use Rattle.dm_stack.specs.Span.{spans}
+use Rattle.dm_table.specs.Span.{spans}
 
 -- the devices of one list, and the disks of the other
 pub record Description : Type 0 where

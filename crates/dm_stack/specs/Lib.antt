@@ -10,6 +10,5 @@ pub mod Naming
 pub mod Places
 pub mod Report
 pub mod Soundness
-pub mod Span
 pub mod Store
 pub mod Sweep

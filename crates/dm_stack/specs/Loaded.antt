@@ -11,7 +11,7 @@ use Rattle.dm_stack.specs.declared.found_line.FoundTarget.TheVariants as found
 use Rattle.dm_stack.specs.declared.id.Lower.{Lower}
 use Rattle.dm_stack.specs.declared.id.Lower.TheVariants as lowers
 use Rattle.dm_stack.specs.Description.{Description, device_len, lines_at, lower_of}
-use Rattle.dm_stack.specs.Span.{spans}
+use Rattle.dm_table.specs.Span.{spans}
 use Rattle.dm_stack.specs.Below.{found_at, found_line}
 use Rattle.dm_stack.specs.Graph.{greatest}
 use Rattle.dm_stack.specs.Soundness.{IsSound, depth_of}

@@ -5,7 +5,7 @@ use Rattle.dm_table.specs.declared.table.Line.{Line}
 use Rattle.dm_stack.specs.declared.id.Lower.{Lower}
 use Rattle.dm_stack.specs.declared.id.Lower.TheVariants.{Device, Disk}
 use Rattle.dm_stack.specs.Description.{Description, lower_of}
-use Rattle.dm_stack.specs.Span.{spans}
+use Rattle.dm_table.specs.Span.{spans}
 
 abbrev pub is_device : ℕ → Lower → Bool
 is_device device (Device id) = id == device

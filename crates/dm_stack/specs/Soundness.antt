@@ -14,7 +14,7 @@ use Rattle.dm_table.specs.declared.load_fault.LoadKind.TheVariants.{Limit, Twice
 use Rattle.dm_table.specs.declared.load_fault.LoadFault.{LoadFault}
 use Rattle.dm_table.specs.LoadFault.{fault, faults_by, first_fault}
 use Rattle.dm_stack.specs.Description.{Description, is_same, device_named, disk_named, end_of, lower_of, lower_len, links}
-use Rattle.dm_stack.specs.Span.{Span, spans}
+use Rattle.dm_table.specs.Span.{Span, spans}
 use Rattle.dm_stack.specs.Graph.{Reaches, depth_to}
 use Rattle.dm_stack.specs.Places.{places}
 use Rattle.dm_stack.specs.Store.{is_store_to}

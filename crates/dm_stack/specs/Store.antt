@@ -9,7 +9,7 @@ use Rattle.dm_stack.specs.declared.id.Lower.{Lower}
 use Rattle.dm_stack.specs.declared.id.Lower.TheVariants.{Device, Disk}
 use Rattle.dm_stack.specs.Description.{Description, is_ro_at, lines_at, links, lower_of}
 use Rattle.dm_stack.specs.Graph.{links_of}
-use Rattle.dm_stack.specs.Span.{spans}
+use Rattle.dm_table.specs.Span.{spans}
 
 -- each sector of the line is one of what it names
 abbrev pub is_plain : Target → Bool

@@ -7,7 +7,7 @@ ghost use Rattle.std.specs.Prelude.{◌≡◌, None, option_copied, slice_get};
 ghost use Rattle.std.specs.List.{list_any};
 ghost use Rattle.dm_table.specs.LoadFault.{first_or};
 ghost use Rattle.dm_stack.specs.Soundness.{all_lines, is_far, is_large, past, too_large, too_many};
-ghost use Rattle.dm_stack.specs.Span.{spans};
+ghost use Rattle.dm_table.specs.Span.{spans};
 
 use crate::placed::{Placed, first_bad, first_line};
 use crate::span::Spans;

@@ -1,12 +1,12 @@
 //! What a line names below, and where: its spans.
 //!
 //! Unknown names, offsets, ranges, cycles, depths and claims are checked on spans, so these checks
-//! know no target: a new target says what it names here, in `span_at` and in `target_spans` of the
-//! specs. No memory is taken.
+//! know no target: a new target says what it names here, in `span_at`, and in `target_spans`
+//! (`specs/Span` of `dm_table`). No memory is taken.
 
 ghost use Rattle.std.specs.Prelude.{◌≡◌, ◌+◌, ◌/◌, ◌<◌, ◌^◌, IfSome, drop, length, map, slice_get};
 ghost use Rattle.std.specs.Iterator.{YieldsFirst, item_count};
-ghost use Rattle.dm_stack.specs.Span.{column_span, spans, whole_span};
+ghost use Rattle.dm_table.specs.Span.{column_span, spans, whole_span};
 
 use dm_table::{Column, DevRef, Line, Target};
 use std::marker::Model;
@@ -23,7 +23,7 @@ pub(crate) struct Span<'a> {
 }
 
 impl<'a> Model for Span<'a> {
-    ghost use Rattle.dm_stack.specs.Span.{Span};
+    ghost use Rattle.dm_table.specs.Span.{Span};
 
     ghost Value = { Span };
 

@@ -6,8 +6,8 @@ use Rattle.dm_stack.specs.Description.{Description}
 use Rattle.dm_map.specs.Mapper.{Mapping}
 use Rattle.dm_stream.specs.Mapped.{HasAnswered, HasStopped}
 use Rattle.dm_stream.specs.Outcome.{Outcome, if_done, outcome_from, requests_outcome, with_status}
-use Rattle.dm_table.specs.Progress.{HasWritten, IsClosed, Wrote}
-use Rattle.dm_table.proofs.ProgressLaws.{finished_as}
+use Rattle.dm_table.specs.Progress.{HasWritten, IsClosedAfter, Wrote}
+use Rattle.dm_table.proofs.ProgressLaws.{closed_as}
 use Rattle.dm_table.proofs.WriteLemmas.{and_then}
 use Rattle.dm_stream.specs.StatusLines.{status_text}
 use Rattle.dm_stream.proofs.RequestMapped.{cut_of_more}
@@ -29,7 +29,7 @@ all_mapped stack old new delivered w0 w1 e answered ends no_fault =
     ∙ ap (λ (x : Option ending.Ending). record { output = since w0 w1 ++ []; state = new; ending = x }) ends
     ∙ ap (λ (text : List ℕ). record { output = text; state = new; ending = Some e }) (append-nil (since w0 w1)) in
     record {
-      whole = λ n. ((ap (λ (o : Outcome). o.output) whole, ap (λ (o : Outcome). o.ending) whole), sym (ap (λ (o : Outcome). o.state) whole));
+      whole = λ n. (ap (λ (o : Outcome). o.output) whole, ap (λ (o : Outcome). o.ending) whole, sym (ap (λ (o : Outcome). o.state) whole));
       cut = λ is. absurd (no_fault is);
     }
 
@@ -39,7 +39,7 @@ stopped_at : (stack : Description) (fault : NotMapped) (old : State) (new : Mapp
 stopped_at stack (causes.Unknown number) old new first later e w0 w1 stopped =
     let whole = stopped.1 later e in
     record {
-      whole = λ n. ((ap (λ (o : Outcome). o.output) whole, ap (λ (o : Outcome). o.ending) whole), sym (ap (λ (o : Outcome). o.state) whole));
+      whole = λ n. (ap (λ (o : Outcome). o.output) whole, ap (λ (o : Outcome). o.ending) whole, sym (ap (λ (o : Outcome). o.state) whole));
       cut = λ is. absurd cc;
     }
 stopped_at stack causes.Output old new first later e w0 w1 stopped = record {
@@ -84,8 +84,8 @@ rest_status written waiting faults flushes old mid new result stack status outco
     let text = since (written old) (written mid) in
     let all : (with_status stack status outcome).output ≡ text ++ status_text stack left =
     ap (λ (b : Bool). outcome.output ++ if_done b outcome.ending (status_text stack outcome.state)) asked
-    ∙ ap (λ (x : Option ending.Ending). outcome.output ++ if_done true x (status_text stack outcome.state)) (whole.0.1 ∙ ap Some is)
-    ∙ ap (λ (xs : List ℕ). xs ++ status_text stack outcome.state) whole.0.0 ∙ ap (λ (state : State). text ++ status_text stack state) (sym whole.1) in
+    ∙ ap (λ (x : Option ending.Ending). outcome.output ++ if_done true x (status_text stack outcome.state)) (whole.1 ∙ ap Some is)
+    ∙ ap (λ (xs : List ℕ). xs ++ status_text stack outcome.state) whole.0 ∙ ap (λ (state : State). text ++ status_text stack state) (sym whole.2) in
     and_then text (status_text stack left) all (record { moved = subst (λ (n : ℕ). HasWritten written waiting faults flushes old mid n) (no_write_failed e no_fault) moved; ok = refl; left = tt }) wrote
 
 -- nothing comes after them where status lines are not asked for, or not all requests were answered up to a clean end
@@ -101,7 +101,7 @@ rest_none written waiting faults flushes old new stack status outcome left e no_
     let whole = mapped.whole no_fault in
     record {
       moved = subst (λ (n : ℕ). HasWritten written waiting faults flushes old new n) (no_write_failed e no_fault) moved;
-      ok = sym (ap (λ (xs : List ℕ). outcome.output ++ xs) (nothing_after stack status outcome e whole.0.1 off) ∙ append-nil outcome.output ∙ whole.0.0);
+      ok = sym (ap (λ (xs : List ℕ). outcome.output ++ xs) (nothing_after stack status outcome e whole.1 off) ∙ append-nil outcome.output ∙ whole.0);
       left = tt;
     }
 
@@ -113,21 +113,19 @@ closed_after (Ok done) P Q failed fact = fact
 closed_after (Err fault) P Q failed fact = let err = failed.0 in absurd cc
 
 -- all was written and flushed
-pub ran_whole : {X E : Type 0} (written waiting : X → List ℕ) (faults flushes : X → ℕ) (old new : X) (stack : Description) (status : Bool) (outcome : Outcome) (text : List ℕ) (left after : State) (e : ending.Ending) → e ≢ ending.TheVariants.WriteFault → after ≡ left
-    → IsMapped outcome text left e → IsClosed {E = E} written waiting faults flushes old new (Ok tt) (with_status stack status outcome).output → HasRun written waiting faults flushes old new (with_status stack status outcome) after e
-ran_whole {E = E} written waiting faults flushes old new stack status outcome text left after e no_fault same mapped closed = record {
-  output = finished_as (IsErr {T = Unit {0}} {E = E} (Ok tt)) (e ≡ ending.TheVariants.WriteFault) (λ err. absurd cc) (λ is. absurd (no_fault is)) closed.finished;
-  whole = λ n. ((sym closed.whole, (mapped.whole no_fault).0.1), same ∙ (mapped.whole no_fault).1);
-  flushed = λ n. closed.flushed;
-  failed = λ is. absurd (no_fault is);
-}
+pub ran_whole : {X : Type 0} (E : Type 0) (written waiting : X → List ℕ) (faults flushes : X → ℕ) (old new : X) (stack : Description) (status : Bool) (outcome : Outcome) (text : List ℕ) (left after : State) (e : ending.Ending) → e ≢ ending.TheVariants.WriteFault → after ≡ left
+    → IsMapped outcome text left e → IsClosedAfter written waiting faults flushes old new (IsErr {T = Unit {0}} {E = E} (Ok tt)) (with_status stack status outcome).output → HasRun written waiting faults flushes old new (with_status stack status outcome) after e
+ran_whole E written waiting faults flushes old new stack status outcome text left after e no_fault same mapped closed =
+    let whole = mapped.whole no_fault in
+    record {
+      output = closed_as (IsErr {T = Unit {0}} {E = E} (Ok tt)) (e ≡ ending.TheVariants.WriteFault) (λ err. absurd cc) (λ is. absurd (no_fault is)) closed;
+      ends = λ n. (whole.1, same ∙ whole.2);
+    }
 
 -- the output failed
-pub ran_failed : {X E : Type 0} (written waiting : X → List ℕ) (faults flushes : X → ℕ) (old new : X) (fault : E) (outcome : Outcome) (left : State) → IsClosed written waiting faults flushes old new (Err fault) outcome.output
+pub ran_failed : {X : Type 0} (E : Type 0) (written waiting : X → List ℕ) (faults flushes : X → ℕ) (old new : X) (fault : E) (outcome : Outcome) (left : State) → IsClosedAfter written waiting faults flushes old new (IsErr {T = Unit {0}} (Err fault)) outcome.output
     → HasRun written waiting faults flushes old new outcome left ending.TheVariants.WriteFault
-ran_failed written waiting faults flushes old new fault outcome left closed = record {
-  output = finished_as _ _ (λ err. refl) (λ is. refl) closed.finished;
-  whole = λ other. absurd (other refl);
-  flushed = λ other. absurd (other refl);
-  failed = λ is. closed.failed;
+ran_failed E written waiting faults flushes old new fault outcome left closed = record {
+  output = closed_as _ _ (λ err. refl) (λ is. refl) closed;
+  ends = λ other. absurd (other refl);
 }

@@ -8,6 +8,7 @@ use Rattle.dm_map.specs.State.{State}
 use Rattle.dm_stream.specs.Pending.{Pending}
 use Rattle.dm_stream.specs.Outcome.{after_text, outcome_from}
 use Rattle.dm_stream.specs.Requests.{NumberedRequest}
+use Rattle.dm_stream.specs.Run.{ending_for, write_faults}
 use Rattle.dm_stream.specs.declared.ending.Ending as ending
 use Rattle.dm_stream.specs.declared.ending.NotMapped.{NotMapped}
 use Rattle.dm_stream.specs.declared.ending.NotMapped.TheVariants as causes
@@ -26,8 +27,7 @@ pub record HasAnswered (stack : Description) (old new : State) (requests : List 
 
 -- how many writes failed
 abbrev pub failed_writes : NotMapped → ℕ
-failed_writes (causes.Unknown number) = 0
-failed_writes causes.Output = 1
+failed_writes cause = write_faults (ending_for cause)
 
 -- why it stopped at the last of these requests: no device has the name, and the outcome ends here; or a write failed, and something is left to write
 abbrev pub HasStopped : Description → NotMapped → State → Mapping → List NumberedRequest → (before after : List ℕ) → Type 0

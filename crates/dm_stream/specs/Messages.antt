@@ -17,7 +17,7 @@ request_word words.Number = codes "number"
 request_word words.Length = codes "length"
 request_word words.Unknown = codes "unknown"
 
--- the message of a request that is refused, with a word for why
+-- the message of a request that is refused, with a word that says why
 abbrev pub refused_request : ℕ → List ℕ → List ℕ
 refused_request number word = codes "dmremap: request " ++ decimal number ++ codes ": " ++ word ++ codes "\n"
 
@@ -41,8 +41,8 @@ pub record IsTold (message written : List ℕ) (faults_old faults_new : ℕ) : T
 
 -- it was told on a stream, which only took more, and was not flushed; nothing is told after a write that failed
 pub record HasTold {X : Type 0} (written : X → List ℕ) (faults flushes : X → ℕ) (message : List ℕ) (old new : X) : Type 0 where
-  pub tells : written new ≡ written old ++ since (written old) (written new)
+  pub appends : written new ≡ written old ++ since (written old) (written new)
   pub told : IsTold message (since (written old) (written new)) (faults old) (faults new)
   pub grows : faults old ≤ faults new
-  pub once : faults new ≤ faults old + 1
+  pub fails_once : faults new ≤ faults old + 1
   pub unflushed : flushes new ≡ flushes old

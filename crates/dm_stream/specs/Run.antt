@@ -1,7 +1,6 @@
 -- What a run did, against the outcome of what it was given.
 use Rattle.std.specs.Prelude.{◌≡◌, ◌≢◌, ℕ, List, Some, false}
-use Rattle.dm_table.specs.DeviceIo.{since}
-use Rattle.dm_table.specs.Progress.{FailedOutput, IsFinished, IsFlushed}
+use Rattle.dm_table.specs.Progress.{IsClosedAfter}
 use Rattle.dm_table.specs.WriteAll.{IsCutShort}
 use Rattle.dm_stream.specs.declared.ending.Ending as ending
 use Rattle.dm_stream.specs.declared.ending.NotMapped.{NotMapped}
@@ -11,10 +10,6 @@ use Rattle.dm_stream.specs.Outcome.{Outcome}
 use Rattle.dm_map.specs.Mapper.{Mapping}
 use Rattle.dm_map.specs.State.{State}
 use Rattle.dm_stack.specs.Description.{Description}
-
--- the outcome is what was written and how it ended
-abbrev pub IsOutcome : Outcome → List ℕ → ending.Ending → Type 0
-IsOutcome outcome written e = (outcome.output ≡ written) × (outcome.ending ≡ Some e)
 
 -- how a run ends where not all was mapped
 abbrev pub ending_for : NotMapped → ending.Ending
@@ -38,14 +33,12 @@ pub record StaysMapper (before after : Mapping) (e : ending.Ending) : Type 0 whe
   pub stack : after.stack ≡ before.stack
   pub going : e ≢ ending.TheVariants.WriteFault → after.stopped ≡ false
 
--- what was done before the flush: the whole of an outcome, or, where a write failed, a beginning of its output that lacks a byte
+-- what was done before the flush: the whole of an outcome, or, where a write failed, a beginning of its output that is not all of it
 pub record IsMapped (outcome : Outcome) (text : List ℕ) (left : State) (e : ending.Ending) : Type 0 where
-  pub whole : e ≢ ending.TheVariants.WriteFault → IsOutcome outcome text e × (left ≡ outcome.state)
+  pub whole : e ≢ ending.TheVariants.WriteFault → (outcome.output ≡ text) × (outcome.ending ≡ Some e) × (left ≡ outcome.state)
   pub cut : e ≡ ending.TheVariants.WriteFault → IsCutShort outcome.output text
 
--- what was done by the end, with the flush: the whole of an outcome; or the output failed, which had taken a beginning of it
+-- what was done by the end, with the flush: the output was closed after that of the outcome; unless it failed, the run ends as the outcome does and leaves its state
 pub record HasRun {X : Type 0} (written waiting : X → List ℕ) (faults flushes : X → ℕ) (old new : X) (outcome : Outcome) (left : State) (e : ending.Ending) : Type 0 where
-  pub output : IsFinished written waiting faults flushes old new (e ≡ ending.TheVariants.WriteFault)
-  pub whole : e ≢ ending.TheVariants.WriteFault → IsOutcome outcome (since (written old) (written new)) e × (left ≡ outcome.state)
-  pub flushed : e ≢ ending.TheVariants.WriteFault → IsFlushed waiting flushes old new
-  pub failed : e ≡ ending.TheVariants.WriteFault → FailedOutput outcome.output (since (written old) (written new)) (flushes old) (flushes new)
+  pub output : IsClosedAfter written waiting faults flushes old new (e ≡ ending.TheVariants.WriteFault) outcome.output
+  pub ends : e ≢ ending.TheVariants.WriteFault → (outcome.ending ≡ Some e) × (left ≡ outcome.state)

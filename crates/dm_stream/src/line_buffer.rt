@@ -1,7 +1,7 @@
 //! The slice in which lines are held: where a line ends, room for a read, and the read.
 //! These work on a plain slice and two places in it, so that `lines` deals only with its value.
 //! Held bytes move only when there is too little room after them: a buffer full of short lines stays put.
-ghost use Rattle.std.specs.Prelude.{◌≡◌, ◌+◌, ◌-◌, ◌<◌, ◌≤◌, ◌++◌, ◌∷◌, [], length, take, drop, slice_range, IfOk, MatchOption};
+ghost use Rattle.std.specs.Prelude.{◌≡◌, ◌+◌, ◌-◌, ◌<◌, ◌≤◌, ◌∷◌, [], length, take, drop, slice_range, IfOk, MatchOption};
 ghost use Rattle.dm_table.specs.DeviceIo.{given};
 ghost use Rattle.dm_table.specs.Fields.{parts_at};
 ghost use Rattle.dm_table.specs.Progress.{HasRead};

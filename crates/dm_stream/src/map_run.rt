@@ -163,11 +163,12 @@ pub fn run<'s, T: Taken, R: Input, W: Output, E: Output>(
     // The mapper stays one of its stack, and can go on unless the output failed.
     ensures stack { mapper.new.stack ≡ mapper.old.stack }
     ensures going { result ≢ Ending.WriteFault → mapper.new.stopped ≡ false }
-    // What was written, how it ended and the state that is left are given by what the requests delivered. The output was flushed
-    // once; or it failed, which took a beginning of what there was to write: all of it where the flush failed, and else not all.
+    // What the requests delivered gives what is written, and how it ends and the state that is left unless the output failed. The
+    // output was flushed once; if it failed, it had taken a beginning: all, if the flush failed, and less, if a write did.
     ensures ran { HasRun W.written W.waiting W.faults W.flushes output.old output.new
         (run_outcome stack.now status mapper.old.state (delivery R.handed R.faults R.ends requests.old requests.new)) mapper.new.state result }
-    // Requests are only read on, and nothing is read after an end or a fault: a read fault where reading failed, and done where it did not.
+    // Requests are only read on, and nothing is read after an end or a fault. It ends with `ReadFault` only where reading failed,
+    // and with `Done` only where it did not.
     ensures reads { IsReadOn R.handed R.faults R.ends requests.old requests.new }
     ensures met { HasMet result (R.faults requests.old) (R.faults requests.new) }
     // The message of the ending, or a beginning of it if its stream failed.

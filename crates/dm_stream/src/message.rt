@@ -35,7 +35,7 @@ pub fn message_of(ending: Ending) -> Message
 }
 
 /// The message of a request that is refused: a line with its number, and a word of at most 16 bytes
-/// for why. Takes no memory.
+/// that says why. Takes no memory.
 pub fn refused_request(number: u64, word: &[u8]) -> Message
     requires { length word.now ≤ 16 }
     ensures { result.items ≡ refused_request number word.now }

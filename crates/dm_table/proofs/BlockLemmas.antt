@@ -1,5 +1,5 @@
 -- What a block holds up to the end of what was put into it.
-use Rattle.std.proofs.Common.{◌≡◌, ℕ, ◌+◌, ◌-◌, ◌≤◌, ◌++◌, List, [], ◌∷◌, ◌<◌, length, take, drop, slice_range, sym, ap, subst, ◌∙◌, append_assoc, arith}
+use Rattle.std.proofs.Common.{◌≡◌, ℕ, ◌+◌, ◌-◌, ◌≤◌, ◌++◌, List, length, take, drop, slice_range, sym, ap, subst, ◌∙◌, append_assoc, arith}
 use Rattle.std.proofs.Math.Seq.{take-add, take-append-add, take-append_seam}
 use Rattle.std.proofs.lemmas.List.{take-take}
 

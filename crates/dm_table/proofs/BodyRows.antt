@@ -18,8 +18,11 @@ use Rattle.dm_table.specs.declared.table.Line.{Line}
 use Rattle.dm_table.specs.declared.place.Place.{Place}
 use Rattle.dm_table.specs.Name.{is_device_byte, is_device_name, is_disk_byte, names_device, mapper}
 use Rattle.dm_table.specs.Number.{Spells, number_of, number_in}
-use Rattle.dm_table.specs.LineBody.{dev_text, column_text, target_text, body_text, is_dev_ref, IsDevRef, IsColumn, IsTarget, IsBody, dev_in, if_both, linear_in, columns_in, is_half, striped_in, snapshot_in, bare_in, target_in, column_devs, devs_of, is_body_row, is_body, has_target_names, has_body_names}
-use Rattle.dm_table.specs.LineReading.{body_in}
+use Rattle.dm_table.specs.LineBody.{dev_text, column_text, target_text, body_text, is_dev_ref, IsDevRef, IsColumn, IsTarget, IsBody, dev_in, if_both, linear_in, columns_in, is_half, if_all, striped_in, snapshot_in, bare_in, target_in, Body, body_in, is_body_row, is_body, has_target_names, has_body_names}
+use Rattle.dm_table.specs.Span.{column_span}
+use Rattle.dm_table.specs.LineReading.{line_at, line_in, has_column_names}
+use Rattle.std.specs.Prelude.{◌/◌, map}
+use Rattle.std.proofs.lemmas.List.Folds.{list_all-map}
 use Rattle.dm_table.proofs.NumberLemmas.{Spells-number_of, number_of-decimal, decimal_digits, decimal_some, Some-is_some}
 use Rattle.dm_table.proofs.ByteLemmas.{All-list_all, list_all-weaker, device_name_parts, disk_name_parts}
 use Rattle.dm_table.proofs.FieldLemmas.{IsClearOf}
@@ -73,7 +76,7 @@ dev_spelled text = elim (cases_Bool (names_device text)) [
 ]
 
 -- an option that is there after a map was there before it
-mapped : {X Y : Type 0} (f : X → Y) (o : Option X) (y : Y) → option_map f o ≡ Some y → (x : X) × (o ≡ Some x) × (f x ≡ y)
+pub mapped : {X Y : Type 0} (f : X → Y) (o : Option X) (y : Y) → option_map f o ≡ Some y → (x : X) × (o ≡ Some x) × (f x ≡ y)
 mapped f None y h = absurd cc
 mapped f (Some x) y h = (x, refl, cc)
 
@@ -81,6 +84,11 @@ mapped f (Some x) y h = (x, refl, cc)
 both_there : {X Y Z : Type 0} (make : X → Y → Z) (o : Option X) (p : Option Y) (z : Z) → if_both make o p ≡ Some z → (x : X) × (y : Y) × (o ≡ Some x) × (p ≡ Some y) × (make x y ≡ z)
 both_there make None p z h = absurd cc
 both_there make (Some x) p z h = let m = mapped (make x) p z h in (x, m.0, refl, m.1, m.2)
+
+-- three that are there together
+all_there : {W X Y Z : Type 0} (make : W → X → Y → Z) (o : Option W) (p : Option X) (q : Option Y) (z : Z) → if_all make o p q ≡ Some z → (w : W) × (x : X) × (y : Y) × (o ≡ Some w) × (p ≡ Some x) × (q ≡ Some y) × (make w x y ≡ z)
+all_there make None p q z h = absurd cc
+all_there make (Some w) p q z h = let m = both_there (make w) p q z h in (w, m.0, m.1, refl, m.2, m.3, m.4)
 
 -- a choice that is there
 chosen : {X : Type 0} (b : Bool) (o : Option X) (x : X) → (if b then o else None) ≡ Some x → (b ≡ true) × (o ≡ Some x)
@@ -90,7 +98,7 @@ chosen false o x h = absurd cc
 -- fields say a target: they are its fields, and a text may say it where its names are names
 record SaysTarget (fields : List (List ℕ)) (target : Target) : Type 0 where
   again : target_fields target ≡ fields
-  said : list_all is_dev_ref (devs_of target) ≡ true → IsTarget target
+  said : (len : ℕ) → has_target_names len target ≡ true → IsTarget target
 
 linear_says : (fs : List (List ℕ)) (target : Target) → linear_in fs ≡ Some target → SaysTarget (codes "linear" ∷ fs) target
 linear_says [] target h = absurd cc
@@ -100,15 +108,19 @@ linear_says (to ∷ offset ∷ []) target h =
     let spelled = Spells-number_of offset m.0 m.1 in
     rw (← m.2) record {
       again = rw (dev_spelled to, ← spelled.digits) refl;
-      said = λ named. ((and_parts (is_dev_ref (dev_in to)) true named).0, spelled.short);
+      said = λ len named. ((and_parts (is_dev_ref (dev_in to)) true named).0, spelled.short);
     }
 linear_says (to ∷ offset ∷ more ∷ rest) target h = absurd cc
+
+-- the names of columns are those of their spans
+pub column_names : (share : ℕ) (columns : List Column) → list_all (λ span. is_dev_ref span.to) (map (column_span share) columns) ≡ has_column_names columns
+column_names share columns = list_all-map (λ span. is_dev_ref span.to) (column_span share) columns
 
 -- fields say columns, which are half as many
 record SaysColumns (fields : List (List ℕ)) (columns : List Column) : Type 0 where
   again : flat_map column_fields columns ≡ fields
   half : 2 * length columns ≡ length fields
-  said : list_all is_dev_ref (column_devs columns) ≡ true → AllByRecursion IsColumn columns
+  said : has_column_names columns ≡ true → AllByRecursion IsColumn columns
 
 columns_say : (fs : List (List ℕ)) (columns : List Column) → columns_in fs ≡ Some columns → SaysColumns fs columns
 columns_say [] columns h =
@@ -123,7 +135,7 @@ columns_say (to ∷ offset ∷ more) columns h =
     rw (← m.4) record {
       again = rw (dev_spelled to, ← spelled.digits, says.again) refl;
       half = omega arith;
-      said = λ named. let a = and_parts (is_dev_ref (dev_in to)) (list_all is_dev_ref (column_devs m.1)) named in ((a.0, spelled.short), says.said a.1);
+      said = λ named. let a = and_parts (is_dev_ref (dev_in to)) (has_column_names m.1) named in ((a.0, spelled.short), says.said a.1);
     }
 
 count_row : (count : List ℕ) (n m : ℕ) → is_half count n ≡ true → 2 * m ≡ n → (decimal m ≡ count) × (m < 10 ^ 19)
@@ -145,7 +157,7 @@ striped_says (count ∷ chunk ∷ columns) target h =
     let counted = count_row count (length columns) (length m.1) c.0 says.half in
     rw (← m.4) record {
       again = rw (counted.0, ← spelled.digits, says.again) refl;
-      said = λ named. (counted.1, spelled.short, says.said named);
+      said = λ len named. (counted.1, spelled.short, says.said (sym (column_names (len / length m.1) m.1) ∙ named));
     }
 
 snapshot_again : (origin store flag chunk : List ℕ) (n : ℕ) → pointwise nat_eq flag (codes "P") ≡ true → chunk ≡ decimal n
@@ -164,9 +176,9 @@ snapshot_says (origin ∷ store ∷ flag ∷ chunk ∷ []) target h =
     let spelled = Spells-number_of chunk m.0 m.1 in
     rw (← m.2) record {
       again = snapshot_again origin store flag chunk m.0 c.0 spelled.digits;
-      said = λ named.
-          let a = and_parts (is_dev_ref (dev_in origin)) (is_dev_ref (dev_in store) && true) named in
-          (a.0, (and_parts (is_dev_ref (dev_in store)) true a.1).0, spelled.short);
+      said = λ len named.
+          let a = and_parts (is_dev_ref (dev_in store)) (is_dev_ref (dev_in origin) && true) named in
+          ((and_parts (is_dev_ref (dev_in origin)) true a.1).0, a.0, spelled.short);
     }
 snapshot_says (origin ∷ store ∷ flag ∷ chunk ∷ more ∷ rest) target h = absurd cc
 
@@ -182,10 +194,10 @@ no_word : (type : List ℕ) (fs : List (List ℕ)) (target : Target) → None �
 no_word type fs target h = absurd cc
 
 zero_says : (target : Target) → Some Zero ≡ Some target → SaysTarget (codes "zero" ∷ []) target
-zero_says target h = let is : Zero ≡ target = cc in rw (← is) record { again = refl; said = λ named. tt }
+zero_says target h = let is : Zero ≡ target = cc in rw (← is) record { again = refl; said = λ len named. tt }
 
 error_says : (target : Target) → Some Error ≡ Some target → SaysTarget (codes "error" ∷ []) target
-error_says target h = let is : Error ≡ target = cc in rw (← is) record { again = refl; said = λ named. tt }
+error_says target h = let is : Error ≡ target = cc in rw (← is) record { again = refl; said = λ len named. tt }
 
 bare_says : (type : List ℕ) (fs : List (List ℕ)) (target : Target) → bare_in type fs ≡ Some target → SaysTarget (type ∷ fs) target
 bare_says type [] target h =
@@ -202,33 +214,42 @@ target_says (type ∷ fs) target h =
     (by_word type (codes "snapshot") fs target _ _ (snapshot_says fs target)
     (bare_says type fs target))) h
 
--- the target that fields say
-there : (o : Option Target) → is_some o ≡ true → o ≡ Some (unwrap_or o Error)
-there None h = absurd cc
-there (Some target) h = refl
+-- the line that fields say, where they are in order
+pub body_there : (at : Place) (fs : List (List ℕ)) → is_body fs ≡ true → (line : Line) × (line_in at fs ≡ Some line)
+body_there at fs h = there (body_in fs) (line_at at) h where
+  there : (o : Option Body) (f : Body → Line) → is_some o ≡ true → (line : Line) × (option_map f o ≡ Some line)
+  there None f h = absurd cc
+  there (Some body) f h = (f body, refl)
 
--- fields in order are those of their line
-pub body_again : (at : Place) (fs : List (List ℕ)) → is_body fs ≡ true → body_fields (body_in at fs) ≡ fs
-body_again at [] h = absurd cc
-body_again at (a ∷ []) h = absurd cc
-body_again at (start ∷ len ∷ target) h =
-    let b = and_parts (is_some (number_of start)) (is_some (number_of len) && is_some (target_in target)) h in
-    let c = and_parts (is_some (number_of len)) (is_some (target_in target)) b.1 in
-    let says = target_says target (unwrap_or (target_in target) Error) (there (target_in target) c.1) in
-    rw (← (number_spelled start b.0).digits, ← (number_spelled len c.0).digits, says.again) refl
+-- fields say a body: they are its fields, and a text may say it where its names are names
+record SaysBody (at : Place) (fields : List (List ℕ)) (body : Body) : Type 0 where
+  again : body_fields (line_at at body) ≡ fields
+  said : has_target_names body.len body.target ≡ true → IsBody (line_at at body)
 
-pub body_said : (at : Place) (fs : List (List ℕ)) → is_body fs ≡ true → has_body_names fs ≡ true → IsBody (body_in at fs)
-body_said at [] l h = absurd cc
-body_said at (a ∷ []) l h = absurd cc
-body_said at (start ∷ len ∷ target) l h =
-    let b = and_parts (is_some (number_of start)) (is_some (number_of len) && is_some (target_in target)) l in
-    let c = and_parts (is_some (number_of len)) (is_some (target_in target)) b.1 in
-    let is = there (target_in target) c.1 in
-    record {
-      start = (number_spelled start b.0).short;
-      len = (number_spelled len c.0).short;
-      target = (target_says target (unwrap_or (target_in target) Error) is).said (sym (ap has_target_names is) ∙ h);
+body_says : (at : Place) (fs : List (List ℕ)) (body : Body) → body_in fs ≡ Some body → SaysBody at fs body
+body_says at [] body h = absurd cc
+body_says at (a ∷ []) body h = absurd cc
+body_says at (start ∷ len ∷ target) body h =
+    let a = all_there (λ start len target. let body : Body = record { start = start; len = len; target = target } in body) (number_of start) (number_of len) (target_in target) body h in
+    let first = Spells-number_of start a.0 a.3 in
+    let second = Spells-number_of len a.1 a.4 in
+    let says = target_says target a.2 a.5 in
+    rw (← a.6) record {
+      again = rw (← first.digits, ← second.digits, says.again) refl;
+      said = λ named. record { start = first.short; len = second.short; target = says.said a.1 named };
     }
+
+-- a line is that of the fields that say it
+pub body_again : (at : Place) (fs : List (List ℕ)) (line : Line) → line_in at fs ≡ Some line → body_fields line ≡ fs
+body_again at fs line h = let m = mapped (line_at at) (body_in fs) line h in rw (← m.2) (body_says at fs m.0 m.1).again
+
+pub body_said : (at : Place) (fs : List (List ℕ)) (line : Line) → line_in at fs ≡ Some line → has_body_names fs ≡ true → IsBody line
+body_said at fs line h names =
+    let m = mapped (line_at at) (body_in fs) line h in
+    rw (← m.2) ((body_says at fs m.0 m.1).said (rw m.1 at names))
+
+pub body_placed : (at : Place) (fs : List (List ℕ)) (line : Line) → line_in at fs ≡ Some line → line.at ≡ at
+body_placed at fs line h = let m = mapped (line_at at) (body_in fs) line h in rw (← m.2) refl
 
 -- From a body to its fields
 
@@ -328,23 +349,31 @@ pub body_row_passes : (line : Line) → IsBody line → is_body_row (body_fields
 body_row_passes line h =
     and_from _ _ (three_fields (decimal line.start) (decimal line.len) (target_fields line.target) line.target (target_again line.target h.target)) (filled (body_fields line) (body_inked line h))
 
-columns_named : (columns : List Column) → AllByRecursion IsColumn columns → list_all is_dev_ref (column_devs columns) ≡ true
+columns_named : (columns : List Column) → AllByRecursion IsColumn columns → has_column_names columns ≡ true
 columns_named [] h = refl
 columns_named (column ∷ columns) h = and_from _ _ h.0.0 (columns_named columns h.1)
 
-target_named : (target : Target) → IsTarget target → list_all is_dev_ref (devs_of target) ≡ true
-target_named (Linear to offset) h = and_from _ _ h.0 refl
-target_named (Striped chunk columns) h = columns_named columns h.2
-target_named Zero h = refl
-target_named Error h = refl
-target_named (Snapshot origin store chunk) h = and_from _ _ h.0 (and_from _ _ h.1 refl)
+target_named : (len : ℕ) (target : Target) → IsTarget target → has_target_names len target ≡ true
+target_named len (Linear to offset) h = and_from _ _ h.0 refl
+target_named len (Striped chunk columns) h = column_names (len / length columns) columns ∙ columns_named columns h.2
+target_named len Zero h = refl
+target_named len Error h = refl
+target_named len (Snapshot origin store chunk) h = and_from _ _ h.1 (and_from _ _ h.0 refl)
+
+-- and say that body
+abbrev body_of : Line → Body
+body_of line = record { start = line.start; len = line.len; target = line.target }
+
+fields_say : (line : Line) → IsBody line → body_in (body_fields line) ≡ Some (body_of line)
+fields_say line h = rw (number_of-decimal line.start h.start, number_of-decimal line.len h.len, target_again line.target h.target) refl
 
 pub body_passes : (line : Line) → IsBody line → is_body (body_fields line) ≡ true
-body_passes line h = and_from _ _ (number_passes line.start h.start) (and_from _ _ (number_passes line.len h.len) (ap is_some (target_again line.target h.target)))
+body_passes line h = ap is_some (fields_say line h)
 
 pub body_names_pass : (line : Line) → IsBody line → has_body_names (body_fields line) ≡ true
-body_names_pass line h = ap has_target_names (target_again line.target h.target) ∙ target_named line.target h.target
+body_names_pass line h =
+    ap (λ (said : Option Body). unwrap_or (option_map (λ (body : Body). has_target_names body.len body.target) said) true) (fields_say line h) ∙ target_named line.len line.target h.target
 
 -- and are read as that line
-pub line_again : (at : Place) (line : Line) → IsBody line → line.at ≡ at → body_in at (body_fields line) ≡ line
-line_again at line h is = rw (number_is line.start h.start, number_is line.len h.len, target_again line.target h.target, ← is) refl
+pub line_again : (at : Place) (line : Line) → IsBody line → line.at ≡ at → line_in at (body_fields line) ≡ Some line
+line_again at line h is = ap (option_map (line_at at)) (fields_say line h) ∙ rw (← is) refl

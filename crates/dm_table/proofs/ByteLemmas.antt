@@ -11,7 +11,7 @@ use Rattle.std.proofs.lemmas.List.Sums.{prefix_len-le-length, prefix_len_stops}
 use Rattle.std.proofs.lemmas.List.Elements.{All-from_recursion}
 use Rattle.std.proofs.lemmas.Str.Ascii.{IsAscii-from_all}
 use Rattle.dm_table.specs.Fields.{parts_at}
-use Rattle.dm_table.specs.LoadFault.{is_printed}
+use Rattle.dm_table.specs.LoadFault.{is_printable}
 use Rattle.dm_table.specs.Name.{is_device_byte, is_device_name, is_disk_byte, is_disk_name, names_device}
 use Rattle.dm_table.proofs.FieldLemmas.{IsClearOf, join-parts_at}
 
@@ -43,7 +43,7 @@ is_shown line = list_all (λ b. nat_le 32 b && nat_le b 126) line
 shown_byte : (b : ℕ) → (nat_le 32 b && nat_le b 126) ≡ true → (eqb b 10 || (nat_le 32 b && nat_le b 126)) ≡ true
 shown_byte b h = grind (arith, nat_tests)
 
-pub is_shown-printed : (line : List ℕ) → is_shown line ≡ true → is_printed line ≡ true
+pub is_shown-printed : (line : List ℕ) → is_shown line ≡ true → is_printable line ≡ true
 is_shown-printed line h = list_all-weaker (λ b. nat_le 32 b && nat_le b 126) (λ b. eqb b 10 || (nat_le 32 b && nat_le b 126)) shown_byte line h
 
 text_newline : (b : ℕ) → (nat_le 32 b && nat_le b 126) ≡ true → eqb b 10 ≡ false

@@ -9,7 +9,7 @@ use Rattle.dm_table.specs.declared.place.Part.TheVariants.{Source}
 use Rattle.dm_table.specs.declared.load_fault.LoadKind.TheVariants.{NotText, Syntax, Field, Name}
 use Rattle.dm_table.specs.declared.load_fault.LoadFault.{LoadFault}
 use Rattle.dm_table.specs.Fields.{parts_at, all_but_last, last_or}
-use Rattle.dm_table.specs.LoadFault.{Answers, first_fault, first_or, is_printed, not_text, row_checks, unless}
+use Rattle.dm_table.specs.LoadFault.{Answers, first_fault, first_or, is_printable, not_text, row_checks, unless}
 use Rattle.dm_table.specs.Parsed.{IsParsed}
 use Rattle.dm_table.specs.ConciseText.{SaysDevices, DescribesConcise, lacks, without_newline, parts_of, devices_of, is_device, has_values, has_names, concise_checks}
 use Rattle.dm_table.specs.ConciseReading.{devices_from, parts_reading, read_concise}
@@ -68,7 +68,9 @@ AllPass test texts = AllByRecursion (λ text. not (test text) ≡ false) texts
 
 devices_said : (n : ℕ) (texts : List (List ℕ)) → AllPass is_device texts → AllPass has_values texts → AllPass has_names texts → SaysDevices n texts (devices_from n texts)
 devices_said n [] r l h = tt
-devices_said n (text ∷ texts) r l h = (device_said n text (not-false _ r.0) (not-false _ l.0) (not-false _ h.0), devices_said (suc n) texts r.1 l.1 h.1)
+devices_said n (text ∷ texts) r l h =
+    let said = device_said n text (not-false _ r.0) (not-false _ l.0) (not-false _ h.0) in
+    rw said.is (said.says, devices_said (suc n) texts r.1 l.1 h.1)
 
 pub described : (text : List ℕ) → first_fault (concise_checks text) ≡ None → DescribesConcise text (devices_from 1 (devices_of text))
 described text h =
@@ -91,7 +93,7 @@ described text h =
 
 record AreRead (n : ℕ) (texts : List (List ℕ)) (devices : List DeviceSpec) : Type 0 where
   pub bytes : AllByRecursion (λ text. list_all is_entry_byte text ≡ true) texts
-  pub printed : AllPass is_printed texts
+  pub printed : AllPass is_printable texts
   pub rows : AllPass is_device texts
   pub values : AllPass has_values texts
   pub names : AllPass has_names texts
@@ -151,7 +153,7 @@ again text ds d =
     let parts : devices_of text ≡ d.parts = ap parts_of bare ∙ parts_again 1 d.parts ds d.said (without_semicolons d.parts read.bytes) in
     let none : first_fault (checks_of d.parts) ≡ None =
     first_fault-all (checks_of d.parts) (
-      faults_from-good Source NotText (λ device. not (is_printed device)) 1 d.parts read.printed,
+      faults_from-good Source NotText (λ device. not (is_printable device)) 1 d.parts read.printed,
       (
         rw (faults_from-good Source Syntax (λ device. not (is_device device)) 1 d.parts read.rows) refl,
         (

@@ -1,7 +1,8 @@
 -- What is wrong with the parts of a device of the concise form, and with the device.
 use Rattle.std.proofs.Common.{◌≡◌, ◌≢◌, OnOk, ℕ, suc, ◌+◌, ◌-◌, ◌<◌, ◌≤◌, Bool, true, false, ◌&&◌, List, [], ◌∷◌, ◌++◌, length, take, drop, get_or, Option, Some, None, Result, Ok, Err, refl, sym, ap, subst, ◌∙◌, append_assoc, arith}
 use Rattle.std.specs.Prelude.{slice_index_or}
-use Rattle.std.specs.List.{list_all}
+use Rattle.std.specs.List.{cons_option, list_all}
+use Rattle.std.specs.Option.{option_to_list}
 use Rattle.std.proofs.lemmas.Bool.{and_parts}
 use Rattle.std.proofs.lemmas.List.{take_rest, append-nil, drop_more, drop_all}
 use denote.Ref.{Bor}
@@ -14,12 +15,13 @@ use Rattle.dm_table.specs.declared.row_faults.RowFault.TheVariants.{Syntax, Fiel
 use Rattle.dm_table.specs.declared.row_faults.FirstFaults.{FirstFaults}
 use Rattle.dm_table.specs.Fields.{texts}
 use Rattle.dm_table.specs.Name.{is_device_name}
-use Rattle.dm_table.specs.RowFaults.{value_fault, row_fault, read_unless, Reads, fault_in, noted_at, first_noted}
+use Rattle.dm_table.specs.RowFaults.{value_fault, row_fault, Reads, fault_in, noted_at, first_noted}
 use Rattle.dm_table.specs.LineBody.{is_body_row, is_body, has_body_names}
+use Rattle.dm_table.specs.LineReading.{line_in}
 use Rattle.dm_table.specs.ConciseText.{place_of, lacks, is_uuid, is_ro, entries, body_fields, is_label, is_known, is_named}
-use Rattle.dm_table.specs.ConciseReading.{worse, fault_of_body, fault_of_bodies, fault_of_entries, fault_of_device, line_in, lines_in, device_of, entries_reading, device_reading, bodies_reading, devices_from}
+use Rattle.dm_table.specs.ConciseReading.{worse, fault_of_body, fault_of_bodies, fault_of_entries, fault_of_device, lines_in, device_in, device_unless, entries_reading, device_reading, bodies_reading, devices_from}
 use Rattle.dm_table.proofs.RowFaultLemmas.{names_true, read_clear}
-use Rattle.dm_table.proofs.TargetRows.{read_fault, read_value, and_false}
+use Rattle.dm_table.proofs.TargetRows.{read_none, read_value, and_false}
 
 -- The worse of two
 
@@ -101,7 +103,7 @@ pub device_read : (r : Result DeviceSpec RowFault) (n : ℕ) (text : List ℕ) (
     → Reads (λ device. device) r (entries_reading n on_a_line es) → Reads (λ device. device) r (device_reading n text)
 device_read r n text es on_a_line line cut h =
     let same : entries_reading n on_a_line es ≡ device_reading n text =
-    rw (line, cut) (ap (λ (fault : Option RowFault). read_unless fault (device_of n (entries text))) (device_fault text)) in
+    rw (line, cut) (ap (λ (fault : Option RowFault). device_unless fault (device_in n (entries text))) (device_fault text)) in
     subst (λ (x : Result DeviceSpec RowFault). Reads (λ device. device) r x) same h
 
 -- Entries in hand
@@ -124,8 +126,8 @@ entries_fault n on_a_line (a ∷ []) fault label h is r = absurd (omega arith)
 entries_fault n on_a_line (a ∷ b ∷ []) fault label h is r = absurd (omega arith)
 entries_fault n on_a_line (a ∷ b ∷ c ∷ []) fault label h is r = absurd (omega arith)
 entries_fault n on_a_line (a ∷ b ∷ c ∷ d ∷ es) fault label h is r =
-    read_fault (worse (label_of on_a_line (texts (a ∷ b ∷ c ∷ d ∷ es))) (fault_of_bodies (texts es))) (lines_in (place_of n) (texts es)) (device_of n (texts (a ∷ b ∷ c ∷ d ∷ es))) fault
-    (rw (take_rest (a ∷ b ∷ c ∷ d ∷ es) 4, is) at r)
+    let found = read_none (worse (label_of on_a_line (texts (a ∷ b ∷ c ∷ d ∷ es))) (fault_of_bodies (texts es))) (lines_in (place_of n) (texts es)) fault (rw (take_rest (a ∷ b ∷ c ∷ d ∷ es) 4, is) at r) in
+    ap (λ (x : Option RowFault). device_unless x (device_in n (texts (a ∷ b ∷ c ∷ d ∷ es)))) found
 
 pub entries_read : (n : ℕ) (on_a_line : Bool) (es : List (Bor (List ℕ))) (k e : Bor (List ℕ)) (lines : List Line) (label : Option RowFault) → 4 ≤ length es → label ≡ label_of on_a_line (texts es)
     → bodies_reading (place_of n) label (texts (take (length es - 4) (drop 4 es))) ≡ Ok lines
@@ -151,15 +153,20 @@ entries_named n on_a_line (a ∷ b ∷ es) k bodies lines label h is r =
 
 -- Devices one after the other
 
+-- what is said, if it is, after what was said so far
+one_more : {X : Type 0} (old : List X) (said : Option X) (more : List X) → (old ++ option_to_list said) ++ more ≡ old ++ cons_option said more
+one_more old None more = ap (λ xs. xs ++ more) (append-nil old)
+one_more old (Some x) more = append_assoc old (x ∷ []) more
+
 -- one device further, where nothing is wrong so far
-pub devices_further : (parts : List (Bor (List ℕ))) (i : ℕ) (d : Bor (List ℕ)) (read : Result (Unit {0}) RowFault) (seen new : FirstFaults) (old devices : List DeviceSpec) → i < length parts → OnOk read (devices ≡ old ++ device_of (i + 1) (entries (get_or parts i d).now) ∷ []) → fault_in read ≢ Some Memory
+pub devices_further : (parts : List (Bor (List ℕ))) (i : ℕ) (d : Bor (List ℕ)) (read : Result (Unit {0}) RowFault) (seen new : FirstFaults) (old devices : List DeviceSpec) → i < length parts → OnOk read (devices ≡ old ++ option_to_list (device_in (i + 1) (entries (get_or parts i d).now))) → fault_in read ≢ Some Memory
     → new ≡ noted_at Source seen (i + 1) (fault_in read) → (first_noted seen ≡ None → old ++ devices_from (i + 1) (texts (drop i parts)) ≡ devices_from 1 (texts parts))
     → first_noted new ≡ None → devices ++ devices_from (i + 1 + 1) (texts (drop (i + 1) parts)) ≡ devices_from 1 (texts parts)
 devices_further parts i d read seen new old devices below taken text is so_far clear =
     let next : drop i parts ≡ get_or parts i d ∷ drop (i + 1) parts = drop_more parts i d below in
     let number : i + 1 + 1 ≡ suc (i + 1) = omega arith in
     let here = read_clear read Source seen (i + 1) taken text (sym (ap first_noted is) ∙ clear) in
-    rw (number, here.0) (append_assoc old (device_of (i + 1) (entries (get_or parts i d).now) ∷ []) (devices_from (suc (i + 1)) (texts (drop (i + 1) parts))) ∙ (rw next at (so_far here.1)))
+    rw (number, here.0) (one_more old (device_in (i + 1) (entries (get_or parts i d).now)) (devices_from (suc (i + 1)) (texts (drop (i + 1) parts))) ∙ (rw next at (so_far here.1)))
 
 -- Bodies one after the other
 
@@ -169,7 +176,7 @@ pub record IsBodyFurther (bodies : List (Bor (List ℕ))) (i : ℕ) (at : Place)
   pub made : worse fault found ≡ None → new ++ lines_in at (texts (drop (i + 1) bodies)) ≡ lines_in at (texts bodies)
 
 pub body_further : (bodies : List (Bor (List ℕ))) (i : ℕ) (d : Bor (List ℕ)) (at : Place) (label fault found : Option RowFault) (old new : List Line)
-    → i < length bodies → found ≡ fault_of_body (get_or bodies i d).now → (fault_of_body (get_or bodies i d).now ≡ None → new ≡ old ++ line_in at (get_or bodies i d).now ∷ [])
+    → i < length bodies → found ≡ fault_of_body (get_or bodies i d).now → (fault_of_body (get_or bodies i d).now ≡ None → new ≡ old ++ option_to_list (line_in at (body_fields (get_or bodies i d).now)))
     → worse fault (fault_of_bodies (texts (drop i bodies))) ≡ worse label (fault_of_bodies (texts bodies))
     → (fault ≡ None → old ++ lines_in at (texts (drop i bodies)) ≡ lines_in at (texts bodies)) → IsBodyFurther bodies i at label fault found old new
 body_further bodies i d at label fault found old new below is added known made =
@@ -181,7 +188,7 @@ body_further bodies i d at label fault found old new below is added known made =
       known = worse-more fault found _ text ∙ ap (λ (x : Option RowFault). worse fault (worse x (fault_of_bodies (texts (drop (i + 1) bodies))))) is ∙ (rw next at known);
       made = λ clear.
           let both = worse-clear fault found clear in
-          rw (added (sym is ∙ both.1)) (append_assoc old (line_in at body.now ∷ []) (lines_in at (texts (drop (i + 1) bodies))) ∙ (rw next at (made both.0)));
+          rw (added (sym is ∙ both.1)) (one_more old (line_in at fields) (lines_in at (texts (drop (i + 1) bodies))) ∙ (rw next at (made both.0)));
     }
 
 -- no body left

@@ -1,7 +1,7 @@
 -- The text of a body in the concise form and its fields, and the text of a device and its entries.
-use Rattle.std.proofs.Common.{◌≡◌, ◌⊎◌, inl, inr, ℕ, ◌≤◌, Bool, true, false, not, eqb, nat_le, nat_lt, ◌&&◌, ◌||◌, List, [], ◌∷◌, ◌++◌, length, drop, refl, sym, ap, ◌∙◌, arith}
+use Rattle.std.proofs.Common.{◌≡◌, ◌⊎◌, inl, inr, ℕ, ◌≤◌, Bool, true, false, not, eqb, nat_le, nat_lt, ◌&&◌, ◌||◌, List, [], ◌∷◌, ◌++◌, length, drop, Option, Some, refl, sym, ap, ◌∙◌, arith}
 use Rattle.std.specs.Prelude.{codes, decimal}
-use Rattle.std.specs.List.{list_all, join_with_byte, AllByRecursion}
+use Rattle.std.specs.List.{cons_option, list_all, join_with_byte, AllByRecursion}
 use Rattle.std.proofs.lemmas.Bool.{and_parts, and_from, cases_Bool, eqb-true}
 use Rattle.std.proofs.lemmas.Bool.Decides.{nat_tests}
 use Rattle.std.proofs.lemmas.List.{length-append}
@@ -10,15 +10,14 @@ use Rattle.dm_table.specs.declared.table.DeviceSpec.{DeviceSpec}
 use Rattle.dm_table.specs.declared.place.Place.{Place}
 use Rattle.dm_table.specs.Name.{is_device_byte, is_device_name}
 use Rattle.dm_table.specs.Number.{number_in}
-use Rattle.dm_table.specs.Fields.{fields}
+use Rattle.dm_table.specs.Fields.{fields, row_fields, without_last_space}
 use Rattle.dm_table.specs.LineBody.{body_text, IsBody, is_body_row, is_body, has_body_names}
-use Rattle.dm_table.specs.LineReading.{body_in}
-use Rattle.dm_table.specs.TableText.{without_last_space, row_of}
+use Rattle.dm_table.specs.LineReading.{line_in}
 use Rattle.dm_table.specs.ConciseText.{is_uuid, is_minor, is_ro, is_flags, place_of, WritesBody, SaysLines, SaysDevice, lacks, entries, without_first_space, body_fields, is_label, is_known, is_named, is_device, has_values, has_names}
-use Rattle.dm_table.specs.ConciseReading.{lines_in, device_of}
+use Rattle.dm_table.specs.ConciseReading.{lines_in, device_in}
 use Rattle.dm_table.proofs.ByteLemmas.{All-list_all, list_all-weaker, list_all-both}
 use Rattle.dm_table.proofs.FieldLemmas.{IsClearOf, parts_at-join, join-parts_at}
-use Rattle.dm_table.proofs.BodyRows.{body_alone, body_again, body_said, body_inked, body_row_passes, body_passes, body_names_pass, line_again, is_ink, IsInked, name_inked, number_inked, number_spelled, device_ink}
+use Rattle.dm_table.proofs.BodyRows.{body_alone, body_there, body_again, body_said, body_placed, body_inked, body_row_passes, body_passes, body_names_pass, line_again, is_ink, IsInked, name_inked, number_inked, number_spelled, device_ink}
 use Rattle.dm_table.proofs.BodyRows as body
 use Rattle.dm_table.proofs.TableGroups.{same_name}
 use Rattle.dm_table.proofs.TableRows.{space_cases, space_dropped, space_joined, fields_joined, inks, inks_and_space, no_space, row_kept, row_kept_spaced}
@@ -39,19 +38,18 @@ spaced_after [] r = absurd cc
 spaced_after (f ∷ fs) r = space_joined f fs
 
 -- a body whose fields are in order is written as the line that they say
-pub body_writes : (at : Place) (text : List ℕ) → is_body_row (body_fields text) ≡ true → is_body (body_fields text) ≡ true → WritesBody text (body_in at (body_fields text))
-body_writes at text r l =
+pub body_writes : (at : Place) (text : List ℕ) (line : Line) → is_body_row (body_fields text) ≡ true → line_in at (body_fields text) ≡ Some line → WritesBody text line
+body_writes at text line r l =
     let bs = body_fields text in
-    let line : Line = body_in at bs in
     let whole : text ≡ join_with_byte 32 (fields text) = sym (join-parts_at 32 text) in
-    let spelled : join_with_byte 32 bs ≡ body_text line = ap (join_with_byte 32) (sym (body_again at bs l)) ∙ body_alone line in
+    let spelled : join_with_byte 32 bs ≡ body_text line = ap (join_with_byte 32) (sym (body_again at bs line l)) ∙ body_alone line in
     let led : join_with_byte 32 ([] ∷ bs) ≡ 32 ∷ body_text line = spaced_before bs r ∙ ap (λ (t : List ℕ). 32 ∷ t) spelled in
     elim (space_cases (fields text)) [
-      | inl e ↦ elim (first_cases (row_of text)) [
+      | inl e ↦ elim (first_cases (row_fields text)) [
         | inl f ↦ inl (inl (whole ∙ ap (join_with_byte 32) (sym (f ∙ e)) ∙ spelled))
         | inr f ↦ inr (inl (whole ∙ ap (join_with_byte 32) (sym (f ∙ e)) ∙ led))
       ]
-      | inr e ↦ elim (first_cases (row_of text)) [
+      | inr e ↦ elim (first_cases (row_fields text)) [
         | inl f ↦ inl (inr (whole ∙ ap (join_with_byte 32) (sym (ap (λ (fs : List (List ℕ)). fs ++ [] ∷ []) f ∙ e)) ∙ spaced_after bs r ∙ ap (λ (t : List ℕ). t ++ 32 ∷ []) spelled))
         | inr f ↦ inr (inr (whole ∙ ap (join_with_byte 32) (sym (ap (λ (fs : List (List ℕ)). fs ++ [] ∷ []) f ∙ e)) ∙ space_joined [] bs ∙ ap (λ (t : List ℕ). t ++ 32 ∷ []) led))
       ]
@@ -64,13 +62,13 @@ no_first [] fs h = absurd cc
 no_first (b ∷ bs) fs h = refl
 
 -- fields that are there, with a space before them
-led_kept : (f : List ℕ) (fs : List (List ℕ)) → AllByRecursion IsInked (f ∷ fs) → row_of (32 ∷ join_with_byte 32 (f ∷ fs)) ≡ [] ∷ f ∷ fs
+led_kept : (f : List ℕ) (fs : List (List ℕ)) → AllByRecursion IsInked (f ∷ fs) → row_fields (32 ∷ join_with_byte 32 (f ∷ fs)) ≡ [] ∷ f ∷ fs
 led_kept f fs h =
     ap without_last_space (fields_joined [] (f ∷ fs) (refl, inks (f ∷ fs) h)) ∙ ap (λ (rest : List (List ℕ)). [] ∷ rest) (no_space (f ∷ fs) h)
 
-led_kept_spaced : (f : List ℕ) (fs : List (List ℕ)) → AllByRecursion IsInked (f ∷ fs) → row_of (32 ∷ join_with_byte 32 (f ∷ fs) ++ 32 ∷ []) ≡ [] ∷ f ∷ fs
+led_kept_spaced : (f : List ℕ) (fs : List (List ℕ)) → AllByRecursion IsInked (f ∷ fs) → row_fields (32 ∷ join_with_byte 32 (f ∷ fs) ++ 32 ∷ []) ≡ [] ∷ f ∷ fs
 led_kept_spaced f fs h =
-    ap row_of (sym (space_joined [] (f ∷ fs))) ∙ ap without_last_space (fields_joined [] (f ∷ fs ++ [] ∷ []) (refl, inks_and_space (f ∷ fs) h)) ∙ space_dropped ([] ∷ f ∷ fs)
+    ap row_fields (sym (space_joined [] (f ∷ fs))) ∙ ap without_last_space (fields_joined [] (f ∷ fs ++ [] ∷ []) (refl, inks_and_space (f ∷ fs) h)) ∙ space_dropped ([] ∷ f ∷ fs)
 
 fields_again : (text whole : List ℕ) (f : List ℕ) (fs : List (List ℕ)) → join_with_byte 32 (f ∷ fs) ≡ whole → AllByRecursion IsInked (f ∷ fs)
     → ((text ≡ whole) ⊎ (text ≡ whole ++ 32 ∷ [])) ⊎ ((text ≡ 32 ∷ whole) ⊎ (text ≡ 32 ∷ whole ++ 32 ∷ [])) → body_fields text ≡ f ∷ fs
@@ -193,11 +191,6 @@ label_passes name uuid minor flags (body ∷ bodies) some a b c d = and_from _ _
 
 -- Devices: from what is read to what is said
 
-at_kept : (at : Place) (fs : List (List ℕ)) → (body_in at fs).at ≡ at
-at_kept at [] = refl
-at_kept at (a ∷ []) = refl
-at_kept at (a ∷ b ∷ fs) = refl
-
 lines_said : (n : ℕ) (texts : List (List ℕ)) → list_all (λ text. is_body_row (body_fields text)) texts ≡ true → list_all (λ text. is_body (body_fields text)) texts ≡ true
     → list_all (λ text. has_body_names (body_fields text)) texts ≡ true → SaysLines n texts (lines_in (place_of n) texts)
 lines_said n [] r l h = tt
@@ -205,11 +198,23 @@ lines_said n (text ∷ texts) r l h =
     let a = and_parts (is_body_row (body_fields text)) _ r in
     let b = and_parts (is_body (body_fields text)) _ l in
     let c = and_parts (has_body_names (body_fields text)) _ h in
-    (body_writes (place_of n) text a.0 b.0, body_said (place_of n) (body_fields text) b.0 c.0, at_kept (place_of n) (body_fields text), lines_said n texts a.1 b.1 c.1)
+    let said = body_there (place_of n) (body_fields text) b.0 in
+    rw said.1 (
+      body_writes (place_of n) text said.0 a.0 said.1,
+      body_said (place_of n) (body_fields text) said.0 said.1 c.0,
+      body_placed (place_of n) (body_fields text) said.0 said.1,
+      lines_said n texts a.1 b.1 c.1,
+    )
+
+-- entries say a device that the text says
+pub record IsDeviceSaid (n : ℕ) (text : List ℕ) (es : List (List ℕ)) : Type 0 where
+  pub device : DeviceSpec
+  pub is : device_in n es ≡ Some device
+  pub says : SaysDevice n text device
 
 entries_said : (n : ℕ) (text : List ℕ) (es : List (List ℕ)) → text ≡ join_with_byte 44 es → is_label es ≡ true → is_known es ≡ true → is_named es ≡ true
     → list_all (λ text. is_body_row (body_fields text)) (drop 4 es) ≡ true → list_all (λ text. is_body (body_fields text)) (drop 4 es) ≡ true
-    → list_all (λ text. has_body_names (body_fields text)) (drop 4 es) ≡ true → SaysDevice n text (device_of n es)
+    → list_all (λ text. has_body_names (body_fields text)) (drop 4 es) ≡ true → IsDeviceSaid n text es
 entries_said n text [] is a k m r l h = absurd cc
 entries_said n text (name ∷ []) is a k m r l h = absurd cc
 entries_said n text (name ∷ uuid ∷ []) is a k m r l h = absurd cc
@@ -219,23 +224,27 @@ entries_said n text (name ∷ uuid ∷ minor ∷ flags ∷ first ∷ bodies) is 
     let known = and_parts (is_minor minor) (is_flags flags) k in
     let named = and_parts (is_device_name name) (is_uuid uuid) m in
     record {
-      uuid = uuid;
-      minor = minor;
-      flags = flags;
-      bodies = first ∷ bodies;
-      spelled = is;
-      named = named.0;
-      with_uuid = named.1;
-      with_minor = known.0;
-      with_flags = known.1;
-      ro = refl;
-      some = omega arith;
-      said = lines_said n (first ∷ bodies) r l h;
-      at = refl;
+      device = record { name = name; ro = is_ro flags; lines = lines_in (place_of n) (first ∷ bodies); at = place_of n };
+      is = refl;
+      says = record {
+        uuid = uuid;
+        minor = minor;
+        flags = flags;
+        bodies = first ∷ bodies;
+        spelled = is;
+        named = named.0;
+        with_uuid = named.1;
+        with_minor = known.0;
+        with_flags = known.1;
+        ro = refl;
+        some = omega arith;
+        said = lines_said n (first ∷ bodies) r l h;
+        at = refl;
+      };
     }
 
 -- a device in which no check finds anything is said by its text
-pub device_said : (n : ℕ) (text : List ℕ) → is_device text ≡ true → has_values text ≡ true → has_names text ≡ true → SaysDevice n text (device_of n (entries text))
+pub device_said : (n : ℕ) (text : List ℕ) → is_device text ≡ true → has_values text ≡ true → has_names text ≡ true → IsDeviceSaid n text (entries text)
 device_said n text r l h =
     let a = and_parts (lacks 10 text && is_label (entries text)) _ r in
     let label = and_parts (lacks 10 text) (is_label (entries text)) a.0 in
@@ -262,7 +271,7 @@ lines_pass n (text ∷ texts) (line ∷ lines) s =
       rows = and_from _ _ (ap is_body_row read ∙ body_row_passes line s.1) more.rows;
       values = and_from _ _ (ap is_body read ∙ body_passes line s.1) more.values;
       names = and_from _ _ (ap has_body_names read ∙ body_names_pass line s.1) more.names;
-      again = rw more.again (ap (λ (l : Line). l ∷ lines) (ap (body_in (place_of n)) read ∙ line_again (place_of n) line s.1 s.2));
+      again = rw more.again (ap (λ (said : Option Line). cons_option said lines) (ap (line_in (place_of n)) read ∙ line_again (place_of n) line s.1 s.2));
     }
 
 said_lines : (n : ℕ) (text : List ℕ) (device : DeviceSpec) (s : SaysDevice n text device) → AreLines (device.name ∷ s.uuid ∷ s.minor ∷ s.flags ∷ s.bodies)
@@ -303,7 +312,7 @@ pub record IsRead (n : ℕ) (text : List ℕ) (device : DeviceSpec) : Type 0 whe
   pub row : is_device text ≡ true
   pub values : has_values text ≡ true
   pub names : has_names text ≡ true
-  pub again : device_of n (entries text) ≡ device
+  pub again : device_in n (entries text) ≡ Some device
 
 pub device_again : (n : ℕ) (text : List ℕ) (device : DeviceSpec) → SaysDevice n text device → IsRead n text device
 device_again n text device s =

@@ -13,7 +13,7 @@ use Rattle.dm_table.specs.declared.row_faults.RowFault.TheVariants as rows
 use Rattle.dm_table.specs.Number.{number_of}
 use Rattle.dm_table.specs.Name.{is_disk_name}
 use Rattle.dm_table.specs.Fields.{texts, parts_at, lines_of, rest_of, fields}
-use Rattle.dm_table.specs.LoadFault.{Answers, first_fault, faults_from, unless, is_printed, not_text, unended, row_checks}
+use Rattle.dm_table.specs.LoadFault.{Answers, first_fault, faults_from, unless, is_printable, not_text, unended, row_checks}
 use Rattle.dm_table.specs.Parsed.{IsParsed}
 use Rattle.dm_table.specs.DiskList.{disk_line, AreListed, DescribesDisks, is_pair, has_sectors, has_name, second, disk_checks, disk_of, disk_reading, disks_from, read_disks}
 use Rattle.dm_table.specs.Reading.{line_checks, with_lines}
@@ -31,7 +31,7 @@ with_disk disks n line = disks ++ disk_of n (fields line) ∷ []
 -- the tests of the checks
 
 abbrev no_text : List ℕ → Bool
-no_text line = not (is_printed line)
+no_text line = not (is_printable line)
 
 abbrev no_pair : List (List ℕ) → Bool
 no_pair row = not (is_pair row)

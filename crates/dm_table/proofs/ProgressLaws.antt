@@ -2,7 +2,7 @@
 use Rattle.std.proofs.Common.{◌≡◌, ℕ, ◌+◌, List, [], ◌∷◌, ◌++◌, MutBor, Ok, sym, ap, ◌∙◌, refl, add-zero, append_assoc, arith}
 use Rattle.std.proofs.lemmas.List.{append-nil}
 use Rattle.dm_table.specs.DeviceIo.{since}
-use Rattle.dm_table.specs.Progress.{HasWritten, HasWrittenTo, IsFinished, Wrote}
+use Rattle.dm_table.specs.Progress.{HasWritten, HasWrittenTo, IsClosedAfter, IsFinished, Wrote}
 use Rattle.dm_table.proofs.Growth.{since_more, grows_more}
 
 -- nothing is new where nothing was added
@@ -63,6 +63,13 @@ finished_as P Q there back finished = record {
   fails_once = finished.fails_once;
   once = finished.once;
   still_waiting = λ failed. finished.still_waiting (back failed);
+}
+
+pub closed_as : {X : Type 0} {written waiting : X → List ℕ} {faults flushes : X → ℕ} {old new : X} {text : List ℕ} (P Q : Type 0) → (P → Q) → (Q → P) → IsClosedAfter written waiting faults flushes old new P text → IsClosedAfter written waiting faults flushes old new Q text
+closed_as P Q there back closed = record {
+  finished = finished_as P Q there back closed.finished;
+  whole = λ well. closed.whole (λ failed. well (there failed));
+  failed = λ failed. closed.failed (back failed);
 }
 
 -- nothing was asked of it

@@ -11,7 +11,7 @@ use Rattle.dm_table.specs.declared.row_faults.FirstFaults.{FirstFaults}
 use Rattle.dm_table.specs.LoadFault.{Answers, fault_at, first_or, first_fault, faults_from, row_checks, unended, unless}
 use Rattle.dm_table.specs.RowFaults.{Reads, value_fault, row_fault, read_unless, fault_in, no_faults, either, noted, noted_at, noted_rows, noted_rest, first_noted}
 use Rattle.dm_table.proofs.FaultLemmas.{Answers-unless, faults_from-text, first_fault-text, text-append, unended-text}
-use Rattle.dm_table.proofs.TargetRows.{read_fault, read_none, read_value}
+use Rattle.dm_table.proofs.TargetRows.{read_none, read_value}
 
 -- one more fault of a kind, before what comes later
 either_more : (first : Option LoadFault) (fault : LoadFault) (later : Option LoadFault) → either (either first (Some fault)) later ≡ either first (Some fault)
@@ -96,7 +96,7 @@ pub row_taken : {X : Type 0} (found : List (List ℕ) → Option RowFault) (valu
 row_taken found value cut row x is h = let a = read_value (found row) (value row) x (rw is at h) in (rw a.0 refl, sym a.1)
 
 pub row_refused : {X : Type 0} (found : List (List ℕ) → Option RowFault) (value : List (List ℕ) → X) (cut row : List (List ℕ)) (fault : RowFault) → cut ≡ row → read_unless (found cut) (value cut) ≡ Err fault → read_unless (found row) (tt {0}) ≡ Err fault
-row_refused found value cut row fault is h = read_fault (found row) (value row) (tt {0}) fault (rw is at h)
+row_refused found value cut row fault is h = let a = read_none (found row) (value row) fault (rw is at h) in rw a refl
 
 -- what is wrong with a row is why it was not read, where memory is left
 pub found_read : (read : Result (Unit {0}) RowFault) (found : Option RowFault) → Reads (λ done. done) read (read_unless found tt) → fault_in read ≢ Some rows.Memory → found ≡ fault_in read

@@ -1,39 +1,39 @@
 -- Table text in which no check finds anything describes the devices that are read from it, and text that describes devices is read as them.
-use Rattle.std.proofs.Common.{◌≡◌, ℕ, suc, ◌+◌, Bool, true, false, not, List, [], ◌∷◌, ◌++◌, length, map, None, Result, refl, ap, ◌∙◌}
+use Rattle.std.proofs.Common.{◌≡◌, ℕ, suc, ◌+◌, Bool, true, false, not, List, [], ◌∷◌, ◌++◌, length, map, Option, None, Result, refl, ap, ◌∙◌}
 use Rattle.std.specs.Global.{Vec}
-use Rattle.std.specs.List.{AllByRecursion}
+use Rattle.std.specs.List.{AllByRecursion, cons_option}
 use Rattle.std.proofs.lemmas.Bool.{not-false, not_from_true}
 use Rattle.dm_table.specs.declared.table.DeviceSpec.{DeviceSpec}
 use Rattle.dm_table.specs.declared.place.Part.TheVariants.{Source}
 use Rattle.dm_table.specs.declared.load_fault.LoadKind.TheVariants.{NotText, Syntax, Field, Name}
 use Rattle.dm_table.specs.declared.load_fault.LoadFault.{LoadFault}
-use Rattle.dm_table.specs.Fields.{parts_at, all_but_last, last_or, lines_of, rest_of}
-use Rattle.dm_table.specs.LoadFault.{Answers, first_fault, faults_from, is_printed, not_text, unended}
+use Rattle.dm_table.specs.Fields.{parts_at, all_but_last, last_or, lines_of, rest_of, row_fields}
+use Rattle.dm_table.specs.LoadFault.{Answers, first_fault, faults_from, is_printable, not_text, unended}
 use Rattle.dm_table.specs.Parsed.{IsParsed}
-use Rattle.dm_table.specs.TableText.{NamedLine, Says, DescribesTable, named_lines, row_of, is_row, is_line, has_names, table_checks}
+use Rattle.dm_table.specs.TableText.{NamedLine, Says, DescribesTable, named_lines, is_row, is_line, has_names, table_checks}
 use Rattle.dm_table.specs.TableReading.{named_in, named_from, joined, devices_from, read_table}
 use Rattle.dm_table.proofs.ByteLemmas.{is_shown, is_shown-clear, is_shown-printed}
 use Rattle.dm_table.proofs.FaultLemmas.{first_fault-none, first_fault-all, faults_from-nil, faults_from-good, append-nil_both, unended-nil}
 use Rattle.dm_table.proofs.Parsing.{parsed}
 use Rattle.dm_table.proofs.FieldLemmas.{IsClearOf, lines_of-whole, parts_at-lines, all_but_last-push, last_or-push}
 use Rattle.dm_table.proofs.TableGroups.{lines_of_joined, each_joined, apart_joined, devices_again}
-use Rattle.dm_table.proofs.TableRows.{row_for, row_said, line_writes, row_written, text_written, row_passes, line_passes, names_pass, line_again}
+use Rattle.dm_table.proofs.TableRows.{row_for, row_said, row_there, line_writes, row_written, text_written, row_passes, line_passes, names_pass, line_again}
 
 -- the rows of a text
 abbrev rows : List ℕ → List (List (List ℕ))
-rows text = map row_of (lines_of text)
+rows text = map row_fields (lines_of text)
 
 -- a test that all rows pass
 abbrev AllRowsPass : (List (List ℕ) → Bool) → List (List (List ℕ)) → Type 0
 AllRowsPass test rs = AllByRecursion (λ row. not (test row) ≡ false) rs
 
 -- the lines of rows in order say what is read from them
-lines_say : (n : ℕ) (ls : List (List ℕ)) → AllRowsPass is_row (map row_of ls) → AllRowsPass is_line (map row_of ls) → AllRowsPass has_names (map row_of ls) → Says n ls (named_from n (map row_of ls))
+lines_say : (n : ℕ) (ls : List (List ℕ)) → AllRowsPass is_row (map row_fields ls) → AllRowsPass is_line (map row_fields ls) → AllRowsPass has_names (map row_fields ls) → Says n ls (named_from n (map row_fields ls))
 lines_say n [] r l h = tt
 lines_say n (line ∷ ls) r l h =
     let a = not-false _ r.0 in
-    let b = not-false _ l.0 in
-    (line_writes n line a b, row_said n (row_of line) b (not-false _ h.0), lines_say (suc n) ls r.1 l.1 h.1)
+    let b = row_there n (row_fields line) (not-false _ l.0) in
+    rw b.1 (line_writes n line b.0 a b.1, row_said n (row_fields line) b.0 b.1 (not-false _ h.0), lines_say (suc n) ls r.1 l.1 h.1)
 
 pub described : (text : List ℕ) → first_fault (table_checks text) ≡ None → DescribesTable text (devices_from 1 (rows text))
 described text h =
@@ -61,7 +61,7 @@ texts_said n [] (named ∷ ns) s = absurd s
 texts_said n (line ∷ ls) [] s = absurd s
 texts_said n (line ∷ ls) (named ∷ ns) s = (text_written n line named s.0 s.1, texts_said (suc n) ls ns s.2)
 
-rows_said : (n : ℕ) (ls : List (List ℕ)) (ns : List NamedLine) → Says n ls ns → map row_of ls ≡ map row_for ns
+rows_said : (n : ℕ) (ls : List (List ℕ)) (ns : List NamedLine) → Says n ls ns → map row_fields ls ≡ map row_for ns
 rows_said n [] [] s = refl
 rows_said n [] (named ∷ ns) s = absurd s
 rows_said n (line ∷ ls) [] s = absurd s
@@ -90,14 +90,14 @@ named_again n [] [] s = refl
 named_again n [] (named ∷ ns) s = absurd s
 named_again n (line ∷ ls) [] s = absurd s
 named_again n (line ∷ ls) (named ∷ ns) s =
-    ap (λ (more : List NamedLine). named_in n (row_for named) ∷ more) (named_again (suc n) ls ns s.2)
-    ∙ ap (λ (one : NamedLine). one ∷ ns) (line_again n named s.1)
+    ap (cons_option (named_in n (row_for named))) (named_again (suc n) ls ns s.2)
+    ∙ ap (λ (one : Option NamedLine). cons_option one ns) (line_again n named s.1)
 
 lines_clear : (ls : List (List ℕ)) → AllByRecursion (λ line. is_shown line ≡ true) ls → AllByRecursion (IsClearOf 10) ls
 lines_clear [] h = tt
 lines_clear (line ∷ ls) h = (is_shown-clear line h.0, lines_clear ls h.1)
 
-texts_pass : (ls : List (List ℕ)) → AllByRecursion (λ line. is_shown line ≡ true) ls → AllByRecursion (λ line. not (is_printed line) ≡ false) (ls ++ [] ∷ [])
+texts_pass : (ls : List (List ℕ)) → AllByRecursion (λ line. is_shown line ≡ true) ls → AllByRecursion (λ line. not (is_printable line) ≡ false) (ls ++ [] ∷ [])
 texts_pass [] h = (refl, tt)
 texts_pass (line ∷ ls) h = (not_from_true _ (is_shown-printed line h.0), texts_pass ls h.1)
 
@@ -111,8 +111,8 @@ again text ds d =
     let parts : parts_at 10 text ≡ d.lines ++ [] ∷ [] = ap (parts_at 10) d.ended ∙ parts_at-lines d.lines (lines_clear d.lines clean) in
     let lines : lines_of text ≡ d.lines = ap all_but_last parts ∙ all_but_last-push d.lines [] in
     let rest : rest_of text ≡ [] = ap (last_or []) parts ∙ last_or-push [] d.lines [] in
-    let rs : rows text ≡ map row_for ns = ap (map row_of) lines ∙ rows_said 1 d.lines ns d.said in
-    let no_bytes : not_text Source (parts_at 10 text) ≡ [] = ap (not_text Source) parts ∙ faults_from-good Source NotText (λ line. not (is_printed line)) 1 (d.lines ++ [] ∷ []) (texts_pass d.lines clean) in
+    let rs : rows text ≡ map row_for ns = ap (map row_fields) lines ∙ rows_said 1 d.lines ns d.said in
+    let no_bytes : not_text Source (parts_at 10 text) ≡ [] = ap (not_text Source) parts ∙ faults_from-good Source NotText (λ line. not (is_printable line)) 1 (d.lines ++ [] ∷ []) (texts_pass d.lines clean) in
     let no_rows = none_along (λ r. faults_from Source Syntax (λ row. not (is_row row)) 1 r) (rows text) (map row_for ns) rs (faults_from-good Source Syntax (λ row. not (is_row row)) 1 (map row_for ns) (rows_pass 1 d.lines ns d.said)) in
     let no_lines = none_along (λ r. faults_from Source Field (λ row. not (is_line row)) 1 r) (rows text) (map row_for ns) rs (faults_from-good Source Field (λ row. not (is_line row)) 1 (map row_for ns) (lines_pass 1 d.lines ns d.said)) in
     let no_names = none_along (λ r. faults_from Source Name (λ row. not (has_names row)) 1 r) (rows text) (map row_for ns) rs (faults_from-good Source Name (λ row. not (has_names row)) 1 (map row_for ns) (all_names_pass 1 d.lines ns d.said)) in

@@ -1,21 +1,25 @@
 -- What the tests of rows say, by places: the last field, and all before it.
 use Rattle.std.proofs.Common.{◌≡◌, ℕ, suc, ◌-◌, ◌≤◌, true, false, eqb, List, [], ◌∷◌, length, get_or, take, refl, ap, arith}
 use Rattle.std.proofs.lemmas.Bool.{lt-ltb, ne_eqb}
-use Rattle.dm_table.specs.Fields.{texts, all_but_last, last_or}
-use Rattle.dm_table.specs.TableText.{is_label, without_last_space}
-use Rattle.dm_table.specs.TableReading.{ends_empty}
+use Rattle.dm_table.specs.Fields.{texts, all_but_last, last_or, without_last_space, ends_empty}
+use Rattle.dm_table.specs.TableText.{is_label}
 use Rattle.std.proofs.lemmas.List.{take_rest}
-use Rattle.std.specs.Prelude.{Bool, ◌&&◌, slice_index_or, drop, Err}
+use Rattle.std.proofs.Common.{inl, inr, Option, Some, None, Ok, Err, sym, ◌∙◌}
+use Rattle.std.specs.Prelude.{◌&&◌, slice_index_or, drop, unwrap_or, is_some, if◌then◌else◌, Bool, Result}
+use Rattle.std.specs.Option.{option_map}
 use Rattle.dm_table.specs.declared.table.Line.{Line}
+use Rattle.dm_table.specs.declared.place.Place.{Place}
 use Rattle.dm_table.specs.declared.place.Part.TheVariants.{Source}
 use Rattle.dm_table.specs.declared.row_faults.RowFault.{RowFault}
+use Rattle.dm_table.specs.declared.row_faults.RowFault.TheVariants.{Syntax, Name}
 use Rattle.dm_table.specs.Name.{is_device_name}
-use Rattle.dm_table.specs.RowFaults.{value_fault, read_unless}
-use Rattle.dm_table.specs.LineBody.{is_body_row, is_body, has_body_names}
-use Rattle.dm_table.specs.LineReading.{body_in, body_reading}
-use Rattle.dm_table.specs.TableText.{NamedLine, name_in}
-use Rattle.dm_table.specs.TableReading.{named_in, row_reading}
-use Rattle.dm_table.proofs.TargetRows.{read_fault, and_false}
+use Rattle.dm_table.specs.RowFaults.{value_fault, fault_in}
+use Rattle.dm_table.specs.LineBody.{is_body_row, Body, body_in, has_target_names}
+use Rattle.dm_table.specs.LineReading.{line_at, line_in, reading_of, body_reading}
+use Rattle.dm_table.specs.TableText.{NamedLine, name_in, is_row}
+use Rattle.dm_table.specs.TableReading.{named_in, has_line_names, fault_of_row, row_reading}
+use Rattle.dm_table.proofs.TargetRows.{made_fault, and_false}
+use Rattle.std.proofs.lemmas.Bool.{cases_Bool}
 use denote.Ref.{Bor}
 
 last_place : {X : Type 0} (x y : X) (xs : List X) → length (x ∷ y ∷ xs) - 1 ≡ suc (length (y ∷ xs) - 1)
@@ -58,11 +62,55 @@ not_spaced ([] ∷ []) e = absurd cc
 not_spaced ((b ∷ bs) ∷ []) e = refl
 not_spaced (f ∷ g ∷ fs) e = ap (λ (rest : List (List ℕ)). f ∷ rest) (not_spaced (g ∷ fs) e)
 
--- values with a fault have it under any label
-labelled_fault : (known named labelled : Bool) (x : Line) (y : NamedLine) (fault : RowFault) → read_unless (value_fault known named) x ≡ Err fault → read_unless (value_fault known (labelled && named)) y ≡ Err fault
-labelled_fault false named labelled x y fault h = read_fault (value_fault false named) x y fault h
-labelled_fault true false labelled x y fault h = rw (and_false labelled) (read_fault (value_fault true false) x y fault h)
-labelled_fault true true labelled x y fault h = absurd cc
+-- Rows
+
+-- the place of line number n
+abbrev pub place : ℕ → Place
+place n = record { part = Source; number = n }
+
+-- a line under a label
+abbrev pub with_label : List ℕ → Line → NamedLine
+with_label label line = record { name = name_in label; line = line }
+
+-- what is wrong with a row is what its tests say
+label_found : (n : ℕ) (label : List ℕ) (o : Option Body) → fault_in (reading_of has_line_names (option_map (with_label label) (option_map (line_at (place n)) o)))
+    ≡ value_fault (is_some o) (is_device_name (name_in label) && unwrap_or (option_map (λ body. has_target_names body.len body.target) o) true)
+label_found n label None = refl
+label_found n label (Some body) = elim (cases_Bool (is_device_name (name_in label) && has_target_names body.len body.target)) [
+  | inl e ↦ rw e refl
+  | inr e ↦ rw e refl
+]
+
+row_found : (n : ℕ) (row : List (List ℕ)) → fault_in (row_reading n row) ≡ fault_of_row row
+row_found n [] = refl
+row_found n (label ∷ fs) = elim (cases_Bool (is_row (label ∷ fs))) [
+  | inl e ↦ rw e (label_found n label (body_in fs))
+  | inr e ↦ rw e refl
+]
+
+pub row_fault_is : (n : ℕ) (row : List (List ℕ)) (reading : Result NamedLine RowFault) → row_reading n row ≡ reading → fault_of_row row ≡ fault_in reading
+row_fault_is n row reading h = sym (row_found n row) ∙ ap fault_in h
+
+-- a line that was read is the row's, and its names are valid
+pub record IsTaken (n : ℕ) (row : List (List ℕ)) : Type 0 where
+  pub named : NamedLine
+  pub said : named_in n row ≡ Some named
+  pub read : row_reading n row ≡ Ok named
+  pub names : has_line_names named ≡ true
+
+taken_by : (r : Bool) (o : Option NamedLine) → fault_in (if r then reading_of has_line_names o else Err Syntax) ≡ None
+    → (named : NamedLine) × (o ≡ Some named) × ((if r then reading_of has_line_names o else Err Syntax) ≡ Ok named) × (has_line_names named ≡ true)
+taken_by false o h = absurd cc
+taken_by true None h = absurd cc
+taken_by true (Some named) h = elim (cases_Bool (has_line_names named)) [
+  | inl e ↦ (named, refl, rw e refl, e)
+  | inr e ↦ absurd (let no : Some Name ≡ None = rw e at h in cc)
+]
+
+pub row_taken : (n : ℕ) (row : List (List ℕ)) → fault_of_row row ≡ None → IsTaken n row
+row_taken n row h =
+    let a = taken_by (is_row row) (named_in n row) (row_found n row ∙ h) in
+    record { named = a.0; said = a.1; read = a.2; names = a.3 }
 
 -- a body with a fault, in a row
 pub row_body_fault : (n : ℕ) (row : List (Bor (List ℕ))) (d : Bor (List ℕ)) (fault : RowFault) → 1 ≤ length row → is_label (slice_index_or row 0 d).now ≡ true → is_body_row (texts (take (length row - 1) (drop 1 row))) ≡ true
@@ -70,4 +118,7 @@ pub row_body_fault : (n : ℕ) (row : List (Bor (List ℕ))) (d : Bor (List ℕ)
 row_body_fault n [] d fault h l b r = absurd (omega arith)
 row_body_fault n (f ∷ fs) d fault h l b r =
     let is_row : is_body_row (texts fs) ≡ true = rw (take_rest (f ∷ fs) 1) at b in
-    rw (l, is_row) (labelled_fault (is_body (texts fs)) (has_body_names (texts fs)) (is_device_name (name_in f.now)) (body_in (record { part = Source; number = n }) (texts fs)) (named_in n (texts (f ∷ fs))) fault (rw (take_rest (f ∷ fs) 1) at r))
+    rw (l, is_row) (
+    made_fault (λ (line : Line). has_target_names line.len line.target) has_line_names (with_label f.now) (λ line unnamed. rw unnamed (and_false (is_device_name (name_in f.now)))) (line_in (place n) (texts fs)) fault
+    (rw (take_rest (f ∷ fs) 1) at r)
+    )

@@ -1,18 +1,19 @@
 -- A line of table text and its row of fields: a row that the tests pass is that of a line, and the row of a line passes them.
-use Rattle.std.proofs.Common.{◌≡◌, ◌⊎◌, inl, inr, ℕ, ◌<◌, true, false, eqb, nat_lt, List, [], ◌∷◌, ◌++◌, length, refl, sym, ap, ◌∙◌, append_assoc, arith}
+use Rattle.std.proofs.Common.{◌≡◌, ◌⊎◌, inl, inr, ℕ, ◌<◌, true, false, eqb, nat_lt, List, [], ◌∷◌, ◌++◌, length, Some, refl, sym, ap, ◌∙◌, append_assoc, arith}
 use Rattle.std.specs.List.{list_all, join_with_byte, AllByRecursion}
+use Rattle.std.specs.Option.{option_map}
 use Rattle.std.proofs.lemmas.Bool.{and_parts, and_from, ltb-true, lt-ltb, eqb-true, eq-eqb}
 use Rattle.std.proofs.lemmas.List.{length-append}
-use Rattle.dm_table.specs.declared.place.Place.{Place}
-use Rattle.dm_table.specs.declared.place.Part.TheVariants.{Source}
 use Rattle.dm_table.specs.Name.{is_device_name}
-use Rattle.dm_table.specs.Fields.{all_but_last, last_or, fields}
+use Rattle.dm_table.specs.Fields.{all_but_last, last_or, fields, row_fields, without_last_space}
 use Rattle.dm_table.specs.LineBody.{is_body_row, has_body_names}
-use Rattle.dm_table.specs.TableText.{NamedLine, line_text, Writes, IsSaid, without_last_space, row_of, is_label, name_in, is_row, is_line, has_names}
+use Rattle.dm_table.specs.TableText.{NamedLine, line_text, Writes, IsSaid, is_label, name_in, is_row, is_line, has_names}
+use Rattle.dm_table.specs.LineReading.{line_in}
 use Rattle.dm_table.specs.TableReading.{named_in}
 use Rattle.dm_table.proofs.ByteLemmas.{is_shown, list_all-weaker, list_all-both}
+use Rattle.dm_table.proofs.TableFields.{place, with_label}
 use Rattle.dm_table.proofs.FieldLemmas.{parts_at-first, parts_at-clear, join-parts_at, all_but_last-push, last_or-push}
-use Rattle.dm_table.proofs.BodyRows.{body_fields, body_joined, body_again, body_said, is_ink, IsInked, ink_clear, ink_text, name_inked, body_inked, body_row_passes, body_passes, body_names_pass}
+use Rattle.dm_table.proofs.BodyRows.{body_fields, body_joined, mapped, body_there, body_again, body_said, body_placed, is_ink, IsInked, ink_clear, ink_text, name_inked, body_inked, body_row_passes, body_passes, body_names_pass}
 use Rattle.dm_table.proofs.BodyRows as body
 
 -- The fields that a line is written with
@@ -59,24 +60,30 @@ label_spelled label h =
     let long : 1 < length label = ltb-true 1 (length label) a.0 in
     sym (last_split label (omega arith) ∙ ap (λ (b : ℕ). all_but_last label ++ b ∷ []) (eqb-true (last_or 0 label) 58 a.1))
 
--- a row in order is that of its line
-pub row_again : (n : ℕ) (row : List (List ℕ)) → is_row row ≡ true → is_line row ≡ true → row_for (named_in n row) ≡ row
-row_again n [] r l = absurd cc
-row_again n (label ∷ fs) r l =
-    let a = and_parts (is_label label) (is_body_row fs) r in
-    let at : Place = record { part = Source; number = n } in
-    rw (label_spelled label a.0, body_again at fs l) refl
+-- the line that a row says, where its values are valid
+pub row_there : (n : ℕ) (row : List (List ℕ)) → is_line row ≡ true → (named : NamedLine) × (named_in n row ≡ Some named)
+row_there n [] l = absurd cc
+row_there n (label ∷ fs) l =
+    let line = body_there (place n) fs l in
+    (record { name = name_in label; line = line.0 }, rw line.1 refl)
 
-pub row_said : (n : ℕ) (row : List (List ℕ)) → is_line row ≡ true → has_names row ≡ true → IsSaid n (named_in n row)
-row_said n [] l h = absurd cc
-row_said n (label ∷ []) l h = absurd cc
-row_said n (label ∷ start ∷ []) l h = absurd cc
-row_said n (label ∷ start ∷ len ∷ target) l h =
-    let a = and_parts (is_device_name (name_in label)) (has_body_names (start ∷ len ∷ target)) h in
-    record {
+-- a row in order is that of its line
+pub row_again : (n : ℕ) (row : List (List ℕ)) (named : NamedLine) → is_row row ≡ true → named_in n row ≡ Some named → row_for named ≡ row
+row_again n [] named r l = absurd cc
+row_again n (label ∷ fs) named r l =
+    let a = and_parts (is_label label) (is_body_row fs) r in
+    let m = mapped (with_label label) (line_in (place n) fs) named l in
+    rw (← m.2) (rw (label_spelled label a.0, body_again (place n) fs m.0 m.1) refl)
+
+pub row_said : (n : ℕ) (row : List (List ℕ)) (named : NamedLine) → named_in n row ≡ Some named → has_names row ≡ true → IsSaid n named
+row_said n [] named l h = absurd cc
+row_said n (label ∷ fs) named l h =
+    let a = and_parts (is_device_name (name_in label)) (has_body_names fs) h in
+    let m = mapped (with_label label) (line_in (place n) fs) named l in
+    rw (← m.2) record {
       name = a.0;
-      body = body_said (record { part = Source; number = n }) (start ∷ len ∷ target) l a.1;
-      at = refl;
+      body = body_said (place n) fs m.0 m.1 a.1;
+      at = body_placed (place n) fs m.0 m.1;
     }
 
 row_begins : (row : List (List ℕ)) → is_row row ≡ true → join_with_byte 32 (row ++ [] ∷ []) ≡ join_with_byte 32 row ++ 32 ∷ []
@@ -84,14 +91,13 @@ row_begins [] r = absurd cc
 row_begins (f ∷ fs) r = space_joined f fs
 
 -- a line whose row is in order is written as what its row says
-pub line_writes : (n : ℕ) (line : List ℕ) → is_row (row_of line) ≡ true → is_line (row_of line) ≡ true → Writes line (named_in n (row_of line))
-line_writes n line r l =
+pub line_writes : (n : ℕ) (line : List ℕ) (named : NamedLine) → is_row (row_fields line) ≡ true → named_in n (row_fields line) ≡ Some named → Writes line named
+line_writes n line named r l =
     let whole : line ≡ join_with_byte 32 (fields line) = sym (join-parts_at 32 line) in
-    let named : NamedLine = named_in n (row_of line) in
-    let spelled : join_with_byte 32 (row_of line) ≡ line_text named = ap (join_with_byte 32) (sym (row_again n (row_of line) r l)) ∙ line_joined named in
+    let spelled : join_with_byte 32 (row_fields line) ≡ line_text named = ap (join_with_byte 32) (sym (row_again n (row_fields line) named r l)) ∙ line_joined named in
     elim (space_cases (fields line)) [
       | inl e ↦ inl (whole ∙ ap (join_with_byte 32) (sym e) ∙ spelled)
-      | inr e ↦ inr (whole ∙ ap (join_with_byte 32) (sym e) ∙ row_begins (row_of line) r ∙ ap (λ (t : List ℕ). t ++ 32 ∷ []) spelled)
+      | inr e ↦ inr (whole ∙ ap (join_with_byte 32) (sym e) ∙ row_begins (row_fields line) r ∙ ap (λ (t : List ℕ). t ++ 32 ∷ []) spelled)
     ]
 
 -- From a line to its row
@@ -123,20 +129,20 @@ no_space ([] ∷ []) h = absurd (let e : false ≡ true = h.0.0 in cc)
 no_space ((b ∷ bs) ∷ []) h = refl
 no_space (f ∷ g ∷ fs) h = ap (λ (rest : List (List ℕ)). f ∷ rest) (no_space (g ∷ fs) h.1)
 
-pub row_kept : (f : List ℕ) (fs : List (List ℕ)) → AllByRecursion IsInked (f ∷ fs) → row_of (join_with_byte 32 (f ∷ fs)) ≡ f ∷ fs
+pub row_kept : (f : List ℕ) (fs : List (List ℕ)) → AllByRecursion IsInked (f ∷ fs) → row_fields (join_with_byte 32 (f ∷ fs)) ≡ f ∷ fs
 row_kept f fs h = ap without_last_space (fields_joined f fs (inks (f ∷ fs) h)) ∙ no_space (f ∷ fs) h
 
-pub row_kept_spaced : (f : List ℕ) (fs : List (List ℕ)) → AllByRecursion IsInked (f ∷ fs) → row_of (join_with_byte 32 (f ∷ fs) ++ 32 ∷ []) ≡ f ∷ fs
+pub row_kept_spaced : (f : List ℕ) (fs : List (List ℕ)) → AllByRecursion IsInked (f ∷ fs) → row_fields (join_with_byte 32 (f ∷ fs) ++ 32 ∷ []) ≡ f ∷ fs
 row_kept_spaced f fs h =
-    ap row_of (sym (space_joined f fs)) ∙ ap without_last_space (fields_joined f (fs ++ [] ∷ []) (inks_and_space (f ∷ fs) h)) ∙ space_dropped (f ∷ fs)
+    ap row_fields (sym (space_joined f fs)) ∙ ap without_last_space (fields_joined f (fs ++ [] ∷ []) (inks_and_space (f ∷ fs) h)) ∙ space_dropped (f ∷ fs)
 
 -- a line that is written so has that row
-pub row_written : (n : ℕ) (text : List ℕ) (named : NamedLine) → Writes text named → IsSaid n named → row_of text ≡ row_for named
+pub row_written : (n : ℕ) (text : List ℕ) (named : NamedLine) → Writes text named → IsSaid n named → row_fields text ≡ row_for named
 row_written n text named w h =
     let inked = row_inked n named h in
     elim w [
-      | inl e ↦ ap row_of (e ∙ sym (line_joined named)) ∙ row_kept (label_for named) (body_fields named.line) inked
-      | inr e ↦ ap row_of (e ∙ ap (λ (t : List ℕ). t ++ 32 ∷ []) (sym (line_joined named))) ∙ row_kept_spaced (label_for named) (body_fields named.line) inked
+      | inl e ↦ ap row_fields (e ∙ sym (line_joined named)) ∙ row_kept (label_for named) (body_fields named.line) inked
+      | inr e ↦ ap row_fields (e ∙ ap (λ (t : List ℕ). t ++ 32 ∷ []) (sym (line_joined named))) ∙ row_kept_spaced (label_for named) (body_fields named.line) inked
     ]
 
 joined_text : (f : List ℕ) (fs : List (List ℕ)) → AllByRecursion IsInked (f ∷ fs) → is_shown (join_with_byte 32 (f ∷ fs)) ≡ true
@@ -169,6 +175,6 @@ pub names_pass : (n : ℕ) (named : NamedLine) → IsSaid n named → has_names 
 names_pass n named h = and_from _ _ (ap is_device_name (all_but_last-push named.name 58) ∙ h.name) (body_names_pass named.line h.body)
 
 -- and is read as that line
-pub line_again : (n : ℕ) (named : NamedLine) → IsSaid n named → named_in n (row_for named) ≡ named
+pub line_again : (n : ℕ) (named : NamedLine) → IsSaid n named → named_in n (row_for named) ≡ Some named
 line_again n named h =
-    rw (all_but_last-push named.name 58, body.line_again (record { part = Source; number = n }) named.line h.body h.at) refl
+    ap (option_map (with_label (label_for named))) (body.line_again (place n) named.line h.body h.at) ∙ rw (all_but_last-push named.name 58) refl

@@ -1,7 +1,6 @@
 -- What is read of the slices that the code has in hand, field by field.
 use Rattle.std.proofs.Common.{◌≡◌, ◌≢◌, inl, inr, ℕ, ◌-◌, ◌<◌, ◌≤◌, Bool, true, false, eqb, nat_eq, ◌&&◌, List, [], ◌∷◌, ◌++◌, length, take, drop, slice_index_or, Option, Some, None, Result, Ok, Err, refl, sym, ap, ◌∙◌, append_assoc, arith}
-use Rattle.std.specs.Prelude.{codes, is_some, if◌then◌else◌}
-use Rattle.std.specs.List.{list_all}
+use Rattle.std.specs.Prelude.{◌/◌, codes, is_some, if◌then◌else◌}
 use Rattle.std.specs.Option.{option_map}
 use Rattle.std.specs.Cmp.Lexicographic.{pointwise}
 use Rattle.std.proofs.lemmas.Bool.{cases_Bool}
@@ -11,21 +10,18 @@ use Rattle.dm_table.specs.declared.table.Column.{Column}
 use Rattle.dm_table.specs.declared.table.DevRef.{DevRef}
 use Rattle.dm_table.specs.declared.table.Target.{Target}
 use Rattle.dm_table.specs.declared.table.Target.TheVariants.{Linear, Striped, Snapshot}
+use Rattle.dm_table.specs.declared.table.Line.{Line}
 use Rattle.dm_table.specs.declared.place.Place.{Place}
 use Rattle.dm_table.specs.declared.row_faults.RowFault.{RowFault}
 use Rattle.dm_table.specs.declared.row_faults.RowFault.TheVariants.{Field, Name, Memory}
 use Rattle.dm_table.specs.Number.{number_of}
 use Rattle.dm_table.specs.Fields.{texts}
-use Rattle.dm_table.specs.LineBody.{is_dev_ref, dev_in, if_both, linear_in, columns_in, is_half, striped_in, snapshot_in, bare_in, column_devs, devs_of, target_in, has_target_names}
-use Rattle.dm_table.specs.RowFaults.{value_fault, read_unless}
-use Rattle.dm_table.specs.LineReading.{dev_reading, reading_of, columns_reading, fault_before, target_reading, body_reading}
+use Rattle.dm_table.specs.LineBody.{is_dev_ref, dev_in, if_both, linear_in, columns_in, is_half, striped_in, snapshot_in, bare_in, target_in, Body, has_target_names}
+use Rattle.dm_table.proofs.BodyRows.{column_names}
+use Rattle.dm_table.specs.RowFaults.{read_unless}
+use Rattle.dm_table.specs.LineReading.{line_at, has_column_names, dev_reading, reading_of, columns_reading, fault_before, target_reading, body_reading}
 
 -- What is read of a value
-
--- a fault is that of any value
-pub read_fault : {X Y : Type 0} (found : Option RowFault) (x : X) (y : Y) (fault : RowFault) → read_unless found x ≡ Err fault → read_unless found y ≡ Err fault
-read_fault None x y fault h = absurd cc
-read_fault (Some other) x y fault h = let same : other ≡ fault = cc in ap Err same
 
 pub read_none : {X : Type 0} (found : Option RowFault) (x : X) (fault : RowFault) → read_unless found x ≡ Err fault → found ≡ Some fault
 read_none None x fault h = absurd cc
@@ -101,9 +97,9 @@ columns_fault columns reading all fault whole h = sym whole ∙ rw h refl
 
 -- one column before others
 one_before : (column : Column) (more : Option (List Column)) → is_dev_ref column.to ≡ true
-    → reading_of column_devs (option_map (λ columns. column ∷ columns) more) ≡ after_columns (column ∷ []) (reading_of column_devs more)
+    → reading_of has_column_names (option_map (λ columns. column ∷ columns) more) ≡ after_columns (column ∷ []) (reading_of has_column_names more)
 one_before column None h = refl
-one_before column (Some columns) h = rw h (elim (cases_Bool (list_all is_dev_ref (column_devs columns))) [
+one_before column (Some columns) h = rw h (elim (cases_Bool (has_column_names columns)) [
   | inl e ↦ rw e refl
   | inr e ↦ rw e refl
 ])
@@ -125,7 +121,7 @@ column_further columns (f ∷ g ∷ fs) d e to offset h n r =
 
 -- a column whose text is no name
 one_unnamed : (column : Column) (more : Option (List Column)) → is_dev_ref column.to ≡ false
-    → reading_of column_devs (option_map (λ columns. column ∷ columns) more) ≡ Err (if is_some more then Name else Field)
+    → reading_of has_column_names (option_map (λ columns. column ∷ columns) more) ≡ Err (if is_some more then Name else Field)
 one_unnamed column None h = refl
 one_unnamed column (Some columns) h = rw h refl
 
@@ -150,14 +146,14 @@ column_unknown (f ∷ g ∷ fs) e h n = rw n refl
 -- The arguments of a type
 
 -- what is read of them, where this is what such arguments say
-abbrev pub arguments_reading : (List (List ℕ) → Option Target) → List (Bor (List ℕ)) → Result Target RowFault
-arguments_reading said fs = reading_of devs_of (said (texts fs))
+abbrev pub arguments_reading : (len : ℕ) → (List (List ℕ) → Option Target) → List (Bor (List ℕ)) → Result Target RowFault
+arguments_reading len said fs = reading_of (has_target_names len) (said (texts fs))
 
-pub linear_none : (fs : List (Bor (List ℕ))) → length fs ≢ 2 → arguments_reading linear_in fs ≡ Err Field
-linear_none [] h = refl
-linear_none (f ∷ []) h = refl
-linear_none (f ∷ g ∷ []) h = absurd (h refl)
-linear_none (f ∷ g ∷ k ∷ fs) h = refl
+pub linear_none : (len : ℕ) (fs : List (Bor (List ℕ))) → length fs ≢ 2 → arguments_reading len linear_in fs ≡ Err Field
+linear_none len [] h = refl
+linear_none len (f ∷ []) h = refl
+linear_none len (f ∷ g ∷ []) h = absurd (h refl)
+linear_none len (f ∷ g ∷ k ∷ fs) h = refl
 
 -- two arguments as the code has them
 texts_two : (fs : List (Bor (List ℕ))) (d e : Bor (List ℕ)) → length fs ≡ 2 → texts fs ≡ (slice_index_or fs 0 d).now ∷ (slice_index_or fs 1 e).now ∷ []
@@ -166,44 +162,44 @@ texts_two (f ∷ []) d e h = absurd (omega arith)
 texts_two (f ∷ g ∷ []) d e h = refl
 texts_two (f ∷ g ∷ k ∷ fs) d e h = absurd (omega arith)
 
-pub linear_unnamed : (fs : List (Bor (List ℕ))) (d e : Bor (List ℕ)) (offset : ℕ) (fault : RowFault) → length fs ≡ 2 → number_of (slice_index_or fs 1 e).now ≡ Some offset → dev_reading (slice_index_or fs 0 d).now ≡ Err fault
-    → arguments_reading linear_in fs ≡ Err fault
-linear_unnamed fs d e offset fault two n r = let a = dev_unnamed (slice_index_or fs 0 d).now fault r in rw (texts_two fs d e two, n, a.0, a.1) refl
+pub linear_unnamed : (len : ℕ) (fs : List (Bor (List ℕ))) (d e : Bor (List ℕ)) (offset : ℕ) (fault : RowFault) → length fs ≡ 2 → number_of (slice_index_or fs 1 e).now ≡ Some offset → dev_reading (slice_index_or fs 0 d).now ≡ Err fault
+    → arguments_reading len linear_in fs ≡ Err fault
+linear_unnamed len fs d e offset fault two n r = let a = dev_unnamed (slice_index_or fs 0 d).now fault r in rw (texts_two fs d e two, n, a.0, a.1) refl
 
-pub linear_read : (fs : List (Bor (List ℕ))) (d e : Bor (List ℕ)) (offset : ℕ) (to : DevRef) → length fs ≡ 2 → number_of (slice_index_or fs 1 e).now ≡ Some offset → dev_reading (slice_index_or fs 0 d).now ≡ Ok to
-    → arguments_reading linear_in fs ≡ Ok (Linear to offset)
-linear_read fs d e offset to two n r = let a = dev_parts (slice_index_or fs 0 d).now to r in rw (texts_two fs d e two, n, a.1, a.0) refl
+pub linear_read : (len : ℕ) (fs : List (Bor (List ℕ))) (d e : Bor (List ℕ)) (offset : ℕ) (to : DevRef) → length fs ≡ 2 → number_of (slice_index_or fs 1 e).now ≡ Some offset → dev_reading (slice_index_or fs 0 d).now ≡ Ok to
+    → arguments_reading len linear_in fs ≡ Ok (Linear to offset)
+linear_read len fs d e offset to two n r = let a = dev_parts (slice_index_or fs 0 d).now to r in rw (texts_two fs d e two, n, a.1, a.0) refl
 
-pub striped_none : (fs : List (Bor (List ℕ))) → length fs < 2 → arguments_reading striped_in fs ≡ Err Field
-striped_none [] h = refl
-striped_none (f ∷ []) h = refl
-striped_none (f ∷ g ∷ fs) h = absurd (omega arith)
+pub striped_none : (len : ℕ) (fs : List (Bor (List ℕ))) → length fs < 2 → arguments_reading len striped_in fs ≡ Err Field
+striped_none len [] h = refl
+striped_none len (f ∷ []) h = refl
+striped_none len (f ∷ g ∷ fs) h = absurd (omega arith)
 
 -- what is read of a striped line, once its columns were
 abbrev pub with_columns : ℕ → Result (List Column) RowFault → Result Target RowFault
 with_columns chunk (Ok columns) = Ok (Striped chunk columns)
 with_columns chunk (Err fault) = Err fault
 
-columns_striped : (chunk : ℕ) (columns : Option (List Column)) → reading_of devs_of (option_map (Striped chunk) columns) ≡ with_columns chunk (reading_of column_devs columns)
-columns_striped chunk None = refl
-columns_striped chunk (Some columns) = elim (cases_Bool (list_all is_dev_ref (column_devs columns))) [
+columns_striped : (len chunk : ℕ) (columns : Option (List Column)) → reading_of (has_target_names len) (option_map (Striped chunk) columns) ≡ with_columns chunk (reading_of has_column_names columns)
+columns_striped len chunk None = refl
+columns_striped len chunk (Some columns) = rw (column_names (len / length columns) columns) (elim (cases_Bool (has_column_names columns)) [
   | inl e ↦ rw e refl
   | inr e ↦ rw e refl
-]
+])
 
 -- columns in number and a chunk: what is read is what is read of the columns
 half_texts : (count : List ℕ) (fs : List (Bor (List ℕ))) (n : ℕ) → n ≡ length fs → is_half count n ≡ true → is_half count (length (texts fs)) ≡ true
 half_texts count fs n e h = rw (length-map, ← e) h
 
-pub striped_read : (fs : List (Bor (List ℕ))) (d e : Bor (List ℕ)) (chunk : ℕ) (reading : Result (List Column) RowFault) → 2 ≤ length fs
+pub striped_read : (len : ℕ) (fs : List (Bor (List ℕ))) (d e : Bor (List ℕ)) (chunk : ℕ) (reading : Result (List Column) RowFault) → 2 ≤ length fs
     → is_half (slice_index_or fs 0 d).now (length (take (length fs - 2) (drop 2 fs))) ≡ true → number_of (slice_index_or fs 1 e).now ≡ Some chunk
-    → columns_reading (texts (take (length fs - 2) (drop 2 fs))) ≡ reading → arguments_reading striped_in fs ≡ with_columns chunk reading
-striped_read [] d e chunk reading h c n r = absurd (omega arith)
-striped_read (f ∷ []) d e chunk reading h c n r = absurd (omega arith)
-striped_read (f ∷ g ∷ fs) d e chunk reading h c n r =
+    → columns_reading (texts (take (length fs - 2) (drop 2 fs))) ≡ reading → arguments_reading len striped_in fs ≡ with_columns chunk reading
+striped_read len [] d e chunk reading h c n r = absurd (omega arith)
+striped_read len (f ∷ []) d e chunk reading h c n r = absurd (omega arith)
+striped_read len (f ∷ g ∷ fs) d e chunk reading h c n r =
     let half : is_half f.now (length (texts fs)) ≡ true = half_texts f.now fs _ (ap length (take_rest (f ∷ g ∷ fs) 2)) c in
     let read : columns_reading (texts fs) ≡ reading = rw (take_rest (f ∷ g ∷ fs) 2) at r in
-    rw (half, n) (columns_striped chunk (columns_in (texts fs)) ∙ ap (with_columns chunk) read)
+    rw (half, n) (columns_striped len chunk (columns_in (texts fs)) ∙ ap (with_columns chunk) read)
 
 -- four arguments
 texts_four : (fs : List (Bor (List ℕ))) (d e g k : Bor (List ℕ)) → length fs ≡ 4
@@ -215,37 +211,41 @@ texts_four (a ∷ b ∷ c ∷ []) d e g k h = absurd (omega arith)
 texts_four (a ∷ b ∷ c ∷ f ∷ []) d e g k h = refl
 texts_four (a ∷ b ∷ c ∷ f ∷ x ∷ fs) d e g k h = absurd (omega arith)
 
-pub snapshot_none : (fs : List (Bor (List ℕ))) → length fs ≢ 4 → arguments_reading snapshot_in fs ≡ Err Field
-snapshot_none [] h = refl
-snapshot_none (a ∷ []) h = refl
-snapshot_none (a ∷ b ∷ []) h = refl
-snapshot_none (a ∷ b ∷ c ∷ []) h = refl
-snapshot_none (a ∷ b ∷ c ∷ f ∷ []) h = absurd (h refl)
-snapshot_none (a ∷ b ∷ c ∷ f ∷ x ∷ fs) h = refl
+pub snapshot_none : (len : ℕ) (fs : List (Bor (List ℕ))) → length fs ≢ 4 → arguments_reading len snapshot_in fs ≡ Err Field
+snapshot_none len [] h = refl
+snapshot_none len (a ∷ []) h = refl
+snapshot_none len (a ∷ b ∷ []) h = refl
+snapshot_none len (a ∷ b ∷ c ∷ []) h = refl
+snapshot_none len (a ∷ b ∷ c ∷ f ∷ []) h = absurd (h refl)
+snapshot_none len (a ∷ b ∷ c ∷ f ∷ x ∷ fs) h = refl
 
-pub snapshot_flag : (fs : List (Bor (List ℕ))) (g : Bor (List ℕ)) → length fs ≡ 4 → pointwise nat_eq (slice_index_or fs 2 g).now (codes "P") ≡ false → arguments_reading snapshot_in fs ≡ Err Field
-snapshot_flag fs g four p = rw (texts_four fs g g g g four, p) refl
+pub snapshot_flag : (len : ℕ) (fs : List (Bor (List ℕ))) (g : Bor (List ℕ)) → length fs ≡ 4 → pointwise nat_eq (slice_index_or fs 2 g).now (codes "P") ≡ false → arguments_reading len snapshot_in fs ≡ Err Field
+snapshot_flag len fs g four p = rw (texts_four fs g g g g four, p) refl
 
-pub snapshot_chunk : (fs : List (Bor (List ℕ))) (g k : Bor (List ℕ)) → length fs ≡ 4 → pointwise nat_eq (slice_index_or fs 2 g).now (codes "P") ≡ true → number_of (slice_index_or fs 3 k).now ≡ None
-    → arguments_reading snapshot_in fs ≡ Err Field
-snapshot_chunk fs g k four p n = rw (texts_four fs g g g k four, p, n) refl
+pub snapshot_chunk : (len : ℕ) (fs : List (Bor (List ℕ))) (g k : Bor (List ℕ)) → length fs ≡ 4 → pointwise nat_eq (slice_index_or fs 2 g).now (codes "P") ≡ true → number_of (slice_index_or fs 3 k).now ≡ None
+    → arguments_reading len snapshot_in fs ≡ Err Field
+snapshot_chunk len fs g k four p n = rw (texts_four fs g g g k four, p, n) refl
 
-pub snapshot_origin : (fs : List (Bor (List ℕ))) (d g k : Bor (List ℕ)) (chunk : ℕ) (fault : RowFault) → length fs ≡ 4 → pointwise nat_eq (slice_index_or fs 2 g).now (codes "P") ≡ true
-    → number_of (slice_index_or fs 3 k).now ≡ Some chunk → dev_reading (slice_index_or fs 0 d).now ≡ Err fault → arguments_reading snapshot_in fs ≡ Err fault
-snapshot_origin fs d g k chunk fault four p n o =
+second_unnamed : (first : Bool) (target : Target) → ◌≡◌ {A = Result Target RowFault} (if first && (false && true) then Ok target else Err Name) (Err Name)
+second_unnamed true target = refl
+second_unnamed false target = refl
+
+pub snapshot_origin : (len : ℕ) (fs : List (Bor (List ℕ))) (d g k : Bor (List ℕ)) (chunk : ℕ) (fault : RowFault) → length fs ≡ 4 → pointwise nat_eq (slice_index_or fs 2 g).now (codes "P") ≡ true
+    → number_of (slice_index_or fs 3 k).now ≡ Some chunk → dev_reading (slice_index_or fs 0 d).now ≡ Err fault → arguments_reading len snapshot_in fs ≡ Err fault
+snapshot_origin len fs d g k chunk fault four p n o =
     let a = dev_unnamed (slice_index_or fs 0 d).now fault o in
-    rw (texts_four fs d d g k four, p, n, a.0, a.1) refl
+    rw (texts_four fs d d g k four, p, n, a.0, a.1) (second_unnamed (is_dev_ref (dev_in (slice_index_or fs 1 d).now)) _)
 
-pub snapshot_store : (fs : List (Bor (List ℕ))) (d e g k : Bor (List ℕ)) (chunk : ℕ) (origin : DevRef) (fault : RowFault) → length fs ≡ 4 → pointwise nat_eq (slice_index_or fs 2 g).now (codes "P") ≡ true
-    → number_of (slice_index_or fs 3 k).now ≡ Some chunk → dev_reading (slice_index_or fs 0 d).now ≡ Ok origin → dev_reading (slice_index_or fs 1 e).now ≡ Err fault → arguments_reading snapshot_in fs ≡ Err fault
-snapshot_store fs d e g k chunk origin fault four p n o s =
+pub snapshot_store : (len : ℕ) (fs : List (Bor (List ℕ))) (d e g k : Bor (List ℕ)) (chunk : ℕ) (origin : DevRef) (fault : RowFault) → length fs ≡ 4 → pointwise nat_eq (slice_index_or fs 2 g).now (codes "P") ≡ true
+    → number_of (slice_index_or fs 3 k).now ≡ Some chunk → dev_reading (slice_index_or fs 0 d).now ≡ Ok origin → dev_reading (slice_index_or fs 1 e).now ≡ Err fault → arguments_reading len snapshot_in fs ≡ Err fault
+snapshot_store len fs d e g k chunk origin fault four p n o s =
     let a = dev_parts (slice_index_or fs 0 d).now origin o in
     let b = dev_unnamed (slice_index_or fs 1 e).now fault s in
     rw (texts_four fs d e g k four, p, n, a.1, a.0, b.0, b.1) refl
 
-pub snapshot_read : (fs : List (Bor (List ℕ))) (d e g k : Bor (List ℕ)) (chunk : ℕ) (origin store : DevRef) → length fs ≡ 4 → pointwise nat_eq (slice_index_or fs 2 g).now (codes "P") ≡ true
-    → number_of (slice_index_or fs 3 k).now ≡ Some chunk → dev_reading (slice_index_or fs 0 d).now ≡ Ok origin → dev_reading (slice_index_or fs 1 e).now ≡ Ok store → arguments_reading snapshot_in fs ≡ Ok (Snapshot origin store chunk)
-snapshot_read fs d e g k chunk origin store four p n o s =
+pub snapshot_read : (len : ℕ) (fs : List (Bor (List ℕ))) (d e g k : Bor (List ℕ)) (chunk : ℕ) (origin store : DevRef) → length fs ≡ 4 → pointwise nat_eq (slice_index_or fs 2 g).now (codes "P") ≡ true
+    → number_of (slice_index_or fs 3 k).now ≡ Some chunk → dev_reading (slice_index_or fs 0 d).now ≡ Ok origin → dev_reading (slice_index_or fs 1 e).now ≡ Ok store → arguments_reading len snapshot_in fs ≡ Ok (Snapshot origin store chunk)
+snapshot_read len fs d e g k chunk origin store four p n o s =
     let a = dev_parts (slice_index_or fs 0 d).now origin o in
     let b = dev_parts (slice_index_or fs 1 e).now store s in
     rw (texts_four fs d e g k four, p, n, a.1, a.0, b.1, b.0) refl
@@ -257,10 +257,10 @@ bare_some type [] h = absurd cc
 bare_some type (f ∷ fs) h = refl
 
 -- arguments after a type that takes none
-pub target_over : (fs : List (Bor (List ℕ))) (d : Bor (List ℕ)) → 1 ≤ length fs → pointwise nat_eq (slice_index_or fs 0 d).now (codes "linear") ≡ false → pointwise nat_eq (slice_index_or fs 0 d).now (codes "striped") ≡ false
-    → pointwise nat_eq (slice_index_or fs 0 d).now (codes "snapshot") ≡ false → eqb (length (take (length fs - 1) (drop 1 fs))) 0 ≡ false → target_reading (texts fs) ≡ Err Field
-target_over [] d h linear striped snapshot some = absurd (omega arith)
-target_over (f ∷ fs) d h linear striped snapshot some = rw (linear, striped, snapshot, bare_some f.now fs (rw (take_rest (f ∷ fs) 1) at some)) refl
+pub target_over : (len : ℕ) (fs : List (Bor (List ℕ))) (d : Bor (List ℕ)) → 1 ≤ length fs → pointwise nat_eq (slice_index_or fs 0 d).now (codes "linear") ≡ false → pointwise nat_eq (slice_index_or fs 0 d).now (codes "striped") ≡ false
+    → pointwise nat_eq (slice_index_or fs 0 d).now (codes "snapshot") ≡ false → eqb (length (take (length fs - 1) (drop 1 fs))) 0 ≡ false → target_reading len (texts fs) ≡ Err Field
+target_over len [] d h linear striped snapshot some = absurd (omega arith)
+target_over len (f ∷ fs) d h linear striped snapshot some = rw (linear, striped, snapshot, bare_some f.now fs (rw (take_rest (f ∷ fs) 1) at some)) refl
 
 pub and_false : (b : Bool) → (b && false) ≡ false
 and_false true = refl
@@ -268,35 +268,49 @@ and_false false = refl
 
 -- The fields of a body
 
--- the fault of a target is that of a body
-target_fault : {X : Type 0} (target : Option Target) (x : X) (fault : RowFault) → reading_of devs_of target ≡ Err fault
-    → read_unless (value_fault (is_some target) (has_target_names target)) x ≡ Err fault
-target_fault None x fault h = let same : Field ≡ fault = cc in ap Err same
-target_fault (Some target) x fault h = elim (cases_Bool (list_all is_dev_ref (devs_of target))) [
-  | inl e ↦ absurd (let no : Ok target ≡ Err fault = rw e at h in cc)
-  | inr e ↦ rw e (let same : ◌≡◌ {A = Result Target RowFault} (Err Name) (Err fault) = rw e at h in let is : Name ≡ fault = cc in ap Err is)
+-- a fault is that of what is made of the value, under the same test of names
+pub made_fault : {X Y : Type 0} (of_x : X → Bool) (of_y : Y → Bool) (make : X → Y) → ((x : X) → of_x x ≡ false → of_y (make x) ≡ false) → (o : Option X) (fault : RowFault)
+    → reading_of of_x o ≡ Err fault → reading_of of_y (option_map make o) ≡ Err fault
+made_fault of_x of_y make same None fault h = let is : Field ≡ fault = cc in ap Err is
+made_fault {X} of_x of_y make same (Some x) fault h = elim (cases_Bool (of_x x)) [
+  | inl e ↦ absurd (let no : Ok x ≡ Err fault = rw e at h in cc)
+  | inr e ↦ rw (same x e) (let both : ◌≡◌ {A = Result X RowFault} (Err Name) (Err fault) = rw e at h in let is : Name ≡ fault = cc in ap Err is)
 ]
 
-target_parts : (said : Option Target) (target : Target) → reading_of devs_of said ≡ Ok target → (said ≡ Some target) × (list_all is_dev_ref (devs_of target) ≡ true)
-target_parts None target h = absurd cc
-target_parts (Some other) target h = elim (cases_Bool (list_all is_dev_ref (devs_of other))) [
-  | inl e ↦ let is : other ≡ target = read_ok other target (rw e at h) in (ap Some is, rw (← is) e)
-  | inr e ↦ absurd (let no : ◌≡◌ {A = Result Target RowFault} (Err Name) (Ok target) = rw e at h in cc)
+-- what was read is there, and its names are valid
+pub read_parts : {X : Type 0} (has_names : X → Bool) (o : Option X) (x : X) → reading_of has_names o ≡ Ok x → (o ≡ Some x) × (has_names x ≡ true)
+read_parts has_names None x h = absurd cc
+read_parts {X} has_names (Some other) x h = elim (cases_Bool (has_names other)) [
+  | inl e ↦ let is : other ≡ x = read_ok other x (rw e at h) in (ap Some is, rw (← is) e)
+  | inr e ↦ absurd (let no : ◌≡◌ {A = Result X RowFault} (Err Name) (Ok x) = rw e at h in cc)
 ]
+
+-- the line of a start, a length and a target
+abbrev line_with : Place → (start len : ℕ) → Target → Line
+line_with at start len target = record { start = start; len = len; target = target; at = at }
+
+with_target : (at : Place) (start len : ℕ) (o : Option Target)
+    → option_map (line_at at) (option_map (λ target. let body : Body = record { start = start; len = len; target = target } in body) o) ≡ option_map (line_with at start len) o
+with_target at start len None = refl
+with_target at start len (Some target) = refl
 
 pub body_fault : (at : Place) (fs : List (Bor (List ℕ))) (d e : Bor (List ℕ)) (start len : ℕ) (fault : RowFault) → 2 ≤ length fs → number_of (slice_index_or fs 0 d).now ≡ Some start
-    → number_of (slice_index_or fs 1 e).now ≡ Some len → target_reading (texts (take (length fs - 2) (drop 2 fs))) ≡ Err fault → body_reading at (texts fs) ≡ Err fault
+    → number_of (slice_index_or fs 1 e).now ≡ Some len → target_reading len (texts (take (length fs - 2) (drop 2 fs))) ≡ Err fault → body_reading at (texts fs) ≡ Err fault
 body_fault at [] d e start len fault h n m r = absurd (omega arith)
 body_fault at (f ∷ []) d e start len fault h n m r = absurd (omega arith)
-body_fault at (f ∷ g ∷ fs) d e start len fault h n m r = rw (n, m) (target_fault (target_in (texts fs)) _ fault (rw (take_rest (f ∷ g ∷ fs) 2) at r))
+body_fault at (f ∷ g ∷ fs) d e start len fault h n m r =
+    rw (n, m) (
+    ap (reading_of (λ (line : Line). has_target_names line.len line.target)) (with_target at start len (target_in (texts fs)))
+    ∙ made_fault (has_target_names len) (λ line. has_target_names line.len line.target) (line_with at start len) (λ target unnamed. unnamed) (target_in (texts fs)) fault (rw (take_rest (f ∷ g ∷ fs) 2) at r)
+    )
 
 pub body_read : (at : Place) (fs : List (Bor (List ℕ))) (d e : Bor (List ℕ)) (start len : ℕ) (target : Target) → 2 ≤ length fs → number_of (slice_index_or fs 0 d).now ≡ Some start
-    → number_of (slice_index_or fs 1 e).now ≡ Some len → target_reading (texts (take (length fs - 2) (drop 2 fs))) ≡ Ok target
+    → number_of (slice_index_or fs 1 e).now ≡ Some len → target_reading len (texts (take (length fs - 2) (drop 2 fs))) ≡ Ok target
     → body_reading at (texts fs) ≡ Ok (record { start = start; len = len; target = target; at = at })
 body_read at [] d e start len target h n m r = absurd (omega arith)
 body_read at (f ∷ []) d e start len target h n m r = absurd (omega arith)
 body_read at (f ∷ g ∷ fs) d e start len target h n m r =
-    let a = target_parts (target_in (texts fs)) target (rw (take_rest (f ∷ g ∷ fs) 2) at r) in
+    let a = read_parts (has_target_names len) (target_in (texts fs)) target (rw (take_rest (f ∷ g ∷ fs) 2) at r) in
     rw (n, m, a.0, a.1) refl
 
 pub body_none : (at : Place) (fs : List (Bor (List ℕ))) → length fs < 2 → body_reading at (texts fs) ≡ Err Field

@@ -1,5 +1,5 @@
 -- Texts written part by part.
-use Rattle.std.proofs.Common.{◌≡◌, ℕ, ◌+◌, ◌-◌, ◌<◌, ◌≤◌, map, arith, List, [], ◌∷◌, ◌++◌, length, take, drop, get_or, Result, Ok, Err, IsErrAnd, refl, sym, ap, ◌∙◌, append_assoc, add-zero, take-append-drop}
+use Rattle.std.proofs.Common.{◌≡◌, ℕ, ◌+◌, ◌-◌, ◌<◌, ◌≤◌, map, arith, List, [], ◌∷◌, ◌++◌, length, take, drop, get_or, Result, Ok, Err, IsErr, IsErrAnd, inl, inr, refl, sym, ap, ◌∙◌, append_assoc, take-append-drop}
 use Rattle.std.specs.List.{flat_map, join_with_byte}
 use Rattle.std.proofs.Math.Seq.{take-add}
 use Rattle.std.proofs.lemmas.Grind.{flat_map-append}
@@ -8,13 +8,13 @@ use Rattle.std.proofs.lemmas.Result.{err_from_is_err_and}
 use Rattle.std.specs.Prelude.{decimal}
 use Rattle.dm_table.specs.DeviceIo.{fault_of, since, unflushed}
 use Rattle.dm_table.proofs.ProgressLaws.{written_more}
-use Rattle.dm_table.specs.Progress.{IsClosed, Wrote}
+use Rattle.dm_table.specs.Progress.{IsClosedAfter, Wrote}
 use Rattle.dm_table.specs.declared.table.Line.{Line}
 use Rattle.dm_table.specs.declared.table.Target.{Target}
 use Rattle.dm_table.specs.declared.table.Target.TheVariants.{Linear, Striped, Zero, Error, Snapshot}
 use Rattle.dm_table.specs.LineBody.{column_text, target_text, body_text}
 use Rattle.dm_table.specs.LineHead.{target_head, body_head, columns_of}
-use Rattle.dm_table.proofs.Growth.{since_more, grows_more}
+use Rattle.dm_table.proofs.Growth.{since_more}
 
 -- a fault in the first part
 pub wrote_stop : {X E : Type 0} (written waiting : X → List ℕ) (faults flushes : X → ℕ) (old new : X) (fault : E) (first rest text : List ℕ) → text ≡ first ++ rest
@@ -47,7 +47,7 @@ wrote_then written waiting faults flushes old mid new (Err fault) first next tex
 
 -- a write failed, and no flush was asked for
 pub closed_unflushed : {X E : Type 0} (written waiting : X → List ℕ) (faults flushes : X → ℕ) (old new : X) (fault : E) (text : List ℕ) → Wrote written waiting faults flushes old new (Err fault) text
-    → IsClosed written waiting faults flushes old new (Err fault) text
+    → IsClosedAfter written waiting faults flushes old new (IsErr {T = Unit {0}} (Err fault)) text
 closed_unflushed written waiting faults flushes old new fault text wrote = record {
   finished = record {
     appends = wrote.moved.appends;
@@ -57,18 +57,13 @@ closed_unflushed written waiting faults flushes old new fault text wrote = recor
     once = omega (arith, wrote.moved.unflushed);
     still_waiting = λ err less. absurd (omega (arith, less, wrote.moved.unflushed));
   };
-  whole = tt;
-  flushed = tt;
-  failed = record {
-    beginning = (wrote.left.0 ∷ wrote.left.1, wrote.left.2);
-    left = λ same. wrote.left;
-    failed_flush = λ less. absurd (omega (arith, less, wrote.moved.unflushed));
-  };
+  whole = λ well. absurd (well refl);
+  failed = λ err. inl (wrote.moved.unflushed, wrote.left);
 }
 
 -- all was written, and a flush was asked for
 pub closed_flushed : {X E : Type 0} (written waiting : X → List ℕ) (faults flushes : X → ℕ) (old mid new : X) (result : Result (Unit {0}) E) (text : List ℕ) → Wrote {E = E} written waiting faults flushes old mid (Ok tt) text
-    → written new ≡ written mid → waiting new ≡ unflushed result (waiting mid) → faults new ≡ faults mid + fault_of result → flushes new ≡ flushes mid + 1 → IsClosed written waiting faults flushes old new result text
+    → written new ≡ written mid → waiting new ≡ unflushed result (waiting mid) → faults new ≡ faults mid + fault_of result → flushes new ≡ flushes mid + 1 → IsClosedAfter written waiting faults flushes old new (IsErr result) text
 closed_flushed written waiting faults flushes old mid new (Ok done) text wrote same waits fails more =
     let all : since (written old) (written mid) ≡ since (written old) (written new) = ap (since (written old)) (sym same) in
     record {
@@ -80,13 +75,11 @@ closed_flushed written waiting faults flushes old mid new (Ok done) text wrote s
         once = omega (arith, more, wrote.moved.unflushed);
         still_waiting = λ err less. absurd cc;
       };
-      whole = sym all ∙ wrote.ok;
-      flushed = (waits, more ∙ ap (λ (n : ℕ). n + 1) wrote.moved.unflushed);
-      failed = tt;
+      whole = λ well. (sym wrote.ok ∙ all, (waits, more ∙ ap (λ (n : ℕ). n + 1) wrote.moved.unflushed));
+      failed = λ err. absurd cc;
     }
 closed_flushed written waiting faults flushes old mid new (Err fault) text wrote same waits fails more =
     let all : since (written old) (written mid) ≡ since (written old) (written new) = ap (since (written old)) (sym same) in
-    let is : text ≡ since (written old) (written new) = sym wrote.ok ∙ all in
     record {
       finished = record {
         appends = same ∙ wrote.moved.appends ∙ ap (λ (xs : List ℕ). written old ++ xs) all;
@@ -96,13 +89,8 @@ closed_flushed written waiting faults flushes old mid new (Err fault) text wrote
         once = omega (arith, more, wrote.moved.unflushed);
         still_waiting = λ err less. waits ∙ wrote.moved.waits ∙ ap (λ (xs : List ℕ). waiting old ++ xs) all;
       };
-      whole = tt;
-      flushed = tt;
-      failed = record {
-        beginning = ([], is ∙ sym (append-nil (since (written old) (written new))));
-        left = λ unchanged. absurd (omega (arith, unchanged, more, wrote.moved.unflushed));
-        failed_flush = λ less. is;
-      };
+      whole = λ well. absurd (well refl);
+      failed = λ err. inr (more ∙ ap (λ (n : ℕ). n + 1) wrote.moved.unflushed, sym wrote.ok ∙ all);
     }
 
 -- The same, as answers cite them

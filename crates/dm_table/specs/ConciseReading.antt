@@ -1,5 +1,7 @@
 -- How a device of the concise form is read, for the functions that the public call stands on.
-use Rattle.std.specs.Prelude.{ℕ, suc, Bool, ◌&&◌, List, [], ◌∷◌, map, drop, Option, Some, None, Result}
+use Rattle.std.specs.Prelude.{ℕ, suc, Bool, ◌&&◌, List, [], ◌∷◌, drop, Option, Some, None, Result, Err}
+use Rattle.std.specs.Option.{ok_or}
+use Rattle.std.specs.List.{cons_option, filter_map}
 use Rattle.dm_table.specs.declared.table.Line.{Line}
 use Rattle.dm_table.specs.declared.table.DeviceSpec.{DeviceSpec}
 use Rattle.dm_table.specs.declared.place.Place.{Place}
@@ -10,7 +12,7 @@ use Rattle.dm_table.specs.declared.row_faults.RowFault.TheVariants.{Syntax, Fiel
 use Rattle.dm_table.specs.LoadFault.{first_fault, row_checks, unless}
 use Rattle.dm_table.specs.RowFaults.{value_fault, row_fault, read_unless}
 use Rattle.dm_table.specs.LineBody.{is_body_row, is_body, has_body_names}
-use Rattle.dm_table.specs.LineReading.{body_in}
+use Rattle.dm_table.specs.LineReading.{line_in}
 use Rattle.dm_table.specs.ConciseText.{place_of, is_ro, entries, body_fields, is_label, is_known, is_named, is_device, has_values, has_names, devices_of, concise_checks}
 
 -- of two faults, the one whose check runs first
@@ -28,12 +30,9 @@ abbrev pub fault_of_bodies : List (List ℕ) → Option RowFault
 fault_of_bodies [] = None
 fault_of_bodies (text ∷ texts) = worse (fault_of_body text) (fault_of_bodies texts)
 
--- the line of a body, and those of bodies
-abbrev pub line_in : Place → List ℕ → Line
-line_in at text = body_in at (body_fields text)
-
+-- the lines that bodies say
 abbrev pub lines_in : Place → List (List ℕ) → List Line
-lines_in at texts = map (λ text. line_in at text) texts
+lines_in at texts = filter_map (λ text. line_in at (body_fields text)) texts
 
 -- what is wrong with entries, whether or not they stand on one line
 abbrev pub fault_of_entries : Bool → List (List ℕ) → Option RowFault
@@ -44,26 +43,31 @@ fault_of_entries on_a_line entries =
 abbrev pub fault_of_device : List ℕ → Option RowFault
 fault_of_device text = row_fault (is_device text) (value_fault (has_values text) (has_names text))
 
--- the device of entries, as number n
-abbrev pub device_of : ℕ → List (List ℕ) → DeviceSpec
-device_of n (name ∷ uuid ∷ minor ∷ flags ∷ bodies) = record { name = name; ro = is_ro flags; lines = lines_in (place_of n) bodies; at = place_of n }
-device_of n _ = record { name = []; ro = is_ro []; lines = []; at = place_of n }
+-- the device that entries say, as number n
+abbrev pub device_in : ℕ → List (List ℕ) → Option DeviceSpec
+device_in n (name ∷ uuid ∷ minor ∷ flags ∷ bodies) = Some (record { name = name; ro = is_ro flags; lines = lines_in (place_of n) bodies; at = place_of n })
+device_in n _ = None
 
 -- What is read
 
 abbrev pub bodies_reading : Place → Option RowFault → List (List ℕ) → Result (List Line) RowFault
 bodies_reading at before texts = read_unless (worse before (fault_of_bodies texts)) (lines_in at texts)
 
+-- a device, or the fault that was found first; entries that say none have no label
+abbrev pub device_unless : Option RowFault → Option DeviceSpec → Result DeviceSpec RowFault
+device_unless None device = ok_or device Syntax
+device_unless (Some fault) device = Err fault
+
 abbrev pub entries_reading : ℕ → Bool → List (List ℕ) → Result DeviceSpec RowFault
-entries_reading n on_a_line entries = read_unless (fault_of_entries on_a_line entries) (device_of n entries)
+entries_reading n on_a_line entries = device_unless (fault_of_entries on_a_line entries) (device_in n entries)
 
 abbrev pub device_reading : ℕ → List ℕ → Result DeviceSpec RowFault
-device_reading n text = read_unless (fault_of_device text) (device_of n (entries text))
+device_reading n text = device_unless (fault_of_device text) (device_in n (entries text))
 
--- the devices of texts, numbered from n
+-- the devices that texts say, numbered from n
 abbrev pub devices_from : ℕ → List (List ℕ) → List DeviceSpec
 devices_from n [] = []
-devices_from n (text ∷ texts) = device_of n (entries text) ∷ devices_from (suc n) texts
+devices_from n (text ∷ texts) = cons_option (device_in n (entries text)) (devices_from (suc n) texts)
 
 -- the devices of parts whose bytes are text, or the fault of their checks
 abbrev pub parts_reading : List (List ℕ) → Result (List DeviceSpec) LoadFault

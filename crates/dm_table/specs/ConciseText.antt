@@ -9,10 +9,9 @@ use Rattle.dm_table.specs.declared.place.Part.TheVariants.{Source}
 use Rattle.dm_table.specs.declared.load_fault.LoadFault.{LoadFault}
 use Rattle.dm_table.specs.Name.{is_device_byte, is_device_name}
 use Rattle.dm_table.specs.Number.{number_of}
-use Rattle.dm_table.specs.Fields.{parts_at, all_but_last, last_or}
+use Rattle.dm_table.specs.Fields.{parts_at, all_but_last, last_or, row_fields}
 use Rattle.dm_table.specs.LoadFault.{not_text, row_checks}
 use Rattle.dm_table.specs.LineBody.{body_text, IsBody, is_body_row, is_body, has_body_names}
-use Rattle.dm_table.specs.TableText.{row_of}
 
 -- Labels
 
@@ -108,7 +107,7 @@ without_first_space ([] ∷ fields) = fields
 without_first_space fields = fields
 
 abbrev pub body_fields : List ℕ → List (List ℕ)
-body_fields text = without_first_space (row_of text)
+body_fields text = without_first_space (row_fields text)
 
 -- four entries without a space, and at least one more
 abbrev pub is_label : List (List ℕ) → Bool

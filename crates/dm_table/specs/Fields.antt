@@ -1,5 +1,5 @@
 -- Texts cut at a byte: lines at newlines, fields at spaces.
-use Rattle.std.specs.Prelude.{ℕ, ◌==◌, List, [], ◌∷◌, map}
+use Rattle.std.specs.Prelude.{ℕ, ◌==◌, Bool, true, false, List, [], ◌∷◌, map}
 use Rattle.std.specs.List.{slice_split}
 use denote.Ref.{Bor}
 
@@ -34,3 +34,21 @@ rest_of text = last_or [] (parts_at 10 text)
 -- the fields of a line, at single spaces
 abbrev pub fields : List ℕ → List (List ℕ)
 fields = parts_at 32
+
+-- fields without an empty one at the end, as a space there leaves it
+abbrev pub without_last_space : List (List ℕ) → List (List ℕ)
+without_last_space [] = []
+without_last_space ([] ∷ []) = []
+without_last_space ((byte ∷ bytes) ∷ []) = (byte ∷ bytes) ∷ []
+without_last_space (field ∷ next ∷ fields) = field ∷ without_last_space (next ∷ fields)
+
+-- the fields of a line that may end with a space
+abbrev pub row_fields : List ℕ → List (List ℕ)
+row_fields line = without_last_space (fields line)
+
+-- the last field is empty
+abbrev pub ends_empty : List (List ℕ) → Bool
+ends_empty [] = false
+ends_empty ([] ∷ []) = true
+ends_empty ((byte ∷ bytes) ∷ []) = false
+ends_empty (field ∷ next ∷ fields) = ends_empty (next ∷ fields)

@@ -10,6 +10,7 @@ pub mod LoadMessage
 pub mod DiskList
 pub mod RowFaults
 pub mod Block
+pub mod Span
 pub mod LineBody
 pub mod LineHead
 pub mod LineReading

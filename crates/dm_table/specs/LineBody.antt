@@ -1,5 +1,5 @@
 -- The body of a table's line: a start, a length, and a target with its arguments (dmsetup(8)). How a line is labelled is up to the form.
-use Rattle.std.specs.Prelude.{◌≡◌, ℕ, ◌*◌, ◌^◌, ◌<◌, ◌==◌, Bool, true, false, ◌&&◌, List, [], ◌∷◌, ◌++◌, length, map, nat_le, nat_lt, nat_eq, codes, decimal, drop, Option, Some, None, is_some, if◌then◌else◌}
+use Rattle.std.specs.Prelude.{◌≡◌, ℕ, ◌*◌, ◌^◌, ◌<◌, ◌==◌, Bool, true, ◌&&◌, List, [], ◌∷◌, ◌++◌, length, nat_le, nat_lt, nat_eq, codes, decimal, drop, Option, Some, None, is_some, unwrap_or, if◌then◌else◌}
 use Rattle.std.specs.Option.{option_map}
 use Rattle.std.specs.List.{flat_map, list_all, AllByRecursion}
 use Rattle.std.specs.Cmp.Lexicographic.{pointwise}
@@ -11,6 +11,7 @@ use Rattle.dm_table.specs.declared.table.Target.TheVariants.{Linear, Striped, Ze
 use Rattle.dm_table.specs.declared.table.Line.{Line}
 use Rattle.dm_table.specs.Name.{is_device_name, is_disk_name, names_device, mapper}
 use Rattle.dm_table.specs.Number.{number_of, number_in}
+use Rattle.dm_table.specs.Span.{target_spans}
 
 -- What a body says
 
@@ -73,6 +74,11 @@ abbrev pub if_both : {X Y Z : Type 0} → (X → Y → Z) → Option X → Optio
 if_both make None y = None
 if_both make (Some x) y = option_map (make x) y
 
+-- the same of three
+abbrev pub if_all : {W X Y Z : Type 0} → (W → X → Y → Z) → Option W → Option X → Option Y → Option Z
+if_all make None x y = None
+if_all make (Some w) x y = if_both (make w) x y
+
 -- a text and a number
 abbrev pub linear_in : List (List ℕ) → Option Target
 linear_in (to ∷ offset ∷ []) = option_map (λ n. Linear (dev_in to) n) (number_of offset)
@@ -113,17 +119,16 @@ target_in (type ∷ arguments) =
     else (if pointwise nat_eq type (codes "snapshot") then snapshot_in arguments
     else bare_in type arguments))
 
--- what columns name
-abbrev pub column_devs : List Column → List DevRef
-column_devs = map (λ column. column.to)
+-- a line without its place
+pub record Body : Type 0 where
+  pub start : ℕ
+  pub len : ℕ
+  pub target : Target
 
--- what a target names
-abbrev pub devs_of : Target → List DevRef
-devs_of (Linear to offset) = to ∷ []
-devs_of (Striped chunk columns) = column_devs columns
-devs_of Zero = []
-devs_of Error = []
-devs_of (Snapshot origin store chunk) = origin ∷ store ∷ []
+-- a start, a length and a target
+abbrev pub body_in : List (List ℕ) → Option Body
+body_in (start ∷ len ∷ target) = if_all (λ start len target. record { start = start; len = len; target = target }) (number_of start) (number_of len) (target_in target)
+body_in _ = None
 
 -- Its checks
 
@@ -131,17 +136,14 @@ devs_of (Snapshot origin store chunk) = origin ∷ store ∷ []
 abbrev pub is_body_row : List (List ℕ) → Bool
 is_body_row fields = nat_le 3 (length fields) && list_all (λ field. nat_lt 0 (length field)) fields
 
--- a start, a length and a target
+-- the fields say a body
 abbrev pub is_body : List (List ℕ) → Bool
-is_body (start ∷ len ∷ target) = is_some (number_of start) && (is_some (number_of len) && is_some (target_in target))
-is_body _ = false
+is_body fields = is_some (body_in fields)
 
--- each name in a target is valid; where there is no target, there is none to check
-abbrev pub has_target_names : Option Target → Bool
-has_target_names None = true
-has_target_names (Some target) = list_all is_dev_ref (devs_of target)
+-- each name in the target of a line of this length is valid: they are those of its spans
+abbrev pub has_target_names : (len : ℕ) → Target → Bool
+has_target_names len target = list_all (λ span. is_dev_ref span.to) (target_spans len target)
 
--- the same for a body
+-- the same for the body that fields say; where they say none, there is no name to check
 abbrev pub has_body_names : List (List ℕ) → Bool
-has_body_names (start ∷ len ∷ target) = has_target_names (target_in target)
-has_body_names _ = true
+has_body_names fields = unwrap_or (option_map (λ body. has_target_names body.len body.target) (body_in fields)) true

@@ -53,12 +53,12 @@ Answers part view (Err fault) reading = (fault.kind ≡ Memory → IsMemoryFault
 -- The checks that texts share
 
 -- bytes from 0x20 to 0x7E, and newlines
-abbrev pub is_printed : List ℕ → Bool
-is_printed text = list_all (λ b. b == 10 || (nat_le 32 b && nat_le b 126)) text
+abbrev pub is_printable : List ℕ → Bool
+is_printable text = list_all (λ b. b == 10 || (nat_le 32 b && nat_le b 126)) text
 
--- the pieces that a text is cut into, as its lines, that have another byte
+-- the pieces of a text, such as its lines, that have any other byte
 abbrev pub not_text : Part → List (List ℕ) → List LoadFault
-not_text part pieces = faults_from part NotText (λ piece. not (is_printed piece)) 1 pieces
+not_text part pieces = faults_from part NotText (λ piece. not (is_printable piece)) 1 pieces
 
 -- a rest that no newline ends, as line n
 abbrev pub unended : Part → ℕ → List ℕ → List LoadFault

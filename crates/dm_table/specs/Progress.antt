@@ -1,12 +1,12 @@
 -- How inputs and outputs moved on, told by their ghost members: each fact once, for every contract that speaks of one.
-use Rattle.std.specs.Prelude.{◌≡◌, ◌≤◌, ◌<◌, ◌↔◌, ◌+◌, ◌++◌, ℕ, List, [], Result, IsErr, OnOk, OnErr}
+use Rattle.std.specs.Prelude.{◌≡◌, ◌⊎◌, ◌≤◌, ◌<◌, ◌↔◌, ◌+◌, ◌++◌, ℕ, List, [], Result, OnOk, OnErr}
 use Rattle.std.specs.Borrow.{MutBor}
 use Rattle.dm_table.specs.DeviceIo.{end_of, fault_of, since}
-use Rattle.dm_table.specs.WriteAll.{IsBeginning, IsCutShort}
+use Rattle.dm_table.specs.WriteAll.{IsCutShort}
 
 -- ---- inputs
 
--- an input was only read on, and not after an end or a fault: what it handed out grew, and at most one of these was met
+-- an input was only read on: what it handed out grew, and at most one end or fault was met
 pub record IsReadOn {X : Type 0} (handed : X → List ℕ) (faults ends : X → ℕ) (old new : X) : Type 0 where
   pub grows : handed new ≡ handed old ++ since (handed old) (handed new)
   pub no_more : faults new + ends new ≤ faults old + ends old + 1
@@ -31,7 +31,7 @@ pub record HasWrittenTo {X : Type 0} (written waiting : X → List ℕ) (faults 
   pub moved : HasWritten written waiting faults flushes old.now new.now failed
   pub same_reference : new.ghost_name ≡ old.ghost_name
 
--- an output wrote a text: all of it, or, at a fault, a beginning of it that lacks a byte
+-- an output wrote a text: all of it, or, at a fault, a beginning that is not all of it
 pub record Wrote {X E : Type 0} (written waiting : X → List ℕ) (faults flushes : X → ℕ) (old new : X) (result : Result (Unit {0}) E) (text : List ℕ) : Type 0 where
   pub moved : HasWritten written waiting faults flushes old new (fault_of result)
   pub ok : OnOk result (since (written old) (written new) ≡ text)
@@ -43,7 +43,7 @@ pub record Wrote {X E : Type 0} (written waiting : X → List ℕ) (faults flush
 abbrev pub IsFlushed : {X : Type 0} → (waiting : X → List ℕ) → (flushes : X → ℕ) → (old new : X) → Type 0
 IsFlushed waiting flushes old new = (waiting new ≡ []) × (flushes new ≡ flushes old + 1)
 
--- an output only took more, and was flushed after that, if at all. Whether it failed; nothing is tried again after a write or a flush that failed
+-- an output only took more, and was flushed at most once; at most one write or flush failed, which HasFailed tells
 pub record IsFinished {X : Type 0} (written waiting : X → List ℕ) (faults flushes : X → ℕ) (old new : X) (HasFailed : Type 0) : Type 0 where
   pub appends : written new ≡ written old ++ since (written old) (written new)
   pub write_fault : faults old < faults new ↔ HasFailed
@@ -53,15 +53,12 @@ pub record IsFinished {X : Type 0} (written waiting : X → List ℕ) (faults fl
   -- where the flush failed, all that was written still waits
   pub still_waiting : HasFailed → flushes old < flushes new → waiting new ≡ waiting old ++ since (written old) (written new)
 
--- what an output took of a text that failed: a beginning, of which something was left where no flush was asked, and nothing where the flush failed
-pub record FailedOutput (text written : List ℕ) (flushes_old flushes_new : ℕ) : Type 0 where
-  pub beginning : IsBeginning text written
-  pub left : flushes_new ≡ flushes_old → IsCutShort text written
-  pub failed_flush : flushes_old < flushes_new → text ≡ written
+-- what an output that failed had taken of a text: a beginning that is not all of it, where no flush was asked for; all of it, where the flush failed
+abbrev pub FailedOutput : (text written : List ℕ) → (flushes_old flushes_new : ℕ) → Type 0
+FailedOutput text written old new = ((new ≡ old) × IsCutShort text written) ⊎ ((new ≡ old + 1) × (text ≡ written))
 
--- an output wrote a text and was flushed after it, unless a write failed
-pub record IsClosed {X E : Type 0} (written waiting : X → List ℕ) (faults flushes : X → ℕ) (old new : X) (result : Result (Unit {0}) E) (text : List ℕ) : Type 0 where
-  pub finished : IsFinished written waiting faults flushes old new (IsErr result)
-  pub whole : OnOk result (since (written old) (written new) ≡ text)
-  pub flushed : OnOk result (IsFlushed waiting flushes old new)
-  pub failed : OnErr result (FailedOutput text (since (written old) (written new)) (flushes old) (flushes new))
+-- an output wrote a text and was flushed after it; or a write or the flush failed
+pub record IsClosedAfter {X : Type 0} (written waiting : X → List ℕ) (faults flushes : X → ℕ) (old new : X) (HasFailed : Type 0) (text : List ℕ) : Type 0 where
+  pub finished : IsFinished written waiting faults flushes old new HasFailed
+  pub whole : (HasFailed → ⊥) → (text ≡ since (written old) (written new)) × IsFlushed waiting flushes old new
+  pub failed : HasFailed → FailedOutput text (since (written old) (written new)) (flushes old) (flushes new)

@@ -1,4 +1,4 @@
--- How a text is read whose rows are lines, by the tests of its form.
+-- How a text whose rows are lines is read, by the tests of its form.
 use Rattle.std.specs.Prelude.{ℕ, suc, Bool, List, [], ◌∷◌, Option}
 use Rattle.dm_table.specs.declared.place.Part.{Part}
 use Rattle.dm_table.specs.declared.load_fault.LoadFault.{LoadFault}

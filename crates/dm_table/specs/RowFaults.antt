@@ -26,7 +26,7 @@ abbrev pub Reads : {X Y : Type 0} → (X → Y) → Result X RowFault → Result
 Reads view (Ok x) reading = reading ≡ Ok (view x)
 Reads view (Err fault) reading = fault ≢ Memory → reading ≡ Err fault
 
--- why nothing was read
+-- why nothing was read, if so
 abbrev pub fault_in : {X : Type 0} → Result X RowFault → Option RowFault
 fault_in (Ok x) = None
 fault_in (Err fault) = Some fault

@@ -1,51 +1,39 @@
 -- How a row of table text is read, for the functions that the public call stands on.
-use Rattle.std.specs.Prelude.{ℕ, suc, Bool, true, false, List, [], ◌∷◌, ◌++◌, map, nat_eq, Option, Result, if◌then◌else◌}
+use Rattle.std.specs.Prelude.{ℕ, suc, Bool, false, ◌&&◌, List, [], ◌∷◌, ◌++◌, map, nat_eq, Option, Some, None, Result, Err, if◌then◌else◌}
+use Rattle.std.specs.Option.{option_map}
+use Rattle.std.specs.List.{cons_option}
 use Rattle.std.specs.Cmp.Lexicographic.{pointwise}
-use Rattle.dm_table.specs.declared.table.Line.{Line}
 use Rattle.dm_table.specs.declared.table.DeviceSpec.{DeviceSpec}
 use Rattle.dm_table.specs.declared.place.Part.TheVariants.{Source}
 use Rattle.dm_table.specs.declared.load_fault.LoadFault.{LoadFault}
 use Rattle.dm_table.specs.declared.row_faults.RowFault.{RowFault}
+use Rattle.dm_table.specs.declared.row_faults.RowFault.TheVariants.{Syntax}
 use Rattle.dm_table.specs.declared.table_row.Row.{Row}
-use Rattle.dm_table.specs.Fields.{lines_of}
+use Rattle.dm_table.specs.Fields.{lines_of, row_fields}
 use Rattle.dm_table.specs.LoadFault.{first_fault, unless}
-use Rattle.dm_table.specs.RowFaults.{value_fault, row_fault, read_unless}
-use Rattle.dm_table.specs.LineReading.{body_in}
-use Rattle.dm_table.specs.TableText.{NamedLine, name_in, row_of, is_row, is_line, has_names, table_checks}
-
--- the last field is empty
-abbrev pub ends_empty : List (List ℕ) → Bool
-ends_empty [] = false
-ends_empty ([] ∷ []) = true
-ends_empty ((byte ∷ bytes) ∷ []) = false
-ends_empty (field ∷ next ∷ fields) = ends_empty (next ∷ fields)
+use Rattle.dm_table.specs.Name.{is_device_name}
+use Rattle.dm_table.specs.RowFaults.{value_fault, row_fault}
+use Rattle.dm_table.specs.LineBody.{has_target_names}
+use Rattle.dm_table.specs.LineReading.{line_in, reading_of}
+use Rattle.dm_table.specs.TableText.{NamedLine, name_in, is_row, is_line, has_names, table_checks}
 
 -- the rows of lines
 abbrev pub rows_of : List (List ℕ) → List (List (List ℕ))
-rows_of = map row_of
+rows_of = map row_fields
 
 -- what the code has of a row
 abbrev pub named_of : Row → NamedLine
 named_of row = record { name = row.name.now; line = row.line }
 
--- the name in a row
-abbrev pub name_of_row : List (List ℕ) → List ℕ
-name_of_row [] = []
-name_of_row (label ∷ fields) = name_in label
+-- the line that a row says, with its name, as line number n
+abbrev pub named_in : ℕ → List (List ℕ) → Option NamedLine
+named_in n (label ∷ body) = option_map (λ line. record { name = name_in label; line = line }) (line_in (record { part = Source; number = n }) body)
+named_in n [] = None
 
--- the line of a row, as line number n
-abbrev pub line_in : ℕ → List (List ℕ) → Line
-line_in n (label ∷ body) = body_in (record { part = Source; number = n }) body
-line_in n [] = body_in (record { part = Source; number = n }) []
-
--- the same with its name
-abbrev pub named_in : ℕ → List (List ℕ) → NamedLine
-named_in n row = record { name = name_of_row row; line = line_in n row }
-
--- the lines of rows, numbered from n
+-- the lines that rows say, numbered from n
 abbrev pub named_from : ℕ → List (List (List ℕ)) → List NamedLine
 named_from n [] = []
-named_from n (row ∷ rows) = named_in n row ∷ named_from (suc n) rows
+named_from n (row ∷ rows) = cons_option (named_in n row) (named_from (suc n) rows)
 
 -- a device of one line
 abbrev pub alone : NamedLine → DeviceSpec
@@ -73,12 +61,21 @@ add_line (device ∷ []) named =
     if pointwise nat_eq named.name device.name then record device { lines = device.lines ++ named.line ∷ [] } ∷ [] else device ∷ alone named ∷ []
 add_line (device ∷ next ∷ devices) named = device ∷ add_line (next ∷ devices) named
 
+-- the same of what a row says, if it says a line
+abbrev pub add_said : List DeviceSpec → Option NamedLine → List DeviceSpec
+add_said devices None = devices
+add_said devices (Some named) = add_line devices named
+
 -- what is wrong with a row, and what it says
 abbrev pub fault_of_row : List (List ℕ) → Option RowFault
 fault_of_row row = row_fault (is_row row) (value_fault (is_line row) (has_names row))
 
+-- the name of a line, and each in its target, is valid
+abbrev pub has_line_names : NamedLine → Bool
+has_line_names named = is_device_name named.name && has_target_names named.line.len named.line.target
+
 abbrev pub row_reading : ℕ → List (List ℕ) → Result NamedLine RowFault
-row_reading n row = read_unless (fault_of_row row) (named_in n row)
+row_reading n row = if is_row row then reading_of has_line_names (named_in n row) else Err Syntax
 
 -- the devices of rows, whose lines are numbered from n
 abbrev pub devices_from : ℕ → List (List (List ℕ)) → List DeviceSpec

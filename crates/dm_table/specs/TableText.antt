@@ -7,7 +7,7 @@ use Rattle.dm_table.specs.declared.place.Place.{Place}
 use Rattle.dm_table.specs.declared.place.Part.TheVariants.{Source}
 use Rattle.dm_table.specs.declared.load_fault.LoadFault.{LoadFault}
 use Rattle.dm_table.specs.Name.{is_device_name}
-use Rattle.dm_table.specs.Fields.{fields, parts_at, all_but_last, last_or, lines_of, rest_of}
+use Rattle.dm_table.specs.Fields.{row_fields, parts_at, all_but_last, last_or, lines_of, rest_of}
 use Rattle.dm_table.specs.LoadFault.{not_text, row_checks}
 use Rattle.dm_table.specs.LineBody.{body_text, IsBody, is_body_row, is_body, has_body_names}
 
@@ -68,16 +68,6 @@ pub record DescribesTable (text : List ℕ) (devices : List DeviceSpec) : Type 0
 
 -- Its checks
 
--- the fields of a line, without the empty one that a space at the end leaves
-abbrev pub without_last_space : List (List ℕ) → List (List ℕ)
-without_last_space [] = []
-without_last_space ([] ∷ []) = []
-without_last_space ((byte ∷ bytes) ∷ []) = (byte ∷ bytes) ∷ []
-without_last_space (field ∷ next ∷ fields) = field ∷ without_last_space (next ∷ fields)
-
-abbrev pub row_of : List ℕ → List (List ℕ)
-row_of line = without_last_space (fields line)
-
 -- a name and a colon after it
 abbrev pub is_label : List ℕ → Bool
 is_label field = nat_lt 1 (length field) && last_or 0 field == 58
@@ -103,4 +93,4 @@ has_names [] = false
 
 -- the checks of a text, in their order
 abbrev pub table_checks : List ℕ → List (List LoadFault)
-table_checks text = not_text Source (parts_at 10 text) ∷ row_checks Source is_row is_line has_names (map row_of (lines_of text)) (rest_of text)
+table_checks text = not_text Source (parts_at 10 text) ∷ row_checks Source is_row is_line has_names (map row_fields (lines_of text)) (rest_of text)

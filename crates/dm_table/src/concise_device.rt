@@ -4,20 +4,21 @@
 //! A device is cut and read once. Its label and each of its bodies may have a fault; the device's is
 //! the one whose check runs first. Bodies are read by `line_body`, which knows nothing of labels.
 
-ghost use Rattle.std.specs.Prelude.{◌≡◌, ◌&&◌, ◌++◌, ◌∷◌, [], None, OnOk, IfOk};
+ghost use Rattle.std.specs.Prelude.{◌≡◌, ◌&&◌, ◌++◌, None, OnOk, IfOk};
+ghost use Rattle.std.specs.Option.{option_to_list};
 ghost use Rattle.dm_table.specs.Fields.{texts};
 ghost use Rattle.dm_table.specs.RowFaults.{Reads, value_fault, row_fault};
-ghost use Rattle.dm_table.specs.ConciseText.{lacks, is_uuid, is_minor, is_ro, is_flags, without_first_space, is_label, is_known, is_named};
-ghost use Rattle.dm_table.specs.ConciseReading.{worse, fault_of_body, line_in, bodies_reading, entries_reading, device_reading};
+ghost use Rattle.dm_table.specs.ConciseText.{lacks, is_uuid, is_minor, is_ro, is_flags, without_first_space, body_fields, is_label, is_known, is_named};
+ghost use Rattle.dm_table.specs.LineReading.{line_in};
+ghost use Rattle.dm_table.specs.ConciseReading.{worse, fault_of_body, bodies_reading, entries_reading, device_reading};
 
-use crate::fields::cut_into;
+use crate::fields::{cut_into, cut_row};
 use crate::line_body::{is_body_row, read_body};
 use crate::name::{Name, are_device_bytes, is_device_name};
 use crate::number::number;
 use crate::place::{Part, Place};
 use crate::row_faults::RowFault;
 use crate::table::{DeviceSpec, Line, Table};
-use crate::table_row::cut_row;
 use std::alloc::{AllocError, Global};
 
 /// The device that a text says, as device `number`. The lists are for its entries and for the fields
@@ -172,7 +173,7 @@ fn add_line<'a>(
 ) -> Result<Option<RowFault>, AllocError>
     ensures fault { IfOk result (λ fault. fault ≡ fault_of_body body.now) }
     ensures line { OnOk result (fault_of_body body.now ≡ None
-        → lines.new.items ≡ lines.old.items ++ line_in at body.now ∷ []) }
+        → lines.new.items ≡ lines.old.items ++ option_to_list (line_in at (body_fields body.now))) }
 {
     cut_row(&mut *fields, body)?;
     let row = without_first_space(&*fields);

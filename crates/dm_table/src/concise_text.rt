@@ -5,14 +5,15 @@
 //! end, where the checks take precedence in the order of the definitions. What a device says is read
 //! by `concise_device`; a new target type belongs in `line_body`.
 
-ghost use Rattle.std.specs.Prelude.{◌≡◌, ◌++◌, ◌∷◌, [], None, Ok, IfOk, OnOk};
+ghost use Rattle.std.specs.Prelude.{◌≡◌, ◌++◌, None, Ok, IfOk, OnOk};
+ghost use Rattle.std.specs.Option.{option_to_list};
 ghost use Rattle.dm_table.specs.declared.place.Part.TheVariants.{Source};
 ghost use Rattle.dm_table.specs.Fields.{texts};
 ghost use Rattle.dm_table.specs.LoadFault.{Answers};
 ghost use Rattle.dm_table.specs.RowFaults.{Reads, first_noted, no_faults, noted_rows, read_unless};
 ghost use Rattle.dm_table.specs.Parsed.{IsParsed};
 ghost use Rattle.dm_table.specs.ConciseText.{DescribesConcise, without_newline, parts_of, entries as entries_of, concise_checks};
-ghost use Rattle.dm_table.specs.ConciseReading.{fault_of_device, device_of, devices_from, parts_reading};
+ghost use Rattle.dm_table.specs.ConciseReading.{fault_of_device, device_in, devices_from, parts_reading};
 
 use crate::concise_device::read_device;
 use crate::fields::cut;
@@ -118,7 +119,7 @@ fn read_part<'a>(
     number: u64,
 ) -> Result<(), RowFault>
     ensures devices { OnOk result (devices.new.items
-        ≡ devices.old.items ++ device_of number (entries_of part.now) ∷ []) }
+        ≡ devices.old.items ++ option_to_list (device_in number (entries_of part.now))) }
     ensures fault { Reads (λ done. done) result (read_unless (fault_of_device part.now) tt) }
 {
     devices.push(read_device(alloc, entries, fields, part, number)?)?;

@@ -4,7 +4,7 @@
 //! cuts at another byte calls `cut` too.
 
 ghost use Rattle.std.specs.Prelude.{◌≡◌, IfOk, OnOk};
-ghost use Rattle.dm_table.specs.Fields.{texts, parts_at};
+ghost use Rattle.dm_table.specs.Fields.{ends_empty, parts_at, row_fields, texts};
 
 use memchr::memchr;
 use std::alloc::{AllocError, Global};
@@ -35,4 +35,26 @@ pub(crate) fn cut_into<'a>(
     }
     parts.push(rest)?;
     Ok(())
+}
+
+/// Puts the fields of a line in place of those of another, without the empty one that a space at
+/// its end leaves. One pass.
+pub(crate) fn cut_row<'a>(fields: &mut Vec<&'a [u8]>, line: &'a [u8]) -> Result<(), AllocError>
+    ensures { OnOk result (texts fields.new.items ≡ row_fields line.now) }
+{
+    cut_into(&mut *fields, b' ', line)?;
+    if ends_empty(&*fields) {
+        let _ = fields.pop();
+    }
+    Ok(())
+}
+
+/// Whether the last field is empty.
+fn ends_empty(fields: &[&[u8]]) -> bool
+    ensures { result ≡ ends_empty (texts fields.now) }
+{
+    match fields {
+        [.., last] => last.is_empty(),
+        [] => false,
+    }
 }

@@ -3,13 +3,14 @@
 //! Each form of a table labels such bodies in its own way, and hands their fields over. They are read
 //! once into a line: what isn't one is refused as it is met. A new target type is an arm in
 //! `read_target` with a function that reads its arguments. In `specs/LineBody.antt` it has the same
-//! two (or an arm in `bare_in`, without arguments), and arms in `target_text`, `IsTarget` and `devs_of`.
+//! two (or an arm in `bare_in`, without arguments), and arms in `target_text` and `IsTarget`. What it
+//! names is an arm of `target_spans`, in `specs/Span.antt`.
 
-ghost use Rattle.std.specs.Prelude.{◌≡◌, true, false, length, drop, is_some, nat_lt, MatchOption};
+ghost use Rattle.std.specs.Prelude.{◌≡◌, ℕ, true, false, length, drop, is_some, nat_lt, MatchOption};
 ghost use Rattle.std.specs.List.{list_all};
 ghost use Rattle.dm_table.specs.Fields.{texts};
 ghost use Rattle.dm_table.specs.Name.{names_device, mapper};
-ghost use Rattle.dm_table.specs.LineBody.{is_body_row, columns_in, is_half, linear_in, striped_in, snapshot_in, devs_of};
+ghost use Rattle.dm_table.specs.LineBody.{is_body_row, columns_in, is_half, linear_in, striped_in, snapshot_in, has_target_names};
 ghost use Rattle.dm_table.specs.LineReading.{dev_reading, reading_of, columns_reading, fault_before, target_reading, body_reading};
 ghost use Rattle.dm_table.specs.RowFaults.{Reads};
 
@@ -64,7 +65,7 @@ pub(crate) fn read_body(alloc: Global, fields: &[&[u8]], at: Place) -> Result<Li
 
 /// The target of a type and its arguments.
 fn read_target(alloc: Global, target: &[&[u8]]) -> Result<Target, RowFault>
-    ensures { Reads (λ target. target) result (target_reading (texts target.now)) }
+    ensures { (len : ℕ) → Reads (λ target. target) result (target_reading len (texts target.now)) }
 {
     let [kind, arguments @ ..] = target else {
         return Err(RowFault::Field);
@@ -87,7 +88,7 @@ fn read_target(alloc: Global, target: &[&[u8]]) -> Result<Target, RowFault>
 }
 
 fn read_linear(alloc: Global, arguments: &[&[u8]]) -> Result<Target, RowFault>
-    ensures { Reads (λ target. target) result (reading_of devs_of (linear_in (texts arguments.now))) }
+    ensures { (len : ℕ) → Reads (λ target. target) result (reading_of (has_target_names len) (linear_in (texts arguments.now))) }
 {
     let [to, offset] = arguments else {
         return Err(RowFault::Field);
@@ -100,7 +101,7 @@ fn read_linear(alloc: Global, arguments: &[&[u8]]) -> Result<Target, RowFault>
 }
 
 fn read_striped(alloc: Global, arguments: &[&[u8]]) -> Result<Target, RowFault>
-    ensures { Reads (λ target. target) result (reading_of devs_of (striped_in (texts arguments.now))) }
+    ensures { (len : ℕ) → Reads (λ target. target) result (reading_of (has_target_names len) (striped_in (texts arguments.now))) }
 {
     let [count, chunk, columns @ ..] = arguments else {
         return Err(RowFault::Field);
@@ -117,7 +118,7 @@ fn read_striped(alloc: Global, arguments: &[&[u8]]) -> Result<Target, RowFault>
 
 /// A snapshot's origin and store, and the sectors of a chunk. The only kind of store is `P`.
 fn read_snapshot(alloc: Global, arguments: &[&[u8]]) -> Result<Target, RowFault>
-    ensures { Reads (λ target. target) result (reading_of devs_of (snapshot_in (texts arguments.now))) }
+    ensures { (len : ℕ) → Reads (λ target. target) result (reading_of (has_target_names len) (snapshot_in (texts arguments.now))) }
 {
     let [origin, store, flag, chunk] = arguments else {
         return Err(RowFault::Field);

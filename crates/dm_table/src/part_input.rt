@@ -4,8 +4,8 @@
 //! first byte over the limit, however much more there is. Every part is read by this one function:
 //! a new one is a variant of `Part` and no change here.
 
-ghost use Rattle.std.specs.Prelude.{◌≡◌, ◌≢◌, ◌++◌, IfOk, IfErr};
-ghost use Rattle.dm_table.specs.DeviceIo.{delivery, since};
+ghost use Rattle.std.specs.Prelude.{◌≡◌, ◌≢◌, IfOk, IfErr};
+ghost use Rattle.dm_table.specs.DeviceIo.{delivery};
 ghost use Rattle.dm_table.specs.LoadFault.{IsMemoryFault, fault_at};
 ghost use Rattle.dm_table.specs.PartInput.{Refuses, TextOf, part_read};
 ghost use Rattle.dm_table.specs.Progress.{IsReadOn};

@@ -1,48 +1,26 @@
-//! Rows of table text: the fields of a line, the label before its body, and what the row says.
+//! Rows of table text: the label before a line's body, and what the row says.
 //!
-//! A row is cut and read once, and what isn't a line of a table is told as it is met. Its body is
+//! A row is read once, and what isn't a line of a table is told as it is met. Its body is
 //! read by `line_body`, which knows nothing of labels.
 
-ghost use Rattle.std.specs.Prelude.{◌≡◌, OnOk};
+ghost use Rattle.std.specs.Prelude.{◌≡◌};
 ghost use Rattle.dm_table.specs.Fields.{texts};
 ghost use Rattle.dm_table.specs.RowFaults.{Reads};
-ghost use Rattle.dm_table.specs.TableText.{row_of, is_label, name_in};
-ghost use Rattle.dm_table.specs.TableReading.{ends_empty, named_of, row_reading};
+ghost use Rattle.dm_table.specs.TableText.{is_label, name_in};
+ghost use Rattle.dm_table.specs.TableReading.{named_of, row_reading};
 
-use crate::fields::cut_into;
 use crate::line_body::{is_body_row, read_body};
 use crate::name::is_device_name;
 use crate::place::{Part, Place};
 use crate::row_faults::RowFault;
 use crate::table::Line;
-use std::alloc::{AllocError, Global};
+use std::alloc::Global;
 
 /// A line of a table, with the name of its device.
 #[derive(Drop)]
 pub(crate) struct Row<'a> {
     pub name: &'a [u8],
     pub line: Line,
-}
-
-/// Puts the fields of a line in place of those of another, without the empty one that a space at
-/// its end leaves. One pass.
-pub(crate) fn cut_row<'a>(fields: &mut Vec<&'a [u8]>, line: &'a [u8]) -> Result<(), AllocError>
-    ensures { OnOk result (texts fields.new.items ≡ row_of line.now) }
-{
-    cut_into(&mut *fields, b' ', line)?;
-    if ends_empty(&*fields) {
-        let _ = fields.pop();
-    }
-    Ok(())
-}
-
-fn ends_empty(fields: &[&[u8]]) -> bool
-    ensures { result ≡ ends_empty (texts fields.now) }
-{
-    match fields {
-        [.., last] => last.is_empty(),
-        [] => false,
-    }
 }
 
 /// What the row says that is line `number` of a text. Of its faults, `Syntax` takes precedence over

@@ -8,16 +8,18 @@ ghost use Rattle.std.specs.Prelude.{◌≡◌, IfOk, OnOk, IsTrue};
 ghost use Rattle.dm_table.specs.declared.place.Part.TheVariants.{Source};
 ghost use Rattle.dm_table.specs.Name.{is_device_name};
 ghost use Rattle.dm_table.specs.Parsed.{IsParsed};
-ghost use Rattle.dm_table.specs.TableText.{DescribesTable, row_of, is_row, is_line, has_names, table_checks};
-ghost use Rattle.dm_table.specs.TableReading.{named_in, named_of, alone, add_line};
+ghost use Rattle.dm_table.specs.TableText.{DescribesTable, is_row, is_line, has_names, table_checks};
+ghost use Rattle.dm_table.specs.Fields.{row_fields};
+ghost use Rattle.dm_table.specs.TableReading.{named_in, named_of, alone, add_line, add_said};
 
+use crate::fields::cut_row;
 use crate::load_fault::LoadFault;
 use crate::name::Name;
 use crate::place::Part;
 use crate::reading::{FromLines, read_lines};
 use crate::row_faults::RowFault;
 use crate::table::{DeviceSpec, Table};
-use crate::table_row::{Row, cut_row, read_row};
+use crate::table_row::{Row, read_row};
 use std::alloc::{AllocError, Global};
 
 /// The devices of table text, in its order. Neighbouring lines of one name are one device, whose
@@ -39,13 +41,13 @@ pub fn parse_table(alloc: Global, text: &[u8]) -> Result<Vec<DeviceSpec>, LoadFa
 }
 
 impl FromLines for DeviceSpec {
-    ghost is_row = { λ line. is_row (row_of line) };
+    ghost is_row = { λ line. is_row (row_fields line) };
 
-    ghost has_values = { λ line. is_line (row_of line) };
+    ghost has_values = { λ line. is_line (row_fields line) };
 
-    ghost has_names = { λ line. has_names (row_of line) };
+    ghost has_names = { λ line. has_names (row_fields line) };
 
-    ghost with_line = { λ devices n line. add_line devices (named_in n (row_of line)) };
+    ghost with_line = { λ devices n line. add_said devices (named_in n (row_fields line)) };
 
     fn read_line<'a>(
         alloc: Global,
@@ -55,8 +57,13 @@ impl FromLines for DeviceSpec {
         number: u64,
     ) -> Result<(), RowFault> {
         cut_row(&mut *fields, line)?;
-        add_line(alloc, devices, read_row(alloc, &*fields, number)?)?;
-        Ok(())
+        match read_row(alloc, &*fields, number) {
+            Ok(row) => {
+                add_line(alloc, devices, row)?;
+                Ok(())
+            }
+            Err(fault) => Err(fault),
+        }
     }
 }
 

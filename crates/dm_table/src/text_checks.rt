@@ -6,20 +6,20 @@
 ghost use Rattle.std.specs.Prelude.{◌≡◌, ◌≢◌, None, IfSome};
 ghost use Rattle.dm_table.specs.declared.load_fault.LoadKind.TheVariants.{Memory};
 ghost use Rattle.dm_table.specs.Fields.{texts, parts_at};
-ghost use Rattle.dm_table.specs.LoadFault.{Answers, unless, first_or, is_printed, not_text};
+ghost use Rattle.dm_table.specs.LoadFault.{Answers, unless, first_or, is_printable, not_text};
 
 use crate::fields::cut;
 use crate::load_fault::{LoadFault, LoadKind};
 use crate::place::Part;
 use std::alloc::Global;
 
-/// Refuses a text with a byte that is no text. It is told by the number of its piece of the text, which
-/// is cut at the bytes that are `at`. One pass, and some more over a text that is refused.
+/// Refuses a text with a byte that is no text. The fault has the number of the piece with that byte; the
+/// text is cut at each byte `at`. One pass, and some more over a text that is refused.
 pub(crate) fn check_text(alloc: Global, part: Part, at: u8, text: &[u8]) -> Result<(), LoadFault>
     ensures { Answers part (λ done. done) result (unless (first_or (not_text part (parts_at at text.now)) None) tt) }
 {
     // Most texts have no such byte, and the whole is asked faster than piece after piece.
-    if is_printed(text) {
+    if is_printable(text) {
         return Ok(());
     }
     let Ok(pieces) = cut(alloc, at, text) else {
@@ -37,7 +37,7 @@ fn first_unprinted(part: Part, pieces: &[&[u8]]) -> Option<LoadFault>
     ensures kind { IfSome result (λ fault. fault.kind ≢ Memory) }
 {
     for (index, piece) in pieces.iter().enumerate() {
-        if !is_printed(*piece) {
+        if !is_printable(*piece) {
             return Some(LoadFault::at_index(part, LoadKind::NotText, index));
         }
     }
@@ -46,8 +46,8 @@ fn first_unprinted(part: Part, pieces: &[&[u8]]) -> Option<LoadFault>
 
 /// Whether each byte is a newline or one from 0x20 to 0x7E. It never stops early, so that many bytes
 /// are asked at once.
-fn is_printed(text: &[u8]) -> bool
-    ensures { result ≡ is_printed text.now }
+fn is_printable(text: &[u8]) -> bool
+    ensures { result ≡ is_printable text.now }
 {
     let mut printed = true;
     for byte in text {

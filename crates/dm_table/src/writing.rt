@@ -3,7 +3,7 @@
 //! Keep what is left of the bytes as the only thing that a turn changes.
 ghost use Rattle.std.specs.Prelude.{◌≡◌, ◌+◌, ℕ, List, IsErr, OnErr, OnOk};
 ghost use Rattle.dm_table.specs.DeviceIo.{since};
-ghost use Rattle.dm_table.specs.Progress.{IsClosed, Wrote};
+ghost use Rattle.dm_table.specs.Progress.{IsClosedAfter, Wrote};
 ghost use Rattle.dm_table.specs.WriteAll.{IsBeginning};
 
 use crate::device_io::{OutFault, Output};
@@ -22,7 +22,7 @@ pub fn write_all<W: Output>(writer: &mut W, bytes: &[u8]) -> Result<(), OutFault
     Ok(())
 }
 
-/// Ends an output that something was written to: flushes it, once, unless a write failed.
+/// Ends an output after its last write: flushes it, once, unless a write failed.
 ///
 /// # Errors
 ///
@@ -31,7 +31,7 @@ pub fn write_all<W: Output>(writer: &mut W, bytes: &[u8]) -> Result<(), OutFault
 pub fn close<W: Output>(written: Result<(), OutFault>, output: &mut W) -> Result<(), OutFault>
     // Wherever the text began.
     ensures closed { (start : W) (text : List ℕ) → Wrote W.written W.waiting W.faults W.flushes start output.old written text
-        → IsClosed W.written W.waiting W.faults W.flushes start output.new result text }
+        → IsClosedAfter W.written W.waiting W.faults W.flushes start output.new (IsErr result) text }
     // Nothing is asked of an output after a write that failed.
     ensures untouched { OnErr written (IsErr result × (output.new ≡ output.old)) }
     ensures flushed { OnOk written (W.flushes output.new ≡ W.flushes output.old + 1) }

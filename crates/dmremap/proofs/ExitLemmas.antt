@@ -1,9 +1,9 @@
 -- What the status of an exit says of the run, and of the streams.
-use Rattle.std.proofs.Common.{◌≡◌, ◌≢◌, ◌⊎◌, Bool, ℕ, ◌<◌, ◌≤◌, List, [], Option, Some, inl, inr, refl, sym, ap, subst, ◌∙◌, arith}
+use Rattle.std.proofs.Common.{◌≡◌, ◌≢◌, ◌⊎◌, Bool, ℕ, List, [], Option, Some, inl, inr, refl, sym, ap, subst, ◌∙◌, arith}
 use Rattle.dm_table.specs.declared.load_fault.LoadFault.{LoadFault}
 use Rattle.dm_table.specs.declared.load_fault.LoadKind.{LoadKind}
 use Rattle.dm_table.specs.declared.load_fault.LoadKind.TheVariants as kinds
-use Rattle.dm_table.specs.DeviceIo.{Delivery}
+use Rattle.dm_table.specs.DeviceIo.{Delivery, since}
 use Rattle.dm_table.specs.LoadMessage.{load_message}
 use Rattle.dm_table.specs.Progress.{IsReadOn, FailedOutput}
 use Rattle.dm_stack.specs.Description.{Description}
@@ -14,7 +14,7 @@ use Rattle.dm_stream.specs.Messages.{HasTold, ending_message}
 use Rattle.dm_stream.specs.Outcome.{Outcome, run_outcome}
 use Rattle.dm_table.proofs.ProgressLaws.{finished_as, finished_untouched, grows-same}
 use Rattle.dm_stream.specs.Requests.{HasMet}
-use Rattle.dm_stream.specs.Run.{HasRun, IsOutcome}
+use Rattle.dm_stream.specs.Run.{HasRun}
 use Rattle.dmremap.specs.declared.words.Format.{Format}
 use Rattle.dmremap.specs.Load.{RefusedBy, SoundAs, PartsGive}
 use Rattle.dmremap.specs.Status.{load_status, ending_status}
@@ -63,7 +63,7 @@ untouched_output written waiting faults flushes status output refused = record {
 
 -- what was told where a command exits
 pub exits_told : {X : Type 0} {written : X → List ℕ} {faults flushes : X → ℕ} {status result : ℕ} {message : List ℕ} {old new : X} → Exits written faults flushes status message result old new → MessagesTold written faults flushes result old new
-exits_told {message = message} exits = record { message = message; told = exits.told; write_fault = λ five. exits.write_fault (sym exits.is ∙ five) }
+exits_told {message = message} exits = record { message = message; told = exits.told; write_message = λ five. exits.write_message (sym exits.is ∙ five) }
 
 -- ---- a run
 
@@ -85,20 +85,24 @@ never_one endings.Done one = omega arith
 never_one ending one = omega arith
 
 -- a run is whole, unless the output failed
-pub ran_whole : (format : Format) (flag : Bool) (source disks requests : Delivery) (description : Description) (start left : State) (output : List ℕ) (ending : Ending) (status : ℕ) → PartsGive format source disks (SoundAs description)
-    → start ≡ start_state description → (ending ≢ endings.WriteFault → IsOutcome (run_outcome description flag start requests) output ending × (left ≡ (run_outcome description flag start requests).state)) → status ≡ ending_status ending → status ≢ 5
-    → GiveWhole format flag source disks requests (record { output = output; message = ending_message ending; status = status })
-ran_whole format flag source disks requests description start left output ending status gives starts is_whole is other =
+pub ran_whole : {X : Type 0} (written waiting : X → List ℕ) (faults flushes : X → ℕ) (old new : X) (format : Format) (flag : Bool) (source disks requests : Delivery) (description : Description) (start left : State) (ending : Ending) (status : ℕ)
+    → PartsGive format source disks (SoundAs description) → start ≡ start_state description → HasRun written waiting faults flushes old new (run_outcome description flag start requests) left ending → status ≡ ending_status ending → status ≢ 5
+    → GiveWhole format flag source disks requests (record { output = since (written old) (written new); message = ending_message ending; status = status })
+ran_whole written waiting faults flushes old new format flag source disks requests description start left ending status gives starts ran is other =
     let outcome = outcome_of description flag requests in
-    let same = subst (λ (state : State). IsOutcome (run_outcome description flag state requests) output ending) starts (is_whole (λ failed. other (is ∙ ap ending_status failed))).0 in
+    let output = since (written old) (written new) in
+    let no_fault : ending ≢ endings.WriteFault = λ failed. other (is ∙ ap ending_status failed) in
+    let same_output = subst (λ (state : State). (run_outcome description flag state requests).output ≡ output) starts (ran.output.whole no_fault).0 in
+    let same_ending = subst (λ (state : State). (run_outcome description flag state requests).ending ≡ Some ending) starts (ran.ends no_fault).0 in
     let whole : ℕ → Option Whole = λ n. Some (record { output = output; message = ending_message ending; status = n }) in
-    record { load = SoundAs description; loaded = gives; is = ap (ended_if outcome.output) same.1 ∙ ap (λ (out : List ℕ). ended_if out (Some ending)) same.0 ∙ ap whole (sym is) }
+    record { load = SoundAs description; loaded = gives; is = ap (ended_if outcome.output) same_ending ∙ ap (λ (out : List ℕ). ended_if out (Some ending)) same_output ∙ ap whole (sym is) }
 
 -- where the output failed, it took a beginning of what there was to write
-pub ran_failed : (flag : Bool) (requests : Delivery) (description : Description) (start : State) (output : List ℕ) (ending : Ending) (old new status : ℕ) → start ≡ start_state description
-    → (ending ≡ endings.WriteFault → FailedOutput (run_outcome description flag start requests).output output old new) → status ≡ ending_status ending → status ≡ 5 → FailedOutput (outcome_of description flag requests).output output old new
-ran_failed flag requests description start output ending old new status starts failed is five =
-    subst (λ (state : State). FailedOutput (run_outcome description flag state requests).output output old new) starts (failed (five_is ending (sym is ∙ five)))
+pub ran_failed : {X : Type 0} (written waiting : X → List ℕ) (faults flushes : X → ℕ) (old new : X) (flag : Bool) (requests : Delivery) (description : Description) (start left : State) (ending : Ending) (status : ℕ) → start ≡ start_state description
+    → HasRun written waiting faults flushes old new (run_outcome description flag start requests) left ending → status ≡ ending_status ending → status ≡ 5
+    → FailedOutput (outcome_of description flag requests).output (since (written old) (written new)) (flushes old) (flushes new)
+ran_failed written waiting faults flushes old new flag requests description start left ending status starts ran is five =
+    subst (λ (state : State). FailedOutput (run_outcome description flag state requests).output (since (written old) (written new)) (flushes old) (flushes new)) starts (ran.output.failed (five_is ending (sym is ∙ five)))
 
 -- how its requests were read
 pub ran_requests : {X : Type 0} (handed : X → List ℕ) (faults ends : X → ℕ) (ending : Ending) (status : ℕ) (old new : X) → status ≡ ending_status ending → IsReadOn handed faults ends old new
@@ -114,11 +118,11 @@ ran_requests handed faults ends ending status old new is read_on met = record {
 pub ran_output : {X : Type 0} (written waiting : X → List ℕ) (faults flushes : X → ℕ) (ending : Ending) (status : ℕ) (outcome : Outcome) (left : State) (old new : X) → status ≡ ending_status ending → HasRun written waiting faults flushes old new outcome left ending
     → OutputWritten written waiting faults flushes status old new
 ran_output written waiting faults flushes ending status outcome left old new is ran = record {
-  finished = finished_as (ending ≡ endings.WriteFault) (status ≡ 5) (λ failed. is ∙ ap ending_status failed) (λ five. five_is ending (sym is ∙ five)) ran.output;
-  flushed = λ one five six. ran.flushed (λ failed. five (is ∙ ap ending_status failed));
+  finished = finished_as (ending ≡ endings.WriteFault) (status ≡ 5) (λ failed. is ∙ ap ending_status failed) (λ five. five_is ending (sym is ∙ five)) ran.output.finished;
+  flushed = λ one five six. (ran.output.whole (λ failed. five (is ∙ ap ending_status failed))).1;
   refused = λ one. absurd (never_one ending (sym is ∙ one));
 }
 
 -- what it told
 pub ran_messages : {X : Type 0} (written : X → List ℕ) (faults flushes : X → ℕ) (ending : Ending) (status : ℕ) (old new : X) → status ≡ ending_status ending → HasTold written faults flushes (ending_message ending) old new → MessagesTold written faults flushes status old new
-ran_messages written faults flushes ending status old new is told = record { message = ending_message ending; told = told; write_fault = λ five. ap ending_message (five_is ending (sym is ∙ five)) }
+ran_messages written faults flushes ending status old new is told = record { message = ending_message ending; told = told; write_message = λ five. ap ending_message (five_is ending (sym is ∙ five)) }

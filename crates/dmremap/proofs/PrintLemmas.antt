@@ -1,7 +1,7 @@
 -- What a command that prints says of its output, its message and its status.
-use Rattle.std.proofs.Common.{◌≡◌, ◌≢◌, ◌∙◌, ℕ, ◌+◌, List, Ok, Err, IsErr, refl, sym, ap, subst, arith}
+use Rattle.std.proofs.Common.{◌≡◌, ◌≢◌, ◌∙◌, ℕ, List, Ok, Err, IsErr, refl, sym, ap, subst, arith}
 use Rattle.dm_table.specs.DeviceIo.{Delivery, since}
-use Rattle.dm_table.specs.Progress.{FailedOutput, IsClosed}
+use Rattle.dm_table.specs.Progress.{FailedOutput, IsClosedAfter}
 use Rattle.dm_table.proofs.ProgressLaws.{finished_as}
 use Rattle.lvm_volume.specs.declared.fault.NameFault.{NameFault}
 use Rattle.lvm_volume.specs.declared.fault.NameFault.TheVariants as names
@@ -29,22 +29,23 @@ says_printed Says text output old new (printing.Unnamed fault) says is = absurd 
 says_printed Says text output old new printing.Unsplit says is = absurd is
 
 -- all of a text was printed
-pub printed_whole : {X E : Type 0} (written waiting : X → List ℕ) (faults flushes : X → ℕ) (old new : X) (text : List ℕ) → IsClosed {E = E} written waiting faults flushes old new (Ok tt) text
+pub printed_whole : {X : Type 0} (E : Type 0) (written waiting : X → List ℕ) (faults flushes : X → ℕ) (old new : X) (text : List ℕ) → IsClosedAfter written waiting faults flushes old new (IsErr {T = Unit {0}} {E = E} (Ok tt)) text
     → (text ≡ since (written old) (written new)) × OutputWritten written waiting faults flushes 0 old new
-printed_whole {E = E} written waiting faults flushes old new text closed = (
-  sym closed.whole,
-  record {
-    finished = finished_as (IsErr {T = Unit {0}} {E = E} (Ok tt)) (0 ≡ 5) (λ err. absurd cc) (λ five. absurd (omega (arith, five))) closed.finished;
-    flushed = λ one five six. closed.flushed;
-    refused = λ one. absurd (omega (arith, one));
-  },
-)
+printed_whole E written waiting faults flushes old new text closed =
+    let whole = closed.whole (λ err. absurd cc) in (
+      whole.0,
+      record {
+        finished = finished_as (IsErr {T = Unit {0}} {E = E} (Ok tt)) (0 ≡ 5) (λ err. absurd cc) (λ five. absurd (omega (arith, five))) closed.finished;
+        flushed = λ one five six. whole.1;
+        refused = λ one. absurd (omega (arith, one));
+      },
+    )
 
 -- the output failed
-pub printed_failed : {X E : Type 0} (written waiting : X → List ℕ) (faults flushes : X → ℕ) (old new : X) (fault : E) (text : List ℕ) → IsClosed written waiting faults flushes old new (Err fault) text
+pub printed_failed : {X : Type 0} (E : Type 0) (written waiting : X → List ℕ) (faults flushes : X → ℕ) (old new : X) (fault : E) (text : List ℕ) → IsClosedAfter written waiting faults flushes old new (IsErr {T = Unit {0}} (Err fault)) text
     → FailedOutput text (since (written old) (written new)) (flushes old) (flushes new) × OutputWritten written waiting faults flushes 5 old new
-printed_failed written waiting faults flushes old new fault text closed = (
-  closed.failed,
+printed_failed E written waiting faults flushes old new fault text closed = (
+  closed.failed refl,
   record {
     finished = finished_as _ _ (λ err. refl) (λ five. refl) closed.finished;
     flushed = λ one five six. absurd (five refl);

@@ -6,7 +6,7 @@ use Rattle.dm_table.specs.WriteAll.{IsCutShort}
 use Rattle.dm_stack.specs.Description.{Description}
 use Rattle.dm_stream.specs.declared.ending.Ending.TheVariants as endings
 use Rattle.dm_table.proofs.ProgressLaws.{finished_as, since-same}
-use Rattle.dm_table.specs.Progress.{HasWritten, IsClosed, IsFlushed, Wrote}
+use Rattle.dm_table.specs.Progress.{HasWritten, IsClosedAfter, IsFlushed, Wrote}
 use Rattle.dm_stream.specs.Requests.{IsAmong, NumberedRequest, Requests}
 use Rattle.dm_replay.specs.declared.replay_fault.ReplayFault.{ReplayFault}
 use Rattle.dm_replay.specs.declared.value_run.ValueRun.{ValueRun}
@@ -143,22 +143,23 @@ IsEnded written waiting faults flushes stack requests old new ended =
 -- all was written and flushed
 ended_whole : {X E : Type 0} (written waiting : X → List ℕ) (faults flushes : X → ℕ) (stack : Description) (requests : Requests) (old mid new : X) (ended : ReplayEnd) → ended ≢ ends.Ran endings.WriteFault
     → HasWritten written waiting faults flushes old mid (end_faults ended) → IsPlayed stack requests (since (written old) (written mid)) ended
-    → ((text : List ℕ) → Wrote {E = E} written waiting faults flushes old mid (Ok tt) text → IsClosed {E = E} written waiting faults flushes old new (Ok tt) text) → IsEnded written waiting faults flushes stack requests old new ended
+    → ((text : List ℕ) → Wrote {E = E} written waiting faults flushes old mid (Ok tt) text → IsClosedAfter written waiting faults flushes old new (IsErr {T = Unit {0}} {E = E} (Ok tt)) text) → IsEnded written waiting faults flushes stack requests old new ended
 ended_whole {E = E} written waiting faults flushes stack requests old mid new ended other moved played closes =
     let text = since (written old) (written mid) in
-    let closed = closes text (record { moved = subst (λ (n : ℕ). HasWritten written waiting faults flushes old mid n) (no_write_failed ended other) moved; ok = refl; left = tt }) in (
-      replayed_flushed stack requests (since (written old) (written new)) (flushes old) (flushes new) ended other (subst (λ (t : List ℕ). IsPlayed stack requests t ended) (sym closed.whole) played),
+    let closed = closes text (record { moved = subst (λ (n : ℕ). HasWritten written waiting faults flushes old mid n) (no_write_failed ended other) moved; ok = refl; left = tt }) in
+    let whole = closed.whole (λ err. absurd cc) in (
+      replayed_flushed stack requests (since (written old) (written new)) (flushes old) (flushes new) ended other (subst (λ (t : List ℕ). IsPlayed stack requests t ended) whole.0 played),
       record {
         finished = finished_as (IsErr {T = Unit {0}} {E = E} (Ok tt)) (end_status ended ≡ 5) (λ err. absurd cc) (λ five. absurd (not_failed ended other five)) closed.finished;
-        flushed = λ one five six. closed.flushed;
+        flushed = λ one five six. whole.1;
         refused = λ one. absurd (never_refused ended one);
       },
-      on_memory ended _ closed.flushed,
+      on_memory ended _ whole.1,
     )
 
 -- the output failed
-failed_output : {X E : Type 0} (written waiting : X → List ℕ) (faults flushes : X → ℕ) (old new : X) (fault : E) (text : List ℕ) → IsClosed written waiting faults flushes old new (Err fault) text → OutputWritten written waiting faults flushes 5 old new
-failed_output written waiting faults flushes old new fault text closed = record {
+failed_output : {X : Type 0} (E : Type 0) (written waiting : X → List ℕ) (faults flushes : X → ℕ) (old new : X) (fault : E) (text : List ℕ) → IsClosedAfter written waiting faults flushes old new (IsErr {T = Unit {0}} (Err fault)) text → OutputWritten written waiting faults flushes 5 old new
+failed_output E written waiting faults flushes old new fault text closed = record {
   finished = finished_as _ _ (λ err. refl) (λ five. refl) closed.finished;
   flushed = λ one five six. absurd (five refl);
   refused = λ one. absurd (omega (arith, one));
@@ -167,7 +168,7 @@ failed_output written waiting faults flushes old new fault text closed = record 
 -- at a write
 ended_unflushed : {X E : Type 0} (written waiting : X → List ℕ) (faults flushes : X → ℕ) (stack : Description) (requests : Requests) (old mid new : X) (fault before : E) (ended : ReplayEnd) → ended ≡ ends.Ran endings.WriteFault → new ≡ mid
     → HasWritten written waiting faults flushes old mid (end_faults ended) → IsPlayed stack requests (since (written old) (written mid)) ended
-    → ((text : List ℕ) → Wrote written waiting faults flushes old mid (Err before) text → IsClosed written waiting faults flushes old new (Err fault) text) → IsEnded written waiting faults flushes stack requests old new (ends.Ran endings.WriteFault)
+    → ((text : List ℕ) → Wrote written waiting faults flushes old mid (Err before) text → IsClosedAfter written waiting faults flushes old new (IsErr {T = Unit {0}} (Err fault)) text) → IsEnded written waiting faults flushes stack requests old new (ends.Ran endings.WriteFault)
 ended_unflushed written waiting faults flushes stack requests old mid new fault before ended is same moved played closes =
     let wrote = subst (λ (e : ReplayEnd). HasWritten written waiting faults flushes old mid (end_faults e)) is moved in
     let cut = subst (λ (e : ReplayEnd). IsPlayed stack requests (since (written old) (written mid)) e) is played in
@@ -176,14 +177,14 @@ ended_unflushed written waiting faults flushes stack requests old mid new fault 
         ap flushes same ∙ wrote.unflushed,
         subst (λ (x : _). IsCutReplay stack [] requests.all (since (written old) (written x))) (sym same) cut,
       ),
-      failed_output written waiting faults flushes old new fault cut.whole closed,
+      failed_output _ written waiting faults flushes old new fault cut.whole closed,
       tt,
     )
 
 -- at the flush
 ended_unsent : {X E : Type 0} (written waiting : X → List ℕ) (faults flushes : X → ℕ) (stack : Description) (requests : Requests) (old mid new : X) (fault : E) (ended : ReplayEnd) → ended ≢ ends.Ran endings.WriteFault → written new ≡ written mid → flushes new ≡ flushes mid + 1
     → HasWritten written waiting faults flushes old mid (end_faults ended) → IsPlayed stack requests (since (written old) (written mid)) ended
-    → ((text : List ℕ) → Wrote {E = E} written waiting faults flushes old mid (Ok tt) text → IsClosed written waiting faults flushes old new (Err fault) text) → IsEnded written waiting faults flushes stack requests old new (ends.Ran endings.WriteFault)
+    → ((text : List ℕ) → Wrote {E = E} written waiting faults flushes old mid (Ok tt) text → IsClosedAfter written waiting faults flushes old new (IsErr {T = Unit {0}} (Err fault)) text) → IsEnded written waiting faults flushes stack requests old new (ends.Ran endings.WriteFault)
 ended_unsent written waiting faults flushes stack requests old mid new fault ended other same more moved played closes =
     let text = since (written old) (written mid) in
     let closed = closes text (record { moved = subst (λ (n : ℕ). HasWritten written waiting faults flushes old mid n) (no_write_failed ended other) moved; ok = refl; left = tt }) in (
@@ -191,21 +192,21 @@ ended_unsent written waiting faults flushes stack requests old mid new fault end
         more ∙ ap (λ (n : ℕ). n + 1) moved.unflushed,
         (ended, not_failed ended other, subst (λ (w : List ℕ). IsPlayed stack requests (since (written old) w) ended) (sym same) played),
       ),
-      failed_output written waiting faults flushes old new fault text closed,
+      failed_output _ written waiting faults flushes old new fault text closed,
       tt,
     )
 
 -- the same by whether all was written before the output was closed, and by how it was closed
 pub closed_whole : {X E : Type 0} (written waiting : X → List ℕ) (faults flushes : X → ℕ) (stack : Description) (requests : Requests) (old mid new : X) (ended : ReplayEnd) (wrote : Result (Unit {0}) E) → OnOk wrote (ended ≢ ends.Ran endings.WriteFault)
     → OnErr wrote (IsErr {T = Unit {0}} {E = E} (Ok tt) × (new ≡ mid)) → HasWritten written waiting faults flushes old mid (end_faults ended) → IsPlayed stack requests (since (written old) (written mid)) ended
-    → ((text : List ℕ) → Wrote written waiting faults flushes old mid wrote text → IsClosed {E = E} written waiting faults flushes old new (Ok tt) text) → IsEnded written waiting faults flushes stack requests old new ended
+    → ((text : List ℕ) → Wrote written waiting faults flushes old mid wrote text → IsClosedAfter written waiting faults flushes old new (IsErr {T = Unit {0}} {E = E} (Ok tt)) text) → IsEnded written waiting faults flushes stack requests old new ended
 closed_whole written waiting faults flushes stack requests old mid new ended (Ok done) other failed moved played closes = ended_whole written waiting faults flushes stack requests old mid new ended other moved played closes
 closed_whole written waiting faults flushes stack requests old mid new ended (Err fault) other failed moved played closes = let err = failed.0 in absurd cc
 
 pub closed_failed : {X E : Type 0} (written waiting : X → List ℕ) (faults flushes : X → ℕ) (stack : Description) (requests : Requests) (old mid new : X) (fault : E) (ended : ReplayEnd) (wrote : Result (Unit {0}) E) → OnOk wrote (ended ≢ ends.Ran endings.WriteFault)
     → OnErr wrote (ended ≡ ends.Ran endings.WriteFault) → OnErr wrote (IsErr {T = Unit {0}} (Err fault) × (new ≡ mid)) → OnOk wrote (flushes new ≡ flushes mid + 1) → written new ≡ written mid
     → HasWritten written waiting faults flushes old mid (end_faults ended) → IsPlayed stack requests (since (written old) (written mid)) ended
-    → ((text : List ℕ) → Wrote written waiting faults flushes old mid wrote text → IsClosed written waiting faults flushes old new (Err fault) text) → IsEnded written waiting faults flushes stack requests old new (ends.Ran endings.WriteFault)
+    → ((text : List ℕ) → Wrote written waiting faults flushes old mid wrote text → IsClosedAfter written waiting faults flushes old new (IsErr {T = Unit {0}} (Err fault)) text) → IsEnded written waiting faults flushes stack requests old new (ends.Ran endings.WriteFault)
 closed_failed written waiting faults flushes stack requests old mid new fault ended (Ok done) other is failed more same moved played closes =
     ended_unsent written waiting faults flushes stack requests old mid new fault ended other same more moved played closes
 closed_failed written waiting faults flushes stack requests old mid new fault ended (Err before) other is failed more same moved played closes =

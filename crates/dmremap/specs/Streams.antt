@@ -24,13 +24,14 @@ pub record OutputWritten {X : Type 0} (written waiting : X → List ℕ) (faults
 
 -- what was told
 pub record MessagesTold {X : Type 0} (written : X → List ℕ) (faults flushes : X → ℕ) (status : ℕ) (old new : X) : Type 0 where
+  -- some message: which one, other clauses say
   pub message : List ℕ
   pub told : HasTold written faults flushes message old new
   -- a failed output is told
-  pub write_fault : status ≡ 5 → message ≡ write_message
+  pub write_message : status ≡ 5 → message ≡ write_message
 
 -- the command exits with this status, and this message was told
 pub record Exits {X : Type 0} (written : X → List ℕ) (faults flushes : X → ℕ) (status : ℕ) (message : List ℕ) (result : ℕ) (old new : X) : Type 0 where
   pub is : result ≡ status
   pub told : HasTold written faults flushes message old new
-  pub write_fault : status ≡ 5 → message ≡ write_message
+  pub write_message : status ≡ 5 → message ≡ write_message

@@ -5,7 +5,7 @@
 
 ghost use Rattle.std.specs.Prelude.{◌≡◌, ◌≢◌, [], List, ℕ, IsSome, true, is_some, option_map};
 ghost use Rattle.dm_table.specs.Progress.{Wrote, FailedOutput};
-ghost use Rattle.dm_table.specs.DeviceIo.{Delivery, delivery, since};
+ghost use Rattle.dm_table.specs.DeviceIo.{Delivery, since};
 ghost use Rattle.dm_table.specs.LoadMessage.{memory_message};
 ghost use Rattle.dm_stream.specs.Messages.{IsTold};
 ghost use Rattle.lvm_volume.specs.Names.{built};
@@ -14,7 +14,7 @@ ghost use Rattle.dmremap.specs.Inputs.{IsReadOnIf, IsUnchanged, delivery_if};
 ghost use Rattle.dmremap.specs.OtherWhole.{GiveOther, IsPrinted, IsTextPrinted, Prints, ReportSays, SplitSays, TaskSays, has_list, has_source, is_other, line, name_said, name_status, printing_message, printing_status, written_as};
 ghost use Rattle.dmremap.specs.Streams.{Exits, MessagesTold, OutputWritten};
 ghost use Rattle.dmremap.specs.Whole.{Whole};
-ghost use Rattle.dmremap.specs.Words.{TaskWords, file_words, has_disk_list, words_of};
+ghost use Rattle.dmremap.specs.Words.{TaskWords, has_disk_list, words_of};
 
 #[cfg(test)]
 mod tests;

@@ -3,16 +3,16 @@
 //! `specs/ReplayOutcome.antt` says what is written and where it ends, and `specs/Played.antt` what one
 //! request adds to it.
 
-ghost use Rattle.std.specs.Prelude.{◌≡◌, ◌∷◌, [], false, length, IfErr, OnOk, OnErr};
+ghost use Rattle.std.specs.Prelude.{◌≡◌, false};
 ghost use Rattle.dm_table.specs.DeviceIo.{delivery, since};
 ghost use Rattle.dm_table.specs.Progress.{HasWritten, HasWrittenTo, IsReadOn};
 ghost use Rattle.dm_table.proofs.ProgressLaws.{written_to_none, written_to_more};
-ghost use Rattle.dm_stream.specs.Requests.{numbered, requests_of};
+ghost use Rattle.dm_stream.specs.Requests.{requests_of};
 ghost use Rattle.dm_replay.specs.Replay.{new_replay};
 ghost use Rattle.dmremap.specs.Played.{HasPlayed, HasStopped, end_for, failed_writes};
 ghost use Rattle.dmremap.specs.PlayedLaws.{played_none, played_more, stopped_more};
 ghost use Rattle.dmremap.specs.ReplayOutcome.{HasMetEnd, IsPlayed, end_faults};
-ghost use Rattle.std.proofs.Common.{refl, ap, sym, subst, ◌∙◌};
+ghost use Rattle.std.proofs.Common.{refl, subst, ◌∙◌};
 
 use dm_map::RunTaken;
 use dm_replay::{Replay, ReplayFault, write_runs};

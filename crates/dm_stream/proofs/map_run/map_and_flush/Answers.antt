@@ -1,4 +1,5 @@
 use Rattle.std.proofs.Common.{ap}
+use Rattle.dm_table.specs.declared.device_io.OutFault.{OutFault}
 use Rattle.dm_map.specs.Mapper.{Mapping}
 use Rattle.dm_stream.proofs.Runs.{closed_after, ran_failed, ran_whole}
 use Rattle.dm_stream.proofs.map_run.map_and_flush.Goals as goal
@@ -7,7 +8,7 @@ pub returns-in-Ok-clause-ran : goal.returns-in-Ok-clause-ran
 returns-in-Ok-clause-ran g c =
     let requests = c.map_requests-ending in
     let wrote = c.write_rest-written.ensures in
-    ran_whole _ _ _ _ c.args.output.now c.close.new.output c.args.stack.now c.args.status _ _ requests.new.mapper.state c.write_rest-written.new.mapper.state requests.result
+    ran_whole OutFault _ _ _ _ c.args.output.now c.close.new.output c.args.stack.now c.args.status _ _ requests.new.mapper.state c.write_rest-written.new.mapper.state requests.result
     (closed_after c.write_rest-written.result _ _ c.in-Ok.ensures.untouched wrote.no_fault)
     (ap (λ (m : Mapping). m.state) wrote.same) requests.ensures.mapped
     (c.in-Ok.ensures.closed c.args.output.now _ (wrote.wrote c.args.output.now _ requests.ensures.writes requests.ensures.mapped))
@@ -15,5 +16,5 @@ returns-in-Ok-clause-ran g c =
 pub returns-in-Err-clause-ran : goal.returns-in-Err-clause-ran
 returns-in-Err-clause-ran g c =
     let requests = c.map_requests-ending in
-    ran_failed _ _ _ _ c.args.output.now c.close.new.output _ _ c.write_rest-written.new.mapper.state
+    ran_failed OutFault _ _ _ _ c.args.output.now c.close.new.output (record {}) _ c.write_rest-written.new.mapper.state
     (c.in-Err.ensures.closed c.args.output.now _ (c.write_rest-written.ensures.wrote c.args.output.now _ requests.ensures.writes requests.ensures.mapped))

@@ -1,4 +1,4 @@
-use Rattle.dm_stream.proofs.Runs.{rest_cut, rest_none, rest_status}
+use Rattle.dm_stream.proofs.Runs.{rest_cut}
 use Rattle.dm_stream.proofs.map_run.write_rest.Goals as goal
 
 pub returns-in-WriteFault-clause-wrote : goal.returns-in-WriteFault-clause-wrote

@@ -2,12 +2,12 @@ use Rattle.std.proofs.Common.{List, None, not, nat_le, eqb, ◌&&◌, ◌||◌, 
 use Rattle.dm_table.specs.declared.load_fault.LoadFault.{LoadFault}
 use Rattle.dm_table.specs.declared.load_fault.LoadKind.TheVariants.{NotText}
 use Rattle.dm_table.specs.Fields.{parts_at}
-use Rattle.dm_table.specs.LoadFault.{first_or, is_printed, unless}
+use Rattle.dm_table.specs.LoadFault.{first_or, is_printable, unless}
 use Rattle.dm_table.proofs.ByteLemmas.{parts_pass}
 use Rattle.dm_table.proofs.FaultLemmas.{faults_from-good}
 use Rattle.dm_table.proofs.text_checks.check_text.Goals as goal
 
-pub returns-then-is_printed : goal.returns-then-is_printed
-returns-then-is_printed c =
-    let pass = parts_pass (λ b. eqb b 10 || (nat_le 32 b && nat_le b 126)) c.args.at c.args.text.now (sym c.is_printed.ensures ∙ c.if-is_printed.true) in
-    ap (λ (found : List LoadFault). unless (first_or found None) tt) (faults_from-good c.args.part NotText (λ piece. not (is_printed piece)) 1 (parts_at c.args.at c.args.text.now) pass)
+pub returns-then-is_printable : goal.returns-then-is_printable
+returns-then-is_printable c =
+    let pass = parts_pass (λ b. eqb b 10 || (nat_le 32 b && nat_le b 126)) c.args.at c.args.text.now (sym c.is_printable.ensures ∙ c.if-is_printable.true) in
+    ap (λ (found : List LoadFault). unless (first_or found None) tt) (faults_from-good c.args.part NotText (λ piece. not (is_printable piece)) 1 (parts_at c.args.at c.args.text.now) pass)

@@ -25,7 +25,7 @@ pub returns-in-Ok-new-clause-whole : goal.returns-in-Ok-new-clause-whole
 returns-in-Ok-new-clause-whole g c = λ five six.
     let starts : c.in-Ok-new.mapper.state ≡ start_state c.in-Ok.stack = c.in-Ok-new.ensures.state ∙ ap start_state c.looker.ensures.stack in (
       ending_message c.run.result,
-      ran_whole _ _ _ _ _ c.in-Ok.stack c.in-Ok-new.mapper.state _ _ c.run.result _ c.in-Ok.ensures.gives.sound starts c.run.ensures.ran.whole c.ending_status.ensures five,
+      ran_whole _ _ _ _ _ _ _ _ _ _ _ c.in-Ok.stack c.in-Ok-new.mapper.state _ c.run.result _ c.in-Ok.ensures.gives.sound starts c.run.ensures.ran c.ending_status.ensures five,
       c.run.ensures.told.told,
     )
 
@@ -35,7 +35,7 @@ returns-in-Ok-new-clause-beginning g c = λ five.
     let starts : c.in-Ok-new.mapper.state ≡ start_state c.in-Ok.stack = c.in-Ok-new.ensures.state ∙ ap start_state c.looker.ensures.stack in (
       c.in-Ok.stack,
       c.in-Ok.ensures.gives.sound,
-      ran_failed c.args.status requests c.in-Ok.stack c.in-Ok-new.mapper.state _ c.run.result _ _ _ starts c.run.ensures.ran.failed c.ending_status.ensures five,
+      ran_failed _ _ _ _ _ _ c.args.status requests c.in-Ok.stack c.in-Ok-new.mapper.state _ c.run.result _ starts c.run.ensures.ran c.ending_status.ensures five,
     )
 
 pub returns-in-Ok-new-clause-requests : goal.returns-in-Ok-new-clause-requests

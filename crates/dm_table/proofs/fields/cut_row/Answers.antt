@@ -2,12 +2,10 @@
 use Rattle.std.proofs.Common.{◌≡◌, [], None, sym, ap, ◌∙◌, refl, arith}
 use Rattle.std.proofs.lemmas.List.{nil_from_length}
 use Rattle.std.proofs.lemmas.Option.{MatchOption-at_none}
-use Rattle.dm_table.specs.Fields.{texts, fields}
-use Rattle.dm_table.specs.TableText.{without_last_space}
-use Rattle.dm_table.specs.TableReading.{ends_empty}
+use Rattle.dm_table.specs.Fields.{texts, fields, without_last_space, ends_empty}
 use Rattle.dm_table.proofs.FieldLemmas.{all_but_last-popped}
 use Rattle.dm_table.proofs.TableFields.{spaced, not_spaced}
-use Rattle.dm_table.proofs.table_row.cut_row.Goals as goal
+use Rattle.dm_table.proofs.fields.cut_row.Goals as goal
 
 pub returns-then-ends_empty : goal.returns-then-ends_empty
 returns-then-ends_empty c =
