@@ -98,12 +98,12 @@ impl<'s> Player<'s> {
                 disk,
                 start,
                 len,
-                to,
-                to_start,
+                to: target,
+                to_start: target_start,
             } => {
                 is_small(self.stack, disk, start, len);
-                is_small(self.stack, to, to_start, len);
-                self.playing.copy(disk, start, len, to, to_start)
+                is_small(self.stack, target, target_start, len);
+                self.playing.copy(disk, start, len, target, target_start)
             }
             Piece::Fill { len, disk, start } => {
                 is_small(self.stack, disk, start, len);

@@ -3,13 +3,13 @@
 //! Its invariant keeps it on the disks of the stack, so that its line can always be written. For a
 //! new kind of piece, say here when one continues another.
 
-ghost use Rattle.std.specs.Prelude.{◌≡◌, ◌+◌, ◌-◌, ◌≤◌, ◌==◌, ◌++◌, ◌^◌, List, Some, None};
 ghost use Rattle.std.specs.Bool.{OnTrue, OnFalse};
+ghost use Rattle.std.specs.Prelude.{◌≡◌, ◌+◌, ◌-◌, ◌≤◌, ◌==◌, ◌++◌, ◌^◌, List, Some, None};
 ghost use Rattle.dm_map.specs.Units.{BlockUnit, IsOnDisks, diskless_len, first_unit, piece_len, units_of};
 ghost use Rattle.dm_stream.specs.Pending.{Fits, IsHeld, held_diskless, held_units};
+ghost use Rattle.dm_stream.specs.PieceText.{pieces_text};
 ghost use Rattle.dm_stream.specs.Pieces.{fewest, is_after};
 ghost use Rattle.dm_table.specs.Progress.{Wrote};
-ghost use Rattle.dm_stream.specs.PieceText.{pieces_text};
 
 use crate::kept_range::KeptRange;
 use crate::number_prefix::NumberPrefix;

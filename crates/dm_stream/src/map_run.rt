@@ -4,18 +4,18 @@
 //! state: see `specs/Outcome.antt`. `requests` reads the lines, `request_mapper` answers them.
 
 ghost use Rattle.std.specs.Prelude.{◌≡◌, ◌≢◌, List, None, false, OnOk};
-ghost use Rattle.dm_table.specs.DeviceIo.{delivery, since};
-ghost use Rattle.dm_table.specs.Progress.{HasWritten, HasWrittenTo, IsReadOn, Wrote};
 ghost use Rattle.dm_map.specs.Mapper.{with_looked};
 ghost use Rattle.dm_map.specs.Units.{BlockUnit};
-ghost use Rattle.dm_stream.specs.declared.lines.TheConstants.{MOST_LINE_BYTES};
-ghost use Rattle.dm_stream.specs.declared.requests.TheConstants.{MOST_REQUESTS};
 ghost use Rattle.dm_stream.specs.Mapped.{IsReady};
 ghost use Rattle.dm_stream.specs.Messages.{HasTold, ending_message};
 ghost use Rattle.dm_stream.specs.Outcome.{Outcome, requests_outcome, run_outcome, with_status};
 ghost use Rattle.dm_stream.specs.Pieces.{AreFewest, fewest};
 ghost use Rattle.dm_stream.specs.Requests.{HasMet};
 ghost use Rattle.dm_stream.specs.Run.{CanMap, HasRun, IsMapped, StaysMapper, ending_for, write_faults};
+ghost use Rattle.dm_stream.specs.declared.lines.TheConstants.{MOST_LINE_BYTES};
+ghost use Rattle.dm_stream.specs.declared.requests.TheConstants.{MOST_REQUESTS};
+ghost use Rattle.dm_table.specs.DeviceIo.{delivery, since};
+ghost use Rattle.dm_table.specs.Progress.{HasWritten, HasWrittenTo, IsReadOn, Wrote};
 
 use crate::ending::{Ending, NotMapped, RequestWord};
 use crate::join::Join;

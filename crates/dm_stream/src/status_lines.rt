@@ -3,7 +3,7 @@
 //! They come once a run, after its last answer, so each is put together in a room of its own and
 //! written by plain calls. What they say is in `specs/StatusLines.antt`.
 
-ghost use Rattle.std.specs.Prelude.{◌≡◌, ◌++◌, ◌+◌, ◌<◌, ◌≤◌, length};
+ghost use Rattle.std.specs.Prelude.{◌≡◌, ◌++◌, ◌<◌, ◌≤◌, ◌∷◌, [], length};
 ghost use Rattle.dm_table.specs.Progress.{Wrote};
 ghost use Rattle.dm_stack.specs.Description.{device_len, name_at};
 ghost use Rattle.dm_map.specs.Mapper.{with_looked};
@@ -60,15 +60,13 @@ fn after_name(len: u64, usage: Usage) -> ArrayVec<u8, ROOM>
     put_number(&mut text, len);
     put(&mut text, b" snapshot ");
     put_usage(&mut text, usage);
-    put(&mut text, b"\n");
     text
 }
 
-/// Appends how much of a store is used, in sectors, or that its snapshot is not valid.
+/// Appends how much of a store is used, in sectors, or that its snapshot is not valid, and ends the line.
 fn put_usage(text: &mut ArrayVec<u8, ROOM>, usage: Usage)
     requires { length text.old.items ≤ 40 }
-    ensures text { text.new.items ≡ text.old.items ++ usage_text usage }
-    ensures len { length text.new.items ≤ length text.old.items + 62 }
+    ensures { text.new.items ≡ text.old.items ++ usage_text usage ++ 10 ∷ [] }
 {
     if usage.valid {
         put_number(text, usage.allocated);
@@ -79,4 +77,5 @@ fn put_usage(text: &mut ArrayVec<u8, ROOM>, usage: Usage)
     } else {
         put(text, b"Invalid");
     }
+    put(text, b"\n");
 }

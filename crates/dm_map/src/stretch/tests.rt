@@ -29,11 +29,8 @@ const DISKS: &str = "sda 16\nsdb 4\nsdc 64\nsdd 64\n";
 
 /// A write, a read after it, and how many of its sectors the first stretch has: of a chunk that was
 /// taken, of one that was not, and of one that only the origin took.
-static AFTER_A_WRITE: [(&str, &str, u64); 7] = [
-    ("W s 4 1", "R s 4 12", 4),
-    ("W s 4 1", "R s 6 10", 2),
+static AFTER_A_WRITE: [(&str, &str, u64); 4] = [
     ("W s 4 1", "R s 0 16", 4),
-    ("W t 0 8", "R t 0 16", 8),
     ("W t 0 8", "R t 3 13", 5),
     ("W t 0 8", "R t 8 8", 4),
     ("W s 0 16", "R t 2 14", 2),

@@ -6,13 +6,13 @@ use Rattle.dmremap.proofs.words.Task.of_name.Goals as goal
 
 pub returns-in_err-vg : goal.returns-in_err-vg
 returns-in_err-vg c =
-    ap (option_map words_of) c.from_residual.ensures
-    ∙ by_three name_from (found_of c.args.given.now) (codes "vg") (codes "lv") (codes "layer") None _ _ c.in_err-vg.ensures refl refl
+    let found = found_of c.args.given.now in
+    ap (option_map words_of) c.from_residual.ensures ∙ by_three name_from found (codes "vg") (codes "lv") (codes "layer") None _ _ c.in_err-vg.ensures refl refl
 
 pub returns-in_err-lv : goal.returns-in_err-lv
 returns-in_err-lv c =
-    ap (option_map words_of) c.from_residual-in_err-lv.ensures
-    ∙ by_three name_from (found_of c.args.given.now) (codes "vg") (codes "lv") (codes "layer") (Some c.in_ok-vg.vg.now) None _ c.in_ok-vg.ensures c.in_err-lv.ensures refl
+    let found = found_of c.args.given.now in
+    ap (option_map words_of) c.from_residual-in_err-lv.ensures ∙ by_three name_from found (codes "vg") (codes "lv") (codes "layer") (Some c.in_ok-vg.vg.now) None _ c.in_ok-vg.ensures c.in_err-lv.ensures refl
 
 pub returns : goal.returns
 returns c =
