@@ -5,9 +5,9 @@ use Rattle.std.proofs.lemmas.List.{take-take}
 
 -- what was put after a front and a part of a room, where that is the next part
 pub next_part : (at end from to : ℕ) (new old front part room : List ℕ) → from ≤ to → take at old ≡ front ++ take from room → take end new ≡ take at old ++ part → part ≡ slice_range room from to → take end new ≡ front ++ take to room
-next_part at end from to new old front part room ordered before behind is =
+next_part at end from to new old front part room ordered before after is =
     let all : from + (to - from) ≡ to = omega arith in
-    behind
+    after
     ∙ ap (λ (text : List ℕ). text ++ part) before
     ∙ append_assoc front (take from room) part
     ∙ ap (λ (text : List ℕ). front ++ (take from room ++ text)) is
@@ -26,18 +26,18 @@ room_text at end all len new front room is ends fits put =
 
 -- the whole of it
 pub bytes_front : (at : ℕ) (new old bytes rest : List ℕ) → take at new ≡ take at old → drop at new ≡ bytes ++ rest → take (at + length bytes) new ≡ take at old ++ bytes
-bytes_front at new old bytes rest before behind =
+bytes_front at new old bytes rest before after =
     take-add at (length bytes) new
     ∙ ap (λ (front : List ℕ). front ++ take (length bytes) (drop at new)) before
-    ∙ ap (λ (back : List ℕ). take at old ++ take (length bytes) back) behind
+    ∙ ap (λ (back : List ℕ). take at old ++ take (length bytes) back) after
     ∙ ap (λ (text : List ℕ). take at old ++ text) (take-append_seam bytes rest)
 
 -- a number's digits, which were put before the end of their place
 pub digits_front : (at start end : ℕ) (new old digits rest : List ℕ) → end ≡ at + length digits → start + length digits ≡ end → take start new ≡ take start old → drop start new ≡ digits ++ rest → take end new ≡ take at old ++ digits
-digits_front at start end new old digits rest is place before behind =
+digits_front at start end new old digits rest is place before after =
     let same : start ≡ at = omega arith in
     ap (λ (n : ℕ). take n new) is
-    ∙ bytes_front at new old digits rest (subst (λ (n : ℕ). take n new ≡ take n old) same before) (subst (λ (n : ℕ). drop n new ≡ digits ++ rest) same behind)
+    ∙ bytes_front at new old digits rest (subst (λ (n : ℕ). take n new ≡ take n old) same before) (subst (λ (n : ℕ). drop n new ≡ digits ++ rest) same after)
 
 -- what was written of a block's front, after one write more
 pub sent_more : (old mid new block : List ℕ) (sent len taken : ℕ) → taken ≤ len - sent → mid ≡ old ++ take sent block → new ≡ mid ++ take taken (slice_range block sent len) → new ≡ old ++ take (sent + taken) block

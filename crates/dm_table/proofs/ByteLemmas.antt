@@ -177,7 +177,7 @@ device_name_first text none =
 pub record StandsFirst (test : ℕ → Bool) (text field : List ℕ) : Type 0 where
   pub front : take (prefix_len test text) text ≡ field
   pub rest : List ℕ
-  pub behind : drop (prefix_len test text) text ≡ 32 ∷ rest
+  pub after : drop (prefix_len test text) text ≡ 32 ∷ rest
 
 prefix_at : (test : ℕ → Bool) (field rest : List ℕ) → list_all test field ≡ true → test 32 ≡ false → prefix_len test (field ++ 32 ∷ rest) ≡ length field
 prefix_at test [] rest all other = rw other refl
@@ -191,7 +191,7 @@ stands_first test text field next more cut all other =
     record {
       front = rw (whole, prefix_at test field rest all other) (take-append_seam field (32 ∷ rest));
       rest = rest;
-      behind = rw (whole, prefix_at test field rest all other) (drop-append_seam field (32 ∷ rest));
+      after = rw (whole, prefix_at test field rest all other) (drop-append_seam field (32 ∷ rest));
     }
 
 -- Parts of a text of which each byte passes a test

@@ -15,11 +15,11 @@ use Rattle.dm_table.specs.declared.row_faults.RowFault.TheVariants.{Syntax, Fiel
 use Rattle.dm_table.specs.declared.row_faults.FirstFaults.{FirstFaults}
 use Rattle.dm_table.specs.Fields.{texts}
 use Rattle.dm_table.specs.Name.{is_device_name}
-use Rattle.dm_table.specs.RowFaults.{value_fault, row_fault, Reads, fault_in, noted_at, first_noted}
+use Rattle.dm_table.specs.RowFaults.{test_fault, Reads, fault_in, noted_at, first_noted}
 use Rattle.dm_table.specs.LineBody.{is_body_row, is_body, has_body_names}
 use Rattle.dm_table.specs.LineReading.{line_in}
 use Rattle.dm_table.specs.ConciseText.{place_of, lacks, is_uuid, is_ro, entries, body_fields, is_label, is_known, is_named}
-use Rattle.dm_table.specs.ConciseReading.{worse, fault_of_body, fault_of_bodies, fault_of_entries, fault_of_device, lines_in, device_in, device_unless, entries_reading, device_reading, bodies_reading, devices_from}
+use Rattle.dm_table.specs.ConciseReading.{worse, fault_of_body, fault_of_bodies, fault_of_label, fault_of_entries, fault_of_device, lines_in, device_in, device_unless, entries_reading, device_reading, bodies_reading, devices_from}
 use Rattle.dm_table.proofs.RowFaultLemmas.{names_true, read_clear}
 use Rattle.dm_table.proofs.TargetRows.{read_none, read_value, and_false}
 
@@ -32,7 +32,7 @@ worse-none (Some Field) = refl
 worse-none (Some Name) = refl
 worse-none (Some Memory) = refl
 
--- a fault of a field hides what it hides once, and is none behind that of a name
+-- one more fault of a field or of a name changes nothing before one of a field
 field_again : (c : Option RowFault) → (worse (Some Field) (worse (Some Field) c) ≡ worse (Some Field) c) × (worse (Some Name) (worse (Some Field) c) ≡ worse (Some Field) c)
 field_again None = (refl, refl)
 field_again (Some Syntax) = (refl, refl)
@@ -55,7 +55,7 @@ worse-more (Some Name) (Some Field) c h = sym (field_again c).1
 worse-more (Some Name) (Some Name) None h = refl
 worse-more (Some Name) (Some Name) (Some other) h = refl
 
-never_memory : (row known named : Bool) → row_fault row (value_fault known named) ≢ Some Memory
+never_memory : (row known named : Bool) → test_fault row known named ≢ Some Memory
 never_memory true true true e = absurd cc
 never_memory true true false e = absurd cc
 never_memory true false named e = absurd cc
@@ -75,7 +75,7 @@ worse-clear (Some Name) None h = absurd cc
 worse-clear (Some Name) (Some other) h = absurd cc
 
 -- the tests of two parts are those of both together
-worse_rows : (r1 l1 h1 r2 l2 h2 : Bool) → worse (row_fault r1 (value_fault l1 h1)) (row_fault r2 (value_fault l2 h2)) ≡ row_fault (r1 && r2) (value_fault (l1 && l2) (h1 && h2))
+worse_rows : (r1 l1 h1 r2 l2 h2 : Bool) → worse (test_fault r1 l1 h1) (test_fault r2 l2 h2) ≡ test_fault (r1 && r2) (l1 && l2) (h1 && h2)
 worse_rows false l1 h1 r2 l2 h2 = refl
 worse_rows true false h1 false l2 h2 = refl
 worse_rows true true true false l2 h2 = refl
@@ -89,7 +89,7 @@ worse_rows true true false true true true = refl
 worse_rows true true false true true false = refl
 
 bodies_fault : (bodies : List (List ℕ)) → fault_of_bodies bodies
-    ≡ row_fault (list_all (λ body. is_body_row (body_fields body)) bodies) (value_fault (list_all (λ body. is_body (body_fields body)) bodies) (list_all (λ body. has_body_names (body_fields body)) bodies))
+    ≡ test_fault (list_all (λ body. is_body_row (body_fields body)) bodies) (list_all (λ body. is_body (body_fields body)) bodies) (list_all (λ body. has_body_names (body_fields body)) bodies)
 bodies_fault [] = refl
 bodies_fault (body ∷ bodies) =
     rw (bodies_fault bodies) (worse_rows (is_body_row (body_fields body)) (is_body (body_fields body)) (has_body_names (body_fields body)) _ _ _)
@@ -115,21 +115,17 @@ few_entries n on_a_line (a ∷ b ∷ []) h = rw (and_false on_a_line) refl
 few_entries n on_a_line (a ∷ b ∷ c ∷ []) h = rw (and_false on_a_line) refl
 few_entries n on_a_line (a ∷ b ∷ c ∷ d ∷ es) h = absurd (omega arith)
 
--- what is wrong with the label of entries
-abbrev pub label_of : Bool → List (List ℕ) → Option RowFault
-label_of on_a_line es = row_fault (on_a_line && is_label es) (value_fault (is_known es) (is_named es))
-
-pub entries_fault : (n : ℕ) (on_a_line : Bool) (es : List (Bor (List ℕ))) (fault : RowFault) (label : Option RowFault) → 4 ≤ length es → label ≡ label_of on_a_line (texts es)
+pub entries_fault : (n : ℕ) (on_a_line : Bool) (es : List (Bor (List ℕ))) (fault : RowFault) (label : Option RowFault) → 4 ≤ length es → label ≡ fault_of_label on_a_line (texts es)
     → bodies_reading (place_of n) label (texts (take (length es - 4) (drop 4 es))) ≡ Err fault → entries_reading n on_a_line (texts es) ≡ Err fault
 entries_fault n on_a_line [] fault label h is r = absurd (omega arith)
 entries_fault n on_a_line (a ∷ []) fault label h is r = absurd (omega arith)
 entries_fault n on_a_line (a ∷ b ∷ []) fault label h is r = absurd (omega arith)
 entries_fault n on_a_line (a ∷ b ∷ c ∷ []) fault label h is r = absurd (omega arith)
 entries_fault n on_a_line (a ∷ b ∷ c ∷ d ∷ es) fault label h is r =
-    let found = read_none (worse (label_of on_a_line (texts (a ∷ b ∷ c ∷ d ∷ es))) (fault_of_bodies (texts es))) (lines_in (place_of n) (texts es)) fault (rw (take_rest (a ∷ b ∷ c ∷ d ∷ es) 4, is) at r) in
+    let found = read_none (worse (fault_of_label on_a_line (texts (a ∷ b ∷ c ∷ d ∷ es))) (fault_of_bodies (texts es))) (lines_in (place_of n) (texts es)) fault (rw (take_rest (a ∷ b ∷ c ∷ d ∷ es) 4, is) at r) in
     ap (λ (x : Option RowFault). device_unless x (device_in n (texts (a ∷ b ∷ c ∷ d ∷ es)))) found
 
-pub entries_read : (n : ℕ) (on_a_line : Bool) (es : List (Bor (List ℕ))) (k e : Bor (List ℕ)) (lines : List Line) (label : Option RowFault) → 4 ≤ length es → label ≡ label_of on_a_line (texts es)
+pub entries_read : (n : ℕ) (on_a_line : Bool) (es : List (Bor (List ℕ))) (k e : Bor (List ℕ)) (lines : List Line) (label : Option RowFault) → 4 ≤ length es → label ≡ fault_of_label on_a_line (texts es)
     → bodies_reading (place_of n) label (texts (take (length es - 4) (drop 4 es))) ≡ Ok lines
     → entries_reading n on_a_line (texts es) ≡ Ok (record { name = (slice_index_or es 0 k).now; ro = is_ro (slice_index_or es 3 e).now; lines = lines; at = place_of n })
 entries_read n on_a_line [] k e lines label h is r = absurd (omega arith)
@@ -137,11 +133,11 @@ entries_read n on_a_line (a ∷ []) k e lines label h is r = absurd (omega arith
 entries_read n on_a_line (a ∷ b ∷ []) k e lines label h is r = absurd (omega arith)
 entries_read n on_a_line (a ∷ b ∷ c ∷ []) k e lines label h is r = absurd (omega arith)
 entries_read n on_a_line (a ∷ b ∷ c ∷ d ∷ es) k e lines label h is r =
-    let v = read_value (worse (label_of on_a_line (texts (a ∷ b ∷ c ∷ d ∷ es))) (fault_of_bodies (texts es))) (lines_in (place_of n) (texts es)) lines (rw (take_rest (a ∷ b ∷ c ∷ d ∷ es) 4, is) at r) in
+    let v = read_value (worse (fault_of_label on_a_line (texts (a ∷ b ∷ c ∷ d ∷ es))) (fault_of_bodies (texts es))) (lines_in (place_of n) (texts es)) lines (rw (take_rest (a ∷ b ∷ c ∷ d ∷ es) 4, is) at r) in
     rw (v.0, v.1) refl
 
 -- the first entry is a name where lines are read
-pub entries_named : (n : ℕ) (on_a_line : Bool) (es : List (Bor (List ℕ))) (k : Bor (List ℕ)) (bodies : List (List ℕ)) (lines : List Line) (label : Option RowFault) → 4 ≤ length es → label ≡ label_of on_a_line (texts es)
+pub entries_named : (n : ℕ) (on_a_line : Bool) (es : List (Bor (List ℕ))) (k : Bor (List ℕ)) (bodies : List (List ℕ)) (lines : List Line) (label : Option RowFault) → 4 ≤ length es → label ≡ fault_of_label on_a_line (texts es)
     → bodies_reading (place_of n) label bodies ≡ Ok lines → is_device_name (slice_index_or es 0 k).now ≡ true
 entries_named n on_a_line [] k bodies lines label h is r = absurd (omega arith)
 entries_named n on_a_line (a ∷ []) k bodies lines label h is r = absurd (omega arith)

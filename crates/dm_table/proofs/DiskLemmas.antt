@@ -16,17 +16,17 @@ use Rattle.dm_table.specs.Fields.{texts, parts_at, lines_of, rest_of, fields}
 use Rattle.dm_table.specs.LoadFault.{Answers, first_fault, faults_from, unless, is_printable, not_text, unended, row_checks}
 use Rattle.dm_table.specs.Parsed.{IsParsed}
 use Rattle.dm_table.specs.DiskList.{disk_line, AreListed, DescribesDisks, is_pair, has_sectors, has_name, second, disk_checks, disk_of, disk_reading, disks_from, read_disks}
-use Rattle.dm_table.specs.Reading.{line_checks, with_lines}
+use Rattle.dm_table.specs.Reading.{with_rows}
 use Rattle.dm_table.proofs.NumberLemmas.{Spells-number_of, number_of-decimal, decimal_digits, decimal_some, Some-is_some}
 use Rattle.dm_table.proofs.ByteLemmas.{is_shown, list_all-both, disk_name_parts, is_shown-clear, is_shown-digits, is_shown-printed, digits-clear, plain-disk_name}
 use Rattle.dm_table.proofs.FieldLemmas.{IsClearOf, parts_at-first, parts_at-clear, join-parts_at, lines_of-whole, parts_at-lines, lines_of-lines, rest_of-lines}
-use Rattle.dm_table.proofs.FaultLemmas.{first_or-none, first_fault-all, faults_from-nil, faults_from-good, append-nil_both, row_checks-map, unended-nil}
+use Rattle.dm_table.proofs.FaultLemmas.{first_or-none, first_fault-all, faults_from-nil, faults_from-good, append-nil_both, unended-nil}
 use Rattle.dm_table.proofs.Parsing.{parsed}
 use denote.Ref.{Bor}
 
--- the disks after one more line
-abbrev with_disk : List Disk → ℕ → List ℕ → List Disk
-with_disk disks n line = disks ++ disk_of n (fields line) ∷ []
+-- the disks after one more row
+abbrev with_disk : List Disk → ℕ → List (List ℕ) → List Disk
+with_disk disks n row = disks ++ disk_of n row ∷ []
 
 -- the tests of the checks
 
@@ -171,19 +171,16 @@ read_as_promised text answer h = parsed Disks (DescribesDisks text) (disk_checks
 pub DescribesDisks-unique : (text : List ℕ) (a b : List Disk) → DescribesDisks text a → DescribesDisks text b → a ≡ b
 DescribesDisks-unique text a b is_a is_b = sym (again text a is_a).1 ∙ (again text b is_b).1
 
--- Line by line
+-- Row by row
 
--- each line adds its disk
-disks_after : (disks : List Disk) (n : ℕ) (lines : List (List ℕ)) → with_lines with_disk disks n lines ≡ disks ++ disks_from n (map fields lines)
+-- each row adds its disk
+disks_after : (disks : List Disk) (n : ℕ) (rows : List (List (List ℕ))) → with_rows with_disk disks n rows ≡ disks ++ disks_from n rows
 disks_after disks n [] = sym (append-nil disks)
-disks_after disks n (line ∷ lines) =
-    disks_after (disks ++ disk_of n (fields line) ∷ []) (suc n) lines ∙ append_assoc disks (disk_of n (fields line) ∷ []) (disks_from (suc n) (map fields lines))
+disks_after disks n (row ∷ rows) = disks_after (disks ++ disk_of n row ∷ []) (suc n) rows ∙ append_assoc disks (disk_of n row ∷ []) (disks_from (suc n) rows)
 
-pub read_disks-lines : (text : List ℕ) → unless (first_fault (line_checks Disks (λ line. is_pair (fields line)) (λ line. has_sectors (fields line)) (λ line. has_name (fields line)) text)) (with_lines with_disk [] 1 (lines_of text)) ≡ read_disks text
+pub read_disks-rows : (text : List ℕ) → unless (first_fault (disk_checks text)) (with_rows with_disk [] 1 (map fields (lines_of text))) ≡ read_disks text
 unfolding read_disks
-read_disks-lines text =
-    ap (λ (checks : List (List LoadFault)). unless (first_fault (not_text Disks (parts_at 10 text) ∷ checks)) (with_lines with_disk [] 1 (lines_of text))) (row_checks-map Disks is_pair has_sectors has_name fields (lines_of text) (rest_of text))
-    ∙ ap (unless (first_fault (disk_checks text))) (disks_after [] 1 (lines_of text))
+read_disks-rows text = ap (unless (first_fault (disk_checks text))) (disks_after [] 1 (map fields (lines_of text)))
 
 -- a row of another number of fields says no disk
 pub not_pair : (n : ℕ) (row : List (Bor (List ℕ))) → length row ≢ 2 → disk_reading n (texts row) ≡ Err rows.Syntax

@@ -1,15 +1,14 @@
 -- Checks that find something, and checks that find nothing.
-use Rattle.std.proofs.Common.{◌≡◌, ◌≢◌, ◌≤◌, length, arith, inl, inr, ℕ, suc, Bool, true, false, not, cond, List, [], ◌∷◌, ◌++◌, map, Option, Some, None, Result, Ok, Err, refl, ap, ◌∙◌}
+use Rattle.std.proofs.Common.{◌≡◌, ◌≢◌, ◌≤◌, length, arith, inl, inr, ℕ, suc, Bool, true, false, cond, List, [], ◌∷◌, ◌++◌, Option, Some, None, Result, Ok, Err, refl, ap, ◌∙◌}
 use Rattle.std.specs.List.{AllByRecursion}
 use Rattle.std.proofs.lemmas.Bool.{cases_Bool}
-use Rattle.std.proofs.lemmas.List.{length-map}
 use Rattle.dm_table.specs.declared.place.Part.{Part}
 use Rattle.dm_table.specs.declared.place.Part.TheVariants.{Source, Disks}
 use Rattle.dm_table.specs.declared.load_fault.LoadKind.{LoadKind}
-use Rattle.dm_table.specs.declared.load_fault.LoadKind.TheVariants.{Syntax, Field, Name, Memory}
+use Rattle.dm_table.specs.declared.load_fault.LoadKind.TheVariants.{Memory}
 use Rattle.dm_table.specs.declared.load_fault.LoadFault.{LoadFault}
 use Rattle.dm_table.specs.LoadMessage.{part_word}
-use Rattle.dm_table.specs.LoadFault.{Answers, fault_at, first_or, first_fault, faults_from, row_checks, unless, unended}
+use Rattle.dm_table.specs.LoadFault.{Answers, fault_at, first_or, first_fault, faults_from, unless, unended}
 
 -- One check before others
 
@@ -38,18 +37,6 @@ first_fault-all [] h = refl
 first_fault-all (check ∷ checks) h = ap (λ (found : List LoadFault). first_or found (first_fault checks)) h.0 ∙ first_fault-all checks h.1
 
 -- What one check finds
-
--- the elements of a mapped list
-pub faults_from-map : {X Y : Type 0} (part : Part) (kind : LoadKind) (bad : Y → Bool) (f : X → Y) (n : ℕ) (xs : List X)
-    → faults_from part kind bad n (map f xs) ≡ faults_from part kind (λ x. bad (f x)) n xs
-faults_from-map part kind bad f n [] = refl
-faults_from-map part kind bad f n (x ∷ xs) = rw (faults_from-map part kind bad f (suc n) xs) refl
-
--- the checks of rows, over what the rows are of
-pub row_checks-map : {X Y : Type 0} (part : Part) (is_row has_values has_names : Y → Bool) (f : X → Y) (xs : List X) (rest : List ℕ)
-    → row_checks part (λ x. is_row (f x)) (λ x. has_values (f x)) (λ x. has_names (f x)) xs rest ≡ row_checks part is_row has_values has_names (map f xs) rest
-row_checks-map part is_row has_values has_names f xs rest =
-    rw (faults_from-map part Syntax (λ y. not (is_row y)) f 1 xs, faults_from-map part Field (λ y. not (has_values y)) f 1 xs, faults_from-map part Name (λ y. not (has_names y)) f 1 xs, length-map) refl
 
 cond-nil : (b : Bool) (fault : LoadFault) (faults : List LoadFault) → cond b (fault ∷ faults) faults ≡ [] → (b ≡ false) × (faults ≡ [])
 cond-nil true fault faults e = absurd cc

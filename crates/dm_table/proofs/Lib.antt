@@ -18,7 +18,7 @@ pub mod TargetRows
 pub mod Growth
 pub mod ProgressLaws
 pub mod RowFaultLemmas
-pub mod ReadLines
+pub mod ReadRows
 pub mod WriteLemmas
 pub mod BlockLemmas
 pub mod CanonicalTable

@@ -9,7 +9,7 @@ use Rattle.dm_table.specs.declared.row_faults.RowFault.{RowFault}
 use Rattle.dm_table.specs.declared.row_faults.RowFault.TheVariants as rows
 use Rattle.dm_table.specs.declared.row_faults.FirstFaults.{FirstFaults}
 use Rattle.dm_table.specs.LoadFault.{Answers, fault_at, first_or, first_fault, faults_from, row_checks, unended, unless}
-use Rattle.dm_table.specs.RowFaults.{Reads, value_fault, row_fault, read_unless, fault_in, no_faults, either, noted, noted_at, noted_rows, noted_rest, first_noted}
+use Rattle.dm_table.specs.RowFaults.{Reads, test_fault, row_fault, read_unless, fault_in, no_faults, either, noted, noted_at, noted_rows, noted_rest, first_noted}
 use Rattle.dm_table.proofs.FaultLemmas.{Answers-unless, faults_from-text, first_fault-text, text-append, unended-text}
 use Rattle.dm_table.proofs.TargetRows.{read_none, read_value}
 
@@ -32,12 +32,12 @@ last_rest part seen n (byte ∷ bytes) = either_more seen.syntax (fault_at part 
 
 -- the tests of rows: that a row is one, its values, and its names
 pub noted_all : {X : Type 0} (part : Part) (is_row is_line has_names : X → Bool) (seen : FirstFaults) (n : ℕ) (rows : List X) (rest : List ℕ)
-    → first_noted (noted_rest part (noted_rows part (λ x. row_fault (is_row x) (value_fault (is_line x) (has_names x))) seen n rows) (n + length rows) rest)
+    → first_noted (noted_rest part (noted_rows part (row_fault is_row is_line has_names) seen n rows) (n + length rows) rest)
     ≡ joined_faults seen (faults_from part Syntax (λ x. not (is_row x)) n rows ++ unended part (n + length rows) rest) (faults_from part Field (λ x. not (is_line x)) n rows) (faults_from part Name (λ x. not (has_names x)) n rows)
 noted_all part is_row is_line has_names seen n [] rest = last_rest part seen (n + 0) rest
 noted_all part is_row is_line has_names seen n (x ∷ xs) rest =
     let place : n + suc (length xs) ≡ suc n + length xs = omega arith in
-    let more = noted_all part is_row is_line has_names (noted_at part seen n (row_fault (is_row x) (value_fault (is_line x) (has_names x)))) (suc n) xs rest in
+    let more = noted_all part is_row is_line has_names (noted_at part seen n (row_fault is_row is_line has_names x)) (suc n) xs rest in
     let syntax = faults_from part Syntax (λ x. not (is_row x)) (suc n) xs ++ unended part (suc n + length xs) rest in
     let field = faults_from part Field (λ x. not (is_line x)) (suc n) xs in
     let name = faults_from part Name (λ x. not (has_names x)) (suc n) xs in
@@ -54,7 +54,7 @@ noted_all part is_row is_line has_names seen n (x ∷ xs) rest =
 
 -- from the first row on, with nothing kept before
 pub noted_checks : {X : Type 0} (part : Part) (is_row is_line has_names : X → Bool) (rows : List X) (rest : List ℕ)
-    → first_noted (noted_rest part (noted_rows part (λ x. row_fault (is_row x) (value_fault (is_line x) (has_names x))) no_faults 1 rows) (length rows + 1) rest)
+    → first_noted (noted_rest part (noted_rows part (row_fault is_row is_line has_names) no_faults 1 rows) (length rows + 1) rest)
     ≡ first_fault (row_checks part is_row is_line has_names rows rest)
 noted_checks part is_row is_line has_names rows rest =
     let place : length rows + 1 ≡ 1 + length rows = omega arith in
@@ -63,7 +63,7 @@ noted_checks part is_row is_line has_names rows rest =
 -- What the kept faults say: none of them is of memory, and the first of them is that of the checks
 
 pub noted_refused : {X : Type 0} (part : Part) (is_row is_line has_names : X → Bool) (rows : List X) (rest : List ℕ) (fault : LoadFault)
-    → first_noted (noted_rest part (noted_rows part (λ x. row_fault (is_row x) (value_fault (is_line x) (has_names x))) no_faults 1 rows) (length rows + 1) rest) ≡ Some fault
+    → first_noted (noted_rest part (noted_rows part (row_fault is_row is_line has_names) no_faults 1 rows) (length rows + 1) rest) ≡ Some fault
     → (fault.kind ≢ Memory) × (first_fault (row_checks part is_row is_line has_names rows rest) ≡ Some fault)
 noted_refused part is_row is_line has_names rows rest fault h =
     let found : first_fault (row_checks part is_row is_line has_names rows rest) ≡ Some fault = sym (noted_checks part is_row is_line has_names rows rest) ∙ h in
@@ -74,7 +74,7 @@ noted_refused part is_row is_line has_names rows rest fault h =
 
 -- what is read of rows one by one is what their checks and their values give
 pub rows_answer : {X Y : Type 0} (part : Part) (is_row is_line has_names : X → Bool) (rows : List X) (rest : List ℕ) (seen : FirstFaults) (values : Vec Y) (all : List Y) (answer : Result (Vec Y) LoadFault)
-    → answer ≡ unless (first_noted seen) values → seen ≡ noted_rest part (noted_rows part (λ x. row_fault (is_row x) (value_fault (is_line x) (has_names x))) no_faults 1 rows) (length rows + 1) rest
+    → answer ≡ unless (first_noted seen) values → seen ≡ noted_rest part (noted_rows part (row_fault is_row is_line has_names) no_faults 1 rows) (length rows + 1) rest
     → (first_noted seen ≡ None → values.items ≡ all) → Answers part (λ v. v.items) answer (unless (first_fault (row_checks part is_row is_line has_names rows rest)) all)
 rows_answer {Y = Y} part is_row is_line has_names rows rest seen values all answer is kept read =
     let noted = ap first_noted kept in
@@ -85,18 +85,18 @@ rows_answer {Y = Y} part is_row is_line has_names rows rest seen values all answ
 -- One row
 
 -- a row without a fault has its names
-pub names_true : (is_row is_line has_names : Bool) → row_fault is_row (value_fault is_line has_names) ≡ None → has_names ≡ true
+pub names_true : (is_row is_line has_names : Bool) → test_fault is_row is_line has_names ≡ None → has_names ≡ true
 names_true true true true h = refl
 names_true true true false h = absurd cc
 names_true true false has_names h = absurd cc
 names_true false is_line has_names h = absurd cc
 
--- what was read of a row that is that of a line
-pub row_taken : {X : Type 0} (found : List (List ℕ) → Option RowFault) (value : List (List ℕ) → X) (cut row : List (List ℕ)) (x : X) → cut ≡ row → read_unless (found cut) (value cut) ≡ Ok x → (read_unless (found row) (tt {0}) ≡ Ok (tt {0})) × (x ≡ value row)
-row_taken found value cut row x is h = let a = read_value (found row) (value row) x (rw is at h) in (rw a.0 refl, sym a.1)
+-- a row is read where its value is
+pub row_taken : {X : Type 0} (found : Option RowFault) (value x : X) → read_unless found value ≡ Ok x → (read_unless found (tt {0}) ≡ Ok (tt {0})) × (x ≡ value)
+row_taken found value x h = let a = read_value found value x h in (rw a.0 refl, sym a.1)
 
-pub row_refused : {X : Type 0} (found : List (List ℕ) → Option RowFault) (value : List (List ℕ) → X) (cut row : List (List ℕ)) (fault : RowFault) → cut ≡ row → read_unless (found cut) (value cut) ≡ Err fault → read_unless (found row) (tt {0}) ≡ Err fault
-row_refused found value cut row fault is h = let a = read_none (found row) (value row) fault (rw is at h) in rw a refl
+pub row_refused : {X : Type 0} (found : Option RowFault) (value : X) (fault : RowFault) → read_unless found value ≡ Err fault → read_unless found (tt {0}) ≡ Err fault
+row_refused found value fault h = rw (read_none found value fault h) refl
 
 -- what is wrong with a row is why it was not read, where memory is left
 pub found_read : (read : Result (Unit {0}) RowFault) (found : Option RowFault) → Reads (λ done. done) read (read_unless found tt) → fault_in read ≢ Some rows.Memory → found ≡ fault_in read

@@ -13,7 +13,7 @@ use Rattle.dm_table.specs.declared.place.Part.TheVariants.{Source}
 use Rattle.dm_table.specs.declared.row_faults.RowFault.{RowFault}
 use Rattle.dm_table.specs.declared.row_faults.RowFault.TheVariants.{Syntax, Name}
 use Rattle.dm_table.specs.Name.{is_device_name}
-use Rattle.dm_table.specs.RowFaults.{value_fault, fault_in}
+use Rattle.dm_table.specs.RowFaults.{test_fault, fault_in}
 use Rattle.dm_table.specs.LineBody.{is_body_row, Body, body_in, has_target_names}
 use Rattle.dm_table.specs.LineReading.{line_at, line_in, reading_of, body_reading}
 use Rattle.dm_table.specs.TableText.{NamedLine, name_in, is_row}
@@ -74,7 +74,7 @@ with_label label line = record { name = name_in label; line = line }
 
 -- what is wrong with a row is what its tests say
 label_found : (n : ℕ) (label : List ℕ) (o : Option Body) → fault_in (reading_of has_line_names (option_map (with_label label) (option_map (line_at (place n)) o)))
-    ≡ value_fault (is_some o) (is_device_name (name_in label) && unwrap_or (option_map (λ body. has_target_names body.len body.target) o) true)
+    ≡ test_fault true (is_some o) (is_device_name (name_in label) && unwrap_or (option_map (λ body. has_target_names body.len body.target) o) true)
 label_found n label None = refl
 label_found n label (Some body) = elim (cases_Bool (is_device_name (name_in label) && has_target_names body.len body.target)) [
   | inl e ↦ rw e refl

@@ -7,19 +7,16 @@ use Rattle.std.proofs.lemmas.Bool.{and_parts, cases_Bool}
 use Rattle.std.proofs.lemmas.List.{append-nil}
 use Rattle.dm_table.specs.declared.table.Line.{Line}
 use Rattle.dm_table.specs.declared.table.DeviceSpec.{DeviceSpec}
-use Rattle.dm_table.specs.declared.place.Part.TheVariants.{Source}
 use Rattle.std.specs.declared.alloc.AllocError.{AllocError}
 use Rattle.dm_table.specs.Name.{is_device_name}
 use Rattle.dm_table.specs.declared.row_faults.RowFault.{RowFault}
 use Rattle.dm_table.specs.RowFaults.{read_unless}
-use Rattle.dm_table.specs.declared.load_fault.LoadFault.{LoadFault}
-use Rattle.dm_table.specs.Fields.{parts_at, lines_of, rest_of, row_fields}
-use Rattle.dm_table.specs.LoadFault.{first_fault, not_text, unless}
-use Rattle.dm_table.specs.Reading.{line_checks, with_lines}
+use Rattle.dm_table.specs.Fields.{lines_of}
+use Rattle.dm_table.specs.LoadFault.{first_fault, unless}
+use Rattle.dm_table.specs.Reading.{with_rows}
 use Rattle.dm_table.specs.LineBody.{has_target_names}
-use Rattle.dm_table.specs.TableText.{NamedLine, is_row, is_line, has_names, table_checks}
+use Rattle.dm_table.specs.TableText.{NamedLine, table_checks}
 use Rattle.dm_table.specs.TableReading.{named_in, named_from, alone, join_line, joined, add_line, add_said, fault_of_row, row_reading, rows_of, read_table}
-use Rattle.dm_table.proofs.FaultLemmas.{row_checks-map}
 use Rattle.dm_table.proofs.TableGroups.{same_name, is_same_name, other_name, is_other_name}
 use Rattle.dm_table.proofs.TableFields.{row_fault_is, row_taken}
 use Rattle.dm_table.proofs.TargetRows.{read_ok}
@@ -82,27 +79,25 @@ joined_more : (ns : List NamedLine) (named : NamedLine) → add_line (joined ns)
 joined_more [] named = refl
 joined_more (one ∷ ns) named = add_join one (joined ns) named ∙ ap (join_line one) (joined_more ns named)
 
--- Lines one after the other
+-- Rows one after the other
 
--- the devices after what one more line says
-abbrev with_named : List DeviceSpec → ℕ → List ℕ → List DeviceSpec
-with_named devices n line = add_said devices (named_in n (row_fields line))
+-- the devices after what one more row says
+abbrev with_named : List DeviceSpec → ℕ → List (List ℕ) → List DeviceSpec
+with_named devices n row = add_said devices (named_in n row)
 
-one_joined : (ns : List NamedLine) (n : ℕ) (lines : List (List ℕ)) (said : Option NamedLine) → ((more : List NamedLine) → with_lines with_named (joined more) n lines ≡ joined (more ++ named_from n (rows_of lines)))
-    → with_lines with_named (add_said (joined ns) said) n lines ≡ joined (ns ++ cons_option said (named_from n (rows_of lines)))
-one_joined ns n lines None later = later ns
-one_joined ns n lines (Some named) later =
-    rw (joined_more ns named) (later (ns ++ named ∷ []) ∙ ap joined (append_assoc ns (named ∷ []) (named_from n (rows_of lines))))
+one_joined : (ns : List NamedLine) (n : ℕ) (rows : List (List (List ℕ))) (said : Option NamedLine) → ((more : List NamedLine) → with_rows with_named (joined more) n rows ≡ joined (more ++ named_from n rows))
+    → with_rows with_named (add_said (joined ns) said) n rows ≡ joined (ns ++ cons_option said (named_from n rows))
+one_joined ns n rows None later = later ns
+one_joined ns n rows (Some named) later =
+    rw (joined_more ns named) (later (ns ++ named ∷ []) ∙ ap joined (append_assoc ns (named ∷ []) (named_from n rows)))
 
-lines_joined : (ns : List NamedLine) (n : ℕ) (lines : List (List ℕ)) → with_lines with_named (joined ns) n lines ≡ joined (ns ++ named_from n (rows_of lines))
-lines_joined ns n [] = ap joined (sym (append-nil ns))
-lines_joined ns n (line ∷ lines) = one_joined ns (suc n) lines (named_in n (row_fields line)) (λ more. lines_joined more (suc n) lines)
+rows_joined : (ns : List NamedLine) (n : ℕ) (rows : List (List (List ℕ))) → with_rows with_named (joined ns) n rows ≡ joined (ns ++ named_from n rows)
+rows_joined ns n [] = ap joined (sym (append-nil ns))
+rows_joined ns n (row ∷ rows) = one_joined ns (suc n) rows (named_in n row) (λ more. rows_joined more (suc n) rows)
 
-pub read_table-lines : (text : List ℕ) → unless (first_fault (line_checks Source (λ line. is_row (row_fields line)) (λ line. is_line (row_fields line)) (λ line. has_names (row_fields line)) text)) (with_lines with_named [] 1 (lines_of text)) ≡ read_table text
+pub read_table-rows : (text : List ℕ) → unless (first_fault (table_checks text)) (with_rows with_named [] 1 (rows_of (lines_of text))) ≡ read_table text
 unfolding read_table
-read_table-lines text =
-    ap (λ (checks : List (List LoadFault)). unless (first_fault (not_text Source (parts_at 10 text) ∷ checks)) (with_lines with_named [] 1 (lines_of text))) (row_checks-map Source is_row is_line has_names row_fields (lines_of text) (rest_of text))
-    ∙ ap (unless (first_fault (table_checks text))) (lines_joined [] 1 (lines_of text))
+read_table-rows text = ap (unless (first_fault (table_checks text))) (rows_joined [] 1 (rows_of (lines_of text)))
 
 -- the name of a row that is read is one of a device
 pub read_named : (n : ℕ) (row : List (List ℕ)) (named : NamedLine) → row_reading n row ≡ Ok named → is_device_name named.name ≡ true
@@ -111,14 +106,13 @@ read_named n row named h =
     let same : taken.named ≡ named = read_ok taken.named named (sym taken.read ∙ h) in
     rw (← same) (and_parts (is_device_name taken.named.name) (has_target_names taken.named.line.len taken.named.line.target) taken.names).0
 
--- what was read of a row that is that of a line
-pub line_taken : (n : ℕ) (cut row : List (List ℕ)) (named : NamedLine) → cut ≡ row → row_reading n cut ≡ Ok named → (read_unless (fault_of_row row) (tt {0}) ≡ Ok (tt {0})) × (named_in n row ≡ Some named)
-line_taken n cut row named is h =
-    let reading : row_reading n row ≡ Ok named = rw is at h in
-    let clear : fault_of_row row ≡ None = row_fault_is n row (Ok named) reading in
+-- what is wrong with a row, where it was read and where not
+pub line_taken : (n : ℕ) (row : List (List ℕ)) (named : NamedLine) → row_reading n row ≡ Ok named → (read_unless (fault_of_row row) (tt {0}) ≡ Ok (tt {0})) × (named_in n row ≡ Some named)
+line_taken n row named h =
+    let clear : fault_of_row row ≡ None = row_fault_is n row (Ok named) h in
     let taken = row_taken n row clear in
-    let same : taken.named ≡ named = read_ok taken.named named (sym taken.read ∙ reading) in
+    let same : taken.named ≡ named = read_ok taken.named named (sym taken.read ∙ h) in
     (rw clear refl, taken.said ∙ ap Some same)
 
-pub line_refused : (n : ℕ) (cut row : List (List ℕ)) (fault : RowFault) → cut ≡ row → row_reading n cut ≡ Err fault → read_unless (fault_of_row row) (tt {0}) ≡ Err fault
-line_refused n cut row fault is h = let found : fault_of_row row ≡ Some fault = row_fault_is n row (Err fault) (rw is at h) in rw found refl
+pub line_refused : (n : ℕ) (row : List (List ℕ)) (fault : RowFault) → row_reading n row ≡ Err fault → read_unless (fault_of_row row) (tt {0}) ≡ Err fault
+line_refused n row fault h = let found : fault_of_row row ≡ Some fault = row_fault_is n row (Err fault) h in rw found refl

@@ -10,7 +10,7 @@ use Rattle.dm_table.specs.declared.load_fault.LoadFault.{LoadFault}
 use Rattle.dm_table.specs.declared.row_faults.RowFault.{RowFault}
 use Rattle.dm_table.specs.declared.row_faults.RowFault.TheVariants.{Syntax, Field, Name}
 use Rattle.dm_table.specs.LoadFault.{first_fault, row_checks, unless}
-use Rattle.dm_table.specs.RowFaults.{value_fault, row_fault, read_unless}
+use Rattle.dm_table.specs.RowFaults.{row_fault, read_unless}
 use Rattle.dm_table.specs.LineBody.{is_body_row, is_body, has_body_names}
 use Rattle.dm_table.specs.LineReading.{line_in}
 use Rattle.dm_table.specs.ConciseText.{place_of, is_ro, entries, body_fields, is_label, is_known, is_named, is_device, has_values, has_names, devices_of, concise_checks}
@@ -24,7 +24,7 @@ worse (Some fault) other = Some fault
 
 -- what is wrong with a body, and with bodies
 abbrev pub fault_of_body : List ℕ → Option RowFault
-fault_of_body text = let fields = body_fields text in row_fault (is_body_row fields) (value_fault (is_body fields) (has_body_names fields))
+fault_of_body text = row_fault is_body_row is_body has_body_names (body_fields text)
 
 abbrev pub fault_of_bodies : List (List ℕ) → Option RowFault
 fault_of_bodies [] = None
@@ -34,14 +34,18 @@ fault_of_bodies (text ∷ texts) = worse (fault_of_body text) (fault_of_bodies t
 abbrev pub lines_in : Place → List (List ℕ) → List Line
 lines_in at texts = filter_map (λ text. line_in at (body_fields text)) texts
 
+-- what is wrong with the label of entries, whether or not they stand on one line
+abbrev pub fault_of_label : Bool → List (List ℕ) → Option RowFault
+fault_of_label on_a_line entries = row_fault (λ es. on_a_line && is_label es) is_known is_named entries
+
 -- what is wrong with entries, whether or not they stand on one line
 abbrev pub fault_of_entries : Bool → List (List ℕ) → Option RowFault
 fault_of_entries on_a_line entries =
-    worse (row_fault (on_a_line && is_label entries) (value_fault (is_known entries) (is_named entries))) (fault_of_bodies (drop 4 entries))
+    worse (fault_of_label on_a_line entries) (fault_of_bodies (drop 4 entries))
 
 -- what is wrong with a device
 abbrev pub fault_of_device : List ℕ → Option RowFault
-fault_of_device text = row_fault (is_device text) (value_fault (has_values text) (has_names text))
+fault_of_device text = row_fault is_device has_values has_names text
 
 -- the device that entries say, as number n
 abbrev pub device_in : ℕ → List (List ℕ) → Option DeviceSpec

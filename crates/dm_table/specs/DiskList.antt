@@ -6,10 +6,11 @@ use Rattle.dm_table.specs.declared.place.Part.TheVariants.{Disks}
 use Rattle.dm_table.specs.declared.load_fault.LoadFault.{LoadFault}
 use Rattle.dm_table.specs.Name.{is_disk_name}
 use Rattle.dm_table.specs.Number.{number_of}
-use Rattle.dm_table.specs.Fields.{fields, parts_at, lines_of, rest_of}
+use Rattle.dm_table.specs.Fields.{fields, lines_of}
 use Rattle.dm_table.specs.declared.row_faults.RowFault.{RowFault}
-use Rattle.dm_table.specs.RowFaults.{read_unless, row_fault, value_fault}
-use Rattle.dm_table.specs.LoadFault.{first_fault, not_text, row_checks, unless}
+use Rattle.dm_table.specs.RowFaults.{read_unless, row_fault}
+use Rattle.dm_table.specs.LoadFault.{first_fault, unless}
+use Rattle.dm_table.specs.Reading.{line_checks}
 
 -- What a list says
 
@@ -57,7 +58,7 @@ has_name row = is_disk_name (first row)
 
 -- the checks of a list, in their order
 abbrev pub disk_checks : List ℕ → List (List LoadFault)
-disk_checks text = not_text Disks (parts_at 10 text) ∷ row_checks Disks is_pair has_sectors has_name (map fields (lines_of text)) (rest_of text)
+disk_checks text = line_checks Disks fields is_pair has_sectors has_name text
 
 -- How rows are read, for the functions that the public call stands on
 
@@ -71,7 +72,7 @@ disks_from n (row ∷ rows) = disk_of n row ∷ disks_from (suc n) rows
 
 -- what is wrong with a row, and what it says
 abbrev pub disk_fault : List (List ℕ) → Option RowFault
-disk_fault row = row_fault (is_pair row) (value_fault (has_sectors row) (has_name row))
+disk_fault row = row_fault is_pair has_sectors has_name row
 
 abbrev pub disk_reading : ℕ → List (List ℕ) → Result Disk RowFault
 disk_reading n row = read_unless (disk_fault row) (disk_of n row)

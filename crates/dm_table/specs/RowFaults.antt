@@ -8,13 +8,13 @@ use Rattle.dm_table.specs.declared.row_faults.RowFault.TheVariants.{Syntax, Fiel
 use Rattle.dm_table.specs.declared.row_faults.FirstFaults.{FirstFaults}
 use Rattle.dm_table.specs.LoadFault.{fault_at}
 
--- what is wrong with values: the first of the two tests that they fail
-abbrev pub value_fault : (known named : Bool) → Option RowFault
-value_fault known named = if known then (if named then None else Some Name) else Some Field
+-- the fault of the first of three tests that fails
+abbrev pub test_fault : (row values names : Bool) → Option RowFault
+test_fault row values names = if row then (if values then (if names then None else Some Name) else Some Field) else Some Syntax
 
--- what is wrong with a row: that it is none, or what is wrong with its values
-abbrev pub row_fault : Bool → Option RowFault → Option RowFault
-row_fault is_row values = if is_row then values else Some Syntax
+-- what is wrong with a row, by the tests of its form
+abbrev pub row_fault : {X : Type 0} → (is_row has_values has_names : X → Bool) → X → Option RowFault
+row_fault is_row has_values has_names row = test_fault (is_row row) (has_values row) (has_names row)
 
 -- the value, or the fault that was found first
 abbrev pub read_unless : {X : Type 0} → Option RowFault → X → Result X RowFault

@@ -12,7 +12,7 @@ use Rattle.dm_table.specs.declared.table_row.Row.{Row}
 use Rattle.dm_table.specs.Fields.{lines_of, row_fields}
 use Rattle.dm_table.specs.LoadFault.{first_fault, unless}
 use Rattle.dm_table.specs.Name.{is_device_name}
-use Rattle.dm_table.specs.RowFaults.{value_fault, row_fault}
+use Rattle.dm_table.specs.RowFaults.{row_fault}
 use Rattle.dm_table.specs.LineBody.{has_target_names}
 use Rattle.dm_table.specs.LineReading.{line_in, reading_of}
 use Rattle.dm_table.specs.TableText.{NamedLine, name_in, is_row, is_line, has_names, table_checks}
@@ -68,7 +68,7 @@ add_said devices (Some named) = add_line devices named
 
 -- what is wrong with a row, and what it says
 abbrev pub fault_of_row : List (List ℕ) → Option RowFault
-fault_of_row row = row_fault (is_row row) (value_fault (is_line row) (has_names row))
+fault_of_row row = row_fault is_row is_line has_names row
 
 -- the name of a line, and each in its target, is valid
 abbrev pub has_line_names : NamedLine → Bool

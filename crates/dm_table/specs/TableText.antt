@@ -7,8 +7,8 @@ use Rattle.dm_table.specs.declared.place.Place.{Place}
 use Rattle.dm_table.specs.declared.place.Part.TheVariants.{Source}
 use Rattle.dm_table.specs.declared.load_fault.LoadFault.{LoadFault}
 use Rattle.dm_table.specs.Name.{is_device_name}
-use Rattle.dm_table.specs.Fields.{row_fields, parts_at, all_but_last, last_or, lines_of, rest_of}
-use Rattle.dm_table.specs.LoadFault.{not_text, row_checks}
+use Rattle.dm_table.specs.Fields.{row_fields, all_but_last, last_or}
+use Rattle.dm_table.specs.Reading.{line_checks}
 use Rattle.dm_table.specs.LineBody.{body_text, IsBody, is_body_row, is_body, has_body_names}
 
 -- What a text says
@@ -93,4 +93,4 @@ has_names [] = false
 
 -- the checks of a text, in their order
 abbrev pub table_checks : List ℕ → List (List LoadFault)
-table_checks text = not_text Source (parts_at 10 text) ∷ row_checks Source is_row is_line has_names (map row_fields (lines_of text)) (rest_of text)
+table_checks text = line_checks Source row_fields is_row is_line has_names text

@@ -4,13 +4,13 @@
 //! A device is cut and read once. Its label and each of its bodies may have a fault; the device's is
 //! the one whose check runs first. Bodies are read by `line_body`, which knows nothing of labels.
 
-ghost use Rattle.std.specs.Prelude.{◌≡◌, ◌&&◌, ◌++◌, None, OnOk, IfOk};
+ghost use Rattle.std.specs.Prelude.{◌≡◌, ◌++◌, None, OnOk, IfOk};
 ghost use Rattle.std.specs.Option.{option_to_list};
 ghost use Rattle.dm_table.specs.Fields.{texts};
-ghost use Rattle.dm_table.specs.RowFaults.{Reads, value_fault, row_fault};
+ghost use Rattle.dm_table.specs.RowFaults.{Reads};
 ghost use Rattle.dm_table.specs.ConciseText.{lacks, is_uuid, is_minor, is_ro, is_flags, without_first_space, body_fields, is_label, is_known, is_named};
 ghost use Rattle.dm_table.specs.LineReading.{line_in};
-ghost use Rattle.dm_table.specs.ConciseReading.{worse, fault_of_body, bodies_reading, entries_reading, device_reading};
+ghost use Rattle.dm_table.specs.ConciseReading.{worse, fault_of_body, fault_of_label, bodies_reading, entries_reading, device_reading};
 
 use crate::fields::{cut_into, cut_row};
 use crate::line_body::{is_body_row, read_body};
@@ -65,7 +65,7 @@ fn read_entries<'a>(
 
 /// What is wrong with the label of entries, which stand on one line or do not.
 fn label_fault(on_a_line: bool, entries: &[&[u8]]) -> Option<RowFault>
-    ensures { result ≡ row_fault (on_a_line && is_label (texts entries.now)) (value_fault (is_known (texts entries.now)) (is_named (texts entries.now))) }
+    ensures { result ≡ fault_of_label on_a_line (texts entries.now) }
 {
     if !on_a_line || !is_label(entries) {
         Some(RowFault::Syntax)

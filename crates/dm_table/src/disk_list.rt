@@ -17,9 +17,9 @@ use crate::fields::cut_into;
 use crate::load_fault::LoadFault;
 use crate::number;
 use crate::place::{Part, Place};
-use crate::reading::{FromLines, read_lines};
+use crate::reading::{FromRows, read_lines};
 use crate::row_faults::RowFault;
-use std::alloc::Global;
+use std::alloc::{AllocError, Global};
 
 /// The disks of a disk list, in its order.
 ///
@@ -41,24 +41,28 @@ pub fn parse_disks(alloc: Global, text: &[u8]) -> Result<Vec<Disk>, LoadFault>
     read_lines(alloc, Part::Disks, text)
 }
 
-impl FromLines for Disk {
-    ghost is_row = { λ line. is_pair (fields line) };
+impl FromRows for Disk {
+    ghost row_of = { fields };
 
-    ghost has_values = { λ line. has_sectors (fields line) };
+    ghost is_row = { is_pair };
 
-    ghost has_names = { λ line. has_name (fields line) };
+    ghost has_values = { has_sectors };
 
-    ghost with_line = { λ disks n line. disks ++ disk_of n (fields line) ∷ [] };
+    ghost has_names = { has_name };
 
-    fn read_line<'a>(
+    ghost with_row = { λ disks n row. disks ++ disk_of n row ∷ [] };
+
+    fn cut<'a>(row: &mut Vec<&'a [u8]>, line: &'a [u8]) -> Result<(), AllocError> {
+        cut_into(row, b' ', line)
+    }
+
+    fn read_row(
         alloc: Global,
         disks: &mut Vec<Disk>,
-        fields: &mut Vec<&'a [u8]>,
-        line: &'a [u8],
+        row: &[&[u8]],
         number: u64,
     ) -> Result<(), RowFault> {
-        cut_into(&mut *fields, b' ', line)?;
-        disks.push(read_disk(alloc, &*fields, number)?)?;
+        disks.push(read_disk(alloc, row, number)?)?;
         Ok(())
     }
 }

@@ -1,14 +1,14 @@
 //! What was read of a text so far: the values of its rows, and what is wrong with the others.
 //!
 //! The checks of a text run one after another by their definition, so that a fault is known only at
-//! the end; a text with one has no values. A form whose rows are the lines of its texts implements
-//! `FromLines`, and `read_lines` reads them.
+//! the end; a text with one has no values. What the lines of a text are read into implements `FromRows`,
+//! and `read_lines` reads them.
 
-ghost use Rattle.std.specs.Prelude.{◌≡◌, ◌+◌, ℕ, Bool, List, [], None, Ok, IfOk, OnOk, length};
-ghost use Rattle.dm_table.specs.Fields.{lines_of, rest_of};
+ghost use Rattle.std.specs.Prelude.{◌≡◌, ◌+◌, ℕ, Bool, List, [], None, Ok, IfOk, OnOk, length, map};
+ghost use Rattle.dm_table.specs.Fields.{texts, lines_of, rest_of};
 ghost use Rattle.dm_table.specs.LoadFault.{Answers, first_fault, unless};
-ghost use Rattle.dm_table.specs.Reading.{line_checks, line_fault, with_lines};
-ghost use Rattle.dm_table.specs.RowFaults.{Reads, no_faults, noted_rest, noted_rows, read_unless, first_noted};
+ghost use Rattle.dm_table.specs.Reading.{line_checks, with_rows};
+ghost use Rattle.dm_table.specs.RowFaults.{Reads, no_faults, noted_rest, noted_rows, row_fault, read_unless, first_noted};
 
 use crate::load_fault::LoadFault;
 use crate::place::Part;
@@ -47,40 +47,46 @@ impl<T: Drop> Reading<T> {
 }
 
 /// What the lines of a text are read into: disks, or devices, which take the lines of their name.
-pub(crate) trait FromLines: Drop {
-    /// Whether a line has the fields of a row.
-    ghost is_row: { List ℕ → Bool };
+pub(crate) trait FromRows: Drop {
+    /// The row that a line is: its fields.
+    ghost row_of: { List ℕ → List (List ℕ) };
+
+    /// Whether it is a row of this form.
+    ghost is_row: { List (List ℕ) → Bool };
 
     /// Whether its values are valid.
-    ghost has_values: { List ℕ → Bool };
+    ghost has_values: { List (List ℕ) → Bool };
 
     /// Whether its names are valid.
-    ghost has_names: { List ℕ → Bool };
+    ghost has_names: { List (List ℕ) → Bool };
 
-    /// The values after one more line with which nothing is wrong, by its number in the text.
-    ghost with_line: { List Self → ℕ → List ℕ → List Self };
+    /// The values after one more row with which nothing is wrong, by its number in the text.
+    ghost with_row: { List Self → ℕ → List (List ℕ) → List Self };
 
-    /// Reads line `number` of a text into the values of the lines before it. Its fields are put in place
-    /// of those of another line, so that one list serves all lines. After a fault the values may be any.
-    fn read_line<'a>(
+    /// Puts the fields of a line in place of those of another, so that one list serves all lines.
+    fn cut<'a>(row: &mut Vec<&'a [u8]>, line: &'a [u8]) -> Result<(), AllocError>
+        ensures { OnOk result (texts row.new.items ≡ row_of line.now) };
+
+    /// Reads row `number` of a text into the values of those before it. After a fault the values may be
+    /// any.
+    fn read_row(
         alloc: Global,
         values: &mut Vec<Self>,
-        fields: &mut Vec<&'a [u8]>,
-        line: &'a [u8],
+        row: &[&[u8]],
         number: u64,
     ) -> Result<(), RowFault>
-        ensures values { OnOk result (values.new.items ≡ with_line values.old.items number line.now) }
-        ensures fault { Reads (λ done. done) result (read_unless (line_fault is_row has_values has_names line.now) tt) };
+        ensures values { OnOk result (values.new.items ≡ with_row values.old.items number (texts row.now)) }
+        ensures fault { Reads (λ done. done) result (read_unless (row_fault is_row has_values has_names (texts row.now)) tt) };
 }
 
 /// The values of the lines of a text, or the first fault of the first check that finds any. One pass
 /// to check the text, one to read it.
-pub(crate) fn read_lines<T: FromLines>(
+pub(crate) fn read_lines<T: FromRows>(
     alloc: Global,
     part: Part,
     text: &[u8],
 ) -> Result<Vec<T>, LoadFault>
-    ensures { Answers part (λ v. v.items) result (unless (first_fault (line_checks part T.is_row T.has_values T.has_names text.now)) (with_lines T.with_line [] 1 (lines_of text.now))) }
+    ensures { Answers part (λ v. v.items) result (unless (first_fault (line_checks part T.row_of T.is_row T.has_values T.has_names text.now)) (with_rows T.with_row [] 1 (map T.row_of (lines_of text.now)))) }
 {
     if let Err(fault) = check_text(alloc, part, b'\n', text) {
         return Err(fault);
@@ -93,18 +99,19 @@ pub(crate) fn read_lines<T: FromLines>(
 
 /// Reads each line where it stands, with one list of fields for all of them, and then what stands
 /// after the last newline.
-fn read_each<T: FromLines>(alloc: Global, part: Part, text: &[u8]) -> Result<Reading<T>, AllocError>
-    ensures values { IfOk result (λ reading. first_noted reading.faults ≡ None → reading.values.items ≡ with_lines T.with_line [] 1 (lines_of text.now)) }
+fn read_each<T: FromRows>(alloc: Global, part: Part, text: &[u8]) -> Result<Reading<T>, AllocError>
+    ensures values { IfOk result (λ reading. first_noted reading.faults ≡ None → reading.values.items ≡ with_rows T.with_row [] 1 (map T.row_of (lines_of text.now))) }
     ensures faults { IfOk result (λ reading. reading.faults ≡ noted_rest part
-        (noted_rows part (line_fault T.is_row T.has_values T.has_names) no_faults 1 (lines_of text.now)) (length (lines_of text.now) + 1) (rest_of text.now)) }
+        (noted_rows part (row_fault T.is_row T.has_values T.has_names) no_faults 1 (map T.row_of (lines_of text.now))) (length (lines_of text.now) + 1) (rest_of text.now)) }
 {
     let mut reading = Reading::new(alloc);
-    let mut fields = Vec::new(alloc);
+    let mut row = Vec::new(alloc);
     let mut number = 1u64;
     let mut rest = text;
     while let Some(end) = memchr(b'\n', rest) {
         let (line, after) = rest.split_at(end);
-        let read = T::read_line(alloc, &mut reading.values, &mut fields, line, number);
+        T::cut(&mut row, line)?;
+        let read = T::read_row(alloc, &mut reading.values, &row, number);
         reading.faults.note(part, number, read)?;
         number += 1;
         rest = &after[1..];

@@ -16,7 +16,7 @@ use crate::fields::cut_row;
 use crate::load_fault::LoadFault;
 use crate::name::Name;
 use crate::place::Part;
-use crate::reading::{FromLines, read_lines};
+use crate::reading::{FromRows, read_lines};
 use crate::row_faults::RowFault;
 use crate::table::{DeviceSpec, Table};
 use crate::table_row::{Row, read_row};
@@ -40,24 +40,28 @@ pub fn parse_table(alloc: Global, text: &[u8]) -> Result<Vec<DeviceSpec>, LoadFa
     read_lines(alloc, Part::Source, text)
 }
 
-impl FromLines for DeviceSpec {
-    ghost is_row = { λ line. is_row (row_fields line) };
+impl FromRows for DeviceSpec {
+    ghost row_of = { row_fields };
 
-    ghost has_values = { λ line. is_line (row_fields line) };
+    ghost is_row = { is_row };
 
-    ghost has_names = { λ line. has_names (row_fields line) };
+    ghost has_values = { is_line };
 
-    ghost with_line = { λ devices n line. add_said devices (named_in n (row_fields line)) };
+    ghost has_names = { has_names };
 
-    fn read_line<'a>(
+    ghost with_row = { λ devices n row. add_said devices (named_in n row) };
+
+    fn cut<'a>(row: &mut Vec<&'a [u8]>, line: &'a [u8]) -> Result<(), AllocError> {
+        cut_row(row, line)
+    }
+
+    fn read_row(
         alloc: Global,
         devices: &mut Vec<DeviceSpec>,
-        fields: &mut Vec<&'a [u8]>,
-        line: &'a [u8],
+        row: &[&[u8]],
         number: u64,
     ) -> Result<(), RowFault> {
-        cut_row(&mut *fields, line)?;
-        match read_row(alloc, &*fields, number) {
+        match read_row(alloc, row, number) {
             Ok(row) => {
                 add_line(alloc, devices, row)?;
                 Ok(())

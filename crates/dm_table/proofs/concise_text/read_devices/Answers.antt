@@ -6,7 +6,7 @@ use Rattle.dm_table.specs.Fields.{texts}
 use Rattle.dm_table.specs.RowFaults.{no_faults, noted_rows}
 use Rattle.dm_table.specs.ConciseReading.{fault_of_device}
 use Rattle.dm_table.proofs.ConciseFaults.{devices_further}
-use Rattle.dm_table.proofs.ReadLines.{faults_left}
+use Rattle.dm_table.proofs.ReadRows.{faults_left}
 use Rattle.dm_table.proofs.concise_text.read_devices.Goals as goal
 
 pub loop-index-preserved : goal.loop-index-preserved

@@ -3,9 +3,9 @@ use Rattle.dm_table.specs.declared.disk.Disk.{Disk}
 use Rattle.dm_table.specs.declared.place.Part.TheVariants.{Disks}
 use Rattle.dm_table.specs.declared.load_fault.LoadFault.{LoadFault}
 use Rattle.dm_table.specs.LoadFault.{Answers}
-use Rattle.dm_table.proofs.DiskLemmas.{read_as_promised, read_disks-lines}
+use Rattle.dm_table.proofs.DiskLemmas.{read_as_promised, read_disks-rows}
 use Rattle.dm_table.proofs.disk_list.parse_disks.Goals as goal
 
 pub returns : goal.returns
 returns c =
-    read_as_promised c.args.text.now c.read_lines.result (subst (λ (x : Result (List Disk) LoadFault). Answers Disks (λ v. v.items) c.read_lines.result x) (read_disks-lines c.args.text.now) c.read_lines.ensures)
+    read_as_promised c.args.text.now c.read_lines.result (subst (λ (x : Result (List Disk) LoadFault). Answers Disks (λ v. v.items) c.read_lines.result x) (read_disks-rows c.args.text.now) c.read_lines.ensures)

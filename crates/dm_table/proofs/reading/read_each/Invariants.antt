@@ -1,17 +1,19 @@
--- the values and the faults so far, and the lines that are left, give those of all lines
-use Rattle.std.proofs.Common.{◌≡◌, ◌+◌, ◌≤◌, [], None, length}
+-- the values and the faults so far, and the rows that are left, give those of all rows
+use Rattle.std.proofs.Common.{◌≡◌, ◌+◌, ◌≤◌, [], None, length, map}
 use Rattle.dm_table.specs.Fields.{lines_of, rest_of}
-use Rattle.dm_table.specs.Reading.{line_fault, with_lines}
-use Rattle.dm_table.specs.RowFaults.{first_noted, no_faults, noted_rows}
+use Rattle.dm_table.specs.Reading.{with_rows}
+use Rattle.dm_table.specs.RowFaults.{first_noted, no_faults, noted_rows, row_fault}
 use Rattle.dm_table.proofs.reading.read_each.Given as goal
 
 abbrev pub invariant-loop-end : goal.invariant-loop-end
 invariant-loop-end g l =
-    let form = g.T.FromLines in
-    let fault = line_fault form.is_row form.has_values form.has_names in
+    let form = g.T.FromRows in
+    let fault = row_fault form.is_row form.has_values form.has_names in
+    let left = map form.row_of (lines_of l.rest) in
+    let all = map form.row_of (lines_of l.text) in
     record {
-      values : first_noted l.reading.faults ≡ None → with_lines form.with_line l.reading.values.items l.number (lines_of l.rest) ≡ with_lines form.with_line [] 1 (lines_of l.text);
-      faults : noted_rows l.part fault l.reading.faults l.number (lines_of l.rest) ≡ noted_rows l.part fault no_faults 1 (lines_of l.text);
+      values : first_noted l.reading.faults ≡ None → with_rows form.with_row l.reading.values.items l.number left ≡ with_rows form.with_row [] 1 all;
+      faults : noted_rows l.part fault l.reading.faults l.number left ≡ noted_rows l.part fault no_faults 1 all;
       number : l.number + length (lines_of l.rest) ≡ length (lines_of l.text) + 1;
       rest : rest_of l.rest ≡ rest_of l.text;
       small : l.number + length l.rest ≤ length l.text + 1;

@@ -15,7 +15,7 @@ returns-in_err-len-clause-other c = rw c.from_residual.ensures (λ name next mor
 pub returns-in_err-rest-clause-other : goal.returns-in_err-rest-clause-other
 returns-in_err-rest-clause-other c = rw c.from_residual-in_err-rest.ensures (λ name next more cut named.
     let stands = name_stands c.args.text.now name next more cut named in
-    c.in_err-rest.ensures.other stands.rest (rw c.in_ok-len.ensures.len stands.behind))
+    c.in_err-rest.ensures.other stands.rest (rw c.in_ok-len.ensures.len stands.after))
 
 pub returns-clause-cut : goal.returns-clause-cut
 returns-clause-cut c =

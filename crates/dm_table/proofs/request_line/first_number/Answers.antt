@@ -12,7 +12,7 @@ returns-in_err-number-clause-other c = rw c.from_residual.ensures (λ field next
 pub returns-in_err-rest-clause-other : goal.returns-in_err-rest-clause-other
 returns-in_err-rest-clause-other c = rw c.from_residual-in_err-rest.ensures (λ field next more n cut read.
     let stands = number_stands c.args.text.now field next more n cut read in
-    c.in_err-rest.ensures.other stands.rest (rw c.in_ok-number.ensures.len stands.behind))
+    c.in_err-rest.ensures.other stands.rest (rw c.in_ok-number.ensures.len stands.after))
 
 pub returns-clause-cut : goal.returns-clause-cut
 returns-clause-cut c =

@@ -4,9 +4,9 @@ use Rattle.dm_table.specs.declared.place.Part.TheVariants.{Source}
 use Rattle.dm_table.specs.declared.load_fault.LoadFault.{LoadFault}
 use Rattle.dm_table.specs.LoadFault.{Answers}
 use Rattle.dm_table.proofs.TableDescribed.{read_as_promised}
-use Rattle.dm_table.proofs.TableLines.{read_table-lines}
+use Rattle.dm_table.proofs.TableLines.{read_table-rows}
 use Rattle.dm_table.proofs.table_text.parse_table.Goals as goal
 
 pub returns : goal.returns
 returns c =
-    read_as_promised c.args.text.now c.read_lines.result (subst (λ (x : Result (List DeviceSpec) LoadFault). Answers Source (λ v. v.items) c.read_lines.result x) (read_table-lines c.args.text.now) c.read_lines.ensures)
+    read_as_promised c.args.text.now c.read_lines.result (subst (λ (x : Result (List DeviceSpec) LoadFault). Answers Source (λ v. v.items) c.read_lines.result x) (read_table-rows c.args.text.now) c.read_lines.ensures)
