@@ -8,7 +8,7 @@ use Rattle.dm_map.specs.declared.mapper.MapFault.{MapFault}
 use Rattle.dm_map.specs.declared.mapper.MapFault.TheVariants as faults
 
 -- a mapper: its stack, the state that the requests so far left, whether one of its sinks failed, what its looker counted so far, and how much of that in the last request that it did not refuse as stopped
-pub record Mapping : Type 0 where
+pub record MapperView : Type 0 where
   pub stack : Description
   pub state : State
   pub stopped : Bool
@@ -16,11 +16,11 @@ pub record Mapping : Type 0 where
   pub last : Counts
 
 -- the walk that a mapper makes
-abbrev pub walking_of : Mapping → Walking
+abbrev pub walking_of : MapperView → Walking
 walking_of mapper = record { stack = mapper.stack; state = mapper.state; looked = mapper.looked }
 
 -- a mapper after look-ups that belong to no request
-abbrev pub with_looked : Mapping → Counts → Mapping
+abbrev pub with_looked : MapperView → Counts → MapperView
 with_looked mapper counts = record { stack = mapper.stack; state = mapper.state; stopped = mapper.stopped; looked = counts; last = mapper.last }
 
 -- where the result is that the sink failed, or that the mapper is stopped

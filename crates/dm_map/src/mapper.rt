@@ -56,9 +56,9 @@ pub struct Mapper<'s, T: Taken> {
 }
 
 impl<'s, T: Taken> Model for Mapper<'s, T> {
-    ghost use Rattle.dm_map.specs.Mapper.{Mapping};
+    ghost use Rattle.dm_map.specs.Mapper.{MapperView};
 
-    ghost Value = { Mapping };
+    ghost Value = { MapperView };
 
     ghost view = { λ mapper. record { stack = mapper.walker.stack; state = mapper.walker.state; stopped = mapper.stopped; looked = mapper.walker.looked; last = record { searches = mapper.searches; comparisons = mapper.probes } } };
 }

@@ -4,7 +4,7 @@ use Rattle.dm_table.specs.declared.request.Request.{Request}
 use Rattle.dm_stack.specs.Claims.{IsTop}
 use Rattle.dm_stack.specs.Description.{Description}
 use Rattle.dm_stack.proofs.HandedOn.{all_append}
-use Rattle.dm_map.specs.Mapper.{Mapping}
+use Rattle.dm_map.specs.Mapper.{MapperView}
 use Rattle.dm_map.specs.Mapping.{request_step}
 use Rattle.dm_map.specs.State.{State, start_state}
 use Rattle.dm_map.specs.Units.{BlockUnit}
@@ -31,7 +31,7 @@ abbrev pub step_units : Description → Request → (device : ℕ) → State →
 step_units stack request device state = (request_step stack request.op device request.start request.len state).units
 
 -- at the start
-pub going_first : (stack disks : Description) (mapper : Mapping) (patches : List Patch) → mapper.stopped ≡ false → mapper.stack ≡ stack → mapper.state ≡ start_state stack → disks ≡ stack → patches ≡ [] → IsGoing stack mapper disks patches []
+pub going_first : (stack disks : Description) (mapper : MapperView) (patches : List Patch) → mapper.stopped ≡ false → mapper.stack ≡ stack → mapper.state ≡ start_state stack → disks ≡ stack → patches ≡ [] → IsGoing stack mapper disks patches []
 unfolding world_from values_in
 going_first stack disks mapper patches maps of state_is disks_is none = record {
   maps = maps;
@@ -44,7 +44,7 @@ going_first stack disks mapper patches maps of state_is disks_is none = record {
 }
 
 -- and after one request more
-pub going_next : (stack disks later_disks : Description) (mapper later : Mapping) (patches newer : List Patch) (all : List Asked) (request : Request) (device : ℕ) → IsTop stack device → IsGoing stack mapper disks patches all
+pub going_next : (stack disks later_disks : Description) (mapper later : MapperView) (patches newer : List Patch) (all : List Asked) (request : Request) (device : ℕ) → IsTop stack device → IsGoing stack mapper disks patches all
     → later.stopped ≡ false → later.stack ≡ mapper.stack → later_disks ≡ disks → later.state ≡ (request_step mapper.stack request.op device request.start request.len mapper.state).state
     → ((disk sector : ℕ) → values_in newer disk sector ≡ played request.number request.start (step_units mapper.stack request device mapper.state) (values_in patches) disk sector)
     → AreValuesOf (length mapper.stack.disks) (values_in newer)
@@ -70,7 +70,7 @@ going_next stack disks later_disks mapper later patches newer all request device
     }
 
 -- what a request answers is what it answers in the world before it
-pub answers_after : (stack disks : Description) (mapper : Mapping) (patches : List Patch) (all : List Asked) (request : Request) (device : ℕ) (runs : List ValueRun) → IsGoing stack mapper disks patches all
+pub answers_after : (stack disks : Description) (mapper : MapperView) (patches : List Patch) (all : List Asked) (request : Request) (device : ℕ) (runs : List ValueRun) → IsGoing stack mapper disks patches all
     → flat runs ≡ played_answers request.number request.start (step_units mapper.stack request device mapper.state) (values_in patches)
     → flat runs ≡ asked_answers stack (world_after stack all) (whole_request request device)
 answers_after stack disks mapper patches all request device runs was is =

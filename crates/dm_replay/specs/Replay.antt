@@ -5,7 +5,7 @@ use Rattle.dm_table.specs.declared.request.Request.{Request}
 use Rattle.dm_stack.specs.declared.clash.Clash.{Clash}
 use Rattle.dm_stack.specs.Claims.{IsClash, IsTidy, IsTop, claims}
 use Rattle.dm_stack.specs.Description.{Description, device_id, is_same}
-use Rattle.dm_map.specs.Mapper.{Mapping}
+use Rattle.dm_map.specs.Mapper.{MapperView}
 use Rattle.dm_replay.specs.declared.patch.Patch.{Patch}
 use Rattle.dm_replay.specs.declared.replay_fault.ReplayFault.{ReplayFault}
 use Rattle.dm_replay.specs.declared.replay_fault.ReplayFault.TheVariants as faults
@@ -56,7 +56,7 @@ pub record IsWholeOfTop (of : Description) (asked : Asked) : Type 0 where
   pub whole : asked.stopped_after ≡ None
 
 -- what a replay keeps is the world after its requests
-pub record IsGoing (of : Description) (mapper : Mapping) (disks : Description) (patches : List Patch) (all : List Asked) : Type 0 where
+pub record IsGoing (of : Description) (mapper : MapperView) (disks : Description) (patches : List Patch) (all : List Asked) : Type 0 where
   pub maps : mapper.stopped ≡ false
   pub mapper_stack : mapper.stack ≡ of
   pub player_stack : disks ≡ of
@@ -66,6 +66,6 @@ pub record IsGoing (of : Description) (mapper : Mapping) (disks : Description) (
   pub asked_are : AllByRecursion (IsWholeOfTop of) all
 
 -- unless it stopped; no claims of its stack meet
-pub record IsReplay (of : Description) (mapper : Mapping) (disks : Description) (patches : List Patch) (all : List Asked) (ended : Bool) : Type 0 where
+pub record IsReplay (of : Description) (mapper : MapperView) (disks : Description) (patches : List Patch) (all : List Asked) (ended : Bool) : Type 0 where
   pub tidy : IsTidy of
   pub going : ended ≡ false → IsGoing of mapper disks patches all

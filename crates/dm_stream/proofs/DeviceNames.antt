@@ -14,9 +14,9 @@ first_of_name devices name = position_or_len (λ device. is_same device.name nam
 
 name_step : (device : DeviceSpec) (devices : List DeviceSpec) (name : List ℕ) (later : ℕ) (b : Bool) → is_same device.name name ≡ b → cond (not b) (1 + later) 0 < length (device ∷ devices)
     → (later < length devices → name_or_none (slice_get devices later) ≡ name) → name_or_none (slice_get (device ∷ devices) (cond (not b) (1 + later) 0)) ≡ name
-name_step device devices name later true same there behind = (bytes_eq-Decides device.name name).0 same
-name_step device devices name later false same there behind =
-    let e : 1 + later ≡ suc later = omega arith in rw e (behind (omega (arith, there)))
+name_step device devices name later true same there after = (bytes_eq-Decides device.name name).0 same
+name_step device devices name later false same there after =
+    let e : 1 + later ≡ suc later = omega arith in rw e (after (omega (arith, there)))
 
 named : (devices : List DeviceSpec) (name : List ℕ) → first_of_name devices name < length devices → name_or_none (slice_get devices (first_of_name devices name)) ≡ name
 unfolding first_of_name

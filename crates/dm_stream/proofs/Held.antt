@@ -12,13 +12,13 @@ same_range new old held start len same e =
     ap (λ k. take k (drop start new)) all ∙ sym (drop-take start len new) ∙ ap (drop start) same ∙ drop-take start len old
     ∙ sym (ap (λ k. take k (drop start old)) all) ∙ e
 
--- nothing is held behind a read of nothing
-pub none_behind : (buffer held : List ℕ) (start len n : ℕ) → n ≡ 0 → slice_range buffer start (start + len) ≡ held → slice_range buffer start (start + len + n) ≡ held
-none_behind buffer held start len n none e =
+-- a read of nothing adds nothing to what is held
+pub none_after : (buffer held : List ℕ) (start len n : ℕ) → n ≡ 0 → slice_range buffer start (start + len) ≡ held → slice_range buffer start (start + len + n) ≡ held
+none_after buffer held start len n none e =
     let all : start + len + n ≡ start + len = omega arith in
     ap (λ k. slice_range buffer start k) all ∙ e
 
--- what is held after a read behind it
+-- what is held after a read that adds to it
 pub refilled : (buffer held before after : List ℕ) (start len n : ℕ) → slice_range buffer start (start + len) ≡ held → after ≡ before ++ take n (drop (start + len) buffer) → slice_range buffer start (start + len + n) ≡ held ++ since before after
 refilled buffer held before after start len n kept more =
     let all : start + len + n - start ≡ len + n = omega arith in
@@ -34,9 +34,9 @@ line_at buffer held start end n e l =
     let same : start + n - start ≡ n = omega arith in
     ap (λ k. take k (drop start buffer)) same ∙ sym (take-take n (end - start) (drop start buffer) short) ∙ ap (take n) e
 
--- what is held behind that line and its newline
-pub behind_line : (buffer held : List ℕ) (start end n : ℕ) → slice_range buffer start end ≡ held → n < length held → slice_range buffer (start + n + 1) end ≡ drop (n + 1) held
-behind_line buffer held start end n e l =
+-- what is held after that line and its newline
+pub after_line : (buffer held : List ℕ) (start end n : ℕ) → slice_range buffer start end ≡ held → n < length held → slice_range buffer (start + n + 1) end ≡ drop (n + 1) held
+after_line buffer held start end n e l =
     let short : n + 1 ≤ end - start = omega (arith, length-take (end - start) (drop start buffer), ap length e) in
     let len = end - (start + n + 1) in
     let all : n + 1 + len ≡ end - start = omega arith in
@@ -45,10 +45,10 @@ behind_line buffer held start end n e l =
     ∙ sym (drop-take (n + 1) len (drop start buffer)) ∙ ap (λ m. drop (n + 1) (take m (drop start buffer))) all ∙ ap (drop (n + 1)) e
 
 -- the same, where the line's length is that of its bytes
-pub behind_bytes : (buffer held : List ℕ) (start end n : ℕ) → slice_range buffer start end ≡ held → n < length held → slice_range buffer (start + n + 1) end ≡ drop (length (slice_range buffer start (start + n)) + 1) held
-behind_bytes buffer held start end n e l =
+pub after_bytes : (buffer held : List ℕ) (start end n : ℕ) → slice_range buffer start end ≡ held → n < length held → slice_range buffer (start + n + 1) end ≡ drop (length (slice_range buffer start (start + n)) + 1) held
+after_bytes buffer held start end n e l =
     let whole : length (slice_range buffer start (start + n)) ≡ n = ap length (line_at buffer held start end n e l) ∙ length-take-le n held (omega arith) in
-    behind_line buffer held start end n e l ∙ ap (λ m. drop (m + 1) held) (sym whole)
+    after_line buffer held start end n e l ∙ ap (λ m. drop (m + 1) held) (sym whole)
 
 -- what is held without its first bytes
 pub without_front : (buffer held : List ℕ) (start end n : ℕ) → slice_range buffer start end ≡ held → start + n ≤ end → slice_range buffer (start + n) end ≡ drop n held

@@ -40,9 +40,9 @@ some_part (x ∷ xs) = let s = some_part xs in elim (is_newline x) as (λ b. (pa
 ]
 
 -- a front without a newline lengthens the first part
-pub parts_behind : (front xs : List ℕ) (part : List ℕ) (parts : List (List ℕ)) → line_parts front ≡ front ∷ [] → line_parts xs ≡ part ∷ parts → line_parts (front ++ xs) ≡ (front ++ part) ∷ parts
-parts_behind [] xs part parts clear e = e
-parts_behind (x ∷ front) xs part parts clear e =
+pub parts_after : (front xs : List ℕ) (part : List ℕ) (parts : List (List ℕ)) → line_parts front ≡ front ∷ [] → line_parts xs ≡ part ∷ parts → line_parts (front ++ xs) ≡ (front ++ part) ∷ parts
+parts_after [] xs part parts clear e = e
+parts_after (x ∷ front) xs part parts clear e =
     let s = some_part front in
     let P : Bool → Type 0 = λ b. cond b ([] ∷ line_parts front) (onto_first x (line_parts front)) ≡ (x ∷ front) ∷ [] → cond b ([] ∷ line_parts (front ++ xs)) (onto_first x (line_parts (front ++ xs))) ≡ (x ∷ front ++ part) ∷ parts in
     let at_newline : P true = λ f. cc in
@@ -51,21 +51,21 @@ parts_behind (x ∷ front) xs part parts clear e =
     let first : s.0 ≡ front = cc in
     let rest : s.1 ≡ [] = cc in
     let same : line_parts front ≡ front ∷ [] = s.2 ∙ ap (λ ys. s.0 ∷ ys) rest ∙ ap (λ (l : List ℕ). l ∷ []) first in
-    ap (onto_first x) (parts_behind front xs part parts same e) in
+    ap (onto_first x) (parts_after front xs part parts same e) in
     (elim (is_newline x) as P [ true ↦ at_newline | false ↦ at_other ]) clear
 
--- the parts by those behind the bytes that were searched: none of them ends
+-- the parts by those of what stands after the bytes that were searched: none of them ends
 pub still_one : (xs : List ℕ) (n : ℕ) → line_parts (take n xs) ≡ take n xs ∷ [] → line_parts (drop n xs) ≡ drop n xs ∷ [] → line_parts xs ≡ xs ∷ []
 still_one xs n clear e =
     let whole = take-append-drop n xs in
-    ap line_parts (sym whole) ∙ parts_behind (take n xs) (drop n xs) (drop n xs) [] clear e ∙ ap (λ (l : List ℕ). l ∷ []) whole
+    ap line_parts (sym whole) ∙ parts_after (take n xs) (drop n xs) (drop n xs) [] clear e ∙ ap (λ (l : List ℕ). l ∷ []) whole
 
 -- or the first of them does
-pub first_behind : (xs : List ℕ) (n k : ℕ) → line_parts (take n xs) ≡ take n xs ∷ [] → line_parts (drop n xs) ≡ take k (drop n xs) ∷ line_parts (drop (k + 1) (drop n xs))
+pub first_after : (xs : List ℕ) (n k : ℕ) → line_parts (take n xs) ≡ take n xs ∷ [] → line_parts (drop n xs) ≡ take k (drop n xs) ∷ line_parts (drop (k + 1) (drop n xs))
     → line_parts xs ≡ take (n + k) xs ∷ line_parts (drop (n + k + 1) xs)
-first_behind xs n k clear e =
+first_after xs n k clear e =
     let place : n + (k + 1) ≡ n + k + 1 = omega arith in
-    ap line_parts (sym (take-append-drop n xs)) ∙ parts_behind (take n xs) (drop n xs) _ _ clear e
+    ap line_parts (sym (take-append-drop n xs)) ∙ parts_after (take n xs) (drop n xs) _ _ clear e
     ∙ ap (λ (l : List ℕ). l ∷ line_parts (drop (k + 1) (drop n xs))) (sym (take-add n k xs))
     ∙ ap (λ ys. take (n + k) xs ∷ line_parts ys) (drop-drop (k + 1) n xs ∙ ap (λ i. drop i xs) place)
 

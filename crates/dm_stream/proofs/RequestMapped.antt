@@ -13,7 +13,7 @@ use Rattle.dm_map.specs.declared.mapper.MapFault.TheVariants as faults
 use Rattle.dm_stream.specs.Pending.{Pending, held_units}
 use Rattle.dm_stream.specs.Join.{HasTaken, HasLeft, HasUnits}
 use Rattle.dm_stream.specs.JoinLaws.{onto_begins, some_before}
-use Rattle.dm_map.specs.Mapper.{Mapping}
+use Rattle.dm_map.specs.Mapper.{MapperView}
 use Rattle.dm_stream.specs.Mapped.{HasAnswered, HasStopped}
 use Rattle.dm_stream.specs.Outcome.{after_text, device_of, of_device, outcome_from, request_answer, step_of}
 use Rattle.dm_table.proofs.ProgressLaws.{since-same}
@@ -141,14 +141,14 @@ request_answered stack device request found old new w0 w1 by_name is wrote left 
 }
 
 -- one whose answer was cut short
-pub request_cut : (stack : Description) (device : ℕ) (request : NumberedRequest) (found : Option ℕ) (old : State) (new : Mapping) (w0 w1 : List ℕ) → device_of stack request.values.device ≡ found → found ≡ Some device
+pub request_cut : (stack : Description) (device : ℕ) (request : NumberedRequest) (found : Option ℕ) (old : State) (new : MapperView) (w0 w1 : List ℕ) → device_of stack request.values.device ≡ found → found ≡ Some device
     → IsCutShort (request_answer stack device request old) (since w0 w1) → HasStopped stack causes.Output old new (request ∷ []) w0 w1
 request_cut stack device request found old new w0 w1 by_name is cut = λ rest e.
     subst (λ (f : Option ℕ). IsCutShort (of_device stack f request old (λ after. outcome_from stack after rest e)).output (since w0 w1)) (sym (by_name ∙ is))
     (cut_of_more (request_answer stack device request old) (since w0 w1) _ cut)
 
 -- one of a device that there is not
-pub request_unknown : (stack : Description) (request : NumberedRequest) (found : Option ℕ) (old : State) (new : Mapping) (w : List ℕ) → device_of stack request.values.device ≡ found → found ≡ None
+pub request_unknown : (stack : Description) (request : NumberedRequest) (found : Option ℕ) (old : State) (new : MapperView) (w : List ℕ) → device_of stack request.values.device ≡ found → found ≡ None
     → new.stopped ≡ false → new.state ≡ old → HasStopped stack (causes.Unknown request.number) old new (request ∷ []) w w
 request_unknown stack request found old new w by_name is going same = (
   going,

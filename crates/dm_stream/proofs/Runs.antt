@@ -3,7 +3,7 @@ use Rattle.std.proofs.Common.{◌≡◌, ◌≢◌, ℕ, Bool, false, true, List
 use Rattle.std.proofs.lemmas.List.{append-nil}
 use Rattle.dm_table.specs.DeviceIo.{Delivery, since}
 use Rattle.dm_stack.specs.Description.{Description}
-use Rattle.dm_map.specs.Mapper.{Mapping}
+use Rattle.dm_map.specs.Mapper.{MapperView}
 use Rattle.dm_stream.specs.Mapped.{HasAnswered, HasStopped}
 use Rattle.dm_stream.specs.Outcome.{Outcome, if_done, outcome_from, requests_outcome, with_status}
 use Rattle.dm_table.specs.Progress.{HasWritten, IsClosedAfter, Wrote}
@@ -34,7 +34,7 @@ all_mapped stack old new delivered w0 w1 e answered ends no_fault =
     }
 
 -- the mapping stopped at one of them
-stopped_at : (stack : Description) (fault : NotMapped) (old : State) (new : Mapping) (first later : List NumberedRequest) (e : Option ending.Ending) (w0 w1 : List ℕ) → HasStopped stack fault old new first w0 w1
+stopped_at : (stack : Description) (fault : NotMapped) (old : State) (new : MapperView) (first later : List NumberedRequest) (e : Option ending.Ending) (w0 w1 : List ℕ) → HasStopped stack fault old new first w0 w1
     → IsMapped (outcome_from stack old (first ++ later) e) (since w0 w1) new.state (ending_for fault)
 stopped_at stack (causes.Unknown number) old new first later e w0 w1 stopped =
     let whole = stopped.1 later e in
@@ -47,7 +47,7 @@ stopped_at stack causes.Output old new first later e w0 w1 stopped = record {
   cut = λ is. stopped later e;
 }
 
-pub part_mapped : (stack : Description) (fault : NotMapped) (e : ending.Ending) (old : State) (new : Mapping) (delivered : Delivery) (w0 w1 : List ℕ) (Stopped : List NumberedRequest → Type 0) → e ≡ ending_for fault
+pub part_mapped : (stack : Description) (fault : NotMapped) (e : ending.Ending) (old : State) (new : MapperView) (delivered : Delivery) (w0 w1 : List ℕ) (Stopped : List NumberedRequest → Type 0) → e ≡ ending_for fault
     → ((first : List NumberedRequest) → Stopped first → HasStopped stack fault old new first w0 w1) → IsAmong Stopped (requests_of delivered).all
     → IsMapped (requests_outcome stack old delivered) (since w0 w1) new.state e
 part_mapped stack fault e old new delivered w0 w1 Stopped ends stopped among =

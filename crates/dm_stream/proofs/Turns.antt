@@ -14,7 +14,7 @@ use Rattle.dm_stream.proofs.LineParts.{some_part, next_line}
 
 -- The first part
 
--- a first part that a newline ends stays, whatever comes behind
+-- a first part that a newline ends stays, whatever comes after it
 pub part_stays : (xs line second : List ℕ) (parts : List (List ℕ)) (more : List ℕ) → line_parts xs ≡ line ∷ second ∷ parts → line_parts (xs ++ more) ≡ line ∷ line_parts (drop (suc (length line)) xs ++ more)
 part_stays [] line second parts more e = cc
 part_stays (x ∷ xs) line second parts more e =

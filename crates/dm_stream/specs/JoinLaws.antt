@@ -30,28 +30,28 @@ onto_begins unit (piece ∷ pieces) =
     ]
 
 -- the last of pieces is that of the later ones
-last-behind : (ps : List UnitRun) (q : UnitRun) (qs : List UnitRun) → all_but_last (ps ++ q ∷ qs) ≡ ps ++ all_but_last (q ∷ qs)
-last-behind [] q qs = refl
-last-behind (p ∷ []) q qs = refl
-last-behind (p ∷ next ∷ ps) q qs = ap (λ (rs : List UnitRun). p ∷ rs) (last-behind (next ∷ ps) q qs)
+last-after : (ps : List UnitRun) (q : UnitRun) (qs : List UnitRun) → all_but_last (ps ++ q ∷ qs) ≡ ps ++ all_but_last (q ∷ qs)
+last-after [] q qs = refl
+last-after (p ∷ []) q qs = refl
+last-after (p ∷ next ∷ ps) q qs = ap (λ (rs : List UnitRun). p ∷ rs) (last-after (next ∷ ps) q qs)
 
 pub last_of_units : (ps : List UnitRun) (units : List BlockUnit) → HasUnits units → all_but_last (ps ++ fewest units) ≡ ps ++ all_but_last (fewest units)
 last_of_units ps [] some = absurd some
 last_of_units ps (unit ∷ units) some =
     let b = onto_begins unit (fewest units) in
-    ap (λ (qs : List UnitRun). all_but_last (ps ++ qs)) b.is ∙ last-behind ps (record { first = unit; len = b.len }) b.later ∙ ap (λ (qs : List UnitRun). ps ++ all_but_last qs) (sym b.is)
+    ap (λ (qs : List UnitRun). all_but_last (ps ++ qs)) b.is ∙ last-after ps (record { first = unit; len = b.len }) b.later ∙ ap (λ (qs : List UnitRun). ps ++ all_but_last qs) (sym b.is)
 
-some_behind : (us vs : List BlockUnit) → HasUnits vs → HasUnits (us ++ vs)
-some_behind [] vs some = some
-some_behind (u ∷ us) vs some = tt
+some_after : (us vs : List BlockUnit) → HasUnits vs → HasUnits (us ++ vs)
+some_after [] vs some = some
+some_after (u ∷ us) vs some = tt
 
 pub some_before : (us vs : List BlockUnit) → HasUnits us → HasUnits (us ++ vs)
 some_before [] vs some = absurd some
 some_before (u ∷ us) vs some = tt
 
 -- a beginning of what comes after a text, and of the text before it
-beginning-behind : (text more front : List ℕ) → IsBeginning more front → IsBeginning (text ++ more) (text ++ front)
-beginning-behind text more front begins = (begins.0, ap (λ (xs : List ℕ). text ++ xs) begins.1 ∙ sym (append_assoc text front begins.0))
+beginning-after : (text more front : List ℕ) → IsBeginning more front → IsBeginning (text ++ more) (text ++ front)
+beginning-after text more front begins = (begins.0, ap (λ (xs : List ℕ). text ++ xs) begins.1 ∙ sym (append_assoc text front begins.0))
 
 pub beginning-before : (text more front : List ℕ) → IsBeginning text front → IsBeginning (text ++ more) front
 beginning-before text more front begins = (begins.0 ++ more, ap (λ (xs : List ℕ). xs ++ more) begins.1 ∙ append_assoc front begins.0 more)
@@ -96,19 +96,19 @@ took_more a b c us vs w0 w1 w2 first second = record {
 }
 
 -- what was left after settled pieces
-left_behind : (stack : Description) (number : ℕ) (settled : List UnitRun) (units : List BlockUnit) (all : List UnitRun) (wrote front : List ℕ) → HasUnits units → all ≡ settled ++ fewest units → wrote ≡ pieces_text stack number settled ++ front
+left_after : (stack : Description) (number : ℕ) (settled : List UnitRun) (units : List BlockUnit) (all : List UnitRun) (wrote front : List ℕ) → HasUnits units → all ≡ settled ++ fewest units → wrote ≡ pieces_text stack number settled ++ front
     → IsBeginning (pieces_text stack number (all_but_last (fewest units))) front → IsBeginning (pieces_text stack number (all_but_last all)) wrote
-left_behind stack number settled units all wrote front some e f begins =
+left_after stack number settled units all wrote front some e f begins =
     subst (λ (xs : List ℕ). IsBeginning xs wrote)
     (sym (ap (λ (ps : List UnitRun). pieces_text stack number (all_but_last ps)) e ∙ ap (pieces_text stack number) (last_of_units settled units some) ∙ flat_map-append (piece_text stack number) settled (all_but_last (fewest units))))
-    (subst (IsBeginning (pieces_text stack number settled ++ pieces_text stack number (all_but_last (fewest units)))) (sym f) (beginning-behind (pieces_text stack number settled) _ front begins))
+    (subst (IsBeginning (pieces_text stack number settled ++ pieces_text stack number (all_but_last (fewest units)))) (sym f) (beginning-after (pieces_text stack number settled) _ front begins))
 
 pub left_more : (a b c : Pending) (us vs : List BlockUnit) (w0 w1 w2 : List ℕ) → HasTaken a b us w0 w1 → HasLeft b c vs w1 w2 → HasLeft a c (us ++ vs) w0 w2
 left_more a b c us vs w0 w1 w2 first second = record {
-  some = some_behind us vs second.some;
+  some = some_after us vs second.some;
   beginning = λ rest.
-      left_behind a.stack a.number first.settled (held_units b.piece ++ vs ++ rest) _ (since w0 w2) (since w1 w2)
-      (some_before (held_units b.piece ++ vs) rest (some_behind (held_units b.piece) vs second.some))
+      left_after a.stack a.number first.settled (held_units b.piece ++ vs ++ rest) _ (since w0 w2) (since w1 w2)
+      (some_before (held_units b.piece ++ vs) rest (some_after (held_units b.piece) vs second.some))
       (ap fewest (parts (held_units a.piece) us vs rest) ∙ first.told (vs ++ rest) ∙ ap (λ (xs : List BlockUnit). first.settled ++ fewest xs) (sym (append_assoc (held_units b.piece) vs rest)))
       (since_more w0 w1 w2 first.appends second.appends ∙ ap (λ (xs : List ℕ). xs ++ since w1 w2) first.wrote)
       (subst (λ (xs : List ℕ). IsBeginning xs (since w1 w2)) (same_text a b (all_but_last (fewest (held_units b.piece ++ vs ++ rest))) first.stack first.number) (second.beginning rest));

@@ -3,7 +3,7 @@ use Rattle.std.specs.Prelude.{◌≡◌, ℕ, List, ◌++◌, Option, None, Some
 use Rattle.dm_table.specs.DeviceIo.{since}
 use Rattle.dm_table.specs.WriteAll.{IsCutShort}
 use Rattle.dm_stack.specs.Description.{Description}
-use Rattle.dm_map.specs.Mapper.{Mapping}
+use Rattle.dm_map.specs.Mapper.{MapperView}
 use Rattle.dm_map.specs.State.{State}
 use Rattle.dm_stream.specs.Pending.{Pending}
 use Rattle.dm_stream.specs.Outcome.{after_text, outcome_from}
@@ -15,7 +15,7 @@ use Rattle.dm_stream.specs.declared.ending.NotMapped.TheVariants as causes
 use Rattle.dm_stream.specs.declared.ending.RequestWord as word
 
 -- the mapper and the join are of this stack, and a request can come: the mapper is not stopped, and nothing is held
-pub record IsReady (stack : Description) (mapper : Mapping) (held : Pending) : Type 0 where
+pub record IsReady (stack : Description) (mapper : MapperView) (held : Pending) : Type 0 where
   pub mapped : mapper.stack ≡ stack
   pub going : mapper.stopped ≡ false
   pub joined : held.stack ≡ stack
@@ -30,7 +30,7 @@ abbrev pub failed_writes : NotMapped → ℕ
 failed_writes cause = write_faults (ending_for cause)
 
 -- why it stopped at the last of these requests: no device has the name, and the outcome ends here; or a write failed, and something is left to write
-abbrev pub HasStopped : Description → NotMapped → State → Mapping → List NumberedRequest → (before after : List ℕ) → Type 0
+abbrev pub HasStopped : Description → NotMapped → State → MapperView → List NumberedRequest → (before after : List ℕ) → Type 0
 HasStopped stack (causes.Unknown number) old new requests before after = (new.stopped ≡ false) × ((rest : List NumberedRequest) (e : Option ending.Ending) → outcome_from stack old (requests ++ rest) e
     ≡ record { output = since before after; state = new.state; ending = Some (ending.TheVariants.BadRequest number word.TheVariants.Unknown) })
 HasStopped stack causes.Output old new requests before after =

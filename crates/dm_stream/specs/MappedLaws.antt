@@ -3,7 +3,7 @@ use Rattle.std.proofs.Common.{◌≡◌, ℕ, List, [], ◌∷◌, ◌++◌, Opt
 use Rattle.dm_table.specs.DeviceIo.{since}
 use Rattle.dm_table.proofs.Growth.{since_more}
 use Rattle.dm_stack.specs.Description.{Description}
-use Rattle.dm_map.specs.Mapper.{Mapping}
+use Rattle.dm_map.specs.Mapper.{MapperView}
 use Rattle.dm_map.specs.State.{State}
 use Rattle.dm_stream.specs.Mapped.{HasAnswered, HasStopped}
 use Rattle.dm_stream.specs.Outcome.{Outcome, after_text, outcome_from}
@@ -39,7 +39,7 @@ answered_more stack a b c us vs w0 w1 w2 more again first second = record {
       ∙ texts_more w0 w1 w2 (outcome_from stack c rest e) more again;
 }
 
-pub stopped_more : (stack : Description) (fault : NotMapped) (a b : State) (c : Mapping) (us vs : List NumberedRequest) (w0 w1 w2 : List ℕ) → w1 ≡ w0 ++ since w0 w1 → w2 ≡ w1 ++ since w1 w2
+pub stopped_more : (stack : Description) (fault : NotMapped) (a b : State) (c : MapperView) (us vs : List NumberedRequest) (w0 w1 w2 : List ℕ) → w1 ≡ w0 ++ since w0 w1 → w2 ≡ w1 ++ since w1 w2
     → HasAnswered stack a b us w0 w1 → HasStopped stack fault b c vs w1 w2 → HasStopped stack fault a c (us ++ vs) w0 w2
 stopped_more stack (causes.Unknown number) a b c us vs w0 w1 w2 more again first second = (
   second.0,

@@ -7,7 +7,7 @@ use Rattle.dm_stream.specs.declared.ending.NotMapped.{NotMapped}
 use Rattle.dm_stream.specs.declared.ending.NotMapped.TheVariants as causes
 use Rattle.dm_stream.specs.declared.ending.RequestWord as word
 use Rattle.dm_stream.specs.Outcome.{Outcome}
-use Rattle.dm_map.specs.Mapper.{Mapping}
+use Rattle.dm_map.specs.Mapper.{MapperView}
 use Rattle.dm_map.specs.State.{State}
 use Rattle.dm_stack.specs.Description.{Description}
 
@@ -24,12 +24,12 @@ write_faults ending.TheVariants.ReadFault = 0
 write_faults ending.TheVariants.WriteFault = 1
 
 -- a mapper of the stack that can map requests
-pub record CanMap (of : Description) (mapper : Mapping) : Type 0 where
+pub record CanMap (of : Description) (mapper : MapperView) : Type 0 where
   pub stack : mapper.stack ≡ of
   pub going : mapper.stopped ≡ false
 
 -- it stays one of its stack, and can go on unless the output failed
-pub record StaysMapper (before after : Mapping) (e : ending.Ending) : Type 0 where
+pub record StaysMapper (before after : MapperView) (e : ending.Ending) : Type 0 where
   pub stack : after.stack ≡ before.stack
   pub going : e ≢ ending.TheVariants.WriteFault → after.stopped ≡ false
 

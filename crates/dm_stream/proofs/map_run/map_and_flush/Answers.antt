@@ -1,6 +1,6 @@
 use Rattle.std.proofs.Common.{ap}
 use Rattle.dm_table.specs.declared.device_io.OutFault.{OutFault}
-use Rattle.dm_map.specs.Mapper.{Mapping}
+use Rattle.dm_map.specs.Mapper.{MapperView}
 use Rattle.dm_stream.proofs.Runs.{closed_after, ran_failed, ran_whole}
 use Rattle.dm_stream.proofs.map_run.map_and_flush.Goals as goal
 
@@ -10,7 +10,7 @@ returns-in-Ok-clause-ran g c =
     let wrote = c.write_rest-written.ensures in
     ran_whole OutFault _ _ _ _ c.args.output.now c.close.new.output c.args.stack.now c.args.status _ _ requests.new.mapper.state c.write_rest-written.new.mapper.state requests.result
     (closed_after c.write_rest-written.result _ _ c.in-Ok.ensures.untouched wrote.no_fault)
-    (ap (λ (m : Mapping). m.state) wrote.same) requests.ensures.mapped
+    (ap (λ (m : MapperView). m.state) wrote.same) requests.ensures.mapped
     (c.in-Ok.ensures.closed c.args.output.now _ (wrote.wrote c.args.output.now _ requests.ensures.writes requests.ensures.mapped))
 
 pub returns-in-Err-clause-ran : goal.returns-in-Err-clause-ran

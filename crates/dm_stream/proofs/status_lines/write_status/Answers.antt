@@ -7,7 +7,7 @@ use Rattle.dm_stack.specs.declared.found_line.FoundSnapshot.{FoundSnapshot}
 use Rattle.dm_stack.specs.Description.{Description, device_len, name_at}
 use Rattle.dm_stack.specs.Loaded.{IsSnapshot}
 use Rattle.dm_map.specs.declared.usage.Usage.{Usage}
-use Rattle.dm_map.specs.Mapper.{Mapping, with_looked}
+use Rattle.dm_map.specs.Mapper.{MapperView, with_looked}
 use Rattle.dm_map.specs.State.{taken_at}
 use Rattle.dm_map.specs.Tables.{snapshot_at, snapshot_of_line}
 use Rattle.dm_map.specs.Usage.{usage_of}
@@ -15,12 +15,12 @@ use Rattle.dm_stream.specs.StatusLines.{after_name, line_if, status_line}
 use Rattle.dm_stream.proofs.status_lines.write_status.Goals as goal
 
 -- what is written of a snapshot is its line
-line_of : (stack : Description) (old mapper : Mapping) (device : ℕ) (usage : Usage) → old.stack ≡ stack → mapper ≡ with_looked old mapper.looked → IsSnapshot stack device
+line_of : (stack : Description) (old mapper : MapperView) (device : ℕ) (usage : Usage) → old.stack ≡ stack → mapper ≡ with_looked old mapper.looked → IsSnapshot stack device
     → IfSome (snapshot_at mapper.stack device) (λ snapshot. usage ≡ usage_of mapper.stack snapshot (taken_at mapper.state device))
     → name_at stack device ++ after_name (device_len stack device) usage ≡ status_line stack old.state device
 line_of stack old mapper device usage of_stack same is used =
     let at : snapshot_at stack device ≡ Some is.snapshot = ap snapshot_of_line is.line in
-    let of_old = subst (λ (m : Mapping). IfSome (snapshot_at m.stack device) (λ snapshot. usage ≡ usage_of m.stack snapshot (taken_at m.state device))) same used in
+    let of_old = subst (λ (m : MapperView). IfSome (snapshot_at m.stack device) (λ snapshot. usage ≡ usage_of m.stack snapshot (taken_at m.state device))) same used in
     let here = subst (λ (s : Description). IfSome (snapshot_at s device) (λ snapshot. usage ≡ usage_of s snapshot (taken_at old.state device))) of_stack of_old in
     let full : usage ≡ usage_of stack is.snapshot (taken_at old.state device) =
     subst (λ (s : Option FoundSnapshot). IfSome s (λ snapshot. usage ≡ usage_of stack snapshot (taken_at old.state device))) at here in

@@ -1,4 +1,4 @@
-//! Readers and writers of std behind `Counted`: one call of theirs for each call, and nothing again.
+//! Readers and writers of std, counted: one call of theirs for each call, and nothing again.
 //!
 //! A script says what each call of a fake returns, and the fake counts its calls. A row is a script
 //! and what must come of it.

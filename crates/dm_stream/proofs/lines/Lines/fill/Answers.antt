@@ -1,6 +1,6 @@
 use Rattle.std.proofs.Common.{◌-◌, ◌∙◌}
 use Rattle.dm_table.proofs.Growth.{quiet_since, on_err}
-use Rattle.dm_stream.proofs.Held.{same_range, none_behind, refilled}
+use Rattle.dm_stream.proofs.Held.{same_range, none_after, refilled}
 use Rattle.dm_stream.proofs.lines.Lines.fill.Goals as goal
 
 pub returns-clause-held : goal.returns-clause-held
@@ -15,7 +15,7 @@ pub returns-clause-none : goal.returns-clause-none
 returns-clause-none g c = λ none.
     let start = c.make_room-self-inside.result in
     let len = c.self.inside.end - c.self.inside.start in
-    none_behind c.read_after.new.buffer c.args.self.now start len c.in_ok-n.n none
+    none_after c.read_after.new.buffer c.args.self.now start len c.in_ok-n.n none
     (same_range c.read_after.new.buffer c.make_room-self-inside.new.buffer c.args.self.now start len c.read_after.ensures.kept (c.make_room-self-inside.ensures.kept ∙ c.self.view_is))
 
 pub returns-in_err-n-clause-err : goal.returns-in_err-n-clause-err

@@ -1,7 +1,7 @@
 use Rattle.std.proofs.Common.{◌∙◌, sym, ap, List, ℕ, drop, refl}
 use Rattle.dm_stream.specs.Lines.{next_answer, line_parts, ALine}
 use Rattle.dm_table.specs.DeviceIo.{delivery}
-use Rattle.dm_stream.proofs.Held.{line_at, behind_bytes}
+use Rattle.dm_stream.proofs.Held.{line_at, after_bytes}
 use Rattle.dm_stream.proofs.lines.Lines.next.Goals as goal
 
 pub returns-in-Line : goal.returns-in-Line
@@ -10,7 +10,7 @@ returns-in-Line g c =
     let n = c.in-Line.n in
     let held = c.advance.new.self in
     let stand = (delivery g.R.Input.handed g.R.Input.faults g.R.Input.ends c.args.reader.now c.advance.new.reader).stand in (
-      (refl, λ _. tt, behind_bytes a.buffer held a.start a.end n c.self.view_is c.in-Line.ensures.fits ∙ ap (drop _) c.in-Line.ensures.held),
+      (refl, λ _. tt, after_bytes a.buffer held a.start a.end n c.self.view_is c.in-Line.ensures.fits ∙ ap (drop _) c.in-Line.ensures.held),
       record {
         after = tt;
         reads = c.in-Line.ensures.reads;
