@@ -15,88 +15,88 @@ use Rattle.dm_table.specs.declared.row_faults.RowFault.TheVariants.{Syntax, Fiel
 use Rattle.dm_table.specs.declared.row_faults.FirstFaults.{FirstFaults}
 use Rattle.dm_table.specs.Fields.{texts}
 use Rattle.dm_table.specs.Name.{is_device_name}
-use Rattle.dm_table.specs.RowFaults.{test_fault, Reads, fault_in, noted_at, first_noted}
+use Rattle.dm_table.specs.RowFaults.{first_failed, Reads, fault_in, noted_at, first_noted}
 use Rattle.dm_table.specs.LineBody.{is_body_row, is_body, has_body_names}
 use Rattle.dm_table.specs.LineReading.{line_in}
-use Rattle.dm_table.specs.ConciseText.{place_of, lacks, is_uuid, is_ro, entries, body_fields, is_label, is_known, is_named}
-use Rattle.dm_table.specs.ConciseReading.{worse, fault_of_body, fault_of_bodies, fault_of_label, fault_of_entries, fault_of_device, lines_in, device_in, device_unless, entries_reading, device_reading, bodies_reading, devices_from}
+use Rattle.dm_table.specs.ConciseText.{place_of, lacks, is_uuid, is_ro, entries, body_fields, is_label, has_label_values, has_label_names}
+use Rattle.dm_table.specs.ConciseReading.{earlier_of, fault_of_body, fault_of_bodies, fault_of_label, fault_of_entries, fault_of_device, lines_in, device_in, device_unless, entries_reading, device_reading, bodies_reading, devices_from}
 use Rattle.dm_table.proofs.RowFaultLemmas.{names_true, read_clear}
 use Rattle.dm_table.proofs.TargetRows.{read_none, read_value, and_false}
 
--- The worse of two
+-- The earlier of two
 
-pub worse-none : (fault : Option RowFault) → worse fault None ≡ fault
-worse-none None = refl
-worse-none (Some Syntax) = refl
-worse-none (Some Field) = refl
-worse-none (Some Name) = refl
-worse-none (Some Memory) = refl
+pub earlier_of-none : (fault : Option RowFault) → earlier_of fault None ≡ fault
+earlier_of-none None = refl
+earlier_of-none (Some Syntax) = refl
+earlier_of-none (Some Field) = refl
+earlier_of-none (Some Name) = refl
+earlier_of-none (Some Memory) = refl
 
 -- one more fault of a field or of a name changes nothing before one of a field
-field_again : (c : Option RowFault) → (worse (Some Field) (worse (Some Field) c) ≡ worse (Some Field) c) × (worse (Some Name) (worse (Some Field) c) ≡ worse (Some Field) c)
+field_again : (c : Option RowFault) → (earlier_of (Some Field) (earlier_of (Some Field) c) ≡ earlier_of (Some Field) c) × (earlier_of (Some Name) (earlier_of (Some Field) c) ≡ earlier_of (Some Field) c)
 field_again None = (refl, refl)
 field_again (Some Syntax) = (refl, refl)
 field_again (Some Field) = (refl, refl)
 field_again (Some Name) = (refl, refl)
 field_again (Some Memory) = (refl, refl)
 
-pub worse-more : (a b c : Option RowFault) → b ≢ Some Memory → worse (worse a b) c ≡ worse a (worse b c)
-worse-more None b c h = refl
-worse-more (Some a) None c h = rw (worse-none (Some a)) refl
-worse-more (Some a) (Some Memory) c h = absurd (h refl)
-worse-more (Some Syntax) (Some b) c h = refl
-worse-more (Some Memory) (Some b) c h = refl
-worse-more (Some Field) (Some Syntax) c h = refl
-worse-more (Some Field) (Some Field) c h = sym (field_again c).0
-worse-more (Some Field) (Some Name) None h = refl
-worse-more (Some Field) (Some Name) (Some other) h = refl
-worse-more (Some Name) (Some Syntax) c h = refl
-worse-more (Some Name) (Some Field) c h = sym (field_again c).1
-worse-more (Some Name) (Some Name) None h = refl
-worse-more (Some Name) (Some Name) (Some other) h = refl
+pub earlier_of-more : (a b c : Option RowFault) → b ≢ Some Memory → earlier_of (earlier_of a b) c ≡ earlier_of a (earlier_of b c)
+earlier_of-more None b c h = refl
+earlier_of-more (Some a) None c h = rw (earlier_of-none (Some a)) refl
+earlier_of-more (Some a) (Some Memory) c h = absurd (h refl)
+earlier_of-more (Some Syntax) (Some b) c h = refl
+earlier_of-more (Some Memory) (Some b) c h = refl
+earlier_of-more (Some Field) (Some Syntax) c h = refl
+earlier_of-more (Some Field) (Some Field) c h = sym (field_again c).0
+earlier_of-more (Some Field) (Some Name) None h = refl
+earlier_of-more (Some Field) (Some Name) (Some other) h = refl
+earlier_of-more (Some Name) (Some Syntax) c h = refl
+earlier_of-more (Some Name) (Some Field) c h = sym (field_again c).1
+earlier_of-more (Some Name) (Some Name) None h = refl
+earlier_of-more (Some Name) (Some Name) (Some other) h = refl
 
-never_memory : (row known named : Bool) → test_fault row known named ≢ Some Memory
+never_memory : (row known named : Bool) → first_failed row known named ≢ Some Memory
 never_memory true true true e = absurd cc
 never_memory true true false e = absurd cc
 never_memory true false named e = absurd cc
 never_memory false known named e = absurd cc
 
--- neither is there where their worse is not
-pub worse-clear : (a b : Option RowFault) → worse a b ≡ None → (a ≡ None) × (b ≡ None)
-worse-clear None b h = (refl, h)
-worse-clear (Some Syntax) b h = absurd cc
-worse-clear (Some Memory) b h = absurd cc
-worse-clear (Some Field) None h = absurd cc
-worse-clear (Some Field) (Some Syntax) h = absurd cc
-worse-clear (Some Field) (Some Field) h = absurd cc
-worse-clear (Some Field) (Some Name) h = absurd cc
-worse-clear (Some Field) (Some Memory) h = absurd cc
-worse-clear (Some Name) None h = absurd cc
-worse-clear (Some Name) (Some other) h = absurd cc
+-- where there is no earlier of two, there is neither
+pub earlier_of-clear : (a b : Option RowFault) → earlier_of a b ≡ None → (a ≡ None) × (b ≡ None)
+earlier_of-clear None b h = (refl, h)
+earlier_of-clear (Some Syntax) b h = absurd cc
+earlier_of-clear (Some Memory) b h = absurd cc
+earlier_of-clear (Some Field) None h = absurd cc
+earlier_of-clear (Some Field) (Some Syntax) h = absurd cc
+earlier_of-clear (Some Field) (Some Field) h = absurd cc
+earlier_of-clear (Some Field) (Some Name) h = absurd cc
+earlier_of-clear (Some Field) (Some Memory) h = absurd cc
+earlier_of-clear (Some Name) None h = absurd cc
+earlier_of-clear (Some Name) (Some other) h = absurd cc
 
 -- the tests of two parts are those of both together
-worse_rows : (r1 l1 h1 r2 l2 h2 : Bool) → worse (test_fault r1 l1 h1) (test_fault r2 l2 h2) ≡ test_fault (r1 && r2) (l1 && l2) (h1 && h2)
-worse_rows false l1 h1 r2 l2 h2 = refl
-worse_rows true false h1 false l2 h2 = refl
-worse_rows true true true false l2 h2 = refl
-worse_rows true true false false l2 h2 = refl
-worse_rows true false h1 true false h2 = refl
-worse_rows true false h1 true true true = refl
-worse_rows true false h1 true true false = refl
-worse_rows true true true true l2 h2 = refl
-worse_rows true true false true false h2 = refl
-worse_rows true true false true true true = refl
-worse_rows true true false true true false = refl
+earlier_of_rows : (r1 l1 h1 r2 l2 h2 : Bool) → earlier_of (first_failed r1 l1 h1) (first_failed r2 l2 h2) ≡ first_failed (r1 && r2) (l1 && l2) (h1 && h2)
+earlier_of_rows false l1 h1 r2 l2 h2 = refl
+earlier_of_rows true false h1 false l2 h2 = refl
+earlier_of_rows true true true false l2 h2 = refl
+earlier_of_rows true true false false l2 h2 = refl
+earlier_of_rows true false h1 true false h2 = refl
+earlier_of_rows true false h1 true true true = refl
+earlier_of_rows true false h1 true true false = refl
+earlier_of_rows true true true true l2 h2 = refl
+earlier_of_rows true true false true false h2 = refl
+earlier_of_rows true true false true true true = refl
+earlier_of_rows true true false true true false = refl
 
 bodies_fault : (bodies : List (List ℕ)) → fault_of_bodies bodies
-    ≡ test_fault (list_all (λ body. is_body_row (body_fields body)) bodies) (list_all (λ body. is_body (body_fields body)) bodies) (list_all (λ body. has_body_names (body_fields body)) bodies)
+    ≡ first_failed (list_all (λ body. is_body_row (body_fields body)) bodies) (list_all (λ body. is_body (body_fields body)) bodies) (list_all (λ body. has_body_names (body_fields body)) bodies)
 bodies_fault [] = refl
 bodies_fault (body ∷ bodies) =
-    rw (bodies_fault bodies) (worse_rows (is_body_row (body_fields body)) (is_body (body_fields body)) (has_body_names (body_fields body)) _ _ _)
+    rw (bodies_fault bodies) (earlier_of_rows (is_body_row (body_fields body)) (is_body (body_fields body)) (has_body_names (body_fields body)) _ _ _)
 
 device_fault : (text : List ℕ) → fault_of_entries (lacks 10 text) (entries text) ≡ fault_of_device text
 device_fault text =
-    rw (bodies_fault (drop 4 (entries text))) (worse_rows (lacks 10 text && is_label (entries text)) (is_known (entries text)) (is_named (entries text)) _ _ _)
+    rw (bodies_fault (drop 4 (entries text))) (earlier_of_rows (lacks 10 text && is_label (entries text)) (has_label_values (entries text)) (has_label_names (entries text)) _ _ _)
 
 -- What is read of entries is what is read of the device
 pub device_read : (r : Result DeviceSpec RowFault) (n : ℕ) (text : List ℕ) (es : List (List ℕ)) (on_a_line : Bool) → on_a_line ≡ lacks 10 text → es ≡ entries text
@@ -122,7 +122,7 @@ entries_fault n on_a_line (a ∷ []) fault label h is r = absurd (omega arith)
 entries_fault n on_a_line (a ∷ b ∷ []) fault label h is r = absurd (omega arith)
 entries_fault n on_a_line (a ∷ b ∷ c ∷ []) fault label h is r = absurd (omega arith)
 entries_fault n on_a_line (a ∷ b ∷ c ∷ d ∷ es) fault label h is r =
-    let found = read_none (worse (fault_of_label on_a_line (texts (a ∷ b ∷ c ∷ d ∷ es))) (fault_of_bodies (texts es))) (lines_in (place_of n) (texts es)) fault (rw (take_rest (a ∷ b ∷ c ∷ d ∷ es) 4, is) at r) in
+    let found = read_none (earlier_of (fault_of_label on_a_line (texts (a ∷ b ∷ c ∷ d ∷ es))) (fault_of_bodies (texts es))) (lines_in (place_of n) (texts es)) fault (rw (take_rest (a ∷ b ∷ c ∷ d ∷ es) 4, is) at r) in
     ap (λ (x : Option RowFault). device_unless x (device_in n (texts (a ∷ b ∷ c ∷ d ∷ es)))) found
 
 pub entries_read : (n : ℕ) (on_a_line : Bool) (es : List (Bor (List ℕ))) (k e : Bor (List ℕ)) (lines : List Line) (label : Option RowFault) → 4 ≤ length es → label ≡ fault_of_label on_a_line (texts es)
@@ -133,7 +133,7 @@ entries_read n on_a_line (a ∷ []) k e lines label h is r = absurd (omega arith
 entries_read n on_a_line (a ∷ b ∷ []) k e lines label h is r = absurd (omega arith)
 entries_read n on_a_line (a ∷ b ∷ c ∷ []) k e lines label h is r = absurd (omega arith)
 entries_read n on_a_line (a ∷ b ∷ c ∷ d ∷ es) k e lines label h is r =
-    let v = read_value (worse (fault_of_label on_a_line (texts (a ∷ b ∷ c ∷ d ∷ es))) (fault_of_bodies (texts es))) (lines_in (place_of n) (texts es)) lines (rw (take_rest (a ∷ b ∷ c ∷ d ∷ es) 4, is) at r) in
+    let v = read_value (earlier_of (fault_of_label on_a_line (texts (a ∷ b ∷ c ∷ d ∷ es))) (fault_of_bodies (texts es))) (lines_in (place_of n) (texts es)) lines (rw (take_rest (a ∷ b ∷ c ∷ d ∷ es) 4, is) at r) in
     rw (v.0, v.1) refl
 
 -- the first entry is a name where lines are read
@@ -142,9 +142,9 @@ pub entries_named : (n : ℕ) (on_a_line : Bool) (es : List (Bor (List ℕ))) (k
 entries_named n on_a_line [] k bodies lines label h is r = absurd (omega arith)
 entries_named n on_a_line (a ∷ []) k bodies lines label h is r = absurd (omega arith)
 entries_named n on_a_line (a ∷ b ∷ es) k bodies lines label h is r =
-    let v = read_value (worse label (fault_of_bodies bodies)) (lines_in (place_of n) bodies) lines r in
-    let clear = (worse-clear label (fault_of_bodies bodies) v.0).0 in
-    let named = names_true (on_a_line && is_label (texts (a ∷ b ∷ es))) (is_known (texts (a ∷ b ∷ es))) (is_named (texts (a ∷ b ∷ es))) (sym is ∙ clear) in
+    let v = read_value (earlier_of label (fault_of_bodies bodies)) (lines_in (place_of n) bodies) lines r in
+    let clear = (earlier_of-clear label (fault_of_bodies bodies) v.0).0 in
+    let named = names_true (on_a_line && is_label (texts (a ∷ b ∷ es))) (has_label_values (texts (a ∷ b ∷ es))) (has_label_names (texts (a ∷ b ∷ es))) (sym is ∙ clear) in
     (and_parts (is_device_name a.now) (is_uuid b.now) named).0
 
 -- Devices one after the other
@@ -168,12 +168,12 @@ devices_further parts i d read seen new old devices below taken text is so_far c
 
 -- one body further
 pub record IsBodyFurther (bodies : List (Bor (List ℕ))) (i : ℕ) (at : Place) (label fault found : Option RowFault) (old new : List Line) : Type 0 where
-  pub known : worse (worse fault found) (fault_of_bodies (texts (drop (i + 1) bodies))) ≡ worse label (fault_of_bodies (texts bodies))
-  pub made : worse fault found ≡ None → new ++ lines_in at (texts (drop (i + 1) bodies)) ≡ lines_in at (texts bodies)
+  pub known : earlier_of (earlier_of fault found) (fault_of_bodies (texts (drop (i + 1) bodies))) ≡ earlier_of label (fault_of_bodies (texts bodies))
+  pub made : earlier_of fault found ≡ None → new ++ lines_in at (texts (drop (i + 1) bodies)) ≡ lines_in at (texts bodies)
 
 pub body_further : (bodies : List (Bor (List ℕ))) (i : ℕ) (d : Bor (List ℕ)) (at : Place) (label fault found : Option RowFault) (old new : List Line)
     → i < length bodies → found ≡ fault_of_body (get_or bodies i d).now → (fault_of_body (get_or bodies i d).now ≡ None → new ≡ old ++ option_to_list (line_in at (body_fields (get_or bodies i d).now)))
-    → worse fault (fault_of_bodies (texts (drop i bodies))) ≡ worse label (fault_of_bodies (texts bodies))
+    → earlier_of fault (fault_of_bodies (texts (drop i bodies))) ≡ earlier_of label (fault_of_bodies (texts bodies))
     → (fault ≡ None → old ++ lines_in at (texts (drop i bodies)) ≡ lines_in at (texts bodies)) → IsBodyFurther bodies i at label fault found old new
 body_further bodies i d at label fault found old new below is added known made =
     let body = get_or bodies i d in
@@ -181,23 +181,23 @@ body_further bodies i d at label fault found old new below is added known made =
     let fields = body_fields body.now in
     let text : found ≢ Some Memory = λ e. never_memory (is_body_row fields) (is_body fields) (has_body_names fields) (sym is ∙ e) in
     record {
-      known = worse-more fault found _ text ∙ ap (λ (x : Option RowFault). worse fault (worse x (fault_of_bodies (texts (drop (i + 1) bodies))))) is ∙ (rw next at known);
+      known = earlier_of-more fault found _ text ∙ ap (λ (x : Option RowFault). earlier_of fault (earlier_of x (fault_of_bodies (texts (drop (i + 1) bodies))))) is ∙ (rw next at known);
       made = λ clear.
-          let both = worse-clear fault found clear in
+          let both = earlier_of-clear fault found clear in
           rw (added (sym is ∙ both.1)) (one_more old (line_in at fields) (lines_in at (texts (drop (i + 1) bodies))) ∙ (rw next at (made both.0)));
     }
 
 -- no body left
 pub bodies_refused : (bodies : List (Bor (List ℕ))) (i : ℕ) (at : Place) (label : Option RowFault) (fault : RowFault) → length bodies ≤ i
-    → worse (Some fault) (fault_of_bodies (texts (drop i bodies))) ≡ worse label (fault_of_bodies (texts bodies)) → bodies_reading at label (texts bodies) ≡ Err fault
+    → earlier_of (Some fault) (fault_of_bodies (texts (drop i bodies))) ≡ earlier_of label (fault_of_bodies (texts bodies)) → bodies_reading at label (texts bodies) ≡ Err fault
 bodies_refused bodies i at label fault past known =
-    let found : worse label (fault_of_bodies (texts bodies)) ≡ Some fault = sym (rw (drop_all i bodies past) at known) ∙ worse-none (Some fault) in
+    let found : earlier_of label (fault_of_bodies (texts bodies)) ≡ Some fault = sym (rw (drop_all i bodies past) at known) ∙ earlier_of-none (Some fault) in
     rw found refl
 
 pub bodies_taken : (bodies : List (Bor (List ℕ))) (i : ℕ) (at : Place) (label : Option RowFault) (lines : List Line) → length bodies ≤ i
-    → worse None (fault_of_bodies (texts (drop i bodies))) ≡ worse label (fault_of_bodies (texts bodies)) → lines ++ lines_in at (texts (drop i bodies)) ≡ lines_in at (texts bodies)
+    → earlier_of None (fault_of_bodies (texts (drop i bodies))) ≡ earlier_of label (fault_of_bodies (texts bodies)) → lines ++ lines_in at (texts (drop i bodies)) ≡ lines_in at (texts bodies)
     → bodies_reading at label (texts bodies) ≡ Ok lines
 bodies_taken bodies i at label lines past known made =
-    let found : worse label (fault_of_bodies (texts bodies)) ≡ None = sym (rw (drop_all i bodies past) at known) in
+    let found : earlier_of label (fault_of_bodies (texts bodies)) ≡ None = sym (rw (drop_all i bodies past) at known) in
     let all : lines_in at (texts bodies) ≡ lines = sym (rw (drop_all i bodies past) at made) ∙ append-nil lines in
     rw (found, all) refl

@@ -13,7 +13,7 @@ use Rattle.dm_table.specs.Number.{number_in}
 use Rattle.dm_table.specs.Fields.{fields, row_fields, without_last_space}
 use Rattle.dm_table.specs.LineBody.{body_text, IsBody, is_body_row, is_body, has_body_names}
 use Rattle.dm_table.specs.LineReading.{line_in}
-use Rattle.dm_table.specs.ConciseText.{is_uuid, is_minor, is_ro, is_flags, place_of, WritesBody, SaysLines, SaysDevice, lacks, entries, without_first_space, body_fields, is_label, is_known, is_named, is_device, has_values, has_names}
+use Rattle.dm_table.specs.ConciseText.{is_uuid, is_minor, is_ro, is_flags, place_of, WritesBody, SaysLines, SaysDevice, lacks, entries, without_first_space, body_fields, is_label, has_label_values, has_label_names, is_device, has_values, has_names}
 use Rattle.dm_table.specs.ConciseReading.{lines_in, device_in}
 use Rattle.dm_table.proofs.ByteLemmas.{All-list_all, list_all-weaker, list_all-both}
 use Rattle.dm_table.proofs.FieldLemmas.{IsClearOf, parts_at-join, join-parts_at}
@@ -212,7 +212,7 @@ pub record IsDeviceSaid (n : ℕ) (text : List ℕ) (es : List (List ℕ)) : Typ
   pub is : device_in n es ≡ Some device
   pub says : SaysDevice n text device
 
-entries_said : (n : ℕ) (text : List ℕ) (es : List (List ℕ)) → text ≡ join_with_byte 44 es → is_label es ≡ true → is_known es ≡ true → is_named es ≡ true
+entries_said : (n : ℕ) (text : List ℕ) (es : List (List ℕ)) → text ≡ join_with_byte 44 es → is_label es ≡ true → has_label_values es ≡ true → has_label_names es ≡ true
     → list_all (λ text. is_body_row (body_fields text)) (drop 4 es) ≡ true → list_all (λ text. is_body (body_fields text)) (drop 4 es) ≡ true
     → list_all (λ text. has_body_names (body_fields text)) (drop 4 es) ≡ true → IsDeviceSaid n text es
 entries_said n text [] is a k m r l h = absurd cc
@@ -248,8 +248,8 @@ pub device_said : (n : ℕ) (text : List ℕ) → is_device text ≡ true → ha
 device_said n text r l h =
     let a = and_parts (lacks 10 text && is_label (entries text)) _ r in
     let label = and_parts (lacks 10 text) (is_label (entries text)) a.0 in
-    let values = and_parts (is_known (entries text)) _ l in
-    let names = and_parts (is_named (entries text)) _ h in
+    let values = and_parts (has_label_values (entries text)) _ l in
+    let names = and_parts (has_label_names (entries text)) _ h in
     entries_said n text (entries text) (sym (join-parts_at 44 text)) label.1 values.0 names.0 a.1 values.1 names.1
 
 -- and back

@@ -10,7 +10,7 @@ use Rattle.dm_table.specs.declared.load_fault.LoadFault.{LoadFault}
 use Rattle.dm_table.specs.Fields.{parts_at, all_but_last, last_or, lines_of, rest_of, row_fields}
 use Rattle.dm_table.specs.LoadFault.{Answers, first_fault, faults_from, is_printable, not_text, unended}
 use Rattle.dm_table.specs.Parsed.{IsParsed}
-use Rattle.dm_table.specs.TableText.{NamedLine, Says, DescribesTable, named_lines, is_row, is_line, has_names, table_checks}
+use Rattle.dm_table.specs.TableText.{NamedLine, Says, DescribesTable, named_lines, is_row, has_values, has_names, table_checks}
 use Rattle.dm_table.specs.TableReading.{named_in, named_from, joined, devices_from, read_table}
 use Rattle.dm_table.proofs.ByteLemmas.{is_shown, is_shown-clear, is_shown-printed}
 use Rattle.dm_table.proofs.FaultLemmas.{first_fault-none, first_fault-all, faults_from-nil, faults_from-good, append-nil_both, unended-nil}
@@ -28,7 +28,7 @@ abbrev AllRowsPass : (List (List ℕ) → Bool) → List (List (List ℕ)) → T
 AllRowsPass test rs = AllByRecursion (λ row. not (test row) ≡ false) rs
 
 -- the lines of rows in order say what is read from them
-lines_say : (n : ℕ) (ls : List (List ℕ)) → AllRowsPass is_row (map row_fields ls) → AllRowsPass is_line (map row_fields ls) → AllRowsPass has_names (map row_fields ls) → Says n ls (named_from n (map row_fields ls))
+lines_say : (n : ℕ) (ls : List (List ℕ)) → AllRowsPass is_row (map row_fields ls) → AllRowsPass has_values (map row_fields ls) → AllRowsPass has_names (map row_fields ls) → Says n ls (named_from n (map row_fields ls))
 lines_say n [] r l h = tt
 lines_say n (line ∷ ls) r l h =
     let a = not-false _ r.0 in
@@ -42,7 +42,7 @@ described text h =
     let none = first_fault-none (table_checks text) h in
     let s = append-nil_both bad_rows rest none.1.0 in
     let in_order = faults_from-nil Source Syntax (λ row. not (is_row row)) 1 (rows text) s.0 in
-    let with_values = faults_from-nil Source Field (λ row. not (is_line row)) 1 (rows text) none.1.1.0 in
+    let with_values = faults_from-nil Source Field (λ row. not (has_values row)) 1 (rows text) none.1.1.0 in
     let with_names = faults_from-nil Source Name (λ row. not (has_names row)) 1 (rows text) none.1.1.1.0 in
     let ends = unended-nil Source (length (rows text) + 1) (rest_of text) s.1 in
     record {
@@ -73,7 +73,7 @@ rows_pass n [] (named ∷ ns) s = absurd s
 rows_pass n (line ∷ ls) [] s = absurd s
 rows_pass n (line ∷ ls) (named ∷ ns) s = (not_from_true _ (row_passes n named s.1), rows_pass (suc n) ls ns s.2)
 
-lines_pass : (n : ℕ) (ls : List (List ℕ)) (ns : List NamedLine) → Says n ls ns → AllRowsPass is_line (map row_for ns)
+lines_pass : (n : ℕ) (ls : List (List ℕ)) (ns : List NamedLine) → Says n ls ns → AllRowsPass has_values (map row_for ns)
 lines_pass n [] [] s = tt
 lines_pass n [] (named ∷ ns) s = absurd s
 lines_pass n (line ∷ ls) [] s = absurd s
@@ -114,7 +114,7 @@ again text ds d =
     let rs : rows text ≡ map row_for ns = ap (map row_fields) lines ∙ rows_said 1 d.lines ns d.said in
     let no_bytes : not_text Source (parts_at 10 text) ≡ [] = ap (not_text Source) parts ∙ faults_from-good Source NotText (λ line. not (is_printable line)) 1 (d.lines ++ [] ∷ []) (texts_pass d.lines clean) in
     let no_rows = none_along (λ r. faults_from Source Syntax (λ row. not (is_row row)) 1 r) (rows text) (map row_for ns) rs (faults_from-good Source Syntax (λ row. not (is_row row)) 1 (map row_for ns) (rows_pass 1 d.lines ns d.said)) in
-    let no_lines = none_along (λ r. faults_from Source Field (λ row. not (is_line row)) 1 r) (rows text) (map row_for ns) rs (faults_from-good Source Field (λ row. not (is_line row)) 1 (map row_for ns) (lines_pass 1 d.lines ns d.said)) in
+    let no_lines = none_along (λ r. faults_from Source Field (λ row. not (has_values row)) 1 r) (rows text) (map row_for ns) rs (faults_from-good Source Field (λ row. not (has_values row)) 1 (map row_for ns) (lines_pass 1 d.lines ns d.said)) in
     let no_names = none_along (λ r. faults_from Source Name (λ row. not (has_names row)) 1 r) (rows text) (map row_for ns) rs (faults_from-good Source Name (λ row. not (has_names row)) 1 (map row_for ns) (all_names_pass 1 d.lines ns d.said)) in
     let no_syntax : faults_from Source Syntax (λ row. not (is_row row)) 1 (rows text) ++ unended Source (length (rows text) + 1) (rest_of text) ≡ [] = rw (no_rows, rest) refl in
     (first_fault-all (table_checks text) (no_bytes, (no_syntax, (no_lines, (no_names, tt)))), ap (devices_from 1) rs ∙ ap joined (named_again 1 d.lines ns d.said) ∙ devices_again ds d.each d.apart)

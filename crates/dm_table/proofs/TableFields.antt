@@ -13,11 +13,11 @@ use Rattle.dm_table.specs.declared.place.Part.TheVariants.{Source}
 use Rattle.dm_table.specs.declared.row_faults.RowFault.{RowFault}
 use Rattle.dm_table.specs.declared.row_faults.RowFault.TheVariants.{Syntax, Name}
 use Rattle.dm_table.specs.Name.{is_device_name}
-use Rattle.dm_table.specs.RowFaults.{test_fault, fault_in}
+use Rattle.dm_table.specs.RowFaults.{first_failed, fault_in}
 use Rattle.dm_table.specs.LineBody.{is_body_row, Body, body_in, has_target_names}
 use Rattle.dm_table.specs.LineReading.{line_at, line_in, reading_of, body_reading}
 use Rattle.dm_table.specs.TableText.{NamedLine, name_in, is_row}
-use Rattle.dm_table.specs.TableReading.{named_in, has_line_names, fault_of_row, row_reading}
+use Rattle.dm_table.specs.TableReading.{named_in, has_line_names, table_row_fault, row_reading}
 use Rattle.dm_table.proofs.TargetRows.{made_fault, and_false}
 use Rattle.std.proofs.lemmas.Bool.{cases_Bool}
 use denote.Ref.{Bor}
@@ -74,21 +74,21 @@ with_label label line = record { name = name_in label; line = line }
 
 -- what is wrong with a row is what its tests say
 label_found : (n : ℕ) (label : List ℕ) (o : Option Body) → fault_in (reading_of has_line_names (option_map (with_label label) (option_map (line_at (place n)) o)))
-    ≡ test_fault true (is_some o) (is_device_name (name_in label) && unwrap_or (option_map (λ body. has_target_names body.len body.target) o) true)
+    ≡ first_failed true (is_some o) (is_device_name (name_in label) && unwrap_or (option_map (λ body. has_target_names body.len body.target) o) true)
 label_found n label None = refl
 label_found n label (Some body) = elim (cases_Bool (is_device_name (name_in label) && has_target_names body.len body.target)) [
   | inl e ↦ rw e refl
   | inr e ↦ rw e refl
 ]
 
-row_found : (n : ℕ) (row : List (List ℕ)) → fault_in (row_reading n row) ≡ fault_of_row row
+row_found : (n : ℕ) (row : List (List ℕ)) → fault_in (row_reading n row) ≡ table_row_fault row
 row_found n [] = refl
 row_found n (label ∷ fs) = elim (cases_Bool (is_row (label ∷ fs))) [
   | inl e ↦ rw e (label_found n label (body_in fs))
   | inr e ↦ rw e refl
 ]
 
-pub row_fault_is : (n : ℕ) (row : List (List ℕ)) (reading : Result NamedLine RowFault) → row_reading n row ≡ reading → fault_of_row row ≡ fault_in reading
+pub row_fault_is : (n : ℕ) (row : List (List ℕ)) (reading : Result NamedLine RowFault) → row_reading n row ≡ reading → table_row_fault row ≡ fault_in reading
 row_fault_is n row reading h = sym (row_found n row) ∙ ap fault_in h
 
 -- a line that was read is the row's, and its names are valid
@@ -107,7 +107,7 @@ taken_by true (Some named) h = elim (cases_Bool (has_line_names named)) [
   | inr e ↦ absurd (let no : Some Name ≡ None = rw e at h in cc)
 ]
 
-pub row_taken : (n : ℕ) (row : List (List ℕ)) → fault_of_row row ≡ None → IsTaken n row
+pub row_taken : (n : ℕ) (row : List (List ℕ)) → table_row_fault row ≡ None → IsTaken n row
 row_taken n row h =
     let a = taken_by (is_row row) (named_in n row) (row_found n row ∙ h) in
     record { named = a.0; said = a.1; read = a.2; names = a.3 }

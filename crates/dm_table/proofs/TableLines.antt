@@ -16,7 +16,7 @@ use Rattle.dm_table.specs.LoadFault.{first_fault, unless}
 use Rattle.dm_table.specs.Reading.{with_rows}
 use Rattle.dm_table.specs.LineBody.{has_target_names}
 use Rattle.dm_table.specs.TableText.{NamedLine, table_checks}
-use Rattle.dm_table.specs.TableReading.{named_in, named_from, alone, join_line, joined, add_line, add_said, fault_of_row, row_reading, rows_of, read_table}
+use Rattle.dm_table.specs.TableReading.{named_in, named_from, alone, join_line, joined, add_line, add_said, table_row_fault, row_reading, rows_of, read_table}
 use Rattle.dm_table.proofs.TableGroups.{same_name, is_same_name, other_name, is_other_name}
 use Rattle.dm_table.proofs.TableFields.{row_fault_is, row_taken}
 use Rattle.dm_table.proofs.TargetRows.{read_ok}
@@ -106,13 +106,13 @@ read_named n row named h =
     let same : taken.named ≡ named = read_ok taken.named named (sym taken.read ∙ h) in
     rw (← same) (and_parts (is_device_name taken.named.name) (has_target_names taken.named.line.len taken.named.line.target) taken.names).0
 
--- what is wrong with a row, where it was read and where not
-pub line_taken : (n : ℕ) (row : List (List ℕ)) (named : NamedLine) → row_reading n row ≡ Ok named → (read_unless (fault_of_row row) (tt {0}) ≡ Ok (tt {0})) × (named_in n row ≡ Some named)
-line_taken n row named h =
-    let clear : fault_of_row row ≡ None = row_fault_is n row (Ok named) h in
+-- a row that was read has no fault and says what was read; one that was refused has that fault
+pub named_read : (n : ℕ) (row : List (List ℕ)) (named : NamedLine) → row_reading n row ≡ Ok named → (read_unless (table_row_fault row) (tt {0}) ≡ Ok (tt {0})) × (named_in n row ≡ Some named)
+named_read n row named h =
+    let clear : table_row_fault row ≡ None = row_fault_is n row (Ok named) h in
     let taken = row_taken n row clear in
     let same : taken.named ≡ named = read_ok taken.named named (sym taken.read ∙ h) in
     (rw clear refl, taken.said ∙ ap Some same)
 
-pub line_refused : (n : ℕ) (row : List (List ℕ)) (fault : RowFault) → row_reading n row ≡ Err fault → read_unless (fault_of_row row) (tt {0}) ≡ Err fault
-line_refused n row fault h = let found : fault_of_row row ≡ Some fault = row_fault_is n row (Err fault) h in rw found refl
+pub named_refused : (n : ℕ) (row : List (List ℕ)) (fault : RowFault) → row_reading n row ≡ Err fault → read_unless (table_row_fault row) (tt {0}) ≡ Err fault
+named_refused n row fault h = let found : table_row_fault row ≡ Some fault = row_fault_is n row (Err fault) h in rw found refl

@@ -7,7 +7,7 @@ use Rattle.std.proofs.lemmas.List.{length-append}
 use Rattle.dm_table.specs.Name.{is_device_name}
 use Rattle.dm_table.specs.Fields.{all_but_last, last_or, fields, row_fields, without_last_space}
 use Rattle.dm_table.specs.LineBody.{is_body_row, has_body_names}
-use Rattle.dm_table.specs.TableText.{NamedLine, line_text, Writes, IsSaid, is_label, name_in, is_row, is_line, has_names}
+use Rattle.dm_table.specs.TableText.{NamedLine, line_text, Writes, IsSaid, is_label, name_in, is_row, has_values, has_names}
 use Rattle.dm_table.specs.LineReading.{line_in}
 use Rattle.dm_table.specs.TableReading.{named_in}
 use Rattle.dm_table.proofs.ByteLemmas.{is_shown, list_all-weaker, list_all-both}
@@ -61,7 +61,7 @@ label_spelled label h =
     sym (last_split label (omega arith) ∙ ap (λ (b : ℕ). all_but_last label ++ b ∷ []) (eqb-true (last_or 0 label) 58 a.1))
 
 -- the line that a row says, where its values are valid
-pub row_there : (n : ℕ) (row : List (List ℕ)) → is_line row ≡ true → (named : NamedLine) × (named_in n row ≡ Some named)
+pub row_there : (n : ℕ) (row : List (List ℕ)) → has_values row ≡ true → (named : NamedLine) × (named_in n row ≡ Some named)
 row_there n [] l = absurd cc
 row_there n (label ∷ fs) l =
     let line = body_there (place n) fs l in
@@ -168,7 +168,7 @@ label_passes name h =
 pub row_passes : (n : ℕ) (named : NamedLine) → IsSaid n named → is_row (row_for named) ≡ true
 row_passes n named h = and_from _ _ (label_passes named.name h.name) (body_row_passes named.line h.body)
 
-pub line_passes : (n : ℕ) (named : NamedLine) → IsSaid n named → is_line (row_for named) ≡ true
+pub line_passes : (n : ℕ) (named : NamedLine) → IsSaid n named → has_values (row_for named) ≡ true
 line_passes n named h = body_passes named.line h.body
 
 pub names_pass : (n : ℕ) (named : NamedLine) → IsSaid n named → has_names (row_for named) ≡ true

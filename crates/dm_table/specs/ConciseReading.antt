@@ -13,14 +13,14 @@ use Rattle.dm_table.specs.LoadFault.{first_fault, row_checks, unless}
 use Rattle.dm_table.specs.RowFaults.{row_fault, read_unless}
 use Rattle.dm_table.specs.LineBody.{is_body_row, is_body, has_body_names}
 use Rattle.dm_table.specs.LineReading.{line_in}
-use Rattle.dm_table.specs.ConciseText.{place_of, is_ro, entries, body_fields, is_label, is_known, is_named, is_device, has_values, has_names, devices_of, concise_checks}
+use Rattle.dm_table.specs.ConciseText.{place_of, is_ro, entries, body_fields, is_label, has_label_values, has_label_names, is_device, has_values, has_names, devices_of, concise_checks}
 
 -- of two faults, the one whose check runs first
-abbrev pub worse : Option RowFault → Option RowFault → Option RowFault
-worse None other = other
-worse (Some Field) (Some Syntax) = Some Syntax
-worse (Some Name) (Some other) = Some other
-worse (Some fault) other = Some fault
+abbrev pub earlier_of : Option RowFault → Option RowFault → Option RowFault
+earlier_of None other = other
+earlier_of (Some Field) (Some Syntax) = Some Syntax
+earlier_of (Some Name) (Some other) = Some other
+earlier_of (Some fault) other = Some fault
 
 -- what is wrong with a body, and with bodies
 abbrev pub fault_of_body : List ℕ → Option RowFault
@@ -28,20 +28,20 @@ fault_of_body text = row_fault is_body_row is_body has_body_names (body_fields t
 
 abbrev pub fault_of_bodies : List (List ℕ) → Option RowFault
 fault_of_bodies [] = None
-fault_of_bodies (text ∷ texts) = worse (fault_of_body text) (fault_of_bodies texts)
+fault_of_bodies (text ∷ texts) = earlier_of (fault_of_body text) (fault_of_bodies texts)
 
 -- the lines that bodies say
 abbrev pub lines_in : Place → List (List ℕ) → List Line
 lines_in at texts = filter_map (λ text. line_in at (body_fields text)) texts
 
--- what is wrong with the label of entries, whether or not they stand on one line
+-- what is wrong with the label of entries; entries that are not on one line have none
 abbrev pub fault_of_label : Bool → List (List ℕ) → Option RowFault
-fault_of_label on_a_line entries = row_fault (λ es. on_a_line && is_label es) is_known is_named entries
+fault_of_label on_a_line entries = row_fault (λ es. on_a_line && is_label es) has_label_values has_label_names entries
 
--- what is wrong with entries, whether or not they stand on one line
+-- what is wrong with entries, whose label counts only if they are on one line
 abbrev pub fault_of_entries : Bool → List (List ℕ) → Option RowFault
 fault_of_entries on_a_line entries =
-    worse (fault_of_label on_a_line entries) (fault_of_bodies (drop 4 entries))
+    earlier_of (fault_of_label on_a_line entries) (fault_of_bodies (drop 4 entries))
 
 -- what is wrong with a device
 abbrev pub fault_of_device : List ℕ → Option RowFault
@@ -55,7 +55,7 @@ device_in n _ = None
 -- What is read
 
 abbrev pub bodies_reading : Place → Option RowFault → List (List ℕ) → Result (List Line) RowFault
-bodies_reading at before texts = read_unless (worse before (fault_of_bodies texts)) (lines_in at texts)
+bodies_reading at before texts = read_unless (earlier_of before (fault_of_bodies texts)) (lines_in at texts)
 
 -- a device, or the fault that was found first; entries that say none have no label
 abbrev pub device_unless : Option RowFault → Option DeviceSpec → Result DeviceSpec RowFault

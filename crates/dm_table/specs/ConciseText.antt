@@ -115,14 +115,14 @@ is_label (name ∷ uuid ∷ minor ∷ flags ∷ body ∷ bodies) = lacks 32 name
 is_label _ = false
 
 -- a label whose minor number and flags are valid
-abbrev pub is_known : List (List ℕ) → Bool
-is_known (name ∷ uuid ∷ minor ∷ flags ∷ bodies) = is_minor minor && is_flags flags
-is_known _ = false
+abbrev pub has_label_values : List (List ℕ) → Bool
+has_label_values (name ∷ uuid ∷ minor ∷ flags ∷ bodies) = is_minor minor && is_flags flags
+has_label_values _ = false
 
 -- a label whose name and uuid are valid
-abbrev pub is_named : List (List ℕ) → Bool
-is_named (name ∷ uuid ∷ bodies) = is_device_name name && is_uuid uuid
-is_named _ = false
+abbrev pub has_label_names : List (List ℕ) → Bool
+has_label_names (name ∷ uuid ∷ bodies) = is_device_name name && is_uuid uuid
+has_label_names _ = false
 
 -- the entries after the label
 abbrev pub bodies_of : List ℕ → List (List ℕ)
@@ -134,11 +134,11 @@ is_device text = (lacks 10 text && is_label (entries text)) && list_all (λ body
 
 -- whose values are valid
 abbrev pub has_values : List ℕ → Bool
-has_values text = is_known (entries text) && list_all (λ body. is_body (body_fields body)) (bodies_of text)
+has_values text = has_label_values (entries text) && list_all (λ body. is_body (body_fields body)) (bodies_of text)
 
 -- whose names are valid
 abbrev pub has_names : List ℕ → Bool
-has_names text = is_named (entries text) && list_all (λ body. has_body_names (body_fields body)) (bodies_of text)
+has_names text = has_label_names (entries text) && list_all (λ body. has_body_names (body_fields body)) (bodies_of text)
 
 -- the checks of a text, in their order
 abbrev pub concise_checks : List ℕ → List (List LoadFault)

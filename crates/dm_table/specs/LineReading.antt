@@ -36,7 +36,7 @@ has_column_names columns = list_all (λ column. is_dev_ref column.to) columns
 abbrev pub columns_reading : List (List ℕ) → Result (List Column) RowFault
 columns_reading fields = reading_of has_column_names (columns_in fields)
 
--- the fault of columns in which this one comes before these fields
+-- the fault of columns of which the first has this fault and the others have these fields
 abbrev pub fault_before : RowFault → List (List ℕ) → RowFault
 fault_before Name fields = if is_some (columns_in fields) then Name else Field
 fault_before Syntax fields = Syntax

@@ -1,4 +1,4 @@
--- Rows of fields that are read once, each check of a text running over all of them by its definition.
+-- What is wrong with a row, and the first fault of each kind. Each row is read once, though by definition each check runs over all rows.
 use Rattle.std.specs.Prelude.{◌≡◌, ◌≢◌, ℕ, suc, Bool, List, [], ◌∷◌, Option, Some, None, Result, Ok, Err, if◌then◌else◌}
 use Rattle.dm_table.specs.declared.place.Part.{Part}
 use Rattle.dm_table.specs.declared.load_fault.LoadKind.TheVariants as kinds
@@ -8,13 +8,13 @@ use Rattle.dm_table.specs.declared.row_faults.RowFault.TheVariants.{Syntax, Fiel
 use Rattle.dm_table.specs.declared.row_faults.FirstFaults.{FirstFaults}
 use Rattle.dm_table.specs.LoadFault.{fault_at}
 
--- the fault of the first of three tests that fails
-abbrev pub test_fault : (row values names : Bool) → Option RowFault
-test_fault row values names = if row then (if values then (if names then None else Some Name) else Some Field) else Some Syntax
+-- the fault of the first of these three tests to fail, if one does
+abbrev pub first_failed : (is_row has_values has_names : Bool) → Option RowFault
+first_failed is_row has_values has_names = if is_row then (if has_values then (if has_names then None else Some Name) else Some Field) else Some Syntax
 
 -- what is wrong with a row, by the tests of its form
 abbrev pub row_fault : {X : Type 0} → (is_row has_values has_names : X → Bool) → X → Option RowFault
-row_fault is_row has_values has_names row = test_fault (is_row row) (has_values row) (has_names row)
+row_fault is_row has_values has_names row = first_failed (is_row row) (has_values row) (has_names row)
 
 -- the value, or the fault that was found first
 abbrev pub read_unless : {X : Type 0} → Option RowFault → X → Result X RowFault

@@ -15,7 +15,7 @@ use Rattle.dm_table.specs.Name.{is_device_name}
 use Rattle.dm_table.specs.RowFaults.{row_fault}
 use Rattle.dm_table.specs.LineBody.{has_target_names}
 use Rattle.dm_table.specs.LineReading.{line_in, reading_of}
-use Rattle.dm_table.specs.TableText.{NamedLine, name_in, is_row, is_line, has_names, table_checks}
+use Rattle.dm_table.specs.TableText.{NamedLine, name_in, is_row, has_values, has_names, table_checks}
 
 -- the rows of lines
 abbrev pub rows_of : List (List ℕ) → List (List (List ℕ))
@@ -66,14 +66,15 @@ abbrev pub add_said : List DeviceSpec → Option NamedLine → List DeviceSpec
 add_said devices None = devices
 add_said devices (Some named) = add_line devices named
 
--- what is wrong with a row, and what it says
-abbrev pub fault_of_row : List (List ℕ) → Option RowFault
-fault_of_row row = row_fault is_row is_line has_names row
+-- what is wrong with a row
+abbrev pub table_row_fault : List (List ℕ) → Option RowFault
+table_row_fault row = row_fault is_row has_values has_names row
 
 -- the name of a line, and each in its target, is valid
 abbrev pub has_line_names : NamedLine → Bool
 has_line_names named = is_device_name named.name && has_target_names named.line.len named.line.target
 
+-- what is read of a row, as line n
 abbrev pub row_reading : ℕ → List (List ℕ) → Result NamedLine RowFault
 row_reading n row = if is_row row then reading_of has_line_names (named_in n row) else Err Syntax
 

@@ -82,9 +82,9 @@ is_row (label ∷ body) = is_label label && is_body_row body
 is_row [] = false
 
 -- a body whose values are valid
-abbrev pub is_line : List (List ℕ) → Bool
-is_line (label ∷ body) = is_body body
-is_line [] = false
+abbrev pub has_values : List (List ℕ) → Bool
+has_values (label ∷ body) = is_body body
+has_values [] = false
 
 -- the name of the line, and those in its body
 abbrev pub has_names : List (List ℕ) → Bool
@@ -93,4 +93,4 @@ has_names [] = false
 
 -- the checks of a text, in their order
 abbrev pub table_checks : List ℕ → List (List LoadFault)
-table_checks text = line_checks Source row_fields is_row is_line has_names text
+table_checks text = line_checks Source row_fields is_row has_values has_names text

@@ -8,9 +8,9 @@ ghost use Rattle.std.specs.Prelude.{◌≡◌, ◌++◌, None, OnOk, IfOk};
 ghost use Rattle.std.specs.Option.{option_to_list};
 ghost use Rattle.dm_table.specs.Fields.{texts};
 ghost use Rattle.dm_table.specs.RowFaults.{Reads};
-ghost use Rattle.dm_table.specs.ConciseText.{lacks, is_uuid, is_minor, is_ro, is_flags, without_first_space, body_fields, is_label, is_known, is_named};
+ghost use Rattle.dm_table.specs.ConciseText.{lacks, is_uuid, is_minor, is_ro, is_flags, without_first_space, body_fields, is_label, has_label_values, has_label_names};
 ghost use Rattle.dm_table.specs.LineReading.{line_in};
-ghost use Rattle.dm_table.specs.ConciseReading.{worse, fault_of_body, fault_of_label, bodies_reading, entries_reading, device_reading};
+ghost use Rattle.dm_table.specs.ConciseReading.{earlier_of, fault_of_body, fault_of_label, bodies_reading, entries_reading, device_reading};
 
 use crate::fields::{cut_into, cut_row};
 use crate::line_body::{is_body_row, read_body};
@@ -69,9 +69,9 @@ fn label_fault(on_a_line: bool, entries: &[&[u8]]) -> Option<RowFault>
 {
     if !on_a_line || !is_label(entries) {
         Some(RowFault::Syntax)
-    } else if !is_known(entries) {
+    } else if !has_label_values(entries) {
         Some(RowFault::Field)
-    } else if !is_named(entries) {
+    } else if !has_label_names(entries) {
         Some(RowFault::Name)
     } else {
         None
@@ -91,8 +91,8 @@ fn is_label(entries: &[&[u8]]) -> bool
 }
 
 /// Whether the minor number and the flags are valid.
-fn is_known(entries: &[&[u8]]) -> bool
-    ensures { result ≡ is_known (texts entries.now) }
+fn has_label_values(entries: &[&[u8]]) -> bool
+    ensures { result ≡ has_label_values (texts entries.now) }
 {
     match entries {
         [_, _, minor, flags, ..] => is_minor(*minor) && is_flags(*flags),
@@ -101,8 +101,8 @@ fn is_known(entries: &[&[u8]]) -> bool
 }
 
 /// Whether the name and the uuid are valid.
-fn is_named(entries: &[&[u8]]) -> bool
-    ensures { result ≡ is_named (texts entries.now) }
+fn has_label_names(entries: &[&[u8]]) -> bool
+    ensures { result ≡ has_label_names (texts entries.now) }
 {
     match entries {
         [name, uuid, ..] => is_device_name(*name) && is_uuid(*uuid),
@@ -155,7 +155,7 @@ fn read_bodies<'a>(
     let mut fault = label;
     for body in bodies {
         let found = add_line(alloc, &mut lines, &mut *fields, *body, at)?;
-        fault = worse(fault, found);
+        fault = earlier_of(fault, found);
     }
     match fault {
         Some(fault) => Err(fault),
@@ -201,8 +201,8 @@ fn without_first_space<'s, 'a>(fields: &'s [&'a [u8]]) -> &'s [&'a [u8]]
 }
 
 /// Of two faults the one whose check runs first.
-fn worse(first: Option<RowFault>, other: Option<RowFault>) -> Option<RowFault>
-    ensures { result ≡ worse first other }
+fn earlier_of(first: Option<RowFault>, other: Option<RowFault>) -> Option<RowFault>
+    ensures { result ≡ earlier_of first other }
 {
     match (first, other) {
         (None, _) => other,

@@ -28,9 +28,9 @@ use std::alloc::{AllocError, Global};
 /// disk is its line, from 1.
 ///
 /// Each check runs over the whole text, and the first that finds anything gives the fault, at its
-/// first line: `NotText` for a byte outside 0x20 to 0x7E, `Syntax` for a line that is not two
-/// fields or that no newline ends, `Field` for a length that is not a number, `Name` for a name
-/// that no disk can have. `Memory`, of number 0, comes wherever an allocation was refused.
+/// first line: `NotText` for a byte that is neither a newline nor from 0x20 to 0x7E, `Syntax` for a line
+/// that is not two fields or that no newline ends, `Field` for a length that is not a number, `Name` for
+/// a name that no disk can have. `Memory`, of number 0, comes wherever an allocation was refused.
 ///
 /// The time is linear in the text.
 pub fn parse_disks(alloc: Global, text: &[u8]) -> Result<Vec<Disk>, LoadFault>
@@ -52,7 +52,7 @@ impl FromRows for Disk {
 
     ghost with_row = { λ disks n row. disks ++ disk_of n row ∷ [] };
 
-    fn cut<'a>(row: &mut Vec<&'a [u8]>, line: &'a [u8]) -> Result<(), AllocError> {
+    fn cut_line<'a>(row: &mut Vec<&'a [u8]>, line: &'a [u8]) -> Result<(), AllocError> {
         cut_into(row, b' ', line)
     }
 

@@ -34,7 +34,7 @@ pub enum LoadKind {
     Gap,
     /// A line that starts before the end of the one before.
     Overlap,
-    /// A line that names no device or disk.
+    /// A line that names a device or disk that is not there.
     Unknown,
     /// A device that reaches itself.
     Cycle,

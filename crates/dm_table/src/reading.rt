@@ -1,8 +1,8 @@
 //! What was read of a text so far: the values of its rows, and what is wrong with the others.
 //!
 //! The checks of a text run one after another by their definition, so that a fault is known only at
-//! the end; a text with one has no values. What the lines of a text are read into implements `FromRows`,
-//! and `read_lines` reads them.
+//! the end; a text with one has no values. A type that the lines of a text are read into implements
+//! `FromRows`, and `read_lines` reads a text into such values.
 
 ghost use Rattle.std.specs.Prelude.{◌≡◌, ◌+◌, ℕ, Bool, List, [], None, Ok, IfOk, OnOk, length, map};
 ghost use Rattle.dm_table.specs.Fields.{texts, lines_of, rest_of};
@@ -48,27 +48,28 @@ impl<T: Drop> Reading<T> {
 
 /// What the lines of a text are read into: disks, or devices, which take the lines of their name.
 pub(crate) trait FromRows: Drop {
-    /// The row that a line is: its fields.
+    /// The fields of a line.
     ghost row_of: { List ℕ → List (List ℕ) };
 
-    /// Whether it is a row of this form.
+    /// Whether fields are a row of this form.
     ghost is_row: { List (List ℕ) → Bool };
 
-    /// Whether its values are valid.
+    /// Whether the values of a row are valid.
     ghost has_values: { List (List ℕ) → Bool };
 
-    /// Whether its names are valid.
+    /// Whether the names in a row are valid.
     ghost has_names: { List (List ℕ) → Bool };
 
-    /// The values after one more row with which nothing is wrong, by its number in the text.
+    /// The values after one more row, which has this number and no fault.
     ghost with_row: { List Self → ℕ → List (List ℕ) → List Self };
 
-    /// Puts the fields of a line in place of those of another, so that one list serves all lines.
-    fn cut<'a>(row: &mut Vec<&'a [u8]>, line: &'a [u8]) -> Result<(), AllocError>
+    /// Cuts a line into its fields, which replace those of the line before, so that one list serves all
+    /// lines.
+    fn cut_line<'a>(row: &mut Vec<&'a [u8]>, line: &'a [u8]) -> Result<(), AllocError>
         ensures { OnOk result (texts row.new.items ≡ row_of line.now) };
 
-    /// Reads row `number` of a text into the values of those before it. After a fault the values may be
-    /// any.
+    /// Adds what row `number` of a text says to the values of the rows before it. After a fault the values
+    /// may be anything.
     fn read_row(
         alloc: Global,
         values: &mut Vec<Self>,
@@ -110,7 +111,7 @@ fn read_each<T: FromRows>(alloc: Global, part: Part, text: &[u8]) -> Result<Read
     let mut rest = text;
     while let Some(end) = memchr(b'\n', rest) {
         let (line, after) = rest.split_at(end);
-        T::cut(&mut row, line)?;
+        T::cut_line(&mut row, line)?;
         let read = T::read_row(alloc, &mut reading.values, &row, number);
         reading.faults.note(part, number, read)?;
         number += 1;

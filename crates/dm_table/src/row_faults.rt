@@ -61,7 +61,7 @@ impl FirstFaults {
         }
     }
 
-    /// Keeps the fault of the row that is line `number`, if it has one and it is the first of its kind.
+    /// Keeps the fault of row `number`, if it has one and it is the first of its kind.
     /// Where memory ran out, nothing is read on.
     pub(crate) fn note(
         &mut self,

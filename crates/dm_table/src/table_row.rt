@@ -25,7 +25,7 @@ pub(crate) struct Row<'a> {
 
 /// What the row says that is line `number` of a text. Of its faults, `Syntax` takes precedence over
 /// `Field`, and that over `Name`.
-pub(crate) fn read_row<'a>(
+pub(crate) fn read_named<'a>(
     alloc: Global,
     row: &[&'a [u8]],
     number: u64,

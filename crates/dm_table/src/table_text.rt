@@ -8,7 +8,7 @@ ghost use Rattle.std.specs.Prelude.{◌≡◌, IfOk, OnOk, IsTrue};
 ghost use Rattle.dm_table.specs.declared.place.Part.TheVariants.{Source};
 ghost use Rattle.dm_table.specs.Name.{is_device_name};
 ghost use Rattle.dm_table.specs.Parsed.{IsParsed};
-ghost use Rattle.dm_table.specs.TableText.{DescribesTable, is_row, is_line, has_names, table_checks};
+ghost use Rattle.dm_table.specs.TableText.{DescribesTable, is_row, has_values, has_names, table_checks};
 ghost use Rattle.dm_table.specs.Fields.{row_fields};
 ghost use Rattle.dm_table.specs.TableReading.{named_in, named_of, alone, add_line, add_said};
 
@@ -19,7 +19,7 @@ use crate::place::Part;
 use crate::reading::{FromRows, read_lines};
 use crate::row_faults::RowFault;
 use crate::table::{DeviceSpec, Table};
-use crate::table_row::{Row, read_row};
+use crate::table_row::{Row, read_named};
 use std::alloc::{AllocError, Global};
 
 /// The devices of table text, in its order. Neighbouring lines of one name are one device, whose
@@ -28,10 +28,10 @@ use std::alloc::{AllocError, Global};
 /// dmsetup(8). A striped line counts its columns, and there may be none.
 ///
 /// Otherwise the fault of the first of these checks that finds anything, at its first line: `NotText`,
-/// a byte other than 0x20 to 0x7E; `Syntax`, fewer than four fields with single spaces between
-/// them, a first field without a name and a colon, or no newline at the end; `Field`, a number
-/// that isn't one, an unknown target type or wrong arguments; `Name`, no name of a device or a disk.
-/// Or `Memory`, with number 0, if an allocation was refused. The time is linear in the text.
+/// a byte that is neither a newline nor from 0x20 to 0x7E; `Syntax`, fewer than four fields with single
+/// spaces between them, a first field without a name and a colon, or no newline at the end; `Field`, a
+/// number that isn't one, an unknown target type or wrong arguments; `Name`, no name of a device or a
+/// disk. Or `Memory`, with number 0, if an allocation was refused. The time is linear in the text.
 pub fn parse_table(alloc: Global, text: &[u8]) -> Result<Vec<DeviceSpec>, LoadFault>
     // A text is accepted as the devices that it describes, and a refusal is the first fault of the first check
     // that finds any.
@@ -45,13 +45,13 @@ impl FromRows for DeviceSpec {
 
     ghost is_row = { is_row };
 
-    ghost has_values = { is_line };
+    ghost has_values = { has_values };
 
     ghost has_names = { has_names };
 
     ghost with_row = { λ devices n row. add_said devices (named_in n row) };
 
-    fn cut<'a>(row: &mut Vec<&'a [u8]>, line: &'a [u8]) -> Result<(), AllocError> {
+    fn cut_line<'a>(row: &mut Vec<&'a [u8]>, line: &'a [u8]) -> Result<(), AllocError> {
         cut_row(row, line)
     }
 
@@ -61,9 +61,9 @@ impl FromRows for DeviceSpec {
         row: &[&[u8]],
         number: u64,
     ) -> Result<(), RowFault> {
-        match read_row(alloc, row, number) {
-            Ok(row) => {
-                add_line(alloc, devices, row)?;
+        match read_named(alloc, row, number) {
+            Ok(named) => {
+                add_line(alloc, devices, named)?;
                 Ok(())
             }
             Err(fault) => Err(fault),

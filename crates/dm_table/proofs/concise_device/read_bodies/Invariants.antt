@@ -1,12 +1,12 @@
 -- the fault so far and those of the bodies that are left are that of all; where there is none, so are the lines
 use Rattle.std.proofs.Common.{◌≡◌, ◌++◌, drop, None}
 use Rattle.dm_table.specs.Fields.{texts}
-use Rattle.dm_table.specs.ConciseReading.{worse, fault_of_bodies, lines_in}
+use Rattle.dm_table.specs.ConciseReading.{earlier_of, fault_of_bodies, lines_in}
 use Rattle.dm_table.proofs.concise_device.read_bodies.Given as goal
 
 abbrev pub invariant-loop-body : goal.invariant-loop-body
 invariant-loop-body l =
     record {
-      known : worse l.fault (fault_of_bodies (texts (drop l.body-index l.bodies))) ≡ worse l.fn.label (fault_of_bodies (texts l.bodies));
+      known : earlier_of l.fault (fault_of_bodies (texts (drop l.body-index l.bodies))) ≡ earlier_of l.fn.label (fault_of_bodies (texts l.bodies));
       made : l.fault ≡ None → l.lines.items ++ lines_in l.at (texts (drop l.body-index l.bodies)) ≡ lines_in l.at (texts l.bodies);
     }

@@ -21,7 +21,7 @@ loop-end-preserved g c =
     let next : n + 1 ≡ suc n = omega arith in
     let len : length (lines_of text) ≡ suc (length (lines_of more)) = ap (λ (lines : List (List ℕ)). length lines) a.0 in
     let first = ap (map form.row_of) a.0 in
-    let is : cut ≡ form.row_of line = ap texts c.deref.ensures.value ∙ c.in_ok-cut.ensures ∙ ap form.row_of c.split_at.ensures.front in
+    let is : cut ≡ form.row_of line = ap texts c.deref.ensures.value ∙ c.in_ok-cut_line.ensures ∙ ap form.row_of c.split_at.ensures.front in
     record {
       values =
           values_left form.with_row c.args.part (map form.row_of (lines_of text)) (map form.row_of (lines_of more)) (form.row_of line) cut n (n + 1) c.read_row-read.result seen c.note.new.self c.loop-end.reading.values.items c.read_row-read.new.values.items (with_rows form.with_row [] 1 (map form.row_of (lines_of c.args.text.now)))

@@ -1,7 +1,7 @@
 use Rattle.std.proofs.Common.{sym, ◌∙◌}
 use Rattle.std.proofs.lemmas.Result.{err_from_is_err_and}
 use Rattle.dm_table.proofs.TableFields.{row_body_fault}
-use Rattle.dm_table.proofs.table_row.read_row.Goals as goal
+use Rattle.dm_table.proofs.table_row.read_named.Goals as goal
 
 pub returns-in_err-line : goal.returns-in_err-line
 returns-in_err-line c =
