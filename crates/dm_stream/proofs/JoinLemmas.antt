@@ -61,9 +61,9 @@ some_units unit (suc len) some = tt
 -- a piece that did not go on, where the held one was not written whole
 pub left_apart : (old mid new : Pending) (piece : code.Piece) (w0 w1 : List ℕ) → 1 ≤ piece_len piece → mid ≡ old → new ≡ record { stack = mid.stack; number = mid.number; piece = None }
     → ((rest : List BlockUnit) → fewest (held_units old.piece ++ units_of piece ++ rest) ≡ fewest (held_units old.piece) ++ fewest (units_of piece ++ rest))
-    → IsCutShort (pieces_text mid.stack mid.number (fewest (held_units mid.piece))) (since w0 w1) → w1 ≡ w0 ++ since w0 w1
+    → IsCutShort (pieces_text mid.stack mid.number (fewest (held_units mid.piece))) (since w0 w1)
     → HasLeft old new (units_of piece) w0 w1
-left_apart old mid new piece w0 w1 some same emptied apart cut appends = record {
+left_apart old mid new piece w0 w1 some same emptied apart cut = record {
   some = some_units (first_unit piece) (piece_len piece) some;
   beginning = λ rest.
       subst (λ (xs : List ℕ). IsBeginning xs (since w0 w1))
@@ -72,7 +72,6 @@ left_apart old mid new piece w0 w1 some same emptied apart cut appends = record 
       ∙ flat_map-append (piece_text old.stack old.number) (fewest (held_units old.piece)) (all_but_last (fewest (units_of piece ++ rest)))))
       (beginning-before (pieces_text old.stack old.number (fewest (held_units old.piece))) _ (since w0 w1)
       (subst (λ (h : Pending). IsBeginning (pieces_text h.stack h.number (fewest (held_units h.piece))) (since w0 w1)) same (cut.0 ∷ cut.1, cut.2)));
-  appends = appends;
   nothing = ap (λ (h : Pending). h.piece) emptied;
   stack = ap (λ (h : Pending). h.stack) emptied ∙ ap (λ (h : Pending). h.stack) same;
   number = ap (λ (h : Pending). h.number) emptied ∙ ap (λ (h : Pending). h.number) same;

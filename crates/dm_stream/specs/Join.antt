@@ -13,7 +13,6 @@ pub record HasTaken (old new : Pending) (units : List BlockUnit) (before after :
   pub settled : List UnitRun
   pub told : (rest : List BlockUnit) → fewest (held_units old.piece ++ units ++ rest) ≡ settled ++ fewest (held_units new.piece ++ rest)
   pub wrote : since before after ≡ pieces_text old.stack old.number settled
-  pub appends : after ≡ before ++ since before after
   pub stack : new.stack ≡ old.stack
   pub number : new.number ≡ old.number
 
@@ -26,7 +25,6 @@ HasUnits (unit ∷ units) = Unit {0}
 pub record HasLeft (old new : Pending) (units : List BlockUnit) (before after : List ℕ) : Type 0 where
   pub some : HasUnits units
   pub beginning : (rest : List BlockUnit) → IsBeginning (pieces_text old.stack old.number (all_but_last (fewest (held_units old.piece ++ units ++ rest)))) (since before after)
-  pub appends : after ≡ before ++ since before after
   pub nothing : new.piece ≡ None
   pub stack : new.stack ≡ old.stack
   pub number : new.number ≡ old.number

@@ -3,7 +3,7 @@ use Rattle.std.proofs.Common.{◌≡◌, ℕ, suc, Bool, true, false, cond, List
 use Rattle.std.proofs.lemmas.List.{append-nil}
 use Rattle.std.proofs.lemmas.Grind.{flat_map-append}
 use Rattle.dm_table.specs.DeviceIo.{since}
-use Rattle.dm_table.proofs.Growth.{since_more, grows_more}
+use Rattle.dm_table.proofs.Growth.{since_more}
 use Rattle.dm_stack.specs.Description.{Description}
 use Rattle.dm_map.specs.Units.{BlockUnit}
 use Rattle.dm_stream.specs.Pending.{Pending, held_units}
@@ -11,7 +11,7 @@ use Rattle.dm_stream.specs.Join.{HasUnits, HasTaken, HasLeft}
 use Rattle.dm_stream.specs.Pieces.{UnitRun, fewest, joins, onto}
 use Rattle.dm_table.specs.Fields.{all_but_last}
 use Rattle.dm_stream.specs.PieceText.{piece_text, pieces_text}
-use Rattle.dm_table.proofs.ProgressLaws.{grows-same, since-same}
+use Rattle.dm_table.proofs.ProgressLaws.{since-same}
 use Rattle.dm_table.specs.WriteAll.{IsBeginning}
 
 -- the first of the fewest pieces begins with the first unit
@@ -29,7 +29,7 @@ onto_begins unit (piece ∷ pieces) =
       | false ↦ record { len = 1; later = piece ∷ pieces; is = refl }
     ]
 
--- the last of pieces is that of the later ones
+-- to leave out the last of pieces is to leave out the last of the later ones
 last-after : (ps : List UnitRun) (q : UnitRun) (qs : List UnitRun) → all_but_last (ps ++ q ∷ qs) ≡ ps ++ all_but_last (q ∷ qs)
 last-after [] q qs = refl
 last-after (p ∷ []) q qs = refl
@@ -49,7 +49,7 @@ pub some_before : (us vs : List BlockUnit) → HasUnits us → HasUnits (us ++ v
 some_before [] vs some = absurd some
 some_before (u ∷ us) vs some = tt
 
--- a beginning of what comes after a text, and of the text before it
+-- a text and a beginning of what comes after it begin both together; so does a beginning of the text
 beginning-after : (text more front : List ℕ) → IsBeginning more front → IsBeginning (text ++ more) (text ++ front)
 beginning-after text more front begins = (begins.0, ap (λ (xs : List ℕ). text ++ xs) begins.1 ∙ sym (append_assoc text front begins.0))
 
@@ -65,7 +65,6 @@ took_none held w = record {
   settled = [];
   told = λ rest. ap (λ (us : List BlockUnit). fewest (us ++ rest)) (append-nil (held_units held.piece));
   wrote = since-same w;
-  appends = grows-same w w;
   stack = refl;
   number = refl;
 }
@@ -81,16 +80,16 @@ told_both hs bs cs us vs ps qs rest first second =
 same_text : (a b : Pending) (ps : List UnitRun) → b.stack ≡ a.stack → b.number ≡ a.number → pieces_text b.stack b.number ps ≡ pieces_text a.stack a.number ps
 same_text a b ps e f = ap (λ (stack : Description). pieces_text stack b.number ps) e ∙ ap (λ (number : ℕ). pieces_text a.stack number ps) f
 
-pub took_more : (a b c : Pending) (us vs : List BlockUnit) (w0 w1 w2 : List ℕ) → HasTaken a b us w0 w1 → HasTaken b c vs w1 w2 → HasTaken a c (us ++ vs) w0 w2
-took_more a b c us vs w0 w1 w2 first second = record {
+pub took_more : (a b c : Pending) (us vs : List BlockUnit) (w0 w1 w2 : List ℕ) → w1 ≡ w0 ++ since w0 w1 → w2 ≡ w1 ++ since w1 w2
+    → HasTaken a b us w0 w1 → HasTaken b c vs w1 w2 → HasTaken a c (us ++ vs) w0 w2
+took_more a b c us vs w0 w1 w2 more again first second = record {
   settled = first.settled ++ second.settled;
   told = λ rest. told_both (held_units a.piece) (held_units b.piece) (held_units c.piece) us vs first.settled second.settled rest first.told (second.told rest);
   wrote =
-      since_more w0 w1 w2 first.appends second.appends
+      since_more w0 w1 w2 more again
       ∙ ap (λ (xs : List ℕ). xs ++ since w1 w2) first.wrote
       ∙ ap (λ (xs : List ℕ). pieces_text a.stack a.number first.settled ++ xs) (second.wrote ∙ same_text a b second.settled first.stack first.number)
       ∙ sym (flat_map-append (piece_text a.stack a.number) first.settled second.settled);
-  appends = grows_more w0 w1 w2 first.appends second.appends;
   stack = second.stack ∙ first.stack;
   number = second.number ∙ first.number;
 }
@@ -103,16 +102,16 @@ left_after stack number settled units all wrote front some e f begins =
     (sym (ap (λ (ps : List UnitRun). pieces_text stack number (all_but_last ps)) e ∙ ap (pieces_text stack number) (last_of_units settled units some) ∙ flat_map-append (piece_text stack number) settled (all_but_last (fewest units))))
     (subst (IsBeginning (pieces_text stack number settled ++ pieces_text stack number (all_but_last (fewest units)))) (sym f) (beginning-after (pieces_text stack number settled) _ front begins))
 
-pub left_more : (a b c : Pending) (us vs : List BlockUnit) (w0 w1 w2 : List ℕ) → HasTaken a b us w0 w1 → HasLeft b c vs w1 w2 → HasLeft a c (us ++ vs) w0 w2
-left_more a b c us vs w0 w1 w2 first second = record {
+pub left_more : (a b c : Pending) (us vs : List BlockUnit) (w0 w1 w2 : List ℕ) → w1 ≡ w0 ++ since w0 w1 → w2 ≡ w1 ++ since w1 w2
+    → HasTaken a b us w0 w1 → HasLeft b c vs w1 w2 → HasLeft a c (us ++ vs) w0 w2
+left_more a b c us vs w0 w1 w2 more again first second = record {
   some = some_after us vs second.some;
   beginning = λ rest.
       left_after a.stack a.number first.settled (held_units b.piece ++ vs ++ rest) _ (since w0 w2) (since w1 w2)
       (some_before (held_units b.piece ++ vs) rest (some_after (held_units b.piece) vs second.some))
       (ap fewest (parts (held_units a.piece) us vs rest) ∙ first.told (vs ++ rest) ∙ ap (λ (xs : List BlockUnit). first.settled ++ fewest xs) (sym (append_assoc (held_units b.piece) vs rest)))
-      (since_more w0 w1 w2 first.appends second.appends ∙ ap (λ (xs : List ℕ). xs ++ since w1 w2) first.wrote)
+      (since_more w0 w1 w2 more again ∙ ap (λ (xs : List ℕ). xs ++ since w1 w2) first.wrote)
       (subst (λ (xs : List ℕ). IsBeginning xs (since w1 w2)) (same_text a b (all_but_last (fewest (held_units b.piece ++ vs ++ rest))) first.stack first.number) (second.beginning rest));
-  appends = grows_more w0 w1 w2 first.appends second.appends;
   nothing = second.nothing;
   stack = second.stack ∙ first.stack;
   number = second.number ∙ first.number;

@@ -2,6 +2,7 @@
 use Rattle.std.specs.Prelude.{◌≡◌, ◌≤◌, ℕ, ◌+◌, List, [], ◌++◌, codes, decimal}
 use Rattle.dm_table.specs.DeviceIo.{since}
 use Rattle.dm_table.specs.WriteAll.{IsBeginning}
+use Rattle.dm_table.specs.Progress.{HasGrown}
 use Rattle.dm_stream.specs.declared.ending.Ending.{Ending}
 use Rattle.dm_stream.specs.declared.ending.Ending.TheVariants as endings
 use Rattle.dm_stream.specs.declared.ending.RequestWord.{RequestWord}
@@ -41,7 +42,7 @@ pub record IsTold (message written : List ℕ) (faults_old faults_new : ℕ) : T
 
 -- it was told on a stream, which only took more, and was not flushed; nothing is told after a write that failed
 pub record HasTold {X : Type 0} (written : X → List ℕ) (faults flushes : X → ℕ) (message : List ℕ) (old new : X) : Type 0 where
-  pub appends : written new ≡ written old ++ since (written old) (written new)
+  pub appends : HasGrown written old new
   pub told : IsTold message (since (written old) (written new)) (faults old) (faults new)
   pub grows : faults old ≤ faults new
   pub fails_once : faults new ≤ faults old + 1

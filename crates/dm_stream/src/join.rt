@@ -10,7 +10,7 @@ ghost use Rattle.dm_stream.specs.Join.{HasTaken, HasLeft};
 ghost use Rattle.dm_stream.specs.Pieces.{AreFewest, fewest};
 ghost use Rattle.dm_stream.specs.PieceText.{pieces_text};
 ghost use Rattle.dm_stream.specs.JoinLaws.{took_none, took_more, left_more};
-ghost use Rattle.dm_table.specs.Progress.{HasWrittenTo, Wrote};
+ghost use Rattle.dm_table.specs.Progress.{HasWrittenTo, IsSameReference, Wrote};
 ghost use Rattle.dm_table.proofs.ProgressLaws.{written_to_none, written_to_more};
 
 use crate::held_piece::HeldPiece;
@@ -35,7 +35,7 @@ impl<'s, W: Output> Join<'s, W> {
     pub fn new(stack: &'s Stack, writer: &'s mut W) -> Join<'s, W>
         ensures nothing { result.held ≡ record { stack = stack.now; number = 0; piece = None } }
         ensures writer { result.writer.now ≡ writer.old }
-        ensures same_reference { result.writer.ghost_name ≡ writer.entry.ghost_name }
+        ensures same_reference { IsSameReference writer.entry result.writer }
     {
         Join {
             held: HeldPiece::new(stack),
@@ -49,7 +49,7 @@ impl<'s, W: Output> Join<'s, W> {
         requires { self.old.held.piece ≡ None }
         ensures number { self.new.held ≡ record { stack = self.old.held.stack; number = number; piece = None } }
         ensures writer { self.new.writer.now ≡ self.old.writer.now }
-        ensures same_reference { self.new.writer.ghost_name ≡ self.old.writer.ghost_name }
+        ensures same_reference { IsSameReference self.old.writer self.new.writer }
     {
         self.held.set_number(number);
     }
@@ -63,7 +63,7 @@ impl<'s, W: Output> Join<'s, W> {
         ensures wrote { Wrote W.written W.waiting W.faults W.flushes self.old.writer.now self.new.writer.now result
             (pieces_text self.old.held.stack self.old.held.number (fewest (held_units self.old.held.piece))) }
         ensures nothing { self.new.held ≡ record { stack = self.old.held.stack; number = self.old.held.number; piece = None } }
-        ensures same_reference { self.new.writer.ghost_name ≡ self.old.writer.ghost_name }
+        ensures same_reference { IsSameReference self.old.writer self.new.writer }
         // They are the only pieces of the units of which none continues the one before, and no others are fewer.
         ensures fewest { (units : List BlockUnit) → AreFewest units (fewest units) }
     {
@@ -84,7 +84,7 @@ impl<'s, W: Output> Join<'s, W> {
     pub fn end(self) -> &'s mut W
         requires { self.held.piece ≡ None }
         ensures writer { result.now ≡ self.entry.writer.now }
-        ensures same_reference { result.ghost_name ≡ self.entry.writer.ghost_name }
+        ensures same_reference { IsSameReference self.entry.writer result }
     {
         let Join {
             held: _held,
@@ -111,9 +111,9 @@ impl<W: Output> Sink for Join<'_, W> {
 
     ghost took_nothing = { λ s. (took_none s.held (W.written s.writer.now), written_to_none W.written W.waiting W.faults W.flushes s.writer) };
 
-    ghost took_then_took = { λ a b c us vs first second. (took_more a.held b.held c.held us vs _ _ _ first.0 second.0, written_to_more W.written W.waiting W.faults W.flushes a.writer b.writer c.writer 0 first.1 second.1) };
+    ghost took_then_took = { λ a b c us vs first second. (took_more a.held b.held c.held us vs _ _ _ first.1.moved.appends second.1.moved.appends first.0 second.0, written_to_more W.written W.waiting W.faults W.flushes a.writer b.writer c.writer 0 first.1 second.1) };
 
-    ghost took_then_left = { λ a b c us vs first second. (left_more a.held b.held c.held us vs _ _ _ first.0 second.0, written_to_more W.written W.waiting W.faults W.flushes a.writer b.writer c.writer 1 first.1 second.1) };
+    ghost took_then_left = { λ a b c us vs first second. (left_more a.held b.held c.held us vs _ _ _ first.1.moved.appends second.1.moved.appends first.0 second.0, written_to_more W.written W.waiting W.faults W.flushes a.writer b.writer c.writer 1 first.1 second.1) };
 
     #[inline(always)]
     fn piece(&mut self, piece: Piece) -> Result<(), OutFault> {

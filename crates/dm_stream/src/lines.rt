@@ -5,7 +5,7 @@ ghost use Rattle.std.specs.Prelude.{◌≡◌, ◌+◌, ◌≤◌, ◌++◌, [],
 ghost use Rattle.std.specs.Borrow.{sem};
 ghost use Rattle.std.specs.Io.BufRead.{Rests};
 ghost use Rattle.dm_table.specs.DeviceIo.{delivery, since};
-ghost use Rattle.dm_table.specs.Progress.{HasRead, IsReadOn};
+ghost use Rattle.dm_table.specs.Progress.{HasRead, IsReadOn, MetNothing};
 
 use crate::line_buffer::{line_len, make_room, read_after};
 use dm_table::{InFault, Input};
@@ -151,8 +151,7 @@ impl Lines {
         ensures reads { IsReadOn R.handed R.faults R.ends reader.old reader.new }
         ensures held { self.new ≡ self.old ++ since (R.handed reader.old) (R.handed reader.new) }
         ensures fits { FitsIn result self.new }
-        ensures quiet { OnHeldLine result
-            ((R.faults reader.new ≡ R.faults reader.old) × (R.ends reader.new ≡ R.ends reader.old)) }
+        ensures quiet { OnHeldLine result (MetNothing R.faults R.ends reader.old reader.new) }
         ensures answer { next_answer (delivery R.handed R.faults R.ends reader.old reader.new).stand (line_parts self.new)
             ≡ held_answer result self.new }
     {
@@ -185,8 +184,7 @@ impl Lines {
         // Nothing is read after an end or a fault.
         ensures reads { IsReadOn R.handed R.faults R.ends reader.old reader.new }
         // A line is returned before an end or a fault is met.
-        ensures quiet { OnLine result
-            ((R.faults reader.new ≡ R.faults reader.old) × (R.ends reader.new ≡ R.ends reader.old)) }
+        ensures quiet { OnLine result (MetNothing R.faults R.ends reader.old reader.new) }
         ensures answer { answer_of result ≡ next_answer (delivery R.handed R.faults R.ends reader.old reader.new).stand
             (line_parts (self.old ++ since (R.handed reader.old) (R.handed reader.new))) }
     {

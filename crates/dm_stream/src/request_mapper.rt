@@ -7,7 +7,7 @@ ghost use Rattle.std.specs.Prelude.{◌≡◌, ◌<◌, None, false, length, OnO
 ghost use Rattle.dm_stream.specs.Mapped.{IsReady, HasAnswered, HasStopped, failed_writes};
 ghost use Rattle.dm_stream.specs.MappedLaws.{answered_none, answered_more, stopped_more};
 ghost use Rattle.dm_stream.specs.Outcome.{request_answer, step_of};
-ghost use Rattle.dm_table.specs.Progress.{HasWrittenTo, Wrote};
+ghost use Rattle.dm_table.specs.Progress.{HasWrittenTo, IsSameReference, Wrote};
 ghost use Rattle.dm_table.proofs.ProgressLaws.{written_to_none, written_to_more};
 ghost use Rattle.dm_stream.specs.Requests.{numbered};
 ghost use Rattle.std.proofs.Common.{refl, subst, ◌∙◌};
@@ -38,7 +38,7 @@ fn map_request<T: Taken, W: Output>(
     ensures state { OnOk result (mapper.new.state ≡ (step_of join.old.held.stack device (numbered request.now) mapper.old.state).state) }
     ensures of_stack { join.new.held.stack ≡ join.old.held.stack }
     ensures nothing { join.new.held.piece ≡ None }
-    ensures same_reference { join.new.writer.ghost_name ≡ join.old.writer.ghost_name }
+    ensures same_reference { IsSameReference join.old.writer join.new.writer }
     ensures wrote { Wrote W.written W.waiting W.faults W.flushes join.old.writer.now join.new.writer.now result
         (request_answer join.old.held.stack device (numbered request.now) mapper.old.state) }
 {

@@ -20,8 +20,9 @@ use Rattle.dm_table.specs.LineBody.{is_body_row, is_body, has_body_names}
 use Rattle.dm_table.specs.LineReading.{line_in}
 use Rattle.dm_table.specs.ConciseText.{place_of, lacks, is_uuid, is_ro, entries, body_fields, is_label, has_label_values, has_label_names}
 use Rattle.dm_table.specs.ConciseReading.{earlier_of, fault_of_body, fault_of_bodies, fault_of_label, fault_of_entries, fault_of_device, lines_in, device_in, device_unless, entries_reading, device_reading, bodies_reading, devices_from}
+use Rattle.dm_table.proofs.FaultLemmas.{unless-ok, unless-err}
 use Rattle.dm_table.proofs.RowFaultLemmas.{names_true, read_clear}
-use Rattle.dm_table.proofs.TargetRows.{read_none, read_value, and_false}
+use Rattle.dm_table.proofs.TargetRows.{and_false}
 
 -- The earlier of two
 
@@ -122,7 +123,7 @@ entries_fault n on_a_line (a ∷ []) fault label h is r = absurd (omega arith)
 entries_fault n on_a_line (a ∷ b ∷ []) fault label h is r = absurd (omega arith)
 entries_fault n on_a_line (a ∷ b ∷ c ∷ []) fault label h is r = absurd (omega arith)
 entries_fault n on_a_line (a ∷ b ∷ c ∷ d ∷ es) fault label h is r =
-    let found = read_none (earlier_of (fault_of_label on_a_line (texts (a ∷ b ∷ c ∷ d ∷ es))) (fault_of_bodies (texts es))) (lines_in (place_of n) (texts es)) fault (rw (take_rest (a ∷ b ∷ c ∷ d ∷ es) 4, is) at r) in
+    let found = unless-err (earlier_of (fault_of_label on_a_line (texts (a ∷ b ∷ c ∷ d ∷ es))) (fault_of_bodies (texts es))) (lines_in (place_of n) (texts es)) fault (rw (take_rest (a ∷ b ∷ c ∷ d ∷ es) 4, is) at r) in
     ap (λ (x : Option RowFault). device_unless x (device_in n (texts (a ∷ b ∷ c ∷ d ∷ es)))) found
 
 pub entries_read : (n : ℕ) (on_a_line : Bool) (es : List (Bor (List ℕ))) (k e : Bor (List ℕ)) (lines : List Line) (label : Option RowFault) → 4 ≤ length es → label ≡ fault_of_label on_a_line (texts es)
@@ -133,7 +134,7 @@ entries_read n on_a_line (a ∷ []) k e lines label h is r = absurd (omega arith
 entries_read n on_a_line (a ∷ b ∷ []) k e lines label h is r = absurd (omega arith)
 entries_read n on_a_line (a ∷ b ∷ c ∷ []) k e lines label h is r = absurd (omega arith)
 entries_read n on_a_line (a ∷ b ∷ c ∷ d ∷ es) k e lines label h is r =
-    let v = read_value (earlier_of (fault_of_label on_a_line (texts (a ∷ b ∷ c ∷ d ∷ es))) (fault_of_bodies (texts es))) (lines_in (place_of n) (texts es)) lines (rw (take_rest (a ∷ b ∷ c ∷ d ∷ es) 4, is) at r) in
+    let v = unless-ok (earlier_of (fault_of_label on_a_line (texts (a ∷ b ∷ c ∷ d ∷ es))) (fault_of_bodies (texts es))) (lines_in (place_of n) (texts es)) lines (rw (take_rest (a ∷ b ∷ c ∷ d ∷ es) 4, is) at r) in
     rw (v.0, v.1) refl
 
 -- the first entry is a name where lines are read
@@ -142,7 +143,7 @@ pub entries_named : (n : ℕ) (on_a_line : Bool) (es : List (Bor (List ℕ))) (k
 entries_named n on_a_line [] k bodies lines label h is r = absurd (omega arith)
 entries_named n on_a_line (a ∷ []) k bodies lines label h is r = absurd (omega arith)
 entries_named n on_a_line (a ∷ b ∷ es) k bodies lines label h is r =
-    let v = read_value (earlier_of label (fault_of_bodies bodies)) (lines_in (place_of n) bodies) lines r in
+    let v = unless-ok (earlier_of label (fault_of_bodies bodies)) (lines_in (place_of n) bodies) lines r in
     let clear = (earlier_of-clear label (fault_of_bodies bodies) v.0).0 in
     let named = names_true (on_a_line && is_label (texts (a ∷ b ∷ es))) (has_label_values (texts (a ∷ b ∷ es))) (has_label_names (texts (a ∷ b ∷ es))) (sym is ∙ clear) in
     (and_parts (is_device_name a.now) (is_uuid b.now) named).0

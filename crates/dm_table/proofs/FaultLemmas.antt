@@ -71,13 +71,14 @@ unended-nil part n (byte ∷ bytes) e = absurd cc
 
 -- What is returned
 
-pub unless-ok : {X : Type 0} (found : Option LoadFault) (x y : X) → unless found x ≡ Ok y → (found ≡ None) × (x ≡ y)
+-- a value is returned where nothing was found, and otherwise the fault
+pub unless-ok : {F X : Type 0} (found : Option F) (x y : X) → unless found x ≡ Ok y → (found ≡ None) × (x ≡ y)
 unless-ok None x y h = (refl, cc)
 unless-ok (Some fault) x y h = absurd cc
 
-pub unless-err : {X : Type 0} (found : Option LoadFault) (x : X) (fault : LoadFault) → unless found x ≡ Err fault → found ≡ Some fault
+pub unless-err : {F X : Type 0} (found : Option F) (x : X) (fault : F) → unless found x ≡ Err fault → found ≡ Some fault
 unless-err None x fault h = absurd cc
-unless-err (Some other) x fault h = cc
+unless-err (Some other) x fault h = let same : other ≡ fault = cc in ap Some same
 
 -- what a first step refuses, the whole call refuses
 pub Answers-refused : {X Y V W : Type 0} (part : Part) (view : X → Y) (whole : V → W) (fault : LoadFault) (faults : List LoadFault) (later : Option LoadFault) (y : Y) (w : W)

@@ -4,8 +4,9 @@ use Rattle.dm_table.specs.declared.place.Part.{Part}
 use Rattle.dm_table.specs.declared.row_faults.RowFault.{RowFault}
 use Rattle.dm_table.specs.declared.row_faults.RowFault.TheVariants.{Memory}
 use Rattle.dm_table.specs.declared.row_faults.FirstFaults.{FirstFaults}
+use Rattle.dm_table.specs.LoadFault.{unless}
 use Rattle.dm_table.specs.Reading.{with_rows}
-use Rattle.dm_table.specs.RowFaults.{Reads, fault_in, read_unless, noted_at, noted_rows, first_noted}
+use Rattle.dm_table.specs.RowFaults.{Reads, fault_in, noted_at, noted_rows, first_noted}
 use Rattle.dm_table.proofs.RowFaultLemmas.{found_read, read_clear}
 
 -- the values, where nothing is wrong so far
@@ -18,7 +19,7 @@ values_left add part rows more row cut n m read seen new old values all is_first
 
 -- and the faults
 pub faults_left : {X : Type 0} (part : Part) (fault_of : X → Option RowFault) (rows more : List X) (row cut : X) (n m : ℕ) (read : Result (Unit {0}) RowFault) (seen new all : FirstFaults)
-    → rows ≡ row ∷ more → m ≡ suc n → cut ≡ row → Reads (λ done. done) read (read_unless (fault_of cut) tt) → fault_in read ≢ Some Memory → new ≡ noted_at part seen n (fault_in read)
+    → rows ≡ row ∷ more → m ≡ suc n → cut ≡ row → Reads (λ done. done) read (unless (fault_of cut) tt) → fault_in read ≢ Some Memory → new ≡ noted_at part seen n (fault_in read)
     → noted_rows part fault_of seen n rows ≡ all → noted_rows part fault_of new m more ≡ all
 faults_left part fault_of rows more row cut n m read seen new all is_first is_next is_cut reads text noted so_far =
     let found : fault_of row ≡ fault_in read = ap fault_of (sym is_cut) ∙ found_read read (fault_of cut) reads text in

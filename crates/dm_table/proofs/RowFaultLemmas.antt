@@ -9,9 +9,8 @@ use Rattle.dm_table.specs.declared.row_faults.RowFault.{RowFault}
 use Rattle.dm_table.specs.declared.row_faults.RowFault.TheVariants as rows
 use Rattle.dm_table.specs.declared.row_faults.FirstFaults.{FirstFaults}
 use Rattle.dm_table.specs.LoadFault.{Answers, fault_at, first_or, first_fault, faults_from, row_checks, unended, unless}
-use Rattle.dm_table.specs.RowFaults.{Reads, first_failed, row_fault, read_unless, fault_in, no_faults, either, noted, noted_at, noted_rows, noted_rest, first_noted}
-use Rattle.dm_table.proofs.FaultLemmas.{Answers-unless, faults_from-text, first_fault-text, text-append, unended-text}
-use Rattle.dm_table.proofs.TargetRows.{read_none, read_value}
+use Rattle.dm_table.specs.RowFaults.{Reads, first_failed, row_fault, fault_in, no_faults, either, noted, noted_at, noted_rows, noted_rest, first_noted}
+use Rattle.dm_table.proofs.FaultLemmas.{Answers-unless, faults_from-text, first_fault-text, text-append, unended-text, unless-ok, unless-err}
 
 -- one more fault of a kind, before what comes later
 either_more : (first : Option LoadFault) (fault : LoadFault) (later : Option LoadFault) → either (either first (Some fault)) later ≡ either first (Some fault)
@@ -92,16 +91,16 @@ names_true true false has_names h = absurd cc
 names_true false has_values has_names h = absurd cc
 
 -- a row whose value was read has no fault, and that is its value
-pub row_taken : {X : Type 0} (found : Option RowFault) (value x : X) → read_unless found value ≡ Ok x → (read_unless found (tt {0}) ≡ Ok (tt {0})) × (x ≡ value)
-row_taken found value x h = let a = read_value found value x h in (rw a.0 refl, sym a.1)
+pub row_taken : {X : Type 0} (found : Option RowFault) (value x : X) → unless found value ≡ Ok x → (unless found (tt {0}) ≡ Ok (tt {0})) × (x ≡ value)
+row_taken found value x h = let a = unless-ok found value x h in (rw a.0 refl, sym a.1)
 
-pub row_refused : {X : Type 0} (found : Option RowFault) (value : X) (fault : RowFault) → read_unless found value ≡ Err fault → read_unless found (tt {0}) ≡ Err fault
-row_refused found value fault h = rw (read_none found value fault h) refl
+pub row_refused : {X : Type 0} (found : Option RowFault) (value : X) (fault : RowFault) → unless found value ≡ Err fault → unless found (tt {0}) ≡ Err fault
+row_refused found value fault h = rw (unless-err found value fault h) refl
 
 -- what is wrong with a row is why it was not read, where memory is left
-pub found_read : (read : Result (Unit {0}) RowFault) (found : Option RowFault) → Reads (λ done. done) read (read_unless found tt) → fault_in read ≢ Some rows.Memory → found ≡ fault_in read
-found_read (Ok done) found reads text = (read_value found tt done reads).0
-found_read (Err fault) found reads text = read_none found tt fault (reads (λ e. text (ap Some e)))
+pub found_read : (read : Result (Unit {0}) RowFault) (found : Option RowFault) → Reads (λ done. done) read (unless found tt) → fault_in read ≢ Some rows.Memory → found ≡ fault_in read
+found_read (Ok done) found reads text = (unless-ok found tt done reads).0
+found_read (Err fault) found reads text = unless-err found tt fault (reads (λ e. text (ap Some e)))
 
 -- nothing is clear in which a fault was noted
 either_none-both : (first later : Option LoadFault) → either first later ≡ None → (first ≡ None) × (later ≡ None)

@@ -10,7 +10,6 @@ use Rattle.dm_table.specs.declared.table.DeviceSpec.{DeviceSpec}
 use Rattle.std.specs.declared.alloc.AllocError.{AllocError}
 use Rattle.dm_table.specs.Name.{is_device_name}
 use Rattle.dm_table.specs.declared.row_faults.RowFault.{RowFault}
-use Rattle.dm_table.specs.RowFaults.{read_unless}
 use Rattle.dm_table.specs.Fields.{lines_of}
 use Rattle.dm_table.specs.LoadFault.{first_fault, unless}
 use Rattle.dm_table.specs.Reading.{with_rows}
@@ -107,12 +106,12 @@ read_named n row named h =
     rw (← same) (and_parts (is_device_name taken.named.name) (has_target_names taken.named.line.len taken.named.line.target) taken.names).0
 
 -- a row that was read has no fault and says what was read; one that was refused has that fault
-pub named_read : (n : ℕ) (row : List (List ℕ)) (named : NamedLine) → row_reading n row ≡ Ok named → (read_unless (table_row_fault row) (tt {0}) ≡ Ok (tt {0})) × (named_in n row ≡ Some named)
+pub named_read : (n : ℕ) (row : List (List ℕ)) (named : NamedLine) → row_reading n row ≡ Ok named → (unless (table_row_fault row) (tt {0}) ≡ Ok (tt {0})) × (named_in n row ≡ Some named)
 named_read n row named h =
     let clear : table_row_fault row ≡ None = row_fault_is n row (Ok named) h in
     let taken = row_taken n row clear in
     let same : taken.named ≡ named = read_ok taken.named named (sym taken.read ∙ h) in
     (rw clear refl, taken.said ∙ ap Some same)
 
-pub named_refused : (n : ℕ) (row : List (List ℕ)) (fault : RowFault) → row_reading n row ≡ Err fault → read_unless (table_row_fault row) (tt {0}) ≡ Err fault
+pub named_refused : (n : ℕ) (row : List (List ℕ)) (fault : RowFault) → row_reading n row ≡ Err fault → unless (table_row_fault row) (tt {0}) ≡ Err fault
 named_refused n row fault h = let found : table_row_fault row ≡ Some fault = row_fault_is n row (Err fault) h in rw found refl

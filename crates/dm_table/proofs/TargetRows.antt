@@ -18,19 +18,9 @@ use Rattle.dm_table.specs.Number.{number_of}
 use Rattle.dm_table.specs.Fields.{texts}
 use Rattle.dm_table.specs.LineBody.{is_dev_ref, dev_in, if_both, linear_in, columns_in, is_half, striped_in, snapshot_in, bare_in, target_in, Body, has_target_names}
 use Rattle.dm_table.proofs.BodyRows.{column_names}
-use Rattle.dm_table.specs.RowFaults.{read_unless}
 use Rattle.dm_table.specs.LineReading.{line_at, has_column_names, dev_reading, reading_of, columns_reading, fault_before, target_reading, body_reading}
 
 -- What is read of a value
-
-pub read_none : {X : Type 0} (found : Option RowFault) (x : X) (fault : RowFault) → read_unless found x ≡ Err fault → found ≡ Some fault
-read_none None x fault h = absurd cc
-read_none (Some other) x fault h = let same : other ≡ fault = cc in ap Some same
-
--- a value was read where nothing was found
-pub read_value : {X : Type 0} (found : Option RowFault) (x y : X) → read_unless found x ≡ Ok y → (found ≡ None) × (x ≡ y)
-read_value None x y h = (refl, cc)
-read_value (Some fault) x y h = absurd cc
 
 pub read_ok : {X : Type 0} (x y : X) → ◌≡◌ {A = Result X RowFault} (Ok x) (Ok y) → x ≡ y
 read_ok x y h = cc

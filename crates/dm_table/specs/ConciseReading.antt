@@ -10,7 +10,7 @@ use Rattle.dm_table.specs.declared.load_fault.LoadFault.{LoadFault}
 use Rattle.dm_table.specs.declared.row_faults.RowFault.{RowFault}
 use Rattle.dm_table.specs.declared.row_faults.RowFault.TheVariants.{Syntax, Field, Name}
 use Rattle.dm_table.specs.LoadFault.{first_fault, row_checks, unless}
-use Rattle.dm_table.specs.RowFaults.{row_fault, read_unless}
+use Rattle.dm_table.specs.RowFaults.{row_fault}
 use Rattle.dm_table.specs.LineBody.{is_body_row, is_body, has_body_names}
 use Rattle.dm_table.specs.LineReading.{line_in}
 use Rattle.dm_table.specs.ConciseText.{place_of, is_ro, entries, body_fields, is_label, has_label_values, has_label_names, is_device, has_values, has_names, devices_of, concise_checks}
@@ -34,11 +34,11 @@ fault_of_bodies (text ∷ texts) = earlier_of (fault_of_body text) (fault_of_bod
 abbrev pub lines_in : Place → List (List ℕ) → List Line
 lines_in at texts = filter_map (λ text. line_in at (body_fields text)) texts
 
--- what is wrong with the label of entries; entries that are not on one line have none
+-- what is wrong with the label of entries: Syntax also where they are not on one line
 abbrev pub fault_of_label : Bool → List (List ℕ) → Option RowFault
 fault_of_label on_a_line entries = row_fault (λ es. on_a_line && is_label es) has_label_values has_label_names entries
 
--- what is wrong with entries, whose label counts only if they are on one line
+-- what is wrong with entries: of the faults of their label and of their bodies, the earlier
 abbrev pub fault_of_entries : Bool → List (List ℕ) → Option RowFault
 fault_of_entries on_a_line entries =
     earlier_of (fault_of_label on_a_line entries) (fault_of_bodies (drop 4 entries))
@@ -55,9 +55,9 @@ device_in n _ = None
 -- What is read
 
 abbrev pub bodies_reading : Place → Option RowFault → List (List ℕ) → Result (List Line) RowFault
-bodies_reading at before texts = read_unless (earlier_of before (fault_of_bodies texts)) (lines_in at texts)
+bodies_reading at before texts = unless (earlier_of before (fault_of_bodies texts)) (lines_in at texts)
 
--- a device, or the fault that was found first; entries that say none have no label
+-- a device, or the fault that was found first: Syntax, where the entries say no device
 abbrev pub device_unless : Option RowFault → Option DeviceSpec → Result DeviceSpec RowFault
 device_unless None device = ok_or device Syntax
 device_unless (Some fault) device = Err fault

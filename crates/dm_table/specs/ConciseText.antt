@@ -101,11 +101,12 @@ devices_of text = parts_of (without_newline text)
 abbrev pub entries : List ℕ → List (List ℕ)
 entries = parts_at 44
 
--- the fields of a body, without the empty ones that a space on each side leaves
+-- fields without an empty one at the front, which a space there leaves
 abbrev pub without_first_space : List (List ℕ) → List (List ℕ)
 without_first_space ([] ∷ fields) = fields
 without_first_space fields = fields
 
+-- the fields of a body, without the empty ones that a space on each side leaves
 abbrev pub body_fields : List ℕ → List (List ℕ)
 body_fields text = without_first_space (row_fields text)
 

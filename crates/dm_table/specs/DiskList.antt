@@ -8,7 +8,7 @@ use Rattle.dm_table.specs.Name.{is_disk_name}
 use Rattle.dm_table.specs.Number.{number_of}
 use Rattle.dm_table.specs.Fields.{fields, lines_of}
 use Rattle.dm_table.specs.declared.row_faults.RowFault.{RowFault}
-use Rattle.dm_table.specs.RowFaults.{read_unless, row_fault}
+use Rattle.dm_table.specs.RowFaults.{row_fault}
 use Rattle.dm_table.specs.LoadFault.{first_fault, unless}
 use Rattle.dm_table.specs.Reading.{line_checks}
 
@@ -75,7 +75,7 @@ abbrev pub disk_fault : List (List ℕ) → Option RowFault
 disk_fault row = row_fault is_pair has_sectors has_name row
 
 abbrev pub disk_reading : ℕ → List (List ℕ) → Result Disk RowFault
-disk_reading n row = read_unless (disk_fault row) (disk_of n row)
+disk_reading n row = unless (disk_fault row) (disk_of n row)
 
 -- the disks of a text, or the fault of its checks
 unfoldable pub read_disks : List ℕ → Result (List Disk) LoadFault

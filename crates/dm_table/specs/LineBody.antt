@@ -99,7 +99,7 @@ abbrev pub striped_in : List (List ℕ) → Option Target
 striped_in (count ∷ chunk ∷ columns) = if is_half count (length columns) then if_both Striped (number_of chunk) (columns_in columns) else None
 striped_in _ = None
 
--- two texts, the flag of a store that keeps what it took, and a number
+-- two texts, the flag P of a persistent store, and a number
 abbrev pub snapshot_in : List (List ℕ) → Option Target
 snapshot_in (origin ∷ store ∷ flag ∷ chunk ∷ []) =
     if pointwise nat_eq flag (codes "P") then option_map (λ n. Snapshot (dev_in origin) (dev_in store) n) (number_of chunk) else None

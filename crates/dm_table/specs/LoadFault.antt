@@ -41,7 +41,7 @@ faults_from part kind bad n (x ∷ xs) =
     if bad x then fault_at part kind n ∷ faults_from part kind bad (suc n) xs else faults_from part kind bad (suc n) xs
 
 -- the fault, or else the value
-abbrev pub unless : {X : Type 0} → Option LoadFault → X → Result X LoadFault
+abbrev pub unless : {F X : Type 0} → Option F → X → Result X F
 unless (Some fault) x = Err fault
 unless None x = Ok x
 

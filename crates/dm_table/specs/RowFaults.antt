@@ -16,11 +16,6 @@ first_failed is_row has_values has_names = if is_row then (if has_values then (i
 abbrev pub row_fault : {X : Type 0} → (is_row has_values has_names : X → Bool) → X → Option RowFault
 row_fault is_row has_values has_names row = first_failed (is_row row) (has_values row) (has_names row)
 
--- the value, or the fault that was found first
-abbrev pub read_unless : {X : Type 0} → Option RowFault → X → Result X RowFault
-read_unless None x = Ok x
-read_unless (Some fault) x = Err fault
-
 -- what a call returned, seen by view, is this reading, save that out of memory may stand in its place
 abbrev pub Reads : {X Y : Type 0} → (X → Y) → Result X RowFault → Result Y RowFault → Type 0
 Reads view (Ok x) reading = reading ≡ Ok (view x)

@@ -86,7 +86,7 @@ abbrev pub has_values : List (List ℕ) → Bool
 has_values (label ∷ body) = is_body body
 has_values [] = false
 
--- the name of the line, and those in its body
+-- the name of the line and those in its body are valid
 abbrev pub has_names : List (List ℕ) → Bool
 has_names (label ∷ body) = is_device_name (name_in label) && has_body_names body
 has_names [] = false

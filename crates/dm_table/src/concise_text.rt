@@ -9,8 +9,8 @@ ghost use Rattle.std.specs.Prelude.{◌≡◌, ◌++◌, None, Ok, IfOk, OnOk};
 ghost use Rattle.std.specs.Option.{option_to_list};
 ghost use Rattle.dm_table.specs.declared.place.Part.TheVariants.{Source};
 ghost use Rattle.dm_table.specs.Fields.{texts};
-ghost use Rattle.dm_table.specs.LoadFault.{Answers};
-ghost use Rattle.dm_table.specs.RowFaults.{Reads, first_noted, no_faults, noted_rows, read_unless};
+ghost use Rattle.dm_table.specs.LoadFault.{Answers, unless};
+ghost use Rattle.dm_table.specs.RowFaults.{Reads, first_noted, no_faults, noted_rows};
 ghost use Rattle.dm_table.specs.Parsed.{IsParsed};
 ghost use Rattle.dm_table.specs.ConciseText.{DescribesConcise, without_newline, parts_of, entries as entries_of, concise_checks};
 ghost use Rattle.dm_table.specs.ConciseReading.{fault_of_device, device_in, devices_from, parts_reading};
@@ -120,7 +120,7 @@ fn read_part<'a>(
 ) -> Result<(), RowFault>
     ensures devices { OnOk result (devices.new.items
         ≡ devices.old.items ++ option_to_list (device_in number (entries_of part.now))) }
-    ensures fault { Reads (λ done. done) result (read_unless (fault_of_device part.now) tt) }
+    ensures fault { Reads (λ done. done) result (unless (fault_of_device part.now) tt) }
 {
     devices.push(read_device(alloc, entries, fields, part, number)?)?;
     Ok(())

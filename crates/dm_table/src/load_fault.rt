@@ -104,14 +104,21 @@ pub struct LoadFault {
 }
 
 impl LoadFault {
+    /// The fault of a kind at a number of a part: a line or device, from 1, or 0 for the part as a whole.
+    pub(crate) fn at(part: Part, kind: LoadKind, number: u64) -> LoadFault
+        ensures { result ≡ fault_at part kind number }
+    {
+        LoadFault {
+            kind,
+            at: Place { part, number },
+        }
+    }
+
     /// Out of memory while a part was read.
     pub fn memory(part: Part) -> LoadFault
         ensures { IsMemoryFault part result }
     {
-        LoadFault {
-            kind: LoadKind::Memory,
-            at: Place { part, number: 0 },
-        }
+        LoadFault::at(part, LoadKind::Memory, 0)
     }
 
     /// The fault at the line or device of an index from 0, as places count from 1. Each index of a
@@ -120,12 +127,6 @@ impl LoadFault {
         requires { index < 2 ^ 63 }
         ensures { result ≡ fault_at part kind (index + 1) }
     {
-        LoadFault {
-            kind,
-            at: Place {
-                part,
-                number: index as u64 + 1,
-            },
-        }
+        LoadFault::at(part, kind, index as u64 + 1)
     }
 }

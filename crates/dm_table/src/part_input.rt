@@ -6,14 +6,14 @@
 
 ghost use Rattle.std.specs.Prelude.{◌≡◌, ◌≢◌, IfOk, IfErr};
 ghost use Rattle.dm_table.specs.DeviceIo.{delivery};
-ghost use Rattle.dm_table.specs.LoadFault.{IsMemoryFault, fault_at};
+ghost use Rattle.dm_table.specs.LoadFault.{IsMemoryFault};
 ghost use Rattle.dm_table.specs.PartInput.{Refuses, TextOf, part_read};
 ghost use Rattle.dm_table.specs.Progress.{IsReadOn};
 ghost use Rattle.dm_table.specs.declared.load_fault.LoadKind.TheVariants.{Memory};
 
 use crate::device_io::{InFault, Input};
 use crate::load_fault::{LoadFault, LoadKind};
-use crate::place::{Part, Place};
+use crate::place::Part;
 use std::alloc::Global;
 
 /// The most bytes of a part of a load.
@@ -42,7 +42,7 @@ pub fn read_part<I: Input>(alloc: Global, part: Part, input: &mut I) -> Result<V
     let mut chunk = [0; CHUNK];
     'chunks: while text.len() <= MOST_PART_BYTES {
         match input.read(&mut chunk) {
-            Err(InFault) => return Err(refusal(part, LoadKind::Read)),
+            Err(InFault) => return Err(LoadFault::at(part, LoadKind::Read, 0)),
             Ok(0) => return Ok(text),
             Ok(n) => {
                 if text.extend_from_slice(&chunk[..n]).is_err() {
@@ -51,15 +51,5 @@ pub fn read_part<I: Input>(alloc: Global, part: Part, input: &mut I) -> Result<V
             }
         }
     }
-    Err(refusal(part, LoadKind::Long))
-}
-
-/// A fault of a part as a whole.
-fn refusal(part: Part, kind: LoadKind) -> LoadFault
-    ensures { result ≡ fault_at part kind 0 }
-{
-    LoadFault {
-        kind,
-        at: Place { part, number: 0 },
-    }
+    Err(LoadFault::at(part, LoadKind::Long, 0))
 }

@@ -8,7 +8,7 @@ ghost use Rattle.std.specs.Prelude.{◌≡◌, ◌+◌, ℕ, Bool, List, [], Non
 ghost use Rattle.dm_table.specs.Fields.{texts, lines_of, rest_of};
 ghost use Rattle.dm_table.specs.LoadFault.{Answers, first_fault, unless};
 ghost use Rattle.dm_table.specs.Reading.{line_checks, with_rows};
-ghost use Rattle.dm_table.specs.RowFaults.{Reads, no_faults, noted_rest, noted_rows, row_fault, read_unless, first_noted};
+ghost use Rattle.dm_table.specs.RowFaults.{Reads, no_faults, noted_rest, noted_rows, row_fault, first_noted};
 
 use crate::load_fault::LoadFault;
 use crate::place::Part;
@@ -77,7 +77,7 @@ pub(crate) trait FromRows: Drop {
         number: u64,
     ) -> Result<(), RowFault>
         ensures values { OnOk result (values.new.items ≡ with_row values.old.items number (texts row.now)) }
-        ensures fault { Reads (λ done. done) result (read_unless (row_fault is_row has_values has_names (texts row.now)) tt) };
+        ensures fault { Reads (λ done. done) result (unless (row_fault is_row has_values has_names (texts row.now)) tt) };
 }
 
 /// The values of the lines of a text, or the first fault of the first check that finds any. One pass

@@ -10,7 +10,7 @@ ghost use Rattle.dm_table.specs.RowFaults.{no_faults, either, fault_in, noted_at
 ghost use Rattle.dm_table.specs.declared.row_faults.RowFault.TheVariants.{Memory};
 
 use crate::load_fault::{LoadFault, LoadKind};
-use crate::place::{Part, Place};
+use crate::place::Part;
 use std::alloc::{AllocError, AllocFailed};
 
 /// Why a row of fields, or a part of one, was not read.
@@ -109,9 +109,6 @@ fn keep(first: &mut Option<LoadFault>, part: Part, kind: LoadKind, number: u64)
     ensures { first.new ≡ either first.old (Some (fault_at part kind number)) }
 {
     if first.is_none() {
-        *first = Some(LoadFault {
-            kind,
-            at: Place { part, number },
-        });
+        *first = Some(LoadFault::at(part, kind, number));
     }
 }

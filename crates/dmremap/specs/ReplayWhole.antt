@@ -1,8 +1,9 @@
 -- The whole of `replay`: what it writes, its message and its exit status, by what was delivered.
-use Rattle.std.specs.Prelude.{◌≡◌, ◌≢◌, ◌⊎◌, ℕ, ◌+◌, List, [], codes}
+use Rattle.std.specs.Prelude.{◌≡◌, ◌≢◌, ℕ, List, [], codes}
 use Rattle.dm_table.specs.declared.load_fault.LoadKind.TheVariants.{Memory}
 use Rattle.dm_table.specs.DeviceIo.{Delivery}
 use Rattle.dm_table.specs.LoadMessage.{load_message, memory_message}
+use Rattle.dm_table.specs.Progress.{FailedWhere}
 use Rattle.dm_stack.specs.declared.clash.Clash.{Clash}
 use Rattle.dm_stack.specs.Claims.{IsClash, IsTidy, claims}
 use Rattle.dm_stack.specs.Description.{Description}
@@ -56,8 +57,7 @@ IsPlain exit = (replay_status exit ≢ 5) × (replay_status exit ≢ 6)
 -- the output failed: at a write, or at the flush after all that there was to write
 abbrev pub FailedReplay : Description → Requests → List ℕ → (flushes_old flushes_new : ℕ) → Type 0
 FailedReplay stack requests text old new =
-    ((new ≡ old) × IsCutReplay stack [] requests.all text)
-    ⊎ ((new ≡ old + 1) × ((before : ReplayEnd) × (end_status before ≢ 5) × IsPlayed stack requests text before))
+    FailedWhere (IsCutReplay stack [] requests.all text) ((before : ReplayEnd) × (end_status before ≢ 5) × IsPlayed stack requests text before) old new
 
 -- what was written by the end, with the flush
 abbrev pub IsReplayed : Description → Requests → List ℕ → (flushes_old flushes_new : ℕ) → ReplayEnd → Type 0

@@ -10,7 +10,7 @@ use denote.Ref.{Bor}
 use Rattle.std.proofs.lemmas.Option.{same_Some}
 use Rattle.lvm_volume.specs.Names.{NameParts, built, Returns, is_letter, begins_with, part_fault, layer_fault, or_later, doubled, undoubled, undoubled_parts, with_hyphen, joined, fault_of, Builds, IsSplit, doubled_parts, name_or}
 use Rattle.dm_table.specs.Name.{is_device_byte, is_device_name}
-use Rattle.lvm_volume.specs.Cuts.{head_length, head_of, after_hyphen, tail_of, with_layer, slices_of}
+use Rattle.lvm_volume.specs.Cuts.{slice_length, first_slice, after_hyphen, later_slices, with_layer, slices_of}
 use Rattle.lvm_volume.specs.declared.fault.NameFault.{NameFault}
 use Rattle.lvm_volume.specs.declared.fault.NameFault.TheVariants.{Letter, HyphenFirst, Empty, Long, Memory}
 
@@ -21,7 +21,7 @@ cond_elim false P x y f g = g refl
 
 -- Doubled parts
 
-plain_length : (b : ℕ) (bs : List ℕ) → eqb b 45 ≡ false → head_length (b ∷ bs) ≡ suc (head_length bs)
+plain_length : (b : ℕ) (bs : List ℕ) → eqb b 45 ≡ false → slice_length (b ∷ bs) ≡ suc (slice_length bs)
 plain_length b [] e = rw e refl
 plain_length b (c ∷ bs) e = rw e refl
 
@@ -78,10 +78,10 @@ letter_at (x ∷ xs) (suc i) h lt = letter_at xs i (and_parts (is_letter x) (lis
 drop_next : (bs : List ℕ) (i : ℕ) → i < length bs → drop i bs ≡ get_or bs i 0 ∷ drop (i + 1) bs
 drop_next bs i lt = rw add-one (drop-cons bs i 0 lt)
 
-pub length_plain : (bs : List ℕ) (i : ℕ) → i < length bs → (get_or bs i 0 ≡ 45 → ⊥) → head_length bs ≡ i + head_length (drop i bs) → head_length bs ≡ i + 1 + head_length (drop (i + 1) bs)
+pub length_plain : (bs : List ℕ) (i : ℕ) → i < length bs → (get_or bs i 0 ≡ 45 → ⊥) → slice_length bs ≡ i + slice_length (drop i bs) → slice_length bs ≡ i + 1 + slice_length (drop (i + 1) bs)
 length_plain bs i lt plain e =
     let b = get_or bs i 0 in
-    let step : head_length (drop i bs) ≡ suc (head_length (drop (i + 1) bs)) = ap head_length (drop_next bs i lt) ∙ plain_length b (drop (i + 1) bs) (not_equal b 45 (eqb b 45) refl plain) in
+    let step : slice_length (drop i bs) ≡ suc (slice_length (drop (i + 1) bs)) = ap slice_length (drop_next bs i lt) ∙ plain_length b (drop (i + 1) bs) (not_equal b 45 (eqb b 45) refl plain) in
     omega (arith, e, step)
 
 -- What is wrong with a part is wrong with it doubled
@@ -232,17 +232,17 @@ abbrev IsEnd : List ℕ → Type 0
 IsEnd [] = Unit {0}
 IsEnd (b ∷ bs) = (b ≡ 45) × (begins_with 45 bs ≡ false)
 
-end_length : (rest : List ℕ) → IsEnd rest → head_length rest ≡ 0
+end_length : (rest : List ℕ) → IsEnd rest → slice_length rest ≡ 0
 end_length [] h = refl
 end_length (b ∷ []) h = rw h.0 refl
 end_length (b ∷ c ∷ bs) h = rw h.0 (rw h.1 refl)
 
-head_doubled : (w rest : List ℕ) → IsEnd rest → head_length (doubled w ++ rest) ≡ length (doubled w)
-head_doubled [] rest h = end_length rest h
-head_doubled (b ∷ w) rest h =
-    cond_elim (eqb b 45) (λ xs. head_length (xs ++ rest) ≡ length xs) (45 ∷ 45 ∷ doubled w) (b ∷ doubled w)
-    (λ e. ap (λ n. suc (suc n)) (head_doubled w rest h))
-    (λ e. plain_length b (doubled w ++ rest) e ∙ ap (λ n. suc n) (head_doubled w rest h))
+length_doubled : (w rest : List ℕ) → IsEnd rest → slice_length (doubled w ++ rest) ≡ length (doubled w)
+length_doubled [] rest h = end_length rest h
+length_doubled (b ∷ w) rest h =
+    cond_elim (eqb b 45) (λ xs. slice_length (xs ++ rest) ≡ length xs) (45 ∷ 45 ∷ doubled w) (b ∷ doubled w)
+    (λ e. ap (λ n. suc (suc n)) (length_doubled w rest h))
+    (λ e. plain_length b (doubled w ++ rest) e ∙ ap (λ n. suc n) (length_doubled w rest h))
 
 take_front : (xs ys : List ℕ) → take (length xs) (xs ++ ys) ≡ xs
 take_front [] ys = refl
@@ -253,11 +253,11 @@ drop_front [] ys = refl
 drop_front (x ∷ xs) ys = drop_front xs ys
 
 -- of a doubled part with an end after it
-cut_head : (w rest : List ℕ) → IsEnd rest → head_of (doubled w ++ rest) ≡ doubled w
-cut_head w rest h = ap (λ n. take n (doubled w ++ rest)) (head_doubled w rest h) ∙ take_front (doubled w) rest
+cut_first : (w rest : List ℕ) → IsEnd rest → first_slice (doubled w ++ rest) ≡ doubled w
+cut_first w rest h = ap (λ n. take n (doubled w ++ rest)) (length_doubled w rest h) ∙ take_front (doubled w) rest
 
-cut_tail : (w rest : List ℕ) → IsEnd rest → tail_of (doubled w ++ rest) ≡ after_hyphen rest
-cut_tail w rest h = ap after_hyphen (ap (λ n. drop n (doubled w ++ rest)) (head_doubled w rest h) ∙ drop_front (doubled w) rest)
+cut_later : (w rest : List ℕ) → IsEnd rest → later_slices (doubled w ++ rest) ≡ after_hyphen rest
+cut_later w rest h = ap after_hyphen (ap (λ n. drop n (doubled w ++ rest)) (length_doubled w rest h) ∙ drop_front (doubled w) rest)
 
 -- any text begins with a doubled part
 record Front (bs : List ℕ) (n : ℕ) : Type 0 where
@@ -265,14 +265,14 @@ record Front (bs : List ℕ) (n : ℕ) : Type 0 where
   pub is : bs ≡ doubled part ++ drop n bs
   pub end : IsEnd (drop n bs)
 
-front_pair : (b c : ℕ) (bs : List ℕ) → eqb b 45 ≡ true → eqb c 45 ≡ true → Front bs (head_length bs) → Front (b ∷ c ∷ bs) (suc (suc (head_length bs)))
+front_pair : (b c : ℕ) (bs : List ℕ) → eqb b 45 ≡ true → eqb c 45 ≡ true → Front bs (slice_length bs) → Front (b ∷ c ∷ bs) (suc (suc (slice_length bs)))
 front_pair b c bs e d f = record {
   part = 45 ∷ f.part;
   is = ap (λ n. n ∷ c ∷ bs) (eqb-true b 45 e) ∙ ap (λ n. 45 ∷ n ∷ bs) (eqb-true c 45 d) ∙ ap (λ (xs : List ℕ). 45 ∷ 45 ∷ xs) f.is;
   end = f.end;
 }
 
-front_plain : (b : ℕ) (bs : List ℕ) → eqb b 45 ≡ false → Front bs (head_length bs) → Front (b ∷ bs) (suc (head_length bs))
+front_plain : (b : ℕ) (bs : List ℕ) → eqb b 45 ≡ false → Front bs (slice_length bs) → Front (b ∷ bs) (suc (slice_length bs))
 front_plain b bs e f = record {
   part = b ∷ f.part;
   is = ap (λ (xs : List ℕ). b ∷ xs) f.is ∙ sym (rw e refl);
@@ -282,30 +282,30 @@ front_plain b bs e f = record {
 front_end : (bs : List ℕ) → IsEnd bs → Front bs 0
 front_end bs h = record { part = []; is = refl; end = h }
 
-front : (bs : List ℕ) → Front bs (head_length bs)
+front : (bs : List ℕ) → Front bs (slice_length bs)
 front [] = front_end [] tt
 front (b ∷ []) =
     cond_elim (eqb b 45) (Front (b ∷ [])) 0 1
     (λ e. front_end (b ∷ []) (eqb-true b 45 e, refl))
     (λ e. front_plain b [] e (front_end [] tt))
 front (b ∷ c ∷ bs) =
-    cond_elim (eqb b 45) (Front (b ∷ c ∷ bs)) (cond (eqb c 45) (suc (suc (head_length bs))) 0) (suc (head_length (c ∷ bs)))
-    (λ e. cond_elim (eqb c 45) (Front (b ∷ c ∷ bs)) (suc (suc (head_length bs))) 0
+    cond_elim (eqb b 45) (Front (b ∷ c ∷ bs)) (cond (eqb c 45) (suc (suc (slice_length bs))) 0) (suc (slice_length (c ∷ bs)))
+    (λ e. cond_elim (eqb c 45) (Front (b ∷ c ∷ bs)) (suc (suc (slice_length bs))) 0
     (λ d. front_pair b c bs e d (front bs))
     (λ d. front_end (b ∷ c ∷ bs) (eqb-true b 45 e, d)))
     (λ e. front_plain b (c ∷ bs) e (front (c ∷ bs)))
 
-head_part : (bs : List ℕ) → head_length bs ≡ length (doubled (front bs).part)
-head_part bs = let f = front bs in ap head_length f.is ∙ head_doubled f.part (drop (head_length bs) bs) f.end
+length_part : (bs : List ℕ) → slice_length bs ≡ length (doubled (front bs).part)
+length_part bs = let f = front bs in ap slice_length f.is ∙ length_doubled f.part (drop (slice_length bs) bs) f.end
 
-pub head_within : (bs : List ℕ) → head_length bs ≤ length bs
-head_within bs =
+pub length_within : (bs : List ℕ) → slice_length bs ≤ length bs
+length_within bs =
     let f = front bs in
-    let whole : length bs ≡ length (doubled f.part) + length (drop (head_length bs) bs) = ap length f.is ∙ length-append (doubled f.part) (drop (head_length bs) bs) in
-    omega (arith, whole, head_part bs)
+    let whole : length bs ≡ length (doubled f.part) + length (drop (slice_length bs) bs) = ap length f.is ∙ length-append (doubled f.part) (drop (slice_length bs) bs) in
+    omega (arith, whole, length_part bs)
 
-pub hyphen_at : (bs : List ℕ) → head_length bs < length bs → get_or bs (head_length bs) 0 ≡ 45
-hyphen_at bs lt = (subst IsEnd (drop-cons bs (head_length bs) 0 lt) (front bs).end).0
+pub hyphen_at : (bs : List ℕ) → slice_length bs < length bs → get_or bs (slice_length bs) 0 ≡ 45
+hyphen_at bs lt = (subst IsEnd (drop-cons bs (slice_length bs) 0 lt) (front bs).end).0
 
 pub after_is : (bs : List ℕ) (r : Option (Bor (List ℕ))) → MatchOption r ((rest : List ℕ) → bs ≢ 45 ∷ rest) (λ x. bs ≡ 45 ∷ x.now) → option_map (λ t. t.now) r ≡ after_hyphen bs
 after_is [] None m = refl
@@ -315,24 +315,24 @@ after_is (b ∷ bs) None m =
     (λ e. refl)
 after_is bs (Some x) m = sym (ap after_hyphen m)
 
--- after a part comes nothing, or a hyphen and the tail
+-- after a part comes nothing, or a hyphen and more
 end_is : (bs : List ℕ) → IsEnd bs → bs ≡ with_hyphen (after_hyphen bs)
 end_is [] h = refl
 end_is (b ∷ bs) h = rw h.0 refl
 
--- a text is a doubled part, and the tail after a hyphen
-record Head (bs : List ℕ) : Type 0 where
+-- a text is a doubled part, and what comes after a hyphen
+record FirstSlice (bs : List ℕ) : Type 0 where
   pub part : List ℕ
-  pub head : head_of bs ≡ doubled part
-  pub whole : bs ≡ doubled part ++ with_hyphen (tail_of bs)
+  pub first : first_slice bs ≡ doubled part
+  pub whole : bs ≡ doubled part ++ with_hyphen (later_slices bs)
 
-head : (bs : List ℕ) → Head bs
-head bs =
+first : (bs : List ℕ) → FirstSlice bs
+first bs =
     let f = front bs in
     record {
       part = f.part;
-      head = ap head_of f.is ∙ cut_head f.part (drop (head_length bs) bs) f.end;
-      whole = f.is ∙ ap (λ (xs : List ℕ). doubled f.part ++ xs) (end_is (drop (head_length bs) bs) f.end);
+      first = ap first_slice f.is ∙ cut_first f.part (drop (slice_length bs) bs) f.end;
+      whole = f.is ∙ ap (λ (xs : List ℕ). doubled f.part ++ xs) (end_is (drop (slice_length bs) bs) f.end);
     }
 
 -- The slices of a name
@@ -343,47 +343,47 @@ record Sliced (name : List ℕ) (s : NameParts) : Type 0 where
   pub are : s ≡ doubled_parts parts
   pub spell : name ≡ joined parts
 
-sliced_two : (name rest : List ℕ) (s : NameParts) → Head name → tail_of name ≡ Some rest → Head rest → tail_of rest ≡ None → Some (record { vg = head_of name; lv = head_of rest; layer = None }) ≡ Some s → Sliced name s
+sliced_two : (name rest : List ℕ) (s : NameParts) → FirstSlice name → later_slices name ≡ Some rest → FirstSlice rest → later_slices rest ≡ None → Some (record { vg = first_slice name; lv = first_slice rest; layer = None }) ≡ Some s → Sliced name s
 sliced_two name rest s h t g u e = record {
   parts = record { vg = h.part; lv = g.part; layer = None };
   are = sym (same_Some _ _ e)
-      ∙ ap (λ (x : List ℕ). let q : NameParts = record { vg = x; lv = head_of rest; layer = None } in q) h.head
-      ∙ ap (λ (x : List ℕ). let q : NameParts = record { vg = doubled h.part; lv = x; layer = None } in q) g.head;
+      ∙ ap (λ (x : List ℕ). let q : NameParts = record { vg = x; lv = first_slice rest; layer = None } in q) h.first
+      ∙ ap (λ (x : List ℕ). let q : NameParts = record { vg = doubled h.part; lv = x; layer = None } in q) g.first;
   spell = h.whole
       ∙ ap (λ (x : Option (List ℕ)). doubled h.part ++ with_hyphen x) t
       ∙ ap (λ (x : List ℕ). doubled h.part ++ 45 ∷ x) (g.whole ∙ ap (λ (x : Option (List ℕ)). doubled g.part ++ with_hyphen x) u);
 }
 
-sliced_three : (name rest last : List ℕ) (s : NameParts) → Head name → tail_of name ≡ Some rest → Head rest → tail_of rest ≡ Some last → Head last → tail_of last ≡ None
-    → Some (record { vg = head_of name; lv = head_of rest; layer = Some (head_of last) }) ≡ Some s → Sliced name s
+sliced_three : (name rest last : List ℕ) (s : NameParts) → FirstSlice name → later_slices name ≡ Some rest → FirstSlice rest → later_slices rest ≡ Some last → FirstSlice last → later_slices last ≡ None
+    → Some (record { vg = first_slice name; lv = first_slice rest; layer = Some (first_slice last) }) ≡ Some s → Sliced name s
 sliced_three name rest last s h t g u k v e =
     let end : last ≡ doubled k.part = k.whole ∙ ap (λ (x : Option (List ℕ)). doubled k.part ++ with_hyphen x) v ∙ append-nil (doubled k.part) in
     record {
       parts = record { vg = h.part; lv = g.part; layer = Some k.part };
       are = sym (same_Some _ _ e)
-          ∙ ap (λ (x : List ℕ). let q : NameParts = record { vg = x; lv = head_of rest; layer = Some (head_of last) } in q) h.head
-          ∙ ap (λ (x : List ℕ). let q : NameParts = record { vg = doubled h.part; lv = x; layer = Some (head_of last) } in q) g.head
-          ∙ ap (λ (x : List ℕ). let q : NameParts = record { vg = doubled h.part; lv = doubled g.part; layer = Some x } in q) k.head;
+          ∙ ap (λ (x : List ℕ). let q : NameParts = record { vg = x; lv = first_slice rest; layer = Some (first_slice last) } in q) h.first
+          ∙ ap (λ (x : List ℕ). let q : NameParts = record { vg = doubled h.part; lv = x; layer = Some (first_slice last) } in q) g.first
+          ∙ ap (λ (x : List ℕ). let q : NameParts = record { vg = doubled h.part; lv = doubled g.part; layer = Some x } in q) k.first;
       spell = h.whole
           ∙ ap (λ (x : Option (List ℕ)). doubled h.part ++ with_hyphen x) t
           ∙ ap (λ (x : List ℕ). doubled h.part ++ 45 ∷ x) (g.whole ∙ ap (λ (x : Option (List ℕ)). doubled g.part ++ with_hyphen x) u ∙ ap (λ (x : List ℕ). doubled g.part ++ 45 ∷ x) end);
     }
 
-sliced_last : (name rest last : List ℕ) (s : NameParts) (more : Option (List ℕ)) → tail_of name ≡ Some rest → tail_of rest ≡ Some last → tail_of last ≡ more
-    → cond (is_none more) (Some (record { vg = head_of name; lv = head_of rest; layer = Some (head_of last) })) None ≡ Some s → Sliced name s
-sliced_last name rest last s None t u v e = sliced_three name rest last s (head name) t (head rest) u (head last) v e
+sliced_last : (name rest last : List ℕ) (s : NameParts) (more : Option (List ℕ)) → later_slices name ≡ Some rest → later_slices rest ≡ Some last → later_slices last ≡ more
+    → cond (is_none more) (Some (record { vg = first_slice name; lv = first_slice rest; layer = Some (first_slice last) })) None ≡ Some s → Sliced name s
+sliced_last name rest last s None t u v e = sliced_three name rest last s (first name) t (first rest) u (first last) v e
 sliced_last name rest last s (Some x) t u v e = absurd cc
 
-sliced_rest : (name rest : List ℕ) (s : NameParts) (tail : Option (List ℕ)) → tail_of name ≡ Some rest → tail_of rest ≡ tail → with_layer (head_of name) (head_of rest) tail ≡ Some s → Sliced name s
-sliced_rest name rest s None t u e = sliced_two name rest s (head name) t (head rest) u e
-sliced_rest name rest s (Some last) t u e = sliced_last name rest last s (tail_of last) t u refl e
+sliced_rest : (name rest : List ℕ) (s : NameParts) (later : Option (List ℕ)) → later_slices name ≡ Some rest → later_slices rest ≡ later → with_layer (first_slice name) (first_slice rest) later ≡ Some s → Sliced name s
+sliced_rest name rest s None t u e = sliced_two name rest s (first name) t (first rest) u e
+sliced_rest name rest s (Some last) t u e = sliced_last name rest last s (later_slices last) t u refl e
 
-sliced_at : (name : List ℕ) (s : NameParts) (tail : Option (List ℕ)) → tail_of name ≡ tail → option_and_then (λ rest. with_layer (head_of name) (head_of rest) (tail_of rest)) tail ≡ Some s → Sliced name s
+sliced_at : (name : List ℕ) (s : NameParts) (later : Option (List ℕ)) → later_slices name ≡ later → option_and_then (λ rest. with_layer (first_slice name) (first_slice rest) (later_slices rest)) later ≡ Some s → Sliced name s
 sliced_at name s None t e = absurd cc
-sliced_at name s (Some rest) t e = sliced_rest name rest s (tail_of rest) t refl e
+sliced_at name s (Some rest) t e = sliced_rest name rest s (later_slices rest) t refl e
 
 sliced : (name : List ℕ) (s : NameParts) → slices_of name ≡ Some s → Sliced name s
-sliced name s e = sliced_at name s (tail_of name) refl e
+sliced name s e = sliced_at name s (later_slices name) refl e
 
 -- The parts that build a name are those of its slices
 
@@ -395,17 +395,17 @@ layer_end : (l : Option (List ℕ)) → layer_fault l ≡ None → IsEnd (with_h
 layer_end None e = tt
 layer_end (Some l) e = (refl, ap (begins_with 45) (sym (append-nil (doubled l))) ∙ no_hyphen l [] (layer_none l (begins_with 95 l) e))
 
-head_whole : (w : List ℕ) → head_of (doubled w) ≡ doubled w
-head_whole w = ap head_of (sym (append-nil (doubled w))) ∙ cut_head w [] tt
+first_whole : (w : List ℕ) → first_slice (doubled w) ≡ doubled w
+first_whole w = ap first_slice (sym (append-nil (doubled w))) ∙ cut_first w [] tt
 
-tail_whole : (w : List ℕ) → tail_of (doubled w) ≡ None
-tail_whole w = ap tail_of (sym (append-nil (doubled w))) ∙ cut_tail w [] tt
+later_whole : (w : List ℕ) → later_slices (doubled w) ≡ None
+later_whole w = ap later_slices (sym (append-nil (doubled w))) ∙ cut_later w [] tt
 
 layer_slices : (vg lv : List ℕ) (l : Option (List ℕ)) → with_layer vg lv (after_hyphen (with_hyphen (option_map doubled l))) ≡ Some (record { vg = vg; lv = lv; layer = option_map doubled l })
 layer_slices vg lv None = refl
 layer_slices vg lv (Some l) =
-    ap (λ (x : Option (List ℕ)). cond (is_none x) (Some (let q : NameParts = record { vg = vg; lv = lv; layer = Some (head_of (doubled l)) } in q)) None) (tail_whole l)
-    ∙ ap (λ (x : List ℕ). Some (let q : NameParts = record { vg = vg; lv = lv; layer = Some x } in q)) (head_whole l)
+    ap (λ (x : Option (List ℕ)). cond (is_none x) (Some (let q : NameParts = record { vg = vg; lv = lv; layer = Some (first_slice (doubled l)) } in q)) None) (later_whole l)
+    ∙ ap (λ (x : List ℕ). Some (let q : NameParts = record { vg = vg; lv = lv; layer = Some x } in q)) (first_whole l)
 
 joined_slices : (vg lv : List ℕ) (l : Option (List ℕ)) → part_fault vg ≡ None → part_fault lv ≡ None → layer_fault l ≡ None
     → slices_of (doubled vg ++ 45 ∷ (doubled lv ++ with_hyphen (option_map doubled l))) ≡ Some (record { vg = doubled vg; lv = doubled lv; layer = option_map doubled l })
@@ -414,10 +414,10 @@ joined_slices vg lv l a b c =
     let rest = doubled lv ++ end in
     let name = doubled vg ++ 45 ∷ rest in
     let first : IsEnd (45 ∷ rest) = (refl, no_hyphen lv end b) in
-    ap (λ (x : Option (List ℕ)). option_and_then (λ (r : List ℕ). with_layer (head_of name) (head_of r) (tail_of r)) x) (cut_tail vg (45 ∷ rest) first)
-    ∙ ap (λ (x : List ℕ). with_layer x (head_of rest) (tail_of rest)) (cut_head vg (45 ∷ rest) first)
-    ∙ ap (λ (x : List ℕ). with_layer (doubled vg) x (tail_of rest)) (cut_head lv end (layer_end l c))
-    ∙ ap (λ (x : Option (List ℕ)). with_layer (doubled vg) (doubled lv) x) (cut_tail lv end (layer_end l c))
+    ap (λ (x : Option (List ℕ)). option_and_then (λ (r : List ℕ). with_layer (first_slice name) (first_slice r) (later_slices r)) x) (cut_later vg (45 ∷ rest) first)
+    ∙ ap (λ (x : List ℕ). with_layer x (first_slice rest) (later_slices rest)) (cut_first vg (45 ∷ rest) first)
+    ∙ ap (λ (x : List ℕ). with_layer (doubled vg) x (later_slices rest)) (cut_first lv end (layer_end l c))
+    ∙ ap (λ (x : Option (List ℕ)). with_layer (doubled vg) (doubled lv) x) (cut_later lv end (layer_end l c))
     ∙ layer_slices (doubled vg) (doubled lv) l
 
 built_slices : (p : NameParts) (name : List ℕ) → Builds p name → slices_of name ≡ Some (doubled_parts p)

@@ -48,8 +48,8 @@ group_checks top = faults_of_fields Fields top ∷ later_checks top
 
 -- Tables
 
-abbrev pub place_at : ℕ → Place
-place_at line = record { part = Source; number = line }
+abbrev pub source_line : ℕ → Place
+source_line line = record { part = Source; number = line }
 
 -- the physical volume at a place
 abbrev pub physical_at : List Physical → ℕ → Physical
@@ -77,7 +77,7 @@ line_of extent_size physicals segment = record {
   start = segment.start * extent_size;
   len = segment.count * extent_size;
   target = line_target extent_size physicals segment.target;
-  at = place_at segment.line;
+  at = source_line segment.line;
 }
 
 -- what the name of a volume of a group is built of
@@ -90,11 +90,11 @@ device_in group extent_size physicals volume = record {
   name = joined (volume_parts group volume);
   ro = volume.ro;
   lines = map (line_of extent_size physicals) volume.segments;
-  at = place_at volume.line;
+  at = source_line volume.line;
 }
 
 unfoldable pub disk_of : Physical → Disk
-disk_of physical = record { name = physical.disk; len = physical.size; at = place_at physical.line }
+disk_of physical = record { name = physical.disk; len = physical.size; at = source_line physical.line }
 
 -- a volume of whose group and key no name is built
 unfoldable pub unnamed_volume : List ℕ → Volume → List LoadFault

@@ -12,9 +12,9 @@ ghost use Rattle.lvm_volume.specs.Used.{Claimed, Holds, claims_by};
 
 use crate::physical::Physical;
 use crate::segment::{Segment, SegmentType, Stripe};
+use crate::source_line::source_fault;
 use crate::used::take;
 use crate::volume::Volume;
-use crate::walk::source_fault;
 use dm_table::{LoadFault, LoadKind};
 use std::alloc::{AllocError, Global};
 use std::collections::BTreeMap;

@@ -18,6 +18,7 @@ mod physical;
 mod places;
 mod refused_text;
 mod segment;
+mod source_line;
 mod tables;
 #[cfg(test)]
 mod tests;

@@ -13,8 +13,8 @@ ghost use Rattle.lvm_volume.specs.Metadata.{DescribesGroup, IsRefusedText, bad_b
 ghost use Rattle.lvm_volume.specs.Tables.{tables_of};
 
 use crate::refused_text::text_fault;
+use crate::source_line::source_fault;
 use crate::volume_group::VolumeGroup;
-use crate::walk::source_fault;
 use dm_table::{DeviceSpec, Disk, LoadFault, LoadKind};
 use lvm_text::{Section, end_line, parse};
 use std::alloc::Global;

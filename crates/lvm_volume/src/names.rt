@@ -6,7 +6,7 @@ ghost use Rattle.std.specs.Prelude.{◌≡◌, ℕ, ◌++◌, List, IfOk, IfSome
 ghost use Rattle.std.specs.List.{list_all};
 ghost use Rattle.std.specs.String.{string_bytes};
 ghost use Rattle.lvm_volume.specs.Names.{NameParts, is_letter, begins_with, part_fault, layer_fault, or_later, doubled, undoubled, joined, built, Returns, Builds, IsSplit, IsSpaced, parts_view, spaced, undoubled_parts};
-ghost use Rattle.lvm_volume.specs.Cuts.{head_length, head_of, tail_of, slices_of};
+ghost use Rattle.lvm_volume.specs.Cuts.{slice_length, first_slice, later_slices, slices_of};
 
 use crate::fault::NameFault;
 use dm_table::{CheckFault, Name};
@@ -136,8 +136,8 @@ pub fn build_name(alloc: Global, vg: &str, lv: &str, layer: Option<&str>) -> Res
 }
 
 /// How many bytes of a name come before the first hyphen that pairs with no other.
-fn head_length(bytes: &[u8]) -> usize
-    ensures { result ≡ head_length bytes.now }
+fn slice_length(bytes: &[u8]) -> usize
+    ensures { result ≡ slice_length bytes.now }
 {
     let mut at = 0;
     while at < bytes.len() {
@@ -154,11 +154,11 @@ fn head_length(bytes: &[u8]) -> usize
 
 /// The part at the front of a name, and what comes after the hyphen that ends it, if there is one.
 fn cut(name: &str) -> (&str, Option<&str>)
-    ensures head { result.0.now ≡ head_of name.now }
-    ensures tail { option_map (λ t. t.now) result.1 ≡ tail_of name.now }
+    ensures first { result.0.now ≡ first_slice name.now }
+    ensures later { option_map (λ later. later.now) result.1 ≡ later_slices name.now }
 {
-    let (head, rest) = name.split_at(head_length(name.as_bytes()));
-    (head, rest.strip_prefix('-'))
+    let (first, rest) = name.split_at(slice_length(name.as_bytes()));
+    (first, rest.strip_prefix('-'))
 }
 
 /// The slices of a name that are a group, a volume and perhaps a layer, whatever is wrong with them.

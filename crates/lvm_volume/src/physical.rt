@@ -16,8 +16,8 @@ ghost use Rattle.lvm_volume.specs.Extents.{name_faults};
 ghost use Rattle.lvm_volume.specs.Group.{chosen, device_of, physical_of};
 ghost use Rattle.lvm_volume.specs.GroupCode.{Counts, texts};
 
+use crate::source_line::source_fault;
 use crate::value::{number_at, text_at};
-use crate::walk::source_fault;
 use dm_table::{CheckFault, DiskName, LoadFault, LoadKind, Part};
 use lvm_text::Section;
 use std::alloc::{AllocError, Global};

@@ -3,7 +3,7 @@
 ghost use Rattle.std.specs.Prelude.{◌≡◌};
 ghost use Rattle.lvm_volume.specs.Tables.{text_fault};
 
-use crate::walk::source_fault;
+use crate::source_line::source_fault;
 use dm_table::{LoadFault, LoadKind, Part};
 use lvm_text::TextFault;
 

@@ -11,18 +11,18 @@ ghost use Rattle.lvm_volume.specs.declared.fault.NameFault.TheVariants as names;
 ghost use Rattle.dm_table.specs.declared.place.Part.TheVariants.{Source};
 ghost use Rattle.lvm_volume.specs.Extents.{stripes_of};
 ghost use Rattle.lvm_volume.specs.Names.{joined};
-ghost use Rattle.lvm_volume.specs.Tables.{IsSegmentIn, IsStripeIn, column_of, columns_target, device_in, disk_of, line_of, line_target, place_at, tables_of, unnamed, unnamed_volume, volume_parts};
+ghost use Rattle.lvm_volume.specs.Tables.{IsSegmentIn, IsStripeIn, column_of, columns_target, device_in, disk_of, line_of, line_target, tables_of, unnamed, unnamed_volume, volume_parts};
 
 use crate::fault::NameFault;
 use crate::names::build_name;
 use crate::physical::Physical;
 use crate::segment::{Segment, SegmentType, Stripe};
+use crate::source_line::{source_fault, source_line};
 use crate::volume::Volume;
 use crate::volume_group::VolumeGroup;
-use crate::walk::source_fault;
 use dm_table::{
     CheckFault, Column, Columns, DevRef, DeviceSpec, Disk, DiskName, Line, LoadFault, LoadKind,
-    Name, Part, Place, Table, Target,
+    Name, Part, Table, Target,
 };
 use std::alloc::{AllocError, Global};
 
@@ -102,19 +102,9 @@ fn device_of(
             name,
             ro: volume.ro,
             lines,
-            at: place_at(volume.line),
+            at: source_line(volume.line),
         }),
         Err(_) => Err(LoadFault::memory(Part::Source)),
-    }
-}
-
-/// The place of a line of the text.
-fn place_at(line: u64) -> Place
-    ensures { result ≡ place_at line }
-{
-    Place {
-        part: Part::Source,
-        number: line,
     }
 }
 
@@ -172,7 +162,7 @@ fn line_of(
         start: segment.start * extent_size,
         len: segment.count * extent_size,
         target: line_target(alloc, extent_size, physicals, &segment.target)?,
-        at: place_at(segment.line),
+        at: source_line(segment.line),
     })
 }
 
@@ -278,6 +268,6 @@ fn disk_of(alloc: Global, physical: &Physical) -> Result<Disk, AllocError>
     Ok(Disk {
         name: copy_of(alloc, &physical.disk)?,
         len: physical.size,
-        at: place_at(physical.line),
+        at: source_line(physical.line),
     })
 }

@@ -20,23 +20,11 @@ use crate::field::{
     Field, Kind, always, group_fields, physical_fields, segment_fields, top_fields, volume_fields,
 };
 use crate::fits::{fits, is_asked, is_far};
+use crate::source_line::source_fault;
 use crate::value::{number_at, section_at, sections_at, sections_of, segment_key, segments_of};
-use dm_table::{LoadFault, LoadKind, Part, Place};
+use dm_table::{LoadFault, LoadKind};
 use lvm_text::{Node, Section, Value};
 use std::alloc::{AllocError, Global};
-
-/// A fault at a line of the source.
-pub(crate) fn source_fault(kind: LoadKind, line: u64) -> LoadFault
-    ensures { result ≡ fault_at Source kind line }
-{
-    LoadFault {
-        kind,
-        at: Place {
-            part: Part::Source,
-            number: line,
-        },
-    }
-}
 
 /// The first fault that a check finds at a missing field of a section at this line.
 fn missing(check: Check, line: u64) -> Option<LoadFault>

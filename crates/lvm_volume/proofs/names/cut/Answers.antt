@@ -1,22 +1,22 @@
 use Rattle.std.proofs.Common.{◌≡◌, ◌≤◌, ◌∙◌, ap, ℕ, List, drop, length, get_or, arith}
 use Rattle.std.proofs.lemmas.Str.Pattern.{strip_prefix_char}
-use Rattle.lvm_volume.specs.Cuts.{head_length, after_hyphen}
-use Rattle.lvm_volume.proofs.Splits.{head_within, hyphen_at, after_is}
+use Rattle.lvm_volume.specs.Cuts.{slice_length, after_hyphen}
+use Rattle.lvm_volume.proofs.Splits.{length_within, hyphen_at, after_is}
 use Rattle.lvm_volume.proofs.names.cut.Goals as goal
 
-length_is : (n : ℕ) (xs bs : List ℕ) → n ≡ head_length xs → xs ≡ bs → n ≡ head_length bs
-length_is n xs bs e f = e ∙ ap head_length f
+length_is : (n : ℕ) (xs bs : List ℕ) → n ≡ slice_length xs → xs ≡ bs → n ≡ slice_length bs
+length_is n xs bs e f = e ∙ ap slice_length f
 
 pub split_at-requires : goal.split_at-requires
 split_at-requires c =
     let bs = c.args.name.now in
-    let n : c.head_length.result ≡ head_length bs = length_is _ _ bs c.head_length.ensures c.as_bytes.ensures.value in
-    let within : c.head_length.result ≤ length bs = omega (arith, n, head_within bs) in
-    (within, λ lt high. let hyphen : get_or bs c.head_length.result 0 ≡ 45 = ap (λ m. get_or bs m 0) n ∙ hyphen_at bs (omega (arith, n, lt)) in absurd (omega (arith, hyphen, high)))
+    let n : c.slice_length.result ≡ slice_length bs = length_is _ _ bs c.slice_length.ensures c.as_bytes.ensures.value in
+    let within : c.slice_length.result ≤ length bs = omega (arith, n, length_within bs) in
+    (within, λ lt high. let hyphen : get_or bs c.slice_length.result 0 ≡ 45 = ap (λ m. get_or bs m 0) n ∙ hyphen_at bs (omega (arith, n, lt)) in absurd (omega (arith, hyphen, high)))
 
-pub returns-clause-tail : goal.returns-clause-tail
-returns-clause-tail c =
+pub returns-clause-later : goal.returns-clause-later
+returns-clause-later c =
     let bs = c.args.name.now in
-    let n : c.head_length.result ≡ head_length bs = length_is _ _ bs c.head_length.ensures c.as_bytes.ensures.value in
+    let n : c.slice_length.result ≡ slice_length bs = length_is _ _ bs c.slice_length.ensures c.as_bytes.ensures.value in
     after_is c.split_at.result.1.now c.strip_prefix.result (strip_prefix_char 45 c.split_at.result.1.now c.strip_prefix.result c.strip_prefix.ensures.cases (omega arith))
     ∙ ap after_hyphen (c.split_at.ensures.back ∙ ap (λ m. drop m bs) n)

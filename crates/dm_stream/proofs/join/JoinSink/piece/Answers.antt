@@ -9,6 +9,6 @@ returns-in_err-finish-clause-left g c =
     let written = g.W.Output.written in
     on_err c.from_residual.result _ (
       left_apart c.args.self.now.held c.lengthen.new.self c.finish.new.self.held c.args.piece (written c.args.self.now.writer.now) (written c.finish.new.self.writer.now)
-          c.requires.some apart.same failed.nothing apart.apart failed.wrote.left failed.wrote.moved.appends,
+          c.requires.some apart.same failed.nothing apart.apart failed.wrote.left,
       record { moved = failed.wrote.moved; same_reference = failed.same_reference },
     )

@@ -1,6 +1,6 @@
 use Rattle.std.proofs.Common.{arith}
 use Rattle.lvm_volume.proofs.Splits.{length_plain}
-use Rattle.lvm_volume.proofs.names.head_length.Goals as goal
+use Rattle.lvm_volume.proofs.names.slice_length.Goals as goal
 
 pub loop-at-preserved-then-bytes-at-ne45 : goal.loop-at-preserved-then-bytes-at-ne45
 loop-at-preserved-then-bytes-at-ne45 c = record {

@@ -1,10 +1,10 @@
 use Rattle.std.proofs.Common.{◌≡◌, ◌+◌, ◌-◌, ◌≤◌, length, drop}
-use Rattle.lvm_volume.specs.Cuts.{head_length}
-use Rattle.lvm_volume.proofs.names.head_length.Given as goal
+use Rattle.lvm_volume.specs.Cuts.{slice_length}
+use Rattle.lvm_volume.proofs.names.slice_length.Given as goal
 
 abbrev pub invariant-loop-at : goal.invariant-loop-at
 invariant-loop-at l = record {
-  same : head_length l.bytes ≡ l.at + head_length (drop l.at l.bytes);
+  same : slice_length l.bytes ≡ l.at + slice_length (drop l.at l.bytes);
   within : l.at ≤ length l.bytes;
 }
 

@@ -1,0 +1,30 @@
+//! Lines of the source: the place of what stands on one, and a fault there.
+//!
+//! The places of metadata are all made here, and lines count from 1.
+
+ghost use Rattle.std.specs.Prelude.{◌≡◌};
+ghost use Rattle.dm_table.specs.LoadFault.{fault_at};
+ghost use Rattle.dm_table.specs.declared.place.Part.TheVariants.{Source};
+ghost use Rattle.lvm_volume.specs.Tables.{source_line};
+
+use dm_table::{LoadFault, LoadKind, Part, Place};
+
+/// The place of a line.
+pub(crate) fn source_line(line: u64) -> Place
+    ensures { result ≡ source_line line }
+{
+    Place {
+        part: Part::Source,
+        number: line,
+    }
+}
+
+/// A fault at a line.
+pub(crate) fn source_fault(kind: LoadKind, line: u64) -> LoadFault
+    ensures { result ≡ fault_at Source kind line }
+{
+    LoadFault {
+        kind,
+        at: source_line(line),
+    }
+}
