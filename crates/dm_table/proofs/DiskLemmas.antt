@@ -1,32 +1,45 @@
 -- What no check finds fault with describes its disks, and what describes disks no check finds fault with.
-use Rattle.std.proofs.Common.{◌≡◌, ◌≢◌, ℕ, Bool, suc, ◌+◌, ◌^◌, ◌<◌, true, false, nat_le, not, ◌&&◌, List, [], ◌∷◌, ◌++◌, length, map, None, Result, Err, refl, sym, ap, ◌∙◌, append_assoc}
+use Rattle.std.proofs.Common.{◌≡◌, ◌≢◌, inl, inr, ℕ, Bool, suc, ◌+◌, ◌^◌, ◌<◌, true, false, nat_le, not, ◌&&◌, List, [], ◌∷◌, ◌++◌, length, map, Option, Some, None, Result, Ok, Err, refl, sym, ap, ◌∙◌, append_assoc}
 use Rattle.std.specs.Global.{Vec}
-use Rattle.std.specs.Prelude.{decimal, is_some}
-use Rattle.std.specs.List.{flat_map, join_with_byte, AllByRecursion}
-use Rattle.std.proofs.lemmas.Bool.{and_from, not-false, not_from_true, lt-ltb}
+use Rattle.std.specs.Prelude.{decimal, is_some, if◌then◌else◌}
+use Rattle.std.specs.Option.{option_map}
+use Rattle.std.specs.List.{flat_map, join_with_byte, cons_option, AllByRecursion}
+use Rattle.std.proofs.lemmas.Bool.{and_from, not-false, not_from_true, lt-ltb, cases_Bool}
 use Rattle.std.proofs.lemmas.List.{append-nil}
 use Rattle.dm_table.specs.declared.disk.Disk.{Disk}
 use Rattle.dm_table.specs.declared.place.Part.TheVariants.{Disks}
 use Rattle.dm_table.specs.declared.load_fault.LoadKind.TheVariants.{NotText, Syntax, Field, Name}
 use Rattle.dm_table.specs.declared.load_fault.LoadFault.{LoadFault}
+use Rattle.dm_table.specs.declared.row_faults.RowFault.{RowFault}
 use Rattle.dm_table.specs.declared.row_faults.RowFault.TheVariants as rows
 use Rattle.dm_table.specs.Number.{number_of}
 use Rattle.dm_table.specs.Name.{is_disk_name}
 use Rattle.dm_table.specs.Fields.{texts, parts_at, lines_of, rest_of, fields}
 use Rattle.dm_table.specs.LoadFault.{Answers, first_fault, faults_from, unless, is_printable, not_text, unended, row_checks}
 use Rattle.dm_table.specs.Parsed.{IsParsed}
-use Rattle.dm_table.specs.DiskList.{disk_line, AreListed, DescribesDisks, is_pair, has_sectors, has_name, second, disk_checks, disk_of, disk_reading, disks_from, read_disks}
+use Rattle.dm_table.specs.DiskList.{disk_line, IsListed, AreListed, DescribesDisks, is_pair, disk_in, has_sectors, has_name, disk_checks, disk_fault, disk_reading, disks_from, read_disks}
+use Rattle.dm_table.specs.RowFaults.{first_failed, fault_in}
+use Rattle.dm_table.specs.LineReading.{reading_of}
 use Rattle.dm_table.specs.Reading.{with_rows}
-use Rattle.dm_table.proofs.NumberLemmas.{Spells-number_of, number_of-decimal, decimal_digits, decimal_some, Some-is_some}
+use Rattle.dm_table.proofs.NumberLemmas.{Spells-number_of, number_of-decimal, decimal_digits, decimal_some}
 use Rattle.dm_table.proofs.ByteLemmas.{is_shown, list_all-both, disk_name_parts, is_shown-clear, is_shown-digits, is_shown-printed, digits-clear, plain-disk_name}
 use Rattle.dm_table.proofs.FieldLemmas.{IsClearOf, parts_at-first, parts_at-clear, join-parts_at, lines_of-whole, parts_at-lines, lines_of-lines, rest_of-lines}
 use Rattle.dm_table.proofs.FaultLemmas.{first_or-none, first_fault-all, faults_from-nil, faults_from-good, append-nil_both, unended-nil}
+use Rattle.dm_table.proofs.TargetRows.{read_parts}
 use Rattle.dm_table.proofs.Parsing.{parsed}
 use denote.Ref.{Bor}
 
--- the disks after one more row
+-- the disks after what one more row says
 abbrev with_disk : List Disk → ℕ → List (List ℕ) → List Disk
-with_disk disks n row = disks ++ disk_of n row ∷ []
+with_disk disks n row = disks ++ cons_option (disk_in n row) []
+
+-- a disk by its name and its length, as line number n
+abbrev disk_at : ℕ → List ℕ → ℕ → Disk
+disk_at n name len = record { name = name; len = len; at = record { part = Disks; number = n } }
+
+-- the test of its name
+abbrev is_named : Disk → Bool
+is_named disk = is_disk_name disk.name
 
 -- the tests of the checks
 
@@ -44,27 +57,45 @@ no_name row = not (has_name row)
 
 -- From rows to disks
 
--- a row in order is the line of its disk
-row_line : (n : ℕ) (row : List (List ℕ)) → is_pair row ≡ true → has_sectors row ≡ true → join_with_byte 32 row ≡ disk_line (disk_of n row)
-row_line n [] pair some = absurd cc
-row_line n (name ∷ []) pair some = absurd cc
-row_line n (name ∷ sectors ∷ []) pair some = ap (λ (text : List ℕ). name ++ 32 ∷ text) (Spells-number_of sectors _ (Some-is_some (number_of sectors) some)).digits
-row_line n (name ∷ sectors ∷ more ∷ others) pair some = absurd cc
+-- a row in order says a disk, and is its line
+record IsInOrder (n : ℕ) (row : List (List ℕ)) : Type 0 where
+  disk : Disk
+  said : disk_in n row ≡ Some disk
+  line : join_with_byte 32 row ≡ disk_line disk
+  listed : IsListed n disk
+
+number_there : (name : List ℕ) (len : Option ℕ) → is_some (option_map (disk_at 0 name) len) ≡ true → (number : ℕ) × (len ≡ Some number)
+number_there name None some = absurd cc
+number_there name (Some number) some = (number, refl)
+
+in_order : (n : ℕ) (row : List (List ℕ)) → has_sectors row ≡ true → has_name row ≡ true → IsInOrder n row
+in_order n [] some is_name = absurd cc
+in_order n (name ∷ []) some is_name = absurd cc
+in_order n (name ∷ sectors ∷ []) some is_name =
+    let number = number_there name (number_of sectors) some in
+    let spells = Spells-number_of sectors number.0 number.1 in
+    record {
+      disk = disk_at n name number.0;
+      said = ap (option_map (disk_at n name)) number.1;
+      line = ap (λ (text : List ℕ). name ++ 32 ∷ text) spells.digits;
+      listed = record { name = is_name; len = spells.short; at = refl };
+    }
+in_order n (name ∷ sectors ∷ more ∷ others) some is_name = absurd cc
 
 -- lines in order are the lines of their disks
-lines_spell : (n : ℕ) (lines : List (List ℕ)) → AllByRecursion (λ row. no_pair row ≡ false) (map fields lines) → AllByRecursion (λ row. no_number row ≡ false) (map fields lines)
+lines_spell : (n : ℕ) (lines : List (List ℕ)) → AllByRecursion (λ row. no_number row ≡ false) (map fields lines) → AllByRecursion (λ row. no_name row ≡ false) (map fields lines)
     → flat_map (λ line. line ++ 10 ∷ []) lines ≡ flat_map (λ disk. disk_line disk ++ 10 ∷ []) (disks_from n (map fields lines))
-lines_spell n [] pairs numbers = refl
-lines_spell n (line ∷ lines) pairs numbers =
-    let here : line ≡ disk_line (disk_of n (fields line)) = sym (join-parts_at 32 line) ∙ row_line n (fields line) (not-false _ pairs.0) (not-false _ numbers.0) in
-    rw (← here, lines_spell (suc n) lines pairs.1 numbers.1) refl
+lines_spell n [] numbers names = refl
+lines_spell n (line ∷ lines) numbers names =
+    let row = in_order n (fields line) (not-false _ numbers.0) (not-false _ names.0) in
+    let here : line ≡ disk_line row.disk = sym (join-parts_at 32 line) ∙ row.line in
+    rw (row.said, ← here, lines_spell (suc n) lines numbers.1 names.1) refl
 
 rows_listed : (n : ℕ) (rows : List (List (List ℕ))) → AllByRecursion (λ row. no_number row ≡ false) rows → AllByRecursion (λ row. no_name row ≡ false) rows → AreListed n (disks_from n rows)
 rows_listed n [] numbers names = tt
-rows_listed n (row ∷ rows) numbers names = (
-  record { name = not-false _ names.0; len = (Spells-number_of (second row) _ (Some-is_some (number_of (second row)) (not-false _ numbers.0))).short; at = refl },
-  rows_listed (suc n) rows numbers.1 names.1,
-)
+rows_listed n (row ∷ rows) numbers names =
+    let first = in_order n row (not-false _ numbers.0) (not-false _ names.0) in
+    rw first.said (first.listed, rows_listed (suc n) rows numbers.1 names.1)
 
 -- a text that passes all checks describes the disks of its rows
 pub disk_checks-none : (text : List ℕ) → first_fault (disk_checks text) ≡ None → DescribesDisks text (disks_from 1 (map fields (lines_of text)))
@@ -75,11 +106,10 @@ disk_checks-none text h =
     let c = first_or-none (faults_from Disks Field no_number 1 rows) _ b.1 in
     let d = first_or-none (faults_from Disks Name no_name 1 rows) _ c.1 in
     let syntax = append-nil_both (faults_from Disks Syntax no_pair 1 rows) (unended Disks (length rows + 1) (rest_of text)) b.0 in
-    let pairs = faults_from-nil Disks Syntax no_pair 1 rows syntax.0 in
     let numbers = faults_from-nil Disks Field no_number 1 rows c.0 in
     let names = faults_from-nil Disks Name no_name 1 rows d.0 in
     let ended = unended-nil Disks (length rows + 1) (rest_of text) syntax.1 in
-    record { spelled = lines_of-whole text ended ∙ lines_spell 1 (lines_of text) pairs numbers; listed = rows_listed 1 rows numbers names }
+    record { spelled = lines_of-whole text ended ∙ lines_spell 1 (lines_of text) numbers names; listed = rows_listed 1 rows numbers names }
 
 -- From disks to rows
 
@@ -127,7 +157,7 @@ pairs_pass (disk ∷ disks) h =
 
 numbers_pass : (disks : List Disk) → AreNamed disks → AllByRecursion (λ row. no_number row ≡ false) (map disk_row disks)
 numbers_pass [] h = tt
-numbers_pass (disk ∷ disks) h = (not_from_true _ (ap is_some (number_of-decimal disk.len h.0.1)), numbers_pass disks h.1)
+numbers_pass (disk ∷ disks) h = (rw (number_of-decimal disk.len h.0.1) refl, numbers_pass disks h.1)
 
 names_pass : (disks : List Disk) → AreNamed disks → AllByRecursion (λ row. no_name row ≡ false) (map disk_row disks)
 names_pass [] h = tt
@@ -174,9 +204,13 @@ DescribesDisks-unique text a b is_a is_b = sym (again text a is_a).1 ∙ (again 
 -- Row by row
 
 -- each row adds its disk
+disk_after : (disks : List Disk) (said : Option Disk) (more : List Disk) → (disks ++ cons_option said []) ++ more ≡ disks ++ cons_option said more
+disk_after disks None more = ap (λ (all : List Disk). all ++ more) (append-nil disks)
+disk_after disks (Some disk) more = append_assoc disks (disk ∷ []) more
+
 disks_after : (disks : List Disk) (n : ℕ) (rows : List (List (List ℕ))) → with_rows with_disk disks n rows ≡ disks ++ disks_from n rows
 disks_after disks n [] = sym (append-nil disks)
-disks_after disks n (row ∷ rows) = disks_after (disks ++ disk_of n row ∷ []) (suc n) rows ∙ append_assoc disks (disk_of n row ∷ []) (disks_from (suc n) rows)
+disks_after disks n (row ∷ rows) = disks_after (disks ++ cons_option (disk_in n row) []) (suc n) rows ∙ disk_after disks (disk_in n row) (disks_from (suc n) rows)
 
 pub read_disks-rows : (text : List ℕ) → unless (first_fault (disk_checks text)) (with_rows with_disk [] 1 (map fields (lines_of text))) ≡ read_disks text
 unfolding read_disks
@@ -188,3 +222,33 @@ not_pair n [] other = refl
 not_pair n (a ∷ []) other = refl
 not_pair n (a ∷ b ∷ []) other = absurd (other refl)
 not_pair n (a ∷ b ∷ c ∷ more) other = refl
+
+-- what is wrong with a row is why no disk was read of it
+number_found : (n : ℕ) (name : List ℕ) (len : Option ℕ) → fault_in (reading_of is_named (option_map (disk_at n name) len)) ≡ first_failed true (is_some (option_map (disk_at 0 name) len)) (is_disk_name name)
+number_found n name None = refl
+number_found n name (Some len) = elim (cases_Bool (is_disk_name name)) [
+  | inl e ↦ rw e refl
+  | inr e ↦ rw e refl
+]
+
+row_found : (n : ℕ) (row : List (List ℕ)) → fault_in (disk_reading n row) ≡ disk_fault row
+row_found n [] = refl
+row_found n (name ∷ []) = refl
+row_found n (name ∷ sectors ∷ []) = elim (cases_Bool (is_pair (name ∷ sectors ∷ []))) [
+  | inl e ↦ rw e (number_found n name (number_of sectors))
+  | inr e ↦ rw e refl
+]
+row_found n (name ∷ sectors ∷ more ∷ others) = refl
+
+-- a row that was read has no fault and says what was read; one that was refused has that fault
+said_by : (pair : Bool) (said : Option Disk) (disk : Disk) → (if pair then reading_of is_named said else Err rows.Syntax) ≡ Ok disk → said ≡ Some disk
+said_by false said disk h = absurd cc
+said_by true said disk h = (read_parts is_named said disk h).0
+
+pub disk_read : (n : ℕ) (row : List (List ℕ)) (disk : Disk) → disk_reading n row ≡ Ok disk → (unless (disk_fault row) (tt {0}) ≡ Ok (tt {0})) × (disk_in n row ≡ Some disk)
+disk_read n row disk h =
+    let clear : disk_fault row ≡ None = sym (row_found n row) ∙ ap fault_in h in
+    (rw clear refl, said_by (is_pair row) (disk_in n row) disk h)
+
+pub disk_refused : (n : ℕ) (row : List (List ℕ)) (fault : RowFault) → disk_reading n row ≡ Err fault → unless (disk_fault row) (tt {0}) ≡ Err fault
+disk_refused n row fault h = let found : disk_fault row ≡ Some fault = sym (row_found n row) ∙ ap fault_in h in rw found refl

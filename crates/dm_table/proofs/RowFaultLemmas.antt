@@ -90,13 +90,6 @@ names_true true true false h = absurd cc
 names_true true false has_names h = absurd cc
 names_true false has_values has_names h = absurd cc
 
--- a row whose value was read has no fault, and that is its value
-pub row_taken : {X : Type 0} (found : Option RowFault) (value x : X) → unless found value ≡ Ok x → (unless found (tt {0}) ≡ Ok (tt {0})) × (x ≡ value)
-row_taken found value x h = let a = unless-ok found value x h in (rw a.0 refl, sym a.1)
-
-pub row_refused : {X : Type 0} (found : Option RowFault) (value : X) (fault : RowFault) → unless found value ≡ Err fault → unless found (tt {0}) ≡ Err fault
-row_refused found value fault h = rw (unless-err found value fault h) refl
-
 -- what is wrong with a row is why it was not read, where memory is left
 pub found_read : (read : Result (Unit {0}) RowFault) (found : Option RowFault) → Reads (λ done. done) read (unless found tt) → fault_in read ≢ Some rows.Memory → found ≡ fault_in read
 found_read (Ok done) found reads text = (unless-ok found tt done reads).0

@@ -1,6 +1,7 @@
 -- Disk lists: a line NAME SECTORS for each disk.
-use Rattle.std.specs.Prelude.{◌≡◌, ℕ, suc, ◌^◌, ◌<◌, Bool, true, false, ◌&&◌, List, [], ◌∷◌, ◌++◌, length, nat_lt, decimal, is_some, unwrap_or, map, Option, Result}
-use Rattle.std.specs.List.{flat_map}
+use Rattle.std.specs.Prelude.{◌≡◌, ℕ, suc, ◌^◌, ◌<◌, Bool, true, false, ◌&&◌, List, [], ◌∷◌, ◌++◌, length, nat_lt, decimal, is_some, map, Option, None, Result, Err, if◌then◌else◌}
+use Rattle.std.specs.Option.{option_map}
+use Rattle.std.specs.List.{flat_map, cons_option}
 use Rattle.dm_table.specs.declared.disk.Disk.{Disk}
 use Rattle.dm_table.specs.declared.place.Part.TheVariants.{Disks}
 use Rattle.dm_table.specs.declared.load_fault.LoadFault.{LoadFault}
@@ -8,8 +9,10 @@ use Rattle.dm_table.specs.Name.{is_disk_name}
 use Rattle.dm_table.specs.Number.{number_of}
 use Rattle.dm_table.specs.Fields.{fields, lines_of}
 use Rattle.dm_table.specs.declared.row_faults.RowFault.{RowFault}
+use Rattle.dm_table.specs.declared.row_faults.RowFault.TheVariants.{Syntax}
 use Rattle.dm_table.specs.RowFaults.{row_fault}
 use Rattle.dm_table.specs.LoadFault.{first_fault, unless}
+use Rattle.dm_table.specs.LineReading.{reading_of}
 use Rattle.dm_table.specs.Reading.{line_checks}
 
 -- What a list says
@@ -41,20 +44,19 @@ abbrev pub is_pair : List (List ℕ) → Bool
 is_pair (name ∷ sectors ∷ []) = nat_lt 0 (length name) && nat_lt 0 (length sectors)
 is_pair _ = false
 
-abbrev pub first : List (List ℕ) → List ℕ
-first [] = []
-first (field ∷ fields) = field
+-- the disk that a row says, as line number n: a name, and sectors that are a number
+abbrev pub disk_in : ℕ → List (List ℕ) → Option Disk
+disk_in n (name ∷ sectors ∷ []) = option_map (λ len. record { name = name; len = len; at = record { part = Disks; number = n } }) (number_of sectors)
+disk_in n _ = None
 
-abbrev pub second : List (List ℕ) → List ℕ
-second (first ∷ field ∷ fields) = field
-second _ = []
-
--- sectors that are a number, and a name of a disk
+-- sectors that are a number: then a row says a disk, on whichever line it stands
 abbrev pub has_sectors : List (List ℕ) → Bool
-has_sectors row = is_some (number_of (second row))
+has_sectors row = is_some (disk_in 0 row)
 
+-- a name that a disk can have
 abbrev pub has_name : List (List ℕ) → Bool
-has_name row = is_disk_name (first row)
+has_name (name ∷ more) = is_disk_name name
+has_name [] = false
 
 -- the checks of a list, in their order
 abbrev pub disk_checks : List ℕ → List (List LoadFault)
@@ -62,20 +64,18 @@ disk_checks text = line_checks Disks fields is_pair has_sectors has_name text
 
 -- How rows are read, for the functions that the public call stands on
 
--- the disk of a row, on line n
-abbrev pub disk_of : ℕ → List (List ℕ) → Disk
-disk_of n row = record { name = first row; len = unwrap_or (number_of (second row)) 0; at = record { part = Disks; number = n } }
-
+-- the disks that rows say, numbered from n
 abbrev pub disks_from : ℕ → List (List (List ℕ)) → List Disk
 disks_from n [] = []
-disks_from n (row ∷ rows) = disk_of n row ∷ disks_from (suc n) rows
+disks_from n (row ∷ rows) = cons_option (disk_in n row) (disks_from (suc n) rows)
 
--- what is wrong with a row, and what it says
+-- what is wrong with a row
 abbrev pub disk_fault : List (List ℕ) → Option RowFault
 disk_fault row = row_fault is_pair has_sectors has_name row
 
+-- what is read of a row, as line n
 abbrev pub disk_reading : ℕ → List (List ℕ) → Result Disk RowFault
-disk_reading n row = unless (disk_fault row) (disk_of n row)
+disk_reading n row = if is_pair row then reading_of (λ disk. is_disk_name disk.name) (disk_in n row) else Err Syntax
 
 -- the disks of a text, or the fault of its checks
 unfoldable pub read_disks : List ℕ → Result (List Disk) LoadFault

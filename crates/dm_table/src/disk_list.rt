@@ -2,14 +2,16 @@
 //!
 //! The lines are read one after the other, each once, and what is wrong with them is kept until the
 //! end, as in table text. A new column is a field of `Disk` and, in `specs/DiskList.antt`, its text in
-//! `disk_line`, its test in `is_pair` and in `has_sectors` or `has_name`, and its value in `disk_of`.
+//! `disk_line`, its place in `is_pair`, its value in `disk_in` and, if it is a name, its test in
+//! `has_name` and `disk_reading`.
 
-ghost use Rattle.std.specs.Prelude.{◌++◌, ◌∷◌, []};
+ghost use Rattle.std.specs.Prelude.{◌++◌, []};
+ghost use Rattle.std.specs.List.{cons_option};
 ghost use Rattle.dm_table.specs.declared.place.Part.TheVariants.{Disks};
 ghost use Rattle.dm_table.specs.Fields.{fields, texts};
 ghost use Rattle.dm_table.specs.RowFaults.{Reads};
 ghost use Rattle.dm_table.specs.Parsed.{IsParsed};
-ghost use Rattle.dm_table.specs.DiskList.{DescribesDisks, disk_checks, disk_of, disk_reading, has_name, has_sectors, is_pair};
+ghost use Rattle.dm_table.specs.DiskList.{DescribesDisks, disk_checks, disk_in, disk_reading, has_name, has_sectors, is_pair};
 
 use crate::disk::Disk;
 use crate::disk_name::{DiskName, is_disk_name};
@@ -50,7 +52,7 @@ impl FromRows for Disk {
 
     ghost has_names = { has_name };
 
-    ghost with_row = { λ disks n row. disks ++ disk_of n row ∷ [] };
+    ghost with_row = { λ disks n row. disks ++ cons_option (disk_in n row) [] };
 
     fn cut_line<'a>(row: &mut Vec<&'a [u8]>, line: &'a [u8]) -> Result<(), AllocError> {
         cut_into(row, b' ', line)
