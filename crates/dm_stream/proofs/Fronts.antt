@@ -1,14 +1,15 @@
 -- A line that says a request is that request, and what is read of the held bytes comes next.
-use Rattle.std.proofs.Common.{◌≡◌, ℕ, ◌+◌, ◌<◌, ◌≤◌, cond, Bool, List, [], ◌∷◌, ◌++◌, length, take, drop, Option, sym, ap, subst, ◌∙◌, length-take-le, arith}
+use Rattle.std.proofs.Common.{◌≡◌, ℕ, ◌+◌, ◌<◌, ◌≤◌, cond, Bool, List, [], ◌∷◌, ◌++◌, length, take, drop, sym, ap, subst, ◌∙◌, length-take-le, arith}
+use Rattle.std.specs.Prelude.{Result}
 use Rattle.std.proofs.lemmas.Bool.{le-ltb}
 use Rattle.std.proofs.lemmas.List.{append-nil}
 use Rattle.dm_table.specs.DeviceIo.{Stand, Open, since}
-use Rattle.dm_table.specs.RequestLine.{RequestValues, DescribesRequest, request_fault, request_values}
+use Rattle.dm_table.specs.RequestLine.{RequestValues, DescribesRequest, request_reading}
 use Rattle.dm_table.specs.declared.request.RequestFault.{RequestFault}
-use Rattle.dm_table.proofs.RequestLemmas.{sound, values-said}
+use Rattle.dm_table.proofs.RequestLemmas.{read-said}
 use Rattle.dm_stream.specs.Lines.{ALine, line_parts, next_answer}
 use Rattle.dm_table.proofs.ProgressLaws.{since-same, grows-same}
-use Rattle.dm_stream.specs.Requests.{NumberedRequest, Requests, after_requests, by_fault, is_bad, line_requests}
+use Rattle.dm_stream.specs.Requests.{NumberedRequest, Requests, after_requests, by_reading, is_bad, line_requests}
 use Rattle.dm_stream.specs.declared.ending.RequestWord as word
 use Rattle.dm_stream.specs.declared.lines.TheConstants.{MOST_LINE_BYTES}
 use Rattle.dm_stream.specs.declared.requests.TheConstants.{MOST_REQUESTS}
@@ -18,9 +19,8 @@ use Rattle.dm_stream.proofs.Turns.{Told, told_turn}
 -- by the limit on lines and what the line says
 pub said_first : (line : List ℕ) (number : ℕ) (values : RequestValues) → number ≤ MOST_REQUESTS → DescribesRequest line values → (rest : Requests) → line_requests number line rest ≡ after_requests (record { number = number; values = values } ∷ []) rest
 said_first line number values few said rest =
-    ap (λ (b : Bool). cond b (is_bad number word.TheVariants.Many) (by_fault number (request_fault line) (request_values line) rest)) (le-ltb MOST_REQUESTS number few)
-    ∙ ap (λ (f : Option RequestFault). by_fault number f (request_values line) rest) (sound line values said)
-    ∙ ap (λ (v : RequestValues). after_requests (record { number = number; values = v } ∷ []) rest) (sym (values-said line values said))
+    ap (λ (b : Bool). cond b (is_bad number word.TheVariants.Many) (by_reading number (request_reading line) rest)) (le-ltb MOST_REQUESTS number few)
+    ∙ ap (λ (reading : Result RequestValues RequestFault). by_reading number reading rest) (read-said line values said)
 
 -- nothing has to be read for a line that is held
 pub held_next : (stand : Stand) (handed held : List ℕ) (n : ℕ) → n < length held → n ≤ MOST_LINE_BYTES → line_parts held ≡ take n held ∷ line_parts (drop (n + 1) held)

@@ -1,10 +1,10 @@
 -- The requests that an input delivered, and how they end.
-use Rattle.std.specs.Prelude.{◌≡◌, ◌<◌, ◌≤◌, ℕ, ◌+◌, List, [], ◌∷◌, ◌++◌, Option, None, Some, nat_lt, if◌then◌else◌}
+use Rattle.std.specs.Prelude.{◌≡◌, ◌<◌, ◌≤◌, ℕ, ◌+◌, List, [], ◌∷◌, ◌++◌, Option, None, Some, Result, Ok, Err, nat_lt, if◌then◌else◌}
 use Rattle.dm_table.specs.declared.request.Request.{Request}
 use Rattle.dm_table.specs.declared.request.RequestFault.{RequestFault}
 use Rattle.dm_table.specs.declared.request.RequestFault.TheVariants as faults
 use Rattle.dm_table.specs.DeviceIo.{Stand, Delivery}
-use Rattle.dm_table.specs.RequestLine.{RequestValues, values_of, request_fault, request_values}
+use Rattle.dm_table.specs.RequestLine.{RequestValues, values_of, request_reading}
 use Rattle.dm_stream.specs.Lines.{Answer, ALine, AnEnd, AnUnended, ALong, AFault, Waits, line_parts, next_answer}
 use Rattle.dm_stream.specs.declared.ending.Ending as ending
 use Rattle.dm_stream.specs.declared.ending.RequestWord as word
@@ -41,16 +41,16 @@ word_for faults.Form = word.TheVariants.Form
 word_for faults.Number = word.TheVariants.Number
 word_for faults.Length = word.TheVariants.Length
 
--- a line by its fault: without one it is a request, and rest comes after it
-abbrev pub by_fault : ℕ → Option RequestFault → RequestValues → Requests → Requests
-by_fault number (Some fault) values rest = is_bad number (word_for fault)
-by_fault number None values rest = after_requests (record { number = number; values = values } ∷ []) rest
+-- a line by what is read of it: values are a request, and rest comes after it
+abbrev pub by_reading : ℕ → Result RequestValues RequestFault → Requests → Requests
+by_reading number (Ok values) rest = after_requests (record { number = number; values = values } ∷ []) rest
+by_reading number (Err fault) rest = is_bad number (word_for fault)
 
 -- the requests from a line on, where rest is those of the lines after it
 abbrev pub line_requests : ℕ → List ℕ → Requests → Requests
 line_requests number line rest =
     if nat_lt MOST_REQUESTS number then is_bad number word.TheVariants.Many
-    else by_fault number (request_fault line) (request_values line) rest
+    else by_reading number (request_reading line) rest
 
 -- the requests from what comes next on
 abbrev pub next_requests : ℕ → Answer → Requests → Requests

@@ -1,6 +1,6 @@
 -- A line that says a request, and its fields: the one gives the other, so a line says one request at most.
 use Rattle.std.proofs.Common.{◌≡◌, ◌≢◌, ℕ, ◌^◌, ◌<◌, ◌≤◌, ◌⊎◌, inl, inr, Bool, true, false, cond, eqb, nat_le, ◌&&◌, ◌||◌, List, [], ◌∷◌, ◌++◌, length, get_or, take, Option, Some, None, refl, sym, ap, ◌∙◌, append_assoc, arith}
-use Rattle.std.specs.Prelude.{decimal, ◌==◌, is_some}
+use Rattle.std.specs.Prelude.{decimal, ◌==◌, Result, Ok, Err}
 use Rattle.std.specs.List.{join_with_byte, list_all}
 use Rattle.std.specs.Char.{is_ascii_digit}
 use Rattle.std.proofs.lemmas.Bool.{and_parts, and_from, le-leb, or_cases, and_right, eqb-true, leb-true, false_from_ne_true}
@@ -14,7 +14,8 @@ use Rattle.dm_table.specs.declared.request.RequestFault.TheVariants.{Form, Numbe
 use Rattle.dm_table.specs.Name.{is_device_name, is_device_byte}
 use Rattle.dm_table.specs.Number.{number_of}
 use Rattle.dm_table.specs.Fields.{fields}
-use Rattle.dm_table.specs.RequestLine.{RequestValues, AreNumbers, are_two, is_length, DescribesRequest, request_text, row_of, op_text, is_op, has_form, has_numbers, has_length, request_fault, op_in, request_values}
+use Rattle.dm_table.specs.RequestLine.{RequestValues, AreNumbers, are_two, is_length, DescribesRequest, request_text, row_of, op_text, is_op, has_form, op_in, values_in, values_reading, request_reading}
+use Rattle.dm_table.specs.LineBody.{if_both}
 use Rattle.dm_table.proofs.ByteLemmas.{StandsFirst, stands_first, device_name_parts, All-list_all, digits-clear, plain-device_name}
 use Rattle.dm_table.proofs.FieldLemmas.{IsClearOf, parts_at-first, parts_at-clear, join-parts_at}
 use Rattle.dm_table.proofs.NumberLemmas.{Spells-number_of, number_of-decimal, decimal_digits, decimal_some}
@@ -103,73 +104,62 @@ unique line a b said said' =
     same_values a b (same_op a.op b.op op) device (same_number a.start b.start said.start said'.start start)
     (same_number a.len b.len (omega (arith, said.most)) (omega (arith, said'.most)) len)
 
--- No fault
+-- What is read of a line that says a request
 
 op_passes : (op : Op) → is_op (op_text op ∷ []) ≡ true
 op_passes Read = refl
 op_passes Write = refl
 
--- a line that says a request has no fault
-pub sound : (line : List ℕ) (values : RequestValues) → DescribesRequest line values → request_fault line ≡ None
-sound line values said =
-    let small : values.len < 10 ^ 19 = omega (arith, said.most) in
-    let row = fields_are line values said in
-    let form : has_form (fields line) ≡ true = rw row (and_from _ _ (op_passes values.op) (and_from _ _ said.device (and_from _ _ (le-leb _ _ (decimal_some values.start said.start)) (le-leb _ _ (decimal_some values.len small))))) in
-    let numbers : has_numbers (fields line) ≡ true = rw (row, number_of-decimal values.start said.start, number_of-decimal values.len small) refl in
-    let length : has_length (fields line) ≡ true = rw (row, number_of-decimal values.len small) (and_from _ _ (le-leb _ _ said.least) (le-leb _ _ said.most)) in
-    rw (form, numbers, length) refl
-
--- so a line with a fault says none
-pub refused : (line : List ℕ) (values : RequestValues) (fault : RequestFault) → request_fault line ≡ Some fault → DescribesRequest line values → ⊥
-refused line values fault found said = let none = sound line values said in cc
-
--- The values
-
 op_is : (op : Op) → op_in (op_text op ∷ []) ≡ op
 op_is Read = refl
 op_is Write = refl
 
--- the values that a line says are those in its fields
-pub values-said : (line : List ℕ) (values : RequestValues) → DescribesRequest line values → values ≡ request_values line
-unfolding values_with
-values-said line values said =
+-- it is what the line says
+pub read-said : (line : List ℕ) (values : RequestValues) → DescribesRequest line values → request_reading line ≡ Ok values
+read-said line values said =
     let small : values.len < 10 ^ 19 = omega (arith, said.most) in
-    let whole : request_values line ≡ values_with values.op values.device values.start values.len =
-    rw (fields_are line values said, number_of-decimal values.start said.start, number_of-decimal values.len small, op_is values.op) refl in
-    sym whole
+    let row = fields_are line values said in
+    let form : has_form (fields line) ≡ true = rw row (and_from _ _ (op_passes values.op) (and_from _ _ said.device (and_from _ _ (le-leb _ _ (decimal_some values.start said.start)) (le-leb _ _ (decimal_some values.len small))))) in
+    let found : values_in (fields line) ≡ Some values = rw (row, number_of-decimal values.start said.start, number_of-decimal values.len small, op_is values.op) refl in
+    let length : is_length values.len ≡ true = and_from _ _ (le-leb _ _ said.least) (le-leb _ _ said.most) in
+    rw (form, found, length) refl
+
+-- so a line with a fault says none
+pub refused : (line : List ℕ) (values : RequestValues) (fault : RequestFault) → request_reading line ≡ Err fault → DescribesRequest line values → ⊥
+refused line values fault found said = let read = read-said line values said in cc
 
 -- The fault of a line, from what was read of it
 
-abbrev row_fault : List (List ℕ) → Option RequestFault
-row_fault row = cond (has_form row) (cond (has_numbers row) (cond (has_length row) None (Some Length)) (Some Number)) (Some Form)
+abbrev row_reading : List (List ℕ) → Result RequestValues RequestFault
+row_reading row = cond (has_form row) (values_reading (values_in row)) (Err Form)
 
-both : (a b : Option ℕ) → ((m n : ℕ) → a ≡ Some m → b ≡ Some n → ⊥) → (is_some a && is_some b) ≡ false
-both None b none = refl
-both (Some m) None none = refl
-both (Some m) (Some n) none = absurd (none m n refl refl)
+both : (make : ℕ → ℕ → RequestValues) (a b : Option ℕ) → ((m n : ℕ) → a ≡ Some m → b ≡ Some n → ⊥) → if_both make a b ≡ None
+both make None b none = refl
+both make (Some m) None none = refl
+both make (Some m) (Some n) none = absurd (none m n refl refl)
 
-unread : (start len : List ℕ) → ((m n : ℕ) → AreNumbers (start ∷ len ∷ []) m n → ⊥) → (is_some (number_of start) && is_some (number_of len)) ≡ false
-unread start len none = both (number_of start) (number_of len) (λ m n first last. none m n (record { start = start; len = len; two = refl; first = first; last = last }))
+unread : (op device start len : List ℕ) → ((m n : ℕ) → AreNumbers (start ∷ len ∷ []) m n → ⊥) → values_in (op ∷ device ∷ start ∷ len ∷ []) ≡ None
+unread op device start len none = both _ (number_of start) (number_of len) (λ m n first last. none m n (record { start = start; len = len; two = refl; first = first; last = last }))
 
 form_is : (op : Op) (device : List ℕ) (start len : List ℕ) → is_device_name device ≡ true → has_form (row_of op device start len) ≡ are_two (start ∷ len ∷ [])
 form_is op device start len named = rw (op_passes op, named) refl
 
-fault_of_two : (a b c : Bool) → b ≡ false → cond a (cond b (cond c None (Some Length)) (Some Number)) (Some Form) ≡ Some (cond a Number Form)
-fault_of_two true b c none = rw none refl
-fault_of_two false b c none = refl
+fault_of_two : (a : Bool) (values : Option RequestValues) → values ≡ None → cond a (values_reading values) (Err Form) ≡ Err (cond a Number Form)
+fault_of_two true values none = rw none refl
+fault_of_two false values none = refl
 
-row_fault-numbers : (op : Op) (device : List ℕ) (more : List (List ℕ)) → is_device_name device ≡ true → ((m n : ℕ) → AreNumbers more m n → ⊥)
-    → row_fault ((op_text op ∷ []) ∷ device ∷ more) ≡ Some (cond (are_two more) Number Form)
-row_fault-numbers op device [] named none = refl
-row_fault-numbers op device (start ∷ []) named none = refl
-row_fault-numbers op device (start ∷ len ∷ []) named none =
-    rw (form_is op device start len named) (fault_of_two (are_two (start ∷ len ∷ [])) _ _ (unread start len none))
-row_fault-numbers op device (start ∷ len ∷ next ∷ more) named none = refl
+row_reading-numbers : (op : Op) (device : List ℕ) (more : List (List ℕ)) → is_device_name device ≡ true → ((m n : ℕ) → AreNumbers more m n → ⊥)
+    → row_reading ((op_text op ∷ []) ∷ device ∷ more) ≡ Err (cond (are_two more) Number Form)
+row_reading-numbers op device [] named none = refl
+row_reading-numbers op device (start ∷ []) named none = refl
+row_reading-numbers op device (start ∷ len ∷ []) named none =
+    rw (form_is op device start len named) (fault_of_two (are_two (start ∷ len ∷ [])) _ (unread (op_text op ∷ []) device start len none))
+row_reading-numbers op device (start ∷ len ∷ next ∷ more) named none = refl
 
--- with them, but without two numbers
+-- with an operation and a device, but without two numbers
 pub fault-numbers : (line : List ℕ) (op : Op) (device : List ℕ) (more : List (List ℕ)) → fields line ≡ (op_text op ∷ []) ∷ device ∷ more → is_device_name device ≡ true
-    → ((m n : ℕ) → AreNumbers more m n → ⊥) → request_fault line ≡ Some (cond (are_two more) Number Form)
-fault-numbers line op device more cut named none = ap row_fault cut ∙ row_fault-numbers op device more named none
+    → ((m n : ℕ) → AreNumbers more m n → ⊥) → request_reading line ≡ Err (cond (are_two more) Number Form)
+fault-numbers line op device more cut named none = ap row_reading cut ∙ row_reading-numbers op device more named none
 
 some_field : (text : List ℕ) (n : ℕ) → number_of text ≡ Some n → nat_le 1 (length text) ≡ true
 some_field text n read =
@@ -181,15 +171,14 @@ no_length len out = false_from_ne_true _ (λ within.
     let a = and_parts (nat_le 1 len) (nat_le len MOST_SECTORS) within in
     absurd (omega (arith, leb-true 1 len a.0, leb-true len MOST_SECTORS a.1, out)))
 
--- with all of them, but a false length
+-- with two numbers, but a false length
 pub fault-length : (line : List ℕ) (op : Op) (device : List ℕ) (more : List (List ℕ)) (s l : ℕ) → fields line ≡ (op_text op ∷ []) ∷ device ∷ more → is_device_name device ≡ true
-    → AreNumbers more s l → is_length l ≡ false → request_fault line ≡ Some Length
+    → AreNumbers more s l → is_length l ≡ false → request_reading line ≡ Err Length
 fault-length line op device more s l cut named read out =
     let row : fields line ≡ row_of op device read.start read.len = cut ∙ ap (λ (fs : List (List ℕ)). (op_text op ∷ []) ∷ device ∷ fs) read.two in
     let form : has_form (fields line) ≡ true = rw row (and_from _ _ (op_passes op) (and_from _ _ named (and_from _ _ (some_field read.start s read.first) (some_field read.len l read.last)))) in
-    let numbers : has_numbers (fields line) ≡ true = rw (row, read.first, read.last) refl in
-    let length : has_length (fields line) ≡ false = rw (row, read.last) out in
-    rw (form, numbers, length) refl
+    let found : values_in (fields line) ≡ Some (record { op = op; device = device; start = s; len = l }) = rw (row, read.first, read.last, op_is op) refl in
+    rw (form, found, out) refl
 
 -- A line of that form begins with an operation and its space
 

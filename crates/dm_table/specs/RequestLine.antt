@@ -1,5 +1,5 @@
 -- Request lines: R DEV START LEN and W DEV START LEN, without the newline.
-use Rattle.std.specs.Prelude.{◌≡◌, ℕ, ◌+◌, ◌^◌, ◌<◌, ◌≤◌, ◌==◌, Bool, true, false, ◌&&◌, ◌||◌, List, [], ◌∷◌, ◌++◌, length, take, drop, decimal, Option, Some, None, nat_le, is_some, unwrap_or, if◌then◌else◌, nat_eq}
+use Rattle.std.specs.Prelude.{◌≡◌, ℕ, ◌+◌, ◌^◌, ◌<◌, ◌≤◌, ◌==◌, Bool, true, false, ◌&&◌, ◌||◌, List, [], ◌∷◌, ◌++◌, length, take, drop, decimal, Option, Some, None, Result, Ok, Err, nat_le, if◌then◌else◌, nat_eq}
 use Rattle.std.specs.Cmp.Lexicographic.{pointwise}
 use Rattle.dm_table.specs.declared.request.TheConstants.{MOST_SECTORS}
 use Rattle.dm_table.specs.declared.request.Op.{Op}
@@ -10,6 +10,7 @@ use Rattle.dm_table.specs.declared.request.RequestFault.TheVariants.{Form, Numbe
 use Rattle.dm_table.specs.Name.{is_device_name}
 use Rattle.dm_table.specs.Number.{number_of}
 use Rattle.dm_table.specs.Fields.{fields, parts_at}
+use Rattle.dm_table.specs.LineBody.{if_both}
 
 -- the four values of a request
 pub record RequestValues : Type 0 where
@@ -66,22 +67,6 @@ abbrev pub has_form : List (List ℕ) → Bool
 has_form (op ∷ device ∷ start ∷ len ∷ []) = is_op op && (is_device_name device && (nat_le 1 (length start) && nat_le 1 (length len)))
 has_form _ = false
 
--- the last two fields are numbers
-abbrev pub has_numbers : List (List ℕ) → Bool
-has_numbers (op ∷ device ∷ start ∷ len ∷ []) = is_some (number_of start) && is_some (number_of len)
-has_numbers _ = false
-
--- the last field is a length in its limits
-abbrev pub has_length : List (List ℕ) → Bool
-has_length (op ∷ device ∷ start ∷ len ∷ []) = is_length (unwrap_or (number_of len) 0)
-has_length _ = false
-
--- the fault of a line: the first of the three that applies
-abbrev pub request_fault : List ℕ → Option RequestFault
-request_fault line =
-    if has_form (fields line) then (if has_numbers (fields line) then (if has_length (fields line) then None else Some Length) else Some Number)
-    else Some Form
-
 -- two fields, and neither is empty
 abbrev pub are_two : List (List ℕ) → Bool
 are_two (start ∷ len ∷ []) = nat_le 1 (length start) && nat_le 1 (length len)
@@ -95,17 +80,21 @@ pub record AreNumbers (texts : List (List ℕ)) (m n : ℕ) : Type 0 where
   pub first : number_of start ≡ Some m
   pub last : number_of len ≡ Some n
 
--- What a line without a fault asks for
+-- What is read of a line: its values, or the fault of the first test that it fails
 
 -- a letter's operation
 abbrev pub op_in : List ℕ → Op
 op_in letter = if pointwise nat_eq letter (82 ∷ []) then Read else Write
 
--- the values in four fields
-abbrev pub values_in : List (List ℕ) → RequestValues
-values_in (op ∷ device ∷ start ∷ len ∷ []) = record { op = op_in op; device = device; start = unwrap_or (number_of start) 0; len = unwrap_or (number_of len) 0 }
-values_in _ = record { op = Read; device = []; start = 0; len = 0 }
+-- the values in four fields, if the last two are numbers
+abbrev pub values_in : List (List ℕ) → Option RequestValues
+values_in (op ∷ device ∷ start ∷ len ∷ []) = if_both (λ start len. record { op = op_in op; device = device; start = start; len = len }) (number_of start) (number_of len)
+values_in _ = None
 
--- the values that a line says
-abbrev pub request_values : List ℕ → RequestValues
-request_values line = values_in (fields line)
+-- those values, if there are any and their length is in its limits
+abbrev pub values_reading : Option RequestValues → Result RequestValues RequestFault
+values_reading None = Err Number
+values_reading (Some values) = if is_length values.len then Ok values else Err Length
+
+abbrev pub request_reading : List ℕ → Result RequestValues RequestFault
+request_reading line = if has_form (fields line) then values_reading (values_in (fields line)) else Err Form

@@ -3,7 +3,7 @@
 //! They come by the hundreds of millions, so a line is cut in place, with no memory taken. What a
 //! line says stands in `specs/RequestLine.antt`: change it there first.
 
-ghost use Rattle.std.specs.Prelude.{◌≡◌, ◌≢◌, ◌+◌, ◌<◌, ◌≤◌, ℕ, List, [], ◌∷◌, ◌++◌, length, take, drop, Some, None, true, false, if◌then◌else◌, IfSome, IfNone, IsOkAnd, IfOk, IfErr, OnOk};
+ghost use Rattle.std.specs.Prelude.{◌≡◌, ◌≢◌, ◌+◌, ◌<◌, ◌≤◌, ℕ, List, [], ◌∷◌, ◌++◌, length, take, drop, Some, Ok, Err, true, false, if◌then◌else◌, IfSome, IfNone, IsOkAnd, IfOk, IfErr};
 ghost use Rattle.dm_table.specs.declared.number.TheConstants.{WINDOW};
 ghost use Rattle.dm_table.specs.declared.request.Op.{Op};
 ghost use Rattle.dm_table.specs.declared.request.RequestFault.TheVariants.{Form, Number};
@@ -11,7 +11,7 @@ ghost use Rattle.dm_table.specs.declared.request_line.TheConstants.{NUMBERS_ROOM
 ghost use Rattle.dm_table.specs.Name.{is_device_name};
 ghost use Rattle.dm_table.specs.Number.{number_of};
 ghost use Rattle.dm_table.specs.Fields.{fields};
-ghost use Rattle.dm_table.specs.RequestLine.{RequestValues, DescribesRequest, IsFront, AreNumbers, values_of, op_text, has_form, are_two, request_fault, request_values};
+ghost use Rattle.dm_table.specs.RequestLine.{RequestValues, DescribesRequest, IsFront, AreNumbers, values_of, op_text, has_form, are_two, request_reading};
 
 use crate::name::{ascii_str, leading_name};
 use crate::number;
@@ -147,13 +147,12 @@ pub fn parse_request<'a>(line: &'a [u8], number: u64) -> Result<Request<'a>, Req
     // What is accepted is what the line says.
     ensures accepted { IfOk result (λ request. DescribesRequest line.now (values_of request)) }
     ensures numbered { IfOk result (λ request. request.number ≡ number) }
-    ensures values { IfOk result (λ request. values_of request ≡ request_values line.now) }
+    ensures read { IfOk result (λ request. request_reading line.now ≡ Ok (values_of request)) }
     // What the line says is accepted, and it says one thing at most.
     ensures only { (values : RequestValues) → DescribesRequest line.now values → IsOkAnd result (λ request. values_of request ≡ values) }
     ensures unique { (a b : RequestValues) → DescribesRequest line.now a → DescribesRequest line.now b → a ≡ b }
     // Else it is the first fault that applies.
-    ensures fault { IfErr result (λ fault. request_fault line.now ≡ Some fault) }
-    ensures sound { OnOk result (request_fault line.now ≡ None) }
+    ensures fault { IfErr result (λ fault. request_reading line.now ≡ Err fault) }
     // The figure of the limit.
     ensures limit { MOST_SECTORS ≡ 1048576 }
 {

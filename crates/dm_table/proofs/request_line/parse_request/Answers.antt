@@ -3,7 +3,7 @@ use Rattle.std.proofs.Common.{◌≡◌, false, rules, arith, inl, inr}
 use Rattle.dm_table.specs.declared.request.RequestFault.TheVariants.{Form, Length}
 use Rattle.dm_table.specs.Fields.{fields}
 use Rattle.dm_table.specs.RequestLine.{is_length}
-use Rattle.dm_table.proofs.RequestLemmas.{described, unique, refused, values-said, sound, fault-numbers, fault-length, no_length}
+use Rattle.dm_table.proofs.RequestLemmas.{described, unique, refused, read-said, fault-numbers, fault-length, no_length}
 use Rattle.dm_table.proofs.request_line.parse_request.Goals as goal
 
 pub returns-in_default-clause-only : goal.returns-in_default-clause-only
@@ -45,11 +45,8 @@ returns-clause-accepted c =
     described c.args.line.now c.in-Some.op c.in-Some.device.now (fields c.in-Some.rest.now) read.start read.len c.in-Some.ensures.cut c.in-Some.ensures.named
     read.ensures.cut (omega arith) (omega arith)
 
-pub returns-clause-sound : goal.returns-clause-sound
-returns-clause-sound c = sound c.args.line.now _ (returns-clause-accepted c)
-
-pub returns-clause-values : goal.returns-clause-values
-returns-clause-values c = values-said c.args.line.now _ (returns-clause-accepted c)
+pub returns-clause-read : goal.returns-clause-read
+returns-clause-read c = read-said c.args.line.now _ (returns-clause-accepted c)
 
 pub returns-clause-only : goal.returns-clause-only
 returns-clause-only c = λ values said. unique c.args.line.now _ values (returns-clause-accepted c) said
