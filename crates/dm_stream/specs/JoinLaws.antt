@@ -29,7 +29,7 @@ onto_begins unit (piece ∷ pieces) =
       | false ↦ record { len = 1; later = piece ∷ pieces; is = refl }
     ]
 
--- to leave out the last of pieces is to leave out the last of the later ones
+-- to leave out the last of pieces is to leave out the last of the later ones, where there are any
 last-after : (ps : List UnitRun) (q : UnitRun) (qs : List UnitRun) → all_but_last (ps ++ q ∷ qs) ≡ ps ++ all_but_last (q ∷ qs)
 last-after [] q qs = refl
 last-after (p ∷ []) q qs = refl
@@ -49,7 +49,7 @@ pub some_before : (us vs : List BlockUnit) → HasUnits us → HasUnits (us ++ v
 some_before [] vs some = absurd some
 some_before (u ∷ us) vs some = tt
 
--- a text and a beginning of what comes after it begin both together; so does a beginning of the text
+-- a text with a beginning of what follows it is a beginning of both; so is a beginning of the text
 beginning-after : (text more front : List ℕ) → IsBeginning more front → IsBeginning (text ++ more) (text ++ front)
 beginning-after text more front begins = (begins.0, ap (λ (xs : List ℕ). text ++ xs) begins.1 ∙ sym (append_assoc text front begins.0))
 

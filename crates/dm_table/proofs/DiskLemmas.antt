@@ -203,11 +203,12 @@ DescribesDisks-unique text a b is_a is_b = sym (again text a is_a).1 ∙ (again 
 
 -- Row by row
 
--- each row adds its disk
+-- after the disks of one row come those of more
 disk_after : (disks : List Disk) (said : Option Disk) (more : List Disk) → (disks ++ cons_option said []) ++ more ≡ disks ++ cons_option said more
 disk_after disks None more = ap (λ (all : List Disk). all ++ more) (append-nil disks)
 disk_after disks (Some disk) more = append_assoc disks (disk ∷ []) more
 
+-- each row adds its disk
 disks_after : (disks : List Disk) (n : ℕ) (rows : List (List (List ℕ))) → with_rows with_disk disks n rows ≡ disks ++ disks_from n rows
 disks_after disks n [] = sym (append-nil disks)
 disks_after disks n (row ∷ rows) = disks_after (disks ++ cons_option (disk_in n row) []) (suc n) rows ∙ disk_after disks (disk_in n row) (disks_from (suc n) rows)
@@ -223,7 +224,7 @@ not_pair n (a ∷ []) other = refl
 not_pair n (a ∷ b ∷ []) other = absurd (other refl)
 not_pair n (a ∷ b ∷ c ∷ more) other = refl
 
--- what is wrong with a row is why no disk was read of it
+-- by what its second field is
 number_found : (n : ℕ) (name : List ℕ) (len : Option ℕ) → fault_in (reading_of is_named (option_map (disk_at n name) len)) ≡ first_failed true (is_some (option_map (disk_at 0 name) len)) (is_disk_name name)
 number_found n name None = refl
 number_found n name (Some len) = elim (cases_Bool (is_disk_name name)) [

@@ -49,7 +49,7 @@ abbrev pub disk_in : ℕ → List (List ℕ) → Option Disk
 disk_in n (name ∷ sectors ∷ []) = option_map (λ len. record { name = name; len = len; at = record { part = Disks; number = n } }) (number_of sectors)
 disk_in n _ = None
 
--- sectors that are a number: then a row says a disk, on whichever line it stands
+-- sectors that are a number: the row says a disk, whatever its line number
 abbrev pub has_sectors : List (List ℕ) → Bool
 has_sectors row = is_some (disk_in 0 row)
 

@@ -27,16 +27,16 @@ MetNothing faults ends old new = (faults new ≡ faults old) × (ends new ≡ en
 
 -- ---- outputs that were written to
 
+-- a reference stays the same, whatever is written through it
+abbrev pub IsSameReference : {X : Type 0} → (old new : MutBor X) → Type 0
+IsSameReference old new = new.ghost_name ≡ old.ghost_name
+
 -- an output only took more, and all of that still waits for a flush: none was asked for. This many writes failed
 pub record HasWritten {X : Type 0} (written waiting : X → List ℕ) (faults flushes : X → ℕ) (old new : X) (failed : ℕ) : Type 0 where
   pub appends : HasGrown written old new
   pub waits : waiting new ≡ waiting old ++ since (written old) (written new)
   pub fails : faults new ≡ faults old + failed
   pub unflushed : flushes new ≡ flushes old
-
--- a reference stays the same, whatever is written through it
-abbrev pub IsSameReference : {X : Type 0} → (old new : MutBor X) → Type 0
-IsSameReference old new = new.ghost_name ≡ old.ghost_name
 
 -- the same of an output that is borrowed, by a reference that stays the same
 pub record HasWrittenTo {X : Type 0} (written waiting : X → List ℕ) (faults flushes : X → ℕ) (old new : MutBor X) (failed : ℕ) : Type 0 where
@@ -65,7 +65,7 @@ pub record IsFinished {X : Type 0} (written waiting : X → List ℕ) (faults fl
   -- where the flush failed, all that was written still waits
   pub still_waiting : HasFailed → flushes old < flushes new → waiting new ≡ waiting old ++ since (written old) (written new)
 
--- an output failed: at a write, where it was cut short and no flush was asked for; or at the flush, where it is whole
+-- an output failed: at a write, where what was written is cut short and no flush was asked for; or at the flush, where it is whole
 abbrev pub FailedWhere : (IsCut IsWhole : Type 0) → (flushes_old flushes_new : ℕ) → Type 0
 FailedWhere IsCut IsWhole old new = ((new ≡ old) × IsCut) ⊎ ((new ≡ old + 1) × IsWhole)
 

@@ -48,6 +48,7 @@ group_checks top = faults_of_fields Fields top ∷ later_checks top
 
 -- Tables
 
+-- the place of a line of the source
 abbrev pub source_line : ℕ → Place
 source_line line = record { part = Source; number = line }
 

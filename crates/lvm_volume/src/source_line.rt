@@ -1,6 +1,7 @@
 //! Lines of the source: the place of what stands on one, and a fault there.
 //!
-//! The places of metadata are all made here, and lines count from 1.
+//! The place of each fault, device, line and disk of metadata is made here. Lines count from 1; a fault of
+//! memory has no line.
 
 ghost use Rattle.std.specs.Prelude.{◌≡◌};
 ghost use Rattle.dm_table.specs.LoadFault.{fault_at};
