@@ -24,7 +24,8 @@ use Rattle.dm_table.specs.LineReading.{line_at, line_in, has_column_names}
 use Rattle.std.specs.Prelude.{◌/◌, map}
 use Rattle.std.proofs.lemmas.List.Folds.{list_all-map}
 use Rattle.dm_table.proofs.NumberLemmas.{Spells-number_of, number_of-decimal, decimal_digits, decimal_some, Some-is_some}
-use Rattle.dm_table.proofs.ByteLemmas.{All-list_all, list_all-weaker, device_name_parts, disk_name_parts}
+use Rattle.dm_table.specs.NameLaws.{All-list_all}
+use Rattle.dm_table.proofs.ByteLemmas.{list_all-weaker, device_name_parts, disk_name_parts}
 use Rattle.dm_table.proofs.FieldLemmas.{IsClearOf}
 use Rattle.dm_table.proofs.TableGroups.{same_name}
 

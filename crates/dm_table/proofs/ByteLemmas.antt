@@ -1,29 +1,19 @@
 -- What the tests of bytes say of whole texts.
-use Rattle.std.proofs.Common.{◌≡◌, ◌≢◌, ℕ, suc, ◌+◌, ◌<◌, ◌≤◌, ◌⊎◌, inl, inr, Bool, true, false, cond, eqb, nat_le, nat_lt, not, ◌&&◌, ◌||◌, List, [], ◌∷◌, ◌++◌, length, take, take_all, drop, All, refl, sym, ap, ◌∙◌, arith}
+use Rattle.std.proofs.Common.{◌≡◌, ◌≢◌, ℕ, suc, ◌+◌, ◌<◌, ◌≤◌, ◌⊎◌, inl, inr, Bool, true, false, cond, eqb, nat_le, nat_lt, not, ◌&&◌, ◌||◌, List, [], ◌∷◌, ◌++◌, length, take, take_all, drop, refl, sym, ap, ◌∙◌, arith}
 use Rattle.std.specs.Char.{is_ascii_digit}
 use Rattle.std.specs.List.{list_all, AllByRecursion, prefix_len, join_with_byte, onto_first}
-use Rattle.std.specs.Str.{IsAscii}
 use Rattle.std.proofs.lemmas.Bool.{and_parts, and_from, not-false, not_from_true, cases_Bool, le-leb, leb-true, false_from_ne_true, eq-eqb, ne_eqb, cases_eq}
 use Rattle.std.proofs.lemmas.Bool.Decides.{nat_tests}
 use Rattle.std.proofs.Math.Seq.{take-append_seam, drop-append_seam}
 use Rattle.std.proofs.lemmas.List.Folds.{length-prefix_len, list_all_at}
 use Rattle.std.proofs.lemmas.List.Sums.{prefix_len-le-length, prefix_len_stops}
-use Rattle.std.proofs.lemmas.List.Elements.{All-from_recursion}
-use Rattle.std.proofs.lemmas.Str.Ascii.{IsAscii-from_all}
 use Rattle.dm_table.specs.Fields.{parts_at}
 use Rattle.dm_table.specs.LoadFault.{is_printable}
+use Rattle.dm_table.specs.NameLaws.{All-list_all}
 use Rattle.dm_table.specs.Name.{is_device_byte, is_device_name, is_disk_byte, is_disk_name, names_device}
 use Rattle.dm_table.proofs.FieldLemmas.{IsClearOf, join-parts_at}
 
 -- Texts of which each byte passes a test
-
-each : (test : ℕ → Bool) (Q : ℕ → Type 0) → ((b : ℕ) → test b ≡ true → Q b) → (text : List ℕ) → list_all test text ≡ true → AllByRecursion Q text
-each test Q says [] h = tt
-each test Q says (b ∷ text) h = let a = and_parts (test b) (list_all test text) h in (says b a.0, each test Q says text a.1)
-
--- what the test says of a byte holds of each
-pub All-list_all : (test : ℕ → Bool) (Q : ℕ → Type 0) → ((b : ℕ) → test b ≡ true → Q b) → (text : List ℕ) → list_all test text ≡ true → All Q text
-All-list_all test Q says text h = All-from_recursion Q text (each test Q says text h)
 
 -- a weaker test passes too
 pub list_all-weaker : (test weaker : ℕ → Bool) → ((b : ℕ) → test b ≡ true → weaker b ≡ true) → (text : List ℕ) → list_all test text ≡ true → list_all weaker text ≡ true
@@ -85,21 +75,16 @@ disk_text b h = grind (arith, nat_tests)
 disk_space : (b : ℕ) → is_disk_byte b ≡ true → eqb b 32 ≡ false
 disk_space b h = grind (arith, nat_tests)
 
-disk_ascii : (b : ℕ) → is_disk_byte b ≡ true → b < 128
-disk_ascii b h = grind (arith, nat_tests)
-
--- the bytes of a disk's name are shown, no space and ASCII
+-- the bytes of a disk's name are shown, and no space
 pub record IsPlain (text : List ℕ) : Type 0 where
   pub printed : is_shown text ≡ true
   pub clear : IsClearOf 32 text
-  pub ascii : IsAscii text
 
 plain : (text : List ℕ) → list_all is_disk_byte text ≡ true → IsPlain text
 plain text h =
     record {
       printed = list_all-weaker is_disk_byte (λ b. nat_le 32 b && nat_le b 126) disk_text text h;
       clear = All-list_all is_disk_byte (λ b. eqb b 32 ≡ false) disk_space text h;
-      ascii = IsAscii-from_all text (All-list_all is_disk_byte (λ b. b < 128) disk_ascii text h);
     }
 
 pub plain-disk_name : (text : List ℕ) → is_disk_name text ≡ true → IsPlain text

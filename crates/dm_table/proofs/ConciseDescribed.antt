@@ -13,7 +13,8 @@ use Rattle.dm_table.specs.LoadFault.{Answers, first_fault, first_or, is_printabl
 use Rattle.dm_table.specs.Parsed.{IsParsed}
 use Rattle.dm_table.specs.ConciseText.{SaysDevices, DescribesConcise, lacks, without_newline, parts_of, devices_of, is_device, has_values, has_names, concise_checks}
 use Rattle.dm_table.specs.ConciseReading.{devices_from, parts_reading, read_concise}
-use Rattle.dm_table.proofs.ByteLemmas.{All-list_all, list_all-weaker}
+use Rattle.dm_table.specs.NameLaws.{All-list_all}
+use Rattle.dm_table.proofs.ByteLemmas.{list_all-weaker}
 use Rattle.dm_table.proofs.FaultLemmas.{Answers-refused, append-nil_both, first_fault-none, first_fault-all, faults_from-nil, faults_from-good, unless-passed}
 use Rattle.dm_table.proofs.Parsing.{parsed}
 use Rattle.dm_table.proofs.FieldLemmas.{IsClearOf, join-parts_at, parts_at-join, all_but_last-push, last_or-push}

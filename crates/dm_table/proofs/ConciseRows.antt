@@ -15,7 +15,8 @@ use Rattle.dm_table.specs.LineBody.{body_text, IsBody, is_body_row, is_body, has
 use Rattle.dm_table.specs.LineReading.{line_in}
 use Rattle.dm_table.specs.ConciseText.{is_uuid, is_minor, is_ro, is_flags, place_of, WritesBody, SaysLines, SaysDevice, lacks, entries, without_first_space, body_fields, is_label, has_label_values, has_label_names, is_device, has_values, has_names}
 use Rattle.dm_table.specs.ConciseReading.{lines_in, device_in}
-use Rattle.dm_table.proofs.ByteLemmas.{All-list_all, list_all-weaker, list_all-both}
+use Rattle.dm_table.specs.NameLaws.{All-list_all}
+use Rattle.dm_table.proofs.ByteLemmas.{list_all-weaker, list_all-both}
 use Rattle.dm_table.proofs.FieldLemmas.{IsClearOf, parts_at-join, join-parts_at}
 use Rattle.dm_table.proofs.BodyRows.{body_alone, body_there, body_again, body_said, body_placed, body_inked, body_row_passes, body_passes, body_names_pass, line_again, is_ink, IsInked, name_inked, number_inked, number_spelled, device_ink}
 use Rattle.dm_table.proofs.BodyRows as body

@@ -1,5 +1,5 @@
 -- A line that says a request, and its fields: the one gives the other, so a line says one request at most.
-use Rattle.std.proofs.Common.{◌≡◌, ◌≢◌, ℕ, ◌^◌, ◌<◌, ◌≤◌, ◌⊎◌, inl, inr, Bool, true, false, cond, eqb, nat_le, ◌&&◌, ◌||◌, List, [], ◌∷◌, ◌++◌, length, get_or, take, Option, Some, None, refl, sym, ap, ◌∙◌, append_assoc, arith}
+use Rattle.std.proofs.Common.{◌≡◌, ◌≢◌, ℕ, ◌^◌, ◌<◌, ◌≤◌, ◌⊎◌, inl, inr, Bool, true, false, cond, eqb, nat_le, ◌||◌, List, [], ◌∷◌, ◌++◌, length, get_or, take, Option, Some, None, refl, sym, ap, ◌∙◌, append_assoc, arith}
 use Rattle.std.specs.Prelude.{decimal, ◌==◌, Result, Ok, Err}
 use Rattle.std.specs.List.{join_with_byte, list_all}
 use Rattle.std.specs.Char.{is_ascii_digit}
@@ -16,7 +16,8 @@ use Rattle.dm_table.specs.Number.{number_of}
 use Rattle.dm_table.specs.Fields.{fields}
 use Rattle.dm_table.specs.RequestLine.{RequestValues, AreNumbers, are_two, is_length, DescribesRequest, request_text, row_of, op_text, is_op, has_form, op_in, values_in, values_reading, request_reading}
 use Rattle.dm_table.specs.LineBody.{if_both}
-use Rattle.dm_table.proofs.ByteLemmas.{StandsFirst, stands_first, device_name_parts, All-list_all, digits-clear, plain-device_name}
+use Rattle.dm_table.specs.NameLaws.{All-list_all}
+use Rattle.dm_table.proofs.ByteLemmas.{StandsFirst, stands_first, device_name_parts, digits-clear, plain-device_name}
 use Rattle.dm_table.proofs.FieldLemmas.{IsClearOf, parts_at-first, parts_at-clear, join-parts_at}
 use Rattle.dm_table.proofs.NumberLemmas.{Spells-number_of, number_of-decimal, decimal_digits, decimal_some}
 

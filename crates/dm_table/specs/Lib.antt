@@ -1,6 +1,7 @@
 pub mod Number
 pub mod PartInput
 pub mod Name
+pub mod NameLaws
 pub mod Fields
 pub mod Gathered
 pub mod LoadFault

@@ -12,9 +12,9 @@ ghost use Rattle.dm_table.specs.ConciseText.{lacks, is_uuid, is_minor, is_ro, is
 ghost use Rattle.dm_table.specs.LineReading.{line_in};
 ghost use Rattle.dm_table.specs.ConciseReading.{earlier_of, fault_of_body, fault_of_label, bodies_reading, entries_reading, device_reading};
 
+use crate::device_name::{Name, are_device_bytes, is_device_name};
 use crate::fields::{cut_into, cut_row};
 use crate::line_body::{is_body_row, read_body};
-use crate::name::{Name, are_device_bytes, is_device_name};
 use crate::number::number;
 use crate::place::{Part, Place};
 use crate::row_faults::RowFault;

@@ -9,7 +9,8 @@ ghost use Rattle.dm_table.specs.Name.{is_device_name};
 ghost use Rattle.dm_table.specs.RequestLine.{IsFront, values_of};
 
 use crate::block::put_bytes;
-use crate::name::{ascii_str, leading_name};
+use crate::device_name::leading_name;
+use crate::name::ascii_str;
 use crate::request::Request;
 use crate::request_line::{NUMBERS_ROOM, after_space, first_op, front_after_name};
 use crate::same_bytes::are_same;

@@ -14,8 +14,8 @@ ghost use Rattle.dm_table.specs.LineBody.{is_body_row, columns_in, is_half, line
 ghost use Rattle.dm_table.specs.LineReading.{dev_reading, reading_of, columns_reading, fault_before, target_reading, body_reading};
 ghost use Rattle.dm_table.specs.RowFaults.{Reads};
 
+use crate::device_name::{Name, is_device_name};
 use crate::disk_name::{DiskName, is_disk_name};
-use crate::name::{Name, is_device_name};
 use crate::number::number;
 use crate::place::Place;
 use crate::row_faults::RowFault;

@@ -13,7 +13,8 @@ ghost use Rattle.dm_table.specs.Number.{number_of};
 ghost use Rattle.dm_table.specs.Fields.{fields};
 ghost use Rattle.dm_table.specs.RequestLine.{RequestValues, DescribesRequest, IsFront, AreNumbers, values_of, op_text, has_form, are_two, request_reading};
 
-use crate::name::{ascii_str, leading_name};
+use crate::device_name::leading_name;
+use crate::name::ascii_str;
 use crate::number;
 use crate::request::{MOST_SECTORS, Op, Request, RequestFault};
 use memchr::memchr;

@@ -4,9 +4,9 @@
 //! sectors to a target. A new target is a variant of `Target` here, an arm in `line_body` and one in
 //! `line_head`, and a definition of its text, of its arguments and of its meaning.
 
+use crate::device_name::Name;
 use crate::disk_name::DiskName;
 use crate::listed::Listed;
-use crate::name::Name;
 use crate::place::Place;
 
 /// What a line names: a device of the stack, or a listed disk.

@@ -9,8 +9,8 @@ ghost use Rattle.dm_table.specs.RowFaults.{Reads};
 ghost use Rattle.dm_table.specs.TableText.{is_label, name_in};
 ghost use Rattle.dm_table.specs.TableReading.{named_of, row_reading};
 
+use crate::device_name::is_device_name;
 use crate::line_body::{is_body_row, read_body};
-use crate::name::is_device_name;
 use crate::place::{Part, Place};
 use crate::row_faults::RowFault;
 use crate::table::Line;

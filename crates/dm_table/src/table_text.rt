@@ -12,9 +12,9 @@ ghost use Rattle.dm_table.specs.TableText.{DescribesTable, is_row, has_values, h
 ghost use Rattle.dm_table.specs.Fields.{row_fields};
 ghost use Rattle.dm_table.specs.TableReading.{named_in, named_of, alone, add_line, add_said};
 
+use crate::device_name::Name;
 use crate::fields::cut_row;
 use crate::load_fault::LoadFault;
-use crate::name::Name;
 use crate::place::Part;
 use crate::reading::{FromRows, read_lines};
 use crate::row_faults::RowFault;

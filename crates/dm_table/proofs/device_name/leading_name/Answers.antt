@@ -4,7 +4,7 @@ use Rattle.std.specs.List.{prefix_len}
 use Rattle.std.proofs.lemmas.List.Folds.{length-prefix_len}
 use Rattle.dm_table.specs.Name.{is_device_byte}
 use Rattle.dm_table.proofs.ByteLemmas.{device_name_front, device_name_length}
-use Rattle.dm_table.proofs.name.leading_name.Goals as goal
+use Rattle.dm_table.proofs.device_name.leading_name.Goals as goal
 
 pub returns-then-len-le127-clause-name : goal.returns-then-len-le127-clause-name
 returns-then-len-le127-clause-name c = device_name_front c.args.text.now c.leading_bytes-len.result c.leading_bytes-len.ensures c.if-len-ge1.true c.if-len-le127.true

@@ -2,7 +2,7 @@
 use Rattle.std.proofs.Common.{◌≡◌, ◌≤◌, ◌+◌, ◌-◌, length, drop}
 use Rattle.std.specs.List.{prefix_len}
 use Rattle.dm_table.specs.Name.{is_device_byte}
-use Rattle.dm_table.proofs.name.leading_bytes.Given as goal
+use Rattle.dm_table.proofs.device_name.leading_bytes.Given as goal
 
 abbrev pub invariant-loop-len : goal.invariant-loop-len
 invariant-loop-len l = (l.len ≤ length l.text) × (l.len + prefix_len is_device_byte (drop l.len l.text) ≡ prefix_len is_device_byte l.text)

@@ -1,7 +1,7 @@
 -- A text is a name where all of it is read as one.
 use Rattle.std.proofs.Common.{sym}
 use Rattle.dm_table.proofs.ByteLemmas.{device_name_whole, device_name_first}
-use Rattle.dm_table.proofs.name.is_device_name.Goals as goal
+use Rattle.dm_table.proofs.device_name.is_device_name.Goals as goal
 
 pub returns-in-Some : goal.returns-in-Some
 returns-in-Some c = device_name_whole c.args.bytes.now c.in-Some.len c.in-Some.ensures.len c.in-Some.ensures.name
