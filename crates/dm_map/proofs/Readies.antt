@@ -1,7 +1,7 @@
 -- A chunk that is made ready is settled, and stays so: the sectors of a chunk are written as one step.
-use Rattle.std.proofs.Common.{◌≡◌, inl, inr, ℕ, zero, suc, ◌+◌, ◌/◌, ◌<◌, Bool, true, false, cond, not, List, [], ◌∷◌, ◌++◌, Option, Some, None, length, refl, ap, subst, ◌∙◌, arith}
+use Rattle.std.proofs.Common.{◌≡◌, ℕ, zero, suc, ◌+◌, ◌/◌, ◌<◌, Bool, true, false, cond, not, List, [], ◌∷◌, Option, Some, None, length, refl, ap, ◌∙◌, arith}
 use Rattle.std.specs.Prelude.{is_some}
-use Rattle.std.proofs.lemmas.Bool.{cases_eq, or_parts, or_cases, or_left, or_right, not-false}
+use Rattle.std.proofs.lemmas.Bool.{or_parts, or_right, not-false}
 use Rattle.std.proofs.lemmas.List.{get_or-set_same, get_or-set_other}
 use Rattle.dm_stack.specs.declared.found_line.FoundSnapshot.{FoundSnapshot}
 use Rattle.dm_stack.specs.Description.{Description}
@@ -10,7 +10,7 @@ use Rattle.dm_map.specs.SnapshotWrites.{put, with_chunk, lost, is_settled, ready
 use Rattle.dm_map.specs.State.{Taken, State, none_taken, taken_at}
 use Rattle.dm_map.specs.Steps.{Step, keep, and_then, steps}
 use Rattle.dm_map.specs.Units.{BlockUnit}
-use Rattle.dm_map.proofs.Numbers.{number_kept, number_new}
+use Rattle.dm_map.proofs.Numbers.{number_new}
 use Rattle.dm_map.proofs.Rows.{and_then_at, step_assoc}
 
 pub taken_same : (state : State) (device : ℕ) (taken : Taken) → device < length state → taken_at (put state device taken) device ≡ taken
@@ -55,29 +55,6 @@ pub ready_settles : (state : State) (device chunk : ℕ) (step : Step) → devic
 ready_settles state device chunk step there (Settled done is) = rw is done
 ready_settles state device chunk step there (Took valid fresh units is) = rw (is, taken_same state device (with_chunk (taken_at state device) chunk) there) (new_settled (taken_at state device) chunk fresh)
 ready_settles state device chunk step there (Lost is) = rw (is, taken_same state device (lost (taken_at state device)) there) refl
-
--- and whatever is made ready, what was settled stays so
-
-settled_put : (state : State) (device other chunk : ℕ) (taken : Taken) → device < length state → (is_settled (taken_at state device) chunk ≡ true → is_settled taken chunk ≡ true) → is_settled (taken_at state other) chunk ≡ true → is_settled (taken_at (put state device taken) other) chunk ≡ true
-settled_put state device other chunk taken there more settled = elim (cases_eq other device) [
-  | inl same ↦ rw (same, taken_same state device taken there) (more (subst (λ (d : ℕ). is_settled (taken_at state d) chunk ≡ true) same settled))
-  | inr differ ↦ rw (taken_other state device other taken differ) settled
-]
-
-some_kept : (chunk last : ℕ) (chunks : List ℕ) (o : Option ℕ) → number_in chunk chunks ≡ o → is_some o ≡ true → is_some (number_in chunk (chunks ++ last ∷ [])) ≡ true
-some_kept chunk last chunks None is e = absurd cc
-some_kept chunk last chunks (Some i) is e = rw (number_kept chunk chunks (last ∷ []) i is) refl
-
-more_settled : (taken : Taken) (chunk last : ℕ) → is_settled taken chunk ≡ true → is_settled (with_chunk taken last) chunk ≡ true
-more_settled taken chunk last settled = elim (or_cases (not taken.valid) (is_some (number_in chunk taken.chunks)) settled) [
-  | inl off ↦ or_left (not taken.valid) _ off
-  | inr found ↦ or_right (not taken.valid) _ (some_kept chunk last taken.chunks (number_in chunk taken.chunks) refl found)
-]
-
-pub ready_settled : (state : State) (device chunk other settled_chunk : ℕ) (step : Step) → device < length state → Readied state device chunk step → is_settled (taken_at state other) settled_chunk ≡ true → is_settled (taken_at step.state other) settled_chunk ≡ true
-ready_settled state device chunk other c step there (Settled done is) settled = rw is settled
-ready_settled state device chunk other c step there (Took valid fresh units is) settled = rw is (settled_put state device other c (with_chunk (taken_at state device) chunk) there (λ h. more_settled (taken_at state device) c chunk h) settled)
-ready_settled state device chunk other c step there (Lost is) settled = rw is (settled_put state device other c (lost (taken_at state device)) there (λ h. refl) settled)
 
 -- The sectors of a chunk: it is made ready once
 

@@ -1,5 +1,5 @@
 -- A walk over a row of sectors, part by part.
-use Rattle.std.proofs.Common.{◌≡◌, ℕ, ◌+◌, ◌-◌, List, [], ◌++◌, append_assoc, refl, sym, ap, subst, ◌∙◌, arith}
+use Rattle.std.proofs.Common.{◌≡◌, ℕ, ◌+◌, ◌-◌, List, ◌++◌, append_assoc, sym, ap, subst, ◌∙◌, arith}
 use Rattle.std.specs.Result.{IsErr}
 use Rattle.std.specs.Prelude.{◌≤◌, Result, Ok, Err}
 use Rattle.dm_stack.specs.Description.{Description}
@@ -9,7 +9,7 @@ use Rattle.dm_map.specs.State.{State}
 use Rattle.dm_map.specs.Steps.{Step, steps}
 use Rattle.dm_map.specs.Units.{BlockUnit}
 use Rattle.dm_map.specs.Walk.{Scene, Walking, scene, IsWalked}
-use Rattle.dm_map.proofs.Rows.{added_then, none_added, steps-append}
+use Rattle.dm_map.proofs.Rows.{added_then, steps-append}
 
 -- a walk so far, in which the sink did not fail
 abbrev pub going_on : Result (Unit {0}) (Unit {0})
@@ -47,12 +47,6 @@ left_on took left both a b c step state after sector m n len within is first sec
           ∙ ap (λ (k : ℕ). (steps step state sector k).units) (let e : m + n + (len - (m + n)) ≡ len = omega arith in e);
       holds = both a b c _ _ first cut.holds;
     }
-
--- no sectors so far
-pub walked_none : {S : Type 0} (took left : S → List BlockUnit → S → Type 0) (stack : S → Description) (room faults : S → ℕ) (sink : S) (walk : Walking) (step : State → ℕ → Step) (sector n : ℕ) → took sink [] sink → n ≡ 0
-    → IsWalked took left stack room faults going_on sink sink walk walk (steps step walk.state sector n) n
-walked_none took left stack room faults sink walk step sector n nothing none =
-    rw none (record { took = nothing; state = refl; kept = refl; room = omega arith; left = tt; faults = omega arith; stack = refl; looked = none_added walk.looked })
 
 -- the first sectors, and then the next ones
 pub walked_on : {S F : Type 0} (took left : S → List BlockUnit → S → Type 0) (stack : S → Description) (room faults : S → ℕ) (both : (a b c : S) (us vs : List BlockUnit) → took a us b → took b vs c → took a (us ++ vs) c)

@@ -4,7 +4,7 @@
 //! `specs/Mapping.antt` defines what becomes of a sector, `walk` cuts a range into pieces, and
 //! `walker` keeps what one request leaves for the next.
 
-ghost use Rattle.std.specs.Prelude.{◌≡◌, ℕ, ◌+◌, ◌*◌, ◌^◌, ◌<◌, ◌≤◌, ◌∷◌, false, true, length, nat_lt, IfOk, IfSome, OnOk, []};
+ghost use Rattle.std.specs.Prelude.{◌≡◌, ◌+◌, ◌*◌, ◌<◌, ◌≤◌, false, true, length, nat_lt, IfOk, IfSome, OnOk};
 ghost use Rattle.dm_table.specs.declared.request.Op.TheVariants.{Read};
 ghost use Rattle.dm_stack.specs.Loaded.{snapshots, stack_depth, IsSnapshot};
 ghost use Rattle.dm_map.specs.Mapping.{request_step};

@@ -3,7 +3,7 @@
 //! A chunk is found by a walk over those that were taken, so it suits snapshots with few of them.
 //! All memory is reserved when the list is made.
 
-ghost use Rattle.std.specs.Prelude.{◌≡◌, ℕ, ◌≤◌, length, nat_eq, vec_capacity};
+ghost use Rattle.std.specs.Prelude.{◌≡◌, ◌≤◌, length, nat_eq, vec_capacity};
 ghost use Rattle.dm_map.specs.Snapshots.{number_in};
 ghost use Rattle.std.specs.List.{IsDistinct};
 ghost use Rattle.std.proofs.lemmas.Map.Keys.{IsDistinct-prop};

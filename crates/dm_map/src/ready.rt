@@ -6,13 +6,13 @@
 //! work is done for each sector. What is read and where a store's sectors lie do not depend on
 //! the depth at which the snapshot was reached, so each is looked up through all levels.
 
-ghost use Rattle.std.specs.Prelude.{◌≡◌, ℕ, ◌+◌, ◌*◌, ◌%◌, ◌<◌, ◌≤◌, ◌^◌, Some, length, true};
+ghost use Rattle.std.specs.Prelude.{◌≡◌, ◌+◌, ◌*◌, ◌%◌, ◌<◌, ◌≤◌, Some, length, true};
 ghost use Rattle.dm_stack.specs.Below.{IsSnapshotSound};
 ghost use Rattle.dm_stack.specs.Description.{Description, device_len, lower_len};
 ghost use Rattle.dm_stack.specs.Store.{IsStore};
 ghost use Rattle.dm_map.specs.Counts.{AreAdded};
 ghost use Rattle.dm_map.specs.Homes.{IsFirstHomes};
-ghost use Rattle.dm_map.specs.SnapshotWrites.{can_take, copies, copy_to, count_of, first_of, has_place, is_settled, reads_all, ready, store_writes};
+ghost use Rattle.dm_map.specs.SnapshotWrites.{can_take, copies, copy_to, first_of, has_place, is_settled, reads_all, ready, store_writes};
 ghost use Rattle.dm_map.specs.State.{taken_at};
 ghost use Rattle.dm_map.specs.Steps.{keep};
 ghost use Rattle.dm_map.specs.Stretch.{ground_unit, IsGroundInStack};

@@ -5,7 +5,7 @@
 //! chunk's number follows from its run. `Order` has them in the order of their chunks, in which the run
 //! of a chunk is found by halving.
 
-ghost use Rattle.std.specs.Prelude.{◌≡◌, ℕ, ◌<◌, ◌≤◌, ◌+◌, ◌++◌, ◌∷◌, [], ◌^◌, true, None, length, nat_eq, vec_capacity};
+ghost use Rattle.std.specs.Prelude.{◌≡◌, ◌<◌, ◌≤◌, ◌+◌, ◌++◌, ◌∷◌, [], ◌^◌, true, None, length, nat_eq, vec_capacity};
 ghost use Rattle.std.specs.List.{IsDistinct, concat};
 ghost use Rattle.std.proofs.Props.{props};
 ghost use Rattle.std.proofs.lemmas.Map.Keys.{IsDistinct-prop};

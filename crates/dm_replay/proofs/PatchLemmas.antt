@@ -84,9 +84,6 @@ within_disk on start len disk sector has = grind (arith, nat_tests)
 pub within_from : (on start len disk sector : ℕ) → is_within on start len disk sector ≡ true → start ≤ sector
 within_from on start len disk sector has = grind (arith, nat_tests)
 
-pub within_before : (on start len disk sector : ℕ) → is_within on start len disk sector ≡ true → sector < start + len
-within_before on start len disk sector has = grind (arith, nat_tests)
-
 -- sectors that a patch has go on in it from the first of them
 pub in_patch : (values : Values) (patch : Patch) (disk start n : ℕ) (first : Value) → is_within patch.disk patch.start patch.len disk start ≡ true → start + n ≤ patch.start + patch.len → first ≡ further patch.first (start - patch.start)
     → HoldOn (patched values patch) disk start n first

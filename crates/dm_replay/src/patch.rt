@@ -1,6 +1,6 @@
 //! Patches: what was stored in a range of a disk.
 
-ghost use Rattle.std.specs.Prelude.{◌≡◌, ℕ, ◌+◌, ◌<◌, ◌≤◌, ◌^◌, false, true};
+ghost use Rattle.std.specs.Prelude.{◌≡◌, ℕ, ◌+◌, ◌<◌, ◌≤◌, ◌^◌, false};
 ghost use Rattle.dm_replay.specs.Ranges.{is_within};
 ghost use Rattle.dm_replay.specs.Values.{value_end};
 

@@ -1,6 +1,6 @@
 //! Values: what a sector of a disk holds.
 
-ghost use Rattle.std.specs.Prelude.{◌≡◌, ◌+◌, ◌<◌, ◌≤◌, ◌^◌};
+ghost use Rattle.std.specs.Prelude.{◌≡◌, ◌+◌, ◌<◌, ◌^◌};
 ghost use Rattle.dm_replay.specs.Runs.{first_answer, run_len};
 ghost use Rattle.dm_replay.specs.Values.{Gives, further, value_end};
 

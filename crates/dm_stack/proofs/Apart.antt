@@ -39,9 +39,6 @@ share_sym Own Reading = refl
 share_sym Reading Own = refl
 share_sym Reading Reading = refl
 
-own_shares : (kind : ClaimKind) → may_share Own kind ≡ false
-own_shares kind = refl
-
 claim_at : (stack : Description) (device place column : ℕ) (line : Line) (lower : Lower) (at : ℕ) (reads : Bool) (via : IsVia stack device place column line lower at reads) → slice_get (line_claims stack device line) column ≡ Some (span_claim stack device via.span)
 claim_at stack device place column line lower at reads via = slice_get-map (span_claim stack device) (spans line) column ∙ ap (option_map (span_claim stack device)) via.span_at
 

@@ -1,7 +1,7 @@
 -- The places of all stores, counted line by line.
-use Rattle.std.proofs.Common.{◌≡◌, ℕ, ◌+◌, ◌<◌, ◌≤◌, Bool, true, false, cond, nat_lt, List, [], ◌∷◌, Some, None, arith, refl, sym, ap, ◌∙◌, map, ◌++◌, drop, get_or, length}
+use Rattle.std.proofs.Common.{◌≡◌, ℕ, ◌+◌, ◌<◌, ◌≤◌, Bool, false, cond, nat_lt, List, [], ◌∷◌, None, arith, refl, sym, ap, ◌∙◌, map, ◌++◌, drop, get_or, length}
 use Rattle.std.specs.List.{sum_by}
-use Rattle.std.proofs.lemmas.Bool.{lt-ltb, le-ltb}
+use Rattle.std.proofs.lemmas.Bool.{le-ltb}
 use Rattle.std.proofs.lemmas.List.Sums.{sum_by-cons}
 use Rattle.dm_table.specs.declared.place.Place.{Place}
 use Rattle.dm_table.specs.declared.table.Line.{Line}
@@ -10,8 +10,7 @@ use Rattle.dm_table.specs.declared.load_fault.LoadKind.TheVariants.{Limit}
 use Rattle.dm_table.specs.declared.load_fault.LoadFault.{LoadFault}
 use Rattle.dm_table.specs.LoadFault.{fault, faults_by, first_or}
 use Rattle.dm_stack.specs.Description.{Description}
-use Rattle.dm_table.specs.declared.table.DeviceSpec.{DeviceSpec}
-use Rattle.dm_stack.specs.Soundness.{WithBefore, all_lines, target_places, with_before}
+use Rattle.dm_stack.specs.Soundness.{WithBefore, target_places, with_before}
 use Rattle.dm_stack.proofs.PlacedLemmas.{next_of}
 use Rattle.dm_stack.proofs.WithBefore.{further_on}
 
@@ -36,10 +35,6 @@ passes_most stack used line = nat_lt 4194304 (used + (sum_by (line_places stack)
 abbrev pub crowded_from : Description → ℕ → List Line → List LoadFault
 crowded_from stack used lines = faults_by Limit (λ line. line.it.at) (passes_most stack used) (with_before lines)
 
-crowded_here : (stack : Description) (used : ℕ) (line : Line) (lines : List Line) → 4194304 < used + line_places stack line → first_or (crowded_from stack used (line ∷ lines)) None ≡ Some (fault Limit line.at)
-crowded_here stack used line lines more =
-    let bad : nat_lt 4194304 (used + (0 + line_places stack line)) ≡ true = lt-ltb 4194304 (used + (0 + line_places stack line)) (omega (arith, more)) in rw bad refl
-
 crowded_next : (stack : Description) (used : ℕ) (line : Line) (lines : List Line) → used + line_places stack line ≤ 4194304 → crowded_from stack used (line ∷ lines) ≡ crowded_from stack (used + line_places stack line) lines
 crowded_next stack used line lines few =
     let good : nat_lt 4194304 (used + (0 + line_places stack line)) ≡ false = le-ltb 4194304 (used + (0 + line_places stack line)) (omega (arith, few)) in
@@ -52,21 +47,9 @@ crowded_next stack used line lines few =
 next_line : (items rest : List Line) (i : ℕ) (line : Line) → i < length items → line ≡ get_or items i line → drop i items ++ rest ≡ line ∷ (drop (i + 1) items ++ rest)
 next_line items rest i line within is = ap (λ (lines : List Line). lines ++ rest) (next_of items i line within is)
 
-pub crowded_stops : (stack : Description) (used places : ℕ) (items rest : List Line) (i : ℕ) (line : Line) → i < length items → line ≡ get_or items i line → places ≡ line_places stack line → 4194304 < used + places
-    → first_or (crowded_from stack used (drop i items ++ rest)) None ≡ Some (fault Limit line.at)
-crowded_stops stack used places items rest i line within is are more =
-    ap (λ (lines : List Line). first_or (crowded_from stack used lines) None) (next_line items rest i line within is) ∙ crowded_here stack used line (drop (i + 1) items ++ rest) (omega (arith, are, more))
-
 pub crowded_passes : (stack : Description) (used places : ℕ) (items rest : List Line) (i : ℕ) (line : Line) → i < length items → line ≡ get_or items i line → places ≡ line_places stack line → used + places ≤ 4194304
     → first_or (crowded_from stack (used + places) (drop (i + 1) items ++ rest)) None ≡ first_or (crowded_from stack used (drop i items ++ rest)) None
 crowded_passes stack used places items rest i line within is are few =
     ap (λ (n : ℕ). first_or (crowded_from stack (used + n) (drop (i + 1) items ++ rest)) None) are
     ∙ sym (ap (λ (lines : List Line). first_or (crowded_from stack used lines) None) (next_line items rest i line within is)
     ∙ ap (λ (faults : List LoadFault). first_or faults None) (crowded_next stack used line (drop (i + 1) items ++ rest) (omega (arith, are, few))))
-
--- the lines of the next device, and those of later ones
-pub crowded_device : (stack : Description) (used : ℕ) (devices : List DeviceSpec) (items : List Line) (i : ℕ) (device : DeviceSpec) → i < length devices → device ≡ get_or devices i device → items ≡ device.lines
-    → first_or (crowded_from stack used (items ++ all_lines (drop (i + 1) devices))) None ≡ first_or (crowded_from stack used (all_lines (drop i devices))) None
-crowded_device stack used devices items i device within is are =
-    ap (λ (lines : List Line). first_or (crowded_from stack used (lines ++ all_lines (drop (i + 1) devices))) None) are
-    ∙ sym (ap (λ (rest : List DeviceSpec). first_or (crowded_from stack used (all_lines rest)) None) (next_of devices i device within is))

@@ -3,7 +3,7 @@
 //! A line is found in no other way, so a bound on a looker's count is one on the work of mapping.
 //! No call hands out the stack, and a looker is not copied: its count is that of all its searches.
 
-ghost use Rattle.std.specs.Prelude.{◌≡◌, ℕ, ◌+◌, ◌-◌, ◌*◌, ◌<◌, ◌≤◌, ◌^◌, Some, length};
+ghost use Rattle.std.specs.Prelude.{◌≡◌, ℕ, ◌+◌, ◌-◌, ◌*◌, ◌<◌, ◌≤◌, Some, length};
 ghost use Rattle.dm_stack.specs.Below.{HoldsSoundly, found_at};
 ghost use Rattle.dm_stack.specs.Description.{device_len, disk_len, is_ro_at, lines_at};
 ghost use Rattle.dm_stack.specs.Loaded.{next_count, snapshots, stack_depth, AreSnapshots, IsLength};

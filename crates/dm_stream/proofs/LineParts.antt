@@ -2,7 +2,7 @@
 use Rattle.std.proofs.Common.{◌≡◌, ℕ, zero, suc, ◌+◌, ◌<◌, ◌≤◌, ◌++◌, ◌==◌, cond, Bool, true, false, List, [], ◌∷◌, length, get_or, take, drop, refl, sym, ap, ◌∙◌, arith, length-take, take-append-drop}
 use Rattle.std.specs.List.{onto_first}
 use Rattle.std.proofs.lemmas.List.Splits.{slice_split-cons_yes, slice_split-cons_no}
-use Rattle.std.proofs.lemmas.Bool.{le-ltb, lt-ltb}
+use Rattle.std.proofs.lemmas.Bool.{le-ltb}
 use Rattle.std.proofs.lemmas.List.{drop-drop}
 use Rattle.std.proofs.Math.Seq.{take-add}
 use Rattle.dm_table.specs.DeviceIo.{Stand}
@@ -74,12 +74,6 @@ pub next_line : (stand : Stand) (line rest : List ℕ) → length line ≤ MOST_
 next_line stand line rest h =
     let s = some_part rest in
     ap (λ parts. next_answer stand (line ∷ parts)) s.2 ∙ ap (λ b. cond b ALong (ALine line)) (le-ltb MOST_LINE_BYTES (length line) h)
-
--- one that is too long does not
-pub next_long : (stand : Stand) (line rest : List ℕ) → MOST_LINE_BYTES < length line → next_answer stand (line ∷ line_parts rest) ≡ ALong
-next_long stand line rest h =
-    let s = some_part rest in
-    ap (λ parts. next_answer stand (line ∷ parts)) s.2 ∙ ap (λ b. cond b ALong (ALine line)) (lt-ltb MOST_LINE_BYTES (length line) h)
 
 -- the line at the front of the bytes that are held
 pub next_held : (stand : Stand) (held : List ℕ) (n : ℕ) → n < length held → n ≤ MOST_LINE_BYTES → line_parts held ≡ take n held ∷ line_parts (drop (n + 1) held) → next_answer stand (line_parts held) ≡ ALine (take n held)

@@ -1,5 +1,5 @@
 -- What is written for a request: its units were taken, or a part of them was left; and what it adds to the outcome.
-use Rattle.std.proofs.Common.{◌≡◌, ◌<◌, ℕ, Bool, false, ◌++◌, length, List, [], ◌∷◌, Option, None, Some, Result, Ok, Err, OnOk, OnErr, sym, ap, refl, ◌∙◌, append_assoc, subst, decimal}
+use Rattle.std.proofs.Common.{◌≡◌, ◌<◌, ℕ, Bool, ◌++◌, length, List, [], ◌∷◌, Option, None, Some, Result, Ok, Err, OnOk, sym, ap, refl, ◌∙◌, append_assoc, subst, decimal}
 use Rattle.std.specs.List.{position}
 use Rattle.std.proofs.lemmas.Grind.{flat_map-append}
 use Rattle.std.proofs.lemmas.List.{append-nil}
@@ -14,9 +14,8 @@ use Rattle.dm_stream.specs.Pending.{Pending, held_units}
 use Rattle.dm_stream.specs.Join.{HasTaken, HasLeft, HasUnits}
 use Rattle.dm_stream.specs.JoinLaws.{onto_begins, some_before}
 use Rattle.dm_map.specs.Mapper.{MapperView}
-use Rattle.dm_stream.specs.Mapped.{HasAnswered, HasStopped}
-use Rattle.dm_stream.specs.Outcome.{after_text, device_of, of_device, outcome_from, request_answer, step_of}
-use Rattle.dm_table.proofs.ProgressLaws.{since-same}
+use Rattle.dm_stream.specs.Mapped.{HasStopped}
+use Rattle.dm_stream.specs.Outcome.{device_of, of_device, outcome_from, request_answer}
 use Rattle.dm_stream.specs.Requests.{NumberedRequest}
 use Rattle.dm_map.specs.State.{State}
 use Rattle.dm_stream.specs.declared.ending.Ending as ending
@@ -33,10 +32,6 @@ use Rattle.dm_table.specs.Progress.{HasWritten, Wrote}
 pub on_ok : {T E : Type 0} (r : Result T E) (P Q : Type 0) → (P → Q) → OnOk r P → OnOk r Q
 on_ok (Ok x) P Q f h = f h
 on_ok (Err e) P Q f h = tt
-
-pub on_error : {T E : Type 0} (r : Result T E) (P Q : Type 0) → (P → Q) → OnErr r P → OnErr r Q
-on_error (Ok x) P Q f h = tt
-on_error (Err e) P Q f h = f h
 
 pub on_sink : {F : Type 0} (r : Result (Unit {0}) (MapFault F)) (fault : F) (P : Type 0) → r ≡ Err (faults.Sink fault) → OnSinkFault r P → P
 on_sink r fault P e h = subst (λ (x : Result (Unit {0}) (MapFault _)). OnSinkFault x P) e h
@@ -130,30 +125,9 @@ pub in_range : {X : Type 0} (p : X → Bool) (xs : List X) (i : ℕ) → positio
 in_range p [] i e = absurd cc
 in_range p (x ∷ xs) i e = (position-Some p (x ∷ xs) i x e).0
 
--- a request of a device that there is, all of whose answer was written
-pub request_answered : (stack : Description) (device : ℕ) (request : NumberedRequest) (found : Option ℕ) (old new : State) (w0 w1 : List ℕ) → device_of stack request.values.device ≡ found → found ≡ Some device
-    → since w0 w1 ≡ request_answer stack device request old → new ≡ (step_of stack device request old).state → HasAnswered stack old new (request ∷ []) w0 w1
-request_answered stack device request found old new w0 w1 by_name is wrote left = record {
-  told = λ rest e.
-      ap (λ (f : Option ℕ). of_device stack f request old (λ after. outcome_from stack after rest e)) (by_name ∙ is)
-      ∙ ap (λ (text : List ℕ). after_text text (outcome_from stack (step_of stack device request old).state rest e)) (sym wrote)
-      ∙ ap (λ (state : State). after_text (since w0 w1) (outcome_from stack state rest e)) (sym left);
-}
-
 -- one whose answer was cut short
 pub request_cut : (stack : Description) (device : ℕ) (request : NumberedRequest) (found : Option ℕ) (old : State) (new : MapperView) (w0 w1 : List ℕ) → device_of stack request.values.device ≡ found → found ≡ Some device
     → IsCutShort (request_answer stack device request old) (since w0 w1) → HasStopped stack causes.Output old new (request ∷ []) w0 w1
 request_cut stack device request found old new w0 w1 by_name is cut = λ rest e.
     subst (λ (f : Option ℕ). IsCutShort (of_device stack f request old (λ after. outcome_from stack after rest e)).output (since w0 w1)) (sym (by_name ∙ is))
     (cut_of_more (request_answer stack device request old) (since w0 w1) _ cut)
-
--- one of a device that there is not
-pub request_unknown : (stack : Description) (request : NumberedRequest) (found : Option ℕ) (old : State) (new : MapperView) (w : List ℕ) → device_of stack request.values.device ≡ found → found ≡ None
-    → new.stopped ≡ false → new.state ≡ old → HasStopped stack (causes.Unknown request.number) old new (request ∷ []) w w
-request_unknown stack request found old new w by_name is going same = (
-  going,
-  λ rest e.
-      ap (λ (f : Option ℕ). of_device stack f request old (λ after. outcome_from stack after rest e)) (by_name ∙ is)
-      ∙ ap (λ (state : State). record { output = []; state = state; ending = Some (ending.TheVariants.BadRequest request.number word.TheVariants.Unknown) }) (sym same)
-      ∙ ap (λ (text : List ℕ). record { output = text; state = new.state; ending = Some (ending.TheVariants.BadRequest request.number word.TheVariants.Unknown) }) (sym (since-same w)),
-)

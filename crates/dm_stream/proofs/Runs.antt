@@ -1,5 +1,5 @@
 -- What the requests mapped so far say of the outcome of a run.
-use Rattle.std.proofs.Common.{◌≡◌, ◌≢◌, ℕ, Bool, false, true, List, [], ◌++◌, Option, Some, Result, Ok, Err, IsErr, OnErr, OnOk, sym, ap, subst, ◌∙◌, refl}
+use Rattle.std.proofs.Common.{◌≡◌, ◌≢◌, ℕ, Bool, List, [], ◌++◌, Option, Some, Result, Ok, Err, IsErr, OnErr, OnOk, sym, ap, subst, ◌∙◌, refl}
 use Rattle.std.proofs.lemmas.List.{append-nil}
 use Rattle.dm_table.specs.DeviceIo.{Delivery, since}
 use Rattle.dm_stack.specs.Description.{Description}
@@ -8,7 +8,6 @@ use Rattle.dm_stream.specs.Mapped.{HasAnswered, HasStopped}
 use Rattle.dm_stream.specs.Outcome.{Outcome, if_done, outcome_from, requests_outcome, with_status}
 use Rattle.dm_table.specs.Progress.{HasWritten, IsClosedAfter, Wrote}
 use Rattle.dm_table.proofs.ProgressLaws.{closed_as}
-use Rattle.dm_table.proofs.WriteLemmas.{and_then}
 use Rattle.dm_stream.specs.StatusLines.{status_text}
 use Rattle.dm_stream.proofs.RequestMapped.{cut_of_more}
 use Rattle.dm_stream.specs.Requests.{IsAmong, NumberedRequest, requests_of}
@@ -73,37 +72,6 @@ rest_cut written waiting faults flushes fault old new stack status outcome left 
   ok = tt;
   left = cut_of_more outcome.output (since (written old) (written new)) (if_done status outcome.ending (status_text stack outcome.state)) (mapped.cut is);
 }
-
--- the status lines, or a beginning of them, come after the answers
-pub rest_status : {X E : Type 0} (written waiting : X → List ℕ) (faults flushes : X → ℕ) (old mid new : X) (result : Result (Unit {0}) E) (stack : Description) (status : Bool) (outcome : Outcome) (left : State) (e : ending.Ending) → e ≡ ending.TheVariants.Done → status ≡ true
-    → HasWritten written waiting faults flushes old mid (write_faults e) → IsMapped outcome (since (written old) (written mid)) left e → Wrote written waiting faults flushes mid new result (status_text stack left)
-    → Wrote written waiting faults flushes old new result (with_status stack status outcome).output
-rest_status written waiting faults flushes old mid new result stack status outcome left e is asked moved mapped wrote =
-    let no_fault : e ≢ ending.TheVariants.WriteFault = λ f. cc in
-    let whole = mapped.whole no_fault in
-    let text = since (written old) (written mid) in
-    let all : (with_status stack status outcome).output ≡ text ++ status_text stack left =
-    ap (λ (b : Bool). outcome.output ++ if_done b outcome.ending (status_text stack outcome.state)) asked
-    ∙ ap (λ (x : Option ending.Ending). outcome.output ++ if_done true x (status_text stack outcome.state)) (whole.1 ∙ ap Some is)
-    ∙ ap (λ (xs : List ℕ). xs ++ status_text stack outcome.state) whole.0 ∙ ap (λ (state : State). text ++ status_text stack state) (sym whole.2) in
-    and_then text (status_text stack left) all (record { moved = subst (λ (n : ℕ). HasWritten written waiting faults flushes old mid n) (no_write_failed e no_fault) moved; ok = refl; left = tt }) wrote
-
--- nothing comes after them where status lines are not asked for, or not all requests were answered up to a clean end
-nothing_after : (stack : Description) (status : Bool) (outcome : Outcome) (e : ending.Ending) → outcome.ending ≡ Some e → (e ≡ ending.TheVariants.Done → status ≡ false) → if_done status outcome.ending (status_text stack outcome.state) ≡ []
-nothing_after stack status outcome ending.TheVariants.Done ends off = ap (λ (x : Option ending.Ending). if_done status x (status_text stack outcome.state)) ends ∙ ap (λ (b : Bool). if_done b (Some ending.TheVariants.Done) (status_text stack outcome.state)) (off refl)
-nothing_after stack status outcome (ending.TheVariants.BadRequest n w) ends off = ap (λ (x : Option ending.Ending). if_done status x (status_text stack outcome.state)) ends
-nothing_after stack status outcome ending.TheVariants.ReadFault ends off = ap (λ (x : Option ending.Ending). if_done status x (status_text stack outcome.state)) ends
-nothing_after stack status outcome ending.TheVariants.WriteFault ends off = ap (λ (x : Option ending.Ending). if_done status x (status_text stack outcome.state)) ends
-
-pub rest_none : {X E : Type 0} (written waiting : X → List ℕ) (faults flushes : X → ℕ) (old new : X) (stack : Description) (status : Bool) (outcome : Outcome) (left : State) (e : ending.Ending) → e ≢ ending.TheVariants.WriteFault → (e ≡ ending.TheVariants.Done → status ≡ false)
-    → HasWritten written waiting faults flushes old new (write_faults e) → IsMapped outcome (since (written old) (written new)) left e → Wrote {E = E} written waiting faults flushes old new (Ok tt) (with_status stack status outcome).output
-rest_none written waiting faults flushes old new stack status outcome left e no_fault off moved mapped =
-    let whole = mapped.whole no_fault in
-    record {
-      moved = subst (λ (n : ℕ). HasWritten written waiting faults flushes old new n) (no_write_failed e no_fault) moved;
-      ok = sym (ap (λ (xs : List ℕ). outcome.output ++ xs) (nothing_after stack status outcome e whole.1 off) ∙ append-nil outcome.output ∙ whole.0);
-      left = tt;
-    }
 
 -- ---- the end of a run
 

@@ -4,7 +4,7 @@ use Rattle.std.specs.Prelude.{slice_index_or}
 use Rattle.std.specs.List.{cons_option, list_all}
 use Rattle.std.specs.Option.{option_to_list}
 use Rattle.std.proofs.lemmas.Bool.{and_parts}
-use Rattle.std.proofs.lemmas.List.{take_rest, append-nil, drop_more, drop_all}
+use Rattle.std.proofs.lemmas.List.{take_rest, append-nil, drop_more}
 use denote.Ref.{Bor}
 use Rattle.dm_table.specs.declared.table.Line.{Line}
 use Rattle.dm_table.specs.declared.table.DeviceSpec.{DeviceSpec}
@@ -187,18 +187,3 @@ body_further bodies i d at label fault found old new below is added known made =
           let both = earlier_of-clear fault found clear in
           rw (added (sym is ∙ both.1)) (one_more old (line_in at fields) (lines_in at (texts (drop (i + 1) bodies))) ∙ (rw next at (made both.0)));
     }
-
--- no body left
-pub bodies_refused : (bodies : List (Bor (List ℕ))) (i : ℕ) (at : Place) (label : Option RowFault) (fault : RowFault) → length bodies ≤ i
-    → earlier_of (Some fault) (fault_of_bodies (texts (drop i bodies))) ≡ earlier_of label (fault_of_bodies (texts bodies)) → bodies_reading at label (texts bodies) ≡ Err fault
-bodies_refused bodies i at label fault past known =
-    let found : earlier_of label (fault_of_bodies (texts bodies)) ≡ Some fault = sym (rw (drop_all i bodies past) at known) ∙ earlier_of-none (Some fault) in
-    rw found refl
-
-pub bodies_taken : (bodies : List (Bor (List ℕ))) (i : ℕ) (at : Place) (label : Option RowFault) (lines : List Line) → length bodies ≤ i
-    → earlier_of None (fault_of_bodies (texts (drop i bodies))) ≡ earlier_of label (fault_of_bodies (texts bodies)) → lines ++ lines_in at (texts (drop i bodies)) ≡ lines_in at (texts bodies)
-    → bodies_reading at label (texts bodies) ≡ Ok lines
-bodies_taken bodies i at label lines past known made =
-    let found : earlier_of label (fault_of_bodies (texts bodies)) ≡ None = sym (rw (drop_all i bodies past) at known) in
-    let all : lines_in at (texts bodies) ≡ lines = sym (rw (drop_all i bodies past) at made) ∙ append-nil lines in
-    rw (found, all) refl

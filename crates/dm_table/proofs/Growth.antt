@@ -121,15 +121,6 @@ sent_cut written waiting faults flushes old mid new fault bytes rest so_far some
       left = front_cut (written old) (written new) bytes rest at more so_far.rest some;
     }
 
--- a text is written at once
-pub wrote_at_once : {X E : Type 0} (written waiting : X → List ℕ) (faults flushes : X → ℕ) (old new : X) (text : List ℕ) → written new ≡ written old ++ text → waiting new ≡ waiting old ++ text → faults new ≡ faults old → flushes new ≡ flushes old
-    → Wrote {E = E} written waiting faults flushes old new (Ok tt) text
-wrote_at_once written waiting faults flushes old new text more held quiet same = record {
-  moved = sent_moved written waiting faults flushes old new text 0 more held (quiet ∙ sym (add-zero _)) same;
-  ok = since_is (written old) (written new) text more;
-  left = tt;
-}
-
 -- nothing of it is
 pub wrote_nothing : {X E : Type 0} (written waiting : X → List ℕ) (faults flushes : X → ℕ) (old new : X) (fault : E) (text : List ℕ) → 0 < length text → written new ≡ written old → waiting new ≡ waiting old → faults new ≡ faults old + 1 → flushes new ≡ flushes old
     → Wrote written waiting faults flushes old new (Err fault) text

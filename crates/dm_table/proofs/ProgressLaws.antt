@@ -1,8 +1,8 @@
 -- Laws of how an output moved on: what it took in two steps.
-use Rattle.std.proofs.Common.{◌≡◌, ℕ, ◌+◌, List, [], ◌∷◌, ◌++◌, MutBor, Ok, sym, ap, ◌∙◌, refl, add-zero, append_assoc, arith}
+use Rattle.std.proofs.Common.{◌≡◌, ℕ, ◌+◌, List, [], ◌∷◌, ◌++◌, MutBor, sym, ap, ◌∙◌, refl, add-zero, append_assoc, arith}
 use Rattle.std.proofs.lemmas.List.{append-nil}
 use Rattle.dm_table.specs.DeviceIo.{since}
-use Rattle.dm_table.specs.Progress.{HasWritten, HasWrittenTo, IsClosedAfter, IsFinished, Wrote}
+use Rattle.dm_table.specs.Progress.{HasWritten, HasWrittenTo, IsClosedAfter, IsFinished}
 use Rattle.dm_table.proofs.Growth.{since_more, grows_more}
 
 -- nothing is new where nothing was added
@@ -20,10 +20,6 @@ written_none written waiting faults flushes x = record {
   fails = sym (add-zero (faults x));
   unflushed = refl;
 }
-
--- a text without a byte is written where nothing is asked for
-pub wrote_none : {X E : Type 0} (written waiting : X → List ℕ) (faults flushes : X → ℕ) (x : X) → Wrote {E = E} written waiting faults flushes x x (Ok tt) []
-wrote_none written waiting faults flushes x = record { moved = written_none written waiting faults flushes x; ok = since-same (written x); left = tt }
 
 -- what waits after two steps
 waits_more : (w0 w1 w2 v0 v1 v2 : List ℕ) → w1 ≡ w0 ++ since w0 w1 → w2 ≡ w1 ++ since w1 w2 → v1 ≡ v0 ++ since w0 w1 → v2 ≡ v1 ++ since w1 w2 → v2 ≡ v0 ++ since w0 w2

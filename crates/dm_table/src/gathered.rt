@@ -3,9 +3,8 @@
 //! A system call for each line would cost many times what the line does. A text is put where it
 //! belongs in the block, whose last part is room for one, so nothing has to be asked before it.
 
-ghost use Rattle.std.specs.Prelude.{◌≡◌, ◌+◌, ◌-◌, ◌<◌, ◌≤◌, ◌++◌, [], length, slice_range, take, IfOk, OnOk, OnErr};
-ghost use Rattle.dm_table.specs.DeviceIo.{given, fault_of, since, unflushed};
-ghost use Rattle.dm_table.specs.WriteAll.{IsCutShort};
+ghost use Rattle.std.specs.Prelude.{◌≡◌, ◌+◌, ◌-◌, ◌<◌, ◌≤◌, ◌++◌, [], length, slice_range, take, OnOk};
+ghost use Rattle.dm_table.specs.DeviceIo.{fault_of};
 
 use crate::block::put_bytes;
 use crate::device_io::{OutFault, Output};

@@ -3,7 +3,7 @@
 //! What comes out depends on the bytes that were delivered, unless memory runs out. `replay_run` plays
 //! the requests; here are the load before it, and the flush and the message after it.
 
-ghost use Rattle.std.specs.Prelude.{◌≡◌, ◌≢◌, List, [], ℕ, OnErr, OnOk, is_some};
+ghost use Rattle.std.specs.Prelude.{◌≡◌, ◌≢◌, List, ℕ, OnErr, OnOk, is_some};
 ghost use Rattle.dm_table.specs.DeviceIo.{Delivery, delivery, since};
 ghost use Rattle.dm_table.specs.LoadMessage.{memory_message};
 ghost use Rattle.dm_table.specs.Progress.{IsReadOn, HasWritten, IsFlushed};

@@ -3,7 +3,7 @@
 //! file is opened. A new command is a function beside `split_command`, the definition of its
 //! arguments and a variant of `Task`; one that loads files is a line in `program` and in
 //! `Task::of_command`. A new format is a variant of `Format` and a word of `FORMATS`.
-ghost use Rattle.std.specs.Prelude.{◌≡◌, IfErr, IfOk, Some, codes, false, option_and_then};
+ghost use Rattle.std.specs.Prelude.{◌≡◌, IfErr, IfOk, Some, false, option_and_then};
 ghost use Rattle.std.specs.Prelude.{option_map};
 ghost use Rattle.clap.specs.Walk.{texts};
 ghost use Rattle.clap.specs.Words.{App, app_of, found_of, kind_of, rows_of, rule_of};

@@ -23,9 +23,6 @@ ReadsItems ts ss b = ReadsListBy bounded_of ts ss b ⊎ ReadsMoreBy bounded_of t
 abbrev pub ListSoFar : List TokenAtLine → List Scalar → List TokenAtLine → Type 0
 ListSoFar start done rest = (ss : List Scalar) (b : List TokenAtLine) → ReadsListBy bounded_of start ss b → (left : List Scalar) × (ss ≡ done ++ left) × ReadsItems rest left b
 
-pub list_begins : (start : List TokenAtLine) → ListSoFar start [] start
-list_begins start = λ ss b h. (ss, refl, inl h)
-
 -- an item that starts with no comma
 item_first : (t : Token) (n : ℕ) (s : Scalar) (a : List TokenAtLine) → bounded_of t ≡ Some s → item_of ((t, n) ∷ a) ≡ Some (s, a)
 item_first (Word w) n s a e = ap (option_map (λ x. (x, a))) e
@@ -106,9 +103,6 @@ leaf_list tokens first inner scalars value rest e o shows read = record {
 
 abbrev pub ValuesSoFar : List TokenAtLine → List Entry → List TokenAtLine → Type 0
 ValuesSoFar start es rest = (v : Values) (more : List TokenAtLine) → ReadsBy bounded_of start v more → begins_key more ≡ false → (left : Values) × (v ≡ before es left) × ReadsBy bounded_of rest left more
-
-pub values_begin : (start : List TokenAtLine) → ValuesSoFar start [] start
-values_begin start = λ v more r e. (v, refl, r)
 
 pub before_push : (es : List Entry) (e : Entry) (later : Values) → before (es ++ e ∷ []) later ≡ before es (put e.key.now e.node.line e.node.value later)
 before_push [] e later = refl

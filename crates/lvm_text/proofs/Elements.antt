@@ -1,5 +1,5 @@
 -- The elements at the front of a text, and the newlines in them.
-use Rattle.std.proofs.Common.{◌≡◌, ◌≢◌, ℕ, suc, ◌+◌, ◌<◌, ◌≤◌, Bool, true, false, cond, not, ◌&&◌, eqb, List, [], ◌∷◌, ◌++◌, length, get_or, drop, Some, None, refl, sym, ap, arith, inl, inr, length-append}
+use Rattle.std.proofs.Common.{◌≡◌, ℕ, suc, ◌+◌, ◌<◌, ◌≤◌, Bool, true, false, cond, not, ◌&&◌, eqb, List, [], ◌∷◌, ◌++◌, length, get_or, drop, Some, None, refl, sym, ap, arith, inl, inr, length-append}
 use Rattle.std.specs.List.{list_all}
 use Rattle.std.proofs.lemmas.Bool.{and_parts, or_cases, not-true, eqb-true}
 use Rattle.std.proofs.lemmas.Bool.Decides.{nat_tests}
@@ -37,10 +37,6 @@ pub element_cons : (bs rest : List ℕ) → 0 < length bs → rest ≡ drop 1 bs
 unfolding element_at
 element_cons [] rest lt e = absurd (omega arith)
 element_cons (b ∷ bs) rest lt e = ap (element_from b) e
-
-pub whole_cons : (bs rest : List ℕ) → 0 < length bs → rest ≡ drop 1 bs → bs ≡ get_or bs 0 0 ∷ rest
-whole_cons [] rest lt e = absurd (omega arith)
-whole_cons (b ∷ bs) rest lt e = ap (λ (xs : List ℕ). b ∷ xs) (sym e)
 
 -- what the code found is spelled at the front
 pub begins : (bs : List ℕ) (p : Element) (after : List ℕ) → Some (p, after) ≡ element_at bs → Begins bs p after
@@ -108,9 +104,6 @@ raw_newlines (b ∷ c ∷ bs) h =
           let e = and_parts (is_escapable c) (is_raw bs) a.1 in
           rw (slash_byte b a.0, escapable_byte c e.0, raw_newlines bs e.1) refl
     ]
-
-pub white_newlines : (b : ℕ) → b ≢ 10 → newlines (b ∷ []) ≡ 0
-white_newlines b h = let none : eqb b 10 ≡ false = grind (arith, nat_tests) in rw none refl
 
 pub comment_newlines : (c : List ℕ) → is_line c ≡ true → newlines (35 ∷ (c ++ 10 ∷ [])) ≡ 1
 comment_newlines c h = omega (arith, newlines-append c (10 ∷ []), line_newlines c h)

@@ -2,7 +2,7 @@
 use Rattle.std.specs.Prelude.{◌≡◌, ℕ, Bool, true, false, List, [], ◌∷◌, Option, Some, None, unwrap_or, option_map, if◌then◌else◌}
 use Rattle.lvm_text.specs.Token.{Token, Word, Text, Open, Comma, ListOpen, TokenAtLine}
 use Rattle.lvm_text.specs.Tree as tree
-use Rattle.lvm_text.specs.Tree.{Values, Nothing, Section, Single, Several}
+use Rattle.lvm_text.specs.Tree.{Values, Section, Single, Several}
 use Rattle.lvm_text.specs.Grammar.{are_digits, number_of, ReadsListBy, ReadsBy}
 use Rattle.lvm_text.specs.Checks.{head_line, twice_lines}
 use Rattle.lvm_text.specs.View.{scalar_view, put}

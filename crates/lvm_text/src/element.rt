@@ -2,7 +2,7 @@
 //! A text is cut at its front, element by element, so an element is found by its first byte. A new form of token
 //! is a case of `element_at`.
 
-ghost use Rattle.std.specs.Prelude.{◌≡◌, ◌<◌, ◌∷◌, ℕ, suc, None, Some, length, take, drop, slice_index, option_map, if◌then◌else◌, IsCharBoundary};
+ghost use Rattle.std.specs.Prelude.{◌≡◌, ◌<◌, ◌∷◌, suc, None, Some, length, take, drop, slice_index, option_map};
 ghost use Rattle.lvm_text.specs.Spelling.{White, Comment, Lexeme, is_word_byte};
 ghost use Rattle.lvm_text.specs.Token as spec;
 ghost use Rattle.lvm_text.specs.Scan.{line_length, word_length, raw_length, sign_of, element_from, element_at};

@@ -3,7 +3,7 @@
 //! here, with its length.
 
 ghost use Rattle.std.specs.Prelude.{◌≡◌, None, is_none};
-ghost use Rattle.lvm_text.specs.Spelling.{is_white, is_word_byte, is_line, is_end};
+ghost use Rattle.lvm_text.specs.Spelling.{is_white, is_word_byte, is_end};
 ghost use Rattle.lvm_text.specs.Scan.{line_length, word_length, raw_length, is_escape};
 
 use memchr::{memchr, memchr3};

@@ -45,9 +45,6 @@ at_fields top fault found = (
   λ other. ap (λ (o : Option LoadFault). unless o (group_of top)) (found_first (faults_of_fields Fields top) _ fault found),
 )
 
-pub past_fields : (top : Tree) → first_or (faults_of_fields Fields top) None ≡ None → unless (first_fault (group_checks top)) (group_of top) ≡ unless (first_fault (later_checks top)) (group_of top)
-past_fields top none = ap (λ (o : Option LoadFault). unless o (group_of top)) (found_later (faults_of_fields Fields top) _ none)
-
 pub at_limits : (top : Tree) (group : Group) (fault : LoadFault) → group_of top ≡ group → first_or (faults_of_fields (Limits group.extent_size) top) None ≡ Some fault → Refused fault (unless (first_fault (later_checks top)) (group_of top))
 at_limits top group fault is found = (
   λ memory. absurd (first_kind _ fault (of_walk (Limits group.extent_size) top) found memory),

@@ -3,7 +3,7 @@
 //! This joins the steps in the order of their refusals: bytes that are no UTF-8, the language of the text, the
 //! group, the names of its volumes. None has a rule of its own here.
 
-ghost use Rattle.std.specs.Prelude.{◌≡◌, ◌≢◌, ◌+◌, IfErr, IfOk};
+ghost use Rattle.std.specs.Prelude.{◌≡◌, ◌≢◌, IfErr, IfOk};
 ghost use Rattle.std.specs.Str.{IsUtf8};
 ghost use Rattle.dm_table.specs.LoadFault.{Answers, IsMemoryFault, fault_at, first_fault, unless};
 ghost use Rattle.dm_table.specs.declared.load_fault.LoadKind.TheVariants.{Memory, NotText};

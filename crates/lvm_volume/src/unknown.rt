@@ -2,10 +2,10 @@
 //!
 //! The fault is the first in the text, where segments may stand in any order, so it is the one at the least line.
 
-ghost use Rattle.std.specs.Prelude.{◌≡◌, None, length, not, nat_lt};
+ghost use Rattle.std.specs.Prelude.{◌≡◌, None, not, nat_lt};
 ghost use Rattle.std.specs.List.{list_any};
 ghost use Rattle.lvm_volume.specs.Extents as spec;
-ghost use Rattle.lvm_volume.specs.Extents.{is_unknown, least_unknown, least_unknown_of, stripes_of};
+ghost use Rattle.lvm_volume.specs.Extents.{is_unknown, least_unknown, least_unknown_of};
 
 use crate::segment::{Segment, SegmentType, Stripe};
 use crate::volume::Volume;

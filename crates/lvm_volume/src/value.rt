@@ -3,9 +3,8 @@
 //! A value of another kind counts as missing here, so that these never fail; whether a field is there and fits is
 //! the first check of all.
 
-ghost use Rattle.std.specs.Prelude.{◌≡◌, ◌++◌, ◌+◌, codes, decimal, map, option_map, IfOk};
+ghost use Rattle.std.specs.Prelude.{◌≡◌, ◌++◌, ◌+◌, codes, decimal, map, IfOk};
 ghost use Rattle.std.specs.String.{string_bytes};
-ghost use Rattle.lvm_text.specs.View.{scalar_views};
 ghost use Rattle.lvm_text.specs.Tree as spec;
 ghost use Rattle.lvm_text.specs.Iterate.{item_view};
 ghost use Rattle.lvm_volume.specs.Fields.{number_at, text_at, items_at, sections_at, section_at, section_list, items_view, section_view, segments_of};

@@ -4,14 +4,13 @@
 //! Both checks take it, each over the whole text before the next one begins; a new field is a row of a table, and
 //! no step here.
 
-ghost use Rattle.std.specs.Prelude.{◌≡◌, ◌≢◌, ◌+◌, None, Some, Ok, Err, IfOk, IfErr, codes, map};
+ghost use Rattle.std.specs.Prelude.{◌≡◌, ◌+◌, None, Some, Ok, IfOk, codes, map};
 ghost use Rattle.std.specs.List.{flat_map, range_with_len};
 ghost use Rattle.lvm_text.specs.Iterate.{item_view};
 ghost use Rattle.lvm_text.specs.View.{node_view, content_view};
 ghost use Rattle.lvm_text.specs.Tree as tree;
-ghost use Rattle.dm_table.specs.LoadFault.{Answers, first_or, fault_at, unless};
+ghost use Rattle.dm_table.specs.LoadFault.{first_or};
 ghost use Rattle.dm_table.specs.declared.load_fault.LoadKind.TheVariants as loads;
-ghost use Rattle.dm_table.specs.declared.place.Part.TheVariants.{Source};
 ghost use Rattle.lvm_volume.specs.Fields as spec;
 ghost use Rattle.lvm_volume.specs.Fields.{faults_of_fields, fields_faults, field_faults, field_view, field_views, group_faults, is_wrong, load_kind, missing, node_faults, number_at, one_group_faults, segment_field, section_view, segments_of, volume_faults};
 

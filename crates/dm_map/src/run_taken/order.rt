@@ -5,7 +5,7 @@
 //! moves at most half of one block, and one id of each block after it, where one in a flat row would
 //! move half of the row.
 
-ghost use Rattle.std.specs.Prelude.{◌≡◌, ℕ, ◌∷◌, [], ◌++◌, ◌<◌, ◌≤◌, ◌+◌, ◌/◌, ◌%◌, ◌*◌, length, map, take, drop, IfOk};
+ghost use Rattle.std.specs.Prelude.{◌≡◌, ◌∷◌, [], ◌++◌, ◌<◌, ◌≤◌, ◌+◌, ◌/◌, ◌%◌, ◌*◌, length, map, IfOk};
 ghost use Rattle.std.specs.List.{concat, insert, slice_index_or};
 ghost use Rattle.std.specs.VecDeque.{deque_capacity};
 ghost use Rattle.dm_map.specs.Blocks.{AtLeast, Carries, Fill, HasRoom, contents};

@@ -2,8 +2,6 @@
 //!
 //! What is wanted is written down from the rules, and never taken from a run. A new case is a row.
 
-ghost use Rattle.std.specs.Prelude.{◌<◌};
-
 use super::*;
 use dm_table::{ShortIn, ShortOut};
 use std::process::Abort;
