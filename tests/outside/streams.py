@@ -171,19 +171,24 @@ def check_messages(tally, program):
 
 def check_pauses(tally, program):
     """A request is answered before the next one is written, though its pipe stays open."""
-    words = [program.path, "map", "table", program.file("table", TABLE), program.file("disks", DISKS)]
-    ran = subprocess.Popen(words, stdin=subprocess.PIPE, stdout=subprocess.PIPE, stderr=subprocess.PIPE, bufsize=0)
+    files = [program.file("table", TABLE), program.file("disks", DISKS)]
     rows = [
-        ("a request", "R a 0 2\n", "1 R sda 0 1\n1 R sdb 0 1\n"),
-        ("a request and a part of the next", "R a 2 1\nW a", "2 R sda 1 1\n"),
-        ("the other part and one more", " 3 1\nR a 0 1\n", "3 W sdb 1 1\n4 R sda 0 1\n"),
+        ("map", "a request", "R a 0 2\n", "1 R sda 0 1\n1 R sdb 0 1\n"),
+        ("map", "a request and a part of the next", "R a 2 1\nW a", "2 R sda 1 1\n"),
+        ("map", "the other part and one more", " 3 1\nR a 0 1\n", "3 W sdb 1 1\n4 R sda 0 1\n"),
+        ("replay", "a request", "R a 0 2\n", "1 old sda 0 1\n1 old sdb 0 1\n"),
+        ("replay", "a request and a part of the next", "W a 2 1\nR a", "2 wrote 2 2 1\n"),
+        ("replay", "the other part and one more", " 2 2\nW a 0 2\n", "3 wrote 2 2 1\n3 old sdb 1 1\n4 wrote 4 0 2\n"),
     ]
-    for name, given, answer in rows:
-        ran.stdin.write(given.encode())
-        got = read_soon(ran.stdout, len(answer))
-        tally.holds("before a pause, " + name, got == answer.encode(), "the answer so far is %r" % got)
-    out, err = ran.communicate()
-    tally.same("after the pauses", Outcome(ran.returncode, out, err))
+    for command in ("map", "replay"):
+        words = [program.path, command, "table", *files]
+        ran = subprocess.Popen(words, stdin=subprocess.PIPE, stdout=subprocess.PIPE, stderr=subprocess.PIPE, bufsize=0)
+        for name, given, answer in [row[1:] for row in rows if row[0] == command]:
+            ran.stdin.write(given.encode())
+            got = read_soon(ran.stdout, len(answer))
+            tally.holds("%s before a pause, %s" % (command, name), got == answer.encode(), "the answer so far is %r" % got)
+        out, err = ran.communicate()
+        tally.same(command + " after the pauses", Outcome(ran.returncode, out, err))
 
 
 def read_soon(stream, most):
