@@ -5,10 +5,10 @@
 PROGRAM is the program that `rt ci` and ./dmremap leave, if no other is given. A line tells each
 case that failed; the last line is `N passed, M failed`, and the status is 0 where none failed.
 
-What the answers to requests are is proved, and tested on worked examples beside the code. Here
-stands what a proof can't speak of: real files and streams, exit statuses as a shell gets them, the
-command line, large inputs, and the script ./dmremap. A new case is a row of a table in one of the
-modules beside this file.
+What the answers to requests are is proved. Here are the worked rows: texts, and the exact bytes,
+message and status that must come of them. And here is what a proof can't speak of: real files and
+streams, exit statuses as a shell gets them, the command line, large inputs, and the script ./dmremap.
+A new case is a row of a table in one of the modules beside this file.
 """
 
 import os
@@ -18,6 +18,7 @@ import tempfile
 
 sys.dont_write_bytecode = True
 
+import answers
 import backups
 import documents
 import files
@@ -29,7 +30,9 @@ import lookers
 import printing
 import ranges
 import replays
+import reports
 import request_lines
+import snapshot_rows
 import snapshots
 import streams
 import words
@@ -49,7 +52,8 @@ def main():
         # As root the cases of unreadable files run as nobody, who has to come to the program.
         os.chmod(room, 0o755)
         program = Program(shutil.copy(built, os.path.join(room, "dmremap")), room)
-        for part in (words, files, loads, backups, groups, printing, request_lines, ranges, snapshots, replays, streams, limits):
+        for part in (words, files, loads, backups, groups, printing, reports, request_lines, answers, ranges,
+                     snapshot_rows, snapshots, replays, streams, limits):
             part.check(tally, program)
         launcher.check(tally, program, TOP, built == BUILT)
         documents.check(tally, program, TOP)

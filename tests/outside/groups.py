@@ -75,7 +75,67 @@ REFUSED = [
     (11, '} pv1 { device = "" dev_size = 0 pe_start = 0 pe_count = 0 }', "empty at 11"),
 ]
 
+# More of the same: missing and wrong fields, the faults of the text itself, and what later checks find.
+FAULTS = [
+    (1, "", "field at 1"),
+    (1, 'contents = "Text Format"', "field at 1"),
+    (2, "", "field at 1"),
+    (2, "version = 2", "field at 2"),
+    (2, 'version = "1"', "field at 2"),
+    (4, "", "field at 3"),
+    (4, "extent_size = 0", "field at 4"),
+    (5, "physical_volume {", "field at 3"),
+    (7, "", "field at 6"),
+    (7, "device = 1", "field at 7"),
+    (8, "", "field at 6"),
+    (9, 'pe_start = "0"', "field at 9"),
+    (15, "", "field at 14"),
+    (15, 'status = ["WRITE", 1]', "field at 15"),
+    (16, "", "field at 14"),
+    (16, "segment_count = 9223372036854775807", "field at 14"),
+    (18, "", "field at 17"),
+    (18, "start_extent = 12345678901234567890", "field at 18"),
+    (19, 'extent_count = "25"', "field at 19"),
+    (20, "", "field at 17"),
+    (20, 'type = "snapshot"', "field at 20"),
+    (21, "", "field at 17"),
+    (21, "stripe_count = 0", "field at 21"),
+    (21, "stripe_count = 2", "field at 22"),
+    (21, "stripe_count = 4611686018427387905", "field at 22"),
+    (22, "", "field at 17"),
+    (22, 'stripes = ["pv0"]', "field at 22"),
+    (22, 'stripes = [0, "pv0"]', "field at 22"),
+    (22, 'stripes = ["pv0", 0, "pv0", 9]', "field at 22"),
+    # Faults of the text.
+    (2, "version = 1 ?", "syntax at 2"),
+    (21, "stripes = 1", "twice at 22"),
+    (4, "x{x{x{x{x{x{x{x{x{x{x{x{x{x{x{x{}}}}}}}}}}}}}}}}", "deep at 4"),
+    # Later checks.
+    (4, "extent_size = 1125899906842625", "limit at 4"),
+    (9, "pe_start = 9223372036854775807", "limit at 9"),
+    (10, "pe_count = 137438953473", "limit at 10"),
+    (10, "pe_count = 9223372036854775807", "limit at 10"),
+    (18, "start_extent = 9223372036854775807", "limit at 18"),
+    (19, "extent_count = 137438953473", "limit at 19"),
+    (22, 'stripes = ["pv0", 1125899906842625]', "limit at 22"),
+    (19, "extent_count = 0", "extents at 17"),
+]
+
+# Two lines that are changed: each check goes over the whole text before the next one begins.
+TWO_FAULTS = [
+    (4, "extent_size = 1125899906842625", 20, "type = 1", "field at 20"),
+    (8, "dev_size = 1", 18, "start_extent = 1125899906842625", "limit at 18"),
+    (17, 'segment2 { start_extent = 0 extent_count = 1 type = "striped" stripe_count = 1 stripes = ["pv8", 0] }\n'
+     " segment1 {", 16, "segment_count = 2", "unknown at 17"),
+    (8, "dev_size = 1", 22, 'stripes = ["pv1", 0]', "unknown at 17"),
+    (14, "lv0" + "_" * 129 + " {", 18, "start_extent = 1", "extents at 17"),
+]
+
+# Beside a disk without a path of its own: the letters that a line begins with, their number, and the refusal.
+LONG_NAMES = [(6, 256, "name at 6"), (14, 124, "name at 14")]
+
 EMPTY = with_line(METADATA, 13, "spare {")
+MANY_KEYS = "".join("k%d = %d\n" % (it, it) for it in range(30000))
 
 # Whole texts, and the message and the status of a request to a volume that there is not.
 WHOLE = [
@@ -92,7 +152,12 @@ WHOLE = [
     (b"a = 1\nb = \"\xc0\xaf\"\n", "source: text at 2", 1),
     ("a {\n" * 17 + "}" * 17, "source: deep at 17", 1),
     ("a {\n" * 16 + "}" * 16, "source: field at 1", 1),
+    ("a{\n" * 300000, "source: syntax at 300001", 1),
+    ("a{\n" * 17 + "a{" * 299983 + "}" * 300000, "source: deep at 17", 1),
+    (MANY_KEYS, "source: field at 1", 1),
+    (MANY_KEYS + "k29999 = 0", "source: twice at 30001", 1),
     (with_line(BOTH, 34, 'stripes = ["pv0", 24, "pv0", 27]'), "source: extents at 28", 1),
+    (with_line(BOTH, 34, 'stripes = ["pv0", 27, "pv0", 26]'), "source: extents at 28", 1),
     (METADATA, "request 1: unknown", 3),
     (EMPTY, "request 1: unknown", 3),
     (with_line(EMPTY, 3, "a" * 128 + " {"), "request 1: unknown", 3),
@@ -103,10 +168,18 @@ def check(tally, program):
     for number, line, requests, output in MAPPED:
         path = program.file("group", with_line(BOTH, number, line))
         tally.same("a group with %r" % line, program.run(["map", "lvm", path], given=requests), 0, output)
-    for number, line, words in REFUSED:
+    for number, line, words in REFUSED + FAULTS:
         path = program.file("group", with_line(METADATA, number, line))
         got = program.run(["map", "lvm", path], given=READ)
         tally.same("a group with %r" % line[:60], got, 1, "", "dmremap: source: %s\n" % words)
+    for first, line, second, other, words in TWO_FAULTS:
+        path = program.file("group", with_line(with_line(METADATA, first, line), second, other))
+        got = program.run(["map", "lvm", path], given=READ)
+        tally.same("a group with %r and %r" % (line[:40], other[:40]), got, 1, "", "dmremap: source: %s\n" % words)
+    for number, letters, words in LONG_NAMES:
+        text = with_line(with_line(METADATA, 7, 'device = "x"'), number, "k" * letters + " {")
+        got = program.run(["map", "lvm", program.file("group", text)], given=READ)
+        tally.same("a group with %d letters at %d" % (letters, number), got, 1, "", "dmremap: source: %s\n" % words)
     for text, words, status in WHOLE:
         got = program.run(["map", "lvm", program.file("group", text)], given="R lv0 0 8\n")
         tally.same("the metadata %r" % text[:40], got, status, "", "dmremap: %s\n" % words)

@@ -23,6 +23,26 @@ GROUP = [
                 "vg0-archive--2025,,,ro,0 8192 linear /dev/sdb1 83968\n"),
 ]
 
+# Table text with its disks, and what both commands print of it.
+TEXTS = [
+    ("", "", ("", "\n")),
+    ("a: 0 8 error \n", "", ("a: 0 8 error\n", "a,,,rw,0 8 error\n")),
+    ("b: 0 9 zero\nb: 9 8 linear sda 1\na: 0 16 striped 2 4 /dev/mapper/b 9 sda 0\n", "sda 9\n",
+     ("b: 0 9 zero\nb: 9 8 linear sda 1\na: 0 16 striped 2 4 /dev/mapper/b 9 sda 0\n",
+      "b,,,rw,0 9 zero,9 8 linear sda 1;a,,,rw,0 16 striped 2 4 /dev/mapper/b 9 sda 0\n")),
+    ("a: 0 8 error\n", "", ("a: 0 8 error\n", "a,,,rw,0 8 error\n")),
+    ("a:1: 0 8 zero\na:1: 8 9 linear sda 7\nb: 0 17 linear /dev/mapper/a:1 0\n", "sda 16\n",
+     ("a:1: 0 8 zero\na:1: 8 9 linear sda 7\nb: 0 17 linear /dev/mapper/a:1 0\n",
+      "a:1,,,rw,0 8 zero,8 9 linear sda 7;b,,,rw,0 17 linear /dev/mapper/a:1 0\n")),
+]
+
+# Table text with its disks, and why both commands refuse it.
+REFUSED = [
+    ("a", "b", "source: syntax at 1"),
+    ("a: 0 8 zero\n", "b", "disks: syntax at 1"),
+    ("a: 0 8 zero\nb: 0 8 linear sda 1\n", "sda 8\n", "source: range at 2"),
+]
+
 # Concise text with its disks, and what both commands print of it or tell.
 CONCISE = [
     ("a,,,ro,0 8 linear sda 0;b,,,,0 8 linear /dev/mapper/a 0\n", "sda 8\n",
@@ -31,6 +51,14 @@ CONCISE = [
     ("a,,,,0 8 zero;b,,,,0 8 zero, 8 8 error\n", "",
      ("a: 0 8 zero\nb: 0 8 zero\nb: 8 8 error\n", "a,,,rw,0 8 zero;b,,,rw,0 8 zero,8 8 error\n"), ""),
     ("a,LVM-abc,3,rw, 0 8 zero ", "", ("a: 0 8 zero\n", "a,,,rw,0 8 zero\n"), ""),
+    ("a,,,,0 8 zero ;b,,,,0 8 error ", "", ("a: 0 8 zero\nb: 0 8 error\n", "a,,,rw,0 8 zero;b,,,rw,0 8 error\n"),
+     ""),
+    ("a,LVM-x,3,ro,0 8 linear sda 0;b,,,,0 8 linear /dev/mapper/a 0\n", "sda 8\n",
+     ("a: 0 8 linear sda 0\nb: 0 8 linear /dev/mapper/a 0\n",
+      "a,,,ro,0 8 linear sda 0;b,,,rw,0 8 linear /dev/mapper/a 0\n"), ""),
+    ("a,,,,0 8 zero ;b,,,, 0 8 error ", "", ("a: 0 8 zero\nb: 0 8 error\n", "a,,,rw,0 8 zero;b,,,rw,0 8 error\n"),
+     ""),
+    ("a,%s,,,0 8 zero" % ("u" * 128), "", ("a: 0 8 zero\n", "a,,,rw,0 8 zero\n"), ""),
     ("", "", ("", "\n"), ""),
     ("\n", "", ("", "\n"), ""),
     ("a,,,xx,0 8 zero\n", "", ("", ""), "field at 1"),
@@ -41,6 +69,44 @@ CONCISE = [
     ("a,%s,,,0 8 zero\n" % ("u" * 129), "", ("", ""), "name at 1"),
     ("a,,,,0 8 zero;\xe9,,,,0 8 zero", "", ("", ""), "text at 2"),
     ("a,,,,0 8 zero;a,,,,0 8 zero", "", ("", ""), "twice at 2"),
+    # Each check alone, and each before the next.
+    ("a,,,,0 8 \tzero", "", ("", ""), "text at 1"),
+    (";", "", ("", ""), "syntax at 1"),
+    (" \n", "", ("", ""), "syntax at 1"),
+    ("\n\n", "", ("", ""), "syntax at 1"),
+    ("a,,,,0 8 zero\n\n", "", ("", ""), "syntax at 1"),
+    ("a,,,,0 8 zero;b,,,,\n0 8 zero", "", ("", ""), "syntax at 2"),
+    ("a,,,", "", ("", ""), "syntax at 1"),
+    ("a,,,,", "", ("", ""), "syntax at 1"),
+    ("a,,,,0 8 zero,", "", ("", ""), "syntax at 1"),
+    ("a,,,,0 8", "", ("", ""), "syntax at 1"),
+    ("a ,,,,0 8 zero", "", ("", ""), "syntax at 1"),
+    ("a, ,,,0 8 zero", "", ("", ""), "syntax at 1"),
+    ("a,, ,,0 8 zero", "", ("", ""), "syntax at 1"),
+    ("a,,,ro ,0 8 zero", "", ("", ""), "syntax at 1"),
+    ("a,,,,  0 8 zero", "", ("", ""), "syntax at 1"),
+    ("a,,,,0 8 zero  ", "", ("", ""), "syntax at 1"),
+    ("a,,,,0  8 zero", "", ("", ""), "syntax at 1"),
+    ("a,,,xx,0 8 zero", "", ("", ""), "field at 1"),
+    ("a,,,RO,0 8 zero", "", ("", ""), "field at 1"),
+    ("a,,01,,0 8 zero", "", ("", ""), "field at 1"),
+    ("a,,-1,,0 8 zero", "", ("", ""), "field at 1"),
+    ("a,,,,0 8 mirror", "", ("", ""), "field at 1"),
+    ("a,,,,0 8 zero 0", "", ("", ""), "field at 1"),
+    ("a,,,,0 8 snapshot b c N 8", "", ("", ""), "field at 1"),
+    ("a,,,,0 8 snapshot b c P", "", ("", ""), "field at 1"),
+    (",,,,0 8 zero", "", ("", ""), "name at 1"),
+    ("a!,,,,0 8 zero", "", ("", ""), "name at 1"),
+    ("a,u!,,,0 8 zero", "", ("", ""), "name at 1"),
+    ("a,,,,0 8 linear sd\\a 0", "", ("", ""), "name at 1"),
+    ("a,,,,0 8 zero, 8 8 linear /dev/mapper/ 0", "", ("", ""), "name at 1"),
+    (",,,,0 8 zero;b,,x,,0 8 zero", "", ("", ""), "field at 2"),
+    (",,,,0 8 zero;b,,x,,0 8 zero;c,,,,08", "", ("", ""), "syntax at 3"),
+    (",,,,0 8 zero;b,,x,,0 8 zero;c,,,,08;d\r", "", ("", ""), "text at 4"),
+    # The source is told of before the disks.
+    ("a,,,xx,0 8 zero\n", "b", ("", ""), "field at 1"),
+    ("a,,,,0 8 zero;", "b", ("", ""), "syntax at 2"),
+    ("a,%s,,,0 8 zero" % ("u" * 129), "b", ("", ""), "name at 1"),
     (";" * 1048576, "", ("", ""), "syntax at 1"),
     (";" * 1048577, "", ("", ""), "long"),
 ]
@@ -102,6 +168,33 @@ GROUPS = [
     ("a missing bracket", ONE[:25], "", "syntax at 26"),
 ]
 
+# A group with a read-only volume of one extent, and what is printed of it in each form.
+READ_ONLY = '''\
+contents = "Text Format Volume Group"
+version = 1
+vg0 {
+  extent_size = 8
+  physical_volumes {
+    pv0 { device = "/dev/sda1" dev_size = 24 pe_start = 8 pe_count = 2 }
+  }
+  logical_volumes {
+    lv-0 {
+      status = ["READ"]
+      segment_count = 1
+      segment1 {
+        start_extent = 0 extent_count = 1
+        type = "striped" stripe_count = 1 stripes = ["pv0", 1]
+      }
+    }
+  }
+}
+'''
+READ_ONLY_TEXTS = [("table", "vg0-lv--0: 0 8 linear /dev/sda1 16\n"),
+                   ("concise", "vg0-lv--0,,,ro,0 8 linear /dev/sda1 16\n")]
+
+PART_OF_63 = "abcdefghijklmnopqrstuvwxyzabcdefghijklmnopqrstuvwxyz01234567890"
+PART_OF_64 = "abcdefghijklmnopqrstuvwxyzabcdefghijklmnopqrstuvwxyz012345678901"
+
 # Words, and what is printed of them or told.
 NAMES = [
     (["name", "a-", "b"], "a---b\n", ""),
@@ -111,6 +204,17 @@ NAMES = [
     (["name", "--", "a", "-b"], "", "hyphen"),
     (["name", "a", "b", "_c"], "", "letter"),
     (["name", "a", ""], "", "empty"),
+    (["name", "", "b"], "", "empty"),
+    (["name", "vg0", "lv-1"], "vg0-lv--1\n", ""),
+    (["name", "vg", "lv", "real"], "vg-lv-real\n", ""),
+    (["name", "A.b+c_d", "9--", "x-"], "A.b+c_d-9-----x--\n", ""),
+    (["name", "--", "a/b", "-b"], "", "letter"),
+    (["name", "", "b/"], "", "empty"),
+    (["name", "a", "b", "_tdata"], "", "letter"),
+    (["name", "a", "_b"], "a-_b\n", ""),
+    (["name", "a", "\u00e9"], "", "letter"),
+    (["name", PART_OF_64, PART_OF_63], "", "long"),
+    (["name", "--", PART_OF_64, "-"], "", "hyphen"),
     (["splitname", "a---b"], "a- b\n", ""),
     (["splitname", "a-b--c-d"], "a b-c d\n", ""),
     (["splitname", "a-----b"], "a-- b\n", ""),
@@ -118,6 +222,10 @@ NAMES = [
     (["splitname", "a-b-c-d"], "", "split"),
     (["splitname", "a-b-_c"], "", "split"),
     (["splitname", "--", "-a-b"], "", "split"),
+    (["splitname", "vg0-lv0"], "vg0 lv0\n", ""),
+    (["splitname", "a-"], "", "split"),
+    (["splitname", "a-b/c"], "", "split"),
+    (["splitname", ""], "", "split"),
 ]
 
 
@@ -127,6 +235,7 @@ def check(tally, program):
     for given, printed in ((files, TABLES), (backup, GROUP)):
         for form, text in printed:
             tally.same("%s of %s" % (form, given[0]), program.run([form] + given, given="bad\n"), 0, text)
+    check_texts(tally, program)
     check_groups(tally, program)
     check_concise(tally, program)
     for words, text, word in NAMES:
@@ -139,7 +248,22 @@ def check(tally, program):
     tally.same("a printed table, read again", program.run(["table"] + again), 0, printed)
 
 
+def check_texts(tally, program):
+    for text, disks, printed in TEXTS:
+        files = ["table", program.file("table", text), program.file("disks", disks)]
+        for form, wanted in zip(("table", "concise"), printed):
+            tally.same("%s of the table %r" % (form, text[:40]), program.run([form] + files), 0, wanted)
+    for text, disks, refused in REFUSED:
+        files = ["table", program.file("table", text), program.file("disks", disks)]
+        for form in ("table", "concise"):
+            got = program.run([form] + files)
+            tally.same("%s of the table %r" % (form, text[:40]), got, 1, "", "dmremap: %s\n" % refused)
+
+
 def check_groups(tally, program):
+    for form, text in READ_ONLY_TEXTS:
+        got = program.run([form, "lvm", program.file("backup", READ_ONLY)])
+        tally.same("%s of a read-only volume" % form, got, 0, text)
     for name, lines, text, refused in GROUPS:
         path = program.file("backup", "".join(lines))
         message = "dmremap: source: %s\n" % refused if refused else ""

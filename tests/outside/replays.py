@@ -12,6 +12,57 @@ ROUNDS = 100
 REQUESTS = 30
 SNAPSHOT = ("s,,,,0 8 snapshot base cow P 8", "base 8\ncow 32\n")
 
+# FILE, DISKS, requests, what is answered, why the replay ended early, if it did, and the status. The answers were
+# worked out sector by sector, by a plain program over the rules.
+ROWS = [
+    ("s: 0 20 snapshot base cow P 8\n", "base 20\ncow 64\n", "R s 18 2\nW s 18 1\nR s 16 4\n",
+     "1 old base 18 2\n2 wrote 2 18 1\n3 old base 16 2\n3 wrote 2 18 1\n3 old base 19 1\n", "", 0),
+    ("a: 0 16 striped 2 4 sda 0 sdb 0\n", "sda 8\nsdb 8\n", "W a 2 4\nR a 0 8\n",
+     "1 wrote 1 2 4\n2 old sda 0 2\n2 wrote 1 2 4\n2 old sdb 2 2\n", "", 0),
+    ("o: 0 8 zero\ns: 0 8 snapshot /dev/mapper/o cow P 8\n", "cow 32\n", "W s 2 3\nR s 0 8\n",
+     "1 wrote 1 2 3\n2 zero 2\n2 wrote 1 2 3\n2 zero 3\n", "", 0),
+    ("a: 0 4 error\n", "", "R a 0 4\nW a 2 3\n", "1 error 4\n2 error 3\n", "", 0),
+    ("s: 0 20 snapshot base cow P 8\n", "base 20\ncow 64\n", "", "", "", 0),
+    ("s: 0 16 snapshot base c1 P 4\nt: 0 16 snapshot base c2 P 8\n", "base 16\nc1 64\nc2 64\n",
+     "W s 0 2\nW t 1 2\nR s 0 8\nR t 0 8\nW s 1 8\nR s 0 16\nR t 0 16\n",
+     "1 wrote 1 0 2\n2 wrote 2 1 2\n3 wrote 1 0 2\n3 old base 2 6\n4 old base 0 1\n4 wrote 2 1 2\n"
+     "4 old base 3 5\n5 wrote 5 1 8\n6 wrote 1 0 1\n6 wrote 5 1 8\n6 old base 9 7\n7 old base 0 1\n"
+     "7 wrote 2 1 2\n7 old base 3 13\n", "", 0),
+    ("s: 0 16 snapshot base c1 P 4\nt: 0 16 snapshot /dev/mapper/s c2 P 8\n", "base 16\nc1 64\nc2 64\n",
+     "W t 3 2\nR t 0 16\nW t 9 1\nW t 0 1\nR t 0 16\n",
+     "1 wrote 1 3 2\n2 old base 0 3\n2 wrote 1 3 2\n2 old base 5 11\n3 wrote 3 9 1\n4 wrote 4 0 1\n"
+     "5 wrote 4 0 1\n5 old base 1 2\n5 wrote 1 3 2\n5 old base 5 4\n5 wrote 3 9 1\n5 old base 10 6\n", "", 0),
+    ("c: 0 32 striped 2 4 sdb 0 sdc 0\ns: 0 32 snapshot base /dev/mapper/c P 8\n", "base 32\nsdb 16\nsdc 16\n",
+     "W s 6 4\nR s 4 8\nW s 16 1\nR s 0 1\n",
+     "1 wrote 1 6 4\n2 old base 4 2\n2 wrote 1 6 4\n2 old base 10 2\n3 error 1\n4 error 1\n", "", 0),
+    ("s: 0 32 snapshot base cow P 8\n", "base 32\ncow 32\n", "W s 4 8\nR s 0 16\nW s 16 1\nR s 0 16\n",
+     "1 wrote 1 4 8\n2 old base 0 4\n2 wrote 1 4 8\n2 old base 12 4\n3 error 1\n4 error 16\n", "", 0),
+    ("a: 0 4 linear sda 0\na: 4 4 zero\na: 8 4 error\na: 12 4 linear sda 4\n", "sda 8\n",
+     "W a 0 16\nR a 0 16\nR a 10 7\n",
+     "1 wrote 1 0 4\n1 zero 4\n1 error 4\n1 wrote 1 12 4\n2 wrote 1 0 4\n2 zero 4\n2 error 4\n2 wrote 1 12 4\n"
+     "3 error 7\n", "", 0),
+    ("a: 0 16 linear sda 0\n", "sda 16\n", "W a 0 8\nW a 4 8\nR a 0 16\nW a 2 1\nR a 0 5\n",
+     "1 wrote 1 0 8\n2 wrote 2 4 8\n3 wrote 1 0 4\n3 wrote 2 4 8\n3 old sda 12 4\n4 wrote 4 2 1\n5 wrote 1 0 2\n"
+     "5 wrote 4 2 1\n5 wrote 1 3 1\n5 wrote 2 4 1\n", "", 0),
+    # What is below another device is no top device, and neither is a disk or nothing at all; a bad line comes first.
+    ("o: 0 8 zero\ns: 0 8 snapshot /dev/mapper/o cow P 8\n", "cow 32\n", "R o 0 1\n", "", "request 1: not top", 3),
+    ("o: 0 8 zero\ns: 0 8 snapshot /dev/mapper/o cow P 8\n", "cow 32\n", "R s 0 1\nR cow 0 1\nR s 0 1\n",
+     "1 zero 1\n", "request 2: not top", 3),
+    ("o: 0 8 zero\ns: 0 8 snapshot /dev/mapper/o cow P 8\n", "cow 32\n", "W s 0 8\nR s 0 1\nR t 0 1\n",
+     "1 wrote 1 0 8\n2 wrote 1 0 1\n", "request 3: not top", 3),
+    ("o: 0 8 zero\ns: 0 8 snapshot /dev/mapper/o cow P 8\n", "cow 32\n", "R s 0 1\nR o 0 0\n", "1 zero 1\n",
+     "request 2: length", 3),
+    ("o: 0 8 zero\ns: 0 8 snapshot /dev/mapper/o cow P 8\n", "cow 32\n", "R s 0 1\nR o 0 1", "1 zero 1\n",
+     "request 2: unended", 3),
+    ("o: 0 8 zero\ns: 0 8 snapshot /dev/mapper/o cow P 8\n", "cow 32\n", "R s 0 1 \n", "", "request 1: form", 3),
+    ("a: 0 8 zero\n", "", "R b 0 1\n", "", "request 1: not top", 3),
+    # Two claims meet, so no request is looked at, unless the load is refused before.
+    ("a: 0 8 linear sda 0\nb: 0 8 linear sda 4\n", "sda 16\n", "R a 0 1\n", "", "replay: untidy", 1),
+    ("a: 0 8 linear sda 0\nb: 0 8 linear sda 4\n", "sda 16\n", "x", "", "replay: untidy", 1),
+    ("a: 0 8 linear sda 0\nb: 0 8 linear sda 4\n", "sda 8\n", "x", "", "source: range at 2", 1),
+    ("s: 0 8 snapshot base base P 1\n", "base 8\n", "R s 0 1\n", "", "replay: untidy", 1),
+]
+
 
 def tidy_stack(dice):
     """Snapshots of one origin or of each other, each with a store of its own, and stripes beside them."""
@@ -78,7 +129,16 @@ def check(tally, program):
             wanted += lines(number, played(values, number, start, stack.request(*request)))
         disks = "".join("%s %d\n" % it for it in stack.disks.items())
         tally.same("the replay of %s" % concise(stack), run(program, concise(stack), disks, given), 0, wanted)
+    check_rows(tally, program)
     check_ends(tally, program)
+
+
+def check_rows(tally, program):
+    for table, disks, requests, output, refused, status in ROWS:
+        files = [program.file("table", table), program.file("disks", disks)]
+        got = program.run(["replay", "table", *files], given=requests)
+        name = "the replay of %r with %r" % (table, requests)
+        tally.same(name, got, status, output, "dmremap: %s\n" % refused if refused else "")
 
 
 def check_ends(tally, program):

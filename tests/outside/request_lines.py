@@ -1,13 +1,18 @@
-"""Requests: the line that ends a run, with the answers before it whole."""
+"""Requests: the line that ends a run, with the answers before it whole.
+
+The questions about a line are asked in a fixed order, so a line with several mistakes shows which comes first.
+"""
 
 TABLE = "a: 0 100 linear sda 50\n"
 DISKS = "sda 150\n"
 FIRST = "R a 0 1\n"
 ANSWER = "1 R sda 50 1\n"
 
-# What comes after FIRST, and the word of the message.
+# What comes first or after FIRST, and the word of the message.
 BAD = [
     ("R a 1 1", "unended"),
+    ("R a 0 1", "unended"),
+    ("x", "unended"),
     ("\n", "form"),
     ("R a 0\n", "form"),
     ("r a 0 1\n", "form"),
@@ -15,11 +20,26 @@ BAD = [
     ("R  a 0 1\n", "form"),
     ("R a! 0 1\n", "form"),
     ("R\ta\t0\t1\n", "form"),
+    (" R a 0 1\n", "form"),
+    ("R a 0 1 1\n", "form"),
+    ("RW a 0 1\n", "form"),
+    ("R\ta 0 1\n", "form"),
+    ("R /dev/mapper/a 0 1\n", "form"),
+    ("X a x 0\n", "form"),
+    ("R a, x 0\n", "form"),
     ("R a 01 1\n", "number"),
     ("R a 0 1\r\n", "number"),
     ("R a 10000000000000000000 1\n", "number"),
+    ("R a -1 1\n", "number"),
+    ("R a 0 10000000000000000000\n", "number"),
+    ("R a x 0\n", "number"),
+    ("R b x 0\n", "number"),
     ("R a 0 0\n", "length"),
     ("W a 0 1048577\n", "length"),
+    ("R a 0 9999999999999999999\n", "length"),
+    ("R a 0 1048577\n", "length"),
+    ("R b 0 0\n", "length"),
+    ("R b 0 1048577\n", "length"),
     ("R b 0 1\n", "unknown"),
     ("R %s 0 1\n" % ("a" * 127), "unknown"),
     ("R %s 0 1\n" % ("a" * 128), "form"),
@@ -43,7 +63,10 @@ GOOD = [
 
 def check(tally, program):
     for bad, word in BAD:
-        given = FIRST.encode() + (bad if isinstance(bad, bytes) else bad.encode())
+        bad = bad if isinstance(bad, bytes) else bad.encode()
+        got = program.map(TABLE, DISKS, bad)
+        tally.same("the first request %r" % bad[:40], got, 3, "", "dmremap: request 1: %s\n" % word)
+        given = FIRST.encode() + bad
         for more in (b"", b"R a 2 2\n"):
             if more and not given.endswith(b"\n"):
                 continue
@@ -51,3 +74,14 @@ def check(tally, program):
             tally.same("the request %r" % bad[:40], got, 3, ANSWER, "dmremap: request 2: %s\n" % word)
     for requests, output in GOOD:
         tally.same("the requests %r" % requests, program.map(TABLE, DISKS, requests), 0, output)
+    check_beginnings(tally, program)
+
+
+def check_beginnings(tally, program):
+    """Each beginning of a line and of a rest without its newline, up to a clean end."""
+    both = FIRST + "R a 1 1"
+    for count in range(len(both) + 1):
+        whole, newline, rest = both[:count].rpartition("\n")
+        message = "dmremap: request %d: unended\n" % (2 if newline else 1) if rest else ""
+        tally.same("%d bytes of requests" % count, program.map(TABLE, DISKS, both[:count]),
+                   3 if rest else 0, ANSWER if newline else "", message)

@@ -43,6 +43,66 @@ REFUSED = [
     [b"map", b"table", b"\xff", b"DISKS"],
 ]
 
+# Words that are refused, as one line, and a part of what is told.
+TOLD = [
+    ("name vg0", "<LV>"),
+    ("name a -b", "unexpected argument '-b'"),
+    ("splitname a-b c", "unexpected argument 'c'"),
+    ("table lvm a --status", "unexpected argument '--status'"),
+    ("tabel lvm a", "a similar subcommand exists: 'table'"),
+    ("concise tabel a b", "a similar value exists: 'table'"),
+    ("", "Usage: dmremap [OPTIONS] <COMMAND>"),
+    ("map", "<FORMAT> <FILE>"),
+    ("map lvm2 a", "invalid value 'lvm2' for '<FORMAT>'"),
+    ("explain table a b", "unrecognized subcommand 'explain'"),
+    ("map table a b --status --status", "'--status' cannot be used multiple times"),
+    ("map lvm a -- b --status", "unexpected argument '--status'"),
+    ("map table a b --status=yes", "unexpected value 'yes' for '--status'"),
+    ("splitname a-b --status", "unexpected argument '--status'"),
+    ("--status map table a b --status", "unexpected argument '--status'"),
+    ("--status table lvm a", "unexpected argument '--status'"),
+    ("map table a b c", "unexpected argument 'c'"),
+    ("map -x table a b", "unexpected argument '-x'"),
+    ("map table - d", "error: unexpected argument '-' found"),
+    ("map table f -", "error: unexpected argument '-' found"),
+    ("map --version", "unexpected argument '--version'"),
+]
+
+# Words that ask for help, and a part of it.
+HELPED = [
+    ("--help", "Usage: dmremap [OPTIONS] <COMMAND>"),
+    ("--help", "  splitname  Prints"),
+    ("-h", "Usage: dmremap [OPTIONS] <COMMAND>"),
+    ("-h", "  concise    Checks"),
+    ("help", "Usage: dmremap [OPTIONS] <COMMAND>"),
+    ("help", "  6  out of memory"),
+    ("help map", "map [OPTIONS] <FORMAT> <FILE> [DISKS]"),
+    ("help map", "FORMAT is one of\n  lvm      the"),
+    ("map --help", "map [OPTIONS] <FORMAT> <FILE> [DISKS]"),
+    ("map --help", "      --status"),
+    ("table -h", "table <FORMAT> <FILE> [DISKS]"),
+    ("table -h", "dmremap table lvm"),
+    ("concise -h", "concise <FORMAT> <FILE> [DISKS]"),
+    ("concise -h", "dmremap concise lvm"),
+    ("check -h", "check <FORMAT> <FILE> [DISKS]"),
+    ("check -h", "clash LOWER SECTOR FIRST SECOND"),
+    ("replay -h", "replay <FORMAT> <FILE> [DISKS]"),
+    ("replay -h", "dmremap replay table"),
+    ("name -h", "name <VG> <LV> [LAYER]"),
+    ("name -h", "dmremap name vg0 lv-1"),
+    ("splitname -h", "splitname <NAME>"),
+    ("splitname -h", "dmremap splitname vg0-lv--1"),
+]
+
+# DISKS goes with tables alone.
+DISKLESS = [
+    "map table a.table",
+    "map lvm vg0.backup a.disks",
+    "table table a.table",
+    "map concise a.concise",
+    "concise lvm vg0.backup a.disks",
+]
+
 # Words that ask for status lines, of a stack without a snapshot.
 STATUS = [
     ["--status", "map", "table", "TABLE", "DISKS"],
@@ -65,6 +125,7 @@ def check(tally, program):
         is_refused = got.status == 2 and got.out == b"" and got.err.endswith(b"\n")
         tally.holds("words %s" % words, is_refused, "status %s, on standard output %r, on standard error %r"
                     % (got.status, got.out, got.err))
+    check_told(tally, program)
     for words, tip in (["tabel", "lvm", "TABLE"], b"'table'"), (["table", "lvn", "TABLE"], b"'lvm'"):
         got = program.run(real(words))
         tally.holds("a tip for %s" % words, got.status == 2 and tip in got.err, "on standard error %r" % got.err)
@@ -80,3 +141,19 @@ def check(tally, program):
                "dmremap: words: disks\n")
     tally.same("words after --", program.run(real(["map", "table", "--", "TABLE", "DISKS"]), given="R vol 0 1\n"),
                0, "1 R sda 50 1\n")
+
+
+def check_told(tally, program):
+    for line, told in TOLD:
+        got = program.run(line.split())
+        is_told = got.status == 2 and got.out == b"" and told.encode() in got.err
+        tally.holds("the words %r" % line, is_told, "status %s, on standard error %r" % (got.status, got.err))
+    for line, told in HELPED:
+        got = program.run(line.split())
+        is_told = got.status == 0 and told.encode() in got.out and b"Exit status\n  0  " in got.out and got.err == b""
+        tally.holds("the help by %r" % line, is_told, "status %s, on standard output %r" % (got.status, got.out))
+    for line in DISKLESS:
+        tally.same("the words %r" % line, program.run(line.split()), 2, "", "dmremap: words: disks\n")
+    got = program.run([b"map", b"table", b"\xff", b"DISKS"])
+    is_told = got.status == 2 and got.err.startswith(b"error: invalid UTF-8 was detected in one or more arguments")
+    tally.holds("words that are no text", is_told, "status %s, on standard error %r" % (got.status, got.err))

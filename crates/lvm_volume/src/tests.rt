@@ -1,14 +1,17 @@
-//! Rows of names. Each public call is made here with enough memory.
+//! Rows of names. Each public call is made here with enough memory, but for `spaced_parts`: the tests of `dmremap`
+//! make it, by the command `splitname`. More names are built and split by the built program (`tests/outside`).
 
-use crate::{NameFault, build_name, spaced_parts, split_name, undouble};
-use std::test::Fail;
+use crate::{NameFault, build_name, split_name, undouble};
 
 const PART_OF_63: &str = "abcdefghijklmnopqrstuvwxyzabcdefghijklmnopqrstuvwxyz01234567890";
 
 const PART_OF_64: &str = "abcdefghijklmnopqrstuvwxyzabcdefghijklmnopqrstuvwxyz012345678901";
 
+const NAME_OF_127: &str =
+    "abcdefghijklmnopqrstuvwxyzabcdefghijklmnopqrstuvwxyz01234567890-abcdefghijklmnopqrstuvwxyzabcdefghijklmnopqrstuvwxyz01234567890";
+
 /// A group, a volume and a layer, and the name that is built of them.
-static BUILT: [(&str, &str, Option<&str>, Result<&str, NameFault>); 13] = [
+static BUILT: [(&str, &str, Option<&str>, Result<&str, NameFault>); 14] = [
     ("a-", "b", None, Ok("a---b")),
     ("vg0", "lv-1", None, Ok("vg0-lv--1")),
     ("vg", "lv", Some("real"), Ok("vg-lv-real")),
@@ -20,71 +23,53 @@ static BUILT: [(&str, &str, Option<&str>, Result<&str, NameFault>); 13] = [
     ("a", "b", Some("_tdata"), Err(NameFault::Letter)),
     ("a", "_b", None, Ok("a-_b")),
     ("a", "é", None, Err(NameFault::Letter)),
+    (PART_OF_63, PART_OF_63, None, Ok(NAME_OF_127)),
     (PART_OF_64, PART_OF_63, None, Err(NameFault::Long)),
     (PART_OF_64, "-", None, Err(NameFault::HyphenFirst)),
 ];
 
 #[test]
-fn built(rt: HostRuntime) -> Result<(), Fail> {
-    for &(vg, lv, layer, name) in &BUILT {
-        match (build_name(rt.alloc(), vg, lv, layer), name) {
-            (Ok(built), Ok(name)) => assert_eq!(rt; built.as_str(), name),
-            (Err(fault), Err(wanted)) => assert_eq!(rt; fault, wanted),
-            (_, _) => return Err("another result".into()),
+fn built(rt: HostRuntime) {
+    for &(vg, lv, layer, wanted) in &BUILT {
+        match build_name(rt.alloc(), vg, lv, layer) {
+            Ok(name) => assert!(&rt; wanted == Ok(name.as_str()), "{vg} {lv}"),
+            Err(fault) => assert!(&rt; wanted == Err(fault), "{vg} {lv}"),
         }
     }
-    let longest = build_name(rt.alloc(), PART_OF_63, PART_OF_63, None)?;
-    assert_eq!(rt; longest.as_str().len(), 127);
-    Ok(())
-}
-
-/// A name, and its parts if it has some.
-static SPLIT: [(&str, Option<&str>); 11] = [
-    ("a---b", Some("a- b")),
-    ("a-b--c-d", Some("a b-c d")),
-    ("a-----b", Some("a-- b")),
-    ("vg0-lv0", Some("vg0 lv0")),
-    ("a--b", None),
-    ("a-b-c-d", None),
-    ("a-b-_c", None),
-    ("a-", None),
-    ("-a-b", None),
-    ("a-b/c", None),
-    ("", None),
-];
-
-#[test]
-fn split(rt: HostRuntime) -> Result<(), Fail> {
-    for &(name, wanted) in &SPLIT {
-        let parts = spaced_parts(rt.alloc(), name)?;
-        assert_eq!(rt;
-            parts.as_ref().map(|parts| parts.as_str()),
-            wanted,
-            "{name}"
-        );
-    }
-    Ok(())
 }
 
 /// A part of a name, and what it says.
-static UNDOUBLED: [(&str, &str); 4] = [("", ""), ("a---b", "a--b"), ("----", "--"), ("é--", "é-")];
+static UNDOUBLED: [(&str, &str); 5] = [
+    ("", ""),
+    ("a--", "a-"),
+    ("a---b", "a--b"),
+    ("----", "--"),
+    ("é--", "é-"),
+];
 
 #[test]
-fn undoubled(rt: HostRuntime) -> Result<(), Fail> {
+fn undoubled(rt: HostRuntime) {
     for &(text, wanted) in &UNDOUBLED {
-        assert_eq!(rt; undouble(rt.alloc(), text)?.as_str(), wanted);
+        let part = undouble(rt.alloc(), text).expect(&rt, wanted);
+        assert!(&rt; part.as_str() == wanted, "{text}");
     }
-    Ok(())
 }
 
+/// A name, and its parts as they stand in it.
+static SLICES: [(&str, &str, &str, Option<&str>); 2] = [
+    ("a---b", "a--", "b", None),
+    ("a-b--c-d", "a", "b--c", Some("d")),
+];
+
 #[test]
-fn slices(rt: HostRuntime) -> Result<(), Fail> {
-    let slices = split_name("a-b--c-d").ok_or("no slices")?;
-    assert_eq!(rt;
-        (slices.vg, slices.lv, slices.layer),
-        ("a", "b--c", Some("d"))
-    );
-    Ok(())
+fn slices(rt: HostRuntime) {
+    for &(name, vg, lv, layer) in &SLICES {
+        let slices = split_name(name).expect(&rt, name);
+        assert!(&rt;
+            slices.vg == vg && slices.lv == lv && slices.layer == layer,
+            "{name}"
+        );
+    }
 }
 
 /// A fault, its text, and the message of the program.
@@ -109,11 +94,10 @@ static MESSAGES: [(NameFault, &str, &[u8]); 5] = [
 ];
 
 #[test]
-fn messages(rt: HostRuntime) -> Result<(), Fail> {
+fn messages(rt: HostRuntime) {
     for &(fault, wanted, message) in &MESSAGES {
-        let text = fault.to_string(rt.alloc())?;
-        assert_eq!(rt; text.as_str(), wanted);
-        assert_eq!(rt; fault.message(), message);
+        let text = fault.to_string(rt.alloc()).expect(&rt, wanted);
+        assert!(&rt; text.as_str() == wanted, "{wanted}");
+        assert!(&rt; fault.message() == message, "{wanted}");
     }
-    Ok(())
 }

@@ -1,9 +1,9 @@
-//! The whole way over inputs and outputs in memory: the exact output, message and status.
+//! The whole way over inputs and outputs in memory that go short or fail: the exact output, message and status.
 //!
-//! What is wanted is written down from the rules, and never taken from a run. A new case is a row
-//! of a table; how its streams go short or fail stands in its `Streams`. Tables are `static`, since
-//! rows of an array in a function are proved one by one. Texts that have to be built, and metadata,
-//! are tested from outside, on the built program.
+//! Which bytes come of which texts is tested on the built program (`tests/outside`). Here stands what
+//! needs a stream of our own, and calls that only a library has. What is wanted is written down from the
+//! rules, and never taken from a run. Tables are `static`, since rows of an array in a function are
+//! proved one by one.
 
 ghost use Rattle.std.specs.Prelude.{◌<◌};
 
@@ -12,20 +12,13 @@ use dm_table::{ShortIn, ShortOut};
 use std::alloc::AllocError;
 use std::process::Abort;
 
-mod bad_requests;
-mod concise;
 mod counted;
+mod described;
 mod fault_texts;
 mod faults;
 mod gathered;
 mod part_files;
 mod parts;
-mod printed;
-mod refused_loads;
-mod rows;
-mod snapshot_loads;
-mod snapshots;
-mod status_lines;
 
 /// More than the output of any case has. A stream moves this much per call unless a case says otherwise.
 const PLENTY: usize = 4096;
@@ -111,18 +104,6 @@ fn output(
     made.expect(rt, "an output")
 }
 
-/// After how many of these bytes a stream of them fails, if it does.
-fn end_of(bytes: &[u8], fails: bool) -> Option<usize> {
-    if fails { Some(bytes.len()) } else { None }
-}
-
-/// A number of letters, and a text after them.
-fn letters(alloc: Global, count: usize, end: &str) -> Result<String, AllocError> {
-    let mut text = "a".repeat(alloc, count)?;
-    text.push_str(end)?;
-    Ok(text)
-}
-
 /// The message of the program, of which only its own words are given.
 fn message_of(rt: &impl Abort, alloc: Global, words: &str) -> String {
     format!(in alloc; "dmremap: {words}\n").expect(rt, "a message")
@@ -150,11 +131,6 @@ fn check(rt: &impl Abort, alloc: Global, case: &Case<'_>) {
     check_answer(rt, case, status, written.as_slice(), messages.as_slice());
 }
 
-/// Runs a case over streams that move a byte a call, and over ones that do not go short.
-fn check_steps(rt: &impl Abort, alloc: Global, case: &Case<'_>) {
-    check_at(rt, alloc, case, &[1, PLENTY]);
-}
-
 /// Runs a case over streams that move at most these many bytes a call.
 fn check_at(rt: &impl Abort, alloc: Global, case: &Case<'_>, steps: &[usize]) {
     for &step in steps {
@@ -171,19 +147,4 @@ fn check_answer(rt: &impl Abort, case: &Case<'_>, status: u8, output: &[u8], mes
     assert!(rt; output == case.output, "the output of {}", case.name);
     assert!(rt; messages == case.message, "the message of {}", case.name);
     assert_eq!(rt; status, case.status, "the status of {}", case.name);
-}
-
-#[test]
-fn rows_of_cases(rt: HostRuntime) {
-    let tables = [
-        &rows::ROWS[..],
-        &snapshots::ROWS[..],
-        &faults::FAULTS[..],
-        &status_lines::ROWS[..],
-    ];
-    for table in tables {
-        for case in table {
-            check_steps(&rt, rt.alloc(), case);
-        }
-    }
 }

@@ -1,6 +1,6 @@
-//! The command `replay` over inputs and outputs in memory: the exact output, message and status.
+//! The command `replay` over inputs and outputs in memory that go short or fail.
 //!
-//! What is wanted is written down from the rules, and never taken from a run. A new case is a row.
+//! What is answered to which requests is tested on the built program (`tests/outside`).
 
 use super::*;
 use dm_table::{ShortIn, ShortOut};
@@ -30,11 +30,14 @@ const FAILING_FLUSH: Failing = Failing {
 
 const WRITE_MESSAGE: &str = "dmremap: output: write\n";
 
+/// Tables, disks and requests, of which reading fails after some bytes.
+type Given<'a> = (&'a str, &'a str, &'a str, Option<usize>);
+
 /// Replays requests over streams that move a few bytes a call, and asserts what must come of it.
 fn check(
     rt: &impl Abort,
     alloc: Global,
-    (tables, disks, requests): (&str, &str, &str),
+    (tables, disks, requests, fails_after): Given<'_>,
     failing: Failing,
     (output, message, status): (&[u8], &str, u8),
 ) {
@@ -44,132 +47,82 @@ fn check(
         ShortOut::new(alloc, 7, failing.after).expect(rt, "an output")
     };
     let mut messages = ShortOut::new(alloc, 3, PLENTY).expect(rt, "a message stream");
+    let bytes = requests.as_bytes();
+    let mut requests = match fails_after {
+        Some(count) => ShortIn::failing(bytes, 3, count.min(bytes.len())),
+        None => ShortIn::new(bytes, 3),
+    };
     let got = replay_whole(
         alloc,
         Format::Table,
         &mut ShortIn::new(tables.as_bytes(), PLENTY),
         &mut Some(ShortIn::new(disks.as_bytes(), 1)),
-        &mut ShortIn::new(requests.as_bytes(), 3),
+        &mut requests,
         &mut written,
         &mut messages,
     );
-    assert_eq!(rt; written.as_slice(), output, "the output of {requests}");
+    assert_eq!(rt; written.as_slice(), output, "the output of {tables}");
     assert_eq!(rt;
         messages.as_slice(),
         message.as_bytes(),
-        "the message of {requests}"
+        "the message of {tables}"
     );
-    assert_eq!(rt; got, status, "the status of {requests}");
+    assert_eq!(rt; got, status, "the status of {tables}");
 }
 
 const SNAPSHOT: &str = "s: 0 20 snapshot base cow P 8\n";
 
 const SNAPSHOT_DISKS: &str = "base 20\ncow 64\n";
 
-const ZEROS: &str = "o: 0 8 zero\ns: 0 8 snapshot /dev/mapper/o cow P 8\n";
-
-const OVERLAP: &str = "a: 0 8 linear sda 0\nb: 0 8 linear sda 4\n";
-
-/// Tables, disks and requests, and the output, the message and the status.
-static ROWS: [(&str, &str, &str, &str, &str, u8); 14] = [
+/// What is given, and the output, the message and the status.
+static ROWS: [(Given<'static>, &str, &str, u8); 5] = [
     (
-        SNAPSHOT,
-        SNAPSHOT_DISKS,
-        "R s 18 2\nW s 18 1\nR s 16 4\n",
+        (
+            SNAPSHOT,
+            SNAPSHOT_DISKS,
+            "R s 18 2\nW s 18 1\nR s 16 4\n",
+            None,
+        ),
         "1 old base 18 2\n2 wrote 2 18 1\n3 old base 16 2\n3 wrote 2 18 1\n3 old base 19 1\n",
         "",
         0,
     ),
     (
-        "a: 0 16 striped 2 4 sda 0 sdb 0\n",
-        "sda 8\nsdb 8\n",
-        "W a 2 4\nR a 0 8\n",
-        "1 wrote 1 2 4\n2 old sda 0 2\n2 wrote 1 2 4\n2 old sdb 2 2\n",
-        "",
-        0,
+        (SNAPSHOT, SNAPSHOT_DISKS, "R s 0 1\nR s 0", Some(12)),
+        "1 old base 0 1\n",
+        "dmremap: requests: read\n",
+        4,
     ),
     (
-        ZEROS,
-        "cow 32\n",
-        "W s 2 3\nR s 0 8\n",
-        "1 wrote 1 2 3\n2 zero 2\n2 wrote 1 2 3\n2 zero 3\n",
-        "",
-        0,
-    ),
-    (
-        "a: 0 4 error\n",
-        "",
-        "R a 0 4\nW a 2 3\n",
-        "1 error 4\n2 error 3\n",
-        "",
-        0,
-    ),
-    (SNAPSHOT, SNAPSHOT_DISKS, "", "", "", 0),
-    // What is below another device is no top device, and neither is a disk or nothing at all.
-    (
-        ZEROS,
-        "cow 32\n",
-        "R o 0 1\n",
-        "",
-        "dmremap: request 1: not top\n",
-        3,
-    ),
-    (
-        ZEROS,
-        "cow 32\n",
-        "R s 0 1\nR cow 0 1\nR s 0 1\n",
-        "1 zero 1\n",
-        "dmremap: request 2: not top\n",
-        3,
-    ),
-    (
-        ZEROS,
-        "cow 32\n",
-        "W s 0 8\nR s 0 1\nR t 0 1\n",
+        (
+            "o: 0 8 zero\ns: 0 8 snapshot /dev/mapper/o cow P 8\n",
+            "cow 32\n",
+            "W s 0 8\nR s 0 1\nR t 0 1\n",
+            None,
+        ),
         "1 wrote 1 0 8\n2 wrote 1 0 1\n",
         "dmremap: request 3: not top\n",
         3,
     ),
-    // A bad line comes before the question whether the device is top.
+    // Two claims meet, and a load that is refused: nothing is written.
     (
-        ZEROS,
-        "cow 32\n",
-        "R s 0 1\nR o 0 0\n",
-        "1 zero 1\n",
-        "dmremap: request 2: length\n",
-        3,
-    ),
-    (
-        ZEROS,
-        "cow 32\n",
-        "R s 0 1\nR o 0 1",
-        "1 zero 1\n",
-        "dmremap: request 2: unended\n",
-        3,
-    ),
-    (
-        ZEROS,
-        "cow 32\n",
-        "R s 0 1 \n",
-        "",
-        "dmremap: request 1: form\n",
-        3,
-    ),
-    // Two claims meet: no request is looked at.
-    (
-        OVERLAP,
-        "sda 16\n",
-        "R a 0 1\n",
+        (
+            "a: 0 8 linear sda 0\nb: 0 8 linear sda 4\n",
+            "sda 16\n",
+            "R a 0 1\n",
+            None,
+        ),
         "",
         "dmremap: replay: untidy\n",
         1,
     ),
-    (OVERLAP, "sda 16\n", "x", "", "dmremap: replay: untidy\n", 1),
-    // A load that is refused is refused as it is for `map`, also where claims meet.
     (
-        "a: 0 8 linear sda 0\nb: 0 8 linear sda 4\n",
-        "sda 8\n",
-        "x",
+        (
+            "a: 0 8 linear sda 0\nb: 0 8 linear sda 4\n",
+            "sda 8\n",
+            "x",
+            None,
+        ),
         "",
         "dmremap: source: range at 2\n",
         1,
@@ -177,12 +130,11 @@ static ROWS: [(&str, &str, &str, &str, &str, u8); 14] = [
 ];
 
 #[test]
-fn rows(rt: HostRuntime) {
+fn the_output_fails_after_each_byte(rt: HostRuntime) {
     let alloc = rt.alloc();
-    for &(tables, disks, requests, output, message, status) in &ROWS {
-        let texts = (tables, disks, requests);
+    for &(given, output, message, status) in &ROWS {
         let output = output.as_bytes();
-        check(&rt, alloc, texts, STEADY, (output, message, status));
+        check(&rt, alloc, given, STEADY, (output, message, status));
         for after in 0..output.len() {
             let failing = Failing {
                 after,
@@ -191,33 +143,17 @@ fn rows(rt: HostRuntime) {
             check(
                 &rt,
                 alloc,
-                texts,
+                given,
                 failing,
                 (&output[..after], WRITE_MESSAGE, 5),
             );
         }
-        // A refused load writes nothing, and does not flush.
-        if status != 1 {
-            check(&rt, alloc, texts, FAILING_FLUSH, (output, WRITE_MESSAGE, 5));
-        }
+        // A refused load does not flush.
+        let (message, status) = if status == 1 {
+            (message, 1)
+        } else {
+            (WRITE_MESSAGE, 5)
+        };
+        check(&rt, alloc, given, FAILING_FLUSH, (output, message, status));
     }
-}
-
-#[test]
-fn reading_requests_fails(rt: HostRuntime) {
-    let alloc = rt.alloc();
-    let mut written = ShortOut::new(alloc, 1, PLENTY).expect(&rt, "an output");
-    let mut messages = ShortOut::new(alloc, 1, PLENTY).expect(&rt, "a message stream");
-    let status = replay_whole(
-        alloc,
-        Format::Table,
-        &mut ShortIn::new(SNAPSHOT.as_bytes(), PLENTY),
-        &mut Some(ShortIn::new(SNAPSHOT_DISKS.as_bytes(), PLENTY)),
-        &mut ShortIn::failing("R s 0 1\nR s 0".as_bytes(), 5, 12),
-        &mut written,
-        &mut messages,
-    );
-    assert_eq!(&rt; written.as_slice(), "1 old base 0 1\n".as_bytes());
-    assert_eq!(&rt; messages.as_slice(), "dmremap: requests: read\n".as_bytes());
-    assert_eq!(&rt; status, 4);
 }

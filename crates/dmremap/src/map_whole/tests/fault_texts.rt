@@ -49,48 +49,51 @@ fn kinds_of_loads(rt: HostRuntime) {
         };
         let fault = LoadFault { kind, at };
         let message = message_of(&rt, alloc, words);
-        assert_eq!(&rt; fault.message().as_slice(), message.as_bytes(), "{kind}");
+        assert!(&rt; fault.message().as_slice() == message.as_bytes(), "{kind}");
     }
 }
 
-#[test]
-fn other_faults(rt: HostRuntime) {
-    let alloc = rt.alloc();
-    for (part, number, text) in [
-        (Part::Source, 7, "source: gap at 7"),
-        (Part::Disks, 1, "disks: gap at 1"),
-    ] {
-        let fault = LoadFault {
+static LOAD_FAULTS: [(LoadFault, &str); 2] = [
+    (
+        LoadFault {
             kind: LoadKind::Gap,
-            at: Place { part, number },
-        };
-        check_text(&rt, alloc, &fault, text);
-    }
-    for (fault, text) in [
-        (RequestFault::Form, "form"),
-        (RequestFault::Number, "number"),
-        (RequestFault::Length, "length"),
-    ] {
-        check_text(&rt, alloc, &fault, text);
-    }
-    check_text(&rt, alloc, &CheckFault::Form, "the text is no name");
-    check_text(&rt, alloc, &CheckFault::Memory, "out of memory");
-    check_text(&rt, alloc, &InFault, "the input failed");
-    check_text(&rt, alloc, &OutFault, "the output failed");
-}
+            at: Place {
+                part: Part::Source,
+                number: 7,
+            },
+        },
+        "source: gap at 7",
+    ),
+    (
+        LoadFault {
+            kind: LoadKind::Gap,
+            at: Place {
+                part: Part::Disks,
+                number: 1,
+            },
+        },
+        "disks: gap at 1",
+    ),
+];
 
-#[test]
-fn faults_of_a_mapper(rt: HostRuntime) {
-    let failed = MapFault::Sink(OutFault);
-    check_text(
-        &rt,
-        rt.alloc(),
-        &failed,
+static REQUEST_FAULTS: [(RequestFault, &str); 3] = [
+    (RequestFault::Form, "form"),
+    (RequestFault::Number, "number"),
+    (RequestFault::Length, "length"),
+];
+
+static CHECK_FAULTS: [(CheckFault, &str); 2] = [
+    (CheckFault::Form, "the text is no name"),
+    (CheckFault::Memory, "out of memory"),
+];
+
+static MAP_FAULTS: [(MapFault<OutFault>, &str); 2] = [
+    (
+        MapFault::Sink(OutFault),
         "the sink failed: the output failed",
-    );
-    let stopped: MapFault<OutFault> = MapFault::Stopped;
-    check_text(&rt, rt.alloc(), &stopped, "stopped by an earlier fault");
-}
+    ),
+    (MapFault::Stopped, "stopped by an earlier fault"),
+];
 
 static REPLAY_FAULTS: [(ReplayFault, &str); 4] = [
     (ReplayFault::Untidy, "untidy"),
@@ -100,8 +103,23 @@ static REPLAY_FAULTS: [(ReplayFault, &str); 4] = [
 ];
 
 #[test]
-fn faults_of_a_replay(rt: HostRuntime) {
-    for &(fault, text) in &REPLAY_FAULTS {
-        check_text(&rt, rt.alloc(), &fault, text);
+fn other_faults(rt: HostRuntime) {
+    let alloc = rt.alloc();
+    for (fault, text) in &LOAD_FAULTS {
+        check_text(&rt, alloc, fault, text);
     }
+    for (fault, text) in &REQUEST_FAULTS {
+        check_text(&rt, alloc, fault, text);
+    }
+    for (fault, text) in &CHECK_FAULTS {
+        check_text(&rt, alloc, fault, text);
+    }
+    for (fault, text) in &MAP_FAULTS {
+        check_text(&rt, alloc, fault, text);
+    }
+    for (fault, text) in &REPLAY_FAULTS {
+        check_text(&rt, alloc, fault, text);
+    }
+    check_text(&rt, alloc, &InFault, "the input failed");
+    check_text(&rt, alloc, &OutFault, "the output failed");
 }

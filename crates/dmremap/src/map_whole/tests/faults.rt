@@ -1,14 +1,29 @@
-//! Streams that fail or go short: sources, disk lists, outputs and message streams.
+//! Streams that go short or fail: sources, disk lists, requests, outputs and message streams.
 //!
-//! A stream fails after each number of its bytes in turn. What was written before is a beginning of
-//! what would have been written, and which fault is reported does not depend on where reads are cut.
-
-ghost use Rattle.std.specs.Prelude.{◌<◌};
+//! Reads and writes are cut in any way, and a stream fails after each number of its bytes in turn. What
+//! was written before is a beginning of what would have been written, and which fault is reported does
+//! not depend on where reads are cut.
 
 use super::*;
-use std::test::Fail;
+
+const READ_MESSAGE: &[u8] = b"dmremap: requests: read\n";
 
 const WRITE_MESSAGE: &[u8] = b"dmremap: output: write\n";
+
+/// How many bytes a call moves at most.
+static STEPS: [usize; 17] = [
+    1, 2, 3, 4, 5, 6, 7, 8, 9, 10, 11, 12, 13, 14, 15, 16, PLENTY,
+];
+
+/// A line and the rest of a line without its newline.
+const LINE_AND_REST: Case<'static> = Case {
+    name: "a line and a rest",
+    requests: b"R a 0 1\nR a 1 1",
+    output: b"1 R sda 50 1\n",
+    message: b"dmremap: request 2: unended\n",
+    status: 3,
+    ..VOLUME
+};
 
 /// A load that is refused.
 const REFUSED: Case<'static> = Case {
@@ -37,6 +52,17 @@ const NO_REQUESTS: Case<'static> = Case {
     ..VOLUME
 };
 
+/// A snapshot of which one chunk is written, with status lines asked for.
+const WRITTEN: Case<'static> = Case {
+    name: "a snapshot that is written",
+    source: "s: 0 32 snapshot base cow P 8\n",
+    disks: "base 32\ncow 32\n",
+    requests: b"W s 1 1\n",
+    flag: true,
+    output: b"1 copy base 0 8 cow 16\n1 W cow 17 1\ns: 0 32 snapshot 24/32 16\n",
+    ..VOLUME
+};
+
 /// An output whose flushes fail.
 const FAILING_FLUSH: Streams = Streams {
     flush_fails: true,
@@ -44,7 +70,10 @@ const FAILING_FLUSH: Streams = Streams {
 };
 
 /// Which of several faults is reported, and what is not asked of an output.
-pub(super) static FAULTS: [Case<'static>; 7] = [
+static ROWS: [Case<'static>; 12] = [
+    VOLUME,
+    LINE_AND_REST,
+    WRITTEN,
     Case {
         name: "a flush that fails",
         message: WRITE_MESSAGE,
@@ -102,39 +131,177 @@ pub(super) static FAULTS: [Case<'static>; 7] = [
         },
         ..REFUSED
     },
+    // Status lines: none after a read fault, and all of them where the flush alone fails.
+    Case {
+        name: "a read fault before status lines",
+        output: b"1 copy base 0 8 cow 16\n1 W cow 17 1\n",
+        message: READ_MESSAGE,
+        status: 4,
+        streams: Streams {
+            requests: Some(8),
+            ..STEADY
+        },
+        ..WRITTEN
+    },
+    Case {
+        name: "a flush that fails after status lines",
+        message: WRITE_MESSAGE,
+        status: 5,
+        streams: FAILING_FLUSH,
+        ..WRITTEN
+    },
 ];
 
 #[test]
-fn the_source_fails_after_each_byte(rt: HostRuntime) {
-    for count in 0..VOLUME.source.len() + 1 {
-        let case = Case {
-            name: "a source that fails",
+fn the_cutting_of_streams_shows_nowhere(rt: HostRuntime) {
+    for case in &ROWS {
+        check_at(&rt, rt.alloc(), case, &STEPS);
+    }
+}
+
+/// Which stream fails.
+#[derive(Clone, Copy)]
+enum Failing {
+    Source,
+    Disks,
+    Requests,
+    Output,
+    Messages,
+}
+
+/// What a stream fails after each byte of: both parts of a load; requests; answers, and status lines
+/// after them; and a message for each way in which a run ends with one.
+static FAILING: [(Case<'static>, Failing); 8] = [
+    (VOLUME, Failing::Source),
+    (VOLUME, Failing::Disks),
+    (LINE_AND_REST, Failing::Requests),
+    (VOLUME, Failing::Output),
+    (
+        Case {
+            name: "status lines",
+            source: "s: 0 8 snapshot base cow P 8\nt: 0 8 snapshot base cow P 16\n",
+            disks: "base 8\ncow 24\n",
+            requests: b"W t 0 1\n",
+            flag: true,
+            output: b"1 error 1\ns: 0 8 snapshot 16/24 16\nt: 0 8 snapshot Invalid\n",
+            ..VOLUME
+        },
+        Failing::Output,
+    ),
+    (REFUSED, Failing::Messages),
+    (BAD_REQUEST, Failing::Messages),
+    (
+        Case {
+            name: "an output that fails too",
+            output: b"1 R ",
+            message: WRITE_MESSAGE,
+            status: 5,
+            streams: Streams {
+                output: Some(4),
+                ..STEADY
+            },
+            ..VOLUME
+        },
+        Failing::Messages,
+    ),
+];
+
+/// How many bytes a stream of a case has.
+fn length_of(case: &Case<'_>, failing: Failing) -> usize {
+    match failing {
+        Failing::Source => case.source.len(),
+        Failing::Disks => case.disks.len(),
+        Failing::Requests => case.requests.len(),
+        Failing::Output => case.output.len(),
+        Failing::Messages => case.message.len(),
+    }
+}
+
+/// What comes of a case where a stream fails after this many bytes, fewer than it has or all of them.
+fn failed<'a>(case: Case<'a>, failing: Failing, count: usize) -> Case<'a> {
+    match failing {
+        Failing::Source => Case {
+            output: b"",
             message: b"dmremap: source: read\n",
+            status: 1,
             streams: Streams {
                 source: Some(count),
                 ..STEADY
             },
-            ..REFUSED
-        };
-        check_steps(&rt, rt.alloc(), &case);
-    }
-}
-
-#[test]
-fn the_disk_list_fails_after_each_byte(rt: HostRuntime) {
-    for count in 0..VOLUME.disks.len() + 1 {
-        let case = Case {
-            name: "a disk list that fails",
-            disks: VOLUME.disks,
+            ..case
+        },
+        Failing::Disks => Case {
+            output: b"",
             message: b"dmremap: disks: read\n",
+            status: 1,
             streams: Streams {
                 disks: Some(count),
                 ..STEADY
             },
-            ..REFUSED
-        };
-        check_steps(&rt, rt.alloc(), &case);
+            ..case
+        },
+        Failing::Requests => Case {
+            // Only the whole first line is answered.
+            output: if count < 8 { b"" } else { case.output },
+            message: READ_MESSAGE,
+            status: 4,
+            streams: Streams {
+                requests: Some(count),
+                ..STEADY
+            },
+            ..case
+        },
+        Failing::Output => written_up_to(case, count),
+        Failing::Messages => Case {
+            message: case.message.get(..count).unwrap_or(case.message),
+            streams: Streams {
+                messages: Some(count),
+                ..case.streams
+            },
+            ..case
+        },
     }
+}
+
+/// What comes of a case whose output takes this many bytes, and fails unless these are all.
+fn written_up_to<'a>(case: Case<'a>, count: usize) -> Case<'a> {
+    let streams = Streams {
+        output: Some(count),
+        ..STEADY
+    };
+    if count < case.output.len() {
+        Case {
+            output: &case.output[..count],
+            message: WRITE_MESSAGE,
+            status: 5,
+            streams,
+            ..case
+        }
+    } else {
+        Case { streams, ..case }
+    }
+}
+
+#[test]
+fn a_stream_fails_after_each_byte(rt: HostRuntime) {
+    for (case, failing) in &FAILING {
+        for count in 0..length_of(case, *failing).saturating_add(1) {
+            let case = failed(*case, *failing, count);
+            check_at(&rt, rt.alloc(), &case, &[1, PLENTY]);
+        }
+    }
+}
+
+/// A number of letters, and a text after them.
+fn letters(alloc: Global, count: usize, end: &str) -> Result<String, AllocError> {
+    let mut text = "a".repeat(alloc, count)?;
+    text.push_str(end)?;
+    Ok(text)
+}
+
+/// After how many of these bytes a stream of them fails, if it does.
+fn end_of(text: &str, fails: bool) -> Option<usize> {
+    if fails { Some(text.len()) } else { None }
 }
 
 /// The letters of a source and of a disk list, each with whether it fails after them, and the
@@ -174,8 +341,8 @@ fn check_parts<'a>(
     message: &'a [u8],
 ) {
     let streams = Streams {
-        source: end_of(source.as_bytes(), fails.0),
-        disks: end_of(disks.as_bytes(), fails.1),
+        source: end_of(source, fails.0),
+        disks: end_of(disks, fails.1),
         ..STEADY
     };
     let case = Case {
@@ -190,85 +357,58 @@ fn check_parts<'a>(
 }
 
 #[test]
-fn parts_are_read_before_any_text(rt: HostRuntime) -> Result<(), Fail> {
+fn parts_are_read_before_any_text(rt: HostRuntime) {
     let alloc = rt.alloc();
     for &(source, source_fails, disks, disks_fail, message) in &PARTS {
-        let source = letters(alloc, source, "")?;
-        let disks = letters(alloc, disks, "")?;
+        let source = letters(alloc, source, "").expect(&rt, "a source");
+        let disks = letters(alloc, disks, "").expect(&rt, "a disk list");
         let fails = (source_fails, disks_fail);
         check_parts(&rt, alloc, source.as_str(), disks.as_str(), fails, message);
     }
-    Ok(())
 }
 
-/// What is written where an output fails on its way: answers, and status lines after them.
-static WRITTEN: [Case<'static>; 2] = [
-    VOLUME,
-    Case {
-        name: "status lines",
-        source: "s: 0 8 snapshot base cow P 8\nt: 0 8 snapshot base cow P 16\n",
-        disks: "base 8\ncow 24\n",
-        requests: b"W t 0 1\n",
-        flag: true,
-        output: b"1 error 1\ns: 0 8 snapshot 16/24 16\nt: 0 8 snapshot Invalid\n",
-        ..VOLUME
-    },
+/// What a line of some letters gives: their number, whether there is a newline, whether reads fail
+/// after it, and the message and the status.
+static LONG_LINES: [(usize, &str, bool, &[u8], u8); 8] = [
+    (4096, "\n", false, b"dmremap: request 1: form\n", 3),
+    (4097, "\n", false, b"dmremap: request 1: long\n", 3),
+    (4096, "", false, b"dmremap: request 1: unended\n", 3),
+    (4097, "", false, b"dmremap: request 1: long\n", 3),
+    (4096, "\n", true, b"dmremap: request 1: form\n", 3),
+    (4097, "\n", true, b"dmremap: request 1: long\n", 3),
+    (4096, "", true, READ_MESSAGE, 4),
+    (4097, "", true, b"dmremap: request 1: long\n", 3),
 ];
 
-#[test]
-fn the_output_fails_after_each_byte(rt: HostRuntime) {
-    for case in &WRITTEN {
-        for count in 0..case.output.len() {
-            let cut = Case {
-                output: &case.output[..count],
-                message: WRITE_MESSAGE,
-                status: 5,
-                streams: Streams {
-                    output: Some(count),
-                    ..STEADY
-                },
-                ..*case
-            };
-            check_steps(&rt, rt.alloc(), &cut);
-        }
-        let streams = Streams {
-            output: Some(case.output.len()),
-            ..STEADY
-        };
-        check_steps(&rt, rt.alloc(), &Case { streams, ..*case });
-    }
-}
-
-/// A message for each way in which a run ends with one.
-static TOLD: [Case<'static>; 3] = [
-    REFUSED,
-    BAD_REQUEST,
-    Case {
-        name: "an output that fails too",
-        output: b"1 R ",
-        message: WRITE_MESSAGE,
-        status: 5,
+/// Asserts what a line gives after which reads may fail, however it is cut.
+fn check_line<'a>(
+    rt: &impl Abort,
+    alloc: Global,
+    line: &'a str,
+    fails: bool,
+    message: &'a [u8],
+    status: u8,
+) {
+    let case = Case {
+        name: "a long line",
+        requests: line.as_bytes(),
+        output: b"",
+        message,
+        status,
         streams: Streams {
-            output: Some(4),
+            requests: end_of(line, fails),
             ..STEADY
         },
         ..VOLUME
-    },
-];
+    };
+    check_at(rt, alloc, &case, &[1, 4096, 4097, 65536]);
+}
 
 #[test]
-fn messages_fail_after_each_byte(rt: HostRuntime) {
-    for case in &TOLD {
-        for count in 0..case.message.len() + 1 {
-            let cut = Case {
-                message: &case.message[..count],
-                streams: Streams {
-                    messages: Some(count),
-                    ..case.streams
-                },
-                ..*case
-            };
-            check_steps(&rt, rt.alloc(), &cut);
-        }
+fn lines_of_the_greatest_length(rt: HostRuntime) {
+    let alloc = rt.alloc();
+    for &(count, end, fails, message, status) in &LONG_LINES {
+        let line = letters(alloc, count, end).expect(&rt, "a line");
+        check_line(&rt, alloc, line.as_str(), fails, message, status);
     }
 }

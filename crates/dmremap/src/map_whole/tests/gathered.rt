@@ -7,39 +7,40 @@ use super::counted::{Fake, Step};
 use dm_table::{Counted, Gathered, Output, write_all};
 use std::cell::Cell;
 
+/// What each call does, how many calls there were after what was gathered was handed on and after a
+/// flush, and whether the flush succeeds.
+static CALLS: [(Step, Step, Step, usize, usize, bool); 7] = [
+    (Step::Moves(5), Step::Moves(0), Step::Fails, 1, 2, true),
+    (Step::Moves(5), Step::Fails, Step::Moves(0), 1, 2, false),
+    (Step::Moves(3), Step::Moves(2), Step::Moves(0), 2, 3, true),
+    // What could not be handed on stays gathered, and is no fault yet.
+    (Step::Moves(3), Step::Fails, Step::Moves(2), 2, 4, true),
+    (Step::Moves(3), Step::Moves(0), Step::Moves(2), 2, 4, true),
+    (Step::Moves(3), Step::Fails, Step::Moves(1), 2, 4, false),
+    (Step::Fails, Step::Fails, Step::Moves(5), 1, 2, false),
+];
+
 #[test]
 fn passes_on_once(rt: HostRuntime) {
-    for (script, handed_on, flushed, succeeds) in [
-        ([Step::Moves(5), Step::Moves(0), Step::Fails], 1, 2, true),
-        ([Step::Moves(5), Step::Fails, Step::Moves(0)], 1, 2, false),
-        ([Step::Moves(3), Step::Moves(2), Step::Moves(0)], 2, 3, true),
-        // What could not be handed on stays gathered, and is no fault yet.
-        ([Step::Moves(3), Step::Fails, Step::Moves(2)], 2, 4, true),
-        ([Step::Moves(3), Step::Moves(0), Step::Moves(2)], 2, 4, true),
-        ([Step::Moves(3), Step::Fails, Step::Moves(1)], 2, 4, false),
-        ([Step::Fails, Step::Fails, Step::Moves(5)], 1, 2, false),
-    ] {
+    for &(first, second, third, handed_on, flushed, succeeds) in &CALLS {
+        let script = [first, second, third];
         let calls = Cell::new(0);
         let mut output = Gathered::new(Counted::new(Fake {
             script: &script,
             calls: &calls,
         }));
+        let gathered = write_all(&mut output, &[1, 2, 3, 4, 5]);
         assert!(rt;
-            write_all(&mut output, &[1, 2, 3, 4, 5]).is_ok(),
-            "gathered"
+            gathered.is_ok() && calls.get() == 0,
+            "no call while there is room"
         );
-        assert_eq!(rt; calls.get(), 0, "calls while there is room");
         output.hand_on();
-        assert_eq!(rt;
-            calls.get(),
-            handed_on,
-            "calls after {handed_on} to hand on"
+        assert!(rt; calls.get() == handed_on, "{handed_on} calls to hand on");
+        let flush = output.flush();
+        assert!(rt;
+            flush.is_ok() == succeeds,
+            "a flush after {handed_on} calls"
         );
-        assert_eq!(rt;
-            output.flush().is_ok(),
-            succeeds,
-            "a flush after {handed_on}"
-        );
-        assert_eq!(rt; calls.get(), flushed, "calls after a flush");
+        assert!(rt; calls.get() == flushed, "{flushed} calls after a flush");
     }
 }

@@ -1,22 +1,11 @@
-//! Files of a load that are missing, end or fail, and how often each is asked.
+//! Files of a load that end or fail, and how often each is asked. Missing and unreadable ones are tested on
+//! the built program (`tests/outside`).
 
 use super::counted::{Fake, Step};
 use crate::part_file::PartFile;
-use dm_table::{Counted, LoadKind, Part, read_part};
+use dm_table::{Counted, Part, read_part};
 use std::alloc::Global;
 use std::cell::Cell;
-use std::fs::File;
-
-#[test]
-fn a_file_that_cannot_be_read(rt: HostRuntime) {
-    for path in ["/no/such/file", "/"] {
-        let mut input = Counted::new(PartFile::new(File::open(&rt, path)));
-        let fault = read_part(rt.alloc(), Part::Source, &mut input)
-            .err()
-            .expect(&rt, path);
-        assert_eq!(&rt; fault.kind, LoadKind::Read, "{path}");
-    }
-}
 
 /// How many bytes reading a part gives whose file does what a script says.
 fn part_len(alloc: Global, script: &[Step], calls: &Cell<usize>) -> Option<usize> {
@@ -26,19 +15,22 @@ fn part_len(alloc: Global, script: &[Step], calls: &Cell<usize>) -> Option<usize
     Some(text.len())
 }
 
+/// What each read of a file gives, how many bytes reading the part gives, and after how many reads.
+static READS: [(Step, Step, Step, Option<usize>, usize); 5] = [
+    (Step::Moves(0), Step::Moves(4), Step::Fails, Some(0), 1),
+    (Step::Moves(4), Step::Moves(0), Step::Moves(4), Some(4), 2),
+    (Step::Moves(4), Step::Moves(1), Step::Moves(0), Some(5), 3),
+    (Step::Fails, Step::Moves(4), Step::Moves(0), None, 1),
+    (Step::Moves(4), Step::Fails, Step::Moves(0), None, 2),
+];
+
 #[test]
 fn nothing_is_asked_after_an_end_or_a_fault(rt: HostRuntime) {
-    // What each read of a file gives, how many bytes reading the part gives, and after how many reads.
-    for (script, bytes, reads) in [
-        ([Step::Moves(0), Step::Moves(4), Step::Fails], Some(0), 1),
-        ([Step::Moves(4), Step::Moves(0), Step::Moves(4)], Some(4), 2),
-        ([Step::Moves(4), Step::Moves(1), Step::Moves(0)], Some(5), 3),
-        ([Step::Fails, Step::Moves(4), Step::Moves(0)], None, 1),
-        ([Step::Moves(4), Step::Fails, Step::Moves(0)], None, 2),
-    ] {
+    for &(first, second, third, bytes, reads) in &READS {
+        let script = [first, second, third];
         let calls = Cell::new(0);
         let read = part_len(rt.alloc(), &script, &calls);
         assert!(rt; read == bytes, "bytes after {reads} reads");
-        assert_eq!(rt; calls.get(), reads, "reads");
+        assert!(rt; calls.get() == reads, "{reads} reads");
     }
 }
