@@ -29,6 +29,7 @@ import loads
 import lookers
 import printing
 import ranges
+import refusals
 import replays
 import reports
 import request_lines
@@ -58,6 +59,7 @@ def main():
         launcher.check(tally, program, TOP, built == BUILT)
         documents.check(tally, program, TOP)
         lookers.check(tally, TOP)
+        refusals.check(tally, TOP)
     return tally.close()
 
 
