@@ -1,9 +1,10 @@
 -- Counts of comparisons against binary digits, and the line of a sector by the starts of lines in a row.
-use Rattle.std.proofs.Common.{◌≡◌, ℕ, zero, suc, ◌+◌, ◌*◌, ◌/◌, ◌^◌, ◌<◌, ◌≤◌, Bool, true, false, List, [], ◌∷◌, ◌++◌, Some, drop, length, length-append, get_or, map, refl, sym, ap, subst, ◌∙◌, add-one, arith}
+use Rattle.std.proofs.Common.{◌≡◌, ◌⊎◌, inl, inr, ℕ, zero, suc, ◌+◌, ◌*◌, ◌/◌, ◌^◌, ◌<◌, ◌≤◌, Bool, true, false, List, [], ◌∷◌, ◌++◌, Some, drop, length, length-append, get_or, map, refl, sym, ap, subst, ◌∙◌, add-one, arith}
 use Rattle.std.specs.Prelude.{◌==◌, ◌-◌, option_map, slice_get}
 use Rattle.std.specs.List.{AllByRecursion}
 use Rattle.std.proofs.lemmas.Nat.{pow_pos}
 use Rattle.std.proofs.lemmas.List.{length-drop}
+use Rattle.std.proofs.lemmas.List.Elements.{All-from_recursion}
 use Rattle.std.proofs.lemmas.Bool.{eqb-true}
 use Rattle.std.proofs.lemmas.Option.{slice_get-get_or}
 use Rattle.std.proofs.Math.Nat.{mul-le-mul_left, pow-succ'}
@@ -14,12 +15,14 @@ use Rattle.dm_table.specs.declared.table.Line.{Line}
 use Rattle.dm_stack.specs.declared.found_line.FoundLine.{FoundLine}
 use Rattle.dm_stack.specs.Below.{found_at, found_line, found_lines, line_of}
 use Rattle.dm_stack.specs.Description.{Description, device_len, end_of, lines_at}
-use Rattle.dm_stack.specs.LineSearch.{EndsAt, StartsAfter, StartsBy, binary_digits, digits_to}
-use Rattle.dm_stack.specs.Soundness.{IsSound, all_lines, past}
+use Rattle.dm_stack.specs.LineSearch.{EndsAreSmall, EndsAt, IsLast, StartsAfter, StartsBy, binary_digits, digits_to}
+use Rattle.dm_stack.specs.declared.line_search.LastLine.{LastLine}
+use Rattle.dm_stack.specs.Soundness.{IsSound, all_lines, is_large, past}
+use Rattle.dm_stack.proofs.HandedOn.{line_within}
 use Rattle.dm_stack.proofs.LayoutLemmas.{AreInRow}
 use Rattle.dm_stack.proofs.Passes.{append_none, passes_all}
 use Rattle.dm_stack.proofs.SameLine.{holds_none}
-use Rattle.dm_stack.proofs.SoundLines.{holds_from, device_sound, lines_filled, lines_there, positive, there}
+use Rattle.dm_stack.proofs.SoundLines.{holds_from, device_small, device_sound, lines_filled, lines_there, positive, there}
 
 -- Binary digits
 
@@ -182,14 +185,40 @@ line_there stack id index sector sound within inside from next =
     (subst (λ (ls : List Line). AreInRow 0 ls) same (device_sound stack id d.it sound d.at).placed)
     inside from next
 
-pub next_there : (stack : Description) (id next sector : ℕ) → IsSound stack → id < length stack.devices → sector < device_len stack id → 0 < next → EndsAt (found_lines stack id) (next - 1) sector
-    → StartsBy (found_lines stack id) next sector × StartsAfter (found_lines stack id) (next + 1) sector
-next_there stack id zero sector sound within inside some ends = absurd (omega (arith, some))
-next_there stack id (suc index) sector sound within inside some ends =
+-- a sector at the end of the line of an index is in the next one
+next_there : (stack : Description) (id index sector : ℕ) → IsSound stack → id < length stack.devices → sector < device_len stack id → EndsAt (found_lines stack id) index sector
+    → StartsBy (found_lines stack id) (suc index) sector × StartsAfter (found_lines stack id) (suc (suc index)) sector
+next_there stack id index sector sound within inside ends =
     let d = there stack.devices id within in
     let same = sym (lines_there stack id d.it d.at) in
-    let before : suc index - 1 ≡ index = omega arith in
-    let both = in_row_next stack 0 (lines_at stack id) index sector
+    in_row_next stack 0 (lines_at stack id) index sector
     (subst (λ (ls : List Line). AreInRow 0 ls) same (device_sound stack id d.it sound d.at).placed)
-    (lines_filled stack id sound within) inside (subst (λ (n : ℕ). EndsAt (found_lines stack id) n sector) before ends) in
-    (both.0, subst (λ (n : ℕ). StartsAfter (found_lines stack id) n sector) (sym (add-one (suc index))) both.1)
+    (lines_filled stack id sound within) inside ends
+
+pub next_after : (stack : Description) (last : LastLine) (id sector : ℕ) → IsSound stack → id < length stack.devices → sector < device_len stack id → IsLast stack last → last.device ≡ id → last.end ≡ sector
+    → StartsBy (found_lines stack id) (last.index + 1) sector × StartsAfter (found_lines stack id) (last.index + 2) sector
+next_after stack last id sector sound within inside is here at =
+    let small = device_small stack id sound within in
+    let ends = is (omega (arith, at, inside, small)) in
+    let there = subst (λ (d : ℕ). EndsAt (found_lines stack d) last.index last.end) here ends in
+    let next = next_there stack id last.index sector sound within inside (subst (λ (s : ℕ). EndsAt (found_lines stack id) last.index s) at there) in
+    let one : suc last.index ≡ last.index + 1 = omega arith in
+    let two : suc (suc last.index) ≡ last.index + 2 = omega arith in
+    (subst (λ (n : ℕ). StartsBy (found_lines stack id) n sector) one next.0, subst (λ (n : ℕ). StartsAfter (found_lines stack id) n sector) two next.1)
+
+-- another line of a device that becomes the last one
+pub last_kept : (stack : Description) (id : ℕ) (old new : LastLine) → IsLast stack old → (new ≡ old) ⊎ ((new.device ≡ id) × EndsAt (found_lines stack id) new.index new.end) → IsLast stack new
+last_kept stack id old new is (inl same) = subst (λ (last : LastLine). IsLast stack last) (sym same) is
+last_kept stack id old new is (inr found) = λ small. subst (λ (d : ℕ). EndsAt (found_lines stack d) new.index new.end) (sym found.0) found.1
+
+small_found : (stack : Description) (lines : List Line) → AllByRecursion (λ line. is_large line ≡ false) lines → AllByRecursion (λ line. line.start + line.len ≤ 2 ^ 50) (map (found_line stack) lines)
+small_found stack [] small = tt
+small_found stack (line ∷ lines) small = (line_within line small.0, small_found stack lines small.1)
+
+-- no line ends beyond the greatest length
+pub small_there : (stack : Description) (id : ℕ) → IsSound stack → id < length stack.devices → EndsAreSmall (found_lines stack id)
+small_there stack id sound within =
+    let d = there stack.devices id within in
+    All-from_recursion (λ line. line.start + line.len ≤ 2 ^ 50) (found_lines stack id)
+    (small_found stack (lines_at stack id)
+    (subst (λ (ls : List Line). AllByRecursion (λ line. is_large line ≡ false) ls) (sym (lines_there stack id d.it d.at)) (device_sound stack id d.it sound d.at).small))

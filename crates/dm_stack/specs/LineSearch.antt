@@ -1,6 +1,11 @@
 -- The line of a sector, found by the starts of lines.
 use Rattle.std.specs.Prelude.{◌≡◌, ℕ, zero, suc, ◌+◌, ◌/◌, ◌==◌, ◌≤◌, ◌<◌, ⊤, List, MatchOption, length, slice_get, if◌then◌else◌}
+use Rattle.std.specs.List.{All}
 use Rattle.dm_stack.specs.declared.found_line.FoundLine.{FoundLine}
+use Rattle.dm_stack.specs.declared.limits.TheConstants.{MOST_LENGTH}
+use Rattle.dm_stack.specs.declared.line_search.LastLine.{LastLine}
+use Rattle.dm_stack.specs.Below.{found_lines}
+use Rattle.dm_stack.specs.Description.{Description}
 
 -- there is a line at an index, and it starts at a sector or before it
 abbrev pub StartsBy : List FoundLine → (index sector : ℕ) → Type 0
@@ -13,6 +18,14 @@ StartsAfter lines index sector = MatchOption (slice_get lines index) ⊤ (λ lin
 -- there is a line at an index, and a sector is the first after it
 abbrev pub EndsAt : List FoundLine → (index sector : ℕ) → Type 0
 EndsAt lines index sector = MatchOption (slice_get lines index) ⊥ (λ line. line.start + line.len ≡ sector)
+
+-- lines that end within the greatest length
+abbrev pub EndsAreSmall : List FoundLine → Type 0
+EndsAreSmall lines = All (λ line. line.start + line.len ≤ MOST_LENGTH) lines
+
+-- the line that was found last ends where it says so; before the first search that is beyond every device
+abbrev pub IsLast : Description → LastLine → Type 0
+IsLast stack last = last.end ≤ MOST_LENGTH → EndsAt (found_lines stack last.device) last.index last.end
 
 -- the number of binary digits of a number that has at most `most` of them
 abbrev pub digits_to : (most number : ℕ) → ℕ

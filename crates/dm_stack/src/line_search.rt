@@ -2,29 +2,57 @@
 //!
 //! This is the one place where lines are found, and each comparison of a start with the sector is
 //! counted here. The first line is never compared, since every sector is at its start or after it. Of
-//! more than three lines, none is compared where the sector comes right after the line that was found
-//! last: it is in the next one, as when a range goes over many lines.
+//! more than three lines, the one that was found last is remembered, with the sector at which it ends. A
+//! range that goes on there, as over many lines, is in the next line, and no start is compared.
 
-ghost use Rattle.std.specs.Prelude.{◌≡◌, ◌+◌, ◌-◌, ◌<◌, length, true};
-ghost use Rattle.dm_stack.specs.LineSearch.{EndsAt, Finds, StartsAfter, StartsBy};
+ghost use Rattle.std.specs.Prelude.{◌≡◌, ◌⊎◌, ◌<◌, ◌+◌, ◌^◌, length};
+ghost use Rattle.dm_stack.specs.LineSearch.{EndsAt, Finds, EndsAreSmall, StartsAfter, StartsBy};
 
 use crate::found_line::FoundLine;
+use crate::id::DeviceId;
 
-/// The index of a line that starts at the sector or before it, where the next one starts after it,
-/// and how many starts were compared with the sector.
+/// The line that was found last: its device, its index there, and the sector after its last one.
+#[derive(Clone, Copy)]
+pub(crate) struct LastLine {
+    device: DeviceId,
+    index: usize,
+    end: u64,
+}
+
+impl LastLine {
+    /// That of no search yet. No sector of a device is at its end.
+    pub(crate) fn none() -> LastLine
+        ensures { result.end + 1 ≡ 2 ^ 64 }
+    {
+        LastLine {
+            device: DeviceId::new(0),
+            index: 0,
+            end: u64::MAX,
+        }
+    }
+}
+
+/// The index of a line of this device that starts at the sector or before it, where the next one
+/// starts after it, and how many starts were compared with the sector.
 ///
-/// The line before the index `next` may be the one that was found last, and that index becomes the one
-/// after the line that is found. A search among up to three lines leaves it as it is.
-pub(crate) fn find(lines: &[FoundLine], next: &mut usize, sector: u64) -> (usize, u64)
+/// The line becomes the last one, unless the device has only up to three.
+pub(crate) fn find(
+    lines: &[FoundLine],
+    device: DeviceId,
+    last: &mut LastLine,
+    sector: u64,
+) -> (usize, u64)
     requires first { StartsBy lines.now 0 sector }
-    requires follows { 0 < next.old → EndsAt lines.now (next.old - 1) sector
-        → StartsBy lines.now next.old sector × StartsAfter lines.now (next.old + 1) sector }
-    ensures { Finds lines.now sector result }
+    requires small { EndsAreSmall lines.now }
+    requires follows { last.old.device ≡ device → last.old.end ≡ sector
+        → StartsBy lines.now (last.old.index + 1) sector × StartsAfter lines.now (last.old.index + 2) sector }
+    ensures found { Finds lines.now sector result }
+    ensures last { (last.new ≡ last.old) ⊎ (last.new.device ≡ device × EndsAt lines.now last.new.index last.new.end) }
 {
     if lines.len() < 4 {
         find_of_few(lines, sector)
     } else {
-        find_among(lines, next, sector)
+        find_among(lines, device, last, sector)
     }
 }
 
@@ -49,36 +77,41 @@ fn find_of_few(lines: &[FoundLine], sector: u64) -> (usize, u64)
 
 /// The same among many lines, out of the way of those that have few.
 #[inline(never)]
-fn find_among(lines: &[FoundLine], next: &mut usize, sector: u64) -> (usize, u64)
+fn find_among(
+    lines: &[FoundLine],
+    device: DeviceId,
+    last: &mut LastLine,
+    sector: u64,
+) -> (usize, u64)
     requires first { StartsBy lines.now 0 sector }
-    requires follows { 0 < next.old → EndsAt lines.now (next.old - 1) sector
-        → StartsBy lines.now next.old sector × StartsAfter lines.now (next.old + 1) sector }
-    ensures { Finds lines.now sector result }
+    requires small { EndsAreSmall lines.now }
+    requires follows { last.old.device ≡ device → last.old.end ≡ sector
+        → StartsBy lines.now (last.old.index + 1) sector × StartsAfter lines.now (last.old.index + 2) sector }
+    ensures found { Finds lines.now sector result }
+    ensures device { last.new.device ≡ device }
+    ensures end { EndsAt lines.now last.new.index last.new.end }
 {
-    if ends_before(lines, *next, sector) {
-        let index = *next;
-        *next = index + 1;
-        return (index, 0);
-    }
-    let (index, comparisons) = search(lines, sector);
-    *next = index + 1;
+    let (index, comparisons) = after_last(lines, device, last, sector);
+    let line = &lines[index];
+    *last = LastLine {
+        device,
+        index,
+        end: line.start + line.len,
+    };
     (index, comparisons)
 }
 
-/// Whether there is a line of this index after one that ends at the sector.
-fn ends_before(lines: &[FoundLine], next: usize, sector: u64) -> bool
-    ensures some { result ≡ true → 0 < next }
-    ensures within { result ≡ true → next < length lines.now }
-    ensures ends { result ≡ true → EndsAt lines.now (next - 1) sector }
+/// The line after the last one, where the sector comes right after that; else one that is searched for.
+fn after_last(lines: &[FoundLine], device: DeviceId, last: &LastLine, sector: u64) -> (usize, u64)
+    requires first { StartsBy lines.now 0 sector }
+    requires follows { last.now.device ≡ device → last.now.end ≡ sector
+        → StartsBy lines.now (last.now.index + 1) sector × StartsAfter lines.now (last.now.index + 2) sector }
+    ensures { Finds lines.now sector result }
 {
-    if next == 0 || next >= lines.len() {
-        return false;
+    if last.end == sector && last.device == device {
+        return (last.index + 1, 0);
     }
-    let line = &lines[next - 1];
-    match sector.checked_sub(line.start) {
-        Some(distance) => distance == line.len,
-        None => false,
-    }
+    search(lines, sector)
 }
 
 fn search(lines: &[FoundLine], sector: u64) -> (usize, u64)

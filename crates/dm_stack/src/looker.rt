@@ -12,6 +12,7 @@ ghost use Rattle.dm_stack.specs.LineSearch.{binary_digits};
 
 use crate::found_line::Found;
 use crate::id::{DeviceId, DiskId};
+use crate::line_search::LastLine;
 use crate::stack::Stack;
 use std::marker::Model;
 
@@ -21,16 +22,19 @@ pub struct Looker<'s> {
     stack: &'s Stack,
     searches: u64,
     comparisons: u64,
-    /// The index after that of the line that was found last, of those in devices of many lines.
-    next: usize,
+    /// The line that was found last, of those in devices of many lines.
+    last: LastLine,
 }
 
 impl<'s> Model for Looker<'s> {
+    ghost use Rattle.dm_stack.specs.LineSearch.{IsLast};
     ghost use Rattle.dm_stack.specs.Loaded.{Looking};
 
     ghost Value = { Looking };
 
     ghost view = { λ looker. record { stack = looker.stack.now; searches = looker.searches; comparisons = looker.comparisons } };
+
+    ghost invariant = { λ looker. IsLast looker.stack.now looker.last };
 }
 
 impl<'s> Looker<'s> {
@@ -44,15 +48,15 @@ impl<'s> Looker<'s> {
             stack,
             searches: 0,
             comparisons: 0,
-            next: 0,
+            last: LastLine::none(),
         }
     }
 
     /// The line of a sector of a device, with ids for names: also that of each other sector that it
     /// holds. The search is counted, and so is each comparison of a line's start with the sector: at
     /// most as many as the number of the device's lines has binary digits, and so at most 17; of more
-    /// than three lines, none where the sector comes right after the line that was found last. Once the
-    /// searches are at the greatest number, neither count grows.
+    /// than three lines, none where the sector comes right after the line that was found last, whose end
+    /// the looker keeps. Once the searches are at the greatest number, neither count grows.
     ///
     /// The id is one of the stack, and the sector is below the device's length. No memory is taken.
     pub fn look(&mut self, device: DeviceId, sector: u64) -> Found<'s>
@@ -68,7 +72,7 @@ impl<'s> Looker<'s> {
         ensures most { self.new.comparisons ≤ self.old.comparisons + 17 * (self.new.searches - self.old.searches) }
     {
         let stack = self.stack;
-        let (line, comparisons) = stack.find_line(device, sector, &mut self.next);
+        let (line, comparisons) = stack.find_line(device, sector, &mut self.last);
         // Both or neither: no comparison is counted without its search.
         if self.searches < u64::MAX {
             self.searches += 1;

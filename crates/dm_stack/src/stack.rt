@@ -9,7 +9,7 @@ ghost use Rattle.dm_stack.specs.Below.{HoldsSoundly, found_at, found_lines};
 ghost use Rattle.dm_stack.specs.Claims.{IsFirstClash, IsThere, IsTidy, IsTop, claims};
 ghost use Rattle.dm_stack.specs.Description.{Description, device_len, disk_len, is_ro_at, is_same, name_at, disk_name_at, lines_at};
 ghost use Rattle.dm_stack.specs.Loaded.{IsDeeperByOne, IsLength, disk_text, snapshots, stack_depth, AreSnapshots};
-ghost use Rattle.dm_stack.specs.LineSearch.{binary_digits};
+ghost use Rattle.dm_stack.specs.LineSearch.{IsLast, binary_digits};
 ghost use Rattle.dm_stack.specs.Soundness.{IsRefusedBy, IsSound};
 ghost use Rattle.dm_stack.specs.declared.claim.Claim.{Claim};
 ghost use Rattle.dm_stack.specs.declared.clash.Clash.{Clash};
@@ -27,7 +27,7 @@ use crate::found_line::{Found, FoundLine, FoundTable};
 use crate::id::{DeviceId, DiskId};
 use crate::indexed::Indexed;
 use crate::layout::end_of;
-use crate::line_search::find;
+use crate::line_search::{LastLine, find};
 use crate::load::check;
 use crate::looker::Looker;
 use crate::name_index::NameIndex;
@@ -307,24 +307,26 @@ impl Stack {
         self.tables[device.index()].as_slice()
     }
 
-    /// The line of a sector, and how many starts of lines were compared with it: none where it comes
-    /// right after the line before the index `next`, which becomes that after the line that is found.
+    /// The line of a sector, and how many starts of lines were compared with it: of more than three
+    /// lines, none where it comes right after the last line, which becomes the one that is found.
     pub(crate) fn find_line(
         &self,
         device: DeviceId,
         sector: u64,
-        next: &mut usize,
+        last: &mut LastLine,
     ) -> (Found<'_>, u64)
         requires device { device < length self.now.devices }
         requires sector { sector < device_len self.now device }
+        requires last { IsLast self.now last.old }
         ensures line { found_at self.now device sector ≡ Some result.0.now }
         ensures holds { HoldsSoundly self.now device result.0.now sector }
         ensures all { (other : ℕ) → result.0.now.start ≤ other → other < result.0.now.start + result.0.now.len → found_at self.now device other ≡ Some result.0.now }
         ensures few { result.1 ≤ binary_digits (length (lines_at self.now device)) }
         ensures most { result.1 ≤ 17 }
+        ensures last { IsLast self.now last.new }
     {
         let lines = self.lines(device);
-        let (index, comparisons) = find(lines, next, sector);
+        let (index, comparisons) = find(lines, device, last, sector);
         (&lines[index], comparisons)
     }
 }

@@ -6,7 +6,7 @@ use Rattle.dm_stack.specs.declared.found_line.FoundLine.{FoundLine}
 use Rattle.dm_stack.specs.Below.{HoldsSoundly, found_at}
 use Rattle.dm_stack.specs.LineSearch.{StartsAfter, StartsBy, binary_digits}
 use Rattle.dm_stack.specs.Description.{lines_at}
-use Rattle.dm_stack.proofs.LineSearchLemmas.{few_halvings, first_starts, line_there, next_there}
+use Rattle.dm_stack.proofs.LineSearchLemmas.{few_halvings, first_starts, last_kept, line_there, next_after, small_there}
 use Rattle.dm_stack.proofs.SameLine.{same_found}
 use Rattle.dm_stack.proofs.SoundLines.{sector_found}
 use Rattle.dm_stack.proofs.stack.Stack.find_line.Goals as goal
@@ -17,7 +17,10 @@ find-index-requires-clause-first c =
 
 pub find-index-requires-clause-follows : goal.find-index-requires-clause-follows
 find-index-requires-clause-follows c =
-    rw c.lines-lines.ensures.lines (next_there c.args.self.now c.args.device c.args.next.now c.args.sector c.lines-lines.ensures.sound c.requires.device c.requires.sector)
+    rw c.lines-lines.ensures.lines (next_after c.args.self.now c.args.last.now c.args.device c.args.sector c.lines-lines.ensures.sound c.requires.device c.requires.sector c.requires.last)
+
+pub find-index-requires-clause-small : goal.find-index-requires-clause-small
+find-index-requires-clause-small c = rw c.lines-lines.ensures.lines (small_there c.args.self.now c.args.device c.lines-lines.ensures.sound c.requires.device)
 
 pub returns : goal.returns
 returns c =
@@ -25,19 +28,20 @@ returns c =
     let sound = c.lines-lines.ensures.sound in
     let lines = c.lines-lines.ensures.lines in
     let there = line_there st c.args.device c.find-index.result.0 c.args.sector sound c.requires.device c.requires.sector
-    (subst (λ (ls : List FoundLine). StartsBy ls c.find-index.result.0 c.args.sector) lines c.find-index.ensures.from)
+    (subst (λ (ls : List FoundLine). StartsBy ls c.find-index.result.0 c.args.sector) lines c.find-index.ensures.found.from)
     (subst (λ (ls : List FoundLine). StartsAfter ls (suc c.find-index.result.0) c.args.sector) lines
-    (subst (λ (index : ℕ). StartsAfter c.lines-lines.result.now index c.args.sector) (add-one c.find-index.result.0) c.find-index.ensures.next)) in
-    let here = slice_get_read c.lines-lines.result.now _ c.find-index.result.0 c.index-lines-index.result refl c.find-index.ensures.within c.index-lines-index.is in
+    (subst (λ (index : ℕ). StartsAfter c.lines-lines.result.now index c.args.sector) (add-one c.find-index.result.0) c.find-index.ensures.found.next)) in
+    let here = slice_get_read c.lines-lines.result.now _ c.find-index.result.0 c.index-lines-index.result refl c.find-index.ensures.found.within c.index-lines-index.is in
     let is : found_at st c.args.device c.args.sector ≡ Some c.index-lines-index.result =
     sym there ∙ ap (λ (ls : List FoundLine). slice_get ls c.find-index.result.0) (sym lines) ∙ here in
     let f = sector_found st c.args.device c.args.sector sound c.requires.device c.requires.sector in
     let same : f.line ≡ c.index-lines-index.result = let known = f.is in cc in
-    let few = subst (λ (n : ℕ). c.find-index.result.1 ≤ binary_digits n) (ap length lines ∙ length-map (lines_at st c.args.device) _) c.find-index.ensures.few in
+    let few = subst (λ (n : ℕ). c.find-index.result.1 ≤ binary_digits n) (ap length lines ∙ length-map (lines_at st c.args.device) _) c.find-index.ensures.found.few in
     record {
       line = is;
       holds = subst (λ (line : FoundLine). HoldsSoundly st c.args.device line c.args.sector) same f.soundly;
       all = λ other from before. same_found st c.args.device c.args.sector other c.index-lines-index.result sound c.requires.device is from before;
       few = few;
       most = few_halvings st c.args.device c.find-index.result.1 sound c.requires.device few;
+      last = last_kept st c.args.device c.args.last.now c.find-index.new.last c.requires.last (rw lines at c.find-index.ensures.last);
     }
