@@ -34,6 +34,7 @@ use Rattle.dm_map.specs.Snapshots.{number_in, read_numbered, read_over}
 use Rattle.dm_map.specs.State.{State, Taken, taken_at}
 use Rattle.dm_map.specs.Steps.{Step, keep}
 use Rattle.dm_map.specs.Reads.{by_below, read_below, read_unit}
+use Rattle.dm_map.specs.Homes.{AreHomesFreeOfLevels, home_to, nowhere}
 use Rattle.dm_map.specs.Mapping.{write_line, write_target, write_step, IsFreeOfLevels}
 use Rattle.dm_map.proofs.Stripes.{at_place}
 
@@ -214,4 +215,26 @@ pub writes_free : (stack : Description) → IsSound stack → IsFreeOfLevels sta
 unfolding OnLower
 writes_free stack sound = record {
   same = λ device levels sector state there enough. same_write stack (suc MOST_DEPTH) levels MOST_DEPTH (Device device) state sector (shallow_at stack device levels sound there enough);
+}
+
+-- The homes at two numbers of levels
+
+over_none : (P : ℕ → Type 0) → GoesOn (λ snapshot place. IsError) P
+unfolding GoesOn OnBelow
+over_none P snapshot sector store origin = tt
+
+same_home : (stack : Description) (n j k : ℕ) (lower : Lower) (sector : ℕ) → OnLower (IsShallow (links stack) n j k) lower → home_to stack j lower sector ≡ home_to stack k lower sector
+unfolding OnLower home_to
+same_home stack n j k (Disk disk) sector h = refl
+same_home stack zero j k (Device device) sector h = absurd (omega (arith, h.seen))
+same_home stack (suc n) zero k (Device device) sector h = absurd (some_level (links stack) n k device h.first)
+same_home stack (suc n) (suc j) zero (Device device) sector h = absurd (some_level (links stack) n j device h.second)
+same_home stack (suc n) (suc j) (suc k) (Device device) sector h =
+    same_below (IsShallow (links stack) n j k) (below (λ snapshot place. IsError) stack device sector) nowhere nowhere (λ to s. home_to stack j to s) (λ to s. home_to stack k to s)
+    (on_below (λ snapshot place. IsError) stack (IsShallow (links stack) n j k) device sector (over_none (IsShallow (links stack) n j k)) (named_shallow (links stack) n j k device h)) (λ to s on. same_home stack n j k to s on)
+
+pub homes_free : (stack : Description) → IsSound stack → AreHomesFreeOfLevels stack
+unfolding OnLower
+homes_free stack sound = record {
+  same = λ device levels sector there enough. same_home stack (suc MOST_DEPTH) levels MOST_DEPTH (Device device) sector (shallow_at stack device levels sound there enough);
 }

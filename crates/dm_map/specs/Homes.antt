@@ -1,10 +1,11 @@
 -- Where a sector of a store lies on a disk.
-use Rattle.std.specs.Prelude.{◌≡◌, ℕ, zero, suc, ◌+◌, ◌<◌, ◌≤◌}
+use Rattle.std.specs.Prelude.{◌≡◌, ℕ, zero, suc, ◌+◌, ◌<◌, ◌≤◌, length}
 use Rattle.dm_stack.specs.declared.graph.TheConstants.{MOST_DEPTH}
 use Rattle.dm_stack.specs.declared.id.Lower.{Lower}
 use Rattle.dm_stack.specs.declared.id.Lower.TheVariants.{Device, Disk}
 use Rattle.dm_stack.specs.Below.{IsError, below}
 use Rattle.dm_stack.specs.Description.{Description}
+use Rattle.dm_stack.specs.Soundness.{depth_of}
 use Rattle.dm_map.specs.declared.ready.HomeStretch.{HomeStretch}
 use Rattle.dm_map.specs.Reads.{by_below}
 use Rattle.dm_map.specs.Units.{IsOnDisk}
@@ -27,6 +28,10 @@ home_to stack (suc levels) (Device device) sector =
 -- no stack has more levels
 abbrev pub home : Description → Lower → ℕ → Home
 home stack lower sector = home_to stack MOST_DEPTH lower sector
+
+-- any number of levels that is at least a device's depth gives the homes that the greatest does
+pub record AreHomesFreeOfLevels (stack : Description) : Type 0 where
+  pub same : (device levels sector : ℕ) → device < length stack.devices → depth_of stack device ≤ levels → home_to stack levels (Device device) sector ≡ home stack (Device device) sector
 
 -- the homes of len sectors go on from one
 abbrev pub GoOn : (homes : ℕ → Home) → (sector disk start len : ℕ) → Type 0

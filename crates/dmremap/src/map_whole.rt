@@ -14,6 +14,7 @@ ghost use Rattle.dm_stack.specs.Description.{Description};
 ghost use Rattle.dm_stack.specs.declared.graph.TheConstants.{MOST_DEPTH};
 ghost use Rattle.dm_stack.specs.declared.limits.TheConstants.{MOST_CHUNK, MOST_DEVICES, MOST_DISKS, MOST_LENGTH, MOST_LINES, MOST_STRIPES};
 ghost use Rattle.dm_stack.specs.Soundness.{IsSound};
+ghost use Rattle.dm_map.specs.Homes.{AreHomesFreeOfLevels};
 ghost use Rattle.dm_map.specs.Mapping.{IsFreeOfLevels};
 ghost use Rattle.dm_map.specs.Units.{BlockUnit};
 ghost use Rattle.dm_stream.specs.declared.lines.TheConstants.{MOST_LINE_BYTES};
@@ -74,8 +75,10 @@ pub fn map_whole<S: Input, D: Input, Q: Input, W: Output, M: Output>(
     // The pieces of an answer are the fewest that its units can be made of.
     ensures fewest { (units : List BlockUnit) → AreFewest units (fewest units) }
 
-    // The number of levels of devices that a sector is followed through never truncates a lookup.
-    ensures levels { (description : Description) → IsSound description → IsFreeOfLevels description Op.Read × IsFreeOfLevels description Op.Write }
+    // The number of levels of devices that a sector is followed through never truncates a lookup,
+    // be it of a read, of a write or of where a store keeps a sector.
+    ensures levels { (description : Description) → IsSound description
+        → IsFreeOfLevels description Op.Read × IsFreeOfLevels description Op.Write × AreHomesFreeOfLevels description }
 
     // Unless the output failed or memory ran out, the deliveries determine everything.
     ensures whole { result ≢ 5 → result ≢ 6 → (message : List ℕ) × GiveWhole format status

@@ -2,7 +2,7 @@ use Rattle.std.proofs.Common.{ap, ◌≡◌, ◌∙◌}
 use Rattle.dm_table.specs.DeviceIo.{delivery}
 use Rattle.dm_table.specs.LoadMessage.{load_message}
 use Rattle.dm_map.specs.State.{start_state}
-use Rattle.dm_map.proofs.LevelLemmas.{reads_free, writes_free}
+use Rattle.dm_map.proofs.LevelLemmas.{homes_free, reads_free, writes_free}
 use Rattle.dm_stream.specs.Messages.{ending_message}
 use Rattle.dm_table.proofs.ProgressLaws.{since-same}
 use Rattle.dm_stream.proofs.FewestLemmas.{fewest_is}
@@ -73,10 +73,10 @@ pub returns-clause-fewest : goal.returns-clause-fewest
 returns-clause-fewest g c = fewest_is
 
 pub returns-in-Err-clause-levels : goal.returns-in-Err-clause-levels
-returns-in-Err-clause-levels g c = λ description sound. (reads_free description sound, writes_free description sound)
+returns-in-Err-clause-levels g c = λ description sound. (reads_free description sound, writes_free description sound, homes_free description sound)
 
 pub returns-in-Ok-new-clause-levels : goal.returns-in-Ok-new-clause-levels
-returns-in-Ok-new-clause-levels g c = λ description sound. (reads_free description sound, writes_free description sound)
+returns-in-Ok-new-clause-levels g c = λ description sound. (reads_free description sound, writes_free description sound, homes_free description sound)
 
 pub returns-clause-levels : goal.returns-clause-levels
-returns-clause-levels g c = λ description sound. (reads_free description sound, writes_free description sound)
+returns-clause-levels g c = λ description sound. (reads_free description sound, writes_free description sound, homes_free description sound)
