@@ -33,6 +33,7 @@ pub mod UnitRows
 pub mod Vias
 pub mod WalkedOn
 pub mod WayLemmas
+pub mod WithinPlaces
 pub mod WorkedRows
 pub mod WorkedSnapshots
 pub mod Written

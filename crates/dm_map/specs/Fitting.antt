@@ -1,7 +1,8 @@
 -- States that a stack can be in.
-use Rattle.std.specs.Prelude.{ℕ, ◌≡◌, ◌<◌, true, Some, length}
+use Rattle.std.specs.Prelude.{ℕ, ◌≡◌, ◌<◌, ◌≤◌, true, Some, length}
 use Rattle.dm_stack.specs.declared.found_line.FoundSnapshot.{FoundSnapshot}
-use Rattle.dm_stack.specs.Description.{Description}
+use Rattle.dm_stack.specs.Description.{Description, lower_len}
+use Rattle.dm_stack.specs.Places.{places}
 use Rattle.dm_map.specs.SnapshotWrites.{has_place}
 use Rattle.dm_map.specs.State.{State, taken_at}
 use Rattle.dm_map.specs.Tables.{snapshot_at}
@@ -10,3 +11,8 @@ use Rattle.dm_map.specs.Tables.{snapshot_at}
 pub record IsFitting (stack : Description) (state : State) : Type 0 where
   pub count : length state ≡ length stack.devices
   pub places : (device number : ℕ) (snapshot : FoundSnapshot) → snapshot_at stack device ≡ Some snapshot → number < length (taken_at state device).chunks → has_place stack snapshot number ≡ true
+
+-- no snapshot took more chunks than its store has places
+abbrev pub IsWithinPlaces : Description → State → Type 0
+IsWithinPlaces stack state =
+    (device : ℕ) (snapshot : FoundSnapshot) → snapshot_at stack device ≡ Some snapshot → length (taken_at state device).chunks ≤ places snapshot.chunk (lower_len stack snapshot.store)

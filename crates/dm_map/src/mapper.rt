@@ -9,6 +9,7 @@ ghost use Rattle.dm_table.specs.declared.request.Op.TheVariants.{Read};
 ghost use Rattle.dm_stack.specs.Loaded.{snapshots, stack_depth, IsSnapshot};
 ghost use Rattle.dm_map.specs.Mapping.{request_step};
 ghost use Rattle.dm_map.specs.Counts.{grown_by, no_counts, AreAdded};
+ghost use Rattle.dm_map.specs.Fitting.{IsWithinPlaces};
 ghost use Rattle.dm_map.specs.Mapper.{walking_of, with_looked, OnSinkFault, OnStopped, OnTried};
 ghost use Rattle.dm_map.specs.Path.{read_stretches};
 ghost use Rattle.dm_map.specs.Sink.{OfBeginning};
@@ -76,10 +77,13 @@ impl<'s, T: Taken> Mapper<'s, T> {
         ensures going { IfOk result (λ mapper. mapper.stopped ≡ false) }
         ensures looked { IfOk result (λ mapper. mapper.looked.searches ≤ looker.entry.searches + length (snapshots looker.entry.stack)) }
         ensures last { IfOk result (λ mapper. mapper.last ≡ no_counts) }
+        ensures within { IfOk result (λ mapper. IsWithinPlaces mapper.stack mapper.state) }
     {
         let tables = empty_tables(alloc, &mut looker)?;
+        let walker = Walker::new(looker, tables);
+        walker.is_within_places();
         Ok(Mapper {
-            walker: Walker::new(looker, tables),
+            walker,
             stopped: false,
             searches: 0,
             probes: 0,
@@ -93,7 +97,8 @@ impl<'s, T: Taken> Mapper<'s, T> {
     /// request. Each piece is a stretch of sectors whose path down stays in one line, and one chunk,
     /// of each device. Cost of a read: at most as many line searches as the stack is deep for each run
     /// of sectors with one path (`specs/Path`), however long, and at most 17 comparisons each; they are
-    /// counted (`searches`, `probes`). No memory is taken.
+    /// counted (`searches`, `probes`). No memory is taken. Whatever comes of the request, no snapshot has
+    /// taken more chunks than its store has places.
     ///
     /// # Errors
     ///
@@ -121,13 +126,16 @@ impl<'s, T: Taken> Mapper<'s, T> {
         ensures counted { OnTried result (self.new.looked ≡ grown_by self.old.looked self.new.last) }
         ensures few { OnTried result (self.new.last.comparisons ≤ 17 * self.new.last.searches) }
         ensures bounded { OnTried result (request.now.op ≡ Read → self.new.last.searches ≤ stack_depth self.old.stack * read_stretches self.old.stack self.old.state device request.now.start request.now.len) }
+        ensures within { IsWithinPlaces self.new.stack self.new.state }
     {
         if self.stopped {
+            self.walker.is_within_places();
             return Err(MapFault::Stopped);
         }
         let searches = self.walker.searches();
         let comparisons = self.walker.comparisons();
         let mapped = self.map_request(request.op, device, request.start, request.len, sink);
+        self.walker.is_within_places();
         self.searches = self.walker.searches() - searches;
         self.probes = self.walker.comparisons() - comparisons;
         match mapped {
@@ -141,15 +149,18 @@ impl<'s, T: Taken> Mapper<'s, T> {
 
     /// How much of the store of a snapshot is used, and whether the snapshot is valid.
     ///
-    /// The device is a snapshot of the mapper's stack. Cost: one look-up, which belongs to no request.
-    /// No memory is taken.
+    /// The device is a snapshot of the mapper's stack. No snapshot has taken more chunks than its store has
+    /// places, also where the mapper is stopped. Cost: one look-up, which belongs to no request. No memory
+    /// is taken.
     pub fn usage(&mut self, device: DeviceId) -> Usage
         requires { IsSnapshot self.old.stack device }
         ensures usage { IfSome (snapshot_at self.old.stack device) (λ snapshot. result ≡ usage_of self.old.stack snapshot (taken_at self.old.state device)) }
         ensures same { self.new ≡ with_looked self.old self.new.looked }
         ensures looked { AreAdded self.old.looked self.new.looked }
         ensures one { self.new.looked.searches ≤ self.old.looked.searches + 1 }
+        ensures within { IsWithinPlaces self.old.stack self.old.state }
     {
+        self.walker.is_within_places();
         usage_of(&mut self.walker, device)
     }
 

@@ -9,6 +9,7 @@ ghost use Rattle.dm_stack.specs.Below.{HoldsSoundly, found_at};
 ghost use Rattle.dm_stack.specs.Description.{device_len, is_ro_at, lower_len};
 ghost use Rattle.dm_stack.specs.Soundness.{IsSound};
 ghost use Rattle.dm_map.specs.Counts.{counts_of, AreAdded};
+ghost use Rattle.dm_map.specs.Fitting.{IsWithinPlaces};
 ghost use Rattle.dm_map.specs.SnapshotWrites.{lost, put, with_chunk};
 ghost use Rattle.dm_map.specs.Snapshots.{number_in};
 ghost use Rattle.dm_map.specs.State.{taken_at};
@@ -127,6 +128,15 @@ impl<'s, T: Taken> Walker<'s, T> {
     #[inline(always)]
     pub(crate) fn is_sound(&self)
         ensures { IsSound self.now.stack }
+    {
+        self.looker.depth();
+    }
+
+    /// No snapshot took more chunks than its store has places. It does nothing: its contract is what is
+    /// asked of it.
+    #[inline(always)]
+    pub(crate) fn is_within_places(&self)
+        ensures { IsWithinPlaces self.now.stack self.now.state }
     {
         self.looker.depth();
     }

@@ -1,7 +1,7 @@
 -- The places of all stores, counted line by line.
-use Rattle.std.proofs.Common.{◌≡◌, ℕ, ◌+◌, ◌<◌, ◌≤◌, Bool, false, cond, nat_lt, List, [], ◌∷◌, None, arith, refl, sym, ap, ◌∙◌, map, ◌++◌, drop, get_or, length}
+use Rattle.std.proofs.Common.{◌≡◌, ℕ, ◌+◌, ◌<◌, ◌≤◌, Bool, false, cond, nat_lt, List, [], ◌∷◌, None, arith, refl, sym, ap, ◌∙◌, zero-add, map, ◌++◌, drop, get_or, length}
 use Rattle.std.specs.List.{sum_by}
-use Rattle.std.proofs.lemmas.Bool.{le-ltb}
+use Rattle.std.proofs.lemmas.Bool.{le-ltb, ltb-false}
 use Rattle.std.proofs.lemmas.List.Sums.{sum_by-cons}
 use Rattle.dm_table.specs.declared.place.Place.{Place}
 use Rattle.dm_table.specs.declared.table.Line.{Line}
@@ -10,7 +10,10 @@ use Rattle.dm_table.specs.declared.load_fault.LoadKind.TheVariants.{Limit}
 use Rattle.dm_table.specs.declared.load_fault.LoadFault.{LoadFault}
 use Rattle.dm_table.specs.LoadFault.{fault, faults_by, first_or}
 use Rattle.dm_stack.specs.Description.{Description}
-use Rattle.dm_stack.specs.Soundness.{WithBefore, target_places, with_before}
+use Rattle.dm_stack.specs.Loaded.{all_places}
+use Rattle.dm_stack.specs.Soundness.{IsSound, WithBefore, all_lines, checks_after, is_crowded, target_places, with_before}
+use Rattle.dm_table.proofs.FaultLemmas.{first_fault-none}
+use Rattle.dm_stack.proofs.Passes.{cond_none}
 use Rattle.dm_stack.proofs.PlacedLemmas.{next_of}
 use Rattle.dm_stack.proofs.WithBefore.{further_on}
 
@@ -53,3 +56,23 @@ crowded_passes stack used places items rest i line within is are few =
     ap (λ (n : ℕ). first_or (crowded_from stack (used + n) (drop (i + 1) items ++ rest)) None) are
     ∙ sym (ap (λ (lines : List Line). first_or (crowded_from stack used lines) None) (next_line items rest i line within is)
     ∙ ap (λ (faults : List LoadFault). first_or faults None) (crowded_next stack used line (drop (i + 1) items ++ rest) (omega (arith, are, few))))
+
+-- Where no line is found
+
+few_from : (stack : Description) (used : ℕ) (lines : List Line) → used ≤ 4194304 → crowded_from stack used lines ≡ [] → used + sum_by (line_places stack) lines ≤ 4194304
+few_from stack used [] few none = omega (arith, few)
+few_from stack used (line ∷ lines) few none =
+    let first : WithBefore Line = record { before = []; it = line } in
+    let parts = cond_none (fault Limit line.at) _ (passes_most stack used first) none in
+    let here : used + line_places stack line ≤ 4194304 = let good = ltb-false 4194304 (used + (0 + line_places stack line)) parts.0 in omega (arith, good) in
+    let rest = few_from stack (used + line_places stack line) lines here (sym (crowded_next stack used line lines here) ∙ none) in
+    let sum = sum_by-cons (line_places stack) line lines in
+    omega (arith, rest, sum)
+
+pub few_places : (stack : Description) → IsSound stack → all_places stack ≤ 4194304
+few_places stack sound =
+    let late = first_fault-none (checks_after stack) sound.after in
+    let same = by_same Limit (λ (l : WithBefore Line). l.it.at) (passes_most stack 0) (is_crowded stack) (with_before (all_lines stack.devices))
+    (λ l. ap (nat_lt 4194304) (zero-add (sum_by (line_places stack) l.before + line_places stack l.it))) in
+    let few = few_from stack 0 (all_lines stack.devices) (omega arith) (same ∙ late.1.1.1.1.1.0) in
+    omega (arith, few)

@@ -1,6 +1,6 @@
 -- Counts of comparisons against binary digits, and the line of a sector by the starts of lines in a row.
 use Rattle.std.proofs.Common.{◌≡◌, ◌⊎◌, inl, inr, ℕ, zero, suc, ◌+◌, ◌*◌, ◌/◌, ◌^◌, ◌<◌, ◌≤◌, Bool, true, false, List, [], ◌∷◌, ◌++◌, Some, drop, length, length-append, get_or, map, refl, sym, ap, subst, ◌∙◌, add-one, arith}
-use Rattle.std.specs.Prelude.{◌==◌, ◌-◌, option_map, slice_get}
+use Rattle.std.specs.Prelude.{◌==◌, option_map, slice_get}
 use Rattle.std.specs.List.{AllByRecursion}
 use Rattle.std.proofs.lemmas.Nat.{pow_pos}
 use Rattle.std.proofs.lemmas.List.{length-drop}

@@ -1,6 +1,6 @@
 -- What a stack keeps beside its description, and what a looker is.
 use Rattle.std.specs.Prelude.{◌≡◌, ℕ, suc, ◌^◌, ◌<◌, ◌≤◌, Bool, true, false, List, [], ◌∷◌, ◌++◌, Some, filter, length, map, nat_lt, if◌then◌else◌}
-use Rattle.std.specs.List.{All, Contains, flat_map, list_any, range_with_len}
+use Rattle.std.specs.List.{All, Contains, flat_map, list_any, range_with_len, sum_by}
 use Rattle.dm_table.specs.declared.table.DeviceSpec.{DeviceSpec}
 use Rattle.dm_table.specs.declared.table.Line.{Line}
 use Rattle.dm_table.specs.declared.table.Target.{Target}
@@ -14,7 +14,7 @@ use Rattle.dm_stack.specs.Description.{Description, device_len, lines_at, lower_
 use Rattle.dm_table.specs.Span.{spans}
 use Rattle.dm_stack.specs.Below.{found_at, found_line}
 use Rattle.dm_stack.specs.Graph.{greatest}
-use Rattle.dm_stack.specs.Soundness.{IsSound, depth_of}
+use Rattle.dm_stack.specs.Soundness.{IsSound, all_lines, depth_of, target_places}
 
 -- the lines of a device, with ids for names
 abbrev pub found_table : Description → DeviceSpec → List FoundLine
@@ -63,6 +63,10 @@ pub record IsSnapshot (stack : Description) (device : ℕ) : Type 0 where
 pub record AreSnapshots (stack : Description) (devices : List ℕ) : Type 0 where
   pub each : All (IsSnapshot stack) devices
   pub among : (device : ℕ) (line : FoundLine) (snapshot : FoundSnapshot) → found_at stack device 0 ≡ Some line → line.target ≡ found.Snapshot snapshot → Contains devices device
+
+-- the places for chunks that all stores have together
+abbrev pub all_places : Description → ℕ
+all_places stack = sum_by (λ line. target_places stack line.target) (all_lines stack.devices)
 
 -- the name of a disk as lines have it: with a space after it
 abbrev pub disk_text : List ℕ → List ℕ

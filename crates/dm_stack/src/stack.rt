@@ -8,7 +8,7 @@ ghost use Rattle.dm_table.specs.Name.{is_disk_name};
 ghost use Rattle.dm_stack.specs.Below.{HoldsSoundly, found_at, found_lines};
 ghost use Rattle.dm_stack.specs.Claims.{IsFirstClash, IsThere, IsTidy, IsTop, claims};
 ghost use Rattle.dm_stack.specs.Description.{Description, device_len, disk_len, is_ro_at, is_same, name_at, disk_name_at, lines_at};
-ghost use Rattle.dm_stack.specs.Loaded.{IsDeeperByOne, IsLength, disk_text, snapshots, stack_depth, AreSnapshots};
+ghost use Rattle.dm_stack.specs.Loaded.{IsDeeperByOne, IsLength, all_places, disk_text, snapshots, stack_depth, AreSnapshots};
 ghost use Rattle.dm_stack.specs.LineSearch.{IsLast, binary_digits};
 ghost use Rattle.dm_stack.specs.Soundness.{IsRefusedBy, IsSound};
 ghost use Rattle.dm_stack.specs.declared.claim.Claim.{Claim};
@@ -187,10 +187,12 @@ impl Stack {
     }
 
     /// The devices that are snapshots, in their order: each has a snapshot's line, alone in its table,
-    /// and no other device has one at its first sector.
+    /// and no other device has one at its first sector. Their stores have at most 4,194,304 places for
+    /// chunks together.
     pub fn snapshots(&self) -> &[DeviceId]
         ensures ids { result.now ≡ snapshots self.now }
         ensures all { AreSnapshots self.now result.now }
+        ensures places { all_places self.now ≤ MOST_PLACES }
     {
         self.snapshots.as_slice()
     }

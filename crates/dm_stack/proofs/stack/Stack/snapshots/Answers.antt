@@ -2,6 +2,7 @@ use Rattle.std.proofs.Common.{List, ℕ, sym, ap, subst, ◌∙◌}
 use Rattle.dm_stack.specs.Description.{Description}
 use Rattle.dm_stack.specs.Loaded.{AreSnapshots, snapshots}
 use Rattle.dm_stack.specs.Soundness.{IsSound}
+use Rattle.dm_stack.proofs.CrowdLemmas.{few_places}
 use Rattle.dm_stack.proofs.SnapshotRule.{are_snapshots}
 use Rattle.dm_stack.proofs.stack.Stack.snapshots.Goals as goal
 
@@ -9,3 +10,6 @@ pub returns-clause-all : goal.returns-clause-all
 returns-clause-all c =
     subst (λ (ids : List ℕ). AreSnapshots c.args.self.now ids) (sym (c.as_slice.ensures.value ∙ c.self.invariant.snapshots ∙ ap (λ (stack : Description). snapshots stack) c.self.view_is))
     (are_snapshots c.args.self.now (subst IsSound c.self.view_is c.self.invariant.sound))
+
+pub returns-clause-places : goal.returns-clause-places
+returns-clause-places c = few_places c.args.self.now (subst IsSound c.self.view_is c.self.invariant.sound)
