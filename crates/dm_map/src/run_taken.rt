@@ -57,7 +57,7 @@ impl RunTaken {
     /// How many runs there are: how many numbers are 0, or have a chunk other than one more than the
     /// chunk of the number before. In constant time.
     pub fn runs(&self) -> usize
-        ensures { result ≡ run_count (chunks_in self.now.runs.items) }
+        ensures { result ≡ run_count (⟦<RunTaken as Taken>⟧.chunks self.now) }
     {
         self.runs.len()
     }
@@ -67,9 +67,9 @@ impl RunTaken {
     /// To `comparisons` it adds how often the chunk was compared with the first chunk of a run: at most
     /// as many times as the number of runs has binary digits. Once it is the greatest number, it stays.
     pub fn find_counted(&self, chunk: u64, comparisons: &mut u64) -> Option<usize>
-        ensures found { result ≡ number_in chunk (chunks_in self.now.runs.items) }
+        ensures found { result ≡ number_in chunk (⟦<RunTaken as Taken>⟧.chunks self.now) }
         ensures more { comparisons.old ≤ comparisons.new }
-        ensures few { comparisons.new ≤ comparisons.old + binary_digits (run_count (chunks_in self.now.runs.items)) }
+        ensures few { comparisons.new ≤ comparisons.old + binary_digits (run_count (⟦<RunTaken as Taken>⟧.chunks self.now)) }
     {
         let (begun, made) = begun_by(self.runs.as_slice(), &self.order, chunk);
         *comparisons = comparisons.saturating_add(made);

@@ -13,6 +13,8 @@ struct Takes {
     /// and then this much further, modulo 65,537.
     step: u64,
     runs: usize,
+    /// How many comparisons the finds of the test make together, each by plain halving.
+    comparisons: u64,
 }
 
 static TAKES: [Takes; 8] = [
@@ -22,6 +24,7 @@ static TAKES: [Takes; 8] = [
         row: 1,
         step: 1,
         runs: 1,
+        comparisons: 1_075,
     },
     Takes {
         name: "falling",
@@ -29,6 +32,7 @@ static TAKES: [Takes; 8] = [
         row: 1,
         step: 65_536,
         runs: 16_385,
+        comparisons: 15_856,
     },
     Takes {
         name: "every second",
@@ -36,6 +40,7 @@ static TAKES: [Takes; 8] = [
         row: 1,
         step: 2,
         runs: 3_000,
+        comparisons: 11_888,
     },
     Takes {
         name: "random",
@@ -43,6 +48,7 @@ static TAKES: [Takes; 8] = [
         row: 1,
         step: 40_503,
         runs: 3_000,
+        comparisons: 12_510,
     },
     Takes {
         name: "random rows",
@@ -50,6 +56,7 @@ static TAKES: [Takes; 8] = [
         row: 4,
         step: 40_503,
         runs: 1_000,
+        comparisons: 10_718,
     },
     Takes {
         name: "one block less one",
@@ -57,6 +64,7 @@ static TAKES: [Takes; 8] = [
         row: 1,
         step: 65_535,
         runs: 8_191,
+        comparisons: 13_975,
     },
     Takes {
         name: "one block",
@@ -64,6 +72,7 @@ static TAKES: [Takes; 8] = [
         row: 1,
         step: 65_535,
         runs: 8_192,
+        comparisons: 14_781,
     },
     Takes {
         name: "one block and one",
@@ -71,6 +80,7 @@ static TAKES: [Takes; 8] = [
         row: 1,
         step: 65_535,
         runs: 8_193,
+        comparisons: 14_781,
     },
 ];
 
@@ -94,14 +104,14 @@ fn chunks_are_found_by_their_runs(rt: HostRuntime) {
     for chunk in [5, 6, 7, 2, 8, 3] {
         offer(&mut taken, chunk);
     }
-    for (chunk, want) in [
-        (5, Some(0)),
-        (6, Some(1)),
-        (7, Some(2)),
-        (2, Some(3)),
-        (8, Some(4)),
-        (3, Some(5)),
-        (4, None),
+    for (chunk, want, compared) in [
+        (5, Some(0), 2),
+        (6, Some(1), 2),
+        (7, Some(2), 2),
+        (2, Some(3), 3),
+        (8, Some(4), 2),
+        (3, Some(5), 2),
+        (4, None, 2),
     ] {
         let mut comparisons = 0;
         assert_eq!(&rt;
@@ -109,7 +119,7 @@ fn chunks_are_found_by_their_runs(rt: HostRuntime) {
             want,
             "{chunk}"
         );
-        assert!(&rt; comparisons <= 3, "{chunk}: {comparisons}");
+        assert_eq!(&rt; comparisons, compared, "{chunk}");
     }
     assert_eq!(&rt; taken.runs(), 4, "runs");
     assert!(&rt; taken.is_full() && taken.is_valid(), "full and valid");
@@ -129,15 +139,14 @@ fn runs_answer_as_a_plain_list(rt: HostRuntime) {
             offer(&mut runs, chunk);
             offer(&mut plain, chunk);
         }
+        let mut comparisons = 0;
         for part in 0..1_075 {
-            assert_eq!(&rt;
-                runs.find(part * 61),
-                plain.find(part * 61),
-                "{}: {}",
-                takes.name,
-                part * 61
-            );
+            let chunk = part * 61;
+            let number = runs.find_counted(chunk, &mut comparisons);
+            assert_eq!(&rt; number, plain.find(chunk), "{}: {chunk}", takes.name);
+            assert_eq!(&rt; number, runs.find(chunk), "{}: {chunk}", takes.name);
         }
+        assert_eq!(&rt; comparisons, takes.comparisons, "{}", takes.name);
         assert_eq!(&rt; runs.runs(), takes.runs, "{}", takes.name);
         assert_eq!(&rt; runs.count(), plain.count(), "{}", takes.name);
     }
