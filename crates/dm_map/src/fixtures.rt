@@ -2,7 +2,7 @@
 
 use crate::mapper::Mapper;
 use crate::piece_list::PieceList;
-use crate::plain_taken::PlainTaken;
+use crate::run_taken::RunTaken;
 use crate::usage::Usage;
 use dm_stack::Stack;
 use dm_table::{parse_disks, parse_request, parse_table};
@@ -26,7 +26,7 @@ pub(crate) fn told_after(
 ) -> (Option<Usage>, (u64, u64)) {
     let request = parse_request(line.as_bytes(), 1).expect(rt, "a request");
     let device = stack.device(request.device).expect(rt, "a device");
-    let mut mapper: Mapper<'_, PlainTaken> = Mapper::new(alloc, stack.looker()).expect(
+    let mut mapper: Mapper<'_, RunTaken> = Mapper::new(alloc, stack.looker()).expect(
         rt, "a mapper",
     );
     let mut list = PieceList::new(alloc, stack);

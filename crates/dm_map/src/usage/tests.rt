@@ -4,7 +4,7 @@ use super::*;
 use crate::fixtures::{stack_of, told_after};
 
 /// Tables with one snapshot, the disks, a request of the snapshot, and the usage after it.
-static ROWS: [(&str, &str, &str, Usage); 5] = [
+static ROWS: [(&str, &str, &str, Usage); 6] = [
     (
         "s: 0 64 snapshot base cow P 1\n",
         "base 64\ncow 64\n",
@@ -63,6 +63,18 @@ static ROWS: [(&str, &str, &str, Usage); 5] = [
             valid: false,
         },
     ),
+    // The numbers of the kernel's document: 49,542 chunks, all taken by one request.
+    (
+        "s: 0 396336 snapshot base cow P 8\n",
+        "base 396336\ncow 2097152\n",
+        "W s 0 396336",
+        Usage {
+            allocated: 397_896,
+            total: 2_097_152,
+            metadata: 1_560,
+            valid: true,
+        },
+    ),
 ];
 
 #[test]
@@ -72,10 +84,4 @@ fn usage_of_a_store(rt: HostRuntime) {
         let (usage, _) = told_after(&rt, rt.alloc(), &stack, line);
         assert_eq!(&rt; usage, Some(want), "{line}");
     }
-}
-
-#[test]
-fn the_numbers_of_the_document(rt: HostRuntime) {
-    let usage = usage_with(8, 49542, 2097152, true);
-    assert_eq!(&rt; (usage.allocated, usage.metadata), (397896, 1560));
 }
