@@ -3,6 +3,7 @@
 It runs here in a small tree of its own, in which `rt` is a script that tells how it was called."""
 
 import os
+import re
 import shutil
 import signal
 import subprocess
@@ -20,11 +21,13 @@ CRATES = ["low", "middle", "dmremap"]
 LINES = "# a comment: low\nlow: memchr\ndmremap: clap low middle\nbeside: low\nmiddle: low itoa\n"
 # A change of any of these means that the program is built anew.
 SOURCES = ["crates/low/src/lib.rt", "crates/middle/proofs/Lib.antt", "crates/dmremap/specs/Lib.antt", "crates.txt"]
-BUILDING = "dmremap: building the proved program, which takes some minutes\n"
+BUILDING = "dmremap: building the proved program; the first time this takes half an hour on four processors\n"
+# How long crates took, which no two runs have in common.
+TOOK = re.compile(rb"after \d+ min \d+ s")
 
 # Notes where it runs and with which words, and what is on its input, which is to be nothing. Where
 # it is told to run the program, it puts one there, if there is none: `rt run` too leaves a program
-# that fits its sources as it is.
+# that fits its sources as it is. Somebody may save a source just then.
 RT = """\
 #!/bin/sh
 echo "$(basename "$PWD") $*" >> "$CALLS"
@@ -32,6 +35,7 @@ cat >> "$CALLS"
 echo "rt: this is $(basename "$PWD")"
 [ "$(basename "$PWD")" != "$BROKEN" ] && [ "$BROKEN" != all ] || exit 1
 [ "$1" != run ] || [ -e out/dmremap ] || { mkdir -p out && cp "$PROGRAM" out/dmremap; }
+[ "$1" != run ] || [ -z "$SAVED" ] || echo >> "$SAVED"
 """
 
 # Tells who it is, and takes its time.
@@ -99,7 +103,9 @@ class Tree:
         return dict(os.environ, PATH=path, CALLS=self.calls, PROGRAM=self.program.path, **variables)
 
     def run(self, words, script=None, variables=None, **how):
-        return run([script or self.script, *words], env=self.environment(**(variables or {})), **how)
+        got = run([script or self.script, *words], env=self.environment(**(variables or {})), **how)
+        got.err = TOOK.sub(b"after 0 min 0 s", got.err)
+        return got
 
     def called(self):
         with open(self.calls, encoding="utf-8") as it:
@@ -156,7 +162,7 @@ def check_places(tally, tree):
 def check_builds(tally, tree):
     words = ["map", "table", tree.program.file("the table", TABLE), tree.program.file("the disks", DISKS)]
     said = BUILDING + "".join(
-        "dmremap: %s is proved and built (%d of 3)\n" % (it, at + 1) for at, it in enumerate(CRATES))
+        "dmremap: %s is proved and built (%d of 3, after 0 min 0 s)\n" % (it, at + 1) for at, it in enumerate(CRATES))
     calls = ["low lib", "middle lib", "dmremap run -- --help"]
     os.remove(tree.built)
     got = tree.run(words, given=REQUESTS)
@@ -169,10 +175,16 @@ def check_builds(tally, tree):
         tree.change(place)
         tally.same("./dmremap after a change of " + place, tree.run(words, given=REQUESTS), 0, ANSWER, said)
         tally.same("./dmremap once that is built", tree.run(words, given=REQUESTS), 0, ANSWER)
+    tree.change(SOURCES[0])
+    saved = os.path.join(tree.top, SOURCES[1])
+    got = tree.run(words, variables={"SAVED": saved}, given=REQUESTS)
+    tally.same("./dmremap where a source is saved during the build", got, 0, ANSWER, said)
+    tally.same("./dmremap after that", tree.run(words, given=REQUESTS), 0, ANSWER, said)
+    tally.same("./dmremap once that is built", tree.run(words, given=REQUESTS), 0, ANSWER)
     os.remove(tree.built)
     got = tree.run(words, variables={"BROKEN": "middle"}, given=REQUESTS)
     tally.same("./dmremap whose build fails", got, 70, "",
-               BUILDING + "dmremap: low is proved and built (1 of 3)\nrt: this is middle\n"
+               BUILDING + "dmremap: low is proved and built (1 of 3, after 0 min 0 s)\nrt: this is middle\n"
                "dmremap: the build of middle failed\n")
     tally.holds("./dmremap builds nothing above what failed", tree.called() == calls[:2],
                 "rt was called: %s" % tree.called())
