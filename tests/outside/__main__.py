@@ -29,6 +29,7 @@ import loads
 import lookers
 import printing
 import ranges
+import recipes
 import refusals
 import replays
 import reports
@@ -58,6 +59,7 @@ def main():
             part.check(tally, program)
         launcher.check(tally, program, TOP, built == BUILT)
         documents.check(tally, program, TOP)
+        recipes.check(tally, program, TOP)
         lookers.check(tally, TOP)
         refusals.check(tally, TOP)
     return tally.close()
