@@ -50,6 +50,8 @@ def check(tally, program):
     check_refused(tally, program)
     check_unreadable(tally, program)
     check_others(tally, program)
+    check_pipes(tally, program)
+    check_descriptors(tally, program)
     check_metadata(tally, program)
 
 
@@ -118,6 +120,51 @@ def check_others(tally, program):
     for name, words, part in (("FILE", ["/dev/zero", disks], "source"), ("DISKS", [table, "/dev/zero"], "disks")):
         got = program.run(["map", "table", *words], given=REQUESTS)
         tally.same("an endless " + name, got, 1, "", "dmremap: %s: long\n" % part)
+
+
+def check_pipes(tally, program):
+    """Two pipes, whose writer opens DISKS once FILE is written; and one that nobody writes to."""
+    pipes = [os.path.join(program.room, it) for it in ("file pipe", "disks pipe", "silent pipe")]
+    for it in pipes:
+        os.mkfifo(it)
+    concise = "a,,,rw,0 8 linear sda 4"
+    report = "devices 1\ndisks 1\ndepth 1\ntidy\n"
+    rows = [
+        ("map table", TABLE, ANSWER),
+        ("map concise", concise, ANSWER),
+        ("replay table", TABLE, "1 wrote 1 2 3\n"),
+        ("replay concise", concise, "1 wrote 1 2 3\n"),
+        ("check table", TABLE, report),
+        ("table concise", concise, TABLE),
+        ("concise table", TABLE, concise + "\n"),
+    ]
+    for command, content, answer in rows:
+        writer = threading.Thread(target=write_pipes, args=(pipes[:2], [content, DISKS]), daemon=True)
+        writer.start()
+        tally.same("two pipes, " + command, program.run(command.split() + pipes[:2], given=REQUESTS), 0, answer)
+        got = program.run(command.split() + ["missing", pipes[2]], given=REQUESTS)
+        tally.same("a missing FILE beside a silent pipe, " + command, got, 1, "", "dmremap: source: read\n")
+
+
+def write_pipes(pipes, contents):
+    for path, content in zip(pipes, contents):
+        with open(path, "wb") as it:
+            it.write(content.encode())
+
+
+def check_descriptors(tally, program):
+    """The numbers of closed streams are free for FILE and DISKS, and free again once these were read."""
+    files = [program.file("table", TABLE), program.file("disks", DISKS)]
+    for words in (["map", "table", *files], ["replay", "table", *files], ["map", "lvm", program.file("vg0", METADATA)]):
+        name = " ".join(words[:2])
+        got = program.run(words, before=lambda: os.close(0))
+        tally.same(name + " with a closed standard input", got, 4, "", "dmremap: requests: read\n")
+        got = program.run(words, before=lambda: os.closerange(0, 3))
+        tally.same(name + " with all streams closed", got, 4)
+    got = program.run(["map", "table", os.devnull, os.devnull], before=lambda: os.close(0))
+    tally.same("empty files and a closed standard input", got, 4, "", "dmremap: requests: read\n")
+    got = program.run(["check", "table", *files], before=lambda: os.close(0))
+    tally.same("check with a closed standard input", got, 0, "devices 1\ndisks 1\ndepth 1\ntidy\n")
 
 
 def check_metadata(tally, program):

@@ -1,6 +1,7 @@
 pub mod Inputs
 pub mod Load
 pub mod OtherWhole
+pub mod PartFile
 pub mod Played
 pub mod PlayedLaws
 pub mod ReplayOutcome

@@ -22,7 +22,6 @@ use map_whole::map_whole;
 use other_whole::other_whole;
 use part_file::PartFile;
 use replay_whole::replay_whole;
-use std::fs::File;
 use std::io;
 use std::process::ExitCode;
 use words::{Files, Job, Task, WordsFault, not_text, read_words};
@@ -63,12 +62,12 @@ fn arguments_of(rt: &HostRuntime) -> Result<Vec<String>, WordsFault> {
 fn map_files(rt: &HostRuntime, files: Files<'_>, status: bool) -> u8
     requires disks { has_its_disks (file_words files) ≡ true }
 {
-    let mut disks = open_disks(rt, files);
+    let mut disks = disk_list_of(rt, files);
     map_whole(
         rt.alloc(),
         files.format,
         status,
-        &mut open(rt, files.file),
+        &mut file_at(rt, files.file),
         &mut disks,
         &mut Counted::new(rt.stdin()),
         &mut Gathered::new(Counted::new(rt.stdout())),
@@ -80,11 +79,11 @@ fn map_files(rt: &HostRuntime, files: Files<'_>, status: bool) -> u8
 fn replay_files(rt: &HostRuntime, files: Files<'_>) -> u8
     requires disks { has_its_disks (file_words files) ≡ true }
 {
-    let mut disks = open_disks(rt, files);
+    let mut disks = disk_list_of(rt, files);
     replay_whole(
         rt.alloc(),
         files.format,
-        &mut open(rt, files.file),
+        &mut file_at(rt, files.file),
         &mut disks,
         &mut Counted::new(rt.stdin()),
         &mut Gathered::new(Counted::new(rt.stdout())),
@@ -93,12 +92,12 @@ fn replay_files(rt: &HostRuntime, files: Files<'_>) -> u8
 }
 
 /// Does a job that has no requests.
-fn print_job(rt: &HostRuntime, job: &Job<'_>) -> u8
+fn print_job<'r>(rt: &'r HostRuntime, job: &'r Job<'r>) -> u8
     requires other { is_other (words_of job.now.task) ≡ true }
     requires disks { task_has_its_disks (words_of job.now.task) ≡ true }
 {
     let (mut source, mut disks) = match job.task.files() {
-        Some(files) => open_files(rt, files),
+        Some(files) => parts_of(rt, files),
         None => (None, None),
     };
     other_whole(
@@ -112,30 +111,34 @@ fn print_job(rt: &HostRuntime, job: &Job<'_>) -> u8
     )
 }
 
-fn open(rt: &HostRuntime, path: &str) -> Counted<PartFile<File>> {
-    Counted::new(PartFile::new(File::open(rt, path)))
+/// The file at a path, which is opened once it is read.
+fn file_at<'r>(rt: &'r HostRuntime, path: &'r str) -> Counted<PartFile<'r, HostRuntime>> {
+    Counted::new(PartFile::new(rt, path))
 }
 
-fn open_disks(rt: &HostRuntime, files: Files<'_>) -> Option<Counted<PartFile<File>>>
+fn disk_list_of<'r>(
+    rt: &'r HostRuntime,
+    files: Files<'r>,
+) -> Option<Counted<PartFile<'r, HostRuntime>>>
     ensures { is_some result ≡ is_some files.entry.disks }
 {
     match files.disks {
-        Some(path) => Some(open(rt, path)),
+        Some(path) => Some(file_at(rt, path)),
         None => None,
     }
 }
 
-fn open_files(
-    rt: &HostRuntime,
-    files: Files<'_>,
+fn parts_of<'r>(
+    rt: &'r HostRuntime,
+    files: Files<'r>,
 ) -> (
-    Option<Counted<PartFile<File>>>,
-    Option<Counted<PartFile<File>>>,
+    Option<Counted<PartFile<'r, HostRuntime>>>,
+    Option<Counted<PartFile<'r, HostRuntime>>>,
 )
     ensures source { is_some result.0 ≡ true }
     ensures disks { is_some result.1 ≡ is_some files.entry.disks }
 {
-    (Some(open(rt, files.file)), open_disks(rt, files))
+    (Some(file_at(rt, files.file)), disk_list_of(rt, files))
 }
 
 /// Prints why there is no job, and returns its exit status, whether or not it could be printed.

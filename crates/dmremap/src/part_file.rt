@@ -1,52 +1,74 @@
-//! A file of a load, which may not have been opened.
+//! A file of a load, which is opened at its first read and closed at its end.
 //!
-//! A file that can't be opened is an input that fails at its first read, so that one refusal serves
-//! both; why it can't be opened is not told. Each read is one read of the file.
+//! So two pipes may be filled one after the other, and when requests are read, no file has the place
+//! of a standard input that is closed. A file that can't be opened is an input that fails at its first
+//! read, so that one refusal serves both; why it can't be opened is not told. Each read is one read of
+//! the file.
 
-ghost use Rattle.std.specs.Prelude.{◌≡◌, IsErr, None, option_and_then};
-ghost use Rattle.std.specs.Result.{result_ok};
+ghost use Rattle.std.specs.Prelude.{◌≡◌, IsErr};
 ghost use Rattle.std.specs.Io.KnownBytes.{ReadConsumes};
 ghost use Rattle.std.specs.Io.{ReadsAtMost};
+ghost use Rattle.dmremap.specs.PartFile.{left_of};
+ghost use Rattle.dmremap.specs.declared.part_file.Stage.TheVariants.{Unopened};
 
+use std::fs::{File, Files};
 use std::io;
-use std::io::{ErrorKind, Read};
+use std::io::Read;
 
-/// A file, or none where it could not be opened.
+/// A file of a load, by its path.
 #[derive(Drop)]
-pub(crate) struct PartFile<F> {
-    file: Option<F>,
+pub(crate) struct PartFile<'r, R: Files> {
+    files: &'r R,
+    path: &'r str,
+    stage: Stage<R::File>,
 }
 
-impl<F> PartFile<F> {
-    /// The file that opening gave, if it gave one.
-    pub(crate) fn new(opened: io::Result<F>) -> PartFile<F>
-        ensures { result.file ≡ result_ok opened }
-    {
-        PartFile { file: opened.ok() }
+/// How far a file was read.
+#[derive(Drop)]
+pub(crate) enum Stage<F> {
+    /// Nothing was asked of it, or it could not be opened.
+    Unopened,
+    /// It may have more.
+    Open(F),
+    /// It was read to its end, and is closed.
+    Ended,
+}
+
+impl<'r, R: Files> PartFile<'r, R> {
+    /// The file at this path, of which nothing is asked yet.
+    pub(crate) fn new(files: &'r R, path: &'r str) -> PartFile<'r, R> {
+        PartFile {
+            files,
+            path,
+            stage: Stage::Unopened,
+        }
     }
 }
 
-/// What reading a file gives that could not be opened.
-fn missing() -> io::Result<usize>
-    ensures { IsErr result }
-{
-    Err(io::Error::from(ErrorKind::NotFound))
-}
-
-impl<F: Read> Read for PartFile<F> {
-    ghost remaining = { λ part. option_and_then F.remaining part.file };
+impl<'r, R: Files> Read for PartFile<'r, R> {
+    ghost remaining = { λ part. left_of R.File.remaining part.stage };
 
     fn read(&mut self, buffer: &mut [u8]) -> io::Result<usize>
         ensures bound { ReadsAtMost result buffer.new }
         // Where std knows the file's bytes, none is lost or made up.
-        ensures bytes { ReadConsumes (option_and_then F.remaining self.old.file)
-            (option_and_then F.remaining self.new.file) result buffer.new }
-        ensures missing { self.old.file ≡ None → IsErr result }
-        ensures stays_missing { self.old.file ≡ None → self.new.file ≡ None }
+        ensures bytes { ReadConsumes (left_of R.File.remaining self.old.stage)
+            (left_of R.File.remaining self.new.stage) result buffer.new }
+        // A file that can't be opened is not an empty one.
+        ensures unopened { self.new.stage ≡ Unopened → IsErr result }
     {
-        match &mut self.file {
-            Some(file) => file.read(buffer),
-            None => missing(),
+        if let Stage::Unopened = self.stage {
+            self.stage = Stage::Open(File::open(self.files, self.path)?);
+        }
+        match &mut self.stage {
+            Stage::Open(file) => {
+                let read = file.read(buffer)?;
+                if read == 0 && !buffer.is_empty() {
+                    self.stage = Stage::Ended;
+                }
+                Ok(read)
+            }
+            Stage::Ended => Ok(0),
+            Stage::Unopened => unreachable!(),
         }
     }
 }

@@ -2,15 +2,13 @@
 //! the built program (`tests/outside`).
 
 use super::counted::{Fake, Step};
-use crate::part_file::PartFile;
 use dm_table::{Counted, Part, read_part};
 use std::alloc::Global;
 use std::cell::Cell;
 
 /// How many bytes reading a part gives whose file does what a script says.
 fn part_len(alloc: Global, script: &[Step], calls: &Cell<usize>) -> Option<usize> {
-    let file = Fake { script, calls };
-    let mut input = Counted::new(PartFile::new(Ok(file)));
+    let mut input = Counted::new(Fake { script, calls });
     let text = read_part(alloc, Part::Source, &mut input).ok()?;
     Some(text.len())
 }
