@@ -24,6 +24,7 @@ import documents
 import files
 import groups
 import growths
+import hostile
 import launcher
 import limits
 import loads
@@ -56,7 +57,7 @@ def main():
         os.chmod(room, 0o755)
         program = Program(shutil.copy(built, os.path.join(room, "dmremap")), room)
         for part in (words, files, loads, backups, groups, printing, reports, request_lines, answers, ranges,
-                     snapshot_rows, snapshots, replays, streams, limits, growths):
+                     snapshot_rows, snapshots, replays, streams, limits, hostile, growths):
             part.check(tally, program)
         launcher.check(tally, program, TOP, built == BUILT)
         documents.check(tally, program, TOP)

@@ -7,20 +7,6 @@ def chain(levels):
         "d%d: 0 8 linear /dev/mapper/d%d 0\n" % (it, it - 1) for it in range(2, levels + 1))
 
 
-def halves(levels):
-    """Devices d1, d2, .. of which each has stripes over both halves of the one before. Three levels of
-    stripes lead each sector back to its place."""
-    return "d1: 0 8 linear sda 0\n" + "".join(
-        "d%d: 0 8 striped 2 1 /dev/mapper/d%d 0 /dev/mapper/d%d 4\n" % (it, it - 1, it - 1)
-        for it in range(2, levels + 1))
-
-
-def row(count, last):
-    """Devices d1, d2, .. of which each lies over the next, and the last over this."""
-    return "".join("d%d: 0 8 linear /dev/mapper/d%d 0\n" % (it, it + 1) for it in range(1, count)) + \
-        "d%d: 0 8 linear %s 0\n" % (count, last)
-
-
 # FILE, DISKS, and the message without its beginning `dmremap: `.
 REFUSED = [
     ("a: 0 8 error\nb:\t0 8 error\n", "", "source: text at 2"),
@@ -58,8 +44,6 @@ REFUSED = [
     ("a: 0 8 linear sdz 0\n", "sda 8\n", "source: unknown at 1"),
     ("a: 0 8 linear /dev/mapper/b 0\n", "sda 8\n", "source: unknown at 1"),
     (chain(33), "sda 8\n", "source: deep at 33"),
-    (row(1024, "/dev/mapper/d1"), "sda 150\n", "source: cycle at 1"),
-    (row(1024, "sda"), "sda 150\n", "source: deep at 1"),
     ("a: 0 60 striped 2 8 sda 0 sdb 0\n", "sda 64\nsdb 64\n", "source: stripe at 1"),
     ("a: 0 100 linear sda 50\n", "sda 149\n", "source: range at 1"),
     ("a: 0 64 striped 2 8 sda 0 sda 33\n", "sda 64\n", "source: range at 1"),
@@ -234,8 +218,6 @@ TAKEN = [
     ("sda: 0 8 linear sda 1\n", "sda 9\n", "W sda 0 8\n", "1 W sda 1 8\n"),
     ("a: 0 1 linear /dev/mapperx 0\n", "/dev/mapperx 1\n", "R a 0 1\n", "1 R /dev/mapperx 0 1\n"),
     (chain(32), "sda 8\n", "R d32 0 8\n", "1 R sda 0 8\n"),
-    (halves(32), "sda 8\n", "R d31 0 8\nR d32 0 8\n", "1 R sda 0 8\n" + "".join(
-        "2 R sda %d 1\n" % it for it in (0, 4, 1, 5, 2, 6, 3, 7))),
 ]
 
 
