@@ -1,17 +1,17 @@
--- Where no claims meet, what claims a sector of its own is one column of one line.
-use Rattle.std.proofs.Common.{◌≡◌, ℕ, ◌<◌, ◌≤◌, Bool, false, Some, length, refl, sym, ap, subst, ◌∙◌}
+-- Where no claims meet, two that may not share a sector are one column of one line.
+use Rattle.std.proofs.Common.{◌≡◌, ℕ, ◌<◌, ◌≤◌, false, Some, length, refl, sym, ap, subst, ◌∙◌}
 use Rattle.std.specs.Prelude.{option_map, slice_get}
 use Rattle.std.specs.List.{range_with_len}
 use Rattle.std.proofs.lemmas.Option.{get_or_from_slice_get, slice_get-map, slice_get_within}
 use Rattle.dm_table.specs.declared.table.Line.{Line}
+use Rattle.dm_table.specs.declared.table.Use.{Use}
 use Rattle.dm_stack.specs.declared.claim.Claim.{Claim}
-use Rattle.dm_stack.specs.declared.claim.ClaimKind.{ClaimKind}
-use Rattle.dm_stack.specs.declared.claim.ClaimKind.TheVariants.{Own, Reading}
 use Rattle.dm_stack.specs.declared.id.Lower.{Lower}
 use Rattle.dm_stack.specs.declared.id.Lower.TheVariants.{Device}
-use Rattle.dm_stack.specs.Claims.{NeverMeet, HasSector, IsTidy, IsTop, claim_kind, claims, device_claims, line_claims, may_share, span_claim, span_end}
+use Rattle.dm_stack.specs.Claims.{NeverMeet, HasSector, IsTidy, IsTop, claims, device_claims, line_claims, may_share, span_claim, span_end}
 use Rattle.dm_stack.specs.Description.{Description, lines_at, lower_len, lower_of}
 use Rattle.dm_table.specs.Span.{Span, spans}
+use Rattle.dm_stack.proofs.MeetLemmas.{share_turn}
 use Rattle.dm_stack.proofs.Parts.{PairsAt, number_at, pairs_at, pairs_part, part_there, same_part, same_place}
 
 -- a column of a line of a device, which names this lower one
@@ -22,8 +22,8 @@ pub record IsNamed (stack : Description) (device place column : ℕ) (line : Lin
   pub span_at : slice_get (spans line) column ≡ Some span
   pub on : lower_of stack span.to ≡ lower
 
--- and which names a sector of it, perhaps only to read it
-pub record IsVia (stack : Description) (device place column : ℕ) (line : Line) (lower : Lower) (at : ℕ) (reads : Bool) : Type 0 where
+-- and which names a sector of it, to use it in this way
+pub record IsVia (stack : Description) (device place column : ℕ) (line : Line) (lower : Lower) (at : ℕ) (kind : Use) : Type 0 where
   pub there : device < length stack.devices
   pub line_at : slice_get (lines_at stack device) place ≡ Some line
   pub span : Span
@@ -31,19 +31,13 @@ pub record IsVia (stack : Description) (device place column : ℕ) (line : Line)
   pub on : lower_of stack span.to ≡ lower
   pub from : span.offset ≤ at
   pub before : at < span_end (lower_len stack (lower_of stack span.to)) span.offset span.len
-  pub for_reading : span.read_only ≡ reads
+  pub used : span.kind ≡ kind
 
-share_sym : (a b : ClaimKind) → may_share a b ≡ may_share b a
-share_sym Own Own = refl
-share_sym Own Reading = refl
-share_sym Reading Own = refl
-share_sym Reading Reading = refl
+claim_at : (stack : Description) (device place column : ℕ) (line : Line) (lower : Lower) (at : ℕ) (kind : Use) (via : IsVia stack device place column line lower at kind) → slice_get (line_claims stack device line) column ≡ Some (span_claim stack device via.span)
+claim_at stack device place column line lower at kind via = slice_get-map (span_claim stack device) (spans line) column ∙ ap (option_map (span_claim stack device)) via.span_at
 
-claim_at : (stack : Description) (device place column : ℕ) (line : Line) (lower : Lower) (at : ℕ) (reads : Bool) (via : IsVia stack device place column line lower at reads) → slice_get (line_claims stack device line) column ≡ Some (span_claim stack device via.span)
-claim_at stack device place column line lower at reads via = slice_get-map (span_claim stack device) (spans line) column ∙ ap (option_map (span_claim stack device)) via.span_at
-
-has_it : (stack : Description) (device place column : ℕ) (line : Line) (lower : Lower) (at : ℕ) (reads : Bool) (via : IsVia stack device place column line lower at reads) → HasSector (span_claim stack device via.span) lower at
-has_it stack device place column line lower at reads via = record { on = via.on; from = via.from; before = via.before }
+has_it : (stack : Description) (device place column : ℕ) (line : Line) (lower : Lower) (at : ℕ) (kind : Use) (via : IsVia stack device place column line lower at kind) → HasSector (span_claim stack device via.span) lower at
+has_it stack device place column line lower at kind via = record { on = via.on; from = via.from; before = via.before }
 
 -- Two of one device, line by line and column by column
 
@@ -71,18 +65,17 @@ by_device stack d e p q i j l m x y same pairs on_p on_q at_i at_j never neither
     let parts = one_in_device stack d p q i j l m x y pairs on_p (subst (λ (z : ℕ). slice_get (lines_at stack z) q ≡ Some m) (sym same) on_q) at_i (subst (λ (z : ℕ). slice_get (line_claims stack z m) j ≡ Some y) (sym same) at_j) never neither in
     record { devices = same; lines = parts.0; columns = parts.1 }
 
--- two columns that name one sector are one, where the first one does not only read it
-pub one_via : (stack : Description) (d e p q i j : ℕ) (l m : Line) (lower : Lower) (at : ℕ) (reads : Bool) → IsTidy stack → IsVia stack d p i l lower at false → IsVia stack e q j m lower at reads → AreOne d e i j l m
-one_via stack d e p q i j l m lower at reads tidy a b =
+-- two columns that name one sector are one, where they may not share it
+pub one_via : (stack : Description) (d e p q i j : ℕ) (l m : Line) (lower : Lower) (at : ℕ) (one other : Use) → IsTidy stack → IsVia stack d p i l lower at one → IsVia stack e q j m lower at other → may_share one other ≡ false → AreOne d e i j l m
+one_via stack d e p q i j l m lower at one other tidy a b rivals =
     let x = span_claim stack d a.span in let y = span_claim stack e b.span in
-    let own : x.kind ≡ Own = ap claim_kind a.for_reading in
-    let clash : may_share x.kind y.kind ≡ false = ap (λ (kind : ClaimKind). may_share kind y.kind) own in
-    let has_x = has_it stack d p i l lower at false a in let has_y = has_it stack e q j m lower at reads b in
+    let clash : may_share x.kind y.kind ≡ false = ap (λ (kind : Use). may_share kind y.kind) a.used ∙ ap (may_share one) b.used ∙ rivals in
+    let has_x = has_it stack d p i l lower at one a in let has_y = has_it stack e q j m lower at other b in
     let never : NeverMeet x y → ⊥ = λ apart. apart lower at (record { here = has_x; there = has_y; rivals = clash }) in
-    let neither : NeverMeet y x → ⊥ = λ apart. apart lower at (record { here = has_y; there = has_x; rivals = share_sym y.kind x.kind ∙ clash }) in
+    let neither : NeverMeet y x → ⊥ = λ apart. apart lower at (record { here = has_y; there = has_x; rivals = share_turn y.kind x.kind ∙ clash }) in
     let pairs = pairs_at NeverMeet (claims stack) tidy in
     let ids = range_with_len 0 (length stack.devices) in
-    let at_d = claim_at stack d p i l lower at false a in let at_e = claim_at stack e q j m lower at reads b in
+    let at_d = claim_at stack d p i l lower at one a in let at_e = claim_at stack e q j m lower at other b in
     let on_d = part_there (line_claims stack d) (lines_at stack d) p i l x a.line_at at_d in
     let on_e = part_there (line_claims stack e) (lines_at stack e) q j m y b.line_at at_e in
     let number_d = number_at (length stack.devices) d a.there in

@@ -26,7 +26,8 @@ good_chunk stack lines len (targets.Linear to offset) good = tt
 good_chunk stack lines len (targets.Striped chunk columns) good = tt
 good_chunk stack lines len targets.Zero good = tt
 good_chunk stack lines len targets.Error good = tt
-good_chunk stack lines len (targets.Snapshot origin store chunk) good =
+good_chunk stack lines len (targets.Origin origin) good = tt
+good_chunk stack lines len (targets.Snapshot origin store kind chunk) good =
     let a = or_parts (not (lines == 1)) (is_bad_chunk chunk || not (len == lower_len stack (lower_of stack origin))) good in
     chunk_within chunk (or_parts (is_bad_chunk chunk) (not (len == lower_len stack (lower_of stack origin))) a.1).0
 

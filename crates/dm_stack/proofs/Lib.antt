@@ -1,6 +1,6 @@
 pub mod Apart
+pub mod ByDevice
 pub mod ChunkLemmas
-pub mod ClaimLemmas
 pub mod CrowdLemmas
 pub mod DepthLemmas
 pub mod DepthRule
@@ -15,7 +15,9 @@ pub mod NameLemmas
 pub mod TidyLemmas
 pub mod TopLemmas
 pub mod MeetLemmas
+pub mod Members
 pub mod OneFault
+pub mod OverLemmas
 pub mod Parts
 pub mod Passes
 pub mod SweepLemmas

@@ -2,14 +2,15 @@
 use Rattle.std.proofs.Common.{◌≡◌, ℕ, Bool, true, false, not, refl, sym, ap, ◌∙◌, arith}
 use Rattle.std.specs.Prelude.{◌&&◌, ◌==◌, max, min, nat_lt}
 use Rattle.std.proofs.lemmas.Bool.{and_from, and_parts, eq-eqb, eqb-true, lt-ltb, ltb-true, true≢false}
+use Rattle.dm_table.specs.declared.table.Use.{Use}
+use Rattle.dm_table.specs.declared.table.Use.TheVariants.{Own, Reading, Serving}
 use Rattle.dm_stack.specs.declared.claim.Claim.{Claim}
-use Rattle.dm_stack.specs.declared.claim.ClaimKind.{ClaimKind}
-use Rattle.dm_stack.specs.declared.claim.ClaimKind.TheVariants.{Own, Reading}
 use Rattle.dm_stack.specs.declared.id.Lower.{Lower}
 use Rattle.dm_stack.specs.declared.id.Lower.TheVariants.{Device, Disk}
 use Rattle.dm_stack.specs.declared.tidy.Numbered.{Numbered}
 use Rattle.dm_stack.specs.Claims.{NeverMeet, MeetAt, may_share}
-use Rattle.dm_stack.specs.Sweep.{is_same_lower, meets, rivals}
+use Rattle.dm_stack.specs.Description.{is_same_lower}
+use Rattle.dm_stack.specs.Sweep.{meets, rivals}
 
 pub same_is : (one other : Lower) → is_same_lower one other ≡ true → one ≡ other
 same_is (Device one) (Device other) e = ap (λ (id : ℕ). Device id) (eqb-true one other e)
@@ -17,7 +18,7 @@ same_is (Device one) (Disk other) e = absurd (true≢false (sym e))
 same_is (Disk one) (Device other) e = absurd (true≢false (sym e))
 same_is (Disk one) (Disk other) e = ap (λ (id : ℕ). Disk id) (eqb-true one other e)
 
-self_same : (lower : Lower) → is_same_lower lower lower ≡ true
+pub self_same : (lower : Lower) → is_same_lower lower lower ≡ true
 self_same (Device id) = eq-eqb id id refl
 self_same (Disk id) = eq-eqb id id refl
 
@@ -32,11 +33,16 @@ same_turn (Device one) (Disk other) = refl
 same_turn (Disk one) (Device other) = refl
 same_turn (Disk one) (Disk other) = eq_turn one other
 
-share_turn : (one other : ClaimKind) → may_share one other ≡ may_share other one
+pub share_turn : (one other : Use) → may_share one other ≡ may_share other one
 share_turn Own Own = refl
 share_turn Own Reading = refl
+share_turn Own Serving = refl
 share_turn Reading Own = refl
 share_turn Reading Reading = refl
+share_turn Reading Serving = refl
+share_turn Serving Own = refl
+share_turn Serving Reading = refl
+share_turn Serving Serving = refl
 
 max_turn : (a b : ℕ) → max a b ≡ max b a
 max_turn a b = omega arith

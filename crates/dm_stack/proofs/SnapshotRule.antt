@@ -1,10 +1,9 @@
 -- In a sound stack the snapshots are the devices whose first sector lies in a snapshot's line, and that line is all of them.
 use Rattle.std.proofs.Common.{◌≡◌, ℕ, zero, suc, ◌+◌, ◌<◌, ◌≤◌, Bool, true, false, cond, not, inl, inr, ◌⊎◌, List, [], ◌∷◌, Some, arith, refl, sym, ap, subst, ◌∙◌, length}
 use Rattle.std.specs.Prelude.{◌==◌, ◌||◌, filter, find, option_map}
-use Rattle.std.specs.List.{AllByRecursion, Contains, range_with_len}
+use Rattle.std.specs.List.{AllByRecursion, range_with_len}
 use Rattle.std.proofs.lemmas.Bool.{cases_lt, eqb-true, not-false, or_cases, or_left, or_parts, or_right}
-use Rattle.std.proofs.lemmas.List.Elements.{All-from_recursion, Contains-append_cases, Contains-append_left, Contains-append_right}
-use Rattle.std.proofs.lemmas.List.FromFn.{get_or-range_with_len, length-range_with_len}
+use Rattle.std.proofs.lemmas.List.Elements.{All-from_recursion}
 use Rattle.std.proofs.lemmas.Option.{slice_get_past}
 use Rattle.dm_table.specs.declared.table.Line.{Line}
 use Rattle.dm_table.specs.declared.table.Target.{Target}
@@ -13,36 +12,16 @@ use Rattle.dm_stack.specs.declared.found_line.FoundLine.{FoundLine}
 use Rattle.dm_stack.specs.declared.found_line.FoundSnapshot.{FoundSnapshot}
 use Rattle.dm_stack.specs.declared.found_line.FoundTarget.{FoundTarget}
 use Rattle.dm_stack.specs.declared.found_line.FoundTarget.TheVariants as found
-use Rattle.dm_stack.specs.Below.{found_line, found_target, holds, line_of}
+use Rattle.dm_stack.specs.Below.{found_at, found_line, found_target, holds, line_of}
 use Rattle.dm_stack.specs.Description.{Description, device_len, end_of, lines_at, lines_or_none, lower_len, lower_of}
 use Rattle.dm_stack.specs.Loaded.{AreSnapshots, IsSnapshot, has_snapshot, is_snapshot, snapshots}
+use Rattle.dm_stack.specs.Over.{found_snapshot}
 use Rattle.dm_stack.specs.Soundness.{IsSound, is_bad_chunk, is_bad_snapshot}
 use Rattle.dm_stack.proofs.LayoutLemmas.{AreInRow}
+use Rattle.dm_stack.proofs.Members.{in_range, kept}
 use Rattle.dm_stack.proofs.SoundLines.{device_some, device_sound, holds_from, lines_there, there}
 
 -- Numbers that pass a test, among those from 0 on
-
-only : (x y : ℕ) → Contains (y ∷ []) x → y ≡ x
-only x y (zero, below, is) = is
-only x y (suc k, below, is) = absurd (omega (arith, below))
-
-kept_by : (x y : ℕ) (rest : List ℕ) (b : Bool) → Contains rest x → Contains (cond b (y ∷ rest) rest) x
-kept_by x y rest true named = Contains-append_right (y ∷ []) rest x named
-kept_by x y rest false named = named
-
-kept : (p : ℕ → Bool) (xs : List ℕ) (x : ℕ) → p x ≡ true → Contains xs x → Contains (filter p xs) x
-kept p [] x passes (k, below, is) = absurd (omega (arith, below))
-kept p (y ∷ ys) x passes named = by_part (kept p ys x passes) (Contains-append_cases (y ∷ []) ys x named)
-  where
-    by_part : (Contains ys x → Contains (filter p ys) x) → Contains (y ∷ []) x ⊎ Contains ys x → Contains (filter p (y ∷ ys)) x
-    by_part more (inl here) =
-        let same = only x y here in
-        let yes : p y ≡ true = ap p same ∙ passes in
-        rw yes (Contains-append_left (y ∷ []) (filter p ys) x here)
-    by_part more (inr later) = kept_by x y (filter p ys) (p y) (more later)
-
-in_range : (n x : ℕ) → x < n → Contains (range_with_len 0 n) x
-in_range n x below = (x, omega (arith, below, length-range_with_len 0 n), get_or-range_with_len 0 n x x below ∙ omega arith)
 
 each_by : (P : ℕ → Type 0) (x : ℕ) (rest : List ℕ) (b : Bool) → (b ≡ true → P x) → AllByRecursion P rest → AllByRecursion P (cond b (x ∷ rest) rest)
 each_by P x rest true here more = (here refl, more)
@@ -60,7 +39,8 @@ one_by stack lines len (targets.Linear to offset) good is = absurd cc
 one_by stack lines len (targets.Striped chunk columns) good is = absurd cc
 one_by stack lines len targets.Zero good is = absurd cc
 one_by stack lines len targets.Error good is = absurd cc
-one_by stack lines len (targets.Snapshot origin store chunk) good is =
+one_by stack lines len (targets.Origin origin) good is = absurd cc
+one_by stack lines len (targets.Snapshot origin store kind chunk) good is =
     eqb-true _ _ (not-false _ (or_parts (not (lines == 1)) (is_bad_chunk chunk || not (len == lower_len stack (lower_of stack origin))) good).0)
 
 one_of : (stack : Description) (count : ℕ) (lines : List Line) → AllByRecursion (λ line. is_bad_snapshot stack count line.len line.target ≡ false) lines → has_snapshot lines ≡ true → count ≡ 1
@@ -81,7 +61,8 @@ over stack (targets.Linear to offset) is = absurd cc
 over stack (targets.Striped chunk columns) is = absurd cc
 over stack targets.Zero is = absurd cc
 over stack targets.Error is = absurd cc
-over stack (targets.Snapshot origin store chunk) is = record { snapshot = record { origin = lower_of stack origin; store = lower_of stack store; chunk = chunk }; is = refl }
+over stack (targets.Snapshot origin store kind chunk) is = record { snapshot = found_snapshot stack origin store chunk; is = refl }
+over stack (targets.Origin origin) is = absurd cc
 
 -- the only line of a device
 pub record IsOnly (lines : List Line) : Type 0 where
@@ -101,32 +82,48 @@ alone (line ∷ next ∷ lines) one is = absurd (omega (arith, one))
 line_from : (line : Line) → 0 < line.len → line.start ≡ 0 → line_of (line ∷ []) 0 ≡ Some line
 line_from line some from = let here = holds_from line 0 (omega (arith, from)) (omega (arith, some)) in rw here refl
 
-is_whole : (stack : Description) (device : ℕ) (lines : List Line) → IsSound stack → device < length stack.devices → lines_at stack device ≡ lines → AreInRow 0 lines → IsOnly lines → IsSnapshot stack device
+-- the line of a snapshot: it is all of its device
+pub record IsSnapshotLine (stack : Description) (device : ℕ) : Type 0 where
+  pub line : Line
+  pub only : lines_at stack device ≡ line ∷ []
+  pub over : is_snapshot line.target ≡ true
+  pub at : found_at stack device 0 ≡ Some (record { start = 0; len = device_len stack device; target = found_target stack line.target })
+
+is_whole : (stack : Description) (device : ℕ) (lines : List Line) → IsSound stack → device < length stack.devices → lines_at stack device ≡ lines → AreInRow 0 lines → IsOnly lines → IsSnapshotLine stack device
 is_whole stack device lines sound within are row alone =
     let line = alone.line in
-    let target = over stack line.target alone.over in
     let from : line.start ≡ 0 = (subst (AreInRow 0) alone.is row).0 in
     let end : device_len stack device ≡ line.start + line.len = ap end_of (are ∙ alone.is) in
     let len : line.len ≡ device_len stack device = omega (arith, from, end) in
     let some = device_some stack device sound within in
     record {
-      there = within;
-      snapshot = target.snapshot;
-      line =
+      line = line;
+      only = are ∙ alone.is;
+      over = alone.over;
+      at =
           ap (λ (ls : List Line). option_map (found_line stack) (line_of ls 0)) (are ∙ alone.is)
           ∙ ap (option_map (found_line stack)) (line_from line (omega (arith, len, some)) from)
           ∙ ap (λ (s : ℕ). Some (record { start = s; len = line.len; target = found_target stack line.target })) from
-          ∙ ap (λ (l : ℕ). Some (record { start = 0; len = l; target = found_target stack line.target })) len
-          ∙ ap (λ (t : FoundTarget). Some (record { start = 0; len = device_len stack device; target = t })) target.is;
+          ∙ ap (λ (l : ℕ). Some (record { start = 0; len = l; target = found_target stack line.target })) len;
     }
 
-each_snapshot : (stack : Description) → IsSound stack → (device : ℕ) → device < length stack.devices → has_snapshot (lines_at stack device) ≡ true → IsSnapshot stack device
-each_snapshot stack sound device within is =
+pub snapshot_line : (stack : Description) → IsSound stack → (device : ℕ) → device < length stack.devices → has_snapshot (lines_at stack device) ≡ true → IsSnapshotLine stack device
+snapshot_line stack sound device within is =
     let d = there stack.devices device within in
     let lines = lines_there stack device d.it d.at in
     let s = device_sound stack device d.it sound d.at in
     let has = subst (λ (ls : List Line). has_snapshot ls ≡ true) lines is in
     is_whole stack device d.it.lines sound within lines s.placed (alone d.it.lines (one_of stack (length d.it.lines) d.it.lines s.fitting has) has)
+
+each_snapshot : (stack : Description) → IsSound stack → (device : ℕ) → device < length stack.devices → has_snapshot (lines_at stack device) ≡ true → IsSnapshot stack device
+each_snapshot stack sound device within is =
+    let line = snapshot_line stack sound device within is in
+    let target = over stack line.line.target line.over in
+    record {
+      there = within;
+      snapshot = target.snapshot;
+      line = line.at ∙ ap (λ (t : FoundTarget). Some (record { start = 0; len = device_len stack device; target = t })) target.is;
+    }
 
 -- A device whose first sector lies in a snapshot's line has one
 
@@ -135,9 +132,10 @@ target_over stack (targets.Linear to offset) snapshot is = absurd cc
 target_over stack (targets.Striped chunk columns) snapshot is = absurd cc
 target_over stack targets.Zero snapshot is = absurd cc
 target_over stack targets.Error snapshot is = absurd cc
-target_over stack (targets.Snapshot origin store chunk) snapshot is = refl
+target_over stack (targets.Snapshot origin store kind chunk) snapshot is = refl
+target_over stack (targets.Origin origin) snapshot is = absurd cc
 
-any_found : (stack : Description) (test : Line → Bool) (lines : List Line) (line : FoundLine) (snapshot : FoundSnapshot) → option_map (found_line stack) (find test lines) ≡ Some line → line.target ≡ found.Snapshot snapshot → has_snapshot lines ≡ true
+pub any_found : (stack : Description) (test : Line → Bool) (lines : List Line) (line : FoundLine) (snapshot : FoundSnapshot) → option_map (found_line stack) (find test lines) ≡ Some line → line.target ≡ found.Snapshot snapshot → has_snapshot lines ≡ true
 any_found stack test [] line snapshot at is = absurd cc
 any_found stack test (first ∷ lines) line snapshot at is = by_test (λ e. any_found stack test lines line snapshot e is) (test first) at
   where
@@ -147,7 +145,7 @@ any_found stack test (first ∷ lines) line snapshot at is = by_test (λ e. any_
         or_left (is_snapshot first.target) (has_snapshot lines) (target_over stack first.target snapshot (same ∙ is))
     by_test more false e = or_right (is_snapshot first.target) (has_snapshot lines) (more e)
 
-lines_within : (stack : Description) (device : ℕ) → has_snapshot (lines_at stack device) ≡ true → device < length stack.devices
+pub lines_within : (stack : Description) (device : ℕ) → has_snapshot (lines_at stack device) ≡ true → device < length stack.devices
 lines_within stack device is = by_place (cases_lt device (length stack.devices))
   where
     by_place : (device < length stack.devices) ⊎ (length stack.devices ≤ device) → device < length stack.devices

@@ -8,15 +8,18 @@ use Rattle.std.proofs.lemmas.List.Elements.{All-from_recursion}
 use Rattle.std.proofs.Math.Nat.{div-add-mod, mul_comm}
 use Rattle.dm_table.specs.declared.table.Column.{Column}
 use Rattle.dm_table.specs.declared.table.DevRef.{DevRef}
+use Rattle.dm_table.specs.declared.table.StoreKind.{StoreKind}
 use Rattle.dm_table.specs.declared.table.Target.{Target}
 use Rattle.dm_table.specs.declared.table.Target.TheVariants as targets
 use Rattle.dm_table.specs.declared.table.Line.{Line}
+use Rattle.dm_table.specs.declared.table.Use.TheVariants.{Own}
 use Rattle.dm_table.specs.declared.table.DeviceSpec.{DeviceSpec}
 use Rattle.dm_table.specs.declared.disk.Disk.{Disk}
 use Rattle.dm_table.specs.declared.load_fault.LoadKind.TheVariants.{Limit, Empty, Stripe, Range, Snapshot, Store}
 use Rattle.dm_stack.specs.declared.found_line.FoundLine.{FoundLine}
 use Rattle.dm_stack.specs.Description.{Description, lines_at, lines_or_none, end_of, device_len, lower_len, lower_of}
-use Rattle.dm_stack.specs.Below.{holds, line_of, found_line, found_columns, found_target, found_at, LiesIn, AreStripes, IsSnapshotSound, IsTargetSound, HoldsSoundly}
+use Rattle.dm_stack.specs.Below.{holds, line_of, found_line, found_columns, found_target, found_at, LiesIn, AreStripes, IsOriginSound, IsSnapshotSound, IsTargetSound, HoldsSoundly}
+use Rattle.dm_stack.specs.Over.{found_snapshot, snapshots_over}
 use Rattle.dm_stack.specs.Soundness.{all_lines, is_large, without_lines, empty_in, misplaced_in, is_bad_chunk, is_bad_snapshot, is_bad_stripe, has_bad_store, has_bad_stripes, is_past, passes_end, bad_snapshots_in, HaveSmallEnds, IsSound}
 use Rattle.dm_table.specs.Span.{column_span, target_spans}
 use Rattle.dm_stack.proofs.HandedOn.{line_within, lines_within}
@@ -119,9 +122,9 @@ pub record IsWhole (stack : Description) (id : ℕ) (line : Line) : Type 0 where
   pub from : line.start ≡ 0
   pub len : line.len ≡ device_len stack id
 
-snapshot_sound : (stack : Description) (id lines : ℕ) (line : Line) (origin store : DevRef) (chunk : ℕ) → (lines ≡ 1 → IsWhole stack id line) → is_bad_snapshot stack lines line.len (targets.Snapshot origin store chunk) ≡ false → has_bad_store stack (targets.Snapshot origin store chunk) ≡ false
-    → IsSnapshotSound stack id line.start line.len (record { origin = lower_of stack origin; store = lower_of stack store; chunk = chunk })
-snapshot_sound stack id lines line origin store chunk whole good stored =
+snapshot_sound : (stack : Description) (id lines : ℕ) (line : Line) (origin store : DevRef) (kind : StoreKind) (chunk : ℕ) → (lines ≡ 1 → IsWhole stack id line) → is_bad_snapshot stack lines line.len (targets.Snapshot origin store kind chunk) ≡ false → has_bad_store stack (targets.Snapshot origin store kind chunk) ≡ false
+    → IsSnapshotSound stack id line.start line.len (found_snapshot stack origin store chunk)
+snapshot_sound stack id lines line origin store kind chunk whole good stored =
     let a = or_parts (not (lines == 1)) (is_bad_chunk chunk || not (line.len == lower_len stack (lower_of stack origin))) good in
     let b = or_parts (is_bad_chunk chunk) (not (line.len == lower_len stack (lower_of stack origin))) a.1 in
     let limits = chunk_within chunk b.0 in
@@ -135,13 +138,21 @@ snapshot_sound stack id lines line origin store chunk whole good stored =
       store = not-false _ stored;
     }
 
+origin_sound : (stack : Description) (id lines : ℕ) (line : Line) (origin : DevRef) → (lines ≡ 1 → IsWhole stack id line) → is_bad_snapshot stack lines line.len (targets.Origin origin) ≡ false
+    → IsOriginSound stack id line.start line.len (record { to = lower_of stack origin; over = snapshots_over stack (lower_of stack origin) })
+origin_sound stack id lines line origin whole good =
+    let a = or_parts (not (lines == 1)) (not (line.len == lower_len stack (lower_of stack origin))) good in
+    let alone = whole (eqb-true _ _ (not-false _ a.0)) in
+    record { from = alone.from; whole = alone.len; same = sym (eqb-true _ _ (not-false _ a.1)); over = refl }
+
 target_sound : (stack : Description) (id lines : ℕ) (line : Line) (target : Target) → (lines ≡ 1 → IsWhole stack id line) → has_bad_stripes line target ≡ false → list_any (is_past stack) (target_spans line.len target) ≡ false → is_bad_snapshot stack lines line.len target ≡ false → has_bad_store stack target ≡ false
     → IsTargetSound stack id line.start line.len (found_target stack target)
-target_sound stack id lines line (targets.Linear to offset) whole good inside fitting stored = ltb-false _ _ (or_parts (is_past stack (record { to = to; offset = offset; len = Some line.len; read_only = false })) false inside).0
+target_sound stack id lines line (targets.Linear to offset) whole good inside fitting stored = ltb-false _ _ (or_parts (is_past stack (record { to = to; offset = offset; len = Some line.len; kind = Own })) false inside).0
 target_sound stack id lines line (targets.Striped chunk columns) whole good inside fitting stored = stripes_sound stack line.len chunk columns good inside
 target_sound stack id lines line targets.Zero whole good inside fitting stored = tt
 target_sound stack id lines line targets.Error whole good inside fitting stored = tt
-target_sound stack id lines line (targets.Snapshot origin store chunk) whole good inside fitting stored = snapshot_sound stack id lines line origin store chunk whole fitting stored
+target_sound stack id lines line (targets.Snapshot origin store kind chunk) whole good inside fitting stored = snapshot_sound stack id lines line origin store kind chunk whole fitting stored
+target_sound stack id lines line (targets.Origin origin) whole good inside fitting stored = origin_sound stack id lines line origin whole fitting
 
 -- The line of a sector of a sound stack
 

@@ -8,36 +8,51 @@ use Rattle.std.proofs.lemmas.Bool.{le-ltb, lt-ltb}
 use Rattle.std.proofs.lemmas.List.{get_or-take, get_or_default, length-take, take_more}
 use Rattle.std.proofs.lemmas.List.Elements.{recursion_from_All}
 use Rattle.std.proofs.lemmas.List.Sums.{fold-append}
-use Rattle.dm_stack.specs.declared.claim.ClaimKind.{ClaimKind}
-use Rattle.dm_stack.specs.declared.claim.ClaimKind.TheVariants.{Own, Reading}
+use Rattle.dm_table.specs.declared.table.Use.{Use}
+use Rattle.dm_table.specs.declared.table.Use.TheVariants.{Own, Reading, Serving}
 use Rattle.dm_stack.specs.declared.id.Lower.{Lower}
 use Rattle.dm_stack.specs.declared.reach.Reach.{Reach}
 use Rattle.dm_stack.specs.declared.tidy.Numbered.{Numbered}
 use Rattle.dm_stack.specs.Claims.{may_share}
-use Rattle.dm_stack.specs.Sweep.{has_pair, is_same_lower, meets, no_reach, own_end, reach_meets, reach_next, reach_of, reach_with, rival_end, rivals}
+use Rattle.dm_stack.specs.Description.{is_same_lower}
+use Rattle.dm_stack.specs.Sweep.{has_pair, held_end, meets, no_reach, own_end, reach_meets, reach_next, reach_of, reach_with, rival_end, rivals}
 
 -- a claim that starts no earlier meets one of these, or the reach of others, exactly if it meets the reach of all
 ends_meet : (start first end last reach : ℕ) → first ≤ start → ((nat_lt (max first start) (min last end) && true) || (nat_lt start end && nat_lt start reach)) ≡ (nat_lt start end && nat_lt start (max reach last))
 ends_meet start first end last reach le = grind arith
 
-shares : (b x y : Bool) → ((b && false) || x) ≡ x
-shares true x y = refl
-shares false x y = refl
+shared : (b : Bool) (start end reach : ℕ) → ((b && false) || (nat_lt start end && nat_lt start reach)) ≡ (nat_lt start end && nat_lt start (max reach 0))
+shared true start end reach = grind arith
+shared false start end reach = grind arith
 
-reach_zero : (reach : ℕ) → max reach 0 ≡ reach
-reach_zero reach = omega arith
+-- the same where they may share, which they never meet by
+one_meets : (share : Bool) (start first end last reach : ℕ) → first ≤ start
+    → ((nat_lt (max first start) (min last end) && not share) || (nat_lt start end && nat_lt start reach)) ≡ (nat_lt start end && nat_lt start (max reach (cond share 0 last)))
+one_meets true start first end last reach le = shared (nat_lt (max first start) (min last end)) start end reach
+one_meets false start first end last reach le = ends_meet start first end last reach le
+
+-- the end that a claim must not start before is the greatest of those that it may not share with
+rival_more : (kind other : Use) (last : ℕ) (reach : Reach)
+    → rival_end other (record { own = max reach.own (own_end kind last); held = max reach.held (held_end kind last); all = max reach.all last }) ≡ max (rival_end other reach) (cond (may_share kind other) 0 last)
+rival_more Own Own last reach = refl
+rival_more Own Reading last reach = refl
+rival_more Own Serving last reach = refl
+rival_more Reading Own last reach = refl
+rival_more Reading Reading last reach = refl
+rival_more Reading Serving last reach = refl
+rival_more Serving Own last reach = refl
+rival_more Serving Reading last reach = refl
+rival_more Serving Serving last reach = refl
 
 -- one claim more: whether it counts, and whether it is on the same device or disk
-one_more : (counts same : Bool) (kind other : ClaimKind) (start first end last : ℕ) (reach : Reach) → first ≤ start
+one_more : (counts same : Bool) (kind other : Use) (start first end last : ℕ) (reach : Reach) → first ≤ start
     → (((counts && true) && (same && (nat_lt (max first start) (min last end) && not (may_share kind other)))) || (nat_lt start end && nat_lt start (rival_end other reach)))
-    ≡ (nat_lt start end && nat_lt start (rival_end other (cond (counts && same) (record { own = max reach.own (own_end kind last); all = max reach.all last }) reach)))
+    ≡ (nat_lt start end && nat_lt start (rival_end other (cond (counts && same) (record { own = max reach.own (own_end kind last); held = max reach.held (held_end kind last); all = max reach.all last }) reach)))
 one_more false same kind other start first end last reach le = refl
 one_more true false kind other start first end last reach le = refl
-one_more true true Own Own start first end last reach le = ends_meet start first end last reach.all le
-one_more true true Reading Own start first end last reach le = ends_meet start first end last reach.all le
-one_more true true Own Reading start first end last reach le = ends_meet start first end last reach.own le
-one_more true true Reading Reading start first end last reach le =
-    shares (nat_lt (max first start) (min last end)) (nat_lt start end && nat_lt start reach.own) true ∙ ap (λ (n : ℕ). nat_lt start end && nat_lt start n) (sym (reach_zero reach.own))
+one_more true true kind other start first end last reach le =
+    one_meets (may_share kind other) start first end last (rival_end other reach) le
+    ∙ ap (λ (n : ℕ). nat_lt start end && nat_lt start n) (sym (rival_more kind other last reach))
 
 or_swap : (a b c : Bool) → ((a || b) || c) ≡ (b || (a || c))
 or_swap true true c = refl
@@ -59,15 +74,16 @@ met_from count next below reach (one ∷ before) starts =
     ∙ ap (λ (b : Bool). list_any (λ one. rivals count one next) before || b) (step count one next reach starts.0 below)
     ∙ met_from count next below (reach_next count next.claim.to reach one) before starts.1
 
-none_reached : (start end : ℕ) (kind : ClaimKind) → (nat_lt start end && nat_lt start (rival_end kind no_reach)) ≡ false
-none_reached start end Own = below_none start end
-  where
-    below_none : (start end : ℕ) → (nat_lt start end && nat_lt start 0) ≡ false
-    below_none start end = grind arith
-none_reached start end Reading = below_none start end
-  where
-    below_none : (start end : ℕ) → (nat_lt start end && nat_lt start 0) ≡ false
-    below_none start end = grind arith
+none_held : (kind : Use) → rival_end kind no_reach ≡ 0
+none_held Own = refl
+none_held Reading = refl
+none_held Serving = refl
+
+below_none : (start end : ℕ) → (nat_lt start end && nat_lt start 0) ≡ false
+below_none start end = grind arith
+
+none_reached : (start end : ℕ) (kind : Use) → (nat_lt start end && nat_lt start (rival_end kind no_reach)) ≡ false
+none_reached start end kind = ap (λ (n : ℕ). nat_lt start end && nat_lt start n) (none_held kind) ∙ below_none start end
 
 or_false : (b : Bool) → (b || false) ≡ b
 or_false true = refl

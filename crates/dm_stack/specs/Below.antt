@@ -7,12 +7,14 @@ use Rattle.dm_table.specs.declared.table.Target.TheVariants as targets
 use Rattle.dm_table.specs.declared.table.Line.{Line}
 use Rattle.dm_stack.specs.declared.id.Lower.{Lower}
 use Rattle.dm_stack.specs.declared.found_line.FoundColumn.{FoundColumn}
+use Rattle.dm_stack.specs.declared.found_line.FoundOrigin.{FoundOrigin}
 use Rattle.dm_stack.specs.declared.found_line.FoundSnapshot.{FoundSnapshot}
 use Rattle.dm_stack.specs.declared.found_line.FoundTarget.{FoundTarget}
 use Rattle.dm_stack.specs.declared.found_line.FoundTarget.TheVariants as found
 use Rattle.dm_stack.specs.declared.found_line.FoundLine.{FoundLine}
 use Rattle.dm_stack.specs.declared.limits.TheConstants.{MOST_CHUNK, MOST_LENGTH, MOST_SNAPSHOT_CHUNK, MOST_STRIPES}
 use Rattle.dm_stack.specs.Description.{Description, device_len, lower_of, lower_len, lines_at}
+use Rattle.dm_stack.specs.Over.{found_snapshot, snapshots_over}
 use Rattle.dm_stack.specs.Store.{IsStore}
 
 -- a line has the sectors from its start to before its end
@@ -32,7 +34,8 @@ found_target stack (targets.Linear to offset) = found.Linear (lower_of stack to)
 found_target stack (targets.Striped chunk columns) = found.Striped chunk (found_columns stack columns)
 found_target stack targets.Zero = found.Zero
 found_target stack targets.Error = found.Error
-found_target stack (targets.Snapshot origin store chunk) = found.Snapshot (record { origin = lower_of stack origin; store = lower_of stack store; chunk = chunk })
+found_target stack (targets.Snapshot origin store kind chunk) = found.Snapshot (found_snapshot stack origin store chunk)
+found_target stack (targets.Origin origin) = found.Origin (record { to = lower_of stack origin; over = snapshots_over stack (lower_of stack origin) })
 
 abbrev pub found_line : Description → Line → FoundLine
 found_line stack line = record { start = line.start; len = line.len; target = found_target stack line.target }
@@ -65,6 +68,7 @@ below_target over (found.Striped chunk columns) distance = below_stripes chunk c
 below_target over found.Zero distance = IsZero
 below_target over found.Error distance = IsError
 below_target over (found.Snapshot snapshot) distance = over snapshot distance
+below_target over (found.Origin origin) distance = Lies origin.to distance
 
 abbrev pub below_line : (over : FoundSnapshot → ℕ → Below) → Option FoundLine → ℕ → Below
 below_line over (Some line) sector = below_target over line.target (sector - line.start)
@@ -109,12 +113,20 @@ pub record IsSnapshotSound (stack : Description) (device start len : ℕ) (snaps
   pub origin : lower_len stack snapshot.origin ≡ len
   pub store : IsStore stack snapshot.store
 
+-- an origin's line is the whole of a device, as long as what it names, and has the snapshots of that
+pub record IsOriginSound (stack : Description) (device start len : ℕ) (origin : FoundOrigin) : Type 0 where
+  pub from : start ≡ 0
+  pub whole : len ≡ device_len stack device
+  pub same : lower_len stack origin.to ≡ len
+  pub over : origin.over ≡ snapshots_over stack origin.to
+
 abbrev pub IsTargetSound : Description → (device start len : ℕ) → FoundTarget → Type 0
 IsTargetSound stack device start len (found.Linear to offset) = LiesIn stack to offset len
 IsTargetSound stack device start len (found.Striped chunk columns) = AreStripes stack len chunk columns
 IsTargetSound stack device start len found.Zero = Unit {0}
 IsTargetSound stack device start len found.Error = Unit {0}
 IsTargetSound stack device start len (found.Snapshot snapshot) = IsSnapshotSound stack device start len snapshot
+IsTargetSound stack device start len (found.Origin origin) = IsOriginSound stack device start len origin
 
 pub record HoldsSoundly (stack : Description) (device : ℕ) (line : FoundLine) (sector : ℕ) : Type 0 where
   pub from : line.start ≤ sector

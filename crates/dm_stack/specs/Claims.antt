@@ -2,9 +2,9 @@
 use Rattle.std.specs.Prelude.{◌≡◌, ℕ, ◌+◌, ◌≤◌, ◌<◌, Bool, true, false, List, ◌∷◌, ◌++◌, Option, Some, None, length, map}
 use Rattle.std.specs.List.{All, AllPairs, flat_map, range_with_len}
 use Rattle.dm_table.specs.declared.table.Line.{Line}
+use Rattle.dm_table.specs.declared.table.Use.{Use}
+use Rattle.dm_table.specs.declared.table.Use.TheVariants.{Own, Reading, Serving}
 use Rattle.dm_stack.specs.declared.claim.Claim.{Claim}
-use Rattle.dm_stack.specs.declared.claim.ClaimKind.{ClaimKind}
-use Rattle.dm_stack.specs.declared.claim.ClaimKind.TheVariants.{Own, Reading}
 use Rattle.dm_stack.specs.declared.clash.Clash.{Clash}
 use Rattle.dm_stack.specs.declared.id.Lower.{Lower}
 use Rattle.dm_stack.specs.declared.id.Lower.TheVariants.{Device, Disk}
@@ -16,11 +16,6 @@ abbrev pub span_end : (whole offset : ℕ) → Option ℕ → ℕ
 span_end whole offset (Some len) = offset + len
 span_end whole offset None = whole
 
--- what is only read is claimed for reading
-abbrev pub claim_kind : (read_only : Bool) → ClaimKind
-claim_kind true = Reading
-claim_kind false = Own
-
 -- what a device claims by a span of a line
 abbrev pub span_claim : Description → (device : ℕ) → Span → Claim
 span_claim stack device span = record {
@@ -28,10 +23,10 @@ span_claim stack device span = record {
   to = lower_of stack span.to;
   start = span.offset;
   end = span_end (lower_len stack (lower_of stack span.to)) span.offset span.len;
-  kind = claim_kind span.read_only;
+  kind = span.kind;
 }
 
--- the claims of a line: its range below, one range a column, or all of a store and then, for reading, all of its origin
+-- the claims of a line: its range below, one range a column, all of a store and then, for reading, all of its origin, or, to serve them, all of an origin
 abbrev pub line_claims : Description → (device : ℕ) → Line → List Claim
 line_claims stack device line = map (span_claim stack device) (spans line)
 
@@ -48,13 +43,14 @@ pub record HasSector (claim : Claim) (lower : Lower) (sector : ℕ) : Type 0 whe
   pub from : claim.start ≤ sector
   pub before : sector < claim.end
 
--- two that only read get along
-abbrev pub may_share : ClaimKind → ClaimKind → Bool
+-- those that only read get along with one another, and with one that serves them
+abbrev pub may_share : Use → Use → Bool
 may_share Reading Reading = true
-may_share Reading Own = false
-may_share Own kind = false
+may_share Reading Serving = true
+may_share Serving Reading = true
+may_share one other = false
 
--- two claims meet at a sector that both have, unless both only read it
+-- two claims meet at a sector that both have, unless they may share it
 pub record MeetAt (one other : Claim) (lower : Lower) (sector : ℕ) : Type 0 where
   pub here : HasSector one lower sector
   pub there : HasSector other lower sector

@@ -1,5 +1,5 @@
 -- What a stack is, for every definition: its devices with their lines, and its disks, by their places in the lists.
-use Rattle.std.specs.Prelude.{ℕ, ◌+◌, Bool, false, List, [], ◌∷◌, Option, Some, None, find, map, nat_eq, slice_get}
+use Rattle.std.specs.Prelude.{ℕ, ◌+◌, ◌==◌, Bool, false, List, [], ◌∷◌, Option, Some, None, find, map, nat_eq, slice_get}
 use Rattle.std.specs.List.{flat_map, position_or_len}
 use Rattle.std.specs.Cmp.Lexicographic.{pointwise}
 use Rattle.dm_table.specs.declared.table.DevRef.{DevRef}
@@ -38,6 +38,12 @@ disk_id stack name = position_or_len (λ disk. is_same disk.name name) stack.dis
 abbrev pub lower_of : Description → DevRef → Lower
 lower_of stack (refs.Device name) = lowers.Device (device_id stack name)
 lower_of stack (refs.Disk name) = lowers.Disk (disk_id stack name)
+
+abbrev pub is_same_lower : Lower → Lower → Bool
+is_same_lower (lowers.Device one) (lowers.Device other) = one == other
+is_same_lower (lowers.Device one) (lowers.Disk other) = false
+is_same_lower (lowers.Disk one) (lowers.Device other) = false
+is_same_lower (lowers.Disk one) (lowers.Disk other) = one == other
 
 -- a device ends where its last line does
 abbrev pub end_of : List Line → ℕ

@@ -7,6 +7,7 @@ pub mod Load
 pub mod Loaded
 pub mod NameIndex
 pub mod Naming
+pub mod Over
 pub mod Places
 pub mod Report
 pub mod Soundness

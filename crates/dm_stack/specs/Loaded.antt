@@ -43,7 +43,7 @@ IsDeeperByOne stack = (device : ℕ) → device < length stack.devices → depth
 
 -- a device that has a snapshot's line
 abbrev pub is_snapshot : Target → Bool
-is_snapshot (targets.Snapshot origin store chunk) = true
+is_snapshot (targets.Snapshot origin store kind chunk) = true
 is_snapshot _ = false
 
 abbrev pub has_snapshot : List Line → Bool

@@ -163,13 +163,14 @@ range stack = line_faults Range (passes_end stack) stack
 abbrev pub is_bad_chunk : ℕ → Bool
 is_bad_chunk chunk = nat_lt MOST_SNAPSHOT_CHUNK chunk || not (is_power_of_two chunk)
 
--- a snapshot that isn't the only line of its table, has a bad chunk, or is not as long as its origin
+-- a snapshot or an origin that isn't the only line of its table, or is not as long as the origin that it names, or a snapshot that has a bad chunk
 abbrev pub is_bad_snapshot : Description → (lines len : ℕ) → Target → Bool
-is_bad_snapshot stack lines len (targets.Snapshot origin store chunk) =
+is_bad_snapshot stack lines len (targets.Snapshot origin store kind chunk) =
     not (lines == 1) || (is_bad_chunk chunk || not (len == lower_len stack (lower_of stack origin)))
+is_bad_snapshot stack lines len (targets.Origin origin) = not (lines == 1) || not (len == lower_len stack (lower_of stack origin))
 is_bad_snapshot stack lines len _ = false
 
--- the lines of a device that are bad snapshots
+-- the lines of a device that are bad in this way
 abbrev pub bad_snapshots_in : Description → List Line → List LoadFault
 bad_snapshots_in stack lines = faults_by Snapshot (λ line. line.at) (λ line. is_bad_snapshot stack (length lines) line.len line.target) lines
 
@@ -178,7 +179,7 @@ snapshot stack = flat_map (λ device. bad_snapshots_in stack device.lines) stack
 
 -- a chunk within its limits
 abbrev pub HasGoodChunk : Target → Type 0
-HasGoodChunk (targets.Snapshot origin store chunk) = (0 < chunk) × (chunk ≤ MOST_SNAPSHOT_CHUNK)
+HasGoodChunk (targets.Snapshot origin store kind chunk) = (0 < chunk) × (chunk ≤ MOST_SNAPSHOT_CHUNK)
 HasGoodChunk _ = Unit {0}
 
 abbrev pub HaveGoodChunks : List Line → Type 0
@@ -186,12 +187,12 @@ HaveGoodChunks lines = All (λ line. HasGoodChunk line.target) lines
 
 -- the places for chunks that a line's store has: only a snapshot has one
 abbrev pub target_places : Description → Target → ℕ
-target_places stack (targets.Snapshot origin store chunk) = places chunk (lower_len stack (lower_of stack store))
+target_places stack (targets.Snapshot origin store kind chunk) = places chunk (lower_len stack (lower_of stack store))
 target_places stack _ = 0
 
 -- a snapshot whose store cannot be one
 abbrev pub has_bad_store : Description → Target → Bool
-has_bad_store stack (targets.Snapshot origin store chunk) = not (is_store_to stack MOST_DEPTH (lower_of stack store))
+has_bad_store stack (targets.Snapshot origin store kind chunk) = not (is_store_to stack MOST_DEPTH (lower_of stack store))
 has_bad_store stack _ = false
 
 abbrev pub store : Description → List LoadFault

@@ -50,5 +50,5 @@ is_shallow depths (Device device) = nat_le (slice_index_or depths device 0) MOST
 is_shallow depths (Disk disk) = true
 
 abbrev pub has_deep_store : Description → List ℕ → Target → Bool
-has_deep_store stack depths (targets.Snapshot origin store chunk) = not (is_shallow depths (lower_of stack store))
+has_deep_store stack depths (targets.Snapshot origin store kind chunk) = not (is_shallow depths (lower_of stack store))
 has_deep_store stack depths _ = false

@@ -1,9 +1,9 @@
 -- A clash as it is looked for: the claims in the order of their starts, and how far those before reach.
 use Rattle.std.specs.Prelude.{ℕ, suc, Bool, false, not, ◌&&◌, ◌||◌, ◌==◌, ◌<◌, List, [], ◌∷◌, ◌++◌, Option, max, min, nat_lt, fold, find, option_map, slice_index_or, if◌then◌else◌}
 use Rattle.std.specs.List.{list_any}
+use Rattle.dm_table.specs.declared.table.Use.{Use}
+use Rattle.dm_table.specs.declared.table.Use.TheVariants.{Own, Reading, Serving}
 use Rattle.dm_stack.specs.declared.claim.Claim.{Claim}
-use Rattle.dm_stack.specs.declared.claim.ClaimKind.{ClaimKind}
-use Rattle.dm_stack.specs.declared.claim.ClaimKind.TheVariants.{Own, Reading}
 use Rattle.dm_stack.specs.declared.clash.Clash.{Clash}
 use Rattle.dm_stack.specs.declared.id.Lower.{Lower}
 use Rattle.dm_stack.specs.declared.id.Lower.TheVariants.{Device, Disk}
@@ -11,12 +11,7 @@ use Rattle.dm_stack.specs.declared.reach.Reach.{Reach}
 use Rattle.dm_stack.specs.declared.reach.Reaches.{Reaches}
 use Rattle.dm_stack.specs.declared.tidy.Numbered.{Numbered}
 use Rattle.dm_stack.specs.Claims.{may_share}
-
-abbrev pub is_same_lower : Lower → Lower → Bool
-is_same_lower (Device one) (Device other) = one == other
-is_same_lower (Device one) (Disk other) = false
-is_same_lower (Disk one) (Device other) = false
-is_same_lower (Disk one) (Disk other) = one == other
+use Rattle.dm_stack.specs.Description.{is_same_lower}
 
 -- whether two claims meet at any sector
 abbrev pub meets : Claim → Claim → Bool
@@ -31,19 +26,30 @@ clash_with before later = option_map (λ earlier. clash_of earlier later) (find 
 
 -- how far claims reach, with one more
 abbrev pub no_reach : Reach
-no_reach = record { own = 0; all = 0 }
+no_reach = record { own = 0; held = 0; all = 0 }
 
-abbrev pub own_end : ClaimKind → ℕ → ℕ
+-- the end of a claim, if it is for itself alone
+abbrev pub own_end : Use → ℕ → ℕ
 own_end Own end = end
-own_end Reading end = 0
+own_end _ end = 0
+
+-- if it doesn't only read
+abbrev pub held_end : Use → ℕ → ℕ
+held_end Reading end = 0
+held_end _ end = end
 
 abbrev pub reach_with : Reach → Claim → Reach
-reach_with reach claim = record { own = max reach.own (own_end claim.kind claim.end); all = max reach.all claim.end }
+reach_with reach claim = record {
+  own = max reach.own (own_end claim.kind claim.end);
+  held = max reach.held (held_end claim.kind claim.end);
+  all = max reach.all claim.end;
+}
 
--- the end that a claim of a kind must not start before
-abbrev pub rival_end : ClaimKind → Reach → ℕ
+-- the greatest end of those that a claim of a kind may not share with: it must not start before it
+abbrev pub rival_end : Use → Reach → ℕ
 rival_end Own reach = reach.all
 rival_end Reading reach = reach.own
+rival_end Serving reach = reach.held
 
 -- whether claims that reach so far meet one that starts at no earlier sector than they
 abbrev pub reach_meets : Reach → Claim → Bool

@@ -1,12 +1,12 @@
 //! Claims: the sectors below that the lines of a stack rely on.
 //!
 //! A line claims its spans, so a target says nothing of claims beside what it names. One that comes
-//! to share what it names in another way is a kind here, and arms in `claim_kind` and `may_share` of
-//! the specs.
+//! to share what it names in another way is a variant of `Use` (`dm_table`), and arms in `may_share`
+//! here and in `reach`.
 
 ghost use Rattle.std.specs.Prelude.{◌≡◌, ◌∷◌, ◌++◌, [], IfOk, OnOk, false};
 ghost use Rattle.std.specs.List.{All, flat_map, list_any};
-ghost use Rattle.dm_stack.specs.Claims.{claims, line_claims, span_claim};
+ghost use Rattle.dm_stack.specs.Claims.{claims, line_claims, may_share, span_claim};
 ghost use Rattle.dm_stack.specs.Description.{lower_of};
 ghost use Rattle.dm_stack.specs.Naming.{is_device, is_named, line_names};
 ghost use Rattle.dm_stack.specs.Soundness.{is_past, passes_end};
@@ -14,17 +14,8 @@ ghost use Rattle.dm_stack.specs.Soundness.{is_past, passes_end};
 use crate::id::{DeviceId, Lower};
 use crate::indexed::Indexed;
 use crate::span::{Span, Spans};
-use dm_table::{DevRef, Line};
+use dm_table::{DevRef, Line, Use};
 use std::alloc::{AllocError, Global};
-
-/// How a line needs the sectors that it claims.
-#[derive(Clone, Copy, PartialEq, Eq, Drop)]
-pub(crate) enum ClaimKind {
-    /// Nothing else may use them.
-    Own,
-    /// The line only reads them, and so may others.
-    Reading,
-}
 
 /// Sectors of a lower device or disk, from a start to before an end, that a device claims.
 #[derive(Clone, Copy, Drop)]
@@ -33,7 +24,17 @@ pub(crate) struct Claim {
     pub to: Lower,
     pub start: u64,
     pub end: u64,
-    pub kind: ClaimKind,
+    pub kind: Use,
+}
+
+/// Whether claims of these kinds may have sectors in common.
+pub(crate) fn may_share(one: Use, other: Use) -> bool
+    ensures { result ≡ may_share one other }
+{
+    match (one, other) {
+        (Use::Reading, Use::Reading | Use::Serving) | (Use::Serving, Use::Reading) => true,
+        _ => false,
+    }
 }
 
 /// The claims of a stack: by device, line and column, a store before its origin.
@@ -107,11 +108,7 @@ fn add_claim(
             Some(len) => span.offset + len,
             None => whole,
         },
-        kind: if span.read_only {
-            ClaimKind::Reading
-        } else {
-            ClaimKind::Own
-        },
+        kind: span.kind,
     };
     claims.push(claim)?;
     Ok(())

@@ -5,7 +5,7 @@
 
 use crate::divisor::Divisor;
 use crate::found_columns::FoundColumns;
-use crate::id::Lower;
+use crate::id::{DeviceId, Lower};
 use dm_table::Listed;
 
 /// The line of a sector.
@@ -38,6 +38,8 @@ pub enum FoundTarget {
     Error,
     /// The line of a snapshot, alone in its table.
     Snapshot(FoundSnapshot),
+    /// The line of an origin, alone in its table.
+    Origin(FoundOrigin),
 }
 
 /// A snapshot: its origin, where the chunks that are written are kept, and how long a chunk is.
@@ -47,6 +49,21 @@ pub struct FoundSnapshot {
     pub store: Lower,
     /// In sectors, from 1 to 1,024.
     pub chunk: u64,
+}
+
+/// An origin: what it is the whole of, and the snapshots of that, in the order of their devices. A
+/// write finds them here, with no search.
+#[derive(Debug, Drop)]
+pub struct FoundOrigin {
+    pub to: Lower,
+    pub over: Listed<FoundOver>,
+}
+
+/// A snapshot of an origin, and its device.
+#[derive(Clone, Copy, Debug, Drop)]
+pub struct FoundOver {
+    pub device: DeviceId,
+    pub snapshot: FoundSnapshot,
 }
 
 /// A column of a striped line: what it names, and the first sector there.

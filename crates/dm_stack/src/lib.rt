@@ -22,6 +22,7 @@ mod load;
 mod looker;
 mod name_index;
 mod names;
+mod over;
 mod placed;
 mod ranges;
 mod reach;
@@ -39,7 +40,9 @@ pub use clash::Clash;
 pub use disk_text::DiskText;
 pub use divisor::Divisor;
 pub use found_columns::FoundColumns;
-pub use found_line::{Found, FoundColumn, FoundLine, FoundSnapshot, FoundTarget};
+pub use found_line::{
+    Found, FoundColumn, FoundLine, FoundOrigin, FoundOver, FoundSnapshot, FoundTarget,
+};
 pub use graph::MOST_DEPTH;
 pub use id::{DeviceId, DiskId, Lower};
 pub use looker::Looker;

@@ -4,18 +4,22 @@
 //! one that starts below their greatest end meets some of them.
 
 ghost use Rattle.std.specs.Prelude.{◌≡◌, IfOk, length, if◌then◌else◌};
-ghost use Rattle.dm_stack.specs.Sweep.{IsCounted, is_same_lower, no_reach, reach_at, reach_meets, reach_with};
+ghost use Rattle.dm_stack.specs.Description.{is_same_lower};
+ghost use Rattle.dm_stack.specs.Sweep.{IsCounted, no_reach, reach_at, reach_meets, reach_with};
 ghost use Rattle.dm_stack.specs.declared.id.Lower.{Lower};
 
-use crate::claim::{Claim, ClaimKind};
+use crate::claim::Claim;
 use crate::id::Lower;
+use dm_table::Use;
 use std::alloc::{AllocError, Global};
 
-/// The greatest end of some claims on one device or disk: of those that let no other claim be
-/// there, and of all. 0 where there is none.
+/// The greatest ends of some claims on one device or disk, 0 where there is none.
 #[derive(Clone, Copy, Drop)]
 pub(crate) struct Reach {
+    /// Of those that let no other claim be there.
     own: u64,
+    /// Of those that don't only read.
+    held: u64,
     all: u64,
 }
 
@@ -25,11 +29,16 @@ impl Reach {
         ensures { result ≡ reach_with self claim.now }
     {
         let own = match claim.kind {
-            ClaimKind::Own => claim.end,
-            ClaimKind::Reading => 0,
+            Use::Own => claim.end,
+            Use::Reading | Use::Serving => 0,
+        };
+        let held = match claim.kind {
+            Use::Own | Use::Serving => claim.end,
+            Use::Reading => 0,
         };
         Reach {
             own: self.own.max(own),
+            held: self.held.max(held),
             all: self.all.max(claim.end),
         }
     }
@@ -39,8 +48,9 @@ impl Reach {
         ensures { result ≡ reach_meets self claim.now }
     {
         let end = match claim.kind {
-            ClaimKind::Own => self.all,
-            ClaimKind::Reading => self.own,
+            Use::Own => self.all,
+            Use::Reading => self.own,
+            Use::Serving => self.held,
         };
         claim.start < claim.end && claim.start < end
     }
@@ -60,7 +70,11 @@ impl Reaches {
         ensures devices { IfOk result (λ reaches. length reaches.devices.items ≡ devices) }
         ensures disks { IfOk result (λ reaches. length reaches.disks.items ≡ disks) }
     {
-        let none = Reach { own: 0, all: 0 };
+        let none = Reach {
+            own: 0,
+            held: 0,
+            all: 0,
+        };
         Ok(Reaches {
             devices: vec![in alloc; none; devices]?,
             disks: vec![in alloc; none; disks]?,

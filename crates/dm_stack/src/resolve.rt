@@ -7,12 +7,14 @@ ghost use Rattle.std.specs.Prelude.{◌≡◌, IfOk, None, map};
 ghost use Rattle.dm_table.specs.LoadFault.{first_or};
 ghost use Rattle.dm_stack.specs.Below.{found_columns, found_line, found_target};
 ghost use Rattle.dm_stack.specs.Loaded.{found_table};
+ghost use Rattle.dm_stack.specs.Over.{all_over};
 ghost use Rattle.dm_stack.specs.Soundness.{is_unknown, unknown};
 
 use crate::divisor::Divisor;
 use crate::found_columns::FoundColumns;
-use crate::found_line::{FoundColumn, FoundLine, FoundSnapshot, FoundTable, FoundTarget};
+use crate::found_line::{FoundColumn, FoundLine, FoundOrigin, FoundOver, FoundTable, FoundTarget};
 use crate::indexed::Indexed;
+use crate::over::{all_over, found_snapshot, snapshots_over};
 use crate::placed::first_line;
 use crate::span::Spans;
 use dm_table::{Column, Line, LoadFault, LoadKind, Target};
@@ -37,24 +39,33 @@ fn is_unknown(stack: &Indexed, line: &Line) -> bool
 
 /// The lines of each device by ids, in their order.
 ///
-/// Fails only when out of memory. Cost: linear in the lines and their columns.
+/// Fails only when out of memory. Cost: linear in the lines and their columns, and in the snapshots
+/// for each line of an origin.
 pub(crate) fn tables(alloc: Global, stack: &Indexed) -> Result<Vec<FoundTable>, AllocError>
     ensures { IfOk result (λ tables. tables.items ≡ map (found_table stack.now) stack.now.devices) }
 {
+    let over = all_over(alloc, stack)?;
     let devices = stack.devices();
     let mut tables = Vec::with_capacity(alloc, devices.len())?;
     for device in devices {
-        tables.push(table(alloc, stack, device.lines.as_slice())?)?;
+        tables.push(table(alloc, stack, &over, device.lines.as_slice())?)?;
     }
     Ok(tables)
 }
 
-fn table(alloc: Global, stack: &Indexed, lines: &[Line]) -> Result<FoundTable, AllocError>
+/// The lines of a device by ids, where these are all snapshots of the stack.
+fn table(
+    alloc: Global,
+    stack: &Indexed,
+    over: &[FoundOver],
+    lines: &[Line],
+) -> Result<FoundTable, AllocError>
+    requires { over.now ≡ all_over stack.now }
     ensures { IfOk result (λ table. table ≡ map (found_line stack.now) lines.now) }
 {
     let mut by_ids = Vec::with_capacity(alloc, lines.len())?;
     for line in lines {
-        let target = target(alloc, stack, &line.target)?;
+        let target = target(alloc, stack, over, &line.target)?;
         by_ids.push(FoundLine {
             start: line.start,
             len: line.len,
@@ -64,7 +75,13 @@ fn table(alloc: Global, stack: &Indexed, lines: &[Line]) -> Result<FoundTable, A
     Ok(FoundTable::from_vec(by_ids))
 }
 
-fn target(alloc: Global, stack: &Indexed, target: &Target) -> Result<FoundTarget, AllocError>
+fn target(
+    alloc: Global,
+    stack: &Indexed,
+    over: &[FoundOver],
+    target: &Target,
+) -> Result<FoundTarget, AllocError>
+    requires { over.now ≡ all_over stack.now }
     ensures { IfOk result (λ by_ids. by_ids ≡ found_target stack.now target.now) }
 {
     match target {
@@ -82,11 +99,13 @@ fn target(alloc: Global, stack: &Indexed, target: &Target) -> Result<FoundTarget
             origin,
             store,
             chunk,
-        } => Ok(FoundTarget::Snapshot(FoundSnapshot {
-            origin: stack.lower_of(origin),
-            store: stack.lower_of(store),
-            chunk: *chunk,
-        })),
+            ..
+        } => Ok(FoundTarget::Snapshot(found_snapshot(stack, origin, store, *chunk))),
+        Target::Origin { origin } => {
+            let to = stack.lower_of(origin);
+            let over = snapshots_over(alloc, over, to)?;
+            Ok(FoundTarget::Origin(FoundOrigin { to, over }))
+        }
     }
 }
 

@@ -1,7 +1,8 @@
-//! Snapshots: whether each fits its table and its origin, and which devices are snapshots.
+//! Snapshots and origins: whether each fits its table and what it names, and which devices are
+//! snapshots.
 //!
-//! A snapshot is a whole device: its line stands alone in its table and is as long as the origin.
-//! Mapping relies on it, and divides by the chunk, so that no rule here may be let go.
+//! Each is a whole device: its line stands alone in its table and is as long as the origin that it
+//! names. Mapping relies on it, and divides by the chunk, so that no rule here may be let go.
 
 ghost use Rattle.std.specs.Prelude.{◌≡◌, ◌∷◌, ◌++◌, [], IfOk, None, OnOk, if◌then◌else◌};
 ghost use Rattle.dm_table.specs.LoadFault.{first_or};
@@ -15,8 +16,9 @@ use crate::placed::first_bad;
 use dm_table::{DeviceSpec, Line, LoadFault, LoadKind, Target};
 use std::alloc::{AllocError, Global};
 
-/// The first snapshot that is not the only line of its table, whose chunk is no power of two from 1
-/// to 1,024 sectors, or that is not as long as its origin.
+/// The first line of a snapshot or of an origin that is not the only one of its table or is not as
+/// long as the origin that it names, or snapshot whose chunk is no power of two from 1 to 1,024
+/// sectors.
 ///
 /// Cost: a walk over the lines.
 pub(crate) fn bad_snapshots(stack: &Indexed) -> Option<LoadFault>
@@ -46,6 +48,7 @@ fn is_bad_snapshot(stack: &Indexed, lines: usize, len: u64, target: &Target) -> 
         Target::Snapshot { origin, chunk, .. } => {
             lines != 1 || is_bad_chunk(*chunk) || len != stack.len_of(origin)
         }
+        Target::Origin { origin } => lines != 1 || len != stack.len_of(origin),
         _ => false,
     }
 }

@@ -8,7 +8,7 @@ ghost use Rattle.std.specs.Prelude.{◌≡◌, ◌+◌, ◌/◌, ◌<◌, ◌^�
 ghost use Rattle.std.specs.Iterator.{YieldsFirst, item_count};
 ghost use Rattle.dm_table.specs.Span.{column_span, spans, whole_span};
 
-use dm_table::{Column, DevRef, Line, Target};
+use dm_table::{Column, DevRef, Line, Target, Use};
 use std::marker::Model;
 
 /// A range of sectors of a lower device or disk, that a line names.
@@ -18,8 +18,7 @@ pub(crate) struct Span<'a> {
     pub offset: u64,
     /// How many sectors; all of what is named where it is not said.
     pub len: Option<u64>,
-    /// Whether the line only reads these sectors.
-    pub read_only: bool,
+    pub kind: Use,
 }
 
 impl<'a> Model for Span<'a> {
@@ -27,7 +26,7 @@ impl<'a> Model for Span<'a> {
 
     ghost Value = { Span };
 
-    ghost view = { λ span. record { to = span.to.now; offset = span.offset; len = span.len; read_only = span.read_only } };
+    ghost view = { λ span. record { to = span.to.now; offset = span.offset; len = span.len; kind = span.kind } };
 }
 
 /// The spans of a line that are left.
@@ -71,24 +70,25 @@ fn span_at(line: &Line, index: usize) -> Option<Span<'_>>
             to,
             offset: *offset,
             len: Some(line.len),
-            read_only: false,
+            kind: Use::Own,
         }),
         Target::Striped { columns, .. } => column_span(line.len, columns.as_slice(), index),
-        Target::Snapshot { store, .. } if index == 0 => Some(whole_span(store, false)),
-        Target::Snapshot { origin, .. } if index == 1 => Some(whole_span(origin, true)),
+        Target::Snapshot { store, .. } if index == 0 => Some(whole_span(store, Use::Own)),
+        Target::Snapshot { origin, .. } if index == 1 => Some(whole_span(origin, Use::Reading)),
+        Target::Origin { origin } if index == 0 => Some(whole_span(origin, Use::Serving)),
         _ => None,
     }
 }
 
 /// All of what is named.
-fn whole_span(to: &DevRef, read_only: bool) -> Span<'_>
-    ensures { result ≡ whole_span to.now read_only }
+fn whole_span(to: &DevRef, kind: Use) -> Span<'_>
+    ensures { result ≡ whole_span to.now kind }
 {
     Span {
         to,
         offset: 0,
         len: None,
-        read_only,
+        kind,
     }
 }
 
@@ -102,6 +102,6 @@ fn column_span(len: u64, columns: &[Column], index: usize) -> Option<Span<'_>>
         to: &column.to,
         offset: column.offset,
         len: Some(len / columns.len() as u64),
-        read_only: false,
+        kind: Use::Own,
     })
 }

@@ -82,8 +82,9 @@ impl Stack {
     ///    above 2^32 - 1, or a length that is not a multiple of the number of columns, or whose share
     ///    for each column is not a multiple of the chunk.
     /// 10. `Range`: a line that passes the end of what it names.
-    /// 11. `Snapshot`: a snapshot that is not the only line of its table, whose chunk is no power of
-    ///     two from 1 to 1,024, or that is not as long as its origin.
+    /// 11. `Snapshot`: a snapshot or an origin that is not the only line of its table, or is not as
+    ///     long as the origin that it names, or a snapshot whose chunk is no power of two from 1 to
+    ///     1,024.
     /// 12. `Store`: a snapshot whose store is neither a disk nor a writable device of linear and
     ///     striped lines that names nothing but disks and such devices, down to disks.
     /// 13. `Limit`: the snapshot whose store brings all stores to more than 4,194,304 places for
@@ -93,8 +94,9 @@ impl Stack {
     /// them. `Memory`, with the number 0, means that memory was refused; it says nothing of the lists.
     ///
     /// Cost: near-linear in the lines and their columns, the devices and the disks, with memory for
-    /// a copy of each name and each line; where devices are too deep, a search of what one reaches
-    /// for each of them in turn.
+    /// a copy of each name and each line; for each line of an origin a walk over the snapshots, with
+    /// memory for those of the origin; where devices are too deep, a search of what one reaches for
+    /// each of them in turn.
     pub fn load(
         alloc: Global,
         devices: Vec<DeviceSpec>,
@@ -217,11 +219,12 @@ impl Stack {
 
     /// The first claim that meets an earlier one, or nothing, which is where the stack is tidy.
     ///
-    /// A linear line claims its range below, a striped line one range a column, and a snapshot all
-    /// of its store and, for reading, all of its origin. Claims come by device, line and column, a
-    /// store before its origin. Two meet where they have a sector of one device or disk and not both
-    /// are for reading. The clash has the earliest claim that the first one meets, and the least
-    /// sector that both have.
+    /// A linear line claims its range below, a striped line one range a column, a snapshot all of
+    /// its store and, for reading, all of its origin, and the line of an origin, to serve those who
+    /// read it, all of that. Claims come by device, line and column, a store before its origin. Two
+    /// meet where they have a sector of one device or disk, unless both are for reading or one is for
+    /// reading and the other serves. The clash has the earliest claim that the first one meets, and
+    /// the least sector that both have.
     ///
     /// Fails only when out of memory. Cost: that of sorting the claims, and a walk over them for each
     /// binary digit of their number, with memory for two copies of each.

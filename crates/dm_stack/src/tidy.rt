@@ -8,10 +8,11 @@ ghost use Rattle.std.specs.Prelude.{◌≡◌, ◌+◌, ◌<◌, IfOk, Some, fal
 ghost use Rattle.std.specs.List.{All};
 ghost use Rattle.std.specs.List.Sorted.{IsNonDecreasingBy, IsPermutation};
 ghost use Rattle.dm_stack.specs.Claims.{IsFirstClash};
+ghost use Rattle.dm_stack.specs.Description.{is_same_lower};
 ghost use Rattle.dm_stack.specs.declared.claim.Claim.{Claim};
-ghost use Rattle.dm_stack.specs.Sweep.{IsCounted, clash_with, is_same_lower, is_tidy_to, meets, numbered};
+ghost use Rattle.dm_stack.specs.Sweep.{IsCounted, clash_with, is_tidy_to, meets, numbered};
 
-use crate::claim::{Claim, ClaimKind};
+use crate::claim::{Claim, may_share};
 use crate::clash::Clash;
 use crate::id::Lower;
 use crate::reach::Reaches;
@@ -136,7 +137,7 @@ fn meets(one: &Claim, other: &Claim) -> bool
 {
     is_same_lower(one.to, other.to)
         && one.start.max(other.start) < one.end.min(other.end)
-        && !(one.kind == ClaimKind::Reading && other.kind == ClaimKind::Reading)
+        && !may_share(one.kind, other.kind)
 }
 
 fn is_same_lower(one: Lower, other: Lower) -> bool

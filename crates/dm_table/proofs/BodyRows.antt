@@ -13,12 +13,14 @@ use Rattle.dm_table.specs.declared.table.DevRef.{DevRef}
 use Rattle.dm_table.specs.declared.table.DevRef.TheVariants.{Device, Disk}
 use Rattle.dm_table.specs.declared.table.Column.{Column}
 use Rattle.dm_table.specs.declared.table.Target.{Target}
-use Rattle.dm_table.specs.declared.table.Target.TheVariants.{Linear, Striped, Zero, Error, Snapshot}
+use Rattle.dm_table.specs.declared.table.StoreKind.{StoreKind}
+use Rattle.dm_table.specs.declared.table.StoreKind.TheVariants.{Persistent}
+use Rattle.dm_table.specs.declared.table.Target.TheVariants.{Linear, Striped, Zero, Error, Snapshot, Origin}
 use Rattle.dm_table.specs.declared.table.Line.{Line}
 use Rattle.dm_table.specs.declared.place.Place.{Place}
 use Rattle.dm_table.specs.Name.{is_device_byte, is_device_name, is_disk_byte, names_device, mapper}
 use Rattle.dm_table.specs.Number.{Spells, number_of, number_in}
-use Rattle.dm_table.specs.LineBody.{dev_text, column_text, target_text, body_text, is_dev_ref, IsDevRef, IsColumn, IsTarget, IsBody, dev_in, if_both, linear_in, columns_in, is_half, if_all, striped_in, snapshot_in, bare_in, target_in, Body, body_in, is_body_row, is_body, has_target_names, has_body_names}
+use Rattle.dm_table.specs.LineBody.{dev_text, column_text, kind_text, target_text, body_text, is_dev_ref, IsDevRef, IsColumn, IsTarget, IsBody, dev_in, if_both, linear_in, columns_in, is_half, if_all, striped_in, kind_in, snapshot_in, origin_in, bare_in, target_in, Body, body_in, is_body_row, is_body, has_target_names, has_body_names}
 use Rattle.dm_table.specs.Span.{column_span}
 use Rattle.dm_table.specs.LineReading.{line_at, line_in, has_column_names}
 use Rattle.std.specs.Prelude.{◌/◌, map}
@@ -39,7 +41,8 @@ target_fields (Linear to offset) = codes "linear" ∷ dev_text to ∷ decimal of
 target_fields (Striped chunk columns) = codes "striped" ∷ decimal (length columns) ∷ decimal chunk ∷ flat_map column_fields columns
 target_fields Zero = codes "zero" ∷ []
 target_fields Error = codes "error" ∷ []
-target_fields (Snapshot origin store chunk) = codes "snapshot" ∷ dev_text origin ∷ dev_text store ∷ codes "P" ∷ decimal chunk ∷ []
+target_fields (Snapshot origin store kind chunk) = codes "snapshot" ∷ dev_text origin ∷ dev_text store ∷ kind_text kind ∷ decimal chunk ∷ []
+target_fields (Origin origin) = codes "snapshot-origin" ∷ dev_text origin ∷ []
 
 abbrev pub body_fields : Line → List (List ℕ)
 body_fields line = decimal line.start ∷ decimal line.len ∷ target_fields line.target
@@ -54,7 +57,8 @@ target_joined before start len (Linear to offset) = simp append_assoc
 target_joined before start len (Striped chunk columns) = rw (columns_text (decimal chunk) columns) (simp append_assoc)
 target_joined before start len Zero = simp append_assoc
 target_joined before start len Error = simp append_assoc
-target_joined before start len (Snapshot origin store chunk) = simp append_assoc
+target_joined before start len (Snapshot origin store kind chunk) = simp append_assoc
+target_joined before start len (Origin origin) = simp append_assoc
 
 pub body_joined : (before : List ℕ) (line : Line) → join_with_byte 32 (before ∷ body_fields line) ≡ before ++ 32 ∷ body_text line
 body_joined before line = target_joined before (decimal line.start) (decimal line.len) line.target ∙ simp append_assoc
@@ -161,9 +165,12 @@ striped_says (count ∷ chunk ∷ columns) target h =
       said = λ len named. (counted.1, spelled.short, says.said (sym (column_names (len / length m.1) m.1) ∙ named));
     }
 
-snapshot_again : (origin store flag chunk : List ℕ) (n : ℕ) → pointwise nat_eq flag (codes "P") ≡ true → chunk ≡ decimal n
-    → target_fields (Snapshot (dev_in origin) (dev_in store) n) ≡ codes "snapshot" ∷ origin ∷ store ∷ flag ∷ chunk ∷ []
-snapshot_again origin store flag chunk n p spelled = rw (dev_spelled origin, dev_spelled store, same_name flag (codes "P") p, spelled) refl
+kind_spelled : (flag : List ℕ) (kind : StoreKind) → kind_in flag ≡ Some kind → kind_text kind ≡ flag
+kind_spelled flag Persistent h = let c = chosen (pointwise nat_eq flag (codes "P")) (Some Persistent) Persistent h in sym (same_name flag (codes "P") c.0)
+
+snapshot_again : (origin store flag chunk : List ℕ) (kind : StoreKind) (n : ℕ) → kind_in flag ≡ Some kind → chunk ≡ decimal n
+    → target_fields (Snapshot (dev_in origin) (dev_in store) kind n) ≡ codes "snapshot" ∷ origin ∷ store ∷ flag ∷ chunk ∷ []
+snapshot_again origin store flag chunk kind n p spelled = rw (dev_spelled origin, dev_spelled store, kind_spelled flag kind p, spelled) refl
 
 snapshot_says : (fs : List (List ℕ)) (target : Target) → snapshot_in fs ≡ Some target → SaysTarget (codes "snapshot" ∷ fs) target
 snapshot_says [] target h = absurd cc
@@ -171,17 +178,22 @@ snapshot_says (origin ∷ []) target h = absurd cc
 snapshot_says (origin ∷ store ∷ []) target h = absurd cc
 snapshot_says (origin ∷ store ∷ flag ∷ []) target h = absurd cc
 snapshot_says (origin ∷ store ∷ flag ∷ chunk ∷ []) target h =
-    let make : ℕ → Target = λ n. Snapshot (dev_in origin) (dev_in store) n in
-    let c = chosen (pointwise nat_eq flag (codes "P")) (option_map make (number_of chunk)) target h in
-    let m = mapped make (number_of chunk) target c.1 in
-    let spelled = Spells-number_of chunk m.0 m.1 in
-    rw (← m.2) record {
-      again = snapshot_again origin store flag chunk m.0 c.0 spelled.digits;
+    let m = both_there (λ kind n. Snapshot (dev_in origin) (dev_in store) kind n) (kind_in flag) (number_of chunk) target h in
+    let spelled = Spells-number_of chunk m.1 m.3 in
+    rw (← m.4) record {
+      again = snapshot_again origin store flag chunk m.0 m.1 m.2 spelled.digits;
       said = λ len named.
           let a = and_parts (is_dev_ref (dev_in store)) (is_dev_ref (dev_in origin) && true) named in
           ((and_parts (is_dev_ref (dev_in origin)) true a.1).0, a.0, spelled.short);
     }
 snapshot_says (origin ∷ store ∷ flag ∷ chunk ∷ more ∷ rest) target h = absurd cc
+
+origin_says : (fs : List (List ℕ)) (target : Target) → origin_in fs ≡ Some target → SaysTarget (codes "snapshot-origin" ∷ fs) target
+origin_says [] target h = absurd cc
+origin_says (origin ∷ []) target h =
+    let is : Origin (dev_in origin) ≡ target = cc in
+    rw (← is) record { again = rw (dev_spelled origin) refl; said = λ len named. (and_parts (is_dev_ref (dev_in origin)) true named).0 }
+origin_says (origin ∷ more ∷ rest) target h = absurd cc
 
 -- a type that is this word, or else one of the words after it
 by_word : (type word : List ℕ) (fs : List (List ℕ)) (target : Target) (o p : Option Target) → (o ≡ Some target → SaysTarget (word ∷ fs) target) → (p ≡ Some target → SaysTarget (type ∷ fs) target)
@@ -213,7 +225,8 @@ target_says (type ∷ fs) target h =
     by_word type (codes "linear") fs target _ _ (linear_says fs target)
     (by_word type (codes "striped") fs target _ _ (striped_says fs target)
     (by_word type (codes "snapshot") fs target _ _ (snapshot_says fs target)
-    (bare_says type fs target))) h
+    (by_word type (codes "snapshot-origin") fs target _ _ (origin_says fs target)
+    (bare_says type fs target)))) h
 
 -- the line that fields say, where they are in order
 pub body_there : (at : Place) (fs : List (List ℕ)) → is_body fs ≡ true → (line : Line) × (line_in at fs ≡ Some line)
@@ -291,12 +304,16 @@ columns_inked : (columns : List Column) → AllByRecursion IsColumn columns → 
 columns_inked [] h = tt
 columns_inked (column ∷ columns) h = (dev_inked column.to h.0.0, (number_inked column.offset h.0.1, columns_inked columns h.1))
 
+kind_inked : (kind : StoreKind) → IsInked (kind_text kind)
+kind_inked Persistent = (refl, refl)
+
 target_inked : (target : Target) → IsTarget target → AllByRecursion IsInked (target_fields target)
 target_inked (Linear to offset) h = ((refl, refl), (dev_inked to h.0, (number_inked offset h.1, tt)))
 target_inked (Striped chunk columns) h = ((refl, refl), (number_inked (length columns) h.0, (number_inked chunk h.1, columns_inked columns h.2)))
 target_inked Zero h = ((refl, refl), tt)
 target_inked Error h = ((refl, refl), tt)
-target_inked (Snapshot origin store chunk) h = ((refl, refl), (dev_inked origin h.0, (dev_inked store h.1, ((refl, refl), (number_inked chunk h.2, tt)))))
+target_inked (Snapshot origin store kind chunk) h = ((refl, refl), (dev_inked origin h.0, (dev_inked store h.1, (kind_inked kind, (number_inked chunk h.2, tt)))))
+target_inked (Origin origin) h = ((refl, refl), (dev_inked origin h, tt))
 
 pub body_inked : (line : Line) → IsBody line → AllByRecursion IsInked (body_fields line)
 body_inked line h = (number_inked line.start h.start, (number_inked line.len h.len, target_inked line.target h.target))
@@ -334,12 +351,16 @@ columns_again : (columns : List Column) → AllByRecursion IsColumn columns → 
 columns_again [] h = refl
 columns_again (column ∷ columns) h = rw (number_of-decimal column.offset h.0.1, columns_again columns h.1, dev_again column.to h.0.0) refl
 
+kind_again : (kind : StoreKind) → kind_in (kind_text kind) ≡ Some kind
+kind_again Persistent = refl
+
 target_again : (target : Target) → IsTarget target → target_in (target_fields target) ≡ Some target
 target_again (Linear to offset) h = rw (number_of-decimal offset h.1, dev_again to h.0) refl
 target_again (Striped chunk columns) h = rw (count_passes columns h.0, number_of-decimal chunk h.1, columns_again columns h.2) refl
 target_again Zero h = refl
 target_again Error h = refl
-target_again (Snapshot origin store chunk) h = rw (number_of-decimal chunk h.2, dev_again origin h.0, dev_again store h.1) refl
+target_again (Snapshot origin store kind chunk) h = rw (kind_again kind, number_of-decimal chunk h.2, dev_again origin h.0, dev_again store h.1) refl
+target_again (Origin origin) h = rw (dev_again origin h) refl
 
 -- a start, a length, and at least the type of a target
 three_fields : (start len : List ℕ) (fs : List (List ℕ)) (target : Target) → target_in fs ≡ Some target → nat_le 3 (length (start ∷ len ∷ fs)) ≡ true
@@ -359,7 +380,8 @@ target_named len (Linear to offset) h = and_from _ _ h.0 refl
 target_named len (Striped chunk columns) h = column_names (len / length columns) columns ∙ columns_named columns h.2
 target_named len Zero h = refl
 target_named len Error h = refl
-target_named len (Snapshot origin store chunk) h = and_from _ _ h.1 (and_from _ _ h.0 refl)
+target_named len (Snapshot origin store kind chunk) h = and_from _ _ h.1 (and_from _ _ h.0 refl)
+target_named len (Origin origin) h = and_from _ _ h refl
 
 -- and say that body
 abbrev body_of : Line → Body

@@ -5,6 +5,7 @@ use Rattle.std.specs.List.{AllByRecursion}
 use Rattle.dm_table.specs.declared.table.DevRef.TheVariants as refs
 use Rattle.dm_table.specs.declared.table.DeviceSpec.{DeviceSpec}
 use Rattle.dm_table.specs.declared.table.Line.{Line}
+use Rattle.dm_table.specs.declared.table.StoreKind.TheVariants.{Persistent}
 use Rattle.dm_table.specs.declared.table.Target.{Target}
 use Rattle.dm_table.specs.declared.table.Target.TheVariants as targets
 use Rattle.dm_table.specs.declared.load_fault.LoadKind.{LoadKind}
@@ -42,9 +43,14 @@ unfolding read_concise number_of
 two_lines = refl
 
 snapshot : Gives (codes "s,LVM-1,7,rw,0 20 snapshot base /dev/mapper/c P 8")
-    (record { name = codes "s"; ro = false; lines = line 1 0 20 (targets.Snapshot (refs.Disk (codes "base")) (refs.Device (codes "c")) 8) ∷ []; at = place_of 1 } ∷ [])
+    (record { name = codes "s"; ro = false; lines = line 1 0 20 (targets.Snapshot (refs.Disk (codes "base")) (refs.Device (codes "c")) Persistent 8) ∷ []; at = place_of 1 } ∷ [])
 unfolding read_concise number_of
 snapshot = refl
+
+origin : Gives (codes "o,,,,0 16 snapshot-origin base")
+    (record { name = codes "o"; ro = false; lines = line 1 0 16 (targets.Origin (refs.Disk (codes "base"))) ∷ []; at = place_of 1 } ∷ [])
+unfolding read_concise number_of
+origin = refl
 
 -- a text, the kind of its fault, and the number of the device
 record Refusal : Type 0 where
@@ -56,6 +62,7 @@ record Refusal : Type 0 where
 abbrev refusals : List Refusal
 refusals =
     record { text = codes "a,,,xx,0 8 zero"; kind = kinds.Field; number = 1 }
+    ∷ record { text = codes "a,,,,0 8 snapshot-origin sda 0"; kind = kinds.Field; number = 1 }
     ∷ record { text = codes "a,,,,0 8 zero;"; kind = kinds.Syntax; number = 2 }
     ∷ record { text = codes "a,,,"; kind = kinds.Syntax; number = 1 }
     ∷ record { text = codes "a ,,,,0 8 zero"; kind = kinds.Syntax; number = 1 }
@@ -69,4 +76,4 @@ refusals =
 
 are_refused : AllByRecursion (λ row. read_concise row.text ≡ Err (fault_at Source row.kind row.number)) refusals
 unfolding read_concise number_of
-are_refused = (refl, (refl, (refl, (refl, (refl, (refl, (refl, (refl, (refl, (refl, tt))))))))))
+are_refused = (refl, (refl, (refl, (refl, (refl, (refl, (refl, (refl, (refl, (refl, (refl, tt)))))))))))

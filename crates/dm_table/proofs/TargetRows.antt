@@ -8,15 +8,16 @@ use Rattle.std.proofs.lemmas.List.{take_rest, length-map, append-nil}
 use denote.Ref.{Bor}
 use Rattle.dm_table.specs.declared.table.Column.{Column}
 use Rattle.dm_table.specs.declared.table.DevRef.{DevRef}
+use Rattle.dm_table.specs.declared.table.StoreKind.TheVariants.{Persistent}
 use Rattle.dm_table.specs.declared.table.Target.{Target}
-use Rattle.dm_table.specs.declared.table.Target.TheVariants.{Linear, Striped, Snapshot}
+use Rattle.dm_table.specs.declared.table.Target.TheVariants.{Linear, Striped, Snapshot, Origin}
 use Rattle.dm_table.specs.declared.table.Line.{Line}
 use Rattle.dm_table.specs.declared.place.Place.{Place}
 use Rattle.dm_table.specs.declared.row_faults.RowFault.{RowFault}
 use Rattle.dm_table.specs.declared.row_faults.RowFault.TheVariants.{Field, Name, Memory}
 use Rattle.dm_table.specs.Number.{number_of}
 use Rattle.dm_table.specs.Fields.{texts}
-use Rattle.dm_table.specs.LineBody.{is_dev_ref, dev_in, if_both, linear_in, columns_in, is_half, striped_in, snapshot_in, bare_in, target_in, Body, has_target_names}
+use Rattle.dm_table.specs.LineBody.{is_dev_ref, dev_in, if_both, linear_in, columns_in, is_half, striped_in, snapshot_in, origin_in, bare_in, target_in, Body, has_target_names}
 use Rattle.dm_table.proofs.BodyRows.{column_names}
 use Rattle.dm_table.specs.LineReading.{line_at, has_column_names, dev_reading, reading_of, columns_reading, fault_before, target_reading, body_reading}
 
@@ -234,11 +235,28 @@ snapshot_store len fs d e g k chunk origin fault four p n o s =
     rw (texts_four fs d e g k four, p, n, a.1, a.0, b.0, b.1) refl
 
 pub snapshot_read : (len : ℕ) (fs : List (Bor (List ℕ))) (d e g k : Bor (List ℕ)) (chunk : ℕ) (origin store : DevRef) → length fs ≡ 4 → pointwise nat_eq (slice_index_or fs 2 g).now (codes "P") ≡ true
-    → number_of (slice_index_or fs 3 k).now ≡ Some chunk → dev_reading (slice_index_or fs 0 d).now ≡ Ok origin → dev_reading (slice_index_or fs 1 e).now ≡ Ok store → arguments_reading len snapshot_in fs ≡ Ok (Snapshot origin store chunk)
+    → number_of (slice_index_or fs 3 k).now ≡ Some chunk → dev_reading (slice_index_or fs 0 d).now ≡ Ok origin → dev_reading (slice_index_or fs 1 e).now ≡ Ok store → arguments_reading len snapshot_in fs ≡ Ok (Snapshot origin store Persistent chunk)
 snapshot_read len fs d e g k chunk origin store four p n o s =
     let a = dev_parts (slice_index_or fs 0 d).now origin o in
     let b = dev_parts (slice_index_or fs 1 e).now store s in
     rw (texts_four fs d e g k four, p, n, a.1, a.0, b.1, b.0) refl
+
+-- one argument
+text_one : (fs : List (Bor (List ℕ))) (d : Bor (List ℕ)) → length fs ≡ 1 → texts fs ≡ (slice_index_or fs 0 d).now ∷ []
+text_one [] d h = absurd (omega arith)
+text_one (f ∷ []) d h = refl
+text_one (f ∷ g ∷ fs) d h = absurd (omega arith)
+
+pub origin_none : (len : ℕ) (fs : List (Bor (List ℕ))) → length fs ≢ 1 → arguments_reading len origin_in fs ≡ Err Field
+origin_none len [] h = refl
+origin_none len (f ∷ []) h = absurd (h refl)
+origin_none len (f ∷ g ∷ fs) h = refl
+
+pub origin_unnamed : (len : ℕ) (fs : List (Bor (List ℕ))) (d : Bor (List ℕ)) (fault : RowFault) → length fs ≡ 1 → dev_reading (slice_index_or fs 0 d).now ≡ Err fault → arguments_reading len origin_in fs ≡ Err fault
+origin_unnamed len fs d fault one r = let a = dev_unnamed (slice_index_or fs 0 d).now fault r in rw (text_one fs d one, a.0, a.1) refl
+
+pub origin_read : (len : ℕ) (fs : List (Bor (List ℕ))) (d : Bor (List ℕ)) (origin : DevRef) → length fs ≡ 1 → dev_reading (slice_index_or fs 0 d).now ≡ Ok origin → arguments_reading len origin_in fs ≡ Ok (Origin origin)
+origin_read len fs d origin one r = let a = dev_parts (slice_index_or fs 0 d).now origin r in rw (text_one fs d one, a.1, a.0) refl
 
 -- A type and its arguments
 
@@ -246,11 +264,17 @@ bare_some : (type : List ℕ) (fs : List (Bor (List ℕ))) → eqb (length fs) 0
 bare_some type [] h = absurd cc
 bare_some type (f ∷ fs) h = refl
 
+-- the argument of an origin
+pub target_origin : (len : ℕ) (fs : List (Bor (List ℕ))) (d : Bor (List ℕ)) → 1 ≤ length fs → pointwise nat_eq (slice_index_or fs 0 d).now (codes "linear") ≡ false → pointwise nat_eq (slice_index_or fs 0 d).now (codes "striped") ≡ false
+    → pointwise nat_eq (slice_index_or fs 0 d).now (codes "snapshot") ≡ false → pointwise nat_eq (slice_index_or fs 0 d).now (codes "snapshot-origin") ≡ true → target_reading len (texts fs) ≡ arguments_reading len origin_in (take (length fs - 1) (drop 1 fs))
+target_origin len [] d h linear striped snapshot origin = absurd (omega arith)
+target_origin len (f ∷ fs) d h linear striped snapshot origin = rw (linear, striped, snapshot, origin, take_rest (f ∷ fs) 1) refl
+
 -- arguments after a type that takes none
 pub target_over : (len : ℕ) (fs : List (Bor (List ℕ))) (d : Bor (List ℕ)) → 1 ≤ length fs → pointwise nat_eq (slice_index_or fs 0 d).now (codes "linear") ≡ false → pointwise nat_eq (slice_index_or fs 0 d).now (codes "striped") ≡ false
-    → pointwise nat_eq (slice_index_or fs 0 d).now (codes "snapshot") ≡ false → eqb (length (take (length fs - 1) (drop 1 fs))) 0 ≡ false → target_reading len (texts fs) ≡ Err Field
-target_over len [] d h linear striped snapshot some = absurd (omega arith)
-target_over len (f ∷ fs) d h linear striped snapshot some = rw (linear, striped, snapshot, bare_some f.now fs (rw (take_rest (f ∷ fs) 1) at some)) refl
+    → pointwise nat_eq (slice_index_or fs 0 d).now (codes "snapshot") ≡ false → pointwise nat_eq (slice_index_or fs 0 d).now (codes "snapshot-origin") ≡ false → eqb (length (take (length fs - 1) (drop 1 fs))) 0 ≡ false → target_reading len (texts fs) ≡ Err Field
+target_over len [] d h linear striped snapshot origin some = absurd (omega arith)
+target_over len (f ∷ fs) d h linear striped snapshot origin some = rw (linear, striped, snapshot, origin, bare_some f.now fs (rw (take_rest (f ∷ fs) 1) at some)) refl
 
 pub and_false : (b : Bool) → (b && false) ≡ false
 and_false true = refl

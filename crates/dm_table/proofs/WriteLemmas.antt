@@ -11,7 +11,7 @@ use Rattle.dm_table.proofs.ProgressLaws.{written_more}
 use Rattle.dm_table.specs.Progress.{IsClosedAfter, Wrote}
 use Rattle.dm_table.specs.declared.table.Line.{Line}
 use Rattle.dm_table.specs.declared.table.Target.{Target}
-use Rattle.dm_table.specs.declared.table.Target.TheVariants.{Linear, Striped, Zero, Error, Snapshot}
+use Rattle.dm_table.specs.declared.table.Target.TheVariants.{Linear, Striped, Zero, Error, Snapshot, Origin}
 use Rattle.dm_table.specs.LineBody.{column_text, target_text, body_text}
 use Rattle.dm_table.specs.LineHead.{target_head, body_head, columns_of}
 use Rattle.dm_table.proofs.Growth.{since_more}
@@ -166,7 +166,8 @@ body_split before (Linear to offset) = sym (append-nil _)
 body_split before (Striped chunk columns) = simp append_assoc
 body_split before Zero = sym (append-nil _)
 body_split before Error = sym (append-nil _)
-body_split before (Snapshot origin store chunk) = sym (append-nil _)
+body_split before (Snapshot origin store kind chunk) = sym (append-nil _)
+body_split before (Origin origin) = sym (append-nil _)
 
 pub line_split : (name mark : List ℕ) (line : Line) → name ++ mark ++ body_text line ≡ (name ++ mark ++ body_head line) ++ flat_map column_text (columns_of line.target)
 line_split name mark line =

@@ -7,7 +7,9 @@ use Rattle.dm_table.specs.declared.table.DevRef.{DevRef}
 use Rattle.dm_table.specs.declared.table.DevRef.TheVariants.{Device, Disk}
 use Rattle.dm_table.specs.declared.table.Column.{Column}
 use Rattle.dm_table.specs.declared.table.Target.{Target}
-use Rattle.dm_table.specs.declared.table.Target.TheVariants.{Linear, Striped, Zero, Error, Snapshot}
+use Rattle.dm_table.specs.declared.table.StoreKind.{StoreKind}
+use Rattle.dm_table.specs.declared.table.StoreKind.TheVariants.{Persistent}
+use Rattle.dm_table.specs.declared.table.Target.TheVariants.{Linear, Striped, Zero, Error, Snapshot, Origin}
 use Rattle.dm_table.specs.declared.table.Line.{Line}
 use Rattle.dm_table.specs.Name.{is_device_name, is_disk_name, names_device, mapper}
 use Rattle.dm_table.specs.Number.{number_of, number_in}
@@ -24,13 +26,18 @@ dev_text (Disk name) = name
 abbrev pub column_text : Column → List ℕ
 column_text column = 32 ∷ dev_text column.to ++ 32 ∷ decimal column.offset
 
+-- how the kind of a store is written
+abbrev pub kind_text : StoreKind → List ℕ
+kind_text Persistent = codes "P"
+
 -- how a target and its arguments are written
 abbrev pub target_text : Target → List ℕ
 target_text (Linear to offset) = codes "linear " ++ dev_text to ++ 32 ∷ decimal offset
 target_text (Striped chunk columns) = codes "striped " ++ decimal (length columns) ++ 32 ∷ decimal chunk ++ flat_map column_text columns
 target_text Zero = codes "zero"
 target_text Error = codes "error"
-target_text (Snapshot origin store chunk) = codes "snapshot " ++ dev_text origin ++ 32 ∷ dev_text store ++ codes " P " ++ decimal chunk
+target_text (Snapshot origin store kind chunk) = codes "snapshot " ++ dev_text origin ++ 32 ∷ dev_text store ++ 32 ∷ kind_text kind ++ 32 ∷ decimal chunk
+target_text (Origin origin) = codes "snapshot-origin " ++ dev_text origin
 
 -- how the body of a line is written
 abbrev pub body_text : Line → List ℕ
@@ -55,7 +62,8 @@ IsTarget (Linear to offset) = IsDevRef to × (offset < 10 ^ 19)
 IsTarget (Striped chunk columns) = (length columns < 10 ^ 19) × (chunk < 10 ^ 19) × AllByRecursion IsColumn columns
 IsTarget Zero = Unit {0}
 IsTarget Error = Unit {0}
-IsTarget (Snapshot origin store chunk) = IsDevRef origin × IsDevRef store × (chunk < 10 ^ 19)
+IsTarget (Snapshot origin store kind chunk) = IsDevRef origin × IsDevRef store × (chunk < 10 ^ 19)
+IsTarget (Origin origin) = IsDevRef origin
 
 -- a text may say this body
 pub record IsBody (line : Line) : Type 0 where
@@ -99,11 +107,19 @@ abbrev pub striped_in : List (List ℕ) → Option Target
 striped_in (count ∷ chunk ∷ columns) = if is_half count (length columns) then if_both Striped (number_of chunk) (columns_in columns) else None
 striped_in _ = None
 
--- two texts, the flag P of a persistent store, and a number
+-- the flag P of a persistent store
+abbrev pub kind_in : List ℕ → Option StoreKind
+kind_in flag = if pointwise nat_eq flag (codes "P") then Some Persistent else None
+
+-- two texts, the kind of the store, and a number
 abbrev pub snapshot_in : List (List ℕ) → Option Target
-snapshot_in (origin ∷ store ∷ flag ∷ chunk ∷ []) =
-    if pointwise nat_eq flag (codes "P") then option_map (λ n. Snapshot (dev_in origin) (dev_in store) n) (number_of chunk) else None
+snapshot_in (origin ∷ store ∷ flag ∷ chunk ∷ []) = if_both (λ kind n. Snapshot (dev_in origin) (dev_in store) kind n) (kind_in flag) (number_of chunk)
 snapshot_in _ = None
+
+-- a text
+abbrev pub origin_in : List (List ℕ) → Option Target
+origin_in (origin ∷ []) = Some (Origin (dev_in origin))
+origin_in _ = None
 
 -- a target type that takes no arguments, where there are none
 abbrev pub bare_in : List ℕ → List (List ℕ) → Option Target
@@ -117,7 +133,8 @@ target_in (type ∷ arguments) =
     if pointwise nat_eq type (codes "linear") then linear_in arguments
     else (if pointwise nat_eq type (codes "striped") then striped_in arguments
     else (if pointwise nat_eq type (codes "snapshot") then snapshot_in arguments
-    else bare_in type arguments))
+    else (if pointwise nat_eq type (codes "snapshot-origin") then origin_in arguments
+    else bare_in type arguments)))
 
 -- a line without its place
 pub record Body : Type 0 where

@@ -66,7 +66,7 @@ pub use request::{MOST_SECTORS, Op, Request, RequestFault};
 pub use request_line::parse_request;
 pub use same_bytes::are_same;
 pub use short_io::{ShortIn, ShortOut};
-pub use table::{Column, Columns, DevRef, DeviceSpec, Line, Table, Target};
+pub use table::{Column, Columns, DevRef, DeviceSpec, Line, StoreKind, Table, Target, Use};
 pub use table_text::parse_table;
 pub use text::{TEXT_ROOM, Text};
 pub use writing::{close, write_all};

@@ -10,7 +10,7 @@ ghost use Rattle.std.specs.Prelude.{◌≡◌, ℕ, true, false, length, drop, i
 ghost use Rattle.std.specs.List.{list_all};
 ghost use Rattle.dm_table.specs.Fields.{texts};
 ghost use Rattle.dm_table.specs.Name.{names_device, mapper};
-ghost use Rattle.dm_table.specs.LineBody.{is_body_row, columns_in, is_half, linear_in, striped_in, snapshot_in, has_target_names};
+ghost use Rattle.dm_table.specs.LineBody.{is_body_row, columns_in, is_half, linear_in, striped_in, snapshot_in, origin_in, has_target_names};
 ghost use Rattle.dm_table.specs.LineReading.{dev_reading, reading_of, columns_reading, fault_before, target_reading, body_reading};
 ghost use Rattle.dm_table.specs.RowFaults.{Reads};
 
@@ -19,7 +19,7 @@ use crate::disk_name::{DiskName, is_disk_name};
 use crate::number::number;
 use crate::place::Place;
 use crate::row_faults::RowFault;
-use crate::table::{Column, Columns, DevRef, Line, Target};
+use crate::table::{Column, Columns, DevRef, Line, StoreKind, Target};
 use std::alloc::Global;
 
 /// Whether the fields are enough for a body, and none of them is empty.
@@ -76,6 +76,8 @@ fn read_target(alloc: Global, target: &[&[u8]]) -> Result<Target, RowFault>
         read_striped(alloc, arguments)
     } else if *kind == b"snapshot".as_slice() {
         read_snapshot(alloc, arguments)
+    } else if *kind == b"snapshot-origin".as_slice() {
+        read_origin(alloc, arguments)
     } else if !arguments.is_empty() {
         Err(RowFault::Field)
     } else if *kind == b"zero".as_slice() {
@@ -134,8 +136,19 @@ fn read_snapshot(alloc: Global, arguments: &[&[u8]]) -> Result<Target, RowFault>
     Ok(Target::Snapshot {
         origin,
         store,
+        kind: StoreKind::Persistent,
         chunk,
     })
+}
+
+fn read_origin(alloc: Global, arguments: &[&[u8]]) -> Result<Target, RowFault>
+    ensures { (len : ℕ) → Reads (λ target. target) result (reading_of (has_target_names len) (origin_in (texts arguments.now))) }
+{
+    let [origin] = arguments else {
+        return Err(RowFault::Field);
+    };
+    let origin = read_dev(alloc, *origin)?;
+    Ok(Target::Origin { origin })
 }
 
 /// Whether the field is a number, and half of the other one: nothing is doubled, so nothing wraps.

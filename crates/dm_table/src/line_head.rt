@@ -6,11 +6,11 @@
 
 ghost use Rattle.std.specs.Prelude.{◌≡◌, ◌++◌, ◌+◌, ◌<◌, ◌≤◌, length, decimal};
 ghost use Rattle.dm_table.specs.Block.{IsPut};
-ghost use Rattle.dm_table.specs.LineBody.{column_text, dev_text};
+ghost use Rattle.dm_table.specs.LineBody.{column_text, dev_text, kind_text};
 ghost use Rattle.dm_table.specs.LineHead.{body_head, target_head};
 
 use crate::block::{put_bytes, put_digits};
-use crate::table::{Column, DevRef, Line, Target};
+use crate::table::{Column, DevRef, Line, StoreKind, Target};
 use crate::text::Text;
 use std::marker::Model;
 
@@ -125,12 +125,26 @@ fn put_target(block: &mut [u8], at: usize, target: &Target) -> usize
         Target::Snapshot {
             origin,
             store,
+            kind,
             chunk,
         } => {
             let at = put_dev(block, at, b"snapshot ", origin);
             let at = put_dev(block, at, b" ", store);
-            put_number(block, at, b" P ", *chunk)
+            let at = put_bytes(block, at, b" ");
+            let at = put_bytes(block, at, kind_text(*kind));
+            put_number(block, at, b" ", *chunk)
         }
+        Target::Origin { origin } => put_dev(block, at, b"snapshot-origin ", origin),
+    }
+}
+
+/// The flag of a kind of store.
+fn kind_text(kind: StoreKind) -> &'static [u8]
+    ensures flag { result.now ≡ kind_text kind }
+    ensures few { length result.now ≤ 1 }
+{
+    match kind {
+        StoreKind::Persistent => b"P",
     }
 }
 
@@ -149,10 +163,10 @@ fn put_number(block: &mut [u8], at: usize, before: &[u8], number: u64) -> usize
 /// Puts a few bytes, and then the name of a lower device.
 #[inline(always)]
 fn put_dev(block: &mut [u8], at: usize, before: &[u8], dev: &DevRef) -> usize
-    requires room { at + 264 ≤ length block.old }
-    requires before { length before.now ≤ 9 }
+    requires room { at + 271 ≤ length block.old }
+    requires before { length before.now ≤ 16 }
     ensures put { IsPut (before.now ++ dev_text dev.now) at block.old block.new result }
-    ensures few { result ≤ at + 264 }
+    ensures few { result ≤ at + 271 }
 {
     let at = put_bytes(block, at, before);
     put_name(block, at, dev)

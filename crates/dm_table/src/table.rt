@@ -49,8 +49,32 @@ pub enum Target {
     Snapshot {
         origin: DevRef,
         store: DevRef,
+        kind: StoreKind,
         chunk: u64,
     },
+    /// They are the origin's. Before a write to one, each snapshot of the origin that hasn't taken
+    /// its chunk gets a copy.
+    Origin {
+        origin: DevRef,
+    },
+}
+
+/// What a store keeps of the chunks that a snapshot took.
+#[derive(Clone, Copy, Debug, PartialEq, Eq, Drop)]
+pub enum StoreKind {
+    /// Their numbers too, so that the snapshot is there again after a restart: the flag `P`.
+    Persistent,
+}
+
+/// How a line uses what it names.
+#[derive(Clone, Copy, Debug, PartialEq, Eq, Drop)]
+pub enum Use {
+    /// For itself: nothing else may use it.
+    Own,
+    /// It only reads it, and so may others.
+    Reading,
+    /// It writes it and serves those who only read it, as an origin's line does its snapshots.
+    Serving,
 }
 
 /// A line of a table: `len` sectors from `start` on, and the place that describes it.

@@ -2,7 +2,8 @@ use Rattle.std.proofs.Common.{◌≡◌, false, true, not, sym, ap, ◌∙◌, c
 use Rattle.std.specs.List.{list_any}
 use Rattle.dm_stack.specs.declared.reach.Reach.{Reach}
 use Rattle.dm_stack.specs.declared.reach.Reaches.{Reaches}
-use Rattle.dm_stack.specs.Sweep.{is_same_lower, reach_at, reach_meets, reach_of, reach_with, rivals}
+use Rattle.dm_stack.specs.Description.{is_same_lower}
+use Rattle.dm_stack.specs.Sweep.{reach_at, reach_meets, reach_of, reach_with, rivals}
 use Rattle.dm_stack.proofs.SweepLemmas.{counted, met, not_met, reach_more, search_ends, search_more, uncounted}
 use Rattle.dm_stack.proofs.tidy.is_tidy_to.Goals as goal
 use Rattle.dm_stack.proofs.tidy.is_tidy_to.Goals.{then-next-count+else-meets, else-next-count}

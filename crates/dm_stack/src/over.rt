@@ -1,0 +1,99 @@
+//! The snapshots of an origin, which its line has.
+//!
+//! All snapshots of a stack are collected once a load, and each line of an origin has a copy of its
+//! own, so that a write to one neither goes over the devices nor searches their lines.
+
+ghost use Rattle.std.specs.Prelude.{◌≡◌, ◌++◌, IfOk, OnOk, filter};
+ghost use Rattle.std.specs.List.{flat_map};
+ghost use Rattle.dm_stack.specs.Description.{is_same_lower};
+ghost use Rattle.dm_stack.specs.Over.{all_over, found_snapshot, over_of};
+
+use crate::found_line::{FoundOver, FoundSnapshot};
+use crate::id::{DeviceId, Lower};
+use crate::indexed::Indexed;
+use dm_table::{DevRef, Line, Listed, Target};
+use std::alloc::{AllocError, Global};
+
+/// All snapshots of a stack, in the order of their devices.
+///
+/// Fails only when out of memory. Cost: a walk over the lines, with memory for each snapshot.
+pub(crate) fn all_over(alloc: Global, stack: &Indexed) -> Result<Vec<FoundOver>, AllocError>
+    ensures { IfOk result (λ over. over.items ≡ all_over stack.now) }
+{
+    let mut over = Vec::new(alloc);
+    for (id, device) in stack.devices().iter().enumerate() {
+        add_lines(&mut over, stack, DeviceId::new(id), device.lines.as_slice())?;
+    }
+    Ok(over)
+}
+
+/// Adds the snapshots among the lines of a device.
+fn add_lines(
+    over: &mut Vec<FoundOver>,
+    stack: &Indexed,
+    device: DeviceId,
+    lines: &[Line],
+) -> Result<(), AllocError>
+    ensures { OnOk result (over.new.items ≡ over.old.items ++ flat_map (λ line. over_of stack.now device line.target) lines.now) }
+{
+    for line in lines {
+        add_line(over, stack, device, &line.target)?;
+    }
+    Ok(())
+}
+
+fn add_line(
+    over: &mut Vec<FoundOver>,
+    stack: &Indexed,
+    device: DeviceId,
+    target: &Target,
+) -> Result<(), AllocError>
+    ensures { OnOk result (over.new.items ≡ over.old.items ++ over_of stack.now device target.now) }
+{
+    if let Target::Snapshot {
+        origin,
+        store,
+        chunk,
+        ..
+    } = target
+    {
+        let snapshot = found_snapshot(stack, origin, store, *chunk);
+        over.push(FoundOver { device, snapshot })?;
+    }
+    Ok(())
+}
+
+/// What the line of a snapshot says, with ids for names.
+pub(crate) fn found_snapshot(
+    stack: &Indexed,
+    origin: &DevRef,
+    store: &DevRef,
+    chunk: u64,
+) -> FoundSnapshot
+    ensures { result ≡ found_snapshot stack.now origin.now store.now chunk }
+{
+    FoundSnapshot {
+        origin: stack.lower_of(origin),
+        store: stack.lower_of(store),
+        chunk,
+    }
+}
+
+/// Those of some snapshots whose origin is a device or a disk.
+///
+/// Fails only when out of memory. Cost: a walk over them, with memory for each that is one.
+pub(crate) fn snapshots_over(
+    alloc: Global,
+    all: &[FoundOver],
+    to: Lower,
+) -> Result<Listed<FoundOver>, AllocError>
+    ensures { IfOk result (λ over. over ≡ filter (λ one. is_same_lower one.snapshot.origin to) all.now) }
+{
+    let mut over = Vec::new(alloc);
+    for one in all {
+        if one.snapshot.origin == to {
+            over.push(*one)?;
+        }
+    }
+    Ok(Listed::from_vec(over))
+}
