@@ -1,8 +1,10 @@
 -- Where no claims meet: what leads to a sector that a line or a store's snapshot has, and what leads nowhere.
-use Rattle.std.proofs.Common.{◌≡◌, ℕ, ◌+◌, ◌-◌, ◌*◌, ◌/◌, ◌%◌, ◌<◌, Bool, true, false, Option, Some, None, length, refl, sym, ap, subst, ◌∙◌, arith}
+use Rattle.std.proofs.Common.{◌≡◌, ℕ, ◌+◌, ◌-◌, ◌*◌, ◌/◌, ◌%◌, ◌<◌, Option, Some, None, length, refl, sym, ap, subst, ◌∙◌, arith}
 use Rattle.std.specs.Prelude.{slice_get}
 use Rattle.std.proofs.lemmas.Bool.{leb-true}
 use Rattle.dm_table.specs.declared.table.Line.{Line}
+use Rattle.dm_table.specs.declared.table.Use.{Use}
+use Rattle.dm_table.specs.declared.table.Use.TheVariants.{Own, Reading}
 use Rattle.dm_stack.specs.declared.found_line.FoundColumn.{FoundColumn}
 use Rattle.dm_stack.specs.declared.found_line.FoundLine.{FoundLine}
 use Rattle.dm_stack.specs.declared.found_line.FoundSnapshot.{FoundSnapshot}
@@ -99,7 +101,7 @@ pub back_line : (stack : Description) (state : State) (d s e t : ℕ) (lower : L
     → found_at stack d s ≡ Some line → IsColumnStep line.target (s - line.start) lower at → How stack state e t lower at → IsAt e t d s
 back_line stack state d s e t lower at line sound fitting tidy inside is step (ByLine other is_other step_other) =
     let a = via_line stack d s line lower at sound is step in let b = via_line stack e t other lower at sound is_other step_other in
-    let one = one_via stack d e a.place b.place (column_at line.target (s - line.start)) (column_at other.target (t - other.start)) a.it b.it lower at false tidy a.via b.via in
+    let one = one_via stack d e a.place b.place (column_at line.target (s - line.start)) (column_at other.target (t - other.start)) a.it b.it lower at Own Own tidy a.via b.via refl in
     let same : line ≡ other = sym a.is ∙ ap (found_line stack) one.lines ∙ b.is in
     let of = (line_sound stack d s line sound is).soundly in let of_other = (line_sound stack e t other sound is_other).soundly in
     let starts : line.start ≡ other.start = ap (λ (l : FoundLine). l.start) same in
@@ -111,14 +113,14 @@ back_line stack state d s e t lower at line sound fitting tidy inside is step (B
 back_line stack state d s e t lower at line sound fitting tidy inside is step (ByStore snapshot number over valid n lower_is at_is) =
     let a = via_line stack d s line lower at sound is step in let b = via_snapshot stack e snapshot sound over in
     let below : at < lower_len stack snapshot.store = subst (λ (x : ℕ). x < lower_len stack snapshot.store) (sym at_is) (fits stack state e t number snapshot sound fitting over n) in
-    let via : IsVia stack e b.place 0 b.it lower at false = subst (λ (x : Lower). IsVia stack e b.place 0 b.it x at false) (sym lower_is) (b.store at below) in
-    let one = one_via stack d e a.place b.place (column_at line.target (s - line.start)) 0 a.it b.it lower at false tidy a.via via in
+    let via : IsVia stack e b.place 0 b.it lower at Own = subst (λ (x : Lower). IsVia stack e b.place 0 b.it x at Own) (sym lower_is) (b.store at below) in
+    let one = one_via stack d e a.place b.place (column_at line.target (s - line.start)) 0 a.it b.it lower at Own Own tidy a.via via refl in
     absurd (line_no_snapshot stack d s line lower at a.it b.it snapshot a.is step one.lines b.target)
 back_line stack state d s e t lower at line sound fitting tidy inside is step (ByRead snapshot over valid n lower_is at_is) =
     let a = via_line stack d s line lower at sound is step in let b = via_snapshot stack e snapshot sound over in
     let below : at < lower_len stack snapshot.origin = subst (λ (x : ℕ). x < lower_len stack snapshot.origin) (sym at_is) (read_inside stack state e t snapshot sound over inside) in
-    let via : IsVia stack e b.place 1 b.it lower at true = subst (λ (x : Lower). IsVia stack e b.place 1 b.it x at true) (sym lower_is) (b.origin at below) in
-    let one = one_via stack d e a.place b.place (column_at line.target (s - line.start)) 1 a.it b.it lower at true tidy a.via via in
+    let via : IsVia stack e b.place 1 b.it lower at Reading = subst (λ (x : Lower). IsVia stack e b.place 1 b.it x at Reading) (sym lower_is) (b.origin at below) in
+    let one = one_via stack d e a.place b.place (column_at line.target (s - line.start)) 1 a.it b.it lower at Own Reading tidy a.via via refl in
     absurd (line_no_snapshot stack d s line lower at a.it b.it snapshot a.is step one.lines b.target)
 
 -- to one of a store: its snapshot, by a taken chunk
@@ -135,20 +137,20 @@ pub back_store : (stack : Description) (state : State) (d e t at : ℕ) (snapsho
     → snapshot_at stack d ≡ Some snapshot → at < lower_len stack snapshot.store → How stack state e t snapshot.store at → IsKept state d snapshot at e t
 back_store stack state d e t at snapshot sound fitting tidy inside over below (ByLine line is step) =
     let a = via_line stack e t line snapshot.store at sound is step in let b = via_snapshot stack d snapshot sound over in
-    let one = one_via stack e d a.place b.place (column_at line.target (t - line.start)) 0 a.it b.it snapshot.store at false tidy a.via (b.store at below) in
+    let one = one_via stack e d a.place b.place (column_at line.target (t - line.start)) 0 a.it b.it snapshot.store at Own Own tidy a.via (b.store at below) refl in
     absurd (line_no_snapshot stack e t line snapshot.store at a.it b.it snapshot a.is step one.lines b.target)
 back_store stack state d e t at snapshot sound fitting tidy inside over below (ByStore other number over_other valid n store_is at_is) =
     let a = via_snapshot stack d snapshot sound over in let b = via_snapshot stack e other sound over_other in
     let below_other : at < lower_len stack other.store = subst (λ (x : Lower). at < lower_len stack x) store_is below in
-    let via : IsVia stack e b.place 0 b.it snapshot.store at false = subst (λ (x : Lower). IsVia stack e b.place 0 b.it x at false) (sym store_is) (b.store at below_other) in
-    let one = one_via stack d e a.place b.place 0 0 a.it b.it snapshot.store at false tidy (a.store at below) via in
+    let via : IsVia stack e b.place 0 b.it snapshot.store at Own = subst (λ (x : Lower). IsVia stack e b.place 0 b.it x at Own) (sym store_is) (b.store at below_other) in
+    let one = one_via stack d e a.place b.place 0 0 a.it b.it snapshot.store at Own Own tidy (a.store at below) via refl in
     let same : snapshot ≡ other = snapshot_is snapshot other (sym a.target ∙ ap (λ (l : Line). found_target stack l.target) one.lines ∙ b.target) in
     record { same = sym one.devices; number = number; is = rw (same, one.devices) n; sector = rw same at_is }
 back_store stack state d e t at snapshot sound fitting tidy inside over below (ByRead other over_other valid n store_is at_is) =
     let a = via_snapshot stack d snapshot sound over in let b = via_snapshot stack e other sound over_other in
     let below_other : at < lower_len stack other.origin = subst (λ (x : ℕ). x < lower_len stack other.origin) (sym at_is) (read_inside stack state e t other sound over_other inside) in
-    let via : IsVia stack e b.place 1 b.it snapshot.store at true = subst (λ (x : Lower). IsVia stack e b.place 1 b.it x at true) (sym store_is) (b.origin at below_other) in
-    let one = one_via stack d e a.place b.place 0 1 a.it b.it snapshot.store at true tidy (a.store at below) via in
+    let via : IsVia stack e b.place 1 b.it snapshot.store at Reading = subst (λ (x : Lower). IsVia stack e b.place 1 b.it x at Reading) (sym store_is) (b.origin at below_other) in
+    let one = one_via stack d e a.place b.place 0 1 a.it b.it snapshot.store at Own Reading tidy (a.store at below) via refl in
     absurd (two_columns 0 1 refl refl one.columns)
 
 -- Roots: no line leads into them, and they are no store
@@ -168,20 +170,20 @@ step_inside stack device sector line lower at sound is step =
     column_inside stack device line.start line.len line.target (sector - line.start) lower at of.target step (omega (arith, from, before))
 
 -- nor into what a snapshot's line names at a column
-named_no_lines : (stack : Description) (device column : ℕ) (snapshot : FoundSnapshot) (lower : Lower) (reading : Bool) → IsSound stack → IsTidy stack → (b : IsSnapshotVia stack device snapshot)
-    → ((at : ℕ) → at < lower_len stack lower → IsVia stack device b.place column b.it lower at reading) → IsNoLines stack lower
-named_no_lines stack device column snapshot lower reading sound tidy b via = record {
+named_no_lines : (stack : Description) (device column : ℕ) (snapshot : FoundSnapshot) (lower : Lower) (kind : Use) → IsSound stack → IsTidy stack → (b : IsSnapshotVia stack device snapshot)
+    → ((at : ℕ) → at < lower_len stack lower → IsVia stack device b.place column b.it lower at kind) → IsNoLines stack lower
+named_no_lines stack device column snapshot lower kind sound tidy b via = record {
   none = λ e t line at is step.
       let a = via_line stack e t line lower at sound is step in
-      let one = one_via stack e device a.place b.place (column_at line.target (t - line.start)) column a.it b.it lower at reading tidy a.via (via at (step_inside stack e t line lower at sound is step)) in
+      let one = one_via stack e device a.place b.place (column_at line.target (t - line.start)) column a.it b.it lower at Own kind tidy a.via (via at (step_inside stack e t line lower at sound is step)) refl in
       line_no_snapshot stack e t line lower at a.it b.it snapshot a.is step one.lines b.target;
 }
 
 pub store_no_lines : (stack : Description) (device : ℕ) (snapshot : FoundSnapshot) → IsSound stack → IsTidy stack → snapshot_at stack device ≡ Some snapshot → IsNoLines stack snapshot.store
-store_no_lines stack device snapshot sound tidy over = let b = via_snapshot stack device snapshot sound over in named_no_lines stack device 0 snapshot snapshot.store false sound tidy b b.store
+store_no_lines stack device snapshot sound tidy over = let b = via_snapshot stack device snapshot sound over in named_no_lines stack device 0 snapshot snapshot.store Own sound tidy b b.store
 
 pub origin_no_lines : (stack : Description) (device : ℕ) (snapshot : FoundSnapshot) → IsSound stack → IsTidy stack → snapshot_at stack device ≡ Some snapshot → IsNoLines stack snapshot.origin
-origin_no_lines stack device snapshot sound tidy over = let b = via_snapshot stack device snapshot sound over in named_no_lines stack device 1 snapshot snapshot.origin true sound tidy b b.origin
+origin_no_lines stack device snapshot sound tidy over = let b = via_snapshot stack device snapshot sound over in named_no_lines stack device 1 snapshot snapshot.origin Reading sound tidy b b.origin
 
 pub origin_no_store : (stack : Description) (device : ℕ) (snapshot : FoundSnapshot) → IsSound stack → IsTidy stack → snapshot_at stack device ≡ Some snapshot → IsNoStore stack snapshot.origin
 origin_no_store stack device snapshot sound tidy over = record {
@@ -190,8 +192,8 @@ origin_no_store stack device snapshot sound tidy over = record {
       let whole = of.soundly.origin in let some = of.some in
       let below : 0 < lower_len stack snapshot.origin = omega (arith, whole, some) in
       let a = via_snapshot stack device snapshot sound over in let b = via_snapshot stack e other sound over_other in
-      let via : IsVia stack e b.place 0 b.it snapshot.origin 0 false = subst (λ (x : Lower). IsVia stack e b.place 0 b.it x 0 false) (sym same) (b.store 0 (subst (λ (x : Lower). 0 < lower_len stack x) same below)) in
-      let one = one_via stack e device b.place a.place 0 1 b.it a.it snapshot.origin 0 true tidy via (a.origin 0 below) in
+      let via : IsVia stack e b.place 0 b.it snapshot.origin 0 Own = subst (λ (x : Lower). IsVia stack e b.place 0 b.it x 0 Own) (sym same) (b.store 0 (subst (λ (x : Lower). 0 < lower_len stack x) same below)) in
+      let one = one_via stack e device b.place a.place 0 1 b.it a.it snapshot.origin 0 Own Reading tidy via (a.origin 0 below) refl in
       two_columns 0 1 refl refl one.columns;
 }
 

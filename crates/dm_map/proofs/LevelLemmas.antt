@@ -9,6 +9,7 @@ use Rattle.dm_table.specs.declared.table.DevRef.TheVariants as refs
 use Rattle.dm_table.specs.declared.table.Column.{Column}
 use Rattle.dm_table.specs.declared.table.Target.{Target}
 use Rattle.dm_table.specs.declared.table.Target.TheVariants as targets
+use Rattle.dm_table.specs.declared.table.Use.TheVariants.{Reading}
 use Rattle.dm_table.specs.declared.table.Line.{Line}
 use Rattle.dm_table.specs.declared.table.DeviceSpec.{DeviceSpec}
 use Rattle.dm_table.specs.declared.load_fault.LoadKind.{LoadKind}
@@ -26,6 +27,7 @@ use Rattle.dm_table.specs.Span.{Span, column_span, target_spans, whole_span}
 use Rattle.dm_stack.specs.Graph.{links_of, greatest, depth_to}
 use Rattle.dm_stack.specs.declared.found_line.FoundSnapshot.{FoundSnapshot}
 use Rattle.dm_stack.specs.Below.{Below, Lies, IsZero, IsError, below, below_line, below_stripes, below_target, below_column, column_of, in_column, found_line, found_target, found_columns, found_at, holds, line_of}
+use Rattle.dm_stack.specs.Over.{found_snapshot}
 use Rattle.dm_stack.specs.Soundness.{IsSound, faults_by_id, depth_of}
 use Rattle.dm_stack.proofs.Passes.{all_parts, passes_all}
 use Rattle.dm_stack.proofs.SoundLines.{found}
@@ -89,9 +91,9 @@ on_target over stack P len (targets.Striped chunk columns) distance on each =
     on_column P (found_columns stack columns) (column_of chunk (length (found_columns stack columns)) distance) (in_column chunk (length (found_columns stack columns)) distance) _ (on_columns stack P (len / length columns) columns each) refl
 on_target over stack P len targets.Zero distance on each = tt
 on_target over stack P len targets.Error distance on each = tt
-on_target over stack P len (targets.Snapshot origin store chunk) distance on each =
-    let store_first = all_parts P (ref_link stack store) (span_links stack (whole_span origin true ∷ [])) each in
-    on (record { origin = lower_of stack origin; store = lower_of stack store; chunk = chunk }) distance (on_ref stack P store store_first.0) (on_ref stack P origin (all_parts P (ref_link stack origin) [] store_first.1).0)
+on_target over stack P len (targets.Snapshot origin store kind chunk) distance on each =
+    let store_first = all_parts P (ref_link stack store) (span_links stack (whole_span origin Reading ∷ [])) each in
+    on (found_snapshot stack origin store chunk) distance (on_ref stack P store store_first.0) (on_ref stack P origin (all_parts P (ref_link stack origin) [] store_first.1).0)
 
 pub on_lines : (stack : Description) (P : ℕ → Type 0) (lines : List Line) → AllByRecursion P (flat_map (line_links stack) lines) → AllByRecursion (λ line. AllByRecursion P (line_links stack line)) lines
 on_lines stack P [] each = tt

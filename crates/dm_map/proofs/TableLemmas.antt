@@ -13,6 +13,7 @@ use Rattle.dm_table.specs.declared.table.DeviceSpec.{DeviceSpec}
 use Rattle.dm_table.specs.declared.table.Line.{Line}
 use Rattle.dm_table.specs.declared.table.Target.{Target}
 use Rattle.dm_table.specs.declared.table.Target.TheVariants as targets
+use Rattle.dm_table.specs.declared.table.Use.TheVariants.{Reading}
 use Rattle.dm_stack.specs.declared.found_line.FoundLine.{FoundLine}
 use Rattle.dm_stack.specs.declared.found_line.FoundSnapshot.{FoundSnapshot}
 use Rattle.dm_stack.specs.declared.found_line.FoundTarget.{FoundTarget}
@@ -21,6 +22,7 @@ use Rattle.dm_stack.specs.Below.{found_at, found_line, found_target, holds, line
 use Rattle.dm_stack.specs.Description.{Description, device_id, disk_id, is_same, lines_at, lines_or_none, lower_len, lower_of}
 use Rattle.dm_stack.specs.Loaded.{has_snapshot, is_snapshot, snapshots}
 use Rattle.dm_stack.specs.Places.{place}
+use Rattle.dm_stack.specs.Over.{found_snapshot}
 use Rattle.dm_stack.specs.Soundness.{IsSound, all_lines, is_unknown, is_unknown_ref}
 use Rattle.dm_table.specs.Span.{target_spans, whole_span}
 use Rattle.dm_stack.proofs.Passes.{faults_by_none, passes_all}
@@ -139,7 +141,7 @@ plain_target stack (targets.Linear to offset) e = refl
 plain_target stack (targets.Striped chunk columns) e = refl
 plain_target stack targets.Zero e = refl
 plain_target stack targets.Error e = refl
-plain_target stack (targets.Snapshot origin store chunk) e = absurd cc
+plain_target stack (targets.Snapshot origin store kind chunk) e = absurd cc
 
 each_plain : (lines : List Line) → has_snapshot lines ≡ false → AllByRecursion (λ line. is_snapshot line.target ≡ false) lines
 each_plain [] e = tt
@@ -253,9 +255,9 @@ store_at stack (targets.Linear to offset) len snapshot sound known is = absurd c
 store_at stack (targets.Striped chunk columns) len snapshot sound known is = absurd cc
 store_at stack targets.Zero len snapshot sound known is = absurd cc
 store_at stack targets.Error len snapshot sound known is = absurd cc
-store_at stack (targets.Snapshot origin store chunk) len snapshot sound known is =
-    let same : record { origin = lower_of stack origin; store = lower_of stack store; chunk = chunk } ≡ snapshot = cc in
-    let parts = or_parts (is_unknown_ref stack store) (list_any (λ span. is_unknown_ref stack span.to) (whole_span origin true ∷ [])) known in
+store_at stack (targets.Snapshot origin store kind chunk) len snapshot sound known is =
+    let same : found_snapshot stack origin store chunk ≡ snapshot = cc in
+    let parts = or_parts (is_unknown_ref stack store) (list_any (λ span. is_unknown_ref stack span.to) (whole_span origin Reading ∷ [])) known in
     subst (λ (s : FoundSnapshot). 0 < lower_len stack s.store) same (lower_some stack store sound parts.0)
 
 store_in : (stack : Description) (lines : List Line) (sector : ℕ) (line : Option Line) (found_line_is : FoundLine) (snapshot : FoundSnapshot) → IsSound stack → AllByRecursion (λ l. is_unknown stack l ≡ false) lines → line_of lines sector ≡ line → option_map (found_line stack) line ≡ Some found_line_is

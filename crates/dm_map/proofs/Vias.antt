@@ -1,5 +1,5 @@
 -- How a step of a read goes through a claim: through a column of its line, or through the store or the origin of its snapshot.
-use Rattle.std.proofs.Common.{Bool, ◌≡◌, ℕ, zero, suc, ◌+◌, ◌-◌, ◌/◌, ◌%◌, ◌<◌, ◌≤◌, true, false, List, [], ◌∷◌, Option, Some, None, length, refl, sym, ap, subst, ◌∙◌, arith}
+use Rattle.std.proofs.Common.{◌≡◌, ℕ, zero, suc, ◌+◌, ◌-◌, ◌/◌, ◌%◌, ◌<◌, ◌≤◌, List, [], ◌∷◌, Option, Some, None, length, refl, sym, ap, subst, ◌∙◌, arith}
 use Rattle.std.specs.Prelude.{option_map, slice_get}
 use Rattle.std.proofs.lemmas.List.{length-map}
 use Rattle.std.proofs.lemmas.Option.{slice_get-map}
@@ -9,6 +9,8 @@ use Rattle.dm_table.specs.declared.table.DevRef.{DevRef}
 use Rattle.dm_table.specs.declared.table.Line.{Line}
 use Rattle.dm_table.specs.declared.table.Target.{Target}
 use Rattle.dm_table.specs.declared.table.Target.TheVariants as targets
+use Rattle.dm_table.specs.declared.table.Use.{Use}
+use Rattle.dm_table.specs.declared.table.Use.TheVariants.{Own, Reading}
 use Rattle.dm_stack.specs.declared.found_line.FoundColumn.{FoundColumn}
 use Rattle.dm_stack.specs.declared.found_line.FoundLine.{FoundLine}
 use Rattle.dm_stack.specs.declared.found_line.FoundSnapshot.{FoundSnapshot}
@@ -18,6 +20,7 @@ use Rattle.dm_stack.specs.declared.id.Lower.{Lower}
 use Rattle.dm_stack.specs.Below.{AreStripes, IsTargetSound, column_of, found_at, found_columns, found_line, found_target, holds, line_of}
 use Rattle.dm_stack.specs.Claims.{span_end}
 use Rattle.dm_stack.specs.Description.{Description, lines_at, lower_len, lower_of}
+use Rattle.dm_stack.specs.Over.{found_snapshot}
 use Rattle.dm_stack.specs.Soundness.{IsSound}
 use Rattle.dm_table.specs.Span.{Span, column_span, target_spans, whole_span}
 use Rattle.dm_stack.proofs.Apart.{IsNamed, IsVia}
@@ -35,7 +38,7 @@ share_of len (targets.Linear to offset) = len
 share_of len (targets.Striped chunk columns) = len / length columns
 share_of len targets.Zero = 0
 share_of len targets.Error = 0
-share_of len (targets.Snapshot origin store chunk) = 0
+share_of len (targets.Snapshot origin store kind chunk) = 0
 
 record IsColumnSpan (stack : Description) (len : ℕ) (target : Target) (i : ℕ) (column : FoundColumn) : Type 0 where
   span : Span
@@ -43,7 +46,7 @@ record IsColumnSpan (stack : Description) (len : ℕ) (target : Target) (i : ℕ
   to : lower_of stack span.to ≡ column.to
   offset : span.offset ≡ column.offset
   share : span.len ≡ Some (share_of len target)
-  own : span.read_only ≡ false
+  own : span.kind ≡ Own
 
 raw_column : (stack : Description) (o : Option Column) (column : FoundColumn) → option_map (λ c. record { to = lower_of stack c.to; offset = c.offset }) o ≡ Some column
     → (raw : Column) × (o ≡ Some raw) × (lower_of stack raw.to ≡ column.to) × (raw.offset ≡ column.offset)
@@ -62,7 +65,7 @@ column_is a b e = cc
 column_span_at : (stack : Description) (len : ℕ) (target : Target) (i : ℕ) (column : FoundColumn) → slice_get (columns_of (found_target stack target)) i ≡ Some column → IsColumnSpan stack len target i column
 column_span_at stack len (targets.Linear to offset) zero column is =
     let same = column_is _ column is in
-    record { span = record { to = to; offset = offset; len = Some len; read_only = false }; at = refl; to = ap (λ (c : FoundColumn). c.to) same; offset = ap (λ (c : FoundColumn). c.offset) same; share = refl; own = refl }
+    record { span = record { to = to; offset = offset; len = Some len; kind = Own }; at = refl; to = ap (λ (c : FoundColumn). c.to) same; offset = ap (λ (c : FoundColumn). c.offset) same; share = refl; own = refl }
 column_span_at stack len (targets.Linear to offset) (suc i) column is = absurd cc
 column_span_at stack len (targets.Striped chunk columns) i column is =
     let raw = raw_column stack (slice_get columns i) column (sym (slice_get-map (λ c. record { to = lower_of stack c.to; offset = c.offset }) columns i) ∙ is) in
@@ -76,7 +79,7 @@ column_span_at stack len (targets.Striped chunk columns) i column is =
     }
 column_span_at stack len targets.Zero i column is = absurd cc
 column_span_at stack len targets.Error i column is = absurd cc
-column_span_at stack len (targets.Snapshot origin store chunk) i column is = absurd cc
+column_span_at stack len (targets.Snapshot origin store kind chunk) i column is = absurd cc
 
 within_share : (stack : Description) (device start len : ℕ) (target : Target) (distance : ℕ) (column : FoundColumn) → IsTargetSound stack device start len (found_target stack target) → slice_get (columns_of (found_target stack target)) (column_at (found_target stack target) distance) ≡ Some column → distance < len
     → within_at (found_target stack target) distance < share_of len target
@@ -92,7 +95,7 @@ within_share stack device start len (targets.Striped chunk columns) distance col
     omega (arith, room, share, rest)
 within_share stack device start len targets.Zero distance column sound is inside = absurd cc
 within_share stack device start len targets.Error distance column sound is inside = absurd cc
-within_share stack device start len (targets.Snapshot origin store chunk) distance column sound is inside = absurd cc
+within_share stack device start len (targets.Snapshot origin store kind chunk) distance column sound is inside = absurd cc
 
 -- Through a column of a line
 
@@ -100,7 +103,7 @@ pub record IsLineVia (stack : Description) (device sector : ℕ) (line : FoundLi
   pub place : ℕ
   pub it : Line
   pub is : found_line stack it ≡ line
-  pub via : IsVia stack device place (column_at line.target (sector - line.start)) it lower at false
+  pub via : IsVia stack device place (column_at line.target (sector - line.start)) it lower at Own
 
 raw_line : (stack : Description) (o : Option Line) (line : FoundLine) → option_map (found_line stack) o ≡ Some line → (it : Line) × (o ≡ Some it) × (found_line stack it ≡ line)
 raw_line stack None line is = absurd cc
@@ -142,7 +145,7 @@ via_line stack device sector line lower at sound is step =
         on = span.to ∙ step.to;
         from = omega (arith, offset, at_is);
         before = omega (arith, ends, offset, at_is, share, within);
-        for_reading = span.own;
+        used = span.own;
       };
     }
 
@@ -155,40 +158,40 @@ pub record IsSnapshotVia (stack : Description) (device : ℕ) (snapshot : FoundS
   pub target : found_target stack it.target ≡ founds.Snapshot snapshot
   pub store_named : IsNamed stack device place 0 it snapshot.store
   pub origin_named : IsNamed stack device place 1 it snapshot.origin
-  pub store : (at : ℕ) → at < lower_len stack snapshot.store → IsVia stack device place 0 it snapshot.store at false
-  pub origin : (at : ℕ) → at < lower_len stack snapshot.origin → IsVia stack device place 1 it snapshot.origin at true
+  pub store : (at : ℕ) → at < lower_len stack snapshot.store → IsVia stack device place 0 it snapshot.store at Own
+  pub origin : (at : ℕ) → at < lower_len stack snapshot.origin → IsVia stack device place 1 it snapshot.origin at Reading
 
 snapshot_spans : (stack : Description) (len : ℕ) (target : Target) (snapshot : FoundSnapshot) → found_target stack target ≡ founds.Snapshot snapshot
-    → (store : DevRef) × (origin : DevRef) × (target_spans len target ≡ whole_span store false ∷ whole_span origin true ∷ []) × (lower_of stack store ≡ snapshot.store) × (lower_of stack origin ≡ snapshot.origin)
+    → (store : DevRef) × (origin : DevRef) × (target_spans len target ≡ whole_span store Own ∷ whole_span origin Reading ∷ []) × (lower_of stack store ≡ snapshot.store) × (lower_of stack origin ≡ snapshot.origin)
 snapshot_spans stack len (targets.Linear to offset) snapshot is = absurd cc
 snapshot_spans stack len (targets.Striped chunk columns) snapshot is = absurd cc
 snapshot_spans stack len targets.Zero snapshot is = absurd cc
 snapshot_spans stack len targets.Error snapshot is = absurd cc
-snapshot_spans stack len (targets.Snapshot origin store chunk) snapshot is =
-    let same = snapshot_is (record { origin = lower_of stack origin; store = lower_of stack store; chunk = chunk }) snapshot is in
+snapshot_spans stack len (targets.Snapshot origin store kind chunk) snapshot is =
+    let same = snapshot_is (found_snapshot stack origin store chunk) snapshot is in
     (store, origin, refl, ap (λ (s : FoundSnapshot). s.store) same, ap (λ (s : FoundSnapshot). s.origin) same)
   where
     snapshot_is : (a b : FoundSnapshot) → founds.Snapshot a ≡ founds.Snapshot b → a ≡ b
     snapshot_is a b e = cc
 
 -- what a line names as a whole: each sector of it is one that the line leads to
-record IsWholeVia (stack : Description) (device place column : ℕ) (it : Line) (lower : Lower) (reading : Bool) : Type 0 where
+record IsWholeVia (stack : Description) (device place column : ℕ) (it : Line) (lower : Lower) (kind : Use) : Type 0 where
   named : IsNamed stack device place column it lower
-  via : (at : ℕ) → at < lower_len stack lower → IsVia stack device place column it lower at reading
+  via : (at : ℕ) → at < lower_len stack lower → IsVia stack device place column it lower at kind
 
-whole_via : (stack : Description) (device place column : ℕ) (it : Line) (lower : Lower) (reading : Bool) (to : DevRef) → device < length stack.devices → slice_get (lines_at stack device) place ≡ Some it
-    → slice_get (target_spans it.len it.target) column ≡ Some (whole_span to reading) → lower_of stack to ≡ lower → IsWholeVia stack device place column it lower reading
-whole_via stack device place column it lower reading to there line_at span_at on = record {
-  named = record { there = there; line_at = line_at; span = whole_span to reading; span_at = span_at; on = on };
+whole_via : (stack : Description) (device place column : ℕ) (it : Line) (lower : Lower) (kind : Use) (to : DevRef) → device < length stack.devices → slice_get (lines_at stack device) place ≡ Some it
+    → slice_get (target_spans it.len it.target) column ≡ Some (whole_span to kind) → lower_of stack to ≡ lower → IsWholeVia stack device place column it lower kind
+whole_via stack device place column it lower kind to there line_at span_at on = record {
+  named = record { there = there; line_at = line_at; span = whole_span to kind; span_at = span_at; on = on };
   via = λ at below. record {
     there = there;
     line_at = line_at;
-    span = whole_span to reading;
+    span = whole_span to kind;
     span_at = span_at;
     on = on;
     from = omega arith;
     before = subst (λ (l : Lower). at < lower_len stack l) (sym on) below;
-    for_reading = refl;
+    used = refl;
   };
 }
 
@@ -200,8 +203,8 @@ via_snapshot stack device snapshot sound at =
     let target : found_target stack raw.0.target ≡ founds.Snapshot snapshot = ap (λ (l : FoundLine). l.target) raw.2 ∙ first.2 in
     let named = snapshot_spans stack raw.0.len raw.0.target snapshot target in
     let there = (snapshot_sound stack device snapshot sound at).there in
-    let store = whole_via stack device place.0 0 raw.0 snapshot.store false named.0 there place.1 (ap (λ (all : List Span). slice_get all 0) named.2) named.3 in
-    let origin = whole_via stack device place.0 1 raw.0 snapshot.origin true named.1 there place.1 (ap (λ (all : List Span). slice_get all 1) named.2) named.4 in
+    let store = whole_via stack device place.0 0 raw.0 snapshot.store Own named.0 there place.1 (ap (λ (all : List Span). slice_get all 0) named.2) named.3 in
+    let origin = whole_via stack device place.0 1 raw.0 snapshot.origin Reading named.1 there place.1 (ap (λ (all : List Span). slice_get all 1) named.2) named.4 in
     record {
       place = place.0;
       it = raw.0;
