@@ -29,6 +29,7 @@ import launcher
 import limits
 import loads
 import lookers
+import origins
 import printing
 import ranges
 import recipes
@@ -57,7 +58,7 @@ def main():
         os.chmod(room, 0o755)
         program = Program(shutil.copy(built, os.path.join(room, "dmremap")), room)
         for part in (words, files, loads, backups, groups, printing, reports, request_lines, answers, ranges,
-                     snapshot_rows, snapshots, replays, streams, limits, hostile, growths):
+                     snapshot_rows, snapshots, origins, replays, streams, limits, hostile, growths):
             part.check(tally, program)
         launcher.check(tally, program, TOP, built == BUILT)
         documents.check(tally, program, TOP)

@@ -35,3 +35,4 @@ pub mod SoundLines
 pub mod SpanLemmas
 pub mod StoreLemmas
 pub mod WithBefore
+mod WorkedOrigins

@@ -5,6 +5,7 @@ use Rattle.std.specs.List.{Contains, flat_map, range_with_len}
 use Rattle.std.proofs.lemmas.Bool.{or_left, or_right}
 use Rattle.std.proofs.lemmas.List.{append-nil}
 use Rattle.std.proofs.lemmas.List.Elements.{Contains-append_cases, Contains-append_left, Contains-append_right}
+use Rattle.dm_table.specs.declared.table.DevRef.{DevRef}
 use Rattle.dm_table.specs.declared.table.Line.{Line}
 use Rattle.dm_table.specs.declared.table.Target.{Target}
 use Rattle.dm_table.specs.declared.table.Target.TheVariants as targets
@@ -15,7 +16,7 @@ use Rattle.dm_stack.specs.declared.found_line.FoundTarget.{FoundTarget}
 use Rattle.dm_stack.specs.declared.found_line.FoundTarget.TheVariants as found
 use Rattle.dm_stack.specs.declared.id.Lower.{Lower}
 use Rattle.dm_stack.specs.Below.{found_at, found_line, found_target, holds}
-use Rattle.dm_stack.specs.Description.{Description, device_len, is_same_lower, lines_at}
+use Rattle.dm_stack.specs.Description.{Description, device_len, is_same_lower, lines_at, lower_of}
 use Rattle.dm_stack.specs.Loaded.{has_snapshot, is_snapshot}
 use Rattle.dm_stack.specs.Over.{all_over, device_over, found_snapshot, over_of, snapshots_over}
 use Rattle.dm_stack.specs.Soundness.{IsSound}
@@ -32,6 +33,13 @@ over_is stack to = refl
 pub all_is : (stack : Description) → flat_map (device_over stack) (range_with_len 0 (length stack.devices)) ≡ all_over stack
 unfolding all_over
 all_is stack = refl
+
+-- the line of an origin, by ids
+pub origin_is : (stack : Description) (origin : DevRef) (to : Lower) (all over : List FoundOver) → to ≡ lower_of stack origin → all ≡ all_over stack → over ≡ filter (λ one. is_same_lower one.snapshot.origin to) all
+    → found.Origin (record { to = to; over = over }) ≡ found_target stack (targets.Origin origin)
+origin_is stack origin to all over at are is =
+    let served : over ≡ snapshots_over stack to = is ∙ ap (λ (xs : List FoundOver). filter (λ one. is_same_lower one.snapshot.origin to) xs) are ∙ over_is stack to in
+    ap (λ (xs : List FoundOver). found.Origin (record { to = to; over = xs })) served ∙ ap (λ (l : Lower). found.Origin (record { to = l; over = snapshots_over stack l })) at
 
 -- From the list to the devices
 

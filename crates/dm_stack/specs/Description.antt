@@ -39,6 +39,7 @@ abbrev pub lower_of : Description → DevRef → Lower
 lower_of stack (refs.Device name) = lowers.Device (device_id stack name)
 lower_of stack (refs.Disk name) = lowers.Disk (disk_id stack name)
 
+-- the same device, or the same disk
 abbrev pub is_same_lower : Lower → Lower → Bool
 is_same_lower (lowers.Device one) (lowers.Device other) = one == other
 is_same_lower (lowers.Device one) (lowers.Disk other) = false

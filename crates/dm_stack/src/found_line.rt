@@ -19,6 +19,9 @@ pub struct FoundLine {
     pub target: FoundTarget,
 }
 
+// A cache line: more would slow down every look-up of a line.
+const _: () = prove!(std::mem::size_of::<FoundLine>() == 64);
+
 /// What becomes of a line's sectors. Offsets and chunks are in sectors of 512 bytes.
 #[derive(Debug, Drop)]
 pub enum FoundTarget {

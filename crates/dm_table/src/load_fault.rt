@@ -44,7 +44,7 @@ pub enum LoadKind {
     Range,
     /// Stripes that do not fit their line.
     Stripe,
-    /// A snapshot that does not fit its origin.
+    /// A snapshot, or the line of an origin, that does not fit its table or what it names.
     Snapshot,
     /// A store that cannot keep a snapshot's exceptions.
     Store,

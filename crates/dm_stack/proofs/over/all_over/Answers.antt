@@ -1,10 +1,17 @@
 use Rattle.std.proofs.Common.{◌≡◌, ◌<◌, ◌++◌, List, ℕ, ap, ◌∙◌, arith, get_or, length}
-use Rattle.std.specs.List.{flat_map}
+use Rattle.std.specs.List.{flat_map, range_with_len}
 use Rattle.dm_table.specs.declared.table.Line.{Line}
 use Rattle.dm_table.specs.declared.table.DeviceSpec.{DeviceSpec}
-use Rattle.dm_stack.specs.Over.{over_of}
+use Rattle.dm_stack.specs.Over.{device_over, over_of}
 use Rattle.dm_stack.proofs.ByDevice.{device_next}
+use Rattle.dm_stack.proofs.OverLemmas.{all_is}
 use Rattle.dm_stack.proofs.over.all_over.Goals as goal
+
+pub returns : goal.returns
+returns c =
+    let stack = c.args.stack.now in
+    let end : c.loop-id.id ≡ length stack.devices = omega (arith, c.loop-id-test.false, c.loop-id.auto.id-end, ap (λ (all : List DeviceSpec). length all) c.devices-device-items.ensures.devices) in
+    c.loop-id.invariant ∙ ap (λ (n : ℕ). flat_map (device_over stack) (range_with_len 0 n)) end ∙ all_is stack
 
 pub loop-id-preserved : goal.loop-id-preserved
 loop-id-preserved c =
