@@ -1,4 +1,18 @@
-"""Origins that are written: which of their lines a load takes, how they print, and what they claim."""
+"""Origins that are written: which of their lines a load takes, how they print, what they claim, and what
+a write to one does, against the rules of FORMATS and MAPPING.
+
+The stacks and requests of the rounds are those of `snapshots` and `replays`, with origins in them; what
+they answer is told by `snapshots.Plain`, sector by sector.
+"""
+
+import random
+
+import replays
+import snapshots
+from snapshots import Plain, concise
+
+ROUNDS = 100
+REQUESTS = 30
 
 DISKS = "base 16\ncow 32\ncow2 16\n"
 ORIGIN = "o: 0 16 snapshot-origin base\n"
@@ -56,6 +70,73 @@ PRINTED = [
      "r,,,rw,0 16 linear base 0;o,,,rw,0 16 snapshot-origin /dev/mapper/r\n"),
 ]
 
+# FILE as concise text, DISKS, the requests, and the output with the status of the snapshots.
+WRITES = [
+    # Each snapshot is served by its own chunks, its store runs full, and what was lost stays so.
+    ("o,,,,0 16 snapshot-origin base;s,,,,0 16 snapshot base cow P 8;t,,,,0 16 snapshot base cow2 P 4", DISKS,
+     "W o 2 4\nW s 0 1\nW o 2 1\nR t 0 8\nW o 12 4\nR t 0 1\nR s 0 16\n",
+     "1 copy base 0 8 cow 16\n1 copy base 0 4 cow2 8\n1 W base 2 2\n1 copy base 4 4 cow2 12\n1 W base 4 2\n"
+     "2 W cow 16 1\n3 W base 2 1\n4 R cow2 8 8\n5 copy base 8 8 cow 24\n5 W base 12 4\n6 error 1\n7 R cow 16 16\n"
+     "s: 0 16 snapshot 32/32 16\nt: 0 16 snapshot Invalid\n"),
+    # A read-only snapshot is served too.
+    ("o,,,,0 16 snapshot-origin base;s,,,ro,0 16 snapshot base cow P 8", DISKS, "W o 0 1\nR s 0 16\n",
+     "1 copy base 0 8 cow 16\n1 W base 0 1\n2 R cow 16 8\n2 R base 8 8\ns: 0 16 snapshot 24/32 16\n"),
+    # A read-only origin serves nothing.
+    ("o,,,ro,0 16 snapshot-origin base;s,,,,0 16 snapshot base cow P 8", DISKS, "W o 0 1\nR o 0 1\nR s 0 16\n",
+     "1 error 1\n2 R base 0 1\n3 R base 0 16\ns: 0 16 snapshot 16/32 16\n"),
+    # What fails or drops the write was preceded by the copies.
+    ("r,,,ro,0 16 linear base 0;o,,,,0 16 snapshot-origin /dev/mapper/r;s,,,,0 16 snapshot /dev/mapper/r cow P 8", DISKS,
+     "W o 0 1\n", "1 copy base 0 8 cow 16\n1 error 1\ns: 0 16 snapshot 24/32 16\n"),
+    ("z,,,,0 16 zero;o,,,,0 16 snapshot-origin /dev/mapper/z;s,,,,0 16 snapshot /dev/mapper/z cow P 8", DISKS,
+     "W o 0 1\nR s 0 1\n", "1 fill 8 cow 16\n1 drop 1\n2 R cow 16 1\ns: 0 16 snapshot 24/32 16\n"),
+    # A snapshot that can't be served is lost, and the write goes on.
+    ("r,,,,0 15 linear base 0,15 1 error;o,,,,0 16 snapshot-origin /dev/mapper/r;s,,,,0 16 snapshot /dev/mapper/r cow P 8",
+     DISKS, "W o 8 1\nR s 0 1\n", "1 W base 8 1\n2 error 1\ns: 0 16 snapshot Invalid\n"),
+    # A snapshot of the origin's device is none of what that is over, and reads what is written.
+    ("o,,,,0 16 snapshot-origin base;s,,,,0 16 snapshot /dev/mapper/o cow P 8", DISKS, "W o 0 1\nR s 0 16\n",
+     "1 W base 0 1\n2 R base 0 16\ns: 0 16 snapshot 16/32 16\n"),
+    # Origins over one another, each with a snapshot.
+    ("o,,,,0 16 snapshot-origin base;p,,,,0 16 snapshot-origin /dev/mapper/o;s,,,,0 16 snapshot base cow P 8;"
+     "t,,,,0 16 snapshot /dev/mapper/o cow2 P 4", DISKS, "W p 0 1\n",
+     "1 copy base 0 4 cow2 8\n1 copy base 0 8 cow 16\n1 W base 0 1\n"
+     "s: 0 16 snapshot 24/32 16\nt: 0 16 snapshot 12/16 8\n"),
+    # An origin over a snapshot, which makes its own chunk ready after the copies.
+    ("s,,,,0 16 snapshot base cow P 8;o,,,,0 16 snapshot-origin /dev/mapper/s;t,,,,0 16 snapshot /dev/mapper/s cow2 P 4", DISKS,
+     "W o 0 1\nR t 0 8\n",
+     "1 copy base 0 4 cow2 8\n1 copy base 0 8 cow 16\n1 W cow 16 1\n2 R cow2 8 4\n2 R cow 20 4\n"
+     "s: 0 16 snapshot 24/32 16\nt: 0 16 snapshot 12/16 8\n"),
+    # Chunks of 4 and of 16 sectors, over stripes, by one request.
+    ("r,,,,0 32 striped 2 8 sda 0 sdb 0;o,,,,0 32 snapshot-origin /dev/mapper/r;s,,,,0 32 snapshot /dev/mapper/r c4 P 4;"
+     "t,,,,0 32 snapshot /dev/mapper/r c16 P 16", "sda 16\nsdb 16\nc4 64\nc16 64\n", "W o 14 4\n",
+     "1 copy sdb 4 4 c4 8\n1 copy sda 0 8 c16 32\n1 copy sdb 0 8 c16 40\n1 W sdb 6 2\n"
+     "1 copy sda 8 4 c4 12\n1 copy sda 8 8 c16 48\n1 copy sdb 8 8 c16 56\n1 W sda 8 2\n"
+     "s: 0 32 snapshot 16/64 8\nt: 0 32 snapshot 64/64 32\n"),
+]
+
+
+def small_stack(dice):
+    """A small stack of snapshots with origins over some of what they are of."""
+    stack = snapshots.small_stack(dice)
+    over = ["/dev/mapper/" + name for name in stack.tables if not name.endswith("c")]
+    for name in ("w", "x")[:dice.randint(1, 2)]:
+        to = dice.choice(over + ["/dev/mapper/o"] * 3)
+        stack.tables[name] = [(0, stack.length(to), ("snapshot-origin", to))]
+        over.append("/dev/mapper/" + name)
+        if dice.random() < 0.1:
+            stack.read_only.add(name)
+    stack.tables["yc"] = [(0, 20, ("linear", "sda", 3))]
+    to = dice.choice(over)
+    stack.tables["y"] = [(0, stack.length(to), ("snapshot", to, "/dev/mapper/yc", dice.choice([1, 2, 4])))]
+    return Plain(stack.tables, stack.read_only, stack.disks)
+
+
+def tidy_stack(dice):
+    """A tidy stack with an origin over what its snapshots are of, or over one of them."""
+    stack, tops = replays.tidy_stack(dice)
+    to = dice.choice(["o", "o"] + [name for name in stack.tables if name in "stu"])
+    stack.tables["w"] = [(0, stack.length("/dev/mapper/" + to), ("snapshot-origin", "/dev/mapper/" + to))]
+    return stack, [name for name in tops if name != to] + ["w"]
+
 
 def check(tally, program):
     for source, disks, words in REFUSED:
@@ -65,9 +146,44 @@ def check(tally, program):
         devices = len(source.splitlines())
         report = "devices %d\ndisks 3\ndepth %d\n%s\n" % (devices, depth, claims)
         tally.same("the check of %r" % source, run(program, ["check"], source), 0, report)
-    for source, table, concise in PRINTED:
+    for source, table, text in PRINTED:
         tally.same("the table of %r" % source, run(program, ["table"], source), 0, table)
-        tally.same("the concise text of %r" % source, run(program, ["concise"], source), 0, concise)
+        tally.same("the concise text of %r" % source, run(program, ["concise"], source), 0, text)
+    for source, disks, requests, output in WRITES:
+        got = snapshots.run(program, source, disks, requests, "--status")
+        tally.same("requests of %s" % source, got, 0, output)
+    for seed in range(ROUNDS):
+        check_requests(tally, program, random.Random(seed))
+        check_replay(tally, program, random.Random(seed))
+
+
+def check_requests(tally, program, dice):
+    stack = small_stack(dice)
+    source, given, wanted = concise(stack), "", ""
+    asked = [name for name in stack.tables if not name.endswith("c")]
+    for number in range(1, REQUESTS + 1):
+        name = dice.choice(asked)
+        request = (dice.choice("RWW"), name, dice.randrange(stack.length("/dev/mapper/" + name)), dice.randint(1, 9))
+        given += "%s %s %d %d\n" % request
+        wanted += snapshots.lines(number, stack.request(*request))
+    got = snapshots.run(program, source, disks_of(stack), given, "--status")
+    tally.same("the small stack of %s" % source, got, 0, wanted + stack.status())
+
+
+def check_replay(tally, program, dice):
+    stack, tops = tidy_stack(dice)
+    source, values, given, wanted = concise(stack), {}, "", ""
+    for number in range(1, REQUESTS + 1):
+        name = dice.choice(tops)
+        start = dice.randrange(stack.length("/dev/mapper/" + name))
+        request = (dice.choice("RWW"), name, start, dice.randint(1, 9))
+        given += "%s %s %d %d\n" % request
+        wanted += replays.lines(number, replays.played(values, number, start, stack.request(*request)))
+    tally.same("the replay of %s" % source, replays.run(program, source, disks_of(stack), given), 0, wanted)
+
+
+def disks_of(stack):
+    return "".join("%s %d\n" % it for it in stack.disks.items())
 
 
 def run(program, words, source):

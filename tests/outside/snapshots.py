@@ -88,6 +88,8 @@ class Plain:
         there = self.below(name, sector)
         if there[0] in ("zero", "error"):
             return there
+        if there[0] == "snapshot-origin":
+            return self.read(there[1], sector)
         if there[0] != "snapshot":
             return self.read(*there)
         if name in self.lost:
@@ -111,25 +113,42 @@ class Plain:
             return [("error",)]
         if there[0] == "snapshot":
             return self.write_snapshot(name, there, sector)
+        if there[0] == "snapshot-origin":
+            return self.write_origin(there[1], sector)
         return self.write(*there)
 
     def write_snapshot(self, name, words, sector):
-        _, origin, store, size = words
-        chunk, taken, units = sector // size, self.taken[name], []
+        units = self.ready(name, words, sector)
         if name in self.lost:
             return [("error",)]
-        if chunk not in taken:
-            sectors = range(chunk * size, min((chunk + 1) * size, self.length("/dev/mapper/" + name)))
-            read = [self.read(origin, it) for it in sectors]
-            number = len(taken)
-            if (2 + number + number // (32 * size) + 1) * size > self.length(store) or ("error",) in read:
-                self.lost.add(name)
-                return [("error",)]
-            for it, unit in zip(sectors, read):
-                _, home = self.read(*self.kept(words, number, it))
-                units.append(("copy", unit[1], home) if unit[0] == "R" else ("fill", home))
-            taken.append(chunk)
-        return units + [("W", self.read(*self.kept(words, taken.index(chunk), sector))[1])]
+        number = self.taken[name].index(sector // words[3])
+        return units + [("W", self.read(*self.kept(words, number, sector))[1])]
+
+    def write_origin(self, to, sector):
+        units = []
+        for name, table in self.tables.items():
+            words = table[0][2]
+            if words[:2] == ("snapshot", to):
+                units += self.ready(name, words, sector)
+        return units + self.write(to, sector)
+
+    def ready(self, name, words, sector):
+        """What is copied before a write of a sector: the snapshot takes its chunk, or it is lost."""
+        _, origin, store, size = words
+        chunk, taken, units = sector // size, self.taken[name], []
+        if name in self.lost or chunk in taken:
+            return []
+        sectors = range(chunk * size, min((chunk + 1) * size, self.length("/dev/mapper/" + name)))
+        read = [self.read(origin, it) for it in sectors]
+        number = len(taken)
+        if (2 + number + number // (32 * size) + 1) * size > self.length(store) or ("error",) in read:
+            self.lost.add(name)
+            return []
+        for it, unit in zip(sectors, read):
+            _, home = self.read(*self.kept(words, number, it))
+            units.append(("copy", unit[1], home) if unit[0] == "R" else ("fill", home))
+        taken.append(chunk)
+        return units
 
     def request(self, op, name, start, length):
         if start + length > self.length("/dev/mapper/" + name):
@@ -189,6 +208,8 @@ def concise(stack):
                 said = "striped %d %d %s" % (len(words) - 2, words[1], " ".join("%s %d" % it for it in words[2:]))
             elif words[0] == "snapshot":
                 said = "snapshot %s %s P %d" % words[1:]
+            elif words[0] == "snapshot-origin":
+                said = "snapshot-origin %s" % words[1]
             else:
                 said = words[0]
             rows.append("%d %d %s" % (start, length, said))
