@@ -14,6 +14,9 @@ from snapshots import Plain, concise
 ROUNDS = 100
 REQUESTS = 30
 
+# Which uses of one sector get along.
+SHARING = {("read", "read"), ("read", "serve"), ("serve", "read")}
+
 DISKS = "base 16\ncow 32\ncow2 16\n"
 ORIGIN = "o: 0 16 snapshot-origin base\n"
 OVER = "s: 0 16 snapshot base cow P 8\n"
@@ -138,6 +141,42 @@ def tidy_stack(dice):
     return stack, [name for name in tops if name != to] + ["w"]
 
 
+def claims(stack):
+    """What the lines of a stack claim: a device, what it is on, from where to before where, and the use."""
+    for name, table in stack.tables.items():
+        for _, length, words in table:
+            if words[0] == "linear":
+                yield name, words[1], words[2], words[2] + length, "own"
+            elif words[0] == "striped":
+                for to, offset in words[2:]:
+                    yield name, to, offset, offset + length // len(words[2:]), "own"
+            elif words[0] == "snapshot":
+                yield name, words[2], 0, stack.length(words[2]), "own"
+                yield name, words[1], 0, stack.length(words[1]), "read"
+            elif words[0] == "snapshot-origin":
+                yield name, words[1], 0, stack.length(words[1]), "serve"
+
+
+def tidiness(stack):
+    """The last line of a check: each claim is compared with all before it."""
+    before = []
+    for later in claims(stack):
+        for earlier in before:
+            first = max(earlier[2], later[2])
+            if earlier[1] == later[1] and first < min(earlier[3], later[3]) and (earlier[4], later[4]) not in SHARING:
+                return "clash %s %d %s %s" % (later[1], first, earlier[0], later[0])
+        before.append(later)
+    return "tidy"
+
+
+def depth(stack, to):
+    """How deep a device is; 0 of a disk."""
+    if not to.startswith("/"):
+        return 0
+    named = [it[1] for it in claims(stack) if it[0] == snapshots.device(to)]
+    return 1 + max([depth(stack, it) for it in named], default=0)
+
+
 def check(tally, program):
     for source, disks, words in REFUSED:
         got = program.map(source, disks)
@@ -155,6 +194,7 @@ def check(tally, program):
     for seed in range(ROUNDS):
         check_requests(tally, program, random.Random(seed))
         check_replay(tally, program, random.Random(seed))
+        check_claims(tally, program, random.Random(seed))
 
 
 def check_requests(tally, program, dice):
@@ -180,6 +220,15 @@ def check_replay(tally, program, dice):
         given += "%s %s %d %d\n" % request
         wanted += replays.lines(number, replays.played(values, number, start, stack.request(*request)))
     tally.same("the replay of %s" % source, replays.run(program, source, disks_of(stack), given), 0, wanted)
+
+
+def check_claims(tally, program, dice):
+    stack = small_stack(dice) if dice.random() < 0.5 else tidy_stack(dice)[0]
+    source = concise(stack)
+    report = "devices %d\ndisks %d\ndepth %d\n%s\n" % (
+        len(stack.tables), len(stack.disks), max(depth(stack, "/dev/mapper/" + it) for it in stack.tables), tidiness(stack))
+    got = program.run(["check", "concise", program.file("concise", source), program.file("disks", disks_of(stack))])
+    tally.same("the check of %s" % source, got, 0, report)
 
 
 def disks_of(stack):
