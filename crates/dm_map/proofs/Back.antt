@@ -1,12 +1,14 @@
 -- Where no claims meet: what leads to a sector that a line or a store's snapshot has, and what leads nowhere.
-use Rattle.std.proofs.Common.{◌≡◌, ℕ, ◌+◌, ◌-◌, ◌*◌, ◌/◌, ◌%◌, ◌<◌, Option, Some, None, length, refl, sym, ap, subst, ◌∙◌, arith}
+use Rattle.std.proofs.Common.{◌≡◌, ℕ, ◌+◌, ◌-◌, ◌*◌, ◌/◌, ◌%◌, ◌<◌, true, false, List, Option, Some, None, length, refl, sym, ap, subst, ◌∙◌, arith}
 use Rattle.std.specs.Prelude.{slice_get}
 use Rattle.std.proofs.lemmas.Bool.{leb-true}
 use Rattle.dm_table.specs.declared.table.Line.{Line}
 use Rattle.dm_table.specs.declared.table.Use.{Use}
-use Rattle.dm_table.specs.declared.table.Use.TheVariants.{Own, Reading}
+use Rattle.dm_table.specs.declared.table.Use.TheVariants.{Own, Reading, Serving}
 use Rattle.dm_stack.specs.declared.found_line.FoundColumn.{FoundColumn}
 use Rattle.dm_stack.specs.declared.found_line.FoundLine.{FoundLine}
+use Rattle.dm_stack.specs.declared.found_line.FoundOrigin.{FoundOrigin}
+use Rattle.dm_stack.specs.declared.found_line.FoundOver.{FoundOver}
 use Rattle.dm_stack.specs.declared.found_line.FoundSnapshot.{FoundSnapshot}
 use Rattle.dm_stack.specs.declared.found_line.FoundTarget.{FoundTarget}
 use Rattle.dm_stack.specs.declared.found_line.FoundTarget.TheVariants as founds
@@ -15,18 +17,22 @@ use Rattle.dm_stack.specs.declared.id.Lower.TheVariants.{Device}
 use Rattle.dm_stack.specs.Below.{AreStripes, IsTargetSound, Lies, below_line, column_of, found_at, found_line, found_target, in_column}
 use Rattle.dm_stack.specs.Claims.{IsTidy, IsTop}
 use Rattle.dm_stack.specs.Description.{Description, device_len, lower_len}
+use Rattle.dm_stack.specs.Over.{snapshots_over}
 use Rattle.dm_stack.specs.Soundness.{IsSound}
 use Rattle.dm_stack.proofs.Apart.{IsVia, IsNamed, one_via, top_named}
 use Rattle.dm_map.specs.Fitting.{IsFitting}
 use Rattle.dm_map.specs.Reads.{read_below}
+use Rattle.dm_map.specs.Serving.{AreSettled}
+use Rattle.dm_map.specs.SnapshotWrites.{is_settled}
 use Rattle.dm_map.specs.Snapshots.{kept_at, number_in, read_over}
-use Rattle.dm_map.specs.State.{State, taken_at}
-use Rattle.dm_map.specs.Tables.{snapshot_at}
-use Rattle.dm_map.proofs.FoundLines.{line_sound, snapshot_sound}
-use Rattle.dm_map.proofs.How.{How, ByLine, ByStore, ByRead, IsColumnStep, column_at, columns_of, within_at}
+use Rattle.dm_map.specs.State.{State, Taken, taken_at}
+use Rattle.dm_map.specs.Tables.{origin_at, snapshot_at}
+use Rattle.dm_map.proofs.FoundLines.{line_sound, origin_sound, snapshot_sound}
+use Rattle.dm_map.proofs.How.{How, ByLine, ByStore, ByRead, ByServe, IsColumnStep, column_at, columns_of, within_at}
 use Rattle.dm_map.proofs.Numbers.{kept_inside, stripe_back}
+use Rattle.dm_map.proofs.Overs.{settled_over}
 use Rattle.dm_map.proofs.TableLemmas.{number_within}
-use Rattle.dm_map.proofs.Vias.{IsLineVia, IsSnapshotVia, column_inside, via_line, via_snapshot}
+use Rattle.dm_map.proofs.Vias.{IsLineVia, IsSnapshotVia, column_inside, via_line, via_origin, via_snapshot}
 
 -- A sector of a line is told by its column and its place there
 
@@ -43,6 +49,7 @@ distance_one stack device start len (founds.Striped chunk columns) d e column so
 distance_one stack device start len founds.Zero d e column sound is columns within = absurd cc
 distance_one stack device start len founds.Error d e column sound is columns within = absurd cc
 distance_one stack device start len (founds.Snapshot snapshot) d e column sound is columns within = absurd cc
+distance_one stack device start len (founds.Origin origin) d e column sound is columns within = absurd cc
 
 column_is : (a b : FoundColumn) → Some a ≡ Some b → a ≡ b
 column_is a b e = cc
@@ -55,16 +62,27 @@ step_one stack device start len target d e lower at sound a b same =
     let on_a = a.sector in let on_b = b.sector in
     distance_one stack device start len target d e a.column sound a.is same (omega (arith, offsets, on_a, on_b))
 
--- a snapshot's line has no columns
-no_column : (target : FoundTarget) (distance : ℕ) (lower : Lower) (at : ℕ) (snapshot : FoundSnapshot) → target ≡ founds.Snapshot snapshot → IsColumnStep target distance lower at → ⊥
-no_column target distance lower at snapshot is step = none (sym (ap (λ (t : FoundTarget). slice_get (columns_of t) (column_at t distance)) is) ∙ step.is)
+-- neither a snapshot's line nor an origin's has columns
+no_column : (target other : FoundTarget) (distance : ℕ) (lower : Lower) (at : ℕ) → target ≡ other → slice_get (columns_of other) (column_at other distance) ≡ None → IsColumnStep target distance lower at → ⊥
+no_column target other distance lower at is none step = absurd_none (sym (ap (λ (t : FoundTarget). slice_get (columns_of t) (column_at t distance)) is ∙ none) ∙ step.is)
   where
-    none : None ≡ Some step.column → ⊥
-    none e = cc
+    absurd_none : None ≡ Some step.column → ⊥
+    absurd_none e = cc
 
 line_no_snapshot : (stack : Description) (device sector : ℕ) (line : FoundLine) (lower : Lower) (at : ℕ) (l m : Line) (snapshot : FoundSnapshot) → found_line stack l ≡ line → IsColumnStep line.target (sector - line.start) lower at → l ≡ m → found_target stack m.target ≡ founds.Snapshot snapshot → ⊥
 line_no_snapshot stack device sector line lower at l m snapshot is step same target =
-    no_column line.target (sector - line.start) lower at snapshot (sym (ap (λ (x : FoundLine). x.target) is) ∙ ap (λ (x : Line). found_target stack x.target) same ∙ target) step
+    no_column line.target (founds.Snapshot snapshot) (sector - line.start) lower at (sym (ap (λ (x : FoundLine). x.target) is) ∙ ap (λ (x : Line). found_target stack x.target) same ∙ target) refl step
+
+line_no_origin : (stack : Description) (device sector : ℕ) (line : FoundLine) (lower : Lower) (at : ℕ) (l m : Line) (origin : FoundOrigin) → found_line stack l ≡ line → IsColumnStep line.target (sector - line.start) lower at → l ≡ m → found_target stack m.target ≡ founds.Origin origin → ⊥
+line_no_origin stack device sector line lower at l m origin is step same target =
+    no_column line.target (founds.Origin origin) (sector - line.start) lower at (sym (ap (λ (x : FoundLine). x.target) is) ∙ ap (λ (x : Line). found_target stack x.target) same ∙ target) refl step
+
+-- and no line is both
+snapshot_no_origin : (stack : Description) (l m : Line) (snapshot : FoundSnapshot) (origin : FoundOrigin) → found_target stack l.target ≡ founds.Snapshot snapshot → l ≡ m → found_target stack m.target ≡ founds.Origin origin → ⊥
+snapshot_no_origin stack l m snapshot origin is same target = differ (sym is ∙ ap (λ (x : Line). found_target stack x.target) same ∙ target)
+  where
+    differ : founds.Snapshot snapshot ≡ founds.Origin origin → ⊥
+    differ e = cc
 
 -- What a taken chunk's number is inside of
 
@@ -78,6 +96,10 @@ fits stack state device sector number snapshot sound fitting at is =
 -- a read of the origin is inside of it
 read_inside : (stack : Description) (state : State) (device sector : ℕ) (snapshot : FoundSnapshot) → IsSound stack → snapshot_at stack device ≡ Some snapshot → sector < device_len stack device → sector < lower_len stack snapshot.origin
 read_inside stack state device sector snapshot sound at inside = let over = (snapshot_sound stack device snapshot sound at).soundly.origin in omega (arith, over, inside)
+
+-- and so is that of what an origin's device names
+serve_inside : (stack : Description) (device sector : ℕ) (origin : FoundOrigin) → IsSound stack → origin_at stack device ≡ Some origin → sector < device_len stack device → sector < lower_len stack origin.to
+serve_inside stack device sector origin sound at inside = let same = (origin_sound stack device origin sound at).soundly.same in omega (arith, same, inside)
 
 -- what goes on is inside its device
 inside_of : (stack : Description) (state : State) (device sector : ℕ) (lower : Lower) (at : ℕ) (line : Option FoundLine) → IsSound stack → found_at stack device sector ≡ line → below_line (read_over (taken_at state device)) line sector ≡ Lies lower at → sector < device_len stack device
@@ -122,6 +144,12 @@ back_line stack state d s e t lower at line sound fitting tidy inside is step (B
     let via : IsVia stack e b.place 1 b.it lower at Reading = subst (λ (x : Lower). IsVia stack e b.place 1 b.it x at Reading) (sym lower_is) (b.origin at below) in
     let one = one_via stack d e a.place b.place (column_at line.target (s - line.start)) 1 a.it b.it lower at Own Reading tidy a.via via refl in
     absurd (line_no_snapshot stack d s line lower at a.it b.it snapshot a.is step one.lines b.target)
+back_line stack state d s e t lower at line sound fitting tidy inside is step (ByServe origin over lower_is at_is) =
+    let a = via_line stack d s line lower at sound is step in let b = via_origin stack e origin sound over in
+    let below : at < lower_len stack origin.to = subst (λ (x : ℕ). x < lower_len stack origin.to) (sym at_is) (serve_inside stack e t origin sound over inside) in
+    let via : IsVia stack e b.place 0 b.it lower at Serving = subst (λ (x : Lower). IsVia stack e b.place 0 b.it x at Serving) (sym lower_is) (b.via at below) in
+    let one = one_via stack d e a.place b.place (column_at line.target (s - line.start)) 0 a.it b.it lower at Own Serving tidy a.via via refl in
+    absurd (line_no_origin stack d s line lower at a.it b.it origin a.is step one.lines b.target)
 
 -- to one of a store: its snapshot, by a taken chunk
 pub record IsKept (state : State) (device : ℕ) (snapshot : FoundSnapshot) (at e t : ℕ) : Type 0 where
@@ -152,6 +180,12 @@ back_store stack state d e t at snapshot sound fitting tidy inside over below (B
     let via : IsVia stack e b.place 1 b.it snapshot.store at Reading = subst (λ (x : Lower). IsVia stack e b.place 1 b.it x at Reading) (sym store_is) (b.origin at below_other) in
     let one = one_via stack d e a.place b.place 0 1 a.it b.it snapshot.store at Own Reading tidy (a.store at below) via refl in
     absurd (two_columns 0 1 refl refl one.columns)
+back_store stack state d e t at snapshot sound fitting tidy inside over below (ByServe origin over_other store_is at_is) =
+    let a = via_snapshot stack d snapshot sound over in let b = via_origin stack e origin sound over_other in
+    let below_other : at < lower_len stack origin.to = subst (λ (x : Lower). at < lower_len stack x) store_is below in
+    let via : IsVia stack e b.place 0 b.it snapshot.store at Serving = subst (λ (x : Lower). IsVia stack e b.place 0 b.it x at Serving) (sym store_is) (b.via at below_other) in
+    let one = one_via stack d e a.place b.place 0 0 a.it b.it snapshot.store at Own Serving tidy (a.store at below) via refl in
+    absurd (snapshot_no_origin stack a.it b.it snapshot origin a.target one.lines b.target)
 
 -- Roots: no line leads into them, and they are no store
 
@@ -197,6 +231,42 @@ origin_no_store stack device snapshot sound tidy over = record {
       two_columns 0 1 refl refl one.columns;
 }
 
+-- What an origin's device names
+
+pub record IsUnserved (stack : Description) (lower : Lower) : Type 0 where
+  pub none : (device : ℕ) (origin : FoundOrigin) → origin_at stack device ≡ Some origin → lower ≡ origin.to → ⊥
+
+-- a snapshot that would still read it is none whose chunk is settled
+not_settled : (taken : Taken) (chunk : ℕ) → taken.valid ≡ true → number_in chunk taken.chunks ≡ None → is_settled taken chunk ≡ true → ⊥
+not_settled taken chunk valid none settled = true_false (sym settled ∙ (rw (valid, none) refl))
+  where
+    true_false : true ≡ false → ⊥
+    true_false e = cc
+
+-- to one of it, where all its snapshots are settled: that device's sector
+pub back_origin : (stack : Description) (state : State) (d e t at : ℕ) (origin : FoundOrigin) → IsSound stack → IsTidy stack → origin_at stack d ≡ Some origin → at < lower_len stack origin.to
+    → AreSettled state origin.over at → How stack state e t origin.to at → IsAt e t d at
+back_origin stack state d e t at origin sound tidy served below settled (ByLine line is step) =
+    let a = via_line stack e t line origin.to at sound is step in let b = via_origin stack d origin sound served in
+    let one = one_via stack e d a.place b.place (column_at line.target (t - line.start)) 0 a.it b.it origin.to at Own Serving tidy a.via (b.via at below) refl in
+    absurd (line_no_origin stack e t line origin.to at a.it b.it origin a.is step one.lines b.target)
+back_origin stack state d e t at origin sound tidy served below settled (ByStore snapshot number over valid n lower_is at_is) =
+    let a = via_snapshot stack e snapshot sound over in let b = via_origin stack d origin sound served in
+    let below_store : at < lower_len stack snapshot.store = subst (λ (x : Lower). at < lower_len stack x) lower_is below in
+    let via : IsVia stack e a.place 0 a.it origin.to at Own = subst (λ (x : Lower). IsVia stack e a.place 0 a.it x at Own) (sym lower_is) (a.store at below_store) in
+    let one = one_via stack e d a.place b.place 0 0 a.it b.it origin.to at Own Serving tidy via (b.via at below) refl in
+    absurd (snapshot_no_origin stack a.it b.it snapshot origin a.target one.lines b.target)
+back_origin stack state d e t at origin sound tidy served below settled (ByRead snapshot over valid n lower_is at_is) =
+    let list : origin.over ≡ snapshots_over stack snapshot.origin = (origin_sound stack d origin sound served).soundly.over ∙ ap (snapshots_over stack) lower_is in
+    let here = settled_over stack state e at snapshot over (subst (λ (xs : List FoundOver). AreSettled state xs at) list settled) in
+    absurd (not_settled (taken_at state e) (t / snapshot.chunk) valid n (subst (λ (s : ℕ). is_settled (taken_at state e) (s / snapshot.chunk) ≡ true) at_is here))
+back_origin stack state d e t at origin sound tidy served below settled (ByServe other over lower_is at_is) =
+    let a = via_origin stack e other sound over in let b = via_origin stack d origin sound served in
+    let below_other : at < lower_len stack other.to = subst (λ (x : Lower). at < lower_len stack x) lower_is below in
+    let via : IsVia stack e a.place 0 a.it origin.to at Serving = subst (λ (x : Lower). IsVia stack e a.place 0 a.it x at Serving) (sym lower_is) (a.via at below_other) in
+    let one = one_via stack e d a.place b.place 0 0 a.it b.it origin.to at Serving Serving tidy via (b.via at below) refl in
+    record { device = one.devices; sector = sym at_is }
+
 -- Top devices: nothing leads to them
 
 line_named : (stack : Description) (device sector : ℕ) (line : FoundLine) (lower : Lower) (at : ℕ) (via : IsLineVia stack device sector line lower at) → IsNamed stack device via.place (column_at line.target (sector - line.start)) via.it lower
@@ -221,8 +291,12 @@ top_root stack top sound is_top = record {
   };
 }
 
+pub top_unserved : (stack : Description) (top : ℕ) → IsSound stack → IsTop stack top → IsUnserved stack (Device top)
+top_unserved stack top sound is_top = record { none = λ e origin over same. let b = via_origin stack e origin sound over in top_named stack top e b.place 0 b.it origin.to is_top b.named (sym same) }
+
 pub top_back : (stack : Description) (state : State) (top e t at : ℕ) → IsSound stack → IsTop stack top → How stack state e t (Device top) at → ⊥
 top_back stack state top e t at sound is_top (ByLine line is step) = (top_root stack top sound is_top).lines.none e t line at is step
 top_back stack state top e t at sound is_top (ByStore snapshot number over valid n same at_is) = (top_root stack top sound is_top).stores.none e snapshot over same
 top_back stack state top e t at sound is_top (ByRead snapshot over valid n same at_is) =
     let b = via_snapshot stack e snapshot sound over in top_named stack top e b.place 1 b.it snapshot.origin is_top b.origin_named (sym same)
+top_back stack state top e t at sound is_top (ByServe origin over same at_is) = (top_unserved stack top sound is_top).none e origin over same

@@ -1,5 +1,5 @@
 -- Walks that read search at most once a level for each stretch: a line's by what lies below it, and a range's by its parts.
-use Rattle.std.proofs.Common.{◌≡◌, ℕ, zero, suc, ◌+◌, ◌-◌, ◌*◌, ◌/◌, ◌%◌, ◌<◌, ◌≤◌, false, List, [], ◌∷◌, Some, length, get_or, refl, sym, ap, subst, ◌∙◌, arith}
+use Rattle.std.proofs.Common.{◌≡◌, ℕ, zero, suc, ◌+◌, ◌-◌, ◌*◌, ◌/◌, ◌%◌, ◌<◌, ◌≤◌, false, List, [], ◌∷◌, None, Some, length, get_or, refl, sym, ap, subst, ◌∙◌, arith}
 use Rattle.std.specs.Prelude.{◌==◌, min, nat_lt}
 use Rattle.std.proofs.lemmas.Bool.{ne_eqb}
 use Rattle.std.proofs.Math.Nat.{mul-le-mul_right}
@@ -7,9 +7,10 @@ use Rattle.dm_table.specs.declared.request.Op.{Op}
 use Rattle.dm_table.specs.declared.request.Op.TheVariants.{Read}
 use Rattle.dm_stack.specs.declared.found_line.FoundColumn.{FoundColumn}
 use Rattle.dm_stack.specs.declared.found_line.FoundLine.{FoundLine}
+use Rattle.dm_stack.specs.declared.found_line.FoundOrigin.{FoundOrigin}
 use Rattle.dm_stack.specs.declared.found_line.FoundSnapshot.{FoundSnapshot}
 use Rattle.dm_stack.specs.declared.found_line.FoundTarget.{FoundTarget}
-use Rattle.dm_stack.specs.declared.found_line.FoundTarget.TheVariants.{Linear, Striped, Snapshot}
+use Rattle.dm_stack.specs.declared.found_line.FoundTarget.TheVariants.{Linear, Origin, Striped, Snapshot}
 use Rattle.dm_stack.specs.declared.graph.TheConstants.{MOST_DEPTH}
 use Rattle.dm_stack.specs.declared.id.Lower.{Lower}
 use Rattle.dm_stack.specs.declared.id.Lower.TheVariants.{Device}
@@ -73,6 +74,16 @@ linear_bound before after op levels device line to offset distance sector len fo
     (stretches_after (line_paths stack state levels device line) (path stack state levels to) (record { device = device; start = line.start; chunk = chunk_at (Linear to offset) distance }) distance sector len (λ i within.
     ap (λ (t : FoundTarget). target_path stack state levels device line.start t (distance + i)) kind
     ∙ ap (λ (p : ℕ). record { device = device; start = line.start; chunk = chunk_at (Linear to offset) distance } ∷ path stack state levels to p) (let e : offset + (distance + i) ≡ sector + i = omega (arith, place) in e)))
+    (bounded is sound)
+
+pub origin_bound : (before after : Walking) (op : Op) (levels device : ℕ) (line : FoundLine) (origin : FoundOrigin) (distance len : ℕ) → found_at before.stack device line.start ≡ Some line → line.target ≡ Origin origin
+    → IsBounded before after op (lower_depth before.stack origin.to) (path before.stack before.state levels origin.to) distance len → IsLineBounded before after op levels device line distance len
+origin_bound before after op levels device line origin distance len found kind bounded is sound =
+    let stack = before.stack in let state = before.state in
+    let less = below_less stack state device line.start distance line origin.to distance sound found (ap (λ (t : FoundTarget). below_target (read_over (taken_at state device)) t distance) kind) in
+    searches_below (line_paths stack state levels device line) (path stack state levels origin.to) (lower_depth stack origin.to) (depth_of stack device - 1) distance distance len before.looked.searches after.looked.searches less
+    (stretches_after (line_paths stack state levels device line) (path stack state levels origin.to) (record { device = device; start = line.start; chunk = None }) distance distance len (λ i within.
+    ap (λ (t : FoundTarget). target_path stack state levels device line.start t (distance + i)) kind))
     (bounded is sound)
 
 -- what is left of a chunk of stripes

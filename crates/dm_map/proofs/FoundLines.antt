@@ -5,16 +5,17 @@ use Rattle.std.proofs.lemmas.Bool.{and_parts, cases_lt, ltb-true}
 use Rattle.std.proofs.lemmas.Option.{slice_get_past}
 use Rattle.dm_table.specs.declared.table.Line.{Line}
 use Rattle.dm_stack.specs.declared.found_line.FoundLine.{FoundLine}
+use Rattle.dm_stack.specs.declared.found_line.FoundOrigin.{FoundOrigin}
 use Rattle.dm_stack.specs.declared.found_line.FoundSnapshot.{FoundSnapshot}
 use Rattle.dm_stack.specs.declared.found_line.FoundTarget.{FoundTarget}
 use Rattle.dm_stack.specs.declared.found_line.FoundTarget.TheVariants as founds
-use Rattle.dm_stack.specs.Below.{found_at, found_line, holds, line_of, HoldsSoundly, IsSnapshotSound, IsTargetSound}
+use Rattle.dm_stack.specs.Below.{found_at, found_line, holds, line_of, HoldsSoundly, IsOriginSound, IsSnapshotSound, IsTargetSound}
 use Rattle.dm_stack.specs.Description.{Description, device_len, end_of, lines_or_none}
 use Rattle.dm_stack.specs.Soundness.{IsSound}
 use Rattle.dm_stack.proofs.LayoutLemmas.{AreInRow}
 use Rattle.dm_stack.proofs.SameLine.{same_found}
 use Rattle.dm_stack.proofs.SoundLines.{device_sound, lines_there, sector_found, there}
-use Rattle.dm_map.specs.Tables.{snapshot_at, snapshot_of_line, snapshot_of}
+use Rattle.dm_map.specs.Tables.{origin_at, origin_of, origin_of_line, snapshot_at, snapshot_of_line, snapshot_of}
 
 -- A sector that has a line is before its device's end
 
@@ -97,6 +98,7 @@ target_snapshot line (founds.Snapshot other) snapshot is e = is ∙ ap founds.Sn
   where
     some_is : (a b : FoundSnapshot) → Some a ≡ Some b → a ≡ b
     some_is a b same = cc
+target_snapshot line (founds.Origin origin) snapshot is e = absurd cc
 
 pub first_line : (stack : Description) (device : ℕ) (snapshot : FoundSnapshot) (found : Option FoundLine) → found_at stack device 0 ≡ found → snapshot_of_line found ≡ Some snapshot → (line : FoundLine) × (found_at stack device 0 ≡ Some line) × (line.target ≡ founds.Snapshot snapshot)
 first_line stack device snapshot None is e = absurd cc
@@ -120,3 +122,42 @@ snapshot_sound stack device snapshot sound at =
   where
     line_is : (a b : FoundLine) → Some a ≡ Some b → a ≡ b
     line_is a b e = cc
+
+-- An origin's line is all of its device
+
+pub record IsOriginOf (stack : Description) (device : ℕ) (origin : FoundOrigin) : Type 0 where
+  pub there : device < length stack.devices
+  pub some : 0 < device_len stack device
+  pub soundly : IsOriginSound stack device 0 (device_len stack device) origin
+
+pub line_origin : (stack : Description) (device sector : ℕ) (line : FoundLine) (origin : FoundOrigin) → IsSound stack → found_at stack device sector ≡ Some line → line.target ≡ founds.Origin origin
+    → (line.start ≡ 0) × (origin_at stack device ≡ Some origin)
+line_origin stack device sector line origin sound is target =
+    let of = line_sound stack device sector line sound is in
+    let it : IsOriginSound stack device line.start line.len origin = subst (λ (t : FoundTarget). IsTargetSound stack device line.start line.len t) target of.soundly.target in
+    let from = it.from in let before = of.soundly.before in
+    let first = same_found stack device sector 0 line sound of.there is (omega (arith, from)) (omega (arith, from, before)) in
+    (from, rw (first, target) refl)
+
+target_origin : (line : FoundLine) (target : FoundTarget) (origin : FoundOrigin) → line.target ≡ target → origin_of target ≡ Some origin → line.target ≡ founds.Origin origin
+target_origin line (founds.Linear to offset) origin is e = absurd cc
+target_origin line (founds.Striped chunk columns) origin is e = absurd cc
+target_origin line founds.Zero origin is e = absurd cc
+target_origin line founds.Error origin is e = absurd cc
+target_origin line (founds.Snapshot snapshot) origin is e = absurd cc
+target_origin line (founds.Origin other) origin is e = is ∙ ap founds.Origin (some_is other origin e)
+  where
+    some_is : (a b : FoundOrigin) → Some a ≡ Some b → a ≡ b
+    some_is a b same = cc
+
+pub first_origin : (stack : Description) (device : ℕ) (origin : FoundOrigin) (found : Option FoundLine) → found_at stack device 0 ≡ found → origin_of_line found ≡ Some origin → (line : FoundLine) × (found_at stack device 0 ≡ Some line) × (line.target ≡ founds.Origin origin)
+first_origin stack device origin None is e = absurd cc
+first_origin stack device origin (Some line) is e = (line, is, target_origin line line.target origin refl e)
+
+pub origin_sound : (stack : Description) (device : ℕ) (origin : FoundOrigin) → IsSound stack → origin_at stack device ≡ Some origin → IsOriginOf stack device origin
+origin_sound stack device origin sound at =
+    let first = first_origin stack device origin (found_at stack device 0) refl at in
+    let of = line_sound stack device 0 first.0 sound first.1 in
+    let it : IsOriginSound stack device first.0.start first.0.len origin = subst (λ (t : FoundTarget). IsTargetSound stack device first.0.start first.0.len t) first.2 of.soundly.target in
+    let whole = it.whole in
+    record { there = of.there; some = of.inside; soundly = record { from = refl; whole = refl; same = it.same ∙ whole; over = it.over } }

@@ -19,7 +19,7 @@ use Rattle.dm_map.specs.Ways.{Node, node, Touches}
 use Rattle.dm_map.proofs.Back.{IsNoLines, IsRoot, back_line, back_store, goes_on_inside, store_no_lines}
 use Rattle.dm_map.proofs.FoundLines.{snapshot_sound}
 use Rattle.dm_map.proofs.How.{IsLineStep, how, line_step}
-use Rattle.dm_map.proofs.Stores.{LiesInStore, below_store}
+use Rattle.dm_map.proofs.Stores.{LiesInStore, below_store, store_line}
 use Rattle.dm_map.proofs.WayLemmas.{Here, Before, back, touch_first, touch_same, touch_self}
 
 abbrev pub home_node : Home → Node
@@ -71,7 +71,7 @@ home_touched stack state a (suc levels) (Device device) sector sound fitting tid
     let step = below_store stack levels device sector sound store inside in
     let later = home_touched stack state a levels step.to step.at sound fitting tidy free step.store step.inside
     (subst (λ (h : Home). Touches stack state a (home_node h)) (home_suc stack levels device sector step) touches) in
-    touch_up stack state a device sector step.to step.at sound fitting tidy free (line_step stack device sector step.to step.at (step.is (λ snapshot place. IsError))) later
+    touch_up stack state a device sector step.to step.at sound fitting tidy free (line_step stack device sector step.to step.at (λ held is. store_line stack levels device sector held store is) (step.is (λ snapshot place. IsError))) later
 
 -- sectors of a store have homes of their own
 pub homes_apart : (stack : Description) (state : State) (device : ℕ) (snapshot : FoundSnapshot) (x y : ℕ) → IsSound stack → IsFitting stack state → IsTidy stack → snapshot_at stack device ≡ Some snapshot

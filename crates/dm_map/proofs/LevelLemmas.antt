@@ -32,12 +32,14 @@ use Rattle.dm_stack.specs.Soundness.{IsSound, faults_by_id, depth_of}
 use Rattle.dm_stack.proofs.Passes.{all_parts, passes_all}
 use Rattle.dm_stack.proofs.SoundLines.{found}
 use Rattle.dm_map.specs.Units.{BlockUnit, Zeros, Drops, Fails}
+use Rattle.dm_map.specs.Serving.{serve}
 use Rattle.dm_map.specs.Snapshots.{number_in, read_numbered, read_over}
 use Rattle.dm_map.specs.State.{State, Taken, taken_at}
 use Rattle.dm_map.specs.Steps.{Step, keep}
 use Rattle.dm_map.specs.Reads.{by_below, read_below, read_unit}
 use Rattle.dm_map.specs.Homes.{AreHomesFreeOfLevels, home_to, nowhere}
 use Rattle.dm_map.specs.Mapping.{write_line, write_target, write_step, IsFreeOfLevels}
+use Rattle.dm_map.proofs.Rows.{and_then_at}
 use Rattle.dm_map.proofs.Stripes.{at_place}
 
 -- What lies below a device is among what it names
@@ -94,6 +96,7 @@ on_target over stack P len targets.Error distance on each = tt
 on_target over stack P len (targets.Snapshot origin store kind chunk) distance on each =
     let store_first = all_parts P (ref_link stack store) (span_links stack (whole_span origin Reading ∷ [])) each in
     on (found_snapshot stack origin store chunk) distance (on_ref stack P store store_first.0) (on_ref stack P origin (all_parts P (ref_link stack origin) [] store_first.1).0)
+on_target over stack P len (targets.Origin to) distance on each = on_ref stack P to (all_parts P (ref_link stack to) [] each).0
 
 pub on_lines : (stack : Description) (P : ℕ → Type 0) (lines : List Line) → AllByRecursion P (flat_map (line_links stack) lines) → AllByRecursion (λ line. AllByRecursion P (line_links stack line)) lines
 on_lines stack P [] each = tt
@@ -158,16 +161,19 @@ same_read stack state (suc n) (suc j) (suc k) (Device device) sector h =
     same_below (IsShallow (links stack) n j k) (read_below stack state device sector) Zeros Fails (λ to s. read_unit stack state j to s) (λ to s. read_unit stack state k to s)
     (on_below (read_over (taken_at state device)) stack (IsShallow (links stack) n j k) device sector (over_read (IsShallow (links stack) n j k) (taken_at state device)) (named_shallow (links stack) n j k device h)) (λ to s on. same_read stack state n j k to s on)
 
-same_target : (P : ℕ → Type 0) (stack : Description) (state : State) (device : ℕ) (target : FoundTarget) (distance : ℕ) (f h : Lower → State → ℕ → Step) → OnBelow P (below_target (read_over (taken_at state device)) target distance) → ((to : Lower) (s : ℕ) → OnLower P to → f to state s ≡ h to state s)
+same_target : (P : ℕ → Type 0) (stack : Description) (state : State) (device : ℕ) (target : FoundTarget) (distance : ℕ) (f h : Lower → State → ℕ → Step) → OnBelow P (below_target (read_over (taken_at state device)) target distance) → ((after : State) (to : Lower) (s : ℕ) → OnLower P to → f to after s ≡ h to after s)
     → write_target stack state device target distance f ≡ write_target stack state device target distance h
 unfolding OnBelow
-same_target P stack state device (founds.Linear to offset) distance f h on same = same to (offset + distance) on
-same_target P stack state device (founds.Striped chunk columns) distance f h on same = same_below P (below_stripes chunk columns distance) (keep (Drops ∷ []) state) (keep (Fails ∷ []) state) (λ to s. f to state s) (λ to s. h to state s) on same
+same_target P stack state device (founds.Linear to offset) distance f h on same = same state to (offset + distance) on
+same_target P stack state device (founds.Striped chunk columns) distance f h on same = same_below P (below_stripes chunk columns distance) (keep (Drops ∷ []) state) (keep (Fails ∷ []) state) (λ to s. f to state s) (λ to s. h to state s) on (same state)
 same_target P stack state device founds.Zero distance f h on same = refl
 same_target P stack state device founds.Error distance f h on same = refl
 same_target P stack state device (founds.Snapshot snapshot) distance f h on same = refl
+same_target P stack state device (founds.Origin origin) distance f h on same =
+    let served = serve stack origin.over distance state in
+    and_then_at served (λ after. f origin.to after distance) (λ after. h origin.to after distance) (same served.state origin.to distance on)
 
-pub same_line : (P : ℕ → Type 0) (stack : Description) (state : State) (device : ℕ) (line : Option FoundLine) (sector : ℕ) (f h : Lower → State → ℕ → Step) → OnBelow P (below_line (read_over (taken_at state device)) line sector) → ((to : Lower) (s : ℕ) → OnLower P to → f to state s ≡ h to state s)
+pub same_line : (P : ℕ → Type 0) (stack : Description) (state : State) (device : ℕ) (line : Option FoundLine) (sector : ℕ) (f h : Lower → State → ℕ → Step) → OnBelow P (below_line (read_over (taken_at state device)) line sector) → ((after : State) (to : Lower) (s : ℕ) → OnLower P to → f to after s ≡ h to after s)
     → write_line stack state device line sector f ≡ write_line stack state device line sector h
 unfolding OnBelow
 same_line P stack state device None sector f h on same = refl
@@ -182,7 +188,7 @@ same_write stack (suc n) (suc j) zero (Device device) state sector h = absurd (s
 same_write stack (suc n) (suc j) (suc k) (Device device) state sector h =
     ap (λ (step : Step). cond (is_ro_at stack device) (keep (Fails ∷ []) state) step)
     (same_line (IsShallow (links stack) n j k) stack state device (found_at stack device sector) sector (λ to after s. write_step stack j to after s) (λ to after s. write_step stack k to after s)
-    (on_below (read_over (taken_at state device)) stack (IsShallow (links stack) n j k) device sector (over_read (IsShallow (links stack) n j k) (taken_at state device)) (named_shallow (links stack) n j k device h)) (λ to s on. same_write stack n j k to state s on))
+    (on_below (read_over (taken_at state device)) stack (IsShallow (links stack) n j k) device sector (over_read (IsShallow (links stack) n j k) (taken_at state device)) (named_shallow (links stack) n j k device h)) (λ after to s on. same_write stack n j k to after s on))
 
 -- A sound stack is nowhere too deep
 

@@ -13,6 +13,8 @@ pub mod Losses
 pub mod Made
 pub mod Numbers
 pub mod OneLevel
+pub mod OriginParts
+pub mod Overs
 pub mod OwnRequests
 pub mod OwnWrites
 pub mod Paths
@@ -23,6 +25,9 @@ pub mod RingLemmas
 pub mod Rows
 pub mod RunLemmas
 pub mod Runs
+pub mod Served
+pub mod ServedRuns
+pub mod Settled
 pub mod SortedLemmas
 pub mod Stores
 pub mod Stripes

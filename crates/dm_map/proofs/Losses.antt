@@ -38,6 +38,7 @@ lost_target old taken (founds.Striped chunk columns) distance off = inl refl
 lost_target old taken founds.Zero distance off = inl refl
 lost_target old taken founds.Error distance off = inl refl
 lost_target old taken (founds.Snapshot snapshot) distance off = inr (rw off refl)
+lost_target old taken (founds.Origin origin) distance off = inl refl
 
 lost_line : (old taken : Taken) (line : Option FoundLine) (sector : ℕ) → taken.valid ≡ false → (below_line (read_over taken) line sector ≡ below_line (read_over old) line sector) ⊎ (below_line (read_over taken) line sector ≡ IsError)
 lost_line old taken None sector off = inl refl

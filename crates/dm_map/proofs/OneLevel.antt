@@ -79,7 +79,7 @@ write_down stack device sector state sound =
     write_suc stack 31 device sector state
     ∙ ap (λ (step : Step). cond (is_ro_at stack device) (keep (Fails ∷ []) state) step)
     (same_line (IsShallow (links stack) 32 31 32) stack state device (found_at stack device sector) sector (λ to after at. write_step stack 31 to after at) (λ to after at. write_step stack 32 to after at)
-    (shallow_below stack state device sector sound) (λ to at on. same_write stack 32 31 32 to state at on))
+    (shallow_below stack state device sector sound) (λ after to at on. same_write stack 32 31 32 to after at on))
 
 -- Induction on the depth
 

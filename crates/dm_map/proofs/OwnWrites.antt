@@ -13,7 +13,7 @@ use Rattle.dm_map.specs.State.{State, Taken, none_taken, start_state, taken_at}
 use Rattle.dm_map.specs.Steps.{Step}
 use Rattle.dm_map.specs.Units.{BlockUnit}
 use Rattle.dm_map.specs.Ways.{Node, node, Touches}
-use Rattle.dm_map.proofs.Back.{top_back, top_root}
+use Rattle.dm_map.proofs.Back.{top_back, top_root, top_unserved}
 use Rattle.dm_map.proofs.How.{how}
 use Rattle.dm_map.proofs.Losses.{stays_as}
 use Rattle.dm_map.proofs.Runs.{IsFresh, all_front, all_moves, fresh_stays, grown_same, ran, run, run_stays}
@@ -52,7 +52,7 @@ own_write {V = V} zeros value stack state top sector sound tidy fitting is_top =
           (run_stays zeros value sector stack state w.events values (Device other) place sound fitting tidy w.each (top_root stack other sound other_top));
       reads = λ disk at last_is. w.reads disk at last_is;
       alone = λ disk at other place last_is other_top is.
-          let up = w.alone disk at (node (Device other) place) last_is (top_root stack other sound other_top) (read_touches stack step.state (Device other) place disk at sound is) in
+          let up = w.alone disk at (node (Device other) place) last_is (top_root stack other sound other_top) (top_unserved stack other sound other_top) (read_touches stack step.state (Device other) place disk at sound is) in
           let same = top_touched stack step.state (node (Device other) place) top sector sound is_top up in
           (device_is other top (ap (λ (n : Node). n.lower) same), ap (λ (n : Node). n.sector) same);
     }

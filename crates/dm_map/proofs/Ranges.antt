@@ -6,6 +6,7 @@ use Rattle.dm_stack.specs.declared.id.Lower.{Lower}
 use Rattle.dm_stack.specs.declared.id.Lower.TheVariants.{Device, Disk}
 use Rattle.dm_stack.specs.declared.found_line.FoundColumn.{FoundColumn}
 use Rattle.dm_stack.specs.declared.found_line.FoundLine.{FoundLine}
+use Rattle.dm_stack.specs.declared.found_line.FoundOrigin.{FoundOrigin}
 use Rattle.dm_stack.specs.declared.found_line.FoundTarget.TheVariants as found
 use Rattle.dm_stack.specs.Description.{Description}
 use Rattle.dm_stack.specs.Below.{Below, Lies, IsZero, IsError, below_stripes, found_at}
@@ -15,7 +16,7 @@ use Rattle.dm_map.specs.Steps.{Step, keep}
 use Rattle.dm_map.specs.Units.{ReadOf, WriteOf, Zeros, Fails, next_unit, units_in}
 use Rattle.dm_map.specs.Reads.{by_below, read_unit}
 use Rattle.dm_map.specs.Mapping.{sector_step, write_step}
-use Rattle.dm_map.specs.Walk.{disk_unit, zero_unit, below_step, refuses, range_step, target_step, line_step, stripes_step, IsPlace}
+use Rattle.dm_map.specs.Walk.{disk_unit, zero_unit, below_step, refuses, range_step, target_step, line_step, origin_step, served_sector, stripes_step, IsPlace}
 use Rattle.dm_map.proofs.Rows.{steps_same, steps_still}
 use Rattle.dm_map.proofs.Stripes.{below_chunk}
 
@@ -108,6 +109,17 @@ errors_sector stack ops.Write levels device distance state = refl
 pub line_errors : (stack : Description) (op : Op) (levels device distance n : ℕ) (state : State) → line_step stack op levels device found.Error state distance n ≡ keep (units_in Fails n) state
 line_errors stack op levels device distance n state =
     steps_still (target_step stack op levels device found.Error) state distance n Fails refl (λ i within. errors_sector stack op levels device (distance + i) state)
+
+origin_sector : (stack : Description) (op : Op) (levels device distance : ℕ) (origin : FoundOrigin) (state : State) → target_step stack op levels device (found.Origin origin) state distance ≡ served_sector stack op levels origin state distance
+origin_sector stack ops.Read levels device distance origin state = refl
+origin_sector stack ops.Write levels device distance origin state = refl
+
+pub line_served : (stack : Description) (op : Op) (levels device : ℕ) (origin : FoundOrigin) (distance n : ℕ) (state : State) → line_step stack op levels device (found.Origin origin) state distance n ≡ origin_step stack op levels origin state distance n
+line_served stack op levels device origin distance n state =
+    steps_same (target_step stack op levels device (found.Origin origin)) (served_sector stack op levels origin) state distance distance n (λ after i within. origin_sector stack op levels device (distance + i) origin after)
+
+pub origin_read : (stack : Description) (levels : ℕ) (origin : FoundOrigin) (sector n : ℕ) (state : State) → origin_step stack ops.Read levels origin state sector n ≡ range_step stack ops.Read levels origin.to state sector n
+origin_read stack levels origin sector n state = steps_same (served_sector stack ops.Read levels origin) (sector_step stack ops.Read levels origin.to) state sector sector n (λ after i within. refl)
 
 -- what is left of a chunk is a range of its column
 pub stripes_chunk : (stack : Description) (op : Op) (levels chunk distance n : ℕ) (columns : List FoundColumn) (state : State) (column : FoundColumn) (place : ChunkPlace) → 0 < length columns → 0 < chunk → IsPlace chunk (length columns) distance place

@@ -28,6 +28,7 @@ use Rattle.dm_map.specs.Snapshots.{read_over}
 use Rattle.dm_map.specs.State.{State, taken_at}
 use Rattle.dm_map.specs.Stretch.{ground_unit}
 use Rattle.dm_map.specs.Units.{BlockUnit, ReadOf, Zeros, Fails, units_in}
+use Rattle.dm_map.proofs.How.{has_columns}
 use Rattle.dm_map.proofs.Stripes.{at_place, in_column_room}
 use Rattle.dm_map.proofs.There.{device_there}
 use Rattle.dm_map.proofs.UnitRows.{row_same}
@@ -109,6 +110,28 @@ below_store stack levels device sector sound store inside =
     let parts = and_parts (not (is_ro_at stack device)) (list_all (λ l. is_plain l.target && list_all (λ span. is_store_to stack levels (lower_of stack span.to)) (spans l)) (lines_at stack device)) store in
     below_held stack levels device sector (line_of (lines_at stack device) sector) (each_true (λ l. is_plain l.target && list_all (λ span. is_store_to stack levels (lower_of stack span.to)) (spans l)) (lines_at stack device) parts.1) refl
     (found_on stack device sector (found_at stack device sector) refl sound inside)
+
+-- its lines are linear or striped
+
+plain_columns : (stack : Description) (target : Target) → is_plain target ≡ true → has_columns (found_target stack target) ≡ true
+plain_columns stack (targets.Linear to offset) plain = refl
+plain_columns stack (targets.Striped chunk columns) plain = refl
+plain_columns stack _ plain = absurd cc
+
+columns_held : (stack : Description) (levels device sector : ℕ) (line : Option Line) (held : FoundLine) → AllByRecursion (λ l. (is_plain l.target && list_all (λ span. is_store_to stack levels (lower_of stack span.to)) (spans l)) ≡ true) (lines_at stack device)
+    → line_of (lines_at stack device) sector ≡ line → option_map (found_line stack) line ≡ Some held → has_columns held.target ≡ true
+columns_held stack levels device sector None held each is e = absurd cc
+columns_held stack levels device sector (Some line) held each is e =
+    let both = (found (λ l. (is_plain l.target && list_all (λ span. is_store_to stack levels (lower_of stack span.to)) (spans l)) ≡ true) (holds sector) (lines_at stack device) line each is).1 in
+    let parts = and_parts (is_plain line.target) (list_all (λ span. is_store_to stack levels (lower_of stack span.to)) (spans line)) both in
+    let same : found_line stack line ≡ held = cc in
+    subst (λ (l : FoundLine). has_columns l.target ≡ true) same (plain_columns stack line.target parts.0)
+
+pub store_line : (stack : Description) (levels device sector : ℕ) (held : FoundLine) → is_store_to stack (suc levels) (Device device) ≡ true → found_at stack device sector ≡ Some held → has_columns held.target ≡ true
+unfolding is_store_to
+store_line stack levels device sector held store is =
+    let parts = and_parts (not (is_ro_at stack device)) (list_all (λ l. is_plain l.target && list_all (λ span. is_store_to stack levels (lower_of stack span.to)) (spans l)) (lines_at stack device)) store in
+    columns_held stack levels device sector (line_of (lines_at stack device) sector) held (each_true (λ l. is_plain l.target && list_all (λ span. is_store_to stack levels (lower_of stack span.to)) (spans l)) (lines_at stack device) parts.1) refl is
 
 -- The reads of a store
 

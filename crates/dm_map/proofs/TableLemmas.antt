@@ -142,6 +142,7 @@ plain_target stack (targets.Striped chunk columns) e = refl
 plain_target stack targets.Zero e = refl
 plain_target stack targets.Error e = refl
 plain_target stack (targets.Snapshot origin store kind chunk) e = absurd cc
+plain_target stack (targets.Origin origin) e = refl
 
 each_plain : (lines : List Line) → has_snapshot lines ≡ false → AllByRecursion (λ line. is_snapshot line.target ≡ false) lines
 each_plain [] e = tt
@@ -230,6 +231,7 @@ other_room stack device number line is other = rw (is, none_of line.target other
     none_of founds.Zero other = refl
     none_of founds.Error other = refl
     none_of (founds.Snapshot snapshot) other = absurd (other snapshot refl)
+    none_of (founds.Origin origin) other = refl
 
 -- Its store is there
 
@@ -259,6 +261,7 @@ store_at stack (targets.Snapshot origin store kind chunk) len snapshot sound kno
     let same : found_snapshot stack origin store chunk ≡ snapshot = cc in
     let parts = or_parts (is_unknown_ref stack store) (list_any (λ span. is_unknown_ref stack span.to) (whole_span origin Reading ∷ [])) known in
     subst (λ (s : FoundSnapshot). 0 < lower_len stack s.store) same (lower_some stack store sound parts.0)
+store_at stack (targets.Origin origin) len snapshot sound known is = absurd cc
 
 store_in : (stack : Description) (lines : List Line) (sector : ℕ) (line : Option Line) (found_line_is : FoundLine) (snapshot : FoundSnapshot) → IsSound stack → AllByRecursion (λ l. is_unknown stack l ≡ false) lines → line_of lines sector ≡ line → option_map (found_line stack) line ≡ Some found_line_is
     → found_line_is.target ≡ founds.Snapshot snapshot → 0 < lower_len stack snapshot.store

@@ -1,4 +1,4 @@
--- How a step of a read goes through a claim: through a column of its line, or through the store or the origin of its snapshot.
+-- How a step of a read goes through a claim: through a column of its line, through the store or the origin of its snapshot, or through the line of an origin.
 use Rattle.std.proofs.Common.{◌≡◌, ℕ, zero, suc, ◌+◌, ◌-◌, ◌/◌, ◌%◌, ◌<◌, ◌≤◌, List, [], ◌∷◌, Option, Some, None, length, refl, sym, ap, subst, ◌∙◌, arith}
 use Rattle.std.specs.Prelude.{option_map, slice_get}
 use Rattle.std.proofs.lemmas.List.{length-map}
@@ -10,9 +10,10 @@ use Rattle.dm_table.specs.declared.table.Line.{Line}
 use Rattle.dm_table.specs.declared.table.Target.{Target}
 use Rattle.dm_table.specs.declared.table.Target.TheVariants as targets
 use Rattle.dm_table.specs.declared.table.Use.{Use}
-use Rattle.dm_table.specs.declared.table.Use.TheVariants.{Own, Reading}
+use Rattle.dm_table.specs.declared.table.Use.TheVariants.{Own, Reading, Serving}
 use Rattle.dm_stack.specs.declared.found_line.FoundColumn.{FoundColumn}
 use Rattle.dm_stack.specs.declared.found_line.FoundLine.{FoundLine}
+use Rattle.dm_stack.specs.declared.found_line.FoundOrigin.{FoundOrigin}
 use Rattle.dm_stack.specs.declared.found_line.FoundSnapshot.{FoundSnapshot}
 use Rattle.dm_stack.specs.declared.found_line.FoundTarget.{FoundTarget}
 use Rattle.dm_stack.specs.declared.found_line.FoundTarget.TheVariants as founds
@@ -20,13 +21,13 @@ use Rattle.dm_stack.specs.declared.id.Lower.{Lower}
 use Rattle.dm_stack.specs.Below.{AreStripes, IsTargetSound, column_of, found_at, found_columns, found_line, found_target, holds, line_of}
 use Rattle.dm_stack.specs.Claims.{span_end}
 use Rattle.dm_stack.specs.Description.{Description, lines_at, lower_len, lower_of}
-use Rattle.dm_stack.specs.Over.{found_snapshot}
+use Rattle.dm_stack.specs.Over.{found_snapshot, snapshots_over}
 use Rattle.dm_stack.specs.Soundness.{IsSound}
 use Rattle.dm_table.specs.Span.{Span, column_span, target_spans, whole_span}
 use Rattle.dm_stack.proofs.Apart.{IsNamed, IsVia}
 use Rattle.dm_stack.proofs.Parts.{found_place}
-use Rattle.dm_map.specs.Tables.{snapshot_at}
-use Rattle.dm_map.proofs.FoundLines.{first_line, line_sound, snapshot_sound}
+use Rattle.dm_map.specs.Tables.{origin_at, snapshot_at}
+use Rattle.dm_map.proofs.FoundLines.{first_line, first_origin, line_sound, origin_sound, snapshot_sound}
 use Rattle.dm_map.proofs.How.{IsColumnStep, column_at, columns_of, within_at}
 use Rattle.dm_map.proofs.Stripes.{at_place, in_column_room}
 
@@ -39,6 +40,7 @@ share_of len (targets.Striped chunk columns) = len / length columns
 share_of len targets.Zero = 0
 share_of len targets.Error = 0
 share_of len (targets.Snapshot origin store kind chunk) = 0
+share_of len (targets.Origin origin) = 0
 
 record IsColumnSpan (stack : Description) (len : ℕ) (target : Target) (i : ℕ) (column : FoundColumn) : Type 0 where
   span : Span
@@ -80,6 +82,7 @@ column_span_at stack len (targets.Striped chunk columns) i column is =
 column_span_at stack len targets.Zero i column is = absurd cc
 column_span_at stack len targets.Error i column is = absurd cc
 column_span_at stack len (targets.Snapshot origin store kind chunk) i column is = absurd cc
+column_span_at stack len (targets.Origin origin) i column is = absurd cc
 
 within_share : (stack : Description) (device start len : ℕ) (target : Target) (distance : ℕ) (column : FoundColumn) → IsTargetSound stack device start len (found_target stack target) → slice_get (columns_of (found_target stack target)) (column_at (found_target stack target) distance) ≡ Some column → distance < len
     → within_at (found_target stack target) distance < share_of len target
@@ -96,6 +99,7 @@ within_share stack device start len (targets.Striped chunk columns) distance col
 within_share stack device start len targets.Zero distance column sound is inside = absurd cc
 within_share stack device start len targets.Error distance column sound is inside = absurd cc
 within_share stack device start len (targets.Snapshot origin store kind chunk) distance column sound is inside = absurd cc
+within_share stack device start len (targets.Origin origin) distance column sound is inside = absurd cc
 
 -- Through a column of a line
 
@@ -173,6 +177,7 @@ snapshot_spans stack len (targets.Snapshot origin store kind chunk) snapshot is 
   where
     snapshot_is : (a b : FoundSnapshot) → founds.Snapshot a ≡ founds.Snapshot b → a ≡ b
     snapshot_is a b e = cc
+snapshot_spans stack len (targets.Origin origin) snapshot is = absurd cc
 
 -- what a line names as a whole: each sector of it is one that the line leads to
 record IsWholeVia (stack : Description) (device place column : ℕ) (it : Line) (lower : Lower) (kind : Use) : Type 0 where
@@ -215,6 +220,38 @@ via_snapshot stack device snapshot sound at =
       origin = origin.via;
     }
 
+-- Through an origin's line
+
+pub record IsOriginVia (stack : Description) (device : ℕ) (origin : FoundOrigin) : Type 0 where
+  pub place : ℕ
+  pub it : Line
+  -- it has no columns, and is no snapshot's
+  pub target : found_target stack it.target ≡ founds.Origin origin
+  pub named : IsNamed stack device place 0 it origin.to
+  pub via : (at : ℕ) → at < lower_len stack origin.to → IsVia stack device place 0 it origin.to at Serving
+
+origin_spans : (stack : Description) (len : ℕ) (target : Target) (origin : FoundOrigin) → found_target stack target ≡ founds.Origin origin → (to : DevRef) × (target_spans len target ≡ whole_span to Serving ∷ []) × (lower_of stack to ≡ origin.to)
+origin_spans stack len (targets.Linear to offset) origin is = absurd cc
+origin_spans stack len (targets.Striped chunk columns) origin is = absurd cc
+origin_spans stack len targets.Zero origin is = absurd cc
+origin_spans stack len targets.Error origin is = absurd cc
+origin_spans stack len (targets.Snapshot of store kind chunk) origin is = absurd cc
+origin_spans stack len (targets.Origin to) origin is = (to, refl, ap (λ (o : FoundOrigin). o.to) (origin_is (record { to = lower_of stack to; over = snapshots_over stack (lower_of stack to) }) origin is))
+  where
+    origin_is : (a b : FoundOrigin) → founds.Origin a ≡ founds.Origin b → a ≡ b
+    origin_is a b e = cc
+
+pub via_origin : (stack : Description) (device : ℕ) (origin : FoundOrigin) → IsSound stack → origin_at stack device ≡ Some origin → IsOriginVia stack device origin
+via_origin stack device origin sound at =
+    let first = first_origin stack device origin (found_at stack device 0) refl at in
+    let raw = raw_line stack (line_of (lines_at stack device) 0) first.0 first.1 in
+    let place = found_place (holds 0) (lines_at stack device) raw.0 raw.1 in
+    let target : found_target stack raw.0.target ≡ founds.Origin origin = ap (λ (l : FoundLine). l.target) raw.2 ∙ first.2 in
+    let named = origin_spans stack raw.0.len raw.0.target origin target in
+    let there = (origin_sound stack device origin sound at).there in
+    let whole = whole_via stack device place.0 0 raw.0 origin.to Serving named.0 there place.1 (ap (λ (all : List Span). slice_get all 0) named.1) named.2 in
+    record { place = place.0; it = raw.0; target = target; named = whole.named; via = whole.via }
+
 -- a step by a column of a sound line goes to a sector that is there
 pub column_inside : (stack : Description) (device start len : ℕ) (target : FoundTarget) (distance : ℕ) (lower : Lower) (at : ℕ) → IsTargetSound stack device start len target → IsColumnStep target distance lower at → distance < len → at < lower_len stack lower
 column_inside stack device start len (founds.Linear to offset) distance lower at sound step inside =
@@ -234,3 +271,4 @@ column_inside stack device start len (founds.Striped chunk columns) distance low
 column_inside stack device start len founds.Zero distance lower at sound step inside = absurd (no_columns step.column step.is)
 column_inside stack device start len founds.Error distance lower at sound step inside = absurd (no_columns step.column step.is)
 column_inside stack device start len (founds.Snapshot snapshot) distance lower at sound step inside = absurd (no_columns step.column step.is)
+column_inside stack device start len (founds.Origin origin) distance lower at sound step inside = absurd (no_columns step.column step.is)

@@ -1,19 +1,23 @@
 -- A walk over a row of sectors, part by part.
-use Rattle.std.proofs.Common.{◌≡◌, ℕ, ◌+◌, ◌-◌, List, ◌++◌, append_assoc, sym, ap, subst, ◌∙◌, arith}
+use Rattle.std.proofs.Common.{◌≡◌, ℕ, ◌+◌, ◌-◌, List, [], ◌++◌, append_assoc, refl, sym, ap, subst, ◌∙◌, arith}
 use Rattle.std.specs.Result.{IsErr}
 use Rattle.std.specs.Prelude.{◌≤◌, Result, Ok, Err}
 use Rattle.dm_stack.specs.Description.{Description}
 use Rattle.dm_map.specs.Counts.{AreAdded}
 use Rattle.dm_map.specs.Sink.{OfBeginning}
 use Rattle.dm_map.specs.State.{State}
-use Rattle.dm_map.specs.Steps.{Step, steps}
+use Rattle.dm_map.specs.Steps.{Step, keep, steps}
 use Rattle.dm_map.specs.Units.{BlockUnit}
 use Rattle.dm_map.specs.Walk.{Scene, Walking, scene, IsWalked}
-use Rattle.dm_map.proofs.Rows.{added_then, steps-append}
+use Rattle.dm_map.proofs.Rows.{added_then, none_added, steps-append}
 
 -- a walk so far, in which the sink did not fail
 abbrev pub going_on : Result (Unit {0}) (Unit {0})
 going_on = Ok tt
+
+-- one that has not begun
+pub walked_none : {S : Type 0} (took left : S → List BlockUnit → S → Type 0) (stack : S → Description) (room faults : S → ℕ) (sink : S) (walk : Walking) → took sink [] sink → IsWalked took left stack room faults going_on sink sink walk walk (keep [] walk.state) 0
+walked_none took left stack room faults sink walk taken = record { took = taken; state = refl; kept = refl; room = omega arith; left = tt; faults = omega arith; stack = refl; looked = none_added walk.looked }
 
 -- a sink that took the first part of a row, and then the next one
 took_on : {S : Type 0} (took : S → List BlockUnit → S → Type 0) (both : (a b c : S) (us vs : List BlockUnit) → took a us b → took b vs c → took a (us ++ vs) c)

@@ -1,9 +1,11 @@
 -- The write of a sector: chunks made ready, then one unit; what is read then, and by whom.
-use Rattle.std.proofs.Common.{◌≡◌, ◌⊎◌, inl, inr, ℕ, ◌+◌, ◌-◌, ◌/◌, ◌<◌, Bool, true, false, cond, List, [], ◌∷◌, ◌++◌, Option, Some, None, length, refl, sym, ap, subst, ◌∙◌, arith}
+use Rattle.std.proofs.Common.{◌≡◌, ◌⊎◌, inl, inr, ℕ, ◌+◌, ◌-◌, ◌/◌, ◌<◌, Bool, true, false, cond, List, [], ◌∷◌, ◌++◌, map, Option, Some, None, length, refl, sym, ap, subst, ◌∙◌, arith}
 use Rattle.std.specs.List.{AllByRecursion}
 use Rattle.std.proofs.lemmas.List.{append-nil}
 use Rattle.dm_stack.specs.declared.found_line.FoundColumn.{FoundColumn}
 use Rattle.dm_stack.specs.declared.found_line.FoundLine.{FoundLine}
+use Rattle.dm_stack.specs.declared.found_line.FoundOrigin.{FoundOrigin}
+use Rattle.dm_stack.specs.declared.found_line.FoundOver.{FoundOver}
 use Rattle.dm_stack.specs.declared.found_line.FoundSnapshot.{FoundSnapshot}
 use Rattle.dm_stack.specs.declared.found_line.FoundTarget.{FoundTarget}
 use Rattle.dm_stack.specs.declared.found_line.FoundTarget.TheVariants as founds
@@ -12,28 +14,34 @@ use Rattle.dm_stack.specs.declared.id.Lower.{Lower}
 use Rattle.dm_stack.specs.declared.id.Lower.TheVariants.{Device, Disk}
 use Rattle.dm_stack.specs.Below.{Below, Lies, IsZero, IsError, below, below_stripes, found_at}
 use Rattle.dm_stack.specs.Claims.{IsTidy}
-use Rattle.dm_stack.specs.Description.{Description, is_ro_at}
+use Rattle.dm_stack.specs.Description.{Description, is_ro_at, lower_len}
 use Rattle.dm_stack.specs.Loaded.{lower_depth}
 use Rattle.dm_stack.specs.Soundness.{IsSound}
 use Rattle.dm_map.specs.Contents.{answers}
 use Rattle.dm_map.specs.Fitting.{IsFitting}
 use Rattle.dm_map.specs.Mapping.{write_line, write_step, write_target}
 use Rattle.dm_map.specs.Reads.{by_below, read_below}
+use Rattle.dm_map.specs.Serving.{IsOver, serve, served_step}
 use Rattle.dm_map.specs.Snapshots.{kept_at, number_in, read_over}
 use Rattle.dm_map.specs.SnapshotWrites.{home_kept, read, ready, unit_kept, write_numbered, write_snapshot}
 use Rattle.dm_map.specs.State.{State, Taken, taken_at}
 use Rattle.dm_map.specs.Steps.{Step, keep, and_then}
-use Rattle.dm_map.specs.Tables.{snapshot_at}
+use Rattle.dm_map.specs.Tables.{origin_at, snapshot_at}
 use Rattle.dm_map.specs.Units.{BlockUnit, ReadOf, WriteOf, Zeros, Drops, Fails}
 use Rattle.dm_map.specs.Ways.{Node, node, Touches}
-use Rattle.dm_map.proofs.Back.{IsRoot, back_store, fits, goes_on_inside}
-use Rattle.dm_map.proofs.FoundLines.{line_snapshot, line_sound, snapshot_sound}
+use Rattle.dm_map.proofs.Back.{IsRoot, IsUnserved, back_origin, back_store, fits, goes_on_inside}
+use Rattle.dm_map.proofs.FoundLines.{line_origin, line_snapshot, line_sound, origin_sound, snapshot_sound}
 use Rattle.dm_map.proofs.HomeLemmas.{home_node, home_touched, node_is, touch_up}
-use Rattle.dm_map.proofs.How.{how, line_step}
+use Rattle.dm_map.proofs.How.{has_columns, how, line_step}
 use Rattle.dm_map.proofs.Made.{made, made_fits}
 use Rattle.dm_map.proofs.Numbers.{same_sector}
 use Rattle.dm_map.proofs.OneLevel.{by_depth, next_depth, read_disk, read_down, write_down}
+use Rattle.dm_map.proofs.Overs.{overs}
+use Rattle.dm_map.proofs.Rows.{and_then_at, step_assoc}
 use Rattle.dm_map.proofs.Runs.{Event, IsEvent, grown_same, ran, run}
+use Rattle.dm_map.proofs.Served.{over_there, serve_settled, settled_on}
+use Rattle.dm_map.proofs.ServedRuns.{each_event, event_of, events_append, run_append, serve_run}
+use Rattle.dm_map.proofs.Settled.{write_keeps_settled}
 use Rattle.dm_map.proofs.Stores.{store_read}
 use Rattle.dm_map.proofs.Takes.{snapshot_next}
 use Rattle.dm_map.proofs.WayLemmas.{Here, Before, back}
@@ -46,8 +54,8 @@ pub record Written (stack : Description) (state : State) (lower : Lower) (sector
   pub answered : answers last ≡ true
   -- a written sector is read where it was written
   pub reads : (disk x : ℕ) → last ≡ WriteOf disk x → read stack step.state lower sector ≡ ReadOf disk x
-  -- and from a root only by way of that sector
-  pub alone : (disk x : ℕ) (a : Node) → last ≡ WriteOf disk x → IsRoot stack a.lower → Touches stack step.state a (node (Disk disk) x) → Touches stack step.state a (node lower sector)
+  -- and from a root that is not served only by way of that sector
+  pub alone : (disk x : ℕ) (a : Node) → last ≡ WriteOf disk x → IsRoot stack a.lower → IsUnserved stack a.lower → Touches stack step.state a (node (Disk disk) x) → Touches stack step.state a (node lower sector)
 
 Writes : Description → Lower → Type 0
 Writes stack lower = (sector : ℕ) (state : State) → IsFitting stack state → Written stack state lower sector (write_step stack MOST_DEPTH lower state sector)
@@ -73,7 +81,7 @@ written_none stack state lower sector step unit which is = record {
   each = tt;
   answered = elim which [ inl e ↦ ap answers e | inr e ↦ ap answers e ];
   reads = λ disk x e. absurd (no_write unit disk x which e);
-  alone = λ disk x a e root touches. absurd (no_write unit disk x which e);
+  alone = λ disk x a e root unserved touches. absurd (no_write unit disk x which e);
 }
 
 -- A write that goes on below, by a line
@@ -84,10 +92,10 @@ read_next stack state device sector to at sound e = read_down stack state device
 step_state : (a b : Step) → a ≡ b → a.state ≡ b.state
 step_state a b e = ap (λ (x : Step). x.state) e
 
-line_written : (stack : Description) (state : State) (device sector : ℕ) (to : Lower) (at : ℕ) (step : Step) → IsSound stack → IsFitting stack state → IsTidy stack → ((over : FoundSnapshot → ℕ → Below) → below over stack device sector ≡ Lies to at)
+line_written : (stack : Description) (state : State) (device sector : ℕ) (to : Lower) (at : ℕ) (step : Step) → IsSound stack → IsFitting stack state → IsTidy stack → ((held : FoundLine) → found_at stack device sector ≡ Some held → has_columns held.target ≡ true) → ((over : FoundSnapshot → ℕ → Below) → below over stack device sector ≡ Lies to at)
     → Writes stack to → step ≡ write_step stack MOST_DEPTH to state at → Written stack state (Device device) sector step
 unfolding Writes
-line_written stack state device sector to at step sound fitting tidy goes lower_writes step_is =
+line_written stack state device sector to at step sound fitting tidy has goes lower_writes step_is =
     let w : Written stack state to at step = subst (λ (x : Step). Written stack state to at x) (sym step_is) (lower_writes at state fitting) in
     let first = ran stack state state w.events sound fitting fitting tidy (grown_same state) w.each in
     let fits_after : IsFitting stack step.state = subst (λ (x : State). IsFitting stack x) (sym (step_state step _ w.is)) first.fits in
@@ -98,8 +106,8 @@ line_written stack state device sector to at step sound fitting tidy goes lower_
       each = w.each;
       answered = w.answered;
       reads = λ disk x e. read_next stack step.state device sector to at sound (goes (read_over (taken_at step.state device))) ∙ w.reads disk x e;
-      alone = λ disk x a e root touches.
-          touch_up stack step.state a device sector to at sound fits_after tidy root.lines (line_step stack device sector to at (goes (λ snapshot place. IsError))) (w.alone disk x a e root touches);
+      alone = λ disk x a e root unserved touches.
+          touch_up stack step.state a device sector to at sound fits_after tidy root.lines (line_step stack device sector to at has (goes (λ snapshot place. IsError))) (w.alone disk x a e root unserved touches);
     }
 
 -- A snapshot's own write
@@ -173,7 +181,7 @@ snapshot_written stack state device sector line snapshot step sound fitting tidy
           (read_next stack first.state device sector snapshot.store (kept_at snapshot unit.number sector) sound (kept_next stack first.state device sector unit.number line snapshot sound over is unit.valid unit.is)
           ∙ store_read stack first.state MOST_DEPTH snapshot.store (kept_at snapshot unit.number sector) sound soundly.store inside
           ∙ read_of_unit home.disk home.sector disk x unit.home);
-      alone = λ disk x a e root touches.
+      alone = λ disk x a e root unserved touches.
           let unit = kept_unit stack snapshot taken sector disk x taken.valid (number_in (sector / snapshot.chunk) taken.chunks) refl refl e in
           let home = home_kept stack snapshot unit.number sector in
           subst (λ (after : State). Touches stack after a (node (Device device) sector)) (sym state_is)
@@ -181,14 +189,61 @@ snapshot_written stack state device sector line snapshot step sound fitting tidy
           (subst (λ (n : Node). Touches stack first.state a n) (sym (node_of_unit home.disk home.sector disk x unit.home)) (subst (λ (after : State). Touches stack after a (node (Disk disk) x)) state_is touches)));
     }
 
+-- A write of an origin's device: its snapshots are served, and then the origin is written
+
+origin_written : (stack : Description) (state : State) (device sector : ℕ) (line : FoundLine) (origin : FoundOrigin) (step : Step) → IsSound stack → IsFitting stack state → IsTidy stack → origin_at stack device ≡ Some origin → found_at stack device sector ≡ Some line
+    → ((after : State) → read_below stack after device sector ≡ Lies origin.to sector) → Writes stack origin.to → step ≡ served_step stack origin.over (λ after at. write_step stack MOST_DEPTH origin.to after at) state sector → Written stack state (Device device) sector step
+unfolding Writes
+origin_written stack state device sector line origin step sound fitting tidy served is goes lower_writes step_is =
+    let soundly = (origin_sound stack device origin sound served).soundly in
+    let len = lower_len stack origin.to in
+    let below : sector < len = let inside = (line_sound stack device sector line sound is).inside in let same = soundly.same in omega (arith, inside, same) in
+    let members : AllByRecursion (IsOver stack len) origin.over = subst (λ (over : List FoundOver). AllByRecursion (IsOver stack len) over) (sym soundly.over) (overs stack origin.to len sound (omega arith)) in
+    let es = map (event_of sector) origin.over in
+    let each = each_event stack len sector origin.over members in
+    let first = serve stack origin.over sector state in
+    let first_is : first ≡ run stack es state = serve_run stack origin.over sector state in
+    let fits : IsFitting stack first.state = subst (λ (x : Step). IsFitting stack x.state) (sym first_is) (ran stack state state es sound fitting fitting tidy (grown_same state) each).fits in
+    let after = write_step stack MOST_DEPTH origin.to first.state sector in
+    let w : Written stack first.state origin.to sector after = lower_writes sector first.state fits in
+    let last_step : State → Step = λ x. keep (w.last ∷ []) x in
+    let settled = settled_on first.state after.state origin.over sector (write_keeps_settled stack MOST_DEPTH origin.to first.state sector) (serve_settled stack origin.over sector state (over_there stack state len origin.over fitting.count (omega (arith, below)) members)) in
+    let state_is : step.state ≡ after.state = ap (λ (x : Step). x.state) step_is in
+    record {
+      events = es ++ w.events;
+      last = w.last;
+      is = step_is ∙ and_then_at first (λ x. write_step stack MOST_DEPTH origin.to x sector) (λ x. and_then (run stack w.events x) last_step) w.is
+          ∙ sym (step_assoc first (λ x. run stack w.events x) last_step)
+          ∙ ap (λ (x : Step). and_then (and_then x (λ y. run stack w.events y)) last_step) first_is
+          ∙ ap (λ (x : Step). and_then x last_step) (sym (run_append stack es w.events state));
+      each = events_append stack es w.events each w.each;
+      answered = w.answered;
+      reads = λ disk x e. read_next stack step.state device sector origin.to sector sound (goes step.state) ∙ ap (λ (s : State). read stack s origin.to sector) state_is ∙ w.reads disk x e;
+      alone = λ disk x a e root unserved touches.
+          let up = w.alone disk x a e root unserved (subst (λ (s : State). Touches stack s a (node (Disk disk) x)) state_is touches) in
+          subst (λ (s : State). Touches stack s a (node (Device device) sector)) (sym state_is)
+          (elim (back stack after.state a (node origin.to sector) up) [
+            | Here here ↦ absurd (unserved.none device origin served (ap (λ (n : Node). n.lower) here))
+            | Before c before leads ↦
+                let at = back_origin stack after.state device leads.device c.sector sector origin sound tidy served below settled (how stack after.state leads.device c.sector origin.to sector sound leads.below) in
+                subst (λ (n : Node). Touches stack after.state a n) (node_is c leads.device device c.sector sector leads.on at.device refl at.sector) before
+          ]);
+    }
+
 -- Each write
+
+held_is : (stack : Description) (device sector : ℕ) (line held : FoundLine) (target : FoundTarget) → found_at stack device sector ≡ Some line → line.target ≡ target → has_columns target ≡ true → found_at stack device sector ≡ Some held → has_columns held.target ≡ true
+held_is stack device sector line held target is t has held_at = subst (λ (l : FoundLine). has_columns l.target ≡ true) (some_is line held (sym is ∙ held_at)) (rw t has)
+  where
+    some_is : (a b : FoundLine) → Some a ≡ Some b → a ≡ b
+    some_is a b e = cc
 
 stripes_written : (stack : Description) (state : State) (device sector : ℕ) (line : FoundLine) (chunk : ℕ) (columns : List FoundColumn) (b : Below) (step : Step) → IsSound stack → IsFitting stack state → IsTidy stack → found_at stack device sector ≡ Some line → line.target ≡ founds.Striped chunk columns
     → below_stripes chunk columns (sector - line.start) ≡ b → ((to : Lower) → lower_depth stack to < lower_depth stack (Device device) → Writes stack to)
     → step ≡ by_below b (keep (Drops ∷ []) state) (keep (Fails ∷ []) state) (λ to at. write_step stack MOST_DEPTH to state at) → Written stack state (Device device) sector step
 stripes_written stack state device sector line chunk columns (Lies to at) step sound fitting tidy is target b_is each step_is =
     let goes : (over : FoundSnapshot → ℕ → Below) → below over stack device sector ≡ Lies to at = λ over. rw (is, target) b_is in
-    line_written stack state device sector to at step sound fitting tidy goes (each to (next_depth stack state device sector to at sound (goes (read_over (taken_at state device))))) step_is
+    line_written stack state device sector to at step sound fitting tidy (λ held held_at. held_is stack device sector line held (founds.Striped chunk columns) is target refl held_at) goes (each to (next_depth stack state device sector to at sound (goes (read_over (taken_at state device))))) step_is
 stripes_written stack state device sector line chunk columns IsZero step sound fitting tidy is target b_is each step_is = written_none stack state (Device device) sector step Drops (inr refl) step_is
 stripes_written stack state device sector line chunk columns IsError step sound fitting tidy is target b_is each step_is = written_none stack state (Device device) sector step Fails (inl refl) step_is
 
@@ -197,7 +252,7 @@ target_written : (stack : Description) (state : State) (device sector : ℕ) (li
 target_written stack state device sector line (founds.Linear to offset) step sound fitting tidy is target each step_is =
     let at = offset + (sector - line.start) in
     let goes : (over : FoundSnapshot → ℕ → Below) → below over stack device sector ≡ Lies to at = λ over. rw (is, target) refl in
-    line_written stack state device sector to at step sound fitting tidy goes (each to (next_depth stack state device sector to at sound (goes (read_over (taken_at state device))))) step_is
+    line_written stack state device sector to at step sound fitting tidy (λ held held_at. held_is stack device sector line held (founds.Linear to offset) is target refl held_at) goes (each to (next_depth stack state device sector to at sound (goes (read_over (taken_at state device))))) step_is
 target_written stack state device sector line (founds.Striped chunk columns) step sound fitting tidy is target each step_is =
     stripes_written stack state device sector line chunk columns (below_stripes chunk columns (sector - line.start)) step sound fitting tidy is target refl each step_is
 target_written stack state device sector line founds.Zero step sound fitting tidy is target each step_is = written_none stack state (Device device) sector step Drops (inr refl) step_is
@@ -207,6 +262,13 @@ target_written stack state device sector line (founds.Snapshot snapshot) step so
     let first = over.0 in
     let same : sector - line.start ≡ sector = omega (arith, first) in
     snapshot_written stack state device sector line snapshot step sound fitting tidy over.1 is (step_is ∙ ap (λ (s : ℕ). write_snapshot stack snapshot device state s) same)
+target_written stack state device sector line (founds.Origin origin) step sound fitting tidy is target each step_is =
+    let over = line_origin stack device sector line origin sound is target in
+    let first = over.0 in
+    let same : sector - line.start ≡ sector = omega (arith, first) in
+    let goes : (after : State) → read_below stack after device sector ≡ Lies origin.to sector = λ after. rw (is, target, same) refl in
+    origin_written stack state device sector line origin step sound fitting tidy over.1 is goes (each origin.to (next_depth stack state device sector origin.to sector sound (goes state)))
+    (step_is ∙ ap (λ (s : ℕ). served_step stack origin.over (λ after at. write_step stack MOST_DEPTH origin.to after at) state s) same)
 
 found_written : (stack : Description) (state : State) (device sector : ℕ) (line : Option FoundLine) (step : Step) → IsSound stack → IsFitting stack state → IsTidy stack → found_at stack device sector ≡ line
     → ((to : Lower) → lower_depth stack to < lower_depth stack (Device device) → Writes stack to) → step ≡ write_line stack state device line sector (λ to after at. write_step stack MOST_DEPTH to after at) → Written stack state (Device device) sector step
@@ -231,7 +293,7 @@ writes_step stack sound tidy (Disk disk) each sector state fitting = record {
   each = tt;
   answered = refl;
   reads = λ k x e. read_disk stack (write_step stack MOST_DEPTH (Disk disk) state sector).state disk sector ∙ read_of_unit disk sector k x e;
-  alone = λ k x a e root touches. subst (λ (n : Node). Touches stack (write_step stack MOST_DEPTH (Disk disk) state sector).state a n) (sym (node_of_unit disk sector k x e)) touches;
+  alone = λ k x a e root unserved touches. subst (λ (n : Node). Touches stack (write_step stack MOST_DEPTH (Disk disk) state sector).state a n) (sym (node_of_unit disk sector k x e)) touches;
 }
 writes_step stack sound tidy (Device device) each sector state fitting =
     device_written stack state device sector (is_ro_at stack device) (write_step stack MOST_DEPTH (Device device) state sector) sound fitting tidy each (write_down stack device sector state sound)

@@ -13,6 +13,7 @@ pub mod Path
 pub mod PieceList
 pub mod Reads
 pub mod Runs
+pub mod Serving
 pub mod Sink
 pub mod SnapshotWrites
 pub mod Snapshots

@@ -12,18 +12,20 @@ use Rattle.dm_stack.specs.Description.{Description, device_len, is_ro_at}
 use Rattle.dm_stack.specs.Below.{below_stripes, found_at}
 use Rattle.dm_stack.specs.Soundness.{depth_of}
 use Rattle.dm_map.specs.Reads.{by_below, read_unit}
+use Rattle.dm_map.specs.Serving.{served_step}
 use Rattle.dm_map.specs.SnapshotWrites.{write_snapshot}
 use Rattle.dm_map.specs.State.{State}
 use Rattle.dm_map.specs.Steps.{Step, keep, steps}
 use Rattle.dm_map.specs.Units.{WriteOf, Drops, Fails}
 
--- the write of a sector at a distance from the start of a line of this target, by that of a lower one: zeros throw it away
+-- the write of a sector at a distance from the start of a line of this target, by that of a lower one: zeros throw it away, and the snapshots of an origin are served first
 abbrev pub write_target : Description → State → (device : ℕ) → FoundTarget → (distance : ℕ) → (Lower → State → ℕ → Step) → Step
 write_target stack state device (found.Linear to offset) distance next = next to state (offset + distance)
 write_target stack state device (found.Striped chunk columns) distance next = by_below (below_stripes chunk columns distance) (keep (Drops ∷ []) state) (keep (Fails ∷ []) state) (λ to sector. next to state sector)
 write_target stack state device found.Zero distance next = keep (Drops ∷ []) state
 write_target stack state device found.Error distance next = keep (Fails ∷ []) state
 write_target stack state device (found.Snapshot snapshot) distance next = write_snapshot stack snapshot device state distance
+write_target stack state device (found.Origin origin) distance next = served_step stack origin.over (next origin.to) state distance
 
 abbrev pub write_line : Description → State → (device : ℕ) → Option FoundLine → (sector : ℕ) → (Lower → State → ℕ → Step) → Step
 write_line stack state device (Some line) sector next = write_target stack state device line.target (sector - line.start) next

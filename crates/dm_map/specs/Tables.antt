@@ -1,6 +1,7 @@
 -- Tables of taken chunks, one for each device of a stack, as a state.
 use Rattle.std.specs.Prelude.{ℕ, ◌≡◌, Bool, false, List, Option, Some, None, length, map, nat_lt, slice_get}
 use Rattle.dm_stack.specs.declared.found_line.FoundLine.{FoundLine}
+use Rattle.dm_stack.specs.declared.found_line.FoundOrigin.{FoundOrigin}
 use Rattle.dm_stack.specs.declared.found_line.FoundSnapshot.{FoundSnapshot}
 use Rattle.dm_stack.specs.declared.found_line.FoundTarget.{FoundTarget}
 use Rattle.dm_stack.specs.declared.found_line.FoundTarget.TheVariants as found
@@ -24,6 +25,18 @@ snapshot_of_line None = None
 
 abbrev pub snapshot_at : Description → (device : ℕ) → Option FoundSnapshot
 snapshot_at stack device = snapshot_of_line (found_at stack device 0)
+
+-- the origin that a device is the device of, by its line at sector 0
+abbrev pub origin_of : FoundTarget → Option FoundOrigin
+origin_of (found.Origin origin) = Some origin
+origin_of _ = None
+
+abbrev pub origin_of_line : Option FoundLine → Option FoundOrigin
+origin_of_line (Some line) = origin_of line.target
+origin_of_line None = None
+
+abbrev pub origin_at : Description → (device : ℕ) → Option FoundOrigin
+origin_at stack device = origin_of_line (found_at stack device 0)
 
 -- its store has a place for the taken chunk of this number; a device that is no snapshot has none
 abbrev pub room_of : Description → Option FoundSnapshot → (number : ℕ) → Bool

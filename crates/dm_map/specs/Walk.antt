@@ -5,15 +5,18 @@ use Rattle.dm_table.specs.declared.request.Op.TheVariants as ops
 use Rattle.dm_table.specs.DeviceIo.{fault_of}
 use Rattle.dm_stack.specs.declared.id.Lower.{Lower}
 use Rattle.dm_stack.specs.declared.found_line.FoundColumn.{FoundColumn}
+use Rattle.dm_stack.specs.declared.found_line.FoundOrigin.{FoundOrigin}
 use Rattle.dm_stack.specs.declared.found_line.FoundSnapshot.{FoundSnapshot}
 use Rattle.dm_stack.specs.declared.found_line.FoundTarget.{FoundTarget}
 use Rattle.dm_stack.specs.Description.{Description, device_len, is_ro_at, lower_len}
 use Rattle.dm_stack.specs.Below.{Below, Lies, below_stripes, below_target, column_of, AreStripes, IsSnapshotSound}
+use Rattle.dm_stack.specs.Over.{snapshots_over}
 use Rattle.dm_map.specs.declared.chunk.ReadAt.{ReadAt}
 use Rattle.dm_map.specs.declared.stripe.ChunkPlace.{ChunkPlace}
 use Rattle.dm_map.specs.Counts.{AreAdded, Counts}
 use Rattle.dm_map.specs.Sink.{OfBeginning}
 use Rattle.dm_map.specs.Reads.{by_below, read_unit}
+use Rattle.dm_map.specs.Serving.{served_step}
 use Rattle.dm_map.specs.Snapshots.{read_over}
 use Rattle.dm_map.specs.State.{State, taken_at}
 use Rattle.dm_map.specs.Steps.{Step, keep, steps}
@@ -66,6 +69,14 @@ below_step stack op levels b state = by_below b (keep (zero_unit op ∷ []) stat
 abbrev pub stripes_step : Description → Op → ℕ → (chunk : ℕ) → List FoundColumn → State → (distance len : ℕ) → Step
 stripes_step stack op levels chunk columns state distance len =
     steps (λ after place. below_step stack op levels (below_stripes chunk columns place) after) state distance len
+
+-- the step of a sector of the line of an origin's device, through at most this many levels of devices below it, and of len of them
+abbrev pub served_sector : Description → Op → ℕ → FoundOrigin → State → (sector : ℕ) → Step
+served_sector stack ops.Read levels origin state sector = sector_step stack ops.Read levels origin.to state sector
+served_sector stack ops.Write levels origin state sector = served_step stack origin.over (sector_step stack ops.Write levels origin.to) state sector
+
+abbrev pub origin_step : Description → Op → ℕ → FoundOrigin → State → (sector len : ℕ) → Step
+origin_step stack op levels origin state sector len = steps (served_sector stack op levels origin) state sector len
 
 -- a device fails a request as a whole: one for a write, where it is read-only
 abbrev pub refuses : Description → Op → ℕ → Bool
@@ -124,3 +135,8 @@ pub record AreInChunk (stack : Description) (device : ℕ) (snapshot : FoundSnap
 pub record AreReadAt (stack : Description) (state : State) (device : ℕ) (snapshot : FoundSnapshot) (sector len : ℕ) (place : ReadAt) : Type 0 where
   pub lies : (i : ℕ) → i < len → read_over (taken_at state device) snapshot (sector + i) ≡ Lies place.to (place.sector + i)
   pub inside : place.sector + len ≤ lower_len stack place.to
+
+-- len sectors from a sector on are of what an origin's line names, which has the snapshots of that
+pub record AreInOrigin (stack : Description) (origin : FoundOrigin) (sector len : ℕ) : Type 0 where
+  pub over : origin.over ≡ snapshots_over stack origin.to
+  pub inside : sector + len ≤ lower_len stack origin.to

@@ -18,6 +18,7 @@ mod plain_taken;
 mod play;
 mod ready;
 mod run_taken;
+mod serving;
 mod sink;
 mod stretch;
 mod stripe;

@@ -71,7 +71,7 @@ pub(crate) fn make_ready<S: Sink, T: Taken>(
 }
 
 /// Whether there is nothing left to do for a chunk: it was taken, or the snapshot is lost.
-fn is_settled<T: Taken>(walker: &Walker<'_, T>, device: DeviceId, chunk: u64) -> bool
+pub(crate) fn is_settled<T: Taken>(walker: &Walker<'_, T>, device: DeviceId, chunk: u64) -> bool
     requires { device < length walker.now.stack.devices }
     ensures { result ≡ is_settled (taken_at walker.now.state device) chunk }
 {

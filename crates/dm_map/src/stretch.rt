@@ -118,6 +118,7 @@ fn line_stretch<T: Taken>(
             ground: Ground::Fails,
             len,
         },
+        FoundTarget::Origin(origin) => first_stretch(walker, levels, origin.to, distance, len),
         FoundTarget::Snapshot(snapshot) => {
             let part = part_of_chunk(snapshot.chunk, distance, len);
             match read_place(walker, device, snapshot, distance, part) {

@@ -1,35 +1,39 @@
 //! The walk down a stack: hands the units of consecutive sectors to a sink.
 //!
 //! A range goes down as one step: it is cut where a line or a chunk ends, of stripes or of a
-//! snapshot, and nowhere else, and each line that it passes is looked up once. A new target is an arm
+//! snapshot, or, of a write to an origin, where one of its snapshots still needs something, and
+//! nowhere else, and each line that it passes is looked up once. A new target is an arm
 //! of `map_line`, with a loop of its own where it cuts, and one of `line_stretch`, `below_target` and
 //! `write_target`. Each function says which units it hands over, which state it leaves, and, of a
 //! read, how often it searches: at most once a level for each stretch of sectors with one path
 //! (`specs/Path`).
 
 ghost use Rattle.std.specs.Prelude.{◌≡◌, ℕ, ◌+◌, ◌-◌, ◌<◌, ◌≤◌, ◌^◌, Some, length, min};
+ghost use Rattle.dm_table.specs.declared.request.Op.TheVariants.{Write};
 ghost use Rattle.dm_stack.specs.Below.{found_at, IsTargetSound};
 ghost use Rattle.dm_stack.specs.Description.{Description, device_len, lower_len};
 ghost use Rattle.dm_stack.specs.Loaded.{lower_depth};
 ghost use Rattle.dm_stack.specs.Soundness.{depth_of};
-ghost use Rattle.dm_stack.specs.declared.found_line.FoundTarget.TheVariants.{Snapshot, Striped};
+ghost use Rattle.dm_stack.specs.declared.found_line.FoundTarget.TheVariants.{Origin, Snapshot, Striped};
 ghost use Rattle.dm_stack.specs.declared.id.Lower.TheVariants.{Device};
 ghost use Rattle.dm_map.specs.Bound.{IsBounded, IsLineBounded, IsTargetBounded};
 ghost use Rattle.dm_map.specs.Path.{path};
 ghost use Rattle.dm_map.specs.SnapshotWrites.{write_snapshot};
 ghost use Rattle.dm_map.specs.Steps.{steps};
 ghost use Rattle.dm_map.specs.Units.{Fails, diskless_len, piece_len, units_in, units_of, IsOnDisk, IsOnDisks};
-ghost use Rattle.dm_map.specs.Walk.{disk_unit, zero_unit, refuses, range_step, line_step, stripes_step, AreInChunk, AreInSnapshot, AreInStripes, IsHanded, HasRoomFor, IsWalked};
+ghost use Rattle.dm_map.specs.Walk.{disk_unit, zero_unit, refuses, range_step, line_step, origin_step, stripes_step, AreInChunk, AreInOrigin, AreInSnapshot, AreInStripes, IsHanded, HasRoomFor, IsWalked};
 
 use crate::chunk::{part_of_chunk, read_place};
 use crate::piece::Piece;
 use crate::ready::{make_ready, write_store};
+use crate::serving::{serve, settled_part};
 use crate::sink::Sink;
 use crate::stripe::{next_chunk, place_at};
 use crate::taken::Taken;
 use crate::walker::Walker;
 use dm_stack::{
-    DeviceId, DiskId, Divisor, FoundColumn, FoundLine, FoundSnapshot, FoundTarget, Lower,
+    DeviceId, DiskId, Divisor, FoundColumn, FoundLine, FoundOrigin, FoundSnapshot, FoundTarget,
+    Lower,
 };
 use dm_table::Op;
 
@@ -134,6 +138,9 @@ fn map_line<S: Sink, T: Taken>(
         FoundTarget::Error => fail(len, sink),
         FoundTarget::Snapshot(snapshot) => {
             map_snapshot(walker, op, levels, device, snapshot, distance, len, sink)
+        }
+        FoundTarget::Origin(origin) => {
+            map_origin(walker, op, levels, origin, distance, len, sink)
         }
     }
 }
@@ -254,6 +261,68 @@ fn write_chunk<S: Sink, T: Taken>(
         Some(place) => write_store(walker, &place.to, place.sector, len, sink),
         None => sink.piece(Piece::Error { len }),
     }
+}
+
+/// Hands over the units of sectors of an origin's device, through at most this many levels of devices
+/// below it: those of the origin, and of a write first what its snapshots still need.
+///
+/// It is never inlined, as `map_snapshot` is not.
+#[cycle(walk)]
+#[inline(never)]
+fn map_origin<S: Sink, T: Taken>(
+    walker: &mut Walker<'_, T>,
+    op: Op,
+    levels: u32,
+    origin: &FoundOrigin,
+    sector: u64,
+    len: u64,
+    sink: &mut S,
+) -> Result<(), S::Fault>
+    requires some { 1 ≤ len }
+    requires inside { AreInOrigin walker.old.stack origin.now sector len }
+    requires sink { HasRoomFor S.stack S.room sink.old walker.old.stack len }
+    ensures walked { IsWalked S.took S.left S.stack S.room S.faults result sink.old sink.new walker.old walker.new (origin_step walker.old.stack op levels origin.now walker.old.state sector len) len }
+    ensures bounded { (device : ℕ) → IsTargetBounded walker.old walker.new op levels device (Origin origin.now) sector len }
+{
+    match op {
+        Op::Read => map_range(walker, op, levels, origin.to, sector, len, sink),
+        Op::Write => write_origin(walker, levels, origin, sector, len, sink),
+    }
+}
+
+/// Hands over the units of writes to sectors of an origin: its snapshots are made ready for the first
+/// of them, and then as many are written as need nothing more.
+///
+/// A part that was cut short lets the next one look no further than twice as far, so that no part
+/// looks again at all that lies behind it.
+#[cycle(walk)]
+fn write_origin<S: Sink, T: Taken>(
+    walker: &mut Walker<'_, T>,
+    levels: u32,
+    origin: &FoundOrigin,
+    sector: u64,
+    len: u64,
+    sink: &mut S,
+) -> Result<(), S::Fault>
+    requires some { 1 ≤ len }
+    requires inside { AreInOrigin walker.old.stack origin.now sector len }
+    requires sink { HasRoomFor S.stack S.room sink.old walker.old.stack len }
+    ensures { IsWalked S.took S.left S.stack S.room S.faults result sink.old sink.new walker.old walker.new (origin_step walker.old.stack Write levels origin.now walker.old.state sector len) len }
+{
+    walker.is_sound();
+    let over = origin.over.as_slice();
+    let mut from = sector;
+    let mut left = len;
+    let mut most = len;
+    while left > 0 {
+        serve(walker, over, from, sink)?;
+        let part = settled_part(walker, over, from, left.min(most));
+        map_range(walker, Op::Write, levels, origin.to, from, part, sink)?;
+        from += part;
+        left -= part;
+        most = 2 * part;
+    }
+    Ok(())
 }
 
 /// Fails sectors. This is rare, and a sink's call in line would take registers from all others, so it

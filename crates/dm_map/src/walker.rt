@@ -124,6 +124,15 @@ impl<'s, T: Taken> Walker<'s, T> {
         self.looker.is_ro(device)
     }
 
+    /// A walker's state has a table for each device of its stack. It does nothing: its contract is what
+    /// is asked of it.
+    #[inline(always)]
+    pub(crate) fn has_tables(&self)
+        ensures { length self.now.state ≡ length self.now.stack.devices }
+    {
+        self.looker.depth();
+    }
+
     /// A walker's stack is sound. It does nothing: its contract is what is asked of it.
     #[inline(always)]
     pub(crate) fn is_sound(&self)

@@ -3,6 +3,7 @@ use Rattle.std.proofs.Common.{◌≡◌, ℕ, false, List, [], ◌∷◌, None, 
 use Rattle.dm_table.specs.declared.request.Op.{Op}
 use Rattle.dm_table.specs.declared.request.Op.TheVariants.{Read, Write}
 use Rattle.dm_table.specs.declared.table.DevRef.TheVariants as refs
+use Rattle.dm_table.specs.declared.table.StoreKind.TheVariants.{Persistent}
 use Rattle.dm_table.specs.declared.table.Target.TheVariants as targets
 use Rattle.dm_stack.specs.Description.{Description}
 use Rattle.dm_map.specs.Homes.{home_to}
@@ -18,8 +19,8 @@ use Rattle.dm_replay.specs.Values.{Gives, Failed, played_answers}
 -- s, of four sectors, and t, of two, over disk 0; the store of s is disk 1 and has a place for one chunk, that of t is disk 2
 abbrev sample : Description
 sample = record {
-  devices = device 115 false (line 0 4 (targets.Snapshot (refs.Disk (48 ∷ [])) (refs.Disk (49 ∷ [])) 2) ∷ [])
-      ∷ device 116 false (line 0 2 (targets.Snapshot (refs.Disk (48 ∷ [])) (refs.Disk (50 ∷ [])) 2) ∷ []) ∷ [];
+  devices = device 115 false (line 0 4 (targets.Snapshot (refs.Disk (48 ∷ [])) (refs.Disk (49 ∷ [])) Persistent 2) ∷ [])
+      ∷ device 116 false (line 0 2 (targets.Snapshot (refs.Disk (48 ∷ [])) (refs.Disk (50 ∷ [])) Persistent 2) ∷ []) ∷ [];
   disks = disk 48 4 ∷ disk 49 6 ∷ disk 50 6 ∷ [];
 }
 

@@ -3,7 +3,7 @@
 use crate::fixtures::{stack_of, told_after};
 
 /// Tables, disks, a request, and its searches and comparisons.
-static ROWS: [(&str, &str, &str, (u64, u64)); 8] = [
+static ROWS: [(&str, &str, &str, (u64, u64)); 9] = [
     // One stretch of two levels, however long.
     (
         "a: 0 1048576 linear sda 0\nb: 0 1048576 linear /dev/mapper/a 0\n",
@@ -57,6 +57,14 @@ static ROWS: [(&str, &str, &str, (u64, u64)); 8] = [
         "cow 32\n",
         "R s 0 16",
         (3, 0),
+    ),
+    // A write of an origin whose snapshot is lost at its first sector: what follows is one part.
+    (
+        "b: 0 4096 linear base 0\no: 0 4096 snapshot-origin /dev/mapper/b\n\
+            s: 0 4096 snapshot /dev/mapper/b cow P 1\n",
+        "base 4096\ncow 1\n",
+        "W o 0 4096",
+        (2, 0),
     ),
 ];
 

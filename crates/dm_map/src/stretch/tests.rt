@@ -19,21 +19,25 @@ use dm_table::{Op, parse_request};
 use std::alloc::Global;
 use std::process::Abort;
 
-/// Lines of all targets: stripes over a device and a disk, a device over the stripes, and a snapshot
-/// of a snapshot.
+/// Lines of all targets: stripes over a device and a disk, a device over the stripes, a snapshot of a
+/// snapshot, and the device of its origin.
 const TABLE: &str = "a: 0 4 linear sda 10\na: 4 2 zero\na: 6 2 error\n\
     b: 0 8 striped 2 2 /dev/mapper/a 2 sdb 0\nc: 0 3 linear /dev/mapper/b 1\n\
-    s: 0 16 snapshot sda sdc P 4\nt: 0 16 snapshot /dev/mapper/s sdd P 8\n";
+    s: 0 16 snapshot sda sdc P 4\nt: 0 16 snapshot /dev/mapper/s sdd P 8\n\
+    o: 0 16 snapshot-origin /dev/mapper/s\n";
 
 const DISKS: &str = "sda 16\nsdb 4\nsdc 64\nsdd 64\n";
 
 /// A write, a read after it, and how many of its sectors the first stretch has: of a chunk that was
-/// taken, of one that was not, and of one that only the origin took.
-static AFTER_A_WRITE: [(&str, &str, u64); 4] = [
+/// taken, of one that was not, and of one that only the origin took; and of one that a write of the
+/// origin's device took.
+static AFTER_A_WRITE: [(&str, &str, u64); 6] = [
     ("W s 4 1", "R s 0 16", 4),
     ("W t 0 8", "R t 3 13", 5),
     ("W t 0 8", "R t 8 8", 4),
     ("W s 0 16", "R t 2 14", 2),
+    ("W o 0 1", "R t 0 16", 8),
+    ("W o 0 1", "R o 0 16", 4),
 ];
 
 /// A stretch as a piece of a read.
@@ -72,6 +76,8 @@ fn a_stretch_is_the_first_piece_of_a_read(rt: HostRuntime) {
         ("R s 7 9", 1),
         ("R t 0 16", 4),
         ("R t 6 10", 2),
+        ("R o 5 2", 2),
+        ("R o 7 9", 1),
     ] {
         let request = parse_request(line.as_bytes(), 1).expect(&rt, "a request");
         let device = stack.device(request.device).expect(&rt, "a device");

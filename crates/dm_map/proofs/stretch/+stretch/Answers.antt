@@ -5,7 +5,7 @@ use Rattle.dm_stack.specs.declared.found_line.FoundColumn.{FoundColumn}
 use Rattle.dm_stack.specs.declared.found_line.FoundTarget.{FoundTarget}
 use Rattle.dm_stack.specs.declared.found_line.FoundTarget.TheVariants.{Striped}
 use Rattle.dm_stack.specs.declared.id.Lower.{Lower}
-use Rattle.dm_stack.specs.Below.{found_at, IsTargetSound}
+use Rattle.dm_stack.specs.Below.{found_at, IsOriginSound, IsTargetSound}
 use Rattle.dm_stack.specs.Description.{Description, lower_len}
 use Rattle.dm_map.specs.declared.stretch.Ground.{Ground}
 use Rattle.dm_map.specs.declared.stretch.Ground.TheVariants as grounds
@@ -15,7 +15,7 @@ use Rattle.dm_map.specs.Steps.{Step, keep}
 use Rattle.dm_map.specs.Stretch.{ground_unit, IsFirst, IsGroundInStack}
 use Rattle.dm_map.specs.Units.{units_in}
 use Rattle.dm_map.specs.Walk.{Scene, Walking, line_step, range_step, scene, IsPlace}
-use Rattle.dm_map.proofs.Ranges.{range_deepest, range_disk, range_line, line_errors, line_linear, line_striped, line_zeros, stripes_chunk}
+use Rattle.dm_map.proofs.Ranges.{range_deepest, range_disk, range_line, line_errors, line_linear, line_served, line_striped, line_zeros, origin_read, stripes_chunk}
 use Rattle.dm_map.proofs.Chunks.{chunk_read, in_one_chunk, in_snapshot, lost_read}
 use Rattle.dm_map.proofs.Stripes.{column_inside, in_stripes, place_small}
 use Rattle.dm_map.proofs.Rows.{added_then, none_added}
@@ -90,6 +90,20 @@ line_stretch-returns-in-Error g t c =
     let a = c.args in let w = a.walker.now in
     known w _ a.len a.len grounds.Fails c.requires.some (omega arith)
     (ap (λ target. line_step w.stack Read a.levels a.device target w.state a.distance a.len) c.in-Error.is ∙ line_errors w.stack Read a.levels a.device a.distance a.len w.state) tt
+
+pub line_stretch-first_stretch-requires-in-Origin : goal.line_stretch-first_stretch-requires-in-Origin
+line_stretch-first_stretch-requires-in-Origin g t c κs within =
+    let a = c.args in
+    let it : IsOriginSound a.walker.now.stack a.device a.line.now.start a.line.now.len c.in-Origin.origin = subst (λ (target : FoundTarget). IsTargetSound a.walker.now.stack a.device a.line.now.start a.line.now.len target) c.in-Origin.is c.requires.sound in
+    let same = it.same in
+    let there : a.distance + a.len ≤ lower_len a.walker.now.stack c.in-Origin.origin.to = omega (arith, same, c.requires.inside) in
+    search rules
+
+pub line_stretch-returns-in-Origin : goal.line_stretch-returns-in-Origin
+line_stretch-returns-in-Origin g t c =
+    let a = c.args in let w = a.walker.now in let n = c.first_stretch-in-Origin.result.len in
+    below w _ _ _ a.len a.len _ c.first_stretch-in-Origin.ensures (omega arith)
+    (ap (λ target. line_step w.stack Read a.levels a.device target w.state a.distance n) c.in-Origin.is ∙ line_served w.stack Read a.levels a.device c.in-Origin.origin a.distance n w.state ∙ origin_read w.stack a.levels c.in-Origin.origin a.distance n w.state)
 
 -- Stripes
 

@@ -1,14 +1,16 @@
 use Rattle.std.proofs.Common.{rules, ◌≡◌, ℕ, suc, ◌+◌, ◌-◌, ◌^◌, ◌<◌, ◌≤◌, false, List, Some, length, get_or, refl, sym, ap, subst, ◌∙◌, arith}
 use Rattle.std.specs.Prelude.{Result}
 use Rattle.dm_table.specs.declared.request.Op.{Op}
+use Rattle.dm_table.specs.declared.request.Op.TheVariants.{Write}
 use Rattle.dm_stack.specs.declared.found_line.FoundColumn.{FoundColumn}
 use Rattle.dm_stack.specs.declared.found_line.FoundLine.{FoundLine}
+use Rattle.dm_stack.specs.declared.found_line.FoundOrigin.{FoundOrigin}
 use Rattle.dm_stack.specs.declared.found_line.FoundTarget.{FoundTarget}
 use Rattle.dm_stack.specs.declared.found_line.FoundSnapshot.{FoundSnapshot}
-use Rattle.dm_stack.specs.declared.found_line.FoundTarget.TheVariants.{Linear, Striped, Zero, Error, Snapshot}
+use Rattle.dm_stack.specs.declared.found_line.FoundTarget.TheVariants.{Linear, Striped, Zero, Error, Snapshot, Origin}
 use Rattle.dm_stack.specs.declared.id.Lower.{Lower}
 use Rattle.dm_stack.specs.declared.id.Lower.TheVariants.{Device, Disk}
-use Rattle.dm_stack.specs.Below.{HoldsSoundly, below_stripes, found_at}
+use Rattle.dm_stack.specs.Below.{HoldsSoundly, IsOriginSound, IsTargetSound, below_stripes, found_at}
 use Rattle.dm_stack.specs.Description.{Description, lower_len}
 use Rattle.dm_stack.specs.Loaded.{lower_depth}
 use Rattle.dm_stack.specs.Soundness.{depth_of}
@@ -19,14 +21,15 @@ use Rattle.dm_map.specs.Path.{chunk_at, path}
 use Rattle.dm_map.specs.Units.{BlockUnit, Fails, diskless_len, units_in}
 use Rattle.dm_map.specs.Mapping.{sector_step}
 use Rattle.dm_map.specs.Steps.{keep}
-use Rattle.dm_map.specs.Walk.{Scene, Walking, below_step, disk_unit, zero_unit, refuses, range_step, line_step, scene, stripes_step, target_step, IsPlace, IsWalked}
-use Rattle.dm_map.proofs.Bounds.{FirstOfChunk, bound_more, chunk_bound, chunks_on, first_next, line_before, line_kept, linear_bound, lines_on, range_kept, stripe_bound, stripes_kept}
+use Rattle.dm_map.specs.Walk.{Scene, Walking, below_step, disk_unit, zero_unit, refuses, origin_step, range_step, line_step, scene, served_sector, stripes_step, target_step, AreInOrigin, IsPlace, IsWalked}
+use Rattle.dm_map.proofs.Bounds.{FirstOfChunk, bound_more, chunk_bound, chunks_on, first_next, line_before, line_kept, linear_bound, lines_on, origin_bound, range_kept, stripe_bound, stripes_kept}
 use Rattle.dm_map.proofs.Chunks.{chunk_read, in_one_chunk, in_snapshot, lost_read, write_line_step}
-use Rattle.dm_map.proofs.There.{device_there}
-use Rattle.dm_map.proofs.Ranges.{range_deepest, range_disk, range_refused, range_line, stripes_chunk, line_errors, line_linear, line_striped, line_zeros}
+use Rattle.dm_map.proofs.There.{device_there, lower_small}
+use Rattle.dm_map.proofs.Ranges.{range_deepest, range_disk, range_refused, range_line, stripes_chunk, line_errors, line_linear, line_served, line_striped, line_zeros, origin_read}
+use Rattle.dm_map.proofs.OriginParts.{line_overs, part_walked, serve_failed}
 use Rattle.dm_map.proofs.Rows.{walked_as, walked_piece}
 use Rattle.dm_map.proofs.Stripes.{column_inside, place_small}
-use Rattle.dm_map.proofs.WalkedOn.{cut_on, walked_after_look, walked_on}
+use Rattle.dm_map.proofs.WalkedOn.{cut_on, going_on, walked_after_look, walked_none, walked_on}
 use Rattle.dm_map.proofs.walk.+walk.Goals as goal
 use Rattle.dm_map.proofs.walk.+walk.Goals.{map_device-then-levels-eq0-via-then-levels-eq0, map_device-then-levels-eq0-via-else-levels-eq0+then-refuses}
 
@@ -346,3 +349,120 @@ map_chunk-returns-in-None-clause-walked g t c =
     walked_piece g.S.Sink.took g.S.Sink.left g.S.Sink.stack g.S.Sink.room g.S.Sink.faults p.result a.sink.now p.new.self w _ _ a.len a.len
     (sym (lost_read w.stack a.levels a.device a.sector a.len a.snapshot.now w.state c.in-None.ensures.lost) ∙ ap (λ (op : Op). line_step w.stack op a.levels a.device (Snapshot a.snapshot.now) w.state a.sector a.len) (sym c.in-Read.is)) (omega arith)
     p.ensures.took p.ensures.left p.ensures.faults p.ensures.stack p.ensures.room
+
+-- An origin
+
+in_origin : (stack : Description) (device start len distance n : ℕ) (target : FoundTarget) (origin : FoundOrigin) → target ≡ Origin origin → IsTargetSound stack device start len target → distance + n ≤ len → AreInOrigin stack origin distance n
+in_origin stack device start len distance n target origin is sound inside =
+    let it : IsOriginSound stack device start len origin = subst (λ (t : FoundTarget). IsTargetSound stack device start len t) is sound in
+    let same = it.same in
+    record { over = it.over; inside = omega (arith, same, inside) }
+
+pub map_line-map_origin-requires : goal.map_line-map_origin-requires
+map_line-map_origin-requires g t c κs within =
+    let a = c.args in
+    let inside = in_origin a.walker.now.stack a.device a.line.now.start a.line.now.len a.distance a.len a.line.now.target c.in-Origin.origin c.in-Origin.is c.requires.sound c.requires.inside in
+    search rules
+
+pub map_line-returns-in-Origin-clause-walked : goal.map_line-returns-in-Origin-clause-walked
+map_line-returns-in-Origin-clause-walked g t c =
+    let a = c.args in let w = a.walker.now in let walk = c.map_origin in
+    walked_as g.S.Sink.took g.S.Sink.left g.S.Sink.stack g.S.Sink.room g.S.Sink.faults walk.result a.sink.now walk.new.sink w walk.new.walker _ _ a.len
+    (sym (line_served w.stack a.op a.levels a.device c.in-Origin.origin a.distance a.len w.state) ∙ ap (λ (target : FoundTarget). line_step w.stack a.op a.levels a.device target w.state a.distance a.len) (sym c.in-Origin.is)) walk.ensures.walked
+
+pub map_origin-returns-in-Read-clause-walked : goal.map_origin-returns-in-Read-clause-walked
+map_origin-returns-in-Read-clause-walked g t c =
+    let a = c.args in let w = a.walker.now in let walk = c.map_range in
+    walked_as g.S.Sink.took g.S.Sink.left g.S.Sink.stack g.S.Sink.room g.S.Sink.faults walk.result a.sink.now walk.new.sink w walk.new.walker _ _ a.len
+    (ap (λ (op : Op). range_step w.stack op a.levels a.origin.now.to w.state a.sector a.len) c.in-Read.is ∙ sym (origin_read w.stack a.levels a.origin.now a.sector a.len w.state)
+    ∙ ap (λ (op : Op). origin_step w.stack op a.levels a.origin.now w.state a.sector a.len) (sym c.in-Read.is)) walk.ensures.walked
+
+pub map_origin-returns-in-Read-clause-bounded : goal.map_origin-returns-in-Read-clause-bounded
+map_origin-returns-in-Read-clause-bounded g t c device line found kind =
+    let a = c.args in origin_bound a.walker.now c.map_range.new.walker a.op a.levels device line a.origin.now a.sector a.len found kind c.map_range.ensures.bounded
+
+pub map_origin-returns-in-Write-clause-walked : goal.map_origin-returns-in-Write-clause-walked
+map_origin-returns-in-Write-clause-walked g t c =
+    let a = c.args in let w = a.walker.now in let walk = c.write_origin in
+    walked_as g.S.Sink.took g.S.Sink.left g.S.Sink.stack g.S.Sink.room g.S.Sink.faults walk.result a.sink.now walk.new.sink w walk.new.walker _ _ a.len
+    (ap (λ (op : Op). origin_step w.stack op a.levels a.origin.now w.state a.sector a.len) (sym c.in-Write.is)) walk.ensures
+
+-- A write of it, part by part
+
+pub write_origin-loop-left-init : goal.write_origin-loop-left-init
+write_origin-loop-left-init g t c =
+    let a = c.args in let w = a.walker.now in
+    let none : a.len - a.len ≡ 0 = omega arith in
+    record {
+      walked = subst (λ (n : ℕ). IsWalked g.S.Sink.took g.S.Sink.left g.S.Sink.stack g.S.Sink.room g.S.Sink.faults going_on a.sink.now a.sink.now w w (origin_step w.stack Write a.levels a.origin.now w.state a.sector n) n) (sym none)
+          (walked_none g.S.Sink.took g.S.Sink.left g.S.Sink.stack g.S.Sink.room g.S.Sink.faults a.sink.now w (g.met.S.Sink.took_nothing a.sink.now));
+      within = omega arith;
+      place = refl;
+      some = c.requires.some;
+    }
+
+pub write_origin-serve-requires : goal.write_origin-serve-requires
+write_origin-serve-requires g t c = record {
+  over =
+      let a = c.args in let l = c.loop-left in
+      line_overs a.walker.now.stack l.walker.stack a.origin.now c.as_slice-over.result.now a.sector a.len (l.from + 1) c.is_sound.ensures l.invariant.walked.stack c.as_slice-over.ensures c.requires.inside (omega (arith, l.invariant.place, c.loop-left-test.true));
+  sink = let l = c.loop-left in record { stack = l.invariant.walked.kept ∙ c.requires.sink.stack ∙ sym l.invariant.walked.stack; room = omega arith };
+}
+
+pub write_origin-returns-in_err-serve : goal.write_origin-returns-in_err-serve
+write_origin-returns-in_err-serve g t c =
+    let a = c.args in let w = a.walker.now in let l = c.loop-left in let done = a.len - l.left in
+    cut_on g.S.Sink.took g.S.Sink.left g.S.Sink.stack g.S.Sink.room g.S.Sink.faults g.met.S.Sink.took_then_left _ c.from_residual.result a.sink.now l.sink c.serve.new.sink w l.walker c.serve.new.walker
+    (served_sector w.stack Write a.levels a.origin.now) a.sector done l.left a.len c.from_residual.ensures.0 (omega (arith, l.invariant.within)) l.invariant.walked
+    (serve_failed g.S.Sink.took g.S.Sink.left g.S.Sink.stack g.S.Sink.room g.S.Sink.faults _ l.sink c.serve.new.sink w.stack l.walker c.serve.new.walker a.levels l.from (a.sector + done) l.left a.origin.now c.as_slice-over.result.now
+    l.invariant.walked.stack c.as_slice-over.ensures (omega (arith, l.invariant.place, l.invariant.within)) (omega (arith, c.loop-left-test.true)) c.in_err-serve.ensures.walked)
+
+pub write_origin-settled_part-part-requires : goal.write_origin-settled_part-part-requires
+write_origin-settled_part-part-requires g t c =
+    let a = c.args in let w = a.walker.now in let l = c.loop-left in let most = c.min.result in
+    let small = lower_small w.stack a.origin.now.to c.is_sound.ensures in
+    record {
+      over = line_overs w.stack c.serve.new.walker.stack a.origin.now c.as_slice-over.result.now a.sector a.len (l.from + most) c.is_sound.ensures (c.in_ok-serve.ensures.walked.stack ∙ l.invariant.walked.stack) c.as_slice-over.ensures c.requires.inside (omega (arith, l.invariant.place, c.min.ensures));
+      some = omega (arith, c.min.ensures, c.loop-left-test.true, l.invariant.some);
+      small = omega (arith, small, c.requires.inside.inside, l.invariant.place, c.min.ensures);
+      here = c.in_ok-serve.ensures.settled;
+    }
+
+pub write_origin-map_range-requires : goal.write_origin-map_range-requires
+write_origin-map_range-requires g t c κs within =
+    let a = c.args in let w = a.walker.now in let l = c.loop-left in let s = c.settled_part-part.ensures in
+    let some = s.some in
+    let stack : c.serve.new.walker.stack ≡ w.stack = c.in_ok-serve.ensures.walked.stack ∙ l.invariant.walked.stack in
+    let there : l.from + c.settled_part-part.result ≤ lower_len c.serve.new.walker.stack a.origin.now.to = subst (λ (d : Description). l.from + c.settled_part-part.result ≤ lower_len d a.origin.now.to) (sym stack) (omega (arith, s.most, c.min.ensures, c.requires.inside.inside, l.invariant.place)) in
+    search rules
+
+pub write_origin-returns-in_err-map_range : goal.write_origin-returns-in_err-map_range
+write_origin-returns-in_err-map_range g t c =
+    let a = c.args in let w = a.walker.now in let l = c.loop-left in let n = c.settled_part-part.result in let done = a.len - l.left in
+    cut_on g.S.Sink.took g.S.Sink.left g.S.Sink.stack g.S.Sink.room g.S.Sink.faults g.met.S.Sink.took_then_left _ c.from_residual-in_err-map_range.result a.sink.now l.sink c.map_range.new.sink w l.walker c.map_range.new.walker
+    (served_sector w.stack Write a.levels a.origin.now) a.sector done n a.len c.from_residual-in_err-map_range.ensures.0 (omega (arith, c.settled_part-part.ensures.most, c.min.ensures, l.invariant.within)) l.invariant.walked
+    (part_walked g.S.Sink.took g.S.Sink.left g.S.Sink.stack g.S.Sink.room g.S.Sink.faults g.met.S.Sink.took_then_took g.met.S.Sink.took_then_left _ _ l.sink c.serve.new.sink c.map_range.new.sink w.stack l.walker c.serve.new.walker c.map_range.new.walker a.levels l.from (a.sector + done) n a.origin.now c.as_slice-over.result.now
+    l.invariant.walked.stack c.as_slice-over.ensures (omega (arith, l.invariant.place, l.invariant.within)) c.settled_part-part.ensures.some c.in_ok-serve.ensures.walked c.settled_part-part.ensures.settled c.in_err-map_range.ensures.walked)
+
+pub write_origin-overflow_add-from : goal.write_origin-overflow_add-from
+write_origin-overflow_add-from g t c =
+    let small = lower_small c.args.walker.now.stack c.args.origin.now.to c.is_sound.ensures in
+    omega (arith, small, c.requires.inside.inside, c.loop-left.invariant.place, c.settled_part-part.ensures.most, c.min.ensures)
+
+pub write_origin-overflow_mul-most : goal.write_origin-overflow_mul-most
+write_origin-overflow_mul-most g t c =
+    let small = lower_small c.args.walker.now.stack c.args.origin.now.to c.is_sound.ensures in
+    omega (arith, small, c.requires.inside.inside, c.loop-left.invariant.within, c.settled_part-part.ensures.most, c.min.ensures)
+
+pub write_origin-loop-left-preserved : goal.write_origin-loop-left-preserved
+write_origin-loop-left-preserved g t c =
+    let a = c.args in let w = a.walker.now in let l = c.loop-left in let n = c.settled_part-part.result in let done = a.len - l.left in
+    let on : done + n ≡ a.len - (l.left - n) = omega (arith, c.settled_part-part.ensures.most, c.min.ensures, l.invariant.within) in
+    record {
+      walked = walked_on g.S.Sink.took g.S.Sink.left g.S.Sink.stack g.S.Sink.room g.S.Sink.faults g.met.S.Sink.took_then_took _ a.sink.now l.sink c.map_range.new.sink w l.walker c.map_range.new.walker (served_sector w.stack Write a.levels a.origin.now) a.sector done n _ on l.invariant.walked
+          (part_walked g.S.Sink.took g.S.Sink.left g.S.Sink.stack g.S.Sink.room g.S.Sink.faults g.met.S.Sink.took_then_took g.met.S.Sink.took_then_left _ _ l.sink c.serve.new.sink c.map_range.new.sink w.stack l.walker c.serve.new.walker c.map_range.new.walker a.levels l.from (a.sector + done) n a.origin.now c.as_slice-over.result.now
+          l.invariant.walked.stack c.as_slice-over.ensures (omega (arith, l.invariant.place, l.invariant.within)) c.settled_part-part.ensures.some c.in_ok-serve.ensures.walked c.settled_part-part.ensures.settled c.in_ok-map_range.ensures.walked);
+      within = omega (arith, l.invariant.within);
+      place = omega (arith, l.invariant.place, c.settled_part-part.ensures.most, c.min.ensures);
+      some = omega (arith, c.settled_part-part.ensures.some);
+    }

@@ -1,10 +1,11 @@
 use Rattle.std.proofs.Common.{◌≡◌, ℕ, ◌+◌, ◌-◌, ◌*◌, ◌<◌, ◌≤◌, length}
+use Rattle.dm_table.specs.declared.request.Op.TheVariants.{Write}
 use Rattle.dm_stack.specs.declared.found_line.FoundTarget.TheVariants.{Snapshot, Striped}
 use Rattle.dm_stack.specs.declared.id.Lower.TheVariants.{Device}
 use Rattle.dm_stack.specs.Soundness.{depth_of}
 use Rattle.dm_map.specs.Bound.{IsBounded, IsTargetBounded}
 use Rattle.dm_map.specs.Path.{path}
-use Rattle.dm_map.specs.Walk.{range_step, line_step, stripes_step, IsPlace, IsWalked}
+use Rattle.dm_map.specs.Walk.{range_step, line_step, origin_step, stripes_step, IsPlace, IsWalked}
 use Rattle.dm_map.proofs.Bounds.{FirstOfChunk, LineBefore}
 use Rattle.dm_map.proofs.WalkedOn.{going_on}
 use Rattle.dm_map.proofs.walk.+walk.Given as goal
@@ -26,6 +27,12 @@ decreases-map_snapshot g l = 5 * l.levels + 3
 
 abbrev pub decreases-map_chunk : goal.decreases-map_chunk
 decreases-map_chunk g l = 5 * l.levels + 2
+
+abbrev pub decreases-map_origin : goal.decreases-map_origin
+decreases-map_origin g l = 5 * l.levels + 3
+
+abbrev pub decreases-write_origin : goal.decreases-write_origin
+decreases-write_origin g l = 5 * l.levels + 2
 
 abbrev pub invariant-map_device-loop-left : goal.invariant-map_device-loop-left
 invariant-map_device-loop-left g l = record {
@@ -62,3 +69,14 @@ invariant-map_snapshot-loop-left g l = record {
 
 abbrev pub decreases-map_snapshot-loop-left : goal.decreases-map_snapshot-loop-left
 decreases-map_snapshot-loop-left g l = l.left
+
+abbrev pub invariant-write_origin-loop-left : goal.invariant-write_origin-loop-left
+invariant-write_origin-loop-left g l = record {
+  walked : IsWalked g.S.Sink.took g.S.Sink.left g.S.Sink.stack g.S.Sink.room g.S.Sink.faults going_on l.fn.sink l.sink l.fn.walker l.walker (origin_step l.fn.walker.stack Write l.levels l.origin l.fn.walker.state l.sector (l.len - l.left)) (l.len - l.left);
+  within : l.left ≤ l.len;
+  place : l.from + l.left ≡ l.sector + l.len;
+  some : 1 ≤ l.most;
+}
+
+abbrev pub decreases-write_origin-loop-left : goal.decreases-write_origin-loop-left
+decreases-write_origin-loop-left g l = l.left

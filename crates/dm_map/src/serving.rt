@@ -1,0 +1,88 @@
+//! The snapshots of an origin: what a write to the origin's device does before it writes.
+//!
+//! In each of them the chunk of a sector is made ready, so that it keeps what the origin had there.
+//! Then as many sectors are written as need no more of it: a range is cut where a snapshot has
+//! something left to do, and not wherever a chunk ends.
+
+ghost use Rattle.std.specs.Prelude.{◌≡◌, ℕ, ◌+◌, ◌/◌, ◌<◌, ◌≤◌, ◌^◌, OnOk, true};
+ghost use Rattle.std.specs.List.{All};
+ghost use Rattle.dm_map.specs.Serving.{serve, AreSettled, IsOver};
+ghost use Rattle.dm_map.specs.SnapshotWrites.{is_settled};
+ghost use Rattle.dm_map.specs.State.{taken_at};
+ghost use Rattle.dm_map.specs.Walk.{HasRoomFor, IsWalked};
+
+use crate::chunk::part_of_chunk;
+use crate::ready::{is_settled, make_ready};
+use crate::sink::Sink;
+use crate::taken::Taken;
+use crate::walker::Walker;
+use dm_stack::FoundOver;
+
+/// Makes the chunk of a sector of an origin ready in each of its snapshots, in their order.
+pub(crate) fn serve<S: Sink, T: Taken>(
+    walker: &mut Walker<'_, T>,
+    over: &[FoundOver],
+    sector: u64,
+    sink: &mut S,
+) -> Result<(), S::Fault>
+    requires over { All (IsOver walker.old.stack (sector + 1)) over.now }
+    requires sink { HasRoomFor S.stack S.room sink.old walker.old.stack 0 }
+    ensures walked { IsWalked S.took S.left S.stack S.room S.faults result sink.old sink.new walker.old walker.new (serve walker.old.stack over.now sector walker.old.state) 0 }
+    ensures settled { OnOk result (AreSettled walker.new.state over.now sector) }
+{
+    walker.is_sound();
+    walker.has_tables();
+    for one in over {
+        let chunk = sector / one.snapshot.chunk;
+        make_ready(walker, one.device, &one.snapshot, chunk, sink)?;
+    }
+    Ok(())
+}
+
+/// How many of at most `most` sectors of an origin, from `sector` on, lie in chunks for which nothing
+/// is left to do, in all of its snapshots. Those of `sector` itself do.
+///
+/// It only looks, at each chunk at most once, and at none of a snapshot that is lost.
+pub(crate) fn settled_part<T: Taken>(
+    walker: &Walker<'_, T>,
+    over: &[FoundOver],
+    sector: u64,
+    most: u64,
+) -> u64
+    requires over { All (IsOver walker.now.stack (sector + most)) over.now }
+    requires some { 1 ≤ most }
+    requires small { sector + most ≤ 2 ^ 50 }
+    requires here { AreSettled walker.now.state over.now sector }
+    ensures some { 1 ≤ result }
+    ensures most { result ≤ most }
+    ensures settled { (i : ℕ) → i < result → AreSettled walker.now.state over.now (sector + i) }
+{
+    let mut part = most;
+    for one in over {
+        part = settled_in(walker, one, sector, part);
+    }
+    part
+}
+
+/// How many of at most `most` sectors of a snapshot, from `sector` on, lie in chunks for which nothing
+/// is left to do, as nothing is for that of `sector`.
+fn settled_in<T: Taken>(walker: &Walker<'_, T>, one: &FoundOver, sector: u64, most: u64) -> u64
+    requires over { IsOver walker.now.stack (sector + most) one.now }
+    requires some { 1 ≤ most }
+    requires small { sector + most ≤ 2 ^ 50 }
+    requires here { is_settled (taken_at walker.now.state one.now.device) (sector / one.now.snapshot.chunk) ≡ true }
+    ensures some { 1 ≤ result }
+    ensures most { result ≤ most }
+    ensures settled { (i : ℕ) → i < result → is_settled (taken_at walker.now.state one.now.device) ((sector + i) / one.now.snapshot.chunk) ≡ true }
+{
+    walker.is_sound();
+    if !walker.is_valid(one.device) {
+        return most;
+    }
+    let size = one.snapshot.chunk;
+    let mut part = part_of_chunk(size, sector, most);
+    while part < most && is_settled(walker, one.device, (sector + part) / size) {
+        part += part_of_chunk(size, sector + part, most - part);
+    }
+    part
+}
