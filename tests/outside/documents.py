@@ -16,6 +16,7 @@ RUNS = [
     ("map table volume.table disks.txt", "requests.txt"),
     ("map table stack.table stack-disks.txt", "stack-requests.txt"),
     ("map table snapshot.table snapshot-disks.txt --status", "snapshot-requests.txt"),
+    ("map table origin.table snapshot-disks.txt", "origin-requests.txt"),
     ("map lvm vg0.backup", "vg0-requests.txt"),
     ("map concise volume.concise disks.txt", "requests.txt"),
     ("table lvm vg0.backup", None),

@@ -87,6 +87,9 @@ WRITES = [
     # A read-only origin serves nothing.
     ("o,,,ro,0 16 snapshot-origin base;s,,,,0 16 snapshot base cow P 8", DISKS, "W o 0 1\nR o 0 1\nR s 0 16\n",
      "1 error 1\n2 R base 0 1\n3 R base 0 16\ns: 0 16 snapshot 16/32 16\n"),
+    # A write that passes the end serves nothing either.
+    ("o,,,,0 16 snapshot-origin base;s,,,,0 16 snapshot base cow P 8", DISKS, "W o 15 2\n",
+     "1 error 2\ns: 0 16 snapshot 16/32 16\n"),
     # What fails or drops the write was preceded by the copies.
     ("r,,,ro,0 16 linear base 0;o,,,,0 16 snapshot-origin /dev/mapper/r;s,,,,0 16 snapshot /dev/mapper/r cow P 8", DISKS,
      "W o 0 1\n", "1 copy base 0 8 cow 16\n1 error 1\ns: 0 16 snapshot 24/32 16\n"),
@@ -115,6 +118,9 @@ WRITES = [
      "1 copy sda 8 4 c4 12\n1 copy sda 8 8 c16 48\n1 copy sdb 8 8 c16 56\n1 W sda 8 2\n"
      "s: 0 32 snapshot 16/64 8\nt: 0 32 snapshot 64/64 32\n"),
 ]
+
+# The length of an origin with eight snapshots in chunks of 1,024 sectors: that of the longest request.
+LENGTH, SNAPSHOTS = 1048576, 8
 
 
 def small_stack(dice):
@@ -191,10 +197,30 @@ def check(tally, program):
     for source, disks, requests, output in WRITES:
         got = snapshots.run(program, source, disks, requests, "--status")
         tally.same("requests of %s" % source, got, 0, output)
+    got = program.run(["replay", "table", program.file("table", ORIGIN + OVER), program.file("disks", DISKS)],
+                      given="W o 0 4\nR s 0 8\nR o 0 8\n")
+    tally.same("the replay of a written origin", got, 0,
+               "1 wrote 1 0 4\n2 old base 0 8\n3 wrote 1 0 4\n3 old base 4 4\n")
+    check_long(tally, program)
     for seed in range(ROUNDS):
         check_requests(tally, program, random.Random(seed))
         check_replay(tally, program, random.Random(seed))
         check_claims(tally, program, random.Random(seed))
+
+
+def check_long(tally, program):
+    """Each chunk is copied to each snapshot and then written; the second time it is only written."""
+    source = "o,,,,0 %d snapshot-origin base" % LENGTH
+    source += "".join(";s%d,,,,0 %d snapshot base c%d P 1024" % (it, LENGTH, it) for it in range(SNAPSHOTS))
+    disks = "base %d\n" % LENGTH + "".join("c%d %d\n" % (it, LENGTH + 2048) for it in range(SNAPSHOTS))
+    wanted = ""
+    for at in range(0, LENGTH, 1024):
+        wanted += "".join("1 copy base %d 1024 c%d %d\n" % (at, it, at + 2048) for it in range(SNAPSHOTS))
+        wanted += "1 W base %d 1024\n" % at
+    wanted += "2 W base 0 %d\n" % LENGTH
+    wanted += "".join("s%d: 0 %d snapshot %d/%d 2048\n" % (it, LENGTH, LENGTH + 2048, LENGTH + 2048) for it in range(SNAPSHOTS))
+    got = snapshots.run(program, source, disks, 2 * ("W o 0 %d\n" % LENGTH), "--status")
+    tally.same("the longest request of an origin with %d snapshots" % SNAPSHOTS, got, 0, wanted)
 
 
 def check_requests(tally, program, dice):

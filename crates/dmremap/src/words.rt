@@ -128,6 +128,7 @@ Lines
             NAME: START LEN zero
             NAME: START LEN error
             NAME: START LEN snapshot ORIGIN STORE P CHUNK
+            NAME: START LEN snapshot-origin DEV
   DISKS     DISK LEN
   requests  R NAME START LEN      a read
             W NAME START LEN      a write
