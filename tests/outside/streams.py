@@ -4,8 +4,10 @@ import os
 import resource
 import select
 import signal
+import socket
 import subprocess
 import tempfile
+import time
 
 from harness import Outcome, failing_input
 
@@ -13,7 +15,8 @@ TABLE = "a: 0 4096 striped 2 1 sda 0 sdb 0\n"
 DISKS = "sda 2048\nsdb 2048\n"
 SHORT = "R a 0 2\n"
 SHORT_ANSWER = "1 R sda 0 1\n1 R sdb 0 1\n"
-# Its answer goes out in many writes.
+# Its answer has some 30,000 bytes, which are passed on together, and that of the next goes out in many writes.
+WIDE = "R a 0 2048\n"
 LONG = "R a 0 4096\n" * 20
 BAD = "R b 0 1\n"
 # One snapshot is written, and the other runs out of places.
@@ -27,6 +30,8 @@ UNREAD = "dmremap: requests: read\n"
 def check(tally, program):
     check_output(tally, program)
     check_reader(tally, program)
+    check_full_pauses(tally, program)
+    check_gone_pauses(tally, program)
     check_beginnings(tally, program)
     check_each_beginning(tally, program)
     check_requests(tally, program)
@@ -64,6 +69,92 @@ def check_reader(tally, program):
         message = ran.stderr.read()
         ran.stderr.close()
         tally.same("a reader that goes away " + name, Outcome(ran.wait(), b"", message), 5, "", UNWRITTEN)
+
+
+def check_full_pauses(tally, program):
+    """An output that takes nothing more, and fails at once, while the program waits for requests, and has room again
+    before they come. What it did not take is lost, and nothing may be written after it."""
+    words = ["table", program.file("table", TABLE), program.file("disks", DISKS)]
+    ends = [("a clean end", ""), ("another request", SHORT), ("a bad request", BAD), ("a failed read", None)]
+    for command in ("map", "replay"):
+        for room, given in ((0, SHORT), (3 * 4096, WIDE)):
+            whole = program.run([command, *words], given=given).out
+            for name, rest in ends:
+                name = "%s, an output with room for %d bytes before a pause, and then %s" % (command, room, name)
+                got, wrote, later = run_full(program, [command, *words], room, given, rest)
+                tally.same(name, got, 5, "", UNWRITTEN)
+                tally.holds(name + ": what was written", wrote == whole[:room] != whole and not later,
+                            "%d bytes before the pause and %d after it" % (len(wrote), len(later)))
+
+
+def run_full(program, words, room, given, rest):
+    """Runs the program with so much room in its output until it waits for `rest`, or for its input to fail. Returns how it
+    ended, and what it wrote until it waited and after that."""
+    here, there = full_pipe(room)
+    near, far = socket.socketpair()
+    # A byte that nobody reads makes the close of that end a fault of this one.
+    near.send(b"-")
+    ran = subprocess.Popen([program.path, *words], stdin=near, stdout=there, stderr=subprocess.PIPE)
+    os.close(there)
+    far.send(given.encode())
+    await_pause(ran.pid)
+    wrote = os.read(here, 1 << 20).lstrip(b"-")
+    if rest is not None:
+        far.send(rest.encode())
+        far.shutdown(socket.SHUT_WR)
+        ran.wait()
+    far.close()
+    near.close()
+    message = ran.stderr.read()
+    ran.stderr.close()
+    status = ran.wait()
+    later = os.read(here, 1 << 20)
+    os.close(here)
+    return Outcome(status, b"", message), wrote, later
+
+
+def full_pipe(room):
+    """The two ends of a pipe that has only so much room, in pages of 4,096 bytes, and does not wait for more."""
+    here, there = os.pipe()
+    os.set_blocking(here, False)
+    os.set_blocking(there, False)
+    try:
+        while True:
+            os.write(there, b"-" * 4096)
+    except BlockingIOError:
+        if room:
+            os.read(here, room)
+    return here, there
+
+
+def check_gone_pauses(tally, program):
+    """A reader that goes away while the program waits for requests."""
+    for command, answer in (("map", SHORT_ANSWER), ("replay", "1 old sda 0 1\n1 old sdb 0 1\n")):
+        words = [program.path, command, "table", program.file("table", TABLE), program.file("disks", DISKS)]
+        for name, rest in (("a clean end", ""), ("another request", SHORT), ("a bad request", BAD)):
+            ran = subprocess.Popen(words, stdin=subprocess.PIPE, stdout=subprocess.PIPE, stderr=subprocess.PIPE, bufsize=0)
+            ran.stdin.write(SHORT.encode())
+            wrote = read_soon(ran.stdout, len(answer))
+            ran.stdout.close()
+            ran.stdin.write(SHORT.encode())
+            await_pause(ran.pid)
+            ran.stdin.write(rest.encode())
+            ran.stdin.close()
+            message = ran.stderr.read()
+            ran.stderr.close()
+            tally.same("%s, a reader that goes away in a pause, and then %s" % (command, name),
+                       Outcome(ran.wait(), wrote, message), 5, answer, UNWRITTEN)
+
+
+def await_pause(process):
+    """Waits until a process has been asleep for a while: then it waits for what it has not been given yet. Or it has ended."""
+    still = 0
+    for _ in range(500):
+        with open("/proc/%d/stat" % process) as stat:
+            still = still + 1 if stat.read().rpartition(")")[2].split()[0] in "SZ" else 0
+        if still == 5:
+            return
+        time.sleep(0.02)
 
 
 def check_beginnings(tally, program):

@@ -86,8 +86,8 @@ pub trait Output {
         Ok(())
     }
 
-    /// Passes on what was gathered, without a flush, as far as that succeeds. It is called before a wait,
-    /// and nothing else depends on it.
+    /// Passes on what was gathered, without a flush, as far as that succeeds. It is called before a wait.
+    /// A fault that it meets is none of this call: the next write, `put` or flush fails.
     fn hand_on(&mut self)
         ensures bytes { written self.new ≡ written self.old }
         ensures waiting { waiting self.new ≡ waiting self.old }

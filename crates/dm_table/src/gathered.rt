@@ -2,9 +2,13 @@
 //!
 //! A system call for each line would cost many times what the line does. A text is put where it
 //! belongs in the block, whose last part is room for one, so nothing has to be asked before it.
+//! One test before each text finds that the block is full, or that the other output failed: the
+//! limit is 0 then.
 
-ghost use Rattle.std.specs.Prelude.{◌≡◌, ◌+◌, ◌-◌, ◌<◌, ◌≤◌, ◌++◌, [], length, slice_range, take, OnOk};
-ghost use Rattle.dm_table.specs.DeviceIo.{fault_of};
+ghost use Rattle.std.specs.Prelude.{◌≡◌, ◌↔◌, ◌+◌, ◌-◌, ◌<◌, ◌≤◌, ◌++◌, [], false, length, slice_range, take, true, IfOk, IsErr, OnOk, nat_lt};
+ghost use Rattle.dm_table.specs.DeviceIo.{fault_of, given, unflushed};
+ghost use Rattle.dm_table.specs.Gathered.{HoldsSame, MindsFaults, all_waiting, all_written};
+ghost use Rattle.dm_table.specs.Progress.{Wrote};
 
 use crate::block::put_bytes;
 use crate::device_io::{OutFault, Output};
@@ -12,7 +16,7 @@ use crate::ghost_bytes::Tally;
 use crate::text::{TEXT_ROOM, Text};
 use std::marker::Model;
 
-/// With more bytes than this, what is gathered is passed on before the next text.
+/// With as many bytes as this, or more, what is gathered is passed on before the next text.
 const FULL: usize = 65536;
 
 /// The bytes of the block.
@@ -20,61 +24,78 @@ const ROOM: usize = FULL + TEXT_ROOM;
 
 /// An output in front of another one, which it gathers bytes for.
 ///
-/// It passes on what it took, in order, and at a flush all of it. Bytes that could not be passed
-/// on stay gathered; whether that is a fault is up to the call that tried. It has counts of its own,
-/// so those of the other output don't show here.
+/// It passes on what it took, in order, and at a flush all of it. Once a call of the other output
+/// failed, nothing is asked of that output any more: what it did not take stays gathered, and each
+/// write, `put` and flush fails. A fault met while handing on is counted by the next of these. The
+/// counts are its own, so those of the other output don't show here.
 #[derive(Drop)]
 pub struct Gathered<W: Output> {
     output: W,
     block: [u8; ROOM],
     len: usize,
+    /// Where as many bytes as this are gathered, they are passed on before the next text. It is 0
+    /// once the other output failed.
+    limit: usize,
     faults: Tally,
     flushes: Tally,
 }
 
 impl<W: Output> Model for Gathered<W> {
-    ghost use Rattle.std.specs.Prelude.{◌≤◌, take};
-    ghost use Rattle.dm_table.specs.declared.gathered.TheConstants.{ROOM};
-    ghost use Rattle.dm_table.specs.Gathered.{Gathering};
+    ghost use Rattle.std.specs.Prelude.{◌≤◌, ◌==◌, take};
+    ghost use Rattle.dm_table.specs.declared.gathered.TheConstants.{FULL, ROOM};
+    ghost use Rattle.dm_table.specs.Gathered.{Behind, Gathering};
 
     ghost Value = { Gathering };
 
     ghost view = { λ g. record {
-      passed = W.written g.output;
-      waiting = W.waiting g.output;
+      behind = record { written = W.written g.output; waiting = W.waiting g.output; faults = W.faults g.output; flushes = W.flushes g.output };
       held = take g.len g.block;
+      broken = g.limit == 0;
       faults = g.faults;
       flushes = g.flushes;
     } };
 
-    ghost invariant = { λ g. g.len ≤ ROOM };
+    ghost invariant = { λ g. (g.len ≤ ROOM) × (g.limit ≤ FULL) };
 }
 
 impl<W: Output> Gathered<W> {
-    ghost use Rattle.dm_table.specs.Gathered.{HoldsSame};
     ghost use Rattle.dm_table.specs.declared.gathered.TheConstants.{FULL};
 
     /// Nothing is gathered yet, no call failed, and no flush was asked for.
     pub fn new(output: W) -> Gathered<W>
-        ensures { result ≡ record { passed = W.written output; waiting = W.waiting output; held = []; faults = 0; flushes = 0 } }
+        ensures { result ≡ record {
+          behind = record { written = W.written output; waiting = W.waiting output; faults = W.faults output; flushes = W.flushes output };
+          held = [];
+          broken = false;
+          faults = 0;
+          flushes = 0;
+        } }
     {
         Gathered {
             output,
             block: [0; ROOM],
             len: 0,
+            limit: FULL,
             faults: Tally::new(),
             flushes: Tally::new(),
         }
     }
 
-    /// Passes on what is gathered, up to a fault of the output; the rest stays gathered.
+    /// Passes on what is gathered, up to a fault of the output; the rest stays gathered. Nothing is
+    /// passed on after a fault.
     fn pass_on(&mut self)
         ensures same { HoldsSame self.old self.new }
         ensures faults { self.new.faults ≡ self.old.faults }
+        ensures minds { MindsFaults self.old self.new }
+        ensures all { self.new.broken ≡ false → self.new.held ≡ [] }
     {
+        if self.limit == 0 {
+            return;
+        }
         let sent = write_front(&mut self.output, &self.block, self.len);
         move_to_front(&mut self.block, sent, self.len);
         self.len -= sent;
+        self.limit = if self.len == 0 { FULL } else { 0 };
     }
 
     /// Passes on all that is gathered, and counts a fault of the output as one of its own.
@@ -83,24 +104,28 @@ impl<W: Output> Gathered<W> {
     fn empty(&mut self) -> Result<(), OutFault>
         ensures same { HoldsSame self.old self.new }
         ensures faults { self.new.faults ≡ self.old.faults + fault_of result }
-        ensures empty { OnOk result (self.new.held ≡ []) }
+        ensures minds { MindsFaults self.old self.new }
+        ensures fails { IsErr result ↔ (self.new.broken ≡ true) }
+        ensures all { OnOk result (self.new.held ≡ []) }
     {
         self.pass_on();
-        if self.len > 0 {
+        if self.limit == 0 {
             self.faults.raise();
             return Err(OutFault);
         }
         Ok(())
     }
 
-    /// Makes room for a text.
+    /// Makes room for a text, unless the output failed.
     #[inline(always)]
     fn make_room(&mut self) -> Result<(), OutFault>
         ensures same { HoldsSame self.old self.new }
         ensures faults { self.new.faults ≡ self.old.faults + fault_of result }
+        ensures minds { MindsFaults self.old self.new }
+        ensures fails { IsErr result ↔ (self.new.broken ≡ true) }
         ensures room { OnOk result (length self.new.held ≤ FULL) }
     {
-        if self.len > FULL {
+        if self.len >= self.limit {
             return self.empty();
         }
         Ok(())
@@ -113,6 +138,9 @@ fn write_front<W: Output>(output: &mut W, block: &[u8], len: usize) -> usize
     ensures within { result ≤ len }
     ensures bytes { W.written output.new ≡ W.written output.old ++ take result block.now }
     ensures waiting { W.waiting output.new ≡ W.waiting output.old ++ take result block.now }
+    // It failed exactly where not all of them were written.
+    ensures grows { W.faults output.old ≤ W.faults output.new }
+    ensures failed { nat_lt (W.faults output.old) (W.faults output.new) ≡ nat_lt result len }
 {
     let mut sent = 0;
     'rest: while sent < len {
@@ -134,27 +162,44 @@ fn move_to_front(block: &mut [u8], start: usize, end: usize)
 }
 
 impl<W: Output> Output for Gathered<W> {
-    ghost written = { λ g. g.passed ++ g.held };
+    ghost written = { all_written };
 
-    ghost waiting = { λ g. g.waiting ++ g.held };
+    ghost waiting = { all_waiting };
 
     ghost faults = { λ g. g.faults };
 
     ghost flushes = { λ g. g.flushes };
 
-    fn write(&mut self, bytes: &[u8]) -> Result<usize, OutFault> {
+    fn write(&mut self, bytes: &[u8]) -> Result<usize, OutFault>
+        ensures within { IfOk result (λ n. n ≤ length bytes.now) }
+        ensures progress { IfOk result (λ n. 0 < length bytes.now → 0 < n) }
+        ensures bytes { all_written self.new ≡ all_written self.old ++ given result bytes.now }
+        ensures waiting { all_waiting self.new ≡ all_waiting self.old ++ given result bytes.now }
+        ensures faults { self.new.faults ≡ self.old.faults + fault_of result }
+        ensures flushes { self.new.flushes ≡ self.old.flushes }
+        ensures minds { MindsFaults self.old self.new }
+        ensures fails { IsErr result ↔ (self.new.broken ≡ true) }
+    {
         self.make_room()?;
         let n = bytes.len().min(ROOM - self.len);
         self.len = put_bytes(&mut self.block, self.len, &bytes[..n]);
         Ok(n)
     }
 
-    fn flush(&mut self) -> Result<(), OutFault> {
+    fn flush(&mut self) -> Result<(), OutFault>
+        ensures bytes { all_written self.new ≡ all_written self.old }
+        ensures waiting { all_waiting self.new ≡ unflushed result (all_waiting self.old) }
+        ensures faults { self.new.faults ≡ self.old.faults + fault_of result }
+        ensures flushes { self.new.flushes ≡ self.old.flushes + 1 }
+        ensures minds { MindsFaults self.old self.new }
+        ensures fails { IsErr result ↔ (self.new.broken ≡ true) }
+    {
         self.flushes.raise();
         self.empty()?;
         match self.output.flush() {
             Ok(()) => Ok(()),
             Err(OutFault) => {
+                self.limit = 0;
                 self.faults.raise();
                 Err(OutFault)
             }
@@ -162,14 +207,25 @@ impl<W: Output> Output for Gathered<W> {
     }
 
     #[inline(always)]
-    fn put<T: Text>(&mut self, text: &T) -> Result<(), OutFault> {
+    fn put<T: Text>(&mut self, text: &T) -> Result<(), OutFault>
+        requires { 0 < length (T.text text.now) }
+        ensures wrote { Wrote all_written all_waiting (λ g. g.faults) (λ g. g.flushes) self.old self.new result (T.text text.now) }
+        ensures minds { MindsFaults self.old self.new }
+        ensures fails { IsErr result ↔ (self.new.broken ≡ true) }
+    {
         self.make_room()?;
         self.len = text.put_into(&mut self.block, self.len);
         Ok(())
     }
 
-    /// A fault is left to the next write or flush: what could not be passed on stays gathered.
-    fn hand_on(&mut self) {
+    /// A fault is left to the next write, `put` or flush, which fails.
+    fn hand_on(&mut self)
+        ensures bytes { all_written self.new ≡ all_written self.old }
+        ensures waiting { all_waiting self.new ≡ all_waiting self.old }
+        ensures faults { self.new.faults ≡ self.old.faults }
+        ensures flushes { self.new.flushes ≡ self.old.flushes }
+        ensures minds { MindsFaults self.old self.new }
+    {
         self.pass_on();
     }
 }

@@ -1,4 +1,5 @@
-use Rattle.std.proofs.Common.{◌≤◌, ◌-◌, drop, length-take, arith}
+use Rattle.std.proofs.Common.{ℕ, ◌≤◌, ◌+◌, ◌-◌, drop, length-take, add-zero, sym, ap, ◌∙◌, arith}
+use Rattle.std.proofs.lemmas.Bool.{le-ltb, lt-ltb}
 use Rattle.dm_table.proofs.BlockLemmas.{sent_more}
 use Rattle.dm_table.proofs.gathered.write_front.Goals as goal
 
@@ -11,4 +12,18 @@ rest-preserved g c =
       within = omega (arith, few);
       written = sent_more (written c.args.output.now) (written c.rest.output) (written c.write.new.self) block sent len taken few c.rest.invariant.written c.in-Ok.ensures.bytes;
       waiting = sent_more (waiting c.args.output.now) (waiting c.rest.output) (waiting c.write.new.self) block sent len taken few c.rest.invariant.waiting c.in-Ok.ensures.waiting;
+      faults = c.in-Ok.ensures.faults ∙ add-zero _ ∙ c.rest.invariant.faults;
     }
+
+pub returns-in-Err-clause-grows : goal.returns-in-Err-clause-grows
+returns-in-Err-clause-grows g c = omega (arith, c.in-Err.ensures.faults, c.rest.invariant.faults)
+
+-- it failed where bytes are left
+pub returns-in-Err-clause-failed : goal.returns-in-Err-clause-failed
+returns-in-Err-clause-failed g c =
+    let more = c.in-Err.ensures.faults ∙ ap (λ (n : ℕ). n + 1) c.rest.invariant.faults in
+    lt-ltb _ _ (omega (arith, more)) ∙ sym (lt-ltb c.rest.sent c.args.len c.rest-test.true)
+
+pub returns-clause-failed : goal.returns-clause-failed
+returns-clause-failed g c =
+    le-ltb _ _ (omega (arith, c.rest.invariant.faults)) ∙ sym (le-ltb c.rest.sent c.args.len c.rest-test.false)
