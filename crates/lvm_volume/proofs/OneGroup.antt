@@ -1,13 +1,20 @@
 -- A text of metadata describes at most one group, or is refused by at most one fault, and not both.
-use Rattle.std.proofs.Common.{◌≡◌, ℕ, List, sym, ap, ◌∙◌}
+use Rattle.std.proofs.Common.{◌≡◌, ◌⊎◌, ℕ, Bool, true, false, List, Option, None, Some, inl, inr, refl, sym, ap, ◌∙◌}
+use Rattle.std.specs.Str.{IsUtf8, is_utf8}
+use Rattle.std.proofs.lemmas.Str.{IsUtf8-from_is_utf8, is_utf8-from_IsUtf8}
 use Rattle.lvm_text.specs.Tree.{Tree}
+use Rattle.lvm_text.specs.Reading.{Describes, HasFault}
+use Rattle.lvm_text.specs.declared.fault.TextFault.{TextFault}
+use Rattle.lvm_text.proofs.Whole.{every_text}
 use Rattle.lvm_text.proofs.Unique.{one_tree, no_fault as no_text_fault, one_fault as one_text_fault}
 use Rattle.dm_table.specs.declared.load_fault.LoadFault.{LoadFault}
 use Rattle.dm_table.specs.declared.table.DeviceSpec.{DeviceSpec}
 use Rattle.dm_table.specs.declared.disk.Disk.{Disk}
-use Rattle.dm_table.specs.LoadFault.{first_fault}
+use Rattle.dm_table.specs.declared.place.Part.TheVariants.{Source}
+use Rattle.dm_table.specs.declared.load_fault.LoadKind.TheVariants.{NotText}
+use Rattle.dm_table.specs.LoadFault.{fault_at, first_fault}
 use Rattle.lvm_volume.specs.Group.{group_of}
-use Rattle.lvm_volume.specs.Metadata.{DescribesGroup, SaysTree, IsRefusedText, NotUtf8, OfText, OfGroup, metadata_checks}
+use Rattle.lvm_volume.specs.Metadata.{DescribesGroup, SaysTree, IsRefusedText, NotUtf8, OfText, OfGroup, SaysOneThing, bad_byte_line, metadata_checks}
 use Rattle.lvm_volume.specs.Tables.{tables_of, text_fault}
 
 same_tree : (source : List ℕ) (t u : Tree) → SaysTree source t → SaysTree source u → t ≡ u
@@ -35,3 +42,27 @@ one_refusal source f g (OfText utf8 found has same_a) (OfGroup tree says hit) = 
 one_refusal source f g (OfGroup tree says hit) (NotUtf8 b same_b) = absurd (b says.utf8)
 one_refusal source f g (OfGroup tree says hit) (OfText utf8 found has same_b) = absurd (no_text_fault source tree found says.says has)
 one_refusal source f g (OfGroup tree says hit) (OfGroup other says_other hit_other) = let same = checks_of_one source tree other says says_other in cc
+
+-- Every text says something
+
+by_checks : (source : List ℕ) (tree : Tree) → SaysTree source tree → (found : Option LoadFault) → first_fault (metadata_checks tree) ≡ found
+    → ((tables : List DeviceSpec × List Disk) × DescribesGroup source tables) ⊎ ((fault : LoadFault) × IsRefusedText source fault)
+by_checks source tree says None e = inl (tables_of (group_of tree), record { tree = tree; says = says; sound = e; is = refl })
+by_checks source tree says (Some fault) e = inr (fault, OfGroup tree says e)
+
+by_text : (source : List ℕ) → IsUtf8 source → ((t : Tree) × Describes source t) ⊎ ((f : TextFault) × HasFault source f)
+    → ((tables : List DeviceSpec × List Disk) × DescribesGroup source tables) ⊎ ((fault : LoadFault) × IsRefusedText source fault)
+by_text source utf8 (inl text) = by_checks source text.0 (record { utf8 = utf8; says = text.1 }) (first_fault (metadata_checks text.0)) refl
+by_text source utf8 (inr text) = inr (text_fault text.0, OfText utf8 text.0 text.1 refl)
+
+by_bytes : (source : List ℕ) (utf8 : Bool) → is_utf8 source ≡ utf8 → ((tables : List DeviceSpec × List Disk) × DescribesGroup source tables) ⊎ ((fault : LoadFault) × IsRefusedText source fault)
+by_bytes source true e = by_text source (IsUtf8-from_is_utf8 source e) (every_text source)
+by_bytes source false e = inr (fault_at Source NotText (bad_byte_line source), NotUtf8 (λ utf8. let is = is_utf8-from_IsUtf8 source utf8 in cc) refl)
+
+pub says_one_thing : (source : List ℕ) → SaysOneThing source
+says_one_thing source = record {
+  some = by_bytes source (is_utf8 source) refl;
+  unique = one_group source;
+  one_fault = one_refusal source;
+  not_both = never_refused source;
+}

@@ -1,5 +1,5 @@
 -- What a text of metadata describes, and why one is refused.
-use Rattle.std.specs.Prelude.{◌≡◌, ℕ, ◌+◌, List, [], ◌∷◌, ◌++◌, None, Some, take}
+use Rattle.std.specs.Prelude.{◌≡◌, ◌⊎◌, ℕ, ◌+◌, List, [], ◌∷◌, ◌++◌, None, Some, take}
 use Rattle.std.specs.Str.{IsUtf8}
 use Rattle.std.specs.Str.Lossy.{utf8_valid_len}
 use Rattle.lvm_text.specs.Tree.{Tree}
@@ -40,3 +40,10 @@ pub data IsRefusedText (source : List ℕ) (fault : LoadFault) : Type 0 where
   NotUtf8 : ¬ (IsUtf8 source) → fault ≡ fault_at Source NotText (bad_byte_line source) → IsRefusedText source fault
   OfText : IsUtf8 source → (found : TextFault) → HasFault source found → fault ≡ text_fault found → IsRefusedText source fault
   OfGroup : (tree : Tree) → SaysTree source tree → first_fault (metadata_checks tree) ≡ Some fault → IsRefusedText source fault
+
+-- the text describes one list of devices with one list of disks, or is refused by one fault, and not both
+pub record SaysOneThing (source : List ℕ) : Type 0 where
+  pub some : ((tables : List DeviceSpec × List Disk) × DescribesGroup source tables) ⊎ ((fault : LoadFault) × IsRefusedText source fault)
+  pub unique : (a b : List DeviceSpec × List Disk) → DescribesGroup source a → DescribesGroup source b → a ≡ b
+  pub one_fault : (f g : LoadFault) → IsRefusedText source f → IsRefusedText source g → f ≡ g
+  pub not_both : (tables : List DeviceSpec × List Disk) (fault : LoadFault) → DescribesGroup source tables → ¬ (IsRefusedText source fault)

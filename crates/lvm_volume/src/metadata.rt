@@ -9,7 +9,7 @@ ghost use Rattle.dm_table.specs.LoadFault.{Answers, IsMemoryFault, fault_at, fir
 ghost use Rattle.dm_table.specs.declared.load_fault.LoadKind.TheVariants.{Memory, NotText};
 ghost use Rattle.dm_table.specs.declared.place.Part.TheVariants.{Source};
 ghost use Rattle.lvm_volume.specs.Group.{group_of};
-ghost use Rattle.lvm_volume.specs.Metadata.{DescribesGroup, IsRefusedText, bad_byte_line, metadata_checks};
+ghost use Rattle.lvm_volume.specs.Metadata.{DescribesGroup, IsRefusedText, SaysOneThing, bad_byte_line, metadata_checks};
 ghost use Rattle.lvm_volume.specs.Tables.{tables_of};
 
 use crate::refused_text::text_fault;
@@ -33,6 +33,8 @@ pub fn parse_metadata(
     ensures described { IfOk result (λ tables. DescribesGroup source.now (tables.0.items, tables.1.items)) }
     ensures refused { IfErr result (λ fault. fault.kind ≢ Memory → IsRefusedText source.now fault) }
     ensures memory { IfErr result (λ fault. fault.kind ≡ Memory → IsMemoryFault Source fault) }
+    // Every text has devices and disks that it describes, or a fault, and only these.
+    ensures one { SaysOneThing source.now }
 {
     let text = utf8_text(source)?;
     match parse(alloc, text) {

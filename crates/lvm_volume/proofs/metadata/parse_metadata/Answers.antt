@@ -1,6 +1,7 @@
 use Rattle.std.proofs.Common.{subst}
 use Rattle.lvm_text.specs.Reading.{Describes, HasFault}
 use Rattle.lvm_volume.proofs.MetadataLemmas.{refused_tables, refused_text}
+use Rattle.lvm_volume.proofs.OneGroup.{says_one_thing}
 use Rattle.lvm_volume.proofs.metadata.parse_metadata.Goals as goal
 
 pub returns-in-Ok-clause-refused : goal.returns-in-Ok-clause-refused
@@ -13,3 +14,12 @@ pub returns-in-Err-clause-refused : goal.returns-in-Err-clause-refused
 returns-in-Err-clause-refused c =
     let text = c.in_ok-text.ensures.text in
     rw c.text_fault.ensures (refused_text c.args.source.now c.in-Err.fault text.1 (λ other. subst (λ bytes. HasFault bytes c.in-Err.fault) text.0 (c.in-Err.ensures.fault other)))
+
+pub returns-in_err-text-clause-one : goal.returns-in_err-text-clause-one
+returns-in_err-text-clause-one c = says_one_thing c.args.source.now
+
+pub returns-in-Ok-clause-one : goal.returns-in-Ok-clause-one
+returns-in-Ok-clause-one c = says_one_thing c.args.source.now
+
+pub returns-in-Err-clause-one : goal.returns-in-Err-clause-one
+returns-in-Err-clause-one c = says_one_thing c.args.source.now
