@@ -1,6 +1,6 @@
 -- What a group's metadata says: the group, its physical volumes, and its volumes with their segments.
-use Rattle.std.specs.Prelude.{ℕ, ◌+◌, Bool, false, not, ◌&&◌, ◌||◌, ◌==◌, List, [], ◌∷◌, Option, Some, None, nat_lt, bytes_eq, codes, count_by, length, map, unwrap_or, if◌then◌else◌}
-use Rattle.std.specs.List.{list_any}
+use Rattle.std.specs.Prelude.{ℕ, Bool, false, not, ◌&&◌, ◌||◌, ◌==◌, List, [], ◌∷◌, nat_lt, bytes_eq, codes, count_by, map, if◌then◌else◌}
+use Rattle.std.specs.List.{list_any, position_or_len}
 use Rattle.lvm_text.specs.Tree.{Tree, Scalar, Int, Text, Nothing, sections_of}
 use Rattle.dm_table.specs.Name.{is_disk_name}
 use Rattle.lvm_volume.specs.declared.segment.Stripe.{Stripe}
@@ -54,14 +54,13 @@ physical_of devices physical = record {
 
 -- Volumes
 
--- the place of a key among these, from this place on
-abbrev pub place_from : List ℕ → ℕ → List (List ℕ) → Option ℕ
-place_from key first [] = None
-place_from key first (k ∷ ks) = if bytes_eq k key then Some first else place_from key (first + 1) ks
+-- the keys of sections
+abbrev pub keys_in : List Keyed → List (List ℕ)
+keys_in = map (λ section. section.0)
 
 -- the place of a physical volume by its key, or their number where none has it
 abbrev pub place_of : List (List ℕ) → List ℕ → ℕ
-place_of keys key = unwrap_or (place_from key 0 keys) (length keys)
+place_of keys key = position_or_len (bytes_eq key) keys
 
 abbrev pub stripes_in : List (List ℕ) → List Scalar → List Stripe
 stripes_in keys (Text key ∷ Int extent ∷ items) = record { physical = place_of keys key; extent = extent } ∷ stripes_in keys items
@@ -101,7 +100,7 @@ group_in group =
       name = group.0;
       extent_size = number_at (codes "extent_size") group.1;
       physicals = map (physical_of (map device_of physicals)) physicals;
-      volumes = map (volume_of (map (λ physical. physical.0) physicals)) (sections_at (codes "logical_volumes") group.1);
+      volumes = map (volume_of (keys_in physicals)) (sections_at (codes "logical_volumes") group.1);
     }
 
 -- the first section, or an empty one

@@ -3,7 +3,6 @@ use Rattle.std.specs.Prelude.{◌≡◌, ℕ, List, map, unwrap_or, count_by, by
 use Rattle.std.specs.Ordering.{nat_cmp}
 use Rattle.std.specs.Cmp.Lexicographic.{slice_cmp}
 use Rattle.std.specs.BTreeMap.{BTreeMap, get_by}
-use Rattle.lvm_volume.specs.Group.{place_from}
 use Rattle.lvm_volume.specs.declared.volume_group.Parts.{Parts}
 use Rattle.lvm_volume.specs.declared.physical.Physical.{Physical}
 use Rattle.lvm_volume.specs.declared.volume.Volume.{Volume}
@@ -12,10 +11,6 @@ use denote.Ref.{Bor}
 -- what slices point to
 abbrev pub texts : List (Bor (List ℕ)) → List (List ℕ)
 texts = map (λ text. text.now)
-
--- the index has the place of each key among these, the first of which has this place
-abbrev pub Finds : BTreeMap (Bor (List ℕ)) ℕ → ℕ → List (List ℕ) → Type 0
-Finds index first keys = (key : List ℕ) → get_by (λ k. slice_cmp nat_cmp key k.now) index ≡ place_from key first keys
 
 -- the map has how often each text is among these
 abbrev pub Counts : BTreeMap (Bor (List ℕ)) ℕ → List (List ℕ) → Type 0

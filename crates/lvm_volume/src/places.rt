@@ -1,63 +1,85 @@
-//! The places of physical volumes by their keys, so that a stripe finds its own in about `log n` steps.
+//! The places of physical volumes by their keys, so that a stripe finds its own at about the same cost however many
+//! there are.
 //!
-//! The index is built from the last to the first, so that the first of a key would have the place. A clause sees it
-//! as the keys that it was built of.
+//! The keys of a section all differ, so each is new to the set. A clause sees the keys in source order.
 
-ghost use Rattle.std.specs.Prelude.{◌≡◌, IfOk};
-ghost use Rattle.lvm_volume.specs.Group.{place_of};
-ghost use Rattle.lvm_volume.specs.GroupCode.{Finds, texts};
+ghost use Rattle.std.specs.Prelude.{◌≡◌, ◌++◌, ◌∷◌, [], false, IfOk, OnOk, bytes_eq};
+ghost use Rattle.std.specs.List.{list_any};
+ghost use Rattle.lvm_text.specs.Tree.{sections_of};
+ghost use Rattle.lvm_volume.specs.Fields.{sections_at};
+ghost use Rattle.lvm_volume.specs.Group.{keys_in, place_of};
+ghost use Rattle.lvm_volume.specs.GroupCode.{texts};
 
+use crate::value::section_at;
+use indexmap::IndexSet;
+use lvm_text::Section;
 use std::alloc::{AllocError, Global};
-use std::collections::BTreeMap;
 use std::marker::Model;
 
 /// The places of keys.
 #[derive(Drop)]
 pub(crate) struct Places<'a> {
-    keys: Vec<&'a str>,
-    index: BTreeMap<&'a str, usize>,
+    keys: IndexSet<&'a str>,
 }
 
 impl<'a> Model for Places<'a> {
     ghost use Rattle.std.specs.Prelude.{List, ℕ};
-    ghost use Rattle.lvm_volume.specs.GroupCode.{Finds, texts};
+    ghost use Rattle.lvm_volume.specs.GroupCode.{texts};
 
     ghost Value = { List (List ℕ) };
 
-    ghost view = { λ places. texts places.keys.items };
-
-    ghost invariant = { λ places. Finds places.index 0 (texts places.keys.items) };
+    ghost view = { λ places. texts places.keys.keys };
 }
 
 impl<'a> Places<'a> {
-    /// An index of these keys.
-    pub(crate) fn new(alloc: Global, keys: Vec<&'a str>) -> Result<Places<'a>, AllocError>
-        ensures { IfOk result (λ places. places ≡ texts keys.entry.items) }
+    /// The places of the sections inside the section of a key.
+    pub(crate) fn new(
+        alloc: Global,
+        section: &Section<'a>,
+        key: &str,
+    ) -> Result<Places<'a>, AllocError>
+        ensures { IfOk result (λ places. places ≡ keys_in (sections_at key.now section.now)) }
     {
-        let index = index_of(alloc, &keys)?;
-        Ok(Places { keys, index })
+        match section_at(section, key) {
+            Some(inner) => {
+                let keys = keys_of(alloc, inner)?;
+                Ok(Places { keys })
+            }
+            None => Ok(Places {
+                keys: IndexSet::new(alloc),
+            }),
+        }
     }
 
     /// The place of a key, or the number of keys where it is none of them.
     pub(crate) fn place_of(&self, key: &str) -> usize
         ensures { result ≡ place_of self.now key.now }
     {
-        match self.index.get(key) {
-            Some(place) => *place,
+        match self.keys.get_index_of(key) {
+            Some(place) => place,
             None => self.keys.len(),
         }
     }
 }
 
-/// The place of each key, that of the first where several are equal.
-fn index_of<'a>(alloc: Global, keys: &[&'a str]) -> Result<BTreeMap<&'a str, usize>, AllocError>
-    ensures { IfOk result (λ index. Finds index 0 (texts keys.now)) }
+/// The keys of a section that hold sections.
+fn keys_of<'a>(alloc: Global, section: &Section<'a>) -> Result<IndexSet<&'a str>, AllocError>
+    ensures { IfOk result (λ keys. texts keys.keys ≡ keys_in (sections_of section.now.values)) }
 {
-    let mut index = BTreeMap::new(alloc);
-    let mut at = keys.len();
-    while at > 0 {
-        at -= 1;
-        index.insert(keys[at], at)?;
+    let mut keys = IndexSet::new(alloc);
+    for item in section.sections() {
+        add_key(&mut keys, item.0)?;
     }
-    Ok(index)
+    Ok(keys)
+}
+
+/// Adds a key after the others, of which it is none.
+fn add_key<'a>(keys: &mut IndexSet<&'a str>, key: &'a str) -> Result<(), AllocError>
+    requires { list_any (bytes_eq key.now) (texts keys.old.keys) ≡ false }
+    ensures { OnOk result (texts keys.new.keys ≡ texts keys.old.keys ++ key.now ∷ []) }
+{
+    match keys.insert(key) {
+        Ok(_) => Ok(()),
+        Err(_) => Err(AllocError),
+    }
 }

@@ -13,8 +13,8 @@ ghost use Rattle.lvm_volume.specs.declared.check.Check.TheVariants.{Fields};
 ghost use Rattle.lvm_volume.specs.Extents.{name_faults};
 ghost use Rattle.lvm_volume.specs.Fields as fields;
 ghost use Rattle.lvm_volume.specs.Fields.{faults_of_fields};
-ghost use Rattle.lvm_volume.specs.Group.{group_in, group_of, volume_of};
-ghost use Rattle.lvm_volume.specs.GroupCode.{parts_view, texts};
+ghost use Rattle.lvm_volume.specs.Group.{group_in, group_of, keys_in, volume_of};
+ghost use Rattle.lvm_volume.specs.GroupCode.{parts_view};
 ghost use Rattle.lvm_volume.specs.Tables.{checks_of_parts, group_checks, later_checks};
 
 use crate::check::Check;
@@ -142,37 +142,19 @@ fn parts_in(alloc: Global, group: (&str, &Section<'_>)) -> Result<Parts, LoadFau
         Ok(physicals) => physicals,
         Err(fault) => return Err(fault),
     };
-    match volumes_of(alloc, group.1, &sections) {
+    match volumes_of(alloc, group.1) {
         Ok(volumes) => Ok(Parts { physicals, volumes }),
         Err(_) => Err(LoadFault::memory(Part::Source)),
     }
 }
 
-/// The volumes of a group with these physical volumes.
-fn volumes_of<'s, 'a>(
-    alloc: Global,
-    group: &Section<'_>,
-    physicals: &[(&'a str, &'s Section<'a>)],
-) -> Result<Vec<Volume>, AllocError>
-    ensures { IfOk result (λ v. v.items ≡ map (volume_of (map (λ physical. physical.0) (map item_view physicals.now))) (fields.sections_at (codes "logical_volumes") group.now)) }
+/// The volumes of a group.
+fn volumes_of(alloc: Global, group: &Section<'_>) -> Result<Vec<Volume>, AllocError>
+    ensures { IfOk result (λ v. v.items ≡ map (volume_of (keys_in (fields.sections_at (codes "physical_volumes") group.now))) (fields.sections_at (codes "logical_volumes") group.now)) }
 {
-    let places = Places::new(alloc, keys_of(alloc, physicals)?)?;
+    let places = Places::new(alloc, group, "physical_volumes")?;
     let sections = sections_at(alloc, group, "logical_volumes")?;
     volumes_in(alloc, &places, &sections)
-}
-
-/// The keys of sections.
-fn keys_of<'s, 'a>(
-    alloc: Global,
-    sections: &[(&'a str, &'s Section<'a>)],
-) -> Result<Vec<&'a str>, AllocError>
-    ensures { IfOk result (λ v. texts v.items ≡ map (λ section. section.0) (map item_view sections.now)) }
-{
-    let mut keys = Vec::new(alloc);
-    for section in sections {
-        keys.push(section.0)?;
-    }
-    Ok(keys)
 }
 
 /// The first fault of the checks of stripes and extents.
