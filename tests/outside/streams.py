@@ -235,14 +235,24 @@ def map_failing(program, given, **how):
 
 
 def check_unclosed(tally, program):
-    """A bad line ends the run though more requests may still come."""
-    for given, word in ((BAD, "unknown"), ("R" * 4097, "long")):
-        here, there = os.pipe()
-        os.write(there, given.encode())
-        got = program.map(TABLE, DISKS, stdin=here)
-        os.close(here)
-        os.close(there)
-        tally.same("a bad request before a pause", got, 3, "", "dmremap: request 1: %s\n" % word)
+    """A bad line ends the run though more requests may still come. A line that is one too many is out of reach:
+    it comes after 10^12 others."""
+    rows = [
+        ("form", "R a 0\n", "form"),
+        ("number", "R a 00 1\n", "number"),
+        ("length", "R a 0 0\n", "length"),
+        ("an unknown device", BAD, "unknown"),
+        ("more than a line may have", "R" * 4097, "long"),
+    ]
+    for name, given, word in rows:
+        for before, answer, number in (("", "", 1), (SHORT, SHORT_ANSWER, 2)):
+            here, there = os.pipe()
+            os.write(there, (before + given).encode())
+            got = program.map(TABLE, DISKS, stdin=here)
+            os.close(here)
+            os.close(there)
+            tally.same("request %d, bad by %s, before a pause" % (number, name), got, 3, answer,
+                       "dmremap: request %d: %s\n" % (number, word))
 
 
 def check_messages(tally, program):

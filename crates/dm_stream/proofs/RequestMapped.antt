@@ -18,9 +18,7 @@ use Rattle.dm_stream.specs.Mapped.{HasStopped}
 use Rattle.dm_stream.specs.Outcome.{device_of, of_device, outcome_from, request_answer}
 use Rattle.dm_stream.specs.Requests.{NumberedRequest}
 use Rattle.dm_map.specs.State.{State}
-use Rattle.dm_stream.specs.declared.ending.Ending as ending
 use Rattle.dm_stream.specs.declared.ending.NotMapped.TheVariants as causes
-use Rattle.dm_stream.specs.declared.ending.RequestWord as word
 use Rattle.dm_stream.specs.Pieces.{UnitRun, fewest}
 use Rattle.dm_table.specs.Fields.{all_but_last}
 use Rattle.dm_stream.specs.PieceText.{piece_text, pieces_text, unit_text}

@@ -6,11 +6,11 @@ use Rattle.dm_stack.specs.Description.{Description}
 use Rattle.dm_map.specs.Mapper.{MapperView}
 use Rattle.dm_stream.specs.Mapped.{HasAnswered, HasStopped}
 use Rattle.dm_stream.specs.Outcome.{Outcome, if_done, outcome_from, requests_outcome, with_status}
-use Rattle.dm_table.specs.Progress.{HasWritten, IsClosedAfter, Wrote}
+use Rattle.dm_table.specs.Progress.{HasWritten, IsClosedAfter, MetNothing, Wrote}
 use Rattle.dm_table.proofs.ProgressLaws.{closed_as}
 use Rattle.dm_stream.specs.StatusLines.{status_text}
 use Rattle.dm_stream.proofs.RequestMapped.{cut_of_more}
-use Rattle.dm_stream.specs.Requests.{IsAmong, NumberedRequest, requests_of}
+use Rattle.dm_stream.specs.Requests.{HasMet, IsAmong, NumberedRequest, requests_of}
 use Rattle.dm_stream.specs.Run.{HasRun, IsMapped, ending_for, write_faults}
 use Rattle.dm_map.specs.State.{State}
 use Rattle.dm_stream.specs.declared.ending.Ending as ending
@@ -54,6 +54,11 @@ part_mapped stack fault e old new delivered w0 w1 Stopped ends stopped among =
     subst (λ (x : ending.Ending). IsMapped (requests_outcome stack old delivered) (since w0 w1) new.state x) (sym ends)
     (subst (λ (rs : List NumberedRequest). IsMapped (outcome_from stack old rs requests.ending) (since w0 w1) new.state (ending_for fault)) (sym among.is)
     (stopped_at stack fault old new among.first among.later requests.ending w0 w1 (stopped among.first among.holds)))
+
+-- nothing more is read then
+pub stopped_met : {X : Type 0} (faults ends : X → ℕ) (old new : X) (fault : NotMapped) (e : ending.Ending) → e ≡ ending_for fault → MetNothing faults ends old new → HasMet e faults ends old new
+stopped_met faults ends old new (causes.Unknown number) e is met = subst (λ (x : ending.Ending). HasMet x faults ends old new) (sym is) met
+stopped_met faults ends old new causes.Output e is met = subst (λ (x : ending.Ending). HasMet x faults ends old new) (sym is) tt
 
 -- ---- what comes after the answers
 

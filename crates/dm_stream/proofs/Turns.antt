@@ -1,14 +1,16 @@
 -- One turn over the lines: a request that is handed on, or the end.
-use Rattle.std.proofs.Common.{◌≡◌, ◌≤◌, ◌==◌, cond, true, false, Bool, ltb, ℕ, suc, ◌+◌, List, [], ◌∷◌, ◌++◌, length, drop, sym, ap, subst, ◌∙◌, refl, append_assoc, add-one}
+use Rattle.std.proofs.Common.{◌≡◌, ◌≤◌, ◌==◌, cond, true, false, Bool, ltb, ℕ, suc, ◌+◌, List, [], ◌∷◌, ◌++◌, length, drop, sym, ap, subst, ◌∙◌, refl, append_assoc, add-one, arith}
 use Rattle.std.specs.List.{onto_first}
 use Rattle.std.proofs.lemmas.Bool.{ltb-false}
 use Rattle.std.proofs.lemmas.List.{append-nil}
 use Rattle.dm_table.specs.DeviceIo.{Stand, Clean, Failed, Open, delivery, since, stand_of}
 use Rattle.dm_stream.specs.Lines.{Answer, ALine, ALong, line_parts, next_answer, rest_answer}
+use Rattle.dm_table.specs.Progress.{MetNothing}
 use Rattle.dm_table.proofs.ProgressLaws.{since-same}
-use Rattle.dm_stream.specs.Requests.{IsAmong, NumberedRequest, Requests, after_requests, ends as only_ends, line_requests, next_requests, requests_from, requests_of}
+use Rattle.dm_stream.specs.Requests.{HasMet, IsAmong, NumberedRequest, Requests, after_requests, ends as only_ends, line_requests, next_requests, requests_from, requests_of}
 use Rattle.dm_stream.specs.declared.lines.TheConstants.{MOST_LINE_BYTES}
 use Rattle.dm_stream.specs.declared.ending.Ending as ending
+use Rattle.dm_stream.specs.declared.ending.RequestWord as word
 use Rattle.dm_table.proofs.Growth.{since_more}
 use Rattle.dm_stream.proofs.LineParts.{some_part, next_line}
 
@@ -153,6 +155,11 @@ ended handed_of faults_of ends_of AreAnswered {first = first} {mid = mid} {last 
     let turned = after_waiting both before waits in
     let a = all_requests (handed_of first) (handed_of mid) (handed_of last) held (faults_of first) (faults_of mid) (faults_of last) (ends_of first) (ends_of mid) (ends_of last) n turned.done answer turned.told turned.reads more turned.faults turned.ends next in
     subst (λ (requests : List NumberedRequest). AreAnswered h0 s0 requests h2 s1) (sym (ap (λ (q : Requests). q.all) (a.1 ∙ ap (after_requests turned.done) (is a.0)) ∙ append-nil turned.done)) turned.answered
+
+-- where nothing was met, a bad line may be bad by any word
+pub bad_met : {X : Type 0} (faults ends : X → ℕ) (old new : X) (number : ℕ) (w : word.RequestWord) → MetNothing faults ends old new → HasMet (ending.TheVariants.BadRequest number w) faults ends old new
+bad_met faults ends old new number word.TheVariants.Unended met = omega (arith, met.0)
+bad_met faults ends old new number w met = met
 
 -- the next one is a request, which is the last that was handed on
 pub among : (h0 h1 h2 held : List ℕ) (f0 f1 f2 e0 e1 e2 n : ℕ) (done more : List NumberedRequest) (line : List ℕ) (IsFirst : List NumberedRequest → Type 0) → Told (since h0 h1) held done n

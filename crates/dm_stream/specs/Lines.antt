@@ -44,7 +44,8 @@ abbrev pub left_of : Answer → List ℕ → List ℕ
 left_of (ALine line) held = drop (length line + 1) held
 left_of other held = held
 
--- a fact if a line was returned
+-- a fact if a line was returned, or is too long
 abbrev pub OnLine : next.Next → Type 0 → Type 0
 OnLine (next.TheVariants.Line line) P = P
+OnLine next.TheVariants.Long P = P
 OnLine other P = Unit {0}

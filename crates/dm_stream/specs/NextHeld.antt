@@ -13,9 +13,10 @@ held_answer found.TheVariants.Unended held = AnUnended
 held_answer found.TheVariants.Long held = ALong
 held_answer found.TheVariants.ReadFault held = AFault
 
--- a fact if a line was found
+-- a fact if a line was found, or is too long
 abbrev pub OnHeldLine : found.NextHeld → Type 0 → Type 0
 OnHeldLine (found.TheVariants.Line n) P = P
+OnHeldLine found.TheVariants.Long P = P
 OnHeldLine other P = Unit {0}
 
 -- a line that was found is among the held bytes with its newline

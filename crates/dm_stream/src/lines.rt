@@ -183,7 +183,7 @@ impl Lines {
             new ≡ left_of (answer_of result) (self.old ++ since (R.handed reader.old) (R.handed reader.new)))) }
         // Nothing is read after an end or a fault.
         ensures reads { IsReadOn R.handed R.faults R.ends reader.old reader.new }
-        // A line is returned before an end or a fault is met.
+        // A line is returned, or is too long, before an end or a fault is met.
         ensures quiet { OnLine result (MetNothing R.faults R.ends reader.old reader.new) }
         ensures answer { answer_of result ≡ next_answer (delivery R.handed R.faults R.ends reader.old reader.new).stand
             (line_parts (self.old ++ since (R.handed reader.old) (R.handed reader.new))) }

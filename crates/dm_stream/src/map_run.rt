@@ -53,7 +53,7 @@ fn map_lines<'s, T: Taken, R: Input, W: Output>(
     ensures writes { HasWrittenTo W.written W.waiting W.faults W.flushes handler.old.join.writer handler.new.join.writer (write_faults result) }
     ensures mapped { IsMapped (requests_outcome handler.old.devices mapper.old.state (delivery R.handed R.faults R.ends requests.old requests.new))
         (since (W.written handler.old.join.writer.now) (W.written handler.new.join.writer.now)) mapper.new.state result }
-    ensures met { HasMet result (R.faults requests.old) (R.faults requests.new) }
+    ensures met { HasMet result R.faults R.ends requests.old requests.new }
 {
     match handle_requests(requests, handler, mapper) {
         Ok(ending) => ending,
@@ -74,7 +74,7 @@ fn map_requests<'s, T: Taken, R: Input, W: Output>(
     ensures writes { HasWritten W.written W.waiting W.faults W.flushes output.old output.new (write_faults result) }
     ensures mapped { IsMapped (requests_outcome stack.now mapper.old.state (delivery R.handed R.faults R.ends requests.old requests.new))
         (since (W.written output.old) (W.written output.new)) mapper.new.state result }
-    ensures met { HasMet result (R.faults requests.old) (R.faults requests.new) }
+    ensures met { HasMet result R.faults R.ends requests.old requests.new }
 {
     let mut handler = RequestMapper {
         devices: LastDevice::new(stack),
@@ -122,7 +122,7 @@ fn map_and_flush<'s, T: Taken, R: Input, W: Output>(
     requires { CanMap stack.now mapper.old }
     ensures mapper { StaysMapper mapper.old mapper.new result }
     ensures reads { IsReadOn R.handed R.faults R.ends requests.old requests.new }
-    ensures met { HasMet result (R.faults requests.old) (R.faults requests.new) }
+    ensures met { HasMet result R.faults R.ends requests.old requests.new }
     ensures ran { HasRun W.written W.waiting W.faults W.flushes output.old output.new
         (run_outcome stack.now status mapper.old.state (delivery R.handed R.faults R.ends requests.old requests.new)) mapper.new.state result }
 {
@@ -168,9 +168,10 @@ pub fn run<'s, T: Taken, R: Input, W: Output, E: Output>(
     ensures ran { HasRun W.written W.waiting W.faults W.flushes output.old output.new
         (run_outcome stack.now status mapper.old.state (delivery R.handed R.faults R.ends requests.old requests.new)) mapper.new.state result }
     // Requests are only read on, and nothing is read after an end or a fault. It ends with `ReadFault` only where reading failed,
-    // and with `Done` only where it did not.
+    // and with `Done` only where it did not. Nothing is read after a bad line: any read may fail or come to an end, and neither
+    // was met, but for the end that leaves a line unended.
     ensures reads { IsReadOn R.handed R.faults R.ends requests.old requests.new }
-    ensures met { HasMet result (R.faults requests.old) (R.faults requests.new) }
+    ensures met { HasMet result R.faults R.ends requests.old requests.new }
     // The message of the ending, or a beginning of it if its stream failed.
     ensures told { HasTold E.written E.faults E.flushes (ending_message result) messages.old messages.new }
     // No other pieces of a request's units are as few.

@@ -3,11 +3,11 @@
 //! What is handed on depends on the bytes and ends that the input delivered, and on nothing else. A
 //! new check of a line goes into `request_of`, in the order in which `specs/Requests.antt` has it.
 
-ghost use Rattle.std.specs.Prelude.{◌≡◌, ◌≢◌, ◌+◌, ◌<◌, ◌≤◌, ◌∷◌, [], length, take, drop, Ok, Some, IfOk, IfErr, IfSome, OnOk};
+ghost use Rattle.std.specs.Prelude.{◌≡◌, ◌≢◌, ◌+◌, ◌<◌, ◌≤◌, ◌∷◌, [], length, take, drop, Ok, Some, IfOk, IfErr, IfSome, OnErr, OnOk};
 ghost use Rattle.dm_table.specs.DeviceIo.{delivery};
 ghost use Rattle.dm_stream.specs.Lines.{line_parts};
 ghost use Rattle.dm_stream.specs.declared.lines.TheConstants.{MOST_LINE_BYTES};
-ghost use Rattle.dm_table.specs.Progress.{IsReadOn};
+ghost use Rattle.dm_table.specs.Progress.{IsReadOn, MetNothing};
 ghost use Rattle.dm_stream.specs.Requests.{HasMet, IsAmong, Requests, after_requests, is_bad, line_requests, numbered, requests_of, word_for};
 
 use crate::ending::{Ending, RequestWord};
@@ -90,7 +90,8 @@ pub fn handle_requests<R: Input, H: Handler>(
 ) -> Result<Ending, H::Fault>
     requires { H.ready handler.old source.old }
     ensures moved { IsReadOn R.handed R.faults R.ends requests.old requests.new }
-    ensures met { IfOk result (λ ending. HasMet ending (R.faults requests.old) (R.faults requests.new)) }
+    // Any read may fail or come to an end, so where neither was met none was asked for after the line.
+    ensures met { IfOk result (λ ending. HasMet ending R.faults R.ends requests.old requests.new) }
     // All requests were answered, and they end by themselves.
     ensures answered { IfOk result (λ ending. H.answered handler.old source.old (requests_of (delivery R.handed R.faults R.ends requests.old requests.new)).all handler.new source.new) }
     ensures ending { IfOk result (λ ending. (requests_of (delivery R.handed R.faults R.ends requests.old requests.new)).ending ≡ Some ending) }
@@ -99,6 +100,7 @@ pub fn handle_requests<R: Input, H: Handler>(
     // The handler stopped at one of them.
     ensures stopped { IfErr result (λ fault. IsAmong (λ first. H.stopped handler.old source.old first fault handler.new source.new)
         (requests_of (delivery R.handed R.faults R.ends requests.old requests.new)).all) }
+    ensures unread { OnErr result (MetNothing R.faults R.ends requests.old requests.new) }
 {
     let mut lines = Lines::new();
     let mut fronts = FrontReader::new();

@@ -1,5 +1,5 @@
 -- What the status of an exit says of the run, and of the streams.
-use Rattle.std.proofs.Common.{◌≡◌, ◌≢◌, ◌⊎◌, Bool, ℕ, List, [], Option, Some, inl, inr, refl, sym, ap, subst, ◌∙◌, arith}
+use Rattle.std.proofs.Common.{◌≡◌, ◌≢◌, ◌≤◌, ◌⊎◌, Bool, ℕ, List, [], Option, Some, inl, inr, refl, sym, ap, subst, ◌∙◌, arith}
 use Rattle.dm_table.specs.declared.load_fault.LoadFault.{LoadFault}
 use Rattle.dm_table.specs.declared.load_fault.LoadKind.{LoadKind}
 use Rattle.dm_table.specs.declared.load_fault.LoadKind.TheVariants as kinds
@@ -10,6 +10,7 @@ use Rattle.dm_stack.specs.Description.{Description}
 use Rattle.dm_map.specs.State.{State, start_state}
 use Rattle.dm_stream.specs.declared.ending.Ending.{Ending}
 use Rattle.dm_stream.specs.declared.ending.Ending.TheVariants as endings
+use Rattle.dm_stream.specs.declared.ending.RequestWord.TheVariants as words
 use Rattle.dm_stream.specs.Messages.{HasTold, ending_message}
 use Rattle.dm_stream.specs.Outcome.{Outcome, run_outcome}
 use Rattle.dm_table.proofs.ProgressLaws.{finished_as, finished_untouched, grows-same}
@@ -50,6 +51,7 @@ untouched_requests handed faults ends status requests refused = record {
   read_on = record { grows = grows-same (handed requests) (handed requests); no_more = omega arith };
   read_fault = λ four. absurd (omega (arith, refused, four));
   no_fault = λ _. omega arith;
+  bad_line = λ _. omega arith;
   unasked = λ _. record { same_handed = refl; same_faults = refl; same_ends = refl };
 }
 
@@ -80,6 +82,12 @@ five_is : (ending : Ending) → ending_status ending ≡ 5 → ending ≡ ending
 five_is endings.WriteFault five = refl
 five_is ending five = absurd (omega arith)
 
+-- no read failed at a bad line
+three_met : {X : Type 0} (faults ends : X → ℕ) (old new : X) (ending : Ending) → ending_status ending ≡ 3 → HasMet ending faults ends old new → faults new ≤ faults old
+three_met faults ends old new (endings.BadRequest number words.Unended) three met = met
+three_met faults ends old new (endings.BadRequest number word) three met = omega (arith, met.0)
+three_met faults ends old new ending three met = absurd (omega arith)
+
 never_one : (ending : Ending) → ending_status ending ≡ 1 → ⊥
 never_one endings.Done one = omega arith
 never_one ending one = omega arith
@@ -106,11 +114,12 @@ ran_failed written waiting faults flushes old new flag requests description star
 
 -- how its requests were read
 pub ran_requests : {X : Type 0} (handed : X → List ℕ) (faults ends : X → ℕ) (ending : Ending) (status : ℕ) (old new : X) → status ≡ ending_status ending → IsReadOn handed faults ends old new
-    → HasMet ending (faults old) (faults new) → RequestsRead handed faults ends status old new
+    → HasMet ending faults ends old new → RequestsRead handed faults ends status old new
 ran_requests handed faults ends ending status old new is read_on met = record {
   read_on = read_on;
-  read_fault = λ four. subst (λ (e : Ending). HasMet e (faults old) (faults new)) (four_is ending (sym is ∙ four)) met;
-  no_fault = λ zero. subst (λ (e : Ending). HasMet e (faults old) (faults new)) (zero_is ending (sym is ∙ zero)) met;
+  read_fault = λ four. subst (λ (e : Ending). HasMet e faults ends old new) (four_is ending (sym is ∙ four)) met;
+  no_fault = λ zero. subst (λ (e : Ending). HasMet e faults ends old new) (zero_is ending (sym is ∙ zero)) met;
+  bad_line = λ three. three_met faults ends old new ending (sym is ∙ three) met;
   unasked = λ one. absurd (never_one ending (sym is ∙ one));
 }
 

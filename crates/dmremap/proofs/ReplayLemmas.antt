@@ -1,12 +1,12 @@
 -- What the requests that a player was handed say of a replay, and what the flush adds.
-use Rattle.std.proofs.Common.{◌≡◌, ◌≢◌, inl, inr, ℕ, ◌+◌, List, [], ◌∷◌, ◌++◌, Result, Ok, Err, IfErr, IsErr, OnErr, OnOk, refl, sym, ap, subst, ◌∙◌, append_assoc, arith}
+use Rattle.std.proofs.Common.{◌≡◌, ◌≢◌, ◌⊎◌, inl, inr, ℕ, ◌+◌, List, [], ◌∷◌, ◌++◌, Result, Ok, Err, IfErr, IsErr, OnErr, OnOk, refl, sym, ap, subst, ◌∙◌, append_assoc, arith}
 use Rattle.std.proofs.lemmas.List.{append-nil}
 use Rattle.dm_table.specs.DeviceIo.{since}
 use Rattle.dm_table.specs.WriteAll.{IsCutShort}
 use Rattle.dm_stack.specs.Description.{Description}
 use Rattle.dm_stream.specs.declared.ending.Ending.TheVariants as endings
 use Rattle.dm_table.proofs.ProgressLaws.{finished_as, since-same}
-use Rattle.dm_table.specs.Progress.{HasWritten, IsClosedAfter, IsFlushed, Wrote}
+use Rattle.dm_table.specs.Progress.{HasWritten, IsClosedAfter, IsFlushed, IsReadOn, MetNothing, Wrote}
 use Rattle.dm_stream.specs.Requests.{IsAmong, NumberedRequest, Requests}
 use Rattle.dm_replay.specs.declared.replay_fault.ReplayFault.{ReplayFault}
 use Rattle.dm_replay.specs.declared.value_run.ValueRun.{ValueRun}
@@ -19,9 +19,10 @@ use Rattle.dmremap.specs.declared.replay_run.NotPlayed.TheVariants as causes
 use Rattle.dmremap.specs.declared.replay_run.ReplayEnd.{ReplayEnd}
 use Rattle.dmremap.specs.declared.replay_run.ReplayEnd.TheVariants as ends
 use Rattle.dmremap.specs.Played.{HasPlayed, HasStopped, end_for}
-use Rattle.dmremap.specs.ReplayOutcome.{AreAnswered, IsAnswer, IsCutReplay, IsPlayed, StopsAt, asked_of, end_faults}
+use Rattle.dmremap.specs.ReplayOutcome.{AreAnswered, HasMetEnd, IsAnswer, IsCutReplay, IsPlayed, StopsAt, asked_of, end_faults}
 use Rattle.dmremap.specs.ReplayWhole.{IsReplayed, OnMemory, end_status}
-use Rattle.dmremap.specs.Streams.{OutputWritten}
+use Rattle.dmremap.specs.Streams.{OutputWritten, RequestsRead}
+use Rattle.dmremap.proofs.ExitLemmas.{ran_requests}
 
 -- ---- one request
 
@@ -211,3 +212,37 @@ closed_failed written waiting faults flushes stack requests old mid new fault en
     ended_unsent written waiting faults flushes stack requests old mid new fault ended other same more moved played closes
 closed_failed written waiting faults flushes stack requests old mid new fault ended (Err before) other is failed more same moved played closes =
     ended_unflushed written waiting faults flushes stack requests old mid new fault before ended is failed.1 moved played closes
+
+-- ---- how the requests were read
+
+-- nothing more is read where it stopped
+pub stopped_met : {X : Type 0} (faults ends_of : X → ℕ) (old new : X) (cause : NotPlayed) (e : ReplayEnd) → e ≡ end_for cause → MetNothing faults ends_of old new → HasMetEnd e faults ends_of old new
+stopped_met faults ends_of old new (causes.NotTop number) e is met = subst (λ (x : ReplayEnd). HasMetEnd x faults ends_of old new) (sym is) met
+stopped_met faults ends_of old new causes.Memory e is met = subst (λ (x : ReplayEnd). HasMetEnd x faults ends_of old new) (sym is) tt
+stopped_met faults ends_of old new causes.Output e is met = subst (λ (x : ReplayEnd). HasMetEnd x faults ends_of old new) (sym is) tt
+
+-- where it ended
+ended_requests : {X : Type 0} (handed : X → List ℕ) (faults ends_of : X → ℕ) (old new : X) (e : ReplayEnd) → IsReadOn handed faults ends_of old new → HasMetEnd e faults ends_of old new → RequestsRead handed faults ends_of (end_status e) old new
+ended_requests handed faults ends_of old new (ends.Ran ending) read_on met = ran_requests handed faults ends_of ending _ old new refl read_on met
+ended_requests handed faults ends_of old new (ends.NotTop number) read_on met = record {
+  read_on = read_on;
+  read_fault = λ four. absurd (omega (arith, four));
+  no_fault = λ zero. absurd (omega (arith, zero));
+  bad_line = λ _. omega (arith, met.0);
+  unasked = λ one. absurd (omega (arith, one));
+}
+ended_requests handed faults ends_of old new ends.Memory read_on met = record {
+  read_on = read_on;
+  read_fault = λ four. absurd (omega (arith, four));
+  no_fault = λ zero. absurd (omega (arith, zero));
+  bad_line = λ three. absurd (omega (arith, three));
+  unasked = λ one. absurd (omega (arith, one));
+}
+
+-- unless the flush after it failed
+pub closed_requests : {X : Type 0} (handed : X → List ℕ) (faults ends_of : X → ℕ) (old new : X) (before after : ReplayEnd) → (after ≡ before) ⊎ (after ≡ ends.Ran endings.WriteFault) → IsReadOn handed faults ends_of old new
+    → HasMetEnd before faults ends_of old new → RequestsRead handed faults ends_of (end_status after) old new
+closed_requests handed faults ends_of old new before after (inl same) read_on met =
+    subst (λ (e : ReplayEnd). RequestsRead handed faults ends_of (end_status e) old new) (sym same) (ended_requests handed faults ends_of old new before read_on met)
+closed_requests handed faults ends_of old new before after (inr failed) read_on met =
+    subst (λ (e : ReplayEnd). RequestsRead handed faults ends_of (end_status e) old new) (sym failed) (ended_requests handed faults ends_of old new (ends.Ran endings.WriteFault) read_on tt)

@@ -1,5 +1,6 @@
 -- What a replay of the requests that were delivered writes, and where it ends.
 use Rattle.std.specs.Prelude.{◌≡◌, ℕ, List, [], ◌∷◌, ◌++◌, None, Some}
+use Rattle.dm_table.specs.Progress.{MetNothing}
 use Rattle.dm_table.specs.WriteAll.{IsCutShort}
 use Rattle.dm_stack.specs.Description.{Description, device_id}
 use Rattle.dm_stream.specs.declared.ending.Ending.{Ending}
@@ -88,7 +89,7 @@ end_faults (ends.NotTop number) = 0
 end_faults ends.Memory = 0
 
 -- what the input of requests met, by where the replay ended
-abbrev pub HasMetEnd : ReplayEnd → (faults_old faults_new : ℕ) → Type 0
-HasMetEnd (ends.Ran ending) faults_old faults_new = HasMet ending faults_old faults_new
-HasMetEnd (ends.NotTop number) faults_old faults_new = Unit {0}
-HasMetEnd ends.Memory faults_old faults_new = Unit {0}
+abbrev pub HasMetEnd : {X : Type 0} → ReplayEnd → (faults_of ends_of : X → ℕ) → (old new : X) → Type 0
+HasMetEnd (ends.Ran ending) faults_of ends_of old new = HasMet ending faults_of ends_of old new
+HasMetEnd (ends.NotTop number) faults_of ends_of old new = MetNothing faults_of ends_of old new
+HasMetEnd ends.Memory faults_of ends_of old new = Unit {0}

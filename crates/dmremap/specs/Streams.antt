@@ -11,6 +11,8 @@ pub record RequestsRead {X : Type 0} (handed : X → List ℕ) (faults ends : X 
   -- reading them failed; and where it did, and the output did not, only a request that was not answered takes precedence over that
   pub read_fault : status ≡ 4 → faults old < faults new
   pub no_fault : status ≡ 0 → faults new ≤ faults old
+  -- nothing is asked of them after a request that was bad: any read may fail, and none did
+  pub bad_line : status ≡ 3 → faults new ≤ faults old
   -- they are not asked for where the command was refused before the first of them
   pub unasked : status ≡ 1 → IsUnchanged handed faults ends old new
 

@@ -126,7 +126,7 @@ fn play_lines<'s, Q: Input, W: Output>(
 ) -> ReplayEnd
     requires new { replay.old ≡ new_replay player.old.stack.now }
     ensures reads { IsReadOn Q.handed Q.faults Q.ends requests.old requests.new }
-    ensures met { HasMetEnd result (Q.faults requests.old) (Q.faults requests.new) }
+    ensures met { HasMetEnd result Q.faults Q.ends requests.old requests.new }
     ensures writes { HasWrittenTo W.written W.waiting W.faults W.flushes player.old.output player.new.output (end_faults result) }
     ensures played { IsPlayed player.old.stack.now (requests_of (delivery Q.handed Q.faults Q.ends requests.old requests.new))
         (since (W.written player.old.output.now) (W.written player.new.output.now)) result }
@@ -147,7 +147,7 @@ pub(crate) fn play_requests<'s, Q: Input, W: Output>(
 ) -> ReplayEnd
     requires new { replay.old ≡ new_replay stack.now }
     ensures reads { IsReadOn Q.handed Q.faults Q.ends requests.old requests.new }
-    ensures met { HasMetEnd result (Q.faults requests.old) (Q.faults requests.new) }
+    ensures met { HasMetEnd result Q.faults Q.ends requests.old requests.new }
     ensures writes { HasWritten W.written W.waiting W.faults W.flushes output.old output.new (end_faults result) }
     ensures played { IsPlayed stack.now (requests_of (delivery Q.handed Q.faults Q.ends requests.old requests.new))
         (since (W.written output.old) (W.written output.new)) result }

@@ -3,7 +3,7 @@
 //! What comes out depends on the bytes that were delivered, unless memory runs out. `replay_run` plays
 //! the requests; here are the load before it, and the flush and the message after it.
 
-ghost use Rattle.std.specs.Prelude.{◌≡◌, ◌≢◌, List, ℕ, OnErr, OnOk, is_some};
+ghost use Rattle.std.specs.Prelude.{◌≡◌, ◌≢◌, ◌⊎◌, List, ℕ, OnErr, OnOk, is_some};
 ghost use Rattle.dm_table.specs.DeviceIo.{Delivery, delivery, since};
 ghost use Rattle.dm_table.specs.LoadMessage.{memory_message};
 ghost use Rattle.dm_table.specs.Progress.{IsReadOn, HasWritten, IsFlushed};
@@ -13,7 +13,7 @@ ghost use Rattle.dm_stack.specs.Description.{Description};
 ghost use Rattle.dmremap.specs.declared.replay_whole.ReplayExit.{ReplayExit};
 ghost use Rattle.dmremap.specs.declared.words.Format.{Format};
 ghost use Rattle.dmremap.specs.Inputs.{IsReadOnIf, IsUnchanged, delivery_if};
-ghost use Rattle.dmremap.specs.ReplayOutcome.{HasMetEnd, IsPlayed, end_faults};
+ghost use Rattle.dmremap.specs.ReplayOutcome.{IsPlayed, end_faults};
 ghost use Rattle.dmremap.specs.ReplayWhole.{IsPlain, IsReplayed, OnMemory, ReplayGives, StackGives, WhereMemoryRanOut, end_status, replay_message, replay_status};
 ghost use Rattle.dmremap.specs.Streams.{Exits, MessagesTold, OutputWritten, RequestsRead};
 ghost use Rattle.dmremap.specs.Words.{has_disk_list};
@@ -144,7 +144,7 @@ fn end_replay<W: Output>(ended: ReplayEnd, output: &mut W) -> ReplayEnd
         → IsReplayed stack requests (since (W.written start) (W.written output.new)) (W.flushes start) (W.flushes output.new) result
         × OutputWritten W.written W.waiting W.faults W.flushes (end_status result) start output.new
         × OnMemory result (IsFlushed W.waiting W.flushes start output.new) }
-    ensures met { (old new : ℕ) → HasMetEnd ended old new → HasMetEnd result old new }
+    ensures ends { (result ≡ ended) ⊎ (result ≡ ReplayEnd.Ran Ending.WriteFault) }
 {
     match close(written_by(ended), output) {
         Ok(()) => ended,

@@ -1,5 +1,5 @@
 use Rattle.dm_table.specs.DeviceIo.{delivery}
-use Rattle.dm_stream.proofs.Runs.{all_mapped, part_mapped}
+use Rattle.dm_stream.proofs.Runs.{all_mapped, part_mapped, stopped_met}
 use Rattle.dm_stream.proofs.map_run.map_lines.Goals as goal
 
 pub returns-in-Ok-clause-mapped : goal.returns-in-Ok-clause-mapped
@@ -17,3 +17,7 @@ returns-in-Err-clause-mapped g c =
     let new = c.handle_requests.new.handler in
     part_mapped old.devices c.in-Err.cause c.ending_of.result c.args.mapper.now.state c.handle_requests.new.source (delivery g.R.Input.handed g.R.Input.faults g.R.Input.ends c.args.requests.now c.handle_requests.new.requests)
     (written old.join.writer.now) (written new.join.writer.now) _ c.ending_of.ensures (λ first stopped. stopped.0) c.in-Err.ensures.stopped
+
+pub returns-in-Err-clause-met : goal.returns-in-Err-clause-met
+returns-in-Err-clause-met g c =
+    stopped_met g.R.Input.faults g.R.Input.ends c.args.requests.now c.handle_requests.new.requests c.in-Err.cause c.ending_of.result c.ending_of.ensures c.in-Err.ensures.unread

@@ -8,7 +8,7 @@ use Rattle.dm_stream.specs.declared.ending.Ending as ending
 use Rattle.dm_stream.specs.declared.ending.RequestWord as word
 use Rattle.dm_stream.specs.declared.lines.Next as next
 use Rattle.dm_stream.proofs.Fronts.{held_next, told_front}
-use Rattle.dm_stream.proofs.Turns.{Told, after_waiting, told_none, told_turn, ended, among}
+use Rattle.dm_stream.proofs.Turns.{Told, after_waiting, bad_met, told_none, told_turn, ended, among}
 use Rattle.dm_stream.proofs.requests.handle_requests.Goals as goal
 
 pub lines-init : goal.lines-init
@@ -91,6 +91,12 @@ lines-preserved g c =
 pub returns-in-Err-request_of-clause-answered : goal.returns-in-Err-request_of-clause-answered
 returns-in-Err-request_of-clause-answered g c =
     ended g.R.Input.handed g.R.Input.faults g.R.Input.ends g.H.Handler.answered (ALine c.in-Line.line.now) (ending.TheVariants.BadRequest (c.lines.number + 1) c.in-Err-request_of.word) g.met.H.Handler.answered_then_answered c.lines.invariant.turned (c.before_read.ensures.answered c.lines.source) c.in-Line.ensures.reads.grows c.in-Line.ensures.answer c.in-Err-request_of.ensures.bad
+
+pub returns-in-Err-request_of-clause-met : goal.returns-in-Err-request_of-clause-met
+returns-in-Err-request_of-clause-met g c =
+    let turned = c.lines.invariant.turned in
+    bad_met g.R.Input.faults g.R.Input.ends c.args.requests.now c.next.new.reader (c.lines.number + 1) c.in-Err-request_of.word
+    (c.in-Line.ensures.quiet.0 ∙ turned.faults, c.in-Line.ensures.quiet.1 ∙ turned.ends)
 
 pub returns-in-End-clause-answered : goal.returns-in-End-clause-answered
 returns-in-End-clause-answered g c =
