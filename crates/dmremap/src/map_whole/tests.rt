@@ -75,6 +75,16 @@ const VOLUME: Case<'static> = Case {
     streams: STEADY,
 };
 
+/// A group of two volumes, of which the second has two stripes and is read-only.
+const GROUP: Case<'static> = Case {
+    name: "a group",
+    source: "contents = \"Text Format Volume Group\"\nversion = 1\nvg0 {\n  extent_size = 8192\n  physical_volumes {\n    pv0 {\n      device = \"/dev/sda1\"\n      dev_size = 1050624\n      pe_start = 2048\n      pe_count = 128\n    }\n  }\n  logical_volumes {\n    lv0 {\n      status = [\"READ\", \"WRITE\", \"VISIBLE\"]\n      segment_count = 1\n      segment1 {\n        start_extent = 0\n        extent_count = 25\n        type = \"striped\"\n        stripe_count = 1\n        stripes = [\"pv0\", 0]\n      }\n    }\n    lv-1 {\n      status = [\"READ\"]\n      segment_count = 1\n      segment1 {\n        start_extent = 0\n        extent_count = 4\n        type = \"striped\"\n        stripe_count = 2\n        stripe_size = 128\n        stripes = [\"pv0\", 25, \"pv0\", 27]\n      }\n    }\n  }\n}\n",
+    disks: "",
+    requests: b"R vg0-lv0 0 8\nR vg0-lv--1 120 16\nW vg0-lv--1 0 8\n",
+    output: b"1 R /dev/sda1 2048 8\n2 R /dev/sda1 206968 8\n2 R /dev/sda1 223232 8\n3 error 8\n",
+    ..VOLUME
+};
+
 /// An input of some bytes, which fails after a number of them if there is one.
 fn input(bytes: &[u8], step: usize, fails_after: Option<usize>) -> ShortIn<'_>
     requires { 0 < step }
@@ -147,4 +157,25 @@ fn check_answer(rt: &impl Abort, case: &Case<'_>, status: u8, output: &[u8], mes
     assert!(rt; output == case.output, "the output of {}", case.name);
     assert!(rt; messages == case.message, "the message of {}", case.name);
     assert_eq!(rt; status, case.status, "the status of {}", case.name);
+}
+
+/// Metadata is loaded with memory for what it says, and has no list of disks.
+#[test]
+fn a_group(rt: HostRuntime) {
+    let mut source = input(GROUP.source.as_bytes(), PLENTY, None);
+    let mut disks: Option<ShortIn<'_>> = None;
+    let mut requests = input(GROUP.requests, PLENTY, None);
+    let mut written = output(&rt, rt.alloc(), PLENTY, None, false);
+    let mut messages = output(&rt, rt.alloc(), PLENTY, None, false);
+    let status = map_whole(
+        rt.alloc(),
+        Format::Lvm,
+        GROUP.flag,
+        &mut source,
+        &mut disks,
+        &mut requests,
+        &mut written,
+        &mut messages,
+    );
+    check_answer(&rt, &GROUP, status, written.as_slice(), messages.as_slice());
 }
