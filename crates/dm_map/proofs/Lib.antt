@@ -29,6 +29,7 @@ pub mod Served
 pub mod ServedRuns
 pub mod Settled
 pub mod SortedLemmas
+pub mod StoppedRequests
 pub mod Stores
 pub mod Stripes
 pub mod TableLemmas

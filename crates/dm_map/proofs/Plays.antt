@@ -3,7 +3,7 @@ use Rattle.std.proofs.Common.{◌≡◌, inl, inr, ℕ, zero, suc, ◌+◌, ◌<
 use Rattle.std.specs.Prelude.{◌==◌}
 use Rattle.std.specs.List.{AllByRecursion}
 use Rattle.std.proofs.lemmas.Bool.{and_parts, eqb-true, eq-eqb, cases_lt}
-use Rattle.dm_map.specs.Contents.{Values, answers, played, played_unit, sector_after, stored, value_read}
+use Rattle.dm_map.specs.Contents.{Values, answers, played, played_unit, sector_after, sector_past, stored, value_read}
 use Rattle.dm_map.specs.Homes.{Home}
 use Rattle.dm_map.specs.SnapshotWrites.{copy_to, row}
 use Rattle.dm_map.specs.Units.{BlockUnit, ReadOf, WriteOf, Zeros, CopyOf, FillOf}
@@ -111,6 +111,11 @@ played_on zeros written at (u ∷ us) vs values each =
     ap (λ (s : ℕ). played zeros written s (us ++ vs) (played_unit zeros (written at) u values)) (stays_at u at each.0)
     ∙ played_on zeros written at us vs (played_unit zeros (written at) u values) each.1
     ∙ sym (ap (λ (s : ℕ). played zeros written at vs (played zeros written s us (played_unit zeros (written at) u values))) (stays_at u at each.0))
+
+pub past-append : (units more : List BlockUnit) (sector : ℕ) → sector_past (units ++ more) sector ≡ sector_past more (sector_past units sector)
+unfolding sector_past
+past-append [] more sector = refl
+past-append (unit ∷ units) more sector = past-append units more (sector_after unit sector)
 
 -- Values are asked sector by sector, so what is the same stays the same
 

@@ -36,6 +36,11 @@ unfoldable pub played : {V : Type 0} → (zeros : V) → (written : ℕ → V) �
 played zeros written sector [] values = values
 played zeros written sector (unit ∷ units) values = played zeros written (sector_after unit sector) units (played_unit zeros (written sector) unit values)
 
+-- the sector that the unit after these ones is for
+unfoldable pub sector_past : List BlockUnit → (sector : ℕ) → ℕ
+sector_past [] sector = sector
+sector_past (unit ∷ units) sector = sector_past units (sector_after unit sector)
+
 -- what the unit of a read gives: a value, or none where it is an error
 abbrev pub value_read : {V : Type 0} → (zeros : V) → Values V → BlockUnit → Option V
 value_read zeros values (ReadOf disk sector) = Some (values disk sector)

@@ -19,6 +19,7 @@ pub mod SnapshotWrites
 pub mod Snapshots
 pub mod State
 pub mod Steps
+pub mod Stops
 pub mod Stretch
 pub mod Tables
 pub mod Units
