@@ -21,10 +21,15 @@ PLACES = {
     ("dm_map/piece_list", "piece", "self.pieces.push"): STD,
     ("dm_map/run_taken", "with_places", "count > u32::MAX as usize"):
         "none: so many places are refused as too much memory (docs/DECISIONS.md); a load allows 4,194,304",
+    ("dm_replay/playback", "play_front", "mapper.request"):
+        "where the sink did not stop at the last unit asked for, its error is that of a growth",
     ("dm_replay/playback", "play_request", "mapper.request"):
         "its sink's error is that of a growth, and the mapper is going",
     ("dm_replay/playing", "answer", "self.next.checked_add"):
         "none: no request comes there, since it is played from 2^50 at most, and for 1,048,576 sectors at most",
+    ("dm_replay/replay", "halt", "asked.push"): STD,
+    ("dm_replay/replay", "halt", "play_front"): OURS,
+    ("dm_replay/replay", "halt", "rerun"): OURS,
     ("dm_replay/replay", "new", "Mapper::new"): OURS,
     ("dm_replay/replay", "refuse_clash", "stack.tidy"): OURS,
     ("dm_replay/replay", "request", "play_request"): OURS,

@@ -1,3 +1,4 @@
+pub mod HaltedPlays
 pub mod NamedLemmas
 pub mod OfDiskLemmas
 pub mod OneRuns
@@ -6,6 +7,7 @@ pub mod OwnWorlds
 pub mod PatchLemmas
 pub mod Playbacks
 pub mod PlayedLemmas
+pub mod RerunLemmas
 pub mod RunLemmas
 pub mod RunTextLemmas
 pub mod UnitPlays

@@ -1,5 +1,5 @@
 -- What a read of a top device answers, where no claims meet: what the device would hold alone, or an error.
-use Rattle.std.proofs.Common.{◌≡◌, ◌⊎◌, inl, inr, ℕ, zero, suc, ◌+◌, Bool, true, false, cond, List, [], ◌∷◌, Option, nat_lt, replicate, refl, sym, ap, subst}
+use Rattle.std.proofs.Common.{◌≡◌, ◌⊎◌, inl, inr, ℕ, zero, suc, ◌+◌, Bool, true, false, cond, List, [], ◌∷◌, Option, None, nat_lt, replicate, refl, sym, ap, subst}
 use Rattle.std.specs.List.{AllByRecursion}
 use Rattle.dm_table.specs.declared.request.Op.TheVariants as ops
 use Rattle.dm_stack.specs.declared.graph.TheConstants.{MOST_DEPTH}
@@ -13,13 +13,15 @@ use Rattle.dm_map.specs.State.{State}
 use Rattle.dm_map.specs.Steps.{keep, steps}
 use Rattle.dm_map.specs.Units.{BlockUnit, ReadOf, Zeros, Fails}
 use Rattle.dm_map.proofs.Made.{IsRead, Sector, Nothing, Fault, is_read}
+use Rattle.dm_replay.specs.declared.asked_request.AskedRequest.{AskedRequest}
 use Rattle.dm_replay.specs.declared.value.Value.{Value}
 use Rattle.dm_replay.specs.declared.value.Value.TheVariants as value
 use Rattle.dm_replay.specs.Histories.{Asked, World, asked_answers, world_after}
-use Rattle.dm_replay.specs.Replay.{IsWholeOfTop}
+use Rattle.dm_replay.specs.Replay.{IsKept}
+use Rattle.dm_replay.specs.Reruns.{all_asked}
 use Rattle.dm_replay.specs.Rows.{AreOfRow, Rows, read_answer, rows_after}
 use Rattle.dm_replay.specs.Values.{Gives, Failed, Values, played_answers}
-use Rattle.dm_replay.proofs.OwnWorlds.{BeginsOwn, IsOwn, StaysOwn, answer_of, own_after, read_same}
+use Rattle.dm_replay.proofs.OwnWorlds.{AreAlone, IsOwn, answer_of, own_after, read_same}
 
 -- one sector after the other
 abbrev AreRead : Description → State → Values → Rows → (device : ℕ) → Type 0
@@ -79,8 +81,8 @@ request_of_row stack state number device start len values rows each = by_end (na
     by_end true = errors_of_row number device start len values rows
     by_end false = reads_of_row stack state number device start len values rows each
 
-pub own_answers : (stack : Description) (all : List Asked) (asked : Asked) → BeginsOwn stack → StaysOwn stack → IsTidy stack → AllByRecursion (IsWholeOfTop stack) all → IsWholeOfTop stack asked → asked.op ≡ ops.Read
-    → AreOfRow (rows_after stack all) asked.device asked.start (asked_answers stack (world_after stack all) asked)
-own_answers stack all asked begins stays tidy each of reads =
-    let world = world_after stack all in let rows = rows_after stack all in
-    rw (of.whole, reads) (request_of_row stack world.state asked.number asked.device asked.start asked.len world.values rows (are_read stack world rows asked.device of.top (own_after stack all begins stays tidy each)))
+pub own_answers : (stack : Description) (all : List AskedRequest) (asked : Asked) → AreAlone stack → IsTidy stack → AllByRecursion (IsKept stack) all → IsTop stack asked.device → asked.stopped_after ≡ None → asked.op ≡ ops.Read
+    → AreOfRow (rows_after stack (all_asked all)) asked.device asked.start (asked_answers stack (world_after stack (all_asked all)) asked)
+own_answers stack all asked law tidy each top whole reads =
+    let world = world_after stack (all_asked all) in let rows = rows_after stack (all_asked all) in
+    rw (whole, reads) (request_of_row stack world.state asked.number asked.device asked.start asked.len world.values rows (are_read stack world rows asked.device top (own_after stack all law tidy each)))

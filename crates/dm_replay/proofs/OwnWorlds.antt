@@ -1,20 +1,23 @@
 -- Worlds in which each top device has what it would have alone, or errors: they stay so where no claims meet.
-use Rattle.std.proofs.Common.{◌≡◌, ℕ, suc, ◌==◌, ◌&&◌, Bool, true, false, cond, List, [], ◌∷◌, Option, Some, None, refl}
+use Rattle.std.proofs.Common.{◌≡◌, ℕ, suc, ◌≤◌, ◌==◌, ◌&&◌, Bool, true, false, cond, List, [], ◌∷◌, Option, Some, None, refl}
 use Rattle.std.specs.List.{AllByRecursion}
 use Rattle.dm_table.specs.declared.request.Op.{Op}
 use Rattle.dm_stack.specs.declared.id.Lower.TheVariants.{Device}
 use Rattle.dm_stack.specs.Claims.{IsTidy, IsTop}
 use Rattle.dm_stack.specs.Description.{Description}
-use Rattle.dm_map.specs.Contents.{played, sector_after, value_read}
+use Rattle.dm_map.specs.Contents.{played, sector_after, sector_past, value_read}
 use Rattle.dm_map.specs.Mapping.{request_step}
 use Rattle.dm_map.specs.OwnRows.{AreOwn, Rows as Kept, first_rows as first_kept, row_unit as kept_unit, rows_played}
 use Rattle.dm_map.specs.SnapshotWrites.{read}
 use Rattle.dm_map.specs.State.{State, start_state}
+use Rattle.dm_map.specs.Stops.{stopped_state, stopped_units}
 use Rattle.dm_map.specs.Units.{BlockUnit, ReadOf, WriteOf}
+use Rattle.dm_replay.specs.declared.asked_request.AskedRequest.{AskedRequest}
 use Rattle.dm_replay.specs.declared.value.Value.{Value}
 use Rattle.dm_replay.specs.declared.value.Value.TheVariants as value
-use Rattle.dm_replay.specs.Histories.{Asked, World, asked_units, first_world, next_world, world_after, world_from}
-use Rattle.dm_replay.specs.Replay.{IsWholeOfTop}
+use Rattle.dm_replay.specs.Histories.{Asked, World, asked_step, asked_units, first_world, left_state, next_world, played_of, world_after, world_from}
+use Rattle.dm_replay.specs.Replay.{IsKept}
+use Rattle.dm_replay.specs.Reruns.{all_asked, asked_of}
 use Rattle.dm_replay.specs.Rows.{Rows, read_answer, row_unit, row_units, rows_after, rows_from}
 use Rattle.dm_replay.specs.Values.{Answer, Gives, Failed, Values, old_values}
 
@@ -28,6 +31,22 @@ StaysOwn stack = (zeros : Value) (written : ℕ → Value) (op : Op) (state : St
     → AreOwn zeros stack (request_step stack op top start len state).state
     (played zeros written start (request_step stack op top start len state).units values)
     (rows_played written top start (request_step stack op top start len state).units rows)
+
+abbrev pub StopsOwn : Description → Type 0
+StopsOwn stack = (zeros : Value) (written : ℕ → Value) (op : Op) (state : State) (top start len count : ℕ) (values : Values) (rows : Kept Value) → IsTidy stack → IsTop stack top → AreOwn zeros stack state values rows
+    → AreOwn zeros stack (stopped_state stack op top start len count state)
+    (played zeros written start (stopped_units stack op top start len count state) values)
+    (rows_played written top start (stopped_units stack op top start len count state) rows)
+
+abbrev pub FewOwn : Description → Type 0
+FewOwn stack = (zeros : Value) (op : Op) (state : State) (top start len count : ℕ) (values : Values) (rows : Kept Value) → IsTidy stack → IsTop stack top → AreOwn zeros stack state values rows
+    → sector_past (stopped_units stack op top start len count state) 0 ≤ len
+
+pub record AreAlone (stack : Description) : Type 0 where
+  pub begins : BeginsOwn stack
+  pub stays : StaysOwn stack
+  pub stops : StopsOwn stack
+  pub few : FewOwn stack
 
 -- Rows, as that law says them
 
@@ -63,25 +82,39 @@ pub record IsOwn (stack : Description) (world : World) (rows : Rows) : Type 0 wh
   pub own : AreOwn value.Zero stack world.state world.values kept
   pub same : AreSame rows kept
 
-own_next : (stack : Description) (world : World) (asked : Asked) (rows : Rows) → StaysOwn stack → IsTidy stack → IsWholeOfTop stack asked → IsOwn stack world rows
+own_next : (stack : Description) (world : World) (asked : Asked) (rows : Rows) → AreAlone stack → IsTidy stack → IsTop stack asked.device → IsOwn stack world rows
     → IsOwn stack (next_world stack world asked) (row_units asked.number asked.device asked.start (asked_units stack asked world.state) rows)
-own_next stack world asked rows stays tidy of was =
-    let step = request_step stack asked.op asked.device asked.start asked.len world.state in
-    rw of.whole (record {
-      kept = rows_played (value.Wrote asked.number) asked.device asked.start step.units was.kept;
-      own = stays value.Zero (value.Wrote asked.number) asked.op world.state asked.device asked.start asked.len world.values was.kept tidy of.top was.own;
-      same = rows_same asked.number asked.device asked.start step.units rows was.kept was.same;
-    })
+own_next stack world asked rows law tidy top was = by_stop asked.stopped_after
+  where
+    by_stop : (stop : Option ℕ) → IsOwn stack
+        (record { state = left_state stack stop asked world.state; values = played value.Zero (value.Wrote asked.number) asked.start (played_of stop (asked_step stack asked world.state).units) world.values })
+        (row_units asked.number asked.device asked.start (played_of stop (asked_step stack asked world.state).units) rows)
+    by_stop None =
+        let units = (asked_step stack asked world.state).units in
+        record {
+          kept = rows_played (value.Wrote asked.number) asked.device asked.start units was.kept;
+          own = law.stays value.Zero (value.Wrote asked.number) asked.op world.state asked.device asked.start asked.len world.values was.kept tidy top was.own;
+          same = rows_same asked.number asked.device asked.start units rows was.kept was.same;
+        }
+    by_stop (Some count) =
+        let units = stopped_units stack asked.op asked.device asked.start asked.len count world.state in
+        record {
+          kept = rows_played (value.Wrote asked.number) asked.device asked.start units was.kept;
+          own = law.stops value.Zero (value.Wrote asked.number) asked.op world.state asked.device asked.start asked.len count world.values was.kept tidy top was.own;
+          same = rows_same asked.number asked.device asked.start units rows was.kept was.same;
+        }
 
-own_from : (stack : Description) (world : World) (all : List Asked) (rows : Rows) → StaysOwn stack → IsTidy stack → AllByRecursion (IsWholeOfTop stack) all → IsOwn stack world rows → IsOwn stack (world_from stack world all) (rows_from stack world all rows)
+own_from : (stack : Description) (world : World) (all : List AskedRequest) (rows : Rows) → AreAlone stack → IsTidy stack → AllByRecursion (IsKept stack) all → IsOwn stack world rows
+    → IsOwn stack (world_from stack world (all_asked all)) (rows_from stack world (all_asked all) rows)
 unfolding world_from rows_from
-own_from stack world [] rows stays tidy each was = was
-own_from stack world (asked ∷ later) rows stays tidy each was =
-    own_from stack (next_world stack world asked) later (row_units asked.number asked.device asked.start (asked_units stack asked world.state) rows) stays tidy each.1 (own_next stack world asked rows stays tidy each.0 was)
+own_from stack world [] rows law tidy each was = was
+own_from stack world (kept ∷ later) rows law tidy each was =
+    let asked = asked_of kept in
+    own_from stack (next_world stack world asked) later (row_units asked.number asked.device asked.start (asked_units stack asked world.state) rows) law tidy each.1 (own_next stack world asked rows law tidy each.0.top was)
 
-pub own_after : (stack : Description) (all : List Asked) → BeginsOwn stack → StaysOwn stack → IsTidy stack → AllByRecursion (IsWholeOfTop stack) all → IsOwn stack (world_after stack all) (rows_after stack all)
-own_after stack all begins stays tidy each = own_from stack (first_world stack) all _ stays tidy each (record {
+pub own_after : (stack : Description) (all : List AskedRequest) → AreAlone stack → IsTidy stack → AllByRecursion (IsKept stack) all → IsOwn stack (world_after stack (all_asked all)) (rows_after stack (all_asked all))
+own_after stack all law tidy each = own_from stack (first_world stack) all _ law tidy each (record {
   kept = first_kept value.Zero stack old_values;
-  own = begins value.Zero old_values;
+  own = law.begins value.Zero old_values;
   same = λ device sector. read_same (read stack (start_state stack) (Device device) sector) old_values;
 })

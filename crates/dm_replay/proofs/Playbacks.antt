@@ -1,23 +1,30 @@
 -- The playback of a request whose first sector isn't taken beyond its device.
-use Rattle.std.proofs.Common.{◌≡◌, inl, inr, ℕ, ◌+◌, ◌<◌, ◌≤◌, true, min, List, [], ◌++◌, refl, sym, ap, ◌∙◌, arith}
+use Rattle.std.proofs.Common.{◌≡◌, inl, inr, ℕ, zero, suc, ◌+◌, ◌<◌, ◌≤◌, true, length, min, List, [], ◌∷◌, ◌++◌, take, refl, sym, ap, subst, ◌∙◌, arith}
 use Rattle.std.specs.Prelude.{nat_lt}
 use Rattle.std.proofs.lemmas.Bool.{cases_lt}
 use Rattle.std.proofs.lemmas.Bool.Decides.{nat_tests}
 use Rattle.dm_table.specs.declared.request.Op.{Op}
 use Rattle.dm_table.specs.declared.request.Request.{Request}
 use Rattle.dm_stack.specs.Description.{Description, device_len}
+use Rattle.dm_map.specs.Contents.{sector_past}
 use Rattle.dm_map.specs.Mapping.{request_step}
 use Rattle.dm_map.specs.State.{State}
 use Rattle.dm_map.specs.Steps.{Step}
+use Rattle.dm_map.specs.Stops.{stopped_units}
 use Rattle.dm_map.specs.Units.{BlockUnit, Fails, units_in}
 use Rattle.dm_map.proofs.Rows.{step_past_end}
 use Rattle.dm_replay.specs.declared.disk_values.DiskValues.{DiskValues}
+use Rattle.dm_replay.specs.declared.halting.Halting.{Halting}
+use Rattle.dm_replay.specs.declared.player.Player.{Player}
 use Rattle.dm_replay.specs.declared.playing.Playing.{Playing}
 use Rattle.dm_replay.specs.declared.value_run.ValueRun.{ValueRun}
+use Rattle.dm_replay.specs.OfDisks.{AreUnitsOf, AreValuesOf}
 use Rattle.dm_replay.specs.Patches.{values_in}
 use Rattle.dm_replay.specs.Player.{HasPlayed}
 use Rattle.dm_replay.specs.Runs.{flat}
 use Rattle.dm_replay.specs.Values.{Values, played, played_answers}
+use Rattle.dm_replay.proofs.HaltedPlays.{HasPlayedFront}
+use Rattle.dm_replay.proofs.OfDiskLemmas.{played_of, same_of}
 use Rattle.dm_replay.proofs.UnitPlays.{fails_answer, fails_played}
 
 -- units that all fail are the same wherever they begin
@@ -42,11 +49,36 @@ played_from stack op device start len number state values some = elim (cases_lt 
       let same : min start (device_len stack device) ≡ start = omega (arith, within) in rw same (refl, refl)
 ]
 
+-- and so may the first of its units
+front_fails : (count n : ℕ) → (k : ℕ) × (units_in Fails k ≡ take count (units_in Fails n))
+front_fails zero n = (0, refl)
+front_fails (suc count) zero = (0, refl)
+front_fails (suc count) (suc n) =
+    let rest = front_fails count n in
+    (suc rest.0, ap (λ (units : List BlockUnit). Fails ∷ units) rest.1)
+
+front_from : (stack : Description) (op : Op) (device start len count number : ℕ) (state : State) (values : Values) → 1 ≤ len
+    → played number (min start (device_len stack device)) (stopped_units stack op device start len count state) values ≡ played number start (stopped_units stack op device start len count state) values
+front_from stack op device start len count number state values some = elim (cases_lt (device_len stack device) start) [
+  | inl beyond ↦
+      let front = front_fails count len in
+      (fails_anywhere (stopped_units stack op device start len count state) front.0 number (min start (device_len stack device)) start values
+      (front.1 ∙ ap (λ (step : Step). take count step.units) (step_past_end stack op device start len state (is_past (device_len stack device) start len some beyond)))).0
+  | inr within ↦
+      let same : min start (device_len stack device) ≡ start = omega (arith, within) in rw same refl
+]
+
 abbrev pub units_asked : Description → Request → (device : ℕ) → State → List BlockUnit
 units_asked stack request device state = (request_step stack request.op device request.start request.len state).units
 
 abbrev held : Playing → Values
 held p = values_in p.values.patches.items
+
+-- what units leave that are played from where a playback began
+begun_values : (old begun ended : Playing) (number first : ℕ) (units : List BlockUnit) → begun ≡ record { values = old.values; number = number; next = first; runs = [] } → HasPlayed begun units ended
+    → (disk sector : ℕ) → held ended disk sector ≡ played number first units (held old) disk sector
+begun_values old begun ended number first units begun_is has disk sector =
+    has.values_are disk sector ∙ ap (λ (p : Playing). played p.number p.next units (held p) disk sector) begun_is
 
 -- the values that a playback leaves
 pub playback_values : (old begun ended new : Playing) (stack : Description) (request : Request) (device first : ℕ) (state : State) → first ≡ min request.start (device_len stack device)
@@ -55,10 +87,19 @@ pub playback_values : (old begun ended new : Playing) (stack : Description) (req
 playback_values old begun ended new stack request device first state first_is begun_is new_is has disk sector =
     let units = units_asked stack request device state in
     ap (λ (values : DiskValues). values_in values.patches.items disk sector) new_is
-    ∙ has.values_are disk sector
-    ∙ ap (λ (p : Playing). played p.number p.next units (held p) disk sector) begun_is
+    ∙ begun_values old begun ended request.number first units begun_is has disk sector
     ∙ ap (λ (k : ℕ). played request.number k units (held old) disk sector) first_is
     ∙ ap (λ (values : Values). values disk sector) (played_from stack request.op device request.start request.len request.number state (held old) request.at_least).0
+
+-- and those that one leaves that was stopped
+front_values : (old begun ended : Playing) (stack : Description) (request : Request) (device count first : ℕ) (state : State) → first ≡ min request.start (device_len stack device)
+    → begun ≡ record { values = old.values; number = request.number; next = first; runs = [] } → HasPlayed begun (stopped_units stack request.op device request.start request.len count state) ended
+    → (disk sector : ℕ) → held ended disk sector ≡ played request.number request.start (stopped_units stack request.op device request.start request.len count state) (held old) disk sector
+front_values old begun ended stack request device count first state first_is begun_is has disk sector =
+    let units = stopped_units stack request.op device request.start request.len count state in
+    begun_values old begun ended request.number first units begun_is has disk sector
+    ∙ ap (λ (k : ℕ). played request.number k units (held old) disk sector) first_is
+    ∙ ap (λ (values : Values). values disk sector) (front_from stack request.op device request.start request.len count request.number state (held old) request.at_least)
 
 -- and what it answers
 pub playback_answers : (old begun ended : Playing) (runs : List ValueRun) (stack : Description) (request : Request) (device first : ℕ) (state : State) → first ≡ min request.start (device_len stack device)
@@ -71,3 +112,28 @@ playback_answers old begun ended runs stack request device first state first_is 
     ∙ ap (λ (p : Playing). flat p.runs ++ played_answers p.number p.next units (held p)) begun_is
     ∙ ap (λ (k : ℕ). played_answers request.number k units (held old)) first_is
     ∙ (played_from stack request.op device request.start request.len request.number state (held old) request.at_least).1
+
+-- what is known of a player after the first units of a request, or all of them
+pub record IsFrontPlayed (stack : Description) (request : Request) (device count : ℕ) (state : State) (old : Playing) (later : Player) : Type 0 where
+  pub stack_is : later.stack.now ≡ stack
+  pub next : later.playing.next ≡ sector_past (stopped_units stack request.op device request.start request.len count state) (min request.start (device_len stack device))
+  pub values : (disk sector : ℕ) → held later.playing disk sector ≡ played request.number request.start (stopped_units stack request.op device request.start request.len count state) (held old) disk sector
+  pub disks : AreValuesOf (length stack.disks) (held later.playing)
+
+pub front_played : (stack : Description) (request : Request) (device count first : ℕ) (state : State) (old : Playing) (begun later : Player) (before after : Halting) → first ≡ min request.start (device_len stack device)
+    → begun.playing ≡ record { values = old.values; number = request.number; next = first; runs = [] } → begun.stack.now ≡ stack → before.player ≡ begun → before.left ≡ count → AreValuesOf (length stack.disks) (held old)
+    → HasPlayedFront before (units_asked stack request device state) after → later ≡ after.player → IsFrontPlayed stack request device count state old later
+front_played stack request device count first state old begun later before after first_is begun_is stack_is before_is left_is were front later_is =
+    let all = units_asked stack request device state in
+    let units = stopped_units stack request.op device request.start request.len count state in
+    let playing_is : before.player.playing ≡ record { values = old.values; number = request.number; next = first; runs = [] } = ap (λ (p : Player). p.playing) before_is ∙ begun_is in
+    let same : before.player.stack.now ≡ stack = ap (λ (p : Player). p.stack.now) before_is ∙ stack_is in
+    let has : HasPlayed before.player.playing units after.player.playing = subst (λ (n : ℕ). HasPlayed before.player.playing (take n all) after.player.playing) left_is front.played in
+    let of : AreUnitsOf (length stack.disks) units = subst (λ (n : ℕ). AreUnitsOf (length stack.disks) (take n all)) left_is (subst (λ (s : Description). AreUnitsOf (length s.disks) (take before.left all)) same front.of) in
+    let values = front_values old before.player.playing after.player.playing stack request device count first state first_is playing_is has in
+    subst (λ (p : Player). IsFrontPlayed stack request device count state old p) (sym later_is) (record {
+      stack_is = front.stack ∙ same;
+      next = has.next_is ∙ ap (λ (p : Playing). sector_past units p.next) playing_is ∙ ap (sector_past units) first_is;
+      values = values;
+      disks = same_of (length stack.disks) (played request.number request.start units (held old)) (held after.player.playing) values (played_of (length stack.disks) request.number request.start units (held old) of were);
+    })

@@ -1,6 +1,7 @@
 -- What a player has played.
 use Rattle.std.proofs.Common.{◌≡◌, ℕ, zero, suc, ◌+◌, List, [], ◌∷◌, ◌++◌, refl, sym, ap, subst, ◌∙◌, arith}
 use Rattle.std.proofs.lemmas.List.{append-nil}
+use Rattle.dm_map.specs.Contents.{sector_past}
 use Rattle.dm_map.specs.Units.{BlockUnit, ReadOf, WriteOf, Zeros, Drops, Fails, CopyOf, FillOf, units_in}
 use Rattle.dm_replay.specs.declared.disk_values.DiskValues.{DiskValues}
 use Rattle.dm_replay.specs.declared.playing.Playing.{Playing}
@@ -12,7 +13,7 @@ use Rattle.dm_replay.specs.Player.{HasPlayed}
 use Rattle.dm_replay.specs.PlayLaws.{played_both}
 use Rattle.dm_replay.specs.Ranges.{CanCopyAtOnce, HoldOn, ranged}
 use Rattle.dm_replay.specs.Runs.{answers_in, first_answer, flat, run_answers, run_len}
-use Rattle.dm_replay.specs.Values.{Answer, Gives, Failed, Values, played, played_answers, sector_past}
+use Rattle.dm_replay.specs.Values.{Answer, Gives, Failed, Values, played, played_answers}
 use Rattle.dm_replay.proofs.UnitPlays.{reads_played, reads_answer, reads_past, zeros_played, zeros_answer, zeros_past, drops_played, drops_answer, drops_past, fails_played, fails_answer, fails_past, writes_played, writes_answer, writes_past, fills_played, fills_answer, fills_past, copies_played, copies_answer, copies_past}
 
 abbrev held : Playing → Values

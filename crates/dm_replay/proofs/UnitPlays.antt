@@ -1,13 +1,13 @@
 -- What units in a row do to the values of disks, and answer.
 use Rattle.std.proofs.Common.{◌≡◌, ℕ, zero, suc, ◌+◌, ◌<◌, ◌≤◌, List, [], ◌∷◌, refl, sym, ap, ◌∙◌, arith}
-use Rattle.dm_map.specs.Contents.{stored, played as contents_played}
+use Rattle.dm_map.specs.Contents.{sector_past, stored, played as contents_played}
 use Rattle.dm_map.specs.Units.{ReadOf, WriteOf, Zeros, Drops, Fails, CopyOf, FillOf, units_in}
 use Rattle.dm_replay.specs.declared.value.Value.{Value}
 use Rattle.dm_replay.specs.declared.value.Value.TheVariants as value
 use Rattle.dm_replay.specs.Ranges.{CanCopyAtOnce, HoldOn, ranged}
 use Rattle.dm_replay.specs.PlayLaws.{AreSame}
 use Rattle.dm_replay.specs.Runs.{answers_in}
-use Rattle.dm_replay.specs.Values.{Answer, Gives, Failed, Values, next_value, played, played_answers, sector_past}
+use Rattle.dm_replay.specs.Values.{Answer, Gives, Failed, Values, next_value, played, played_answers}
 use Rattle.dm_replay.proofs.PatchLemmas.{hold_here, hold_later, ranged_none, ranged_step, stored_other}
 
 -- Units that change nothing

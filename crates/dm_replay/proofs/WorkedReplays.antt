@@ -1,5 +1,5 @@
 -- Replays worked by hand, against which the definitions are checked.
-use Rattle.std.proofs.Common.{◌≡◌, ℕ, false, List, [], ◌∷◌, None, refl}
+use Rattle.std.proofs.Common.{◌≡◌, ℕ, false, List, [], ◌∷◌, Option, None, Some, refl}
 use Rattle.dm_table.specs.declared.request.Op.{Op}
 use Rattle.dm_table.specs.declared.request.Op.TheVariants.{Read, Write}
 use Rattle.dm_table.specs.declared.table.DevRef.TheVariants as refs
@@ -7,7 +7,7 @@ use Rattle.dm_table.specs.declared.table.StoreKind.TheVariants.{Persistent}
 use Rattle.dm_table.specs.declared.table.Target.TheVariants as targets
 use Rattle.dm_stack.specs.Description.{Description}
 use Rattle.dm_map.specs.Homes.{home_to}
-use Rattle.dm_map.specs.Contents.{played as contents_played}
+use Rattle.dm_map.specs.Contents.{sector_past, played as contents_played}
 use Rattle.dm_map.specs.Mapping.{write_step}
 use Rattle.dm_map.specs.Reads.{read_unit}
 use Rattle.dm_map.proofs.WorkedRows.{device, disk, line}
@@ -24,8 +24,11 @@ sample = record {
   disks = disk 48 4 ∷ disk 49 6 ∷ disk 50 6 ∷ [];
 }
 
+abbrev request_to : Option ℕ → (number : ℕ) → Op → (device start len : ℕ) → Asked
+request_to stop number op device start len = record { number = number; op = op; device = device; start = start; len = len; stopped_after = stop }
+
 abbrev request : (number : ℕ) → Op → (device start len : ℕ) → Asked
-request number op device start len = record { number = number; op = op; device = device; start = start; len = len; stopped_after = None }
+request = request_to None
 
 -- request 1 writes the first sector of s, and request 2 that of t
 abbrev written : List Asked
@@ -65,3 +68,24 @@ lost_row = refl
 failed_row : rows_after sample overfull 0 2 ≡ Gives (value.Old 0 2)
 unfolding rows_from row_units write_step read_unit home_to
 failed_row = refl
+
+-- request 1 writes two sectors of s, which are one chunk: it has two copies and two writes, of which the first three are played
+abbrev halted : List Asked
+halted = request_to (Some 3) 1 Write 0 0 2 ∷ []
+
+-- the sector that was written is read, and the chunk is taken
+halted_read : asked_answers sample (world_after sample halted) (request 2 Read 0 0 3) ≡ Gives (value.Wrote 1 0) ∷ Gives (value.Old 0 1) ∷ Gives (value.Old 0 2) ∷ []
+unfolding world_from contents_played played_answers sector_past write_step read_unit home_to
+halted_read = refl
+
+halted_row : rows_after sample halted 0 0 ≡ Gives (value.Wrote 1 0)
+unfolding rows_from row_units write_step read_unit home_to
+halted_row = refl
+
+-- of another one only the copies: its chunk is not taken, and the place is taken by a later write
+abbrev torn : List Asked
+torn = request_to (Some 2) 1 Write 0 0 2 ∷ request 2 Write 0 2 1 ∷ []
+
+torn_read : asked_answers sample (world_after sample torn) (request 3 Read 0 0 4) ≡ Gives (value.Old 0 0) ∷ Gives (value.Old 0 1) ∷ Gives (value.Wrote 2 2) ∷ Gives (value.Old 0 3) ∷ []
+unfolding world_from contents_played played_answers sector_past write_step read_unit home_to
+torn_read = refl

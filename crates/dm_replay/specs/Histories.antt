@@ -1,14 +1,13 @@
 -- What the disks of a stack hold after requests, and what a request answers then.
-use Rattle.std.specs.Prelude.{ℕ, ◌+◌, List, [], ◌∷◌, Option, Some, None, nat_lt, take, if◌then◌else◌}
+use Rattle.std.specs.Prelude.{ℕ, List, [], ◌∷◌, Option, Some, None, take}
 use Rattle.dm_table.specs.declared.request.Op.{Op}
-use Rattle.dm_stack.specs.declared.graph.TheConstants.{MOST_DEPTH}
-use Rattle.dm_stack.specs.declared.id.Lower.TheVariants.{Device}
-use Rattle.dm_stack.specs.Description.{Description, device_len}
-use Rattle.dm_map.specs.Mapping.{request_step, sector_step}
+use Rattle.dm_stack.specs.Description.{Description}
+use Rattle.dm_map.specs.Mapping.{request_step}
 use Rattle.dm_map.specs.State.{State, start_state}
-use Rattle.dm_map.specs.Steps.{Step, steps}
+use Rattle.dm_map.specs.Steps.{Step}
+use Rattle.dm_map.specs.Stops.{stopped_state}
 use Rattle.dm_map.specs.Units.{BlockUnit}
-use Rattle.dm_replay.specs.Values.{Answer, Values, old_values, played, played_answers, sector_past}
+use Rattle.dm_replay.specs.Values.{Answer, Values, old_values, played, played_answers}
 
 -- a request that was accepted, of a device by its id; it was played whole, or stopped after this many of its units
 pub record Asked : Type 0 where
@@ -31,16 +30,10 @@ played_of (Some count) units = take count units
 abbrev pub asked_units : Description → Asked → State → List BlockUnit
 asked_units stack asked state = played_of asked.stopped_after (asked_step stack asked state).units
 
--- the state after the first sectors of a request: one that passes the device's end changes nothing
-abbrev pub state_past : Description → Asked → (sectors : ℕ) → State → State
-state_past stack asked sectors state =
-    if nat_lt (device_len stack asked.device) (asked.start + asked.len) then state
-    else (steps (sector_step stack asked.op MOST_DEPTH (Device asked.device)) state asked.start sectors).state
-
 -- the state that it leaves: that after all its sectors, or after those whose units were all played
 abbrev pub left_state : Description → Option ℕ → Asked → State → State
 left_state stack None asked state = (asked_step stack asked state).state
-left_state stack (Some count) asked state = state_past stack asked (sector_past (take count (asked_step stack asked state).units) 0) state
+left_state stack (Some count) asked state = stopped_state stack asked.op asked.device asked.start asked.len count state
 
 -- the state of a stack, and what its disks hold
 pub record World : Type 0 where

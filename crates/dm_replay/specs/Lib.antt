@@ -1,3 +1,5 @@
+pub mod HaltLaws
+pub mod Halting
 pub mod Histories
 pub mod OfDiskLaws
 pub mod OfDisks
@@ -6,6 +8,7 @@ pub mod PlayLaws
 pub mod Player
 pub mod Ranges
 pub mod Replay
+pub mod Reruns
 pub mod Rows
 pub mod RunText
 pub mod Runs

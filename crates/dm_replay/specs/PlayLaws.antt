@@ -1,16 +1,16 @@
 -- Laws of play: in parts, and on values that are the same. They are here because a sink's impl cites them.
 use Rattle.std.proofs.Common.{◌≡◌, ℕ, List, [], ◌∷◌, ◌++◌, append_assoc, refl, sym, ap, ◌∙◌}
 use Rattle.std.proofs.lemmas.List.{append-nil}
-use Rattle.dm_map.specs.Contents.{sector_after, played as contents_played}
+use Rattle.dm_map.specs.Contents.{sector_after, sector_past, played as contents_played}
 use Rattle.dm_map.specs.Units.{BlockUnit, ReadOf}
-use Rattle.dm_map.proofs.Plays.{unit_cong, played_cong as values_cong}
+use Rattle.dm_map.proofs.Plays.{past-append, unit_cong, played_cong as values_cong}
 use Rattle.dm_replay.specs.declared.playing.Playing.{Playing}
 use Rattle.dm_replay.specs.declared.value.Value.{Value}
 use Rattle.dm_replay.specs.declared.value.Value.TheVariants as value
 use Rattle.dm_replay.specs.Patches.{values_in}
 use Rattle.dm_replay.specs.Player.{HasPlayed}
 use Rattle.dm_replay.specs.Runs.{flat}
-use Rattle.dm_replay.specs.Values.{Answer, Gives, Values, played_unit, unit_answers, played, played_answers, sector_past}
+use Rattle.dm_replay.specs.Values.{Answer, Gives, Values, played_unit, unit_answers, played, played_answers}
 
 -- values that are the same, sector by sector
 abbrev pub AreSame : Values → Values → Type 0
@@ -45,11 +45,6 @@ answers-append request sector (unit ∷ units) more values =
     ap (λ (later : List Answer). unit_answers request sector unit values ++ later) (answers-append request (sector_after unit sector) units more rest)
     ∙ sym (append_assoc (unit_answers request sector unit values) (played_answers request (sector_after unit sector) units rest) (played_answers request (sector_past units (sector_after unit sector)) more (played request (sector_after unit sector) units rest)))
 
-pub sector_past-append : (units more : List BlockUnit) (sector : ℕ) → sector_past (units ++ more) sector ≡ sector_past more (sector_past units sector)
-unfolding sector_past
-sector_past-append [] more sector = refl
-sector_past-append (unit ∷ units) more sector = sector_past-append units more (sector_after unit sector)
-
 -- a player that plays nothing, and one that goes on
 
 pub played_nothing : (a : Playing) → HasPlayed a [] a
@@ -77,6 +72,6 @@ played_both a b c units more first second =
           ∙ ap (λ (next : ℕ). played_answers a.number next more left) first.next_is
           ∙ answers_cong a.number past more left between first.values_are)
           ∙ ap (λ (answers : List Answer). flat a.runs ++ answers) (sym (answers-append a.number a.next units more held));
-      next_is = second.next_is ∙ ap (λ (next : ℕ). sector_past more next) first.next_is ∙ sym (sector_past-append units more a.next);
+      next_is = second.next_is ∙ ap (λ (next : ℕ). sector_past more next) first.next_is ∙ sym (past-append units more a.next);
       number_is = second.number_is ∙ first.number_is;
     }

@@ -1,10 +1,11 @@
 -- What a player of units has played.
 use Rattle.std.specs.Prelude.{◌≡◌, ℕ, List, ◌++◌}
+use Rattle.dm_map.specs.Contents.{sector_past}
 use Rattle.dm_map.specs.Units.{BlockUnit}
 use Rattle.dm_replay.specs.declared.playing.Playing.{Playing}
 use Rattle.dm_replay.specs.Patches.{values_in}
 use Rattle.dm_replay.specs.Runs.{flat}
-use Rattle.dm_replay.specs.Values.{played, played_answers, sector_past}
+use Rattle.dm_replay.specs.Values.{played, played_answers}
 
 -- these units were played, and answered
 pub record HasPlayed (old : Playing) (units : List BlockUnit) (new : Playing) : Type 0 where

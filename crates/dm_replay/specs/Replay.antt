@@ -1,17 +1,21 @@
 -- A replay, and what its results say.
-use Rattle.std.specs.Prelude.{◌≡◌, ℕ, Bool, true, false, List, [], None, Some, length, position}
+use Rattle.std.specs.Prelude.{◌≡◌, ℕ, ◌<◌, ◌≤◌, Bool, true, false, List, [], None, Some, length, position}
 use Rattle.std.specs.List.{AllByRecursion}
 use Rattle.dm_table.specs.declared.request.Request.{Request}
+use Rattle.dm_table.specs.declared.request.TheConstants.{MOST_SECTORS}
 use Rattle.dm_stack.specs.declared.clash.Clash.{Clash}
 use Rattle.dm_stack.specs.Claims.{IsClash, IsTidy, IsTop, claims}
 use Rattle.dm_stack.specs.Description.{Description, device_id, is_same}
 use Rattle.dm_map.specs.Mapper.{MapperView}
+use Rattle.dm_map.specs.State.{start_state}
+use Rattle.dm_replay.specs.declared.asked_request.AskedRequest.{AskedRequest}
 use Rattle.dm_replay.specs.declared.patch.Patch.{Patch}
 use Rattle.dm_replay.specs.declared.replay_fault.ReplayFault.{ReplayFault}
 use Rattle.dm_replay.specs.declared.replay_fault.ReplayFault.TheVariants as faults
 use Rattle.dm_replay.specs.Histories.{Asked, world_after}
 use Rattle.dm_replay.specs.OfDisks.{AreValuesOf}
 use Rattle.dm_replay.specs.Patches.{values_in}
+use Rattle.dm_replay.specs.Reruns.{all_asked, kept_request, rerun_from}
 
 -- a replay: its stack, the requests that it accepted, and whether it stopped
 pub record Replaying : Type 0 where
@@ -24,11 +28,15 @@ new_replay of = record { stack = of; asked = []; stopped = false }
 
 -- a request of a device that is played to its end
 abbrev pub whole_request : Request → (id : ℕ) → Asked
-whole_request request id = record { number = request.number; op = request.op; device = id; start = request.start; len = request.len; stopped_after = None }
+whole_request request id = kept_request request id None
 
 -- the same, of the device that it names
 abbrev pub asked_request : Description → Request → Asked
 asked_request stack request = whole_request request (device_id stack request.device.now)
+
+-- and one that is stopped after this many units
+abbrev pub halted_request : Description → Request → (units : ℕ) → Asked
+halted_request stack request units = kept_request request (device_id stack request.device.now) (Some units)
 
 -- a top device has the name
 pub record HasTop (of : Description) (name : List ℕ) : Type 0 where
@@ -50,22 +58,31 @@ IsNotAnswered faults.Memory name old new = (old.stopped ≡ false) × HasTop old
 IsNotAnswered faults.NotTop name old new = (old.stopped ≡ false) × (HasTop old.stack name → ⊥) × (new ≡ old)
 IsNotAnswered faults.Stopped name old new = (old.stopped ≡ true) × (new ≡ old)
 
--- a request of a top device that was played to its end
-pub record IsWholeOfTop (of : Description) (asked : Asked) : Type 0 where
-  pub top : IsTop of asked.device
-  pub whole : asked.stopped_after ≡ None
+-- why a request for the device of a name was not halted: the replay is spent
+abbrev pub IsNotHalted : ReplayFault → List ℕ → Replaying → Type 0
+IsNotHalted faults.Untidy name old = ⊥
+IsNotHalted faults.Memory name old = (old.stopped ≡ false) × HasTop old.stack name
+IsNotHalted faults.NotTop name old = (old.stopped ≡ false) × (HasTop old.stack name → ⊥)
+IsNotHalted faults.Stopped name old = old.stopped ≡ true
 
--- what a replay keeps is the world after its requests
-pub record IsGoing (of : Description) (mapper : MapperView) (disks : Description) (patches : List Patch) (all : List Asked) : Type 0 where
+-- a request of a top device of the stack, of which no more sectors are whole than a request has
+pub record IsKept (of : Description) (kept : AskedRequest) : Type 0 where
+  pub there : kept.device < length of.devices
+  pub top : IsTop of kept.device
+  pub few : kept.whole ≤ MOST_SECTORS
+
+-- what a replay keeps is the world after its requests; where they are mapped once more, they leave its state
+pub record IsGoing (of : Description) (mapper : MapperView) (disks : Description) (patches : List Patch) (all : List AskedRequest) : Type 0 where
   pub maps : mapper.stopped ≡ false
   pub mapper_stack : mapper.stack ≡ of
   pub player_stack : disks ≡ of
-  pub state_is : mapper.state ≡ (world_after of all).state
-  pub values_are : (disk sector : ℕ) → values_in patches disk sector ≡ (world_after of all).values disk sector
+  pub state_is : mapper.state ≡ (world_after of (all_asked all)).state
+  pub values_are : (disk sector : ℕ) → values_in patches disk sector ≡ (world_after of (all_asked all)).values disk sector
   pub disks_are : AreValuesOf (length of.disks) (values_in patches)
-  pub asked_are : AllByRecursion (IsWholeOfTop of) all
+  pub asked_are : AllByRecursion (IsKept of) all
+  pub rerun_is : rerun_from of (start_state of) all ≡ (world_after of (all_asked all)).state
 
 -- unless it stopped; no claims of its stack meet
-pub record IsReplay (of : Description) (mapper : MapperView) (disks : Description) (patches : List Patch) (all : List Asked) (ended : Bool) : Type 0 where
+pub record IsReplay (of : Description) (mapper : MapperView) (disks : Description) (patches : List Patch) (all : List AskedRequest) (ended : Bool) : Type 0 where
   pub tidy : IsTidy of
   pub going : ended ≡ false → IsGoing of mapper disks patches all

@@ -32,7 +32,7 @@ unit_answers request sector Drops values = Gives value.Zero ∷ []
 unit_answers request sector Fails values = Failed ∷ []
 unit_answers request sector unit values = []
 
--- units in order, from the sector on for which the first answer is given: what they leave, what they answer, and the sector that is answered after them
+-- units in order, from the sector on for which the first answer is given: what they leave, and what they answer
 
 abbrev pub played : (request sector : ℕ) → List BlockUnit → Values → Values
 played request = contents.played value.Zero (value.Wrote request)
@@ -41,10 +41,6 @@ unfoldable pub played_answers : (request sector : ℕ) → List BlockUnit → Va
 played_answers request sector [] values = []
 played_answers request sector (unit ∷ units) values =
     unit_answers request sector unit values ++ played_answers request (sector_after unit sector) units (played_unit request sector unit values)
-
-unfoldable pub sector_past : List BlockUnit → ℕ → ℕ
-sector_past [] sector = sector
-sector_past (unit ∷ units) sector = sector_past units (sector_after unit sector)
 
 -- the value of the next sector, and of that len sectors further on, where they go on from a value
 abbrev pub next_value : Value → Value

@@ -1,35 +1,35 @@
 //! Requests that a replay accepted.
 
 ghost use Rattle.std.specs.Prelude.{◌≡◌};
-ghost use Rattle.dm_replay.specs.Replay.{whole_request};
+ghost use Rattle.dm_replay.specs.Reruns.{asked_of, kept_request};
 
 use dm_stack::DeviceId;
 use dm_table::{Op, Request};
-use std::marker::Model;
 
-/// A request of a device that was played to its end.
-#[derive(Drop)]
+/// A request of a device that was played to its end, or stopped after a number of units.
+#[derive(Clone, Copy, Drop)]
 pub(crate) struct AskedRequest {
-    number: u64,
-    op: Op,
-    device: DeviceId,
-    start: u64,
-    len: u64,
-}
-
-impl Model for AskedRequest {
-    ghost use Rattle.std.specs.Prelude.{None};
-    ghost use Rattle.dm_replay.specs.Histories.{Asked};
-
-    ghost Value = { Asked };
-
-    ghost view = { λ asked. record { number = asked.number; op = asked.op; device = asked.device; start = asked.start; len = asked.len; stopped_after = None } };
+    pub number: u64,
+    pub op: Op,
+    pub device: DeviceId,
+    pub start: u64,
+    pub len: u64,
+    pub stopped_after: Option<u64>,
+    /// How many of its sectors count for the state that it left: those whose units were all played, if
+    /// it lies inside its device.
+    pub whole: u64,
 }
 
 impl AskedRequest {
-    /// A request of this device.
-    pub(crate) fn new(request: &Request<'_>, device: DeviceId) -> AskedRequest
-        ensures { result ≡ whole_request request.now device }
+    /// A request of this device, of which the first sectors were whole.
+    pub(crate) fn new(
+        request: &Request<'_>,
+        device: DeviceId,
+        stopped_after: Option<u64>,
+        whole: u64,
+    ) -> AskedRequest
+        ensures asked { asked_of result ≡ kept_request request.now device stopped_after }
+        ensures whole { result.whole ≡ whole }
     {
         AskedRequest {
             number: request.number,
@@ -37,6 +37,8 @@ impl AskedRequest {
             device,
             start: request.start,
             len: request.len,
+            stopped_after,
+            whole,
         }
     }
 }

@@ -7,6 +7,7 @@
 
 mod asked_request;
 mod disk_values;
+mod halting;
 mod patch;
 mod playback;
 mod player;
@@ -14,6 +15,7 @@ mod playing;
 mod range_values;
 mod replay;
 mod replay_fault;
+mod rerun;
 mod run_text;
 mod value;
 mod value_run;

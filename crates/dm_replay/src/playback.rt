@@ -1,16 +1,20 @@
-//! The playback of one request: its units, through a mapper, on the values of disks.
+//! The playback of one request: its units, or the first of them, through a mapper, on the values of disks.
 
-ghost use Rattle.std.specs.Prelude.{◌≡◌, ℕ, ◌<◌, false, length, IfOk, OnOk};
+ghost use Rattle.std.specs.Prelude.{◌≡◌, ℕ, ◌<◌, false, length, min, IfOk, OnOk};
 ghost use Rattle.std.specs.List.{AllByRecursion};
+ghost use Rattle.dm_stack.specs.Description.{device_len};
+ghost use Rattle.dm_map.specs.Contents.{sector_past};
 ghost use Rattle.dm_map.specs.Mapping.{request_step};
+ghost use Rattle.dm_map.specs.Stops.{stopped_units};
 ghost use Rattle.dm_replay.specs.OfDisks.{AreValuesOf, IsRunOf};
 ghost use Rattle.dm_replay.specs.Patches.{values_in};
 ghost use Rattle.dm_replay.specs.Runs.{AreMaximal, flat};
 ghost use Rattle.dm_replay.specs.Values.{played, played_answers};
 
+use crate::halting::Halting;
 use crate::player::Player;
 use crate::value_run::ValueRun;
-use dm_map::{Mapper, Taken};
+use dm_map::{MapFault, Mapper, Taken};
 use dm_stack::DeviceId;
 use dm_table::Request;
 use std::alloc::{AllocError, Global};
@@ -47,6 +51,41 @@ pub(crate) fn play_request<T: Taken>(
     player.begin(alloc, request.number, first);
     match mapper.request(request, device, player) {
         Ok(()) => Ok(player.take_runs(alloc)),
+        Err(_) => Err(AllocError),
+    }
+}
+
+/// Plays the first `units` units of a request of a device of the stack, or all that it has. The mapper
+/// is spent: it is stopped where there are more.
+///
+/// # Errors
+///
+/// `AllocError` where it is out of memory.
+pub(crate) fn play_front<'s, T: Taken>(
+    alloc: Global,
+    mut mapper: Mapper<'_, T>,
+    mut player: Player<'s>,
+    request: &Request<'_>,
+    device: DeviceId,
+    units: u64,
+) -> Result<Player<'s>, AllocError>
+    requires going { mapper.stopped ≡ false }
+    requires stack { player.stack.now ≡ mapper.stack }
+    requires device { device < length mapper.stack.devices }
+    requires disks { AreValuesOf (length mapper.stack.disks) (values_in player.playing.values.patches.items) }
+    ensures stack { IfOk result (λ later. later.stack.now ≡ player.entry.stack.now) }
+    ensures next { IfOk result (λ later. later.playing.next
+        ≡ sector_past (stopped_units mapper.entry.stack request.now.op device request.now.start request.now.len units mapper.entry.state) (min request.now.start (device_len mapper.entry.stack device))) }
+    ensures values { IfOk result (λ later. (disk sector : ℕ) → values_in later.playing.values.patches.items disk sector
+        ≡ played request.now.number request.now.start (stopped_units mapper.entry.stack request.now.op device request.now.start request.now.len units mapper.entry.state) (values_in player.entry.playing.values.patches.items) disk sector) }
+    ensures disks { IfOk result (λ later. AreValuesOf (length mapper.entry.stack.disks) (values_in later.playing.values.patches.items)) }
+{
+    let first = request.start.min(player.stack.len(device));
+    player.begin(alloc, request.number, first);
+    let mut halting = Halting::new(player, units);
+    match mapper.request(request, device, &mut halting) {
+        Ok(()) => Ok(halting.into_player()),
+        Err(MapFault::Sink(())) if halting.halted => Ok(halting.into_player()),
         Err(_) => Err(AllocError),
     }
 }

@@ -66,7 +66,7 @@ impl<'s> Player<'s> {
     }
 
     /// Plays a piece.
-    fn play(&mut self, piece: Piece) -> Result<(), AllocError>
+    pub(crate) fn play(&mut self, piece: Piece) -> Result<(), AllocError>
         requires some { 1 ≤ piece_len piece }
         requires lies { IsOnDisks self.old.stack.now piece }
         ensures played { OnOk result (HasPlayed self.old.playing (units_of piece) self.new.playing) }

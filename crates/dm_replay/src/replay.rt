@@ -3,15 +3,15 @@
 //! `specs/Histories.antt` says what the disks hold after the requests that were accepted, and what a
 //! request answers then; `specs/Rows.antt` says what each device would hold if it were alone.
 
-ghost use Rattle.std.specs.Prelude.{◌≡◌, ◌∷◌, ◌++◌, [], IfErr, IfOk, IfSome, List, None, OnOk, Option, Some, false, length, position};
+ghost use Rattle.std.specs.Prelude.{◌≡◌, ◌∷◌, ◌+◌, ◌++◌, ◌-◌, ◌<◌, ◌≤◌, [], IfErr, IfOk, IfSome, List, None, OnOk, Option, Some, false, if◌then◌else◌, length, nat_lt, position};
 ghost use Rattle.std.specs.List.{AllByRecursion};
 ghost use Rattle.dm_table.specs.declared.request.Op.TheVariants.{Read};
 ghost use Rattle.dm_stack.specs.Claims.{IsTidy, IsTop};
-ghost use Rattle.dm_stack.specs.Description.{device_id, is_same};
+ghost use Rattle.dm_stack.specs.Description.{device_id, device_len, is_same};
 ghost use Rattle.dm_replay.specs.declared.value_run.ValueRun.{ValueRun};
 ghost use Rattle.dm_replay.specs.Histories.{asked_answers, world_after};
 ghost use Rattle.dm_replay.specs.OfDisks.{IsRunOf};
-ghost use Rattle.dm_replay.specs.Replay.{HasTop, IsNotAnswered, IsNotBegun, asked_request, new_replay};
+ghost use Rattle.dm_replay.specs.Replay.{HasTop, IsNotAnswered, IsNotBegun, IsNotHalted, asked_request, halted_request, new_replay};
 ghost use Rattle.dm_replay.specs.Rows.{AreOfRow, rows_after};
 ghost use Rattle.dm_replay.specs.Runs.{AreMaximal, flat};
 
@@ -19,9 +19,10 @@ ghost use Rattle.dm_replay.specs.Runs.{AreMaximal, flat};
 mod tests;
 
 use crate::asked_request::AskedRequest;
-use crate::playback::play_request;
+use crate::playback::{play_front, play_request};
 use crate::player::Player;
 use crate::replay_fault::ReplayFault;
+use crate::rerun::rerun;
 use crate::value::Value;
 use crate::value_run::ValueRun;
 use dm_map::{Mapper, Taken, requests_are_alone};
@@ -43,10 +44,11 @@ pub struct Replay<'s, T: Taken> {
 
 impl<'s, T: Taken> Model for Replay<'s, T> {
     ghost use Rattle.dm_replay.specs.Replay.{IsReplay, Replaying};
+    ghost use Rattle.dm_replay.specs.Reruns.{all_asked};
 
     ghost Value = { Replaying };
 
-    ghost view = { λ replay. record { stack = replay.stack.now; asked = replay.asked.items; stopped = replay.stopped } };
+    ghost view = { λ replay. record { stack = replay.stack.now; asked = all_asked replay.asked.items; stopped = replay.stopped } };
 
     ghost invariant = { λ replay. IsReplay replay.stack.now replay.mapper replay.player.stack.now replay.player.playing.values.patches.items replay.asked.items replay.stopped };
 }
@@ -118,11 +120,86 @@ impl<'s, T: Taken> Replay<'s, T> {
         else {
             return Err(ReplayFault::Memory);
         };
-        let Ok(()) = self.asked.push(AskedRequest::new(request, device)) else {
+        let Ok(()) = self
+            .asked
+            .push(AskedRequest::new(request, device, None, request.len))
+        else {
             return Err(ReplayFault::Memory);
         };
         self.stopped = false;
         Ok(runs)
+    }
+
+    /// Plays the first `units` units of a request of a top device, or all that it has, and returns the
+    /// replay that goes on from there, in the state after the sectors whose units were all played.
+    ///
+    /// So a chunk of which not all was copied, or whose sector wasn't written after that, is not taken.
+    /// Each unit is played whole, and they are played in order. Requests and further stops may follow.
+    ///
+    /// Cost: that of the request, and of mapping all writes so far once more.
+    ///
+    /// # Errors
+    ///
+    /// `Stopped` where it was out of memory at an earlier request, `NotTop` where no top device has the
+    /// name, and `Memory` where it is out of memory. The replay is spent in any case.
+    pub fn halt(
+        self,
+        alloc: Global,
+        request: &Request<'_>,
+        units: u64,
+    ) -> Result<Replay<'s, T>, ReplayFault>
+        ensures stack { IfOk result (λ later. later.stack ≡ self.entry.stack) }
+        ensures asked { IfOk result (λ later. later.asked ≡ self.entry.asked ++ halted_request self.entry.stack request.now units ∷ []) }
+        ensures going { IfOk result (λ later. (self.entry.stopped ≡ false) × (later.stopped ≡ false)) }
+        ensures top { OnOk result (HasTop self.entry.stack request.now.device.now) }
+        ensures fault { IfErr result (λ fault. IsNotHalted fault request.now.device.now self.entry) }
+    {
+        let Replay {
+            stack,
+            mapper,
+            player,
+            mut asked,
+            stopped,
+        } = self;
+        if stopped {
+            return Err(ReplayFault::Stopped);
+        }
+        let Some(device) = top_device(stack, request.device) else {
+            return Err(ReplayFault::NotTop);
+        };
+        requests_are_alone::<Value>(stack);
+        let Ok(player) = play_front(alloc, mapper, player, request, device, units) else {
+            return Err(ReplayFault::Memory);
+        };
+        let whole = whole_sectors(stack, device, request, player.playing.next);
+        let Ok(()) = asked.push(AskedRequest::new(request, device, Some(units), whole)) else {
+            return Err(ReplayFault::Memory);
+        };
+        let Ok(mapper) = rerun(alloc, stack, &asked) else {
+            return Err(ReplayFault::Memory);
+        };
+        Ok(Replay {
+            stack,
+            mapper,
+            player,
+            asked,
+            stopped: false,
+        })
+    }
+}
+
+/// How many sectors of a request are whole, where the one that is answered next is given: none of one
+/// that passes the device's end.
+fn whole_sectors(stack: &Stack, device: DeviceId, request: &Request<'_>, next: u64) -> u64
+    requires device { device < length stack.now.devices }
+    requires next { request.now.start + request.now.len ≤ device_len stack.now device → request.now.start ≤ next }
+    ensures { result ≡ (if nat_lt (device_len stack.now device) (request.now.start + request.now.len) then 0 else (next - request.now.start)) }
+{
+    let end = stack.len(device);
+    if end < request.start || end - request.start < request.len {
+        0
+    } else {
+        next - request.start
     }
 }
 

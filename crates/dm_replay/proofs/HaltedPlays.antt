@@ -1,0 +1,138 @@
+-- What a halting player has played of a request: the first of its units, or all of them.
+use Rattle.std.proofs.Common.{◌≡◌, ℕ, zero, suc, ◌+◌, ◌<◌, ◌≤◌, true, false, List, [], ◌∷◌, length, take, refl, sym, ap, subst, ◌∙◌, arith}
+use Rattle.std.proofs.lemmas.List.{take_all, take-append-le}
+use Rattle.dm_stack.specs.Description.{Description}
+use Rattle.dm_map.specs.declared.piece.Piece.{Piece}
+use Rattle.dm_map.specs.declared.piece.Piece.TheVariants as pieces
+use Rattle.dm_map.specs.Sink.{OfBeginning}
+use Rattle.dm_map.specs.Units.{BlockUnit, ReadOf, WriteOf, Zeros, Drops, Fails, CopyOf, FillOf, IsOnDisk, IsOnDisks, first_unit, next_unit, piece_len, units_in, units_of}
+use Rattle.dm_replay.specs.declared.halting.Halting.{Halting}
+use Rattle.dm_replay.specs.declared.player.Player.{Player}
+use Rattle.dm_replay.specs.Halting.{HasHalted, HasTaken}
+use Rattle.dm_replay.specs.OfDisks.{AreUnitsOf}
+use Rattle.dm_replay.specs.PlayLaws.{played_nothing}
+use Rattle.dm_replay.specs.Player.{HasPlayed}
+use Rattle.dm_replay.proofs.OfDiskLemmas.{piece_of}
+
+-- Pieces that are cut
+
+pub front_in : (unit : BlockUnit) (n len : ℕ) → n ≤ len → take n (units_in unit len) ≡ units_in unit n
+front_in unit zero len few = refl
+front_in unit (suc n) zero few = absurd (omega (arith, few))
+front_in unit (suc n) (suc len) few = ap (λ (rest : List BlockUnit). unit ∷ rest) (front_in (next_unit unit) n len (omega (arith, few)))
+
+pub length_in : (unit : BlockUnit) (len : ℕ) → length (units_in unit len) ≡ len
+length_in unit zero = refl
+length_in unit (suc len) = ap suc (length_in (next_unit unit) len)
+
+shorter : (stack : Description) (disk start n len : ℕ) → n ≤ len → IsOnDisk stack disk start len → IsOnDisk stack disk start n
+shorter stack disk start n len few lies = record { there = lies.there; inside = omega (arith, few, lies.inside) }
+
+-- the sectors of units that go on from one are there
+abbrev AreOn : Description → BlockUnit → (len : ℕ) → Type 0
+AreOn stack (ReadOf disk sector) len = IsOnDisk stack disk sector len
+AreOn stack (WriteOf disk sector) len = IsOnDisk stack disk sector len
+AreOn stack (CopyOf disk sector to to_sector) len = IsOnDisk stack disk sector len × IsOnDisk stack to to_sector len
+AreOn stack (FillOf disk sector) len = IsOnDisk stack disk sector len
+AreOn stack unit len = Unit {0}
+
+fewer_on : (stack : Description) (unit : BlockUnit) (n len : ℕ) → n ≤ len → AreOn stack unit len → AreOn stack unit n
+fewer_on stack (ReadOf disk sector) n len few on = shorter stack disk sector n len few on
+fewer_on stack (WriteOf disk sector) n len few on = shorter stack disk sector n len few on
+fewer_on stack (CopyOf disk sector to to_sector) n len few on = (shorter stack disk sector n len few on.0, shorter stack to to_sector n len few on.1)
+fewer_on stack (FillOf disk sector) n len few on = shorter stack disk sector n len few on
+fewer_on stack Zeros n len few on = tt
+fewer_on stack Drops n len few on = tt
+fewer_on stack Fails n len few on = tt
+
+of_piece : (stack : Description) (piece : Piece) → IsOnDisks stack piece → AreOn stack (first_unit piece) (piece_len piece)
+of_piece stack (pieces.Read disk start len) lies = lies
+of_piece stack (pieces.Write disk start len) lies = lies
+of_piece stack (pieces.Zero len) lies = tt
+of_piece stack (pieces.Drop len) lies = tt
+of_piece stack (pieces.Error len) lies = tt
+of_piece stack (pieces.Copy disk start len to to_start) lies = lies
+of_piece stack (pieces.Fill len disk start) lies = lies
+
+piece_on : (stack : Description) (piece : Piece) → AreOn stack (first_unit piece) (piece_len piece) → IsOnDisks stack piece
+piece_on stack (pieces.Read disk start len) on = on
+piece_on stack (pieces.Write disk start len) on = on
+piece_on stack (pieces.Zero len) on = tt
+piece_on stack (pieces.Drop len) on = tt
+piece_on stack (pieces.Error len) on = tt
+piece_on stack (pieces.Copy disk start len to to_start) on = on
+piece_on stack (pieces.Fill len disk start) on = on
+
+-- a piece that begins as another one, and isn't longer
+pub cut_lies : (stack : Description) (piece cut : Piece) → first_unit cut ≡ first_unit piece → piece_len cut ≤ piece_len piece → IsOnDisks stack piece → IsOnDisks stack cut
+cut_lies stack piece cut first few lies =
+    piece_on stack cut (subst (λ (unit : BlockUnit). AreOn stack unit (piece_len cut)) (sym first) (fewer_on stack (first_unit piece) (piece_len cut) (piece_len piece) few (of_piece stack piece lies)))
+
+-- and its units
+pub cut_units : (piece cut : Piece) → first_unit cut ≡ first_unit piece → piece_len cut ≤ piece_len piece → units_of cut ≡ take (piece_len cut) (units_of piece)
+cut_units piece cut first few = ap (λ (unit : BlockUnit). units_in unit (piece_len cut)) first ∙ sym (front_in (first_unit piece) (piece_len cut) (piece_len piece) few)
+
+-- What is played of a piece
+
+-- all of it
+pub taken_piece : (old new : Halting) (piece : Piece) → IsOnDisks old.player.stack.now piece → HasPlayed old.player.playing (units_of piece) new.player.playing → new.left + piece_len piece ≡ old.left
+    → new.player.stack.now ≡ old.player.stack.now → new.halted ≡ old.halted → HasTaken old (units_of piece) new
+taken_piece old new piece lies has fewer same halted = record {
+  played = has;
+  of = piece_of old.player.stack.now piece lies;
+  fewer = ap (λ (n : ℕ). new.left + n) (length_in (first_unit piece) (piece_len piece)) ∙ fewer;
+  stack = same;
+  halted = halted;
+}
+
+-- the units that are left, by a piece that is cut
+pub halted_piece : (old new : Halting) (piece cut : Piece) → IsOnDisks old.player.stack.now piece → first_unit cut ≡ first_unit piece → piece_len cut ≡ old.left → old.left < piece_len piece
+    → HasPlayed old.player.playing (units_of cut) new.player.playing → new.player.stack.now ≡ old.player.stack.now → HasHalted old (units_of piece) new
+halted_piece old new piece cut lies first len more has same =
+    let few : piece_len cut ≤ piece_len piece = omega (arith, len, more) in
+    let front : units_of cut ≡ take old.left (units_of piece) = cut_units piece cut first few ∙ ap (λ (n : ℕ). take n (units_of piece)) len in
+    record {
+      played = subst (λ (us : List BlockUnit). HasPlayed old.player.playing us new.player.playing) front has;
+      of = subst (λ (us : List BlockUnit). AreUnitsOf (length old.player.stack.now.disks) us) front (piece_of old.player.stack.now cut (cut_lies old.player.stack.now piece cut first few lies));
+      more = omega (arith, more, length_in (first_unit piece) (piece_len piece));
+      stack = same;
+    }
+
+-- none
+pub halted_none : (old new : Halting) (piece : Piece) → old.left ≡ 0 → 1 ≤ piece_len piece → new.player ≡ old.player → HasHalted old (units_of piece) new
+halted_none old new piece none some same =
+    let front : [] ≡ take old.left (units_of piece) = ap (λ (n : ℕ). take n (units_of piece)) (sym none) in
+    record {
+      played = subst (λ (us : List BlockUnit). HasPlayed old.player.playing us new.player.playing) front (subst (λ (p : Player). HasPlayed old.player.playing [] p.playing) (sym same) (played_nothing old.player.playing));
+      of = subst (λ (us : List BlockUnit). AreUnitsOf (length old.player.stack.now.disks) us) front tt;
+      more = omega (arith, none, some, length_in (first_unit piece) (piece_len piece));
+      stack = ap (λ (p : Player). p.stack.now) same;
+    }
+
+-- The first of a request's units
+
+-- as many as were left, or all
+pub record HasPlayedFront (old : Halting) (units : List BlockUnit) (new : Halting) : Type 0 where
+  pub played : HasPlayed old.player.playing (take old.left units) new.player.playing
+  pub of : AreUnitsOf (length old.player.stack.now.disks) (take old.left units)
+  pub stack : new.player.stack.now ≡ old.player.stack.now
+
+pub front_all : (old new : Halting) (units : List BlockUnit) → HasTaken old units new → HasPlayedFront old units new
+front_all old new units taken =
+    let all : take old.left units ≡ units = take_all old.left units (omega (arith, taken.fewer)) in
+    record {
+      played = subst (λ (us : List BlockUnit). HasPlayed old.player.playing us new.player.playing) (sym all) taken.played;
+      of = subst (λ (us : List BlockUnit). AreUnitsOf (length old.player.stack.now.disks) us) (sym all) taken.of;
+      stack = taken.stack;
+    }
+
+pub front_halted : (old new : Halting) (units : List BlockUnit) → OfBeginning (λ (a : Halting) (us : List BlockUnit) (b : Halting). a.halted ≡ false → b.halted ≡ true → HasHalted a us b) old units new → old.halted ≡ false → new.halted ≡ true → HasPlayedFront old units new
+front_halted old new units left going halted =
+    let was = left.holds going halted in
+    let same : take old.left units ≡ take old.left left.front =
+    ap (take old.left) (sym left.whole) ∙ take-append-le old.left left.front left.rest (omega (arith, was.more)) in
+    record {
+      played = subst (λ (us : List BlockUnit). HasPlayed old.player.playing us new.player.playing) (sym same) was.played;
+      of = subst (λ (us : List BlockUnit). AreUnitsOf (length old.player.stack.now.disks) us) (sym same) was.of;
+      stack = was.stack;
+    }

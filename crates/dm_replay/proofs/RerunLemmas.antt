@@ -1,0 +1,126 @@
+-- The state that a stopped request leaves, by mapping its whole sectors once more.
+use Rattle.std.proofs.Common.{◌≡◌, ℕ, zero, suc, ◌+◌, ◌-◌, ◌<◌, ◌≤◌, Bool, true, false, cond, List, [], ◌∷◌, ◌++◌, get_or, length, min, nat_lt, replicate, take, refl, sym, ap, ◌∙◌, arith}
+use Rattle.std.proofs.lemmas.Bool.Decides.{nat_tests}
+use Rattle.std.proofs.lemmas.List.{take_more}
+use Rattle.dm_table.specs.declared.request.Op.{Op}
+use Rattle.dm_table.specs.declared.request.Op.TheVariants as ops
+use Rattle.dm_stack.specs.declared.graph.TheConstants.{MOST_DEPTH}
+use Rattle.dm_stack.specs.declared.id.Lower.TheVariants.{Device}
+use Rattle.dm_stack.specs.Description.{Description, device_len}
+use Rattle.dm_map.specs.Contents.{answers, sector_after, sector_past}
+use Rattle.dm_map.specs.Mapper.{MapperView}
+use Rattle.dm_map.specs.Mapping.{request_step, sector_step}
+use Rattle.dm_map.specs.State.{State, start_state}
+use Rattle.dm_map.specs.Steps.{keep, steps}
+use Rattle.dm_map.specs.Stops.{stopped_state, stopped_units}
+use Rattle.dm_map.specs.Units.{BlockUnit, Fails}
+use Rattle.dm_replay.specs.declared.asked_request.AskedRequest.{AskedRequest}
+use Rattle.dm_replay.specs.Reruns.{rerun_from, rerun_step}
+
+-- Requests that change no state
+
+pub none_mapped : (stack : Description) (op : Op) (device start : ℕ) (state : State) → (request_step stack op device start 0 state).state ≡ state
+none_mapped stack op device start state = by_end (nat_lt (device_len stack device) (start + 0))
+  where
+    by_end : (past : Bool) → (cond past (keep (replicate 0 Fails) state) (steps (sector_step stack op MOST_DEPTH (Device device)) state start 0)).state ≡ state
+    by_end true = refl
+    by_end false = refl
+
+reads_keep : (stack : Description) (device start len : ℕ) (state : State) → (steps (sector_step stack ops.Read MOST_DEPTH (Device device)) state start len).state ≡ state
+reads_keep stack device start zero state = refl
+reads_keep stack device start (suc len) state = reads_keep stack device (suc start) len state
+
+pub read_mapped : (stack : Description) (device start len : ℕ) (state : State) → (request_step stack ops.Read device start len state).state ≡ state
+read_mapped stack device start len state = by_end (nat_lt (device_len stack device) (start + len))
+  where
+    by_end : (past : Bool) → (cond past (keep (replicate len Fails) state) (steps (sector_step stack ops.Read MOST_DEPTH (Device device)) state start len)).state ≡ state
+    by_end true = refl
+    by_end false = reads_keep stack device start len state
+
+-- The sectors past units, from a sector on
+
+past_shift : (units : List BlockUnit) (a b : ℕ) → sector_past units (a + b) ≡ a + sector_past units b
+unfolding sector_past
+past_shift [] a b = refl
+past_shift (unit ∷ units) a b = ap (sector_past units) (one_shift (answers unit)) ∙ past_shift units a (sector_after unit b)
+  where
+    one_shift : (answered : Bool) → cond answered (suc (a + b)) (a + b) ≡ a + cond answered (suc b) b
+    one_shift true = omega arith
+    one_shift false = refl
+
+pub past_from : (units : List BlockUnit) (sector : ℕ) → sector_past units sector ≡ sector + sector_past units 0
+past_from units sector = ap (sector_past units) (let e : sector ≡ sector + 0 = omega arith in e) ∙ past_shift units sector 0
+
+-- The sectors that were whole
+
+-- a request lies inside its device as far as it was played
+inside : (end start len : ℕ) → nat_lt end (start + len) ≡ false → start + len ≤ end
+inside end start len is = grind (arith, nat_tests)
+
+not_past : (end start len : ℕ) → start + len ≤ end → nat_lt end (start + len) ≡ false
+not_past end start len fits = grind (arith, nat_tests)
+
+-- it goes on from its start
+pub next_inside : (end start len next : ℕ) (units : List BlockUnit) → next ≡ sector_past units (min start end) → start + len ≤ end → next ≡ start + sector_past units 0
+next_inside end start len next units is fits = is ∙ ap (sector_past units) (let e : min start end ≡ start = omega (arith, fits) in e) ∙ past_from units start
+
+pub whole_few : (end start len next whole : ℕ) (units : List BlockUnit) → next ≡ sector_past units (min start end) → sector_past units 0 ≤ len → whole ≡ cond (nat_lt end (start + len)) 0 (next - start) → whole ≤ len
+whole_few end start len next whole units is few whole_is = by_end (nat_lt end (start + len)) refl whole_is
+  where
+    by_end : (past : Bool) → nat_lt end (start + len) ≡ past → whole ≡ cond past 0 (next - start) → whole ≤ len
+    by_end true e w = let none : whole ≡ 0 = w in omega (arith, none)
+    by_end false e w =
+        let some : whole ≡ next - start = w in let at = next_inside end start len next units is (inside end start len e) in
+        omega (arith, some, few, at)
+
+pub rerun_halted : (stack : Description) (op : Op) (device start len count next whole : ℕ) (state : State) → next ≡ sector_past (stopped_units stack op device start len count state) (min start (device_len stack device))
+    → sector_past (stopped_units stack op device start len count state) 0 ≤ len → whole ≡ cond (nat_lt (device_len stack device) (start + len)) 0 (next - start)
+    → (request_step stack op device start whole state).state ≡ stopped_state stack op device start len count state
+rerun_halted stack op device start len count next whole state is few whole_is = by_end (nat_lt (device_len stack device) (start + len)) refl whole_is
+  where
+    by_end : (past : Bool) → nat_lt (device_len stack device) (start + len) ≡ past → whole ≡ cond past 0 (next - start)
+        → (request_step stack op device start whole state).state ≡ cond past state (steps (sector_step stack op MOST_DEPTH (Device device)) state start (sector_past (stopped_units stack op device start len count state) 0)).state
+    by_end true e none = ap (λ (n : ℕ). (request_step stack op device start n state).state) none ∙ none_mapped stack op device start state
+    by_end false e some =
+        let end = device_len stack device in
+        let units = stopped_units stack op device start len count state in
+        let step = sector_step stack op MOST_DEPTH (Device device) in
+        let fits = inside end start len e in
+        let rest : whole ≡ next - start = some in
+        let at : next ≡ start + sector_past units 0 = next_inside end start len next units is fits in
+        let same : whole ≡ sector_past units 0 = omega (arith, rest, at) in
+        let within : start + whole ≤ end = omega (arith, fits, same, few) in
+        ap (λ (past : Bool). (cond past (keep (replicate whole Fails) state) (steps step state start whole)).state) (not_past end start whole within)
+        ∙ ap (λ (n : ℕ). (steps step state start n).state) same
+
+-- Requests in a row
+
+-- a mapper in the state after requests, and a sink of its stack
+pub record IsRerun (stack sink : Description) (mapper : MapperView) (all : List AskedRequest) : Type 0 where
+  pub going : mapper.stopped ≡ false
+  pub of : mapper.stack ≡ stack
+  pub same : sink ≡ stack
+  pub state : mapper.state ≡ rerun_from stack (start_state stack) all
+
+pub rerun-push : (stack : Description) (state : State) (all : List AskedRequest) (kept : AskedRequest) → rerun_from stack state (all ++ kept ∷ []) ≡ rerun_step stack kept (rerun_from stack state all)
+unfolding rerun_from
+rerun-push stack state [] kept = refl
+rerun-push stack state (first ∷ all) kept = rerun-push stack (rerun_step stack first state) all kept
+
+pub rerun_first : (stack sink : Description) (mapper : MapperView) (all : List AskedRequest) → mapper.stopped ≡ false → mapper.stack ≡ stack → sink ≡ stack → mapper.state ≡ start_state stack → IsRerun stack sink mapper (take 0 all)
+unfolding rerun_from
+rerun_first stack sink mapper all going of same state = record { going = going; of = of; same = same; state = state }
+
+pub rerun_next : (stack sink newer : Description) (mapper later : MapperView) (all : List AskedRequest) (i : ℕ) (kept : AskedRequest) → i < length all → kept ≡ get_or all i kept → IsRerun stack sink mapper (take i all)
+    → later.stopped ≡ false → later.stack ≡ mapper.stack → newer ≡ sink → later.state ≡ rerun_step mapper.stack kept mapper.state
+    → IsRerun stack newer later (take (i + 1) all)
+rerun_next stack sink newer mapper later all i kept within is was going of same state = record {
+  going = going;
+  of = of ∙ was.of;
+  same = same ∙ was.same;
+  state = state
+      ∙ ap (λ (of : Description). rerun_step of kept mapper.state) was.of
+      ∙ ap (rerun_step stack kept) was.state
+      ∙ sym (rerun-push stack (start_state stack) (take i all) kept)
+      ∙ ap (rerun_from stack (start_state stack)) (sym (take_more all i kept within ∙ ap (λ (x : AskedRequest). take i all ++ x ∷ []) (sym is)));
+}

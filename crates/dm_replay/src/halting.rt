@@ -1,0 +1,117 @@
+//! The halting player: a sink that plays units up to a number of them, and fails at the next one.
+//!
+//! It owns the player while a request is mapped. After a sink failed, nothing but the sink tells what
+//! was played, so what it says then has to speak of the values of its own player.
+
+ghost use Rattle.std.specs.Prelude.{◌≡◌, ◌<◌, ◌≤◌, true, false, OnErr, OnOk};
+ghost use Rattle.dm_map.specs.Units.{IsOnDisks, piece_len, units_of};
+ghost use Rattle.dm_replay.specs.Halting.{HasHalted, HasTaken};
+
+use crate::player::Player;
+use dm_map::{Piece, Sink};
+
+/// Plays pieces on the disks of a stack, up to a number of units.
+#[derive(Drop)]
+pub(crate) struct Halting<'s> {
+    pub player: Player<'s>,
+    /// How many units may still be played.
+    pub left: u64,
+    /// Whether it failed because there were more than that, and those that were left were played.
+    pub halted: bool,
+}
+
+impl<'s> Halting<'s> {
+    /// Plays at most so many units by this player.
+    pub(crate) fn new(player: Player<'s>, units: u64) -> Halting<'s>
+        ensures player { result.player ≡ player.entry }
+        ensures left { result.left ≡ units }
+        ensures going { result.halted ≡ false }
+    {
+        Halting {
+            player,
+            left: units,
+            halted: false,
+        }
+    }
+
+    /// The player, after what it played. No memory is taken.
+    pub(crate) fn into_player(self) -> Player<'s>
+        ensures { result ≡ self.entry.player }
+    {
+        self.player
+    }
+
+    /// Plays a piece. It fails where more units come than are left, or where it is out of memory.
+    fn play(&mut self, piece: Piece) -> Result<(), ()>
+        requires some { 1 ≤ piece_len piece }
+        requires lies { IsOnDisks self.old.player.stack.now piece }
+        ensures took { OnOk result (HasTaken self.old (units_of piece) self.new) }
+        ensures left { OnErr result (self.old.halted ≡ false → self.new.halted ≡ true → HasHalted self.old (units_of piece) self.new) }
+        ensures faults { self.new.player.faults ≡ self.old.player.faults }
+    {
+        if self.left < piece.len() {
+            self.halt(piece);
+            return Err(());
+        }
+        let Ok(()) = self.player.play(piece) else {
+            return Err(());
+        };
+        self.left -= piece.len();
+        Ok(())
+    }
+
+    /// Plays the units that are left of a piece that has more: it is halted then, unless it is out of
+    /// memory.
+    fn halt(&mut self, piece: Piece)
+        requires lies { IsOnDisks self.old.player.stack.now piece }
+        requires more { self.old.left < piece_len piece }
+        ensures halted { self.old.halted ≡ false → self.new.halted ≡ true → HasHalted self.old (units_of piece) self.new }
+        ensures faults { self.new.player.faults ≡ self.old.player.faults }
+    {
+        if self.left == 0 {
+            self.halted = true;
+            return;
+        }
+        let front = piece.with_len(self.left);
+        match self.player.play(front) {
+            Ok(()) => self.halted = true,
+            Err(_) => {}
+        }
+    }
+}
+
+impl Sink for Halting<'_> {
+    ghost use Rattle.std.specs.Prelude.{◌^◌, ◌≡◌, true, false};
+    ghost use Rattle.std.proofs.Common.{◌∙◌};
+    ghost use Rattle.dm_replay.specs.Halting.{HasHalted, HasTaken};
+    ghost use Rattle.dm_replay.specs.HaltLaws.{taken_both, taken_halted, taken_nothing};
+
+    type Fault = ();
+
+    ghost stack = { λ sink. sink.player.stack.now };
+
+    ghost room = { λ sink. 2 ^ 64 };
+
+    ghost faults = { λ sink. sink.player.faults };
+
+    ghost took = { λ old units new. HasTaken old units new };
+
+    ghost left = { λ old units new. old.halted ≡ false → new.halted ≡ true → HasHalted old units new };
+
+    /// Plays the piece. It fails where more units came than were left, or where it is out of memory.
+    fn piece(&mut self, piece: Piece) -> Result<(), ()> {
+        match self.play(piece) {
+            Ok(()) => Ok(()),
+            Err(()) => {
+                self.player.faults.raise();
+                Err(())
+            }
+        }
+    }
+
+    ghost took_nothing = { λ s. taken_nothing s };
+
+    ghost took_then_took = { λ a b c us vs first second. taken_both a b c us vs first second };
+
+    ghost took_then_left = { λ a b c us vs first second. λ going halted. taken_halted a b c us vs first (second (first.halted ∙ going) halted) };
+}

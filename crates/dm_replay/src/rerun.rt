@@ -1,0 +1,106 @@
+//! Reruns: a mapper in the state that kept requests left.
+//!
+//! A mapper whose sink failed maps nothing more. So a new one maps what was whole of each request, to
+//! a sink that takes everything and does nothing.
+
+ghost use Rattle.std.specs.Prelude.{◌≡◌, false, IfOk};
+ghost use Rattle.std.specs.List.{AllByRecursion};
+ghost use Rattle.dm_map.specs.State.{start_state};
+ghost use Rattle.dm_replay.specs.Replay.{IsKept};
+ghost use Rattle.dm_replay.specs.Reruns.{rerun_from, rerun_step};
+
+use crate::asked_request::AskedRequest;
+use dm_map::{MapFault, Mapper, Piece, Sink, Taken};
+use dm_stack::Stack;
+use dm_table::{Op, Request};
+use std::alloc::{AllocError, Global};
+
+/// A sink that takes every piece and does nothing with it.
+#[derive(Drop)]
+pub(crate) struct Discard<'s> {
+    pub stack: &'s Stack,
+}
+
+impl Sink for Discard<'_> {
+    ghost use Rattle.std.specs.Prelude.{◌^◌};
+
+    type Fault = ();
+
+    ghost stack = { λ sink. sink.stack.now };
+
+    ghost room = { λ sink. 2 ^ 64 };
+
+    ghost faults = { λ sink. 0 };
+
+    ghost took = { λ old units new. Unit {0} };
+
+    ghost left = { λ old units new. ⊥ };
+
+    /// Does nothing, and never fails.
+    fn piece(&mut self, _piece: Piece) -> Result<(), ()> {
+        Ok(())
+    }
+
+    ghost took_nothing = { λ s. tt };
+
+    ghost took_then_took = { λ a b c us vs first second. tt };
+
+    ghost took_then_left = { λ a b c us vs first second. second };
+}
+
+/// A mapper of a stack in the state that requests of its devices left.
+///
+/// Cost: that of mapping their writes once more.
+///
+/// # Errors
+///
+/// `AllocError` where it is out of memory for its state.
+pub(crate) fn rerun<'s, T: Taken>(
+    alloc: Global,
+    stack: &'s Stack,
+    all: &[AskedRequest],
+) -> Result<Mapper<'s, T>, AllocError>
+    requires { AllByRecursion (IsKept stack.now) all.now }
+    ensures stack { IfOk result (λ mapper. mapper.stack ≡ stack.now) }
+    ensures going { IfOk result (λ mapper. mapper.stopped ≡ false) }
+    ensures state { IfOk result (λ mapper. mapper.state ≡ rerun_from stack.now (start_state stack.now) all.now) }
+{
+    let mut mapper = Mapper::new(alloc, stack.looker())?;
+    let mut discard = Discard { stack };
+    for kept in all {
+        map_again(kept, &mut mapper, &mut discard);
+    }
+    Ok(mapper)
+}
+
+/// Maps once more what was whole of a request. A read changes no state.
+fn map_again<T: Taken>(kept: &AskedRequest, mapper: &mut Mapper<'_, T>, discard: &mut Discard<'_>)
+    requires going { mapper.old.stopped ≡ false }
+    requires stack { discard.old.stack.now ≡ mapper.old.stack }
+    requires kept { IsKept mapper.old.stack kept.now }
+    ensures going { mapper.new.stopped ≡ false }
+    ensures stack { mapper.new.stack ≡ mapper.old.stack }
+    ensures discard { discard.new.stack.now ≡ discard.old.stack.now }
+    ensures state { mapper.new.state ≡ rerun_step mapper.old.stack kept.now mapper.old.state }
+{
+    if kept.whole == 0 {
+        return;
+    }
+    match kept.op {
+        Op::Read => {}
+        Op::Write => {
+            let request = Request {
+                number: kept.number,
+                op: kept.op,
+                device: "",
+                start: kept.start,
+                len: kept.whole,
+            };
+            match mapper.request(&request, kept.device, discard) {
+                Ok(()) => {}
+                Err(MapFault::Sink(())) => unreachable!(),
+                Err(MapFault::Stopped) => unreachable!(),
+            }
+        }
+    }
+}
