@@ -33,7 +33,7 @@ PLACES = {
     ("dm_replay/replay", "new", "Mapper::new"): OURS,
     ("dm_replay/replay", "refuse_clash", "stack.tidy"): OURS,
     ("dm_replay/replay", "request", "play_request"): OURS,
-    ("dm_replay/replay", "request", "self.asked.push"): STD,
+    ("dm_replay/replay", "request", "self"): STD + ": the push of a request that was played",
     ("dm_replay/value_runs", "add", "last.len"):
         "none: no run comes there, since it has no more sectors than a request has, 1,048,576",
     ("dm_stack/load", "check", "disk_texts"): OURS,
@@ -58,6 +58,7 @@ PLACES = {
     ("lvm_volume/physical", "physicals_in", "counts_of"): OURS,
     ("lvm_volume/physical", "physicals_in", "devices_of"): OURS,
     ("lvm_volume/physical", "physicals_in", "physicals.push"): STD,
+    ("lvm_volume/places", "add_key", "keys.insert"): STD,
     ("lvm_volume/tables", "copy_of", "DiskName::new"):
         "a name is one by its type, and then it fails only for a growth",
     ("lvm_volume/tables", "device_of", "lines_of"): OURS,
