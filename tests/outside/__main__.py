@@ -24,6 +24,7 @@ import documents
 import files
 import groups
 import growths
+import halts
 import hostile
 import launcher
 import limits
@@ -65,6 +66,7 @@ def main():
         recipes.check(tally, program, TOP)
         lookers.check(tally, TOP)
         refusals.check(tally, TOP)
+        halts.check(tally, program, TOP)
     return tally.close()
 
 

@@ -4,6 +4,7 @@ The units of a request are those of `snapshots.Plain`; here they are played on t
 stacks and requests are made from fixed seeds, so every run tries the same ones.
 """
 
+import copy
 import random
 
 from snapshots import Plain, concise
@@ -65,7 +66,8 @@ ROWS = [
 
 
 def tidy_stack(dice):
-    """Snapshots of one origin or of each other, each with a store of its own, and stripes beside them."""
+    """Snapshots of one origin or of each other, each with a store of its own, stripes beside them, and in
+    half of the stacks the device that the origin is written through."""
     disks = {"base": 40, "sda": 40, "sdb": 40}
     length = dice.choice([12, 16, 17, 20])
     table, start = [], 0
@@ -82,6 +84,9 @@ def tidy_stack(dice):
         tables[name] = [(0, length, ("snapshot", origin, name + "c", dice.choice([1, 2, 4, 8])))]
         named.add(origin)
         origins.append("/dev/mapper/" + name)
+    if dice.random() < 0.5:
+        tables["w"] = [(0, length, ("snapshot-origin", "/dev/mapper/o"))]
+        named.add("/dev/mapper/o")
     return Plain(tables, set(), disks), [name for name in tables if "/dev/mapper/" + name not in named]
 
 
@@ -101,6 +106,22 @@ def played(values, number, start, units):
         else:
             answers.append(("error",) if word == "error" else ("zero",))
     return answers
+
+
+def first_units(stack, request, count):
+    """The first units of a request. The state is then that after the sectors of which they are all units."""
+    op, name, start, length = request
+    if start + length > stack.length("/dev/mapper/" + name):
+        return [("error",)] * min(count, length)
+    units = []
+    for sector in range(start, start + length):
+        before = copy.deepcopy((stack.taken, stack.lost))
+        part = stack.request(op, name, sector, 1)
+        if len(part) > count:
+            stack.taken, stack.lost = before
+            return units + part[:count]
+        units, count = units + part, count - len(part)
+    return units
 
 
 def lines(number, answers):

@@ -3,11 +3,16 @@
 //! More rows of what is answered are tested on the built program (`tests/outside`). The answers were
 //! worked out sector by sector, by a plain program over the rules.
 
+ghost use Rattle.std.specs.Prelude.{◌≡◌};
+
 use super::*;
 use crate::run_text::write_runs;
 use dm_map::PlainTaken;
-use dm_table::{ShortOut, parse_disks, parse_request, parse_table};
+use dm_table::{Op, ShortOut, parse_concise, parse_disks, parse_request, parse_table};
 use std::process::Abort;
+use stops::STOPS;
+
+mod stops;
 
 /// Tables, disks, requests, and the lines of what they answer.
 static ROWS: [(&str, &str, &[&str], &str); 3] = [
@@ -36,6 +41,114 @@ static ROWS: [(&str, &str, &[&str], &str); 3] = [
     ),
 ];
 
+/// The table and the disks of a snapshot whose last chunk the end cuts short.
+const SHORT: (&str, &str) = ("s: 0 20 snapshot base cow P 8\n", "base 20\ncow 64\n");
+
+/// Two snapshots of one origin.
+const TWO: (&str, &str) = (
+    "s: 0 16 snapshot base c1 P 4\nt: 0 16 snapshot base c2 P 8\n",
+    "base 16\nc1 64\nc2 64\n",
+);
+
+/// Tables and disks, requests, each after the number of units after which it is stopped or a hyphen, and
+/// the lines of what the others answer.
+static HALTS: [((&str, &str), &str, &str); 19] = [
+    // A write of two sectors: four copies, for the chunk is cut short, and two writes.
+    (SHORT, "0 W s 18 2\n- R s 16 4\n", "2 old base 16 4\n"),
+    (SHORT, "1 W s 18 2\n- R s 16 4\n", "2 old base 16 4\n"),
+    (SHORT, "2 W s 18 2\n- R s 16 4\n", "2 old base 16 4\n"),
+    (SHORT, "3 W s 18 2\n- R s 16 4\n", "2 old base 16 4\n"),
+    (SHORT, "4 W s 18 2\n- R s 16 4\n", "2 old base 16 4\n"),
+    (
+        SHORT,
+        "5 W s 18 2\n- R s 16 4\n",
+        "2 old base 16 2\n2 wrote 1 18 1\n2 old base 19 1\n",
+    ),
+    (
+        SHORT,
+        "6 W s 18 2\n- R s 16 4\n",
+        "2 old base 16 2\n2 wrote 1 18 2\n",
+    ),
+    // More units than there are.
+    (
+        SHORT,
+        "7 W s 18 2\n- R s 16 4\n",
+        "2 old base 16 2\n2 wrote 1 18 2\n",
+    ),
+    (
+        SHORT,
+        "18446744073709551615 W s 18 2\n- R s 16 4\n",
+        "2 old base 16 2\n2 wrote 1 18 2\n",
+    ),
+    // A torn place, which the next write takes.
+    (
+        SHORT,
+        "3 W s 18 2\n- W s 8 1\n- R s 8 12\n",
+        "2 wrote 2 8 1\n3 wrote 2 8 1\n3 old base 9 11\n",
+    ),
+    // A write that was stopped is written again.
+    (
+        SHORT,
+        "3 W s 18 2\n- W s 18 2\n- R s 16 4\n",
+        "2 wrote 2 18 2\n3 old base 16 2\n3 wrote 2 18 2\n",
+    ),
+    // Reads that are stopped.
+    (
+        SHORT,
+        "- W s 18 1\n2 R s 16 4\n9 R s 16 4\n- R s 16 4\n",
+        "1 wrote 1 18 1\n4 old base 16 2\n4 wrote 1 18 1\n4 old base 19 1\n",
+    ),
+    // Requests that pass the end take no chunk, wherever they are stopped.
+    (
+        SHORT,
+        "1 W s 18 3\n3 W s 18 3\n1 W s 20 1\n- R s 16 4\n- W s 8 1\n",
+        "4 old base 16 4\n5 wrote 5 8 1\n",
+    ),
+    // Zeros that are filled in, and then a store with no place left: the stop comes before the error.
+    (
+        (
+            "o: 0 8 zero\ns: 0 8 snapshot /dev/mapper/o cow P 4\n",
+            "cow 12\n",
+        ),
+        "3 W s 1 2\n- R s 0 8\n7 W s 1 6\n- R s 0 8\n0 W s 4 1\n- R s 0 8\n1 W s 4 1\n- R s 0 8\n",
+        "2 zero 8\n4 zero 1\n4 wrote 3 1 3\n4 zero 4\n6 zero 1\n6 wrote 3 1 3\n6 zero 4\n8 error 8\n",
+    ),
+    // Two snapshots of one origin, stopped in turn, each followed by requests.
+    (
+        TWO,
+        "6 W s 2 4\n- R t 0 4\n9 W t 1 2\n- R t 0 4\n- R s 0 8\n",
+        "2 old base 0 4\n4 old base 0 1\n4 wrote 3 1 1\n4 old base 2 2\n5 old base 0 2\n5 wrote 1 2 2\n5 old base 4 4\n",
+    ),
+    (
+        TWO,
+        "8 W t 7 2\n- W t 8 1\n20 W s 0 9\n- R s 0 12\n- R t 4 8\n",
+        "2 wrote 2 8 1\n4 wrote 3 0 8\n4 old base 8 4\n5 old base 4 4\n5 wrote 2 8 1\n5 old base 9 3\n",
+    ),
+    // A snapshot of a snapshot: both go on from their own chunks.
+    (
+        (
+            "s: 0 8 snapshot base c1 P 4\nt: 0 8 snapshot /dev/mapper/s c2 P 2\n",
+            "base 8\nc1 64\nc2 64\n",
+        ),
+        "4 W t 1 4\n- R t 0 8\n11 W t 0 8\n- R t 0 8\n",
+        "2 old base 0 1\n2 wrote 1 1 1\n2 old base 2 6\n4 wrote 3 0 6\n4 old base 6 2\n",
+    ),
+    // Stripes, zeros and errors.
+    (
+        ("a: 0 8 striped 2 2 sda 0 sdb 0\n", "sda 4\nsdb 4\n"),
+        "2 W a 1 4\n- R a 0 8\n",
+        "2 old sda 0 1\n2 wrote 1 1 2\n2 old sdb 1 1\n2 old sda 2 2\n2 old sdb 2 2\n",
+    ),
+    (
+        (
+            "a: 0 2 zero\na: 2 2 error\na: 4 2 linear sda 0\n",
+            "sda 2\n",
+        ),
+        "5 W a 0 6\n- R a 0 6\n",
+        "2 zero 2\n2 error 2\n2 wrote 1 4 1\n2 old sda 1 1\n",
+    ),
+];
+
 /// Tables, disks, a request, and why it is not answered.
 static REFUSED: [(&str, &str, &str, ReplayFault); 4] = [
     (
@@ -59,6 +172,17 @@ static REFUSED: [(&str, &str, &str, ReplayFault); 4] = [
     ("a: 0 8 zero\n", "", "R b 0 1", ReplayFault::NotTop),
 ];
 
+/// Tables, disks, a request that is stopped after two units, and why there is no replay after it.
+static NOT_HALTED: [(&str, &str, &str, ReplayFault); 2] = [
+    (
+        "o: 0 8 zero\ns: 0 8 snapshot /dev/mapper/o cow P 8\n",
+        "cow 32\n",
+        "W o 0 1",
+        ReplayFault::NotTop,
+    ),
+    ("a: 0 8 zero\n", "", "R b 0 1", ReplayFault::NotTop),
+];
+
 /// The stack of a table and a disk list.
 fn stack_of(rt: &impl Abort, alloc: Global, table: &str, disks: &str) -> Stack {
     let devices = parse_table(alloc, table.as_bytes()).expect(rt, "devices");
@@ -71,12 +195,56 @@ fn lines_of(rt: &impl Abort, alloc: Global, stack: &Stack, requests: &[&str]) ->
     let mut replay: Replay<'_, PlainTaken> = Replay::new(alloc, stack).expect(rt, "a replay");
     let mut output = ShortOut::new(alloc, 1, 4096).expect(rt, "an output");
     for (index, line) in requests.iter().enumerate() {
-        let number = index as u64 + 1;
-        let request = parse_request(line.as_bytes(), number).expect(rt, "a request");
-        let runs = replay.request(alloc, &request).expect(rt, "answers");
-        write_runs(stack, number, &runs, &mut output).expect(rt, "lines");
+        replay = replay_after(
+            rt,
+            alloc,
+            stack,
+            replay,
+            index as u64 + 1,
+            line,
+            None,
+            &mut output,
+        );
     }
     output
+}
+
+/// The lines of what a new replay answers, where each request comes after the number of units after
+/// which it is stopped, or a hyphen.
+fn lines_with_stops(rt: &impl Abort, alloc: Global, stack: &Stack, steps: &str) -> ShortOut {
+    let mut replay: Replay<'_, PlainTaken> = Replay::new(alloc, stack).expect(rt, "a replay");
+    let mut output = ShortOut::new(alloc, 1, 4096).expect(rt, "an output");
+    let mut number = 0_u64;
+    for step in steps.lines() {
+        let (stop, line) = step.split_once(' ').expect(rt, "a step");
+        let stop = stop.parse::<u64>().ok();
+        number = number.checked_add(1).expect(rt, "a number");
+        replay = replay_after(rt, alloc, stack, replay, number, line, stop, &mut output);
+    }
+    output
+}
+
+/// The replay after a request, of which the answer is written unless it is stopped.
+fn replay_after<'s>(
+    rt: &impl Abort,
+    alloc: Global,
+    stack: &'s Stack,
+    mut replay: Replay<'s, PlainTaken>,
+    number: u64,
+    line: &str,
+    stop: Option<u64>,
+    output: &mut ShortOut,
+) -> Replay<'s, PlainTaken>
+    requires { replay.stack ≡ stack.now }
+    ensures { result.stack ≡ stack.now }
+{
+    let request = parse_request(line.as_bytes(), number).expect(rt, "a request");
+    let Some(units) = stop else {
+        let runs = replay.request(alloc, &request).expect(rt, "answers");
+        write_runs(stack, number, &runs, output).expect(rt, "lines");
+        return replay;
+    };
+    replay.halt(alloc, &request, units).expect(rt, "a replay")
 }
 
 #[test]
@@ -90,12 +258,106 @@ fn answers_of_requests(rt: HostRuntime) {
 }
 
 #[test]
+fn answers_after_stops(rt: HostRuntime) {
+    let alloc = rt.alloc();
+    for &((table, disks), requests, want) in &HALTS {
+        let stack = stack_of(&rt, alloc, table, disks);
+        let output = lines_with_stops(&rt, alloc, &stack, requests);
+        assert_eq!(&rt; output.as_slice(), want.as_bytes(), "{table}");
+    }
+}
+
+#[test]
+fn answers_after_stops_of_random_stacks(rt: HostRuntime) {
+    let alloc = rt.alloc();
+    for row in STOPS.split('#') {
+        let (source, rest) = row.split_once('|').expect(&rt, "devices");
+        let (disks, rest) = rest.split_once('|').expect(&rt, "disks");
+        let (requests, want) = rest.split_once('|').expect(&rt, "requests");
+        let devices = parse_concise(alloc, source.as_bytes()).expect(&rt, source);
+        let disks = parse_disks(alloc, disks.as_bytes()).expect(&rt, disks);
+        let stack = Stack::load(alloc, devices, disks).expect(&rt, source);
+        let output = lines_with_stops(&rt, alloc, &stack, requests);
+        assert_eq!(&rt; output.as_slice(), want.as_bytes(), "{source}");
+    }
+}
+
+#[test]
 fn what_is_not_answered(rt: HostRuntime) {
     let alloc = rt.alloc();
     for &(table, disks, line, want) in &REFUSED {
         let stack = stack_of(&rt, alloc, table, disks);
         let request = parse_request(line.as_bytes(), 1).expect(&rt, "a request");
         assert_eq!(&rt; fault_of(alloc, &stack, &request), Some(want), "{table}");
+    }
+}
+
+#[test]
+fn what_is_not_halted(rt: HostRuntime) {
+    let alloc = rt.alloc();
+    for &(table, disks, line, want) in &NOT_HALTED {
+        let stack = stack_of(&rt, alloc, table, disks);
+        let mut replay: Replay<'_, PlainTaken> = Replay::new(alloc, &stack).expect(&rt, "a replay");
+        let request = parse_request(line.as_bytes(), 1).expect(&rt, "a request");
+        assert_eq!(&rt;
+            replay.halt(alloc, &request, 2).err(),
+            Some(want),
+            "{table}"
+        );
+        // That the replay is stopped goes before that no top device has the name.
+        replay = Replay::new(alloc, &stack).expect(&rt, "a replay");
+        replay.stopped = true;
+        let fault = replay.halt(alloc, &request, 2).err();
+        assert_eq!(&rt; fault, Some(ReplayFault::Stopped), "{table}");
+    }
+}
+
+/// Run with the Nth growth refused, for each N: out of memory is answered then, and nothing else.
+#[test]
+fn growths_may_be_refused(rt: HostRuntime) {
+    let alloc = rt.alloc();
+    let Ok(devices) = parse_table(alloc, SHORT.0.as_bytes()) else {
+        return;
+    };
+    let Ok(disks) = parse_disks(alloc, SHORT.1.as_bytes()) else {
+        return;
+    };
+    let Ok(stack) = Stack::load(alloc, devices, disks) else {
+        return;
+    };
+    let want = [wrote(2, 8), wrote(1, 10)];
+    match answered_after_stops(alloc, &stack) {
+        Ok(runs) => assert_eq!(&rt; runs.as_slice(), want.as_slice()),
+        Err(fault) => assert_eq!(&rt; fault, ReplayFault::Memory),
+    }
+}
+
+/// What a read answers after two writes that are stopped.
+fn answered_after_stops(alloc: Global, stack: &Stack) -> Result<Vec<ValueRun>, ReplayFault> {
+    let mut replay: Replay<'_, PlainTaken> = Replay::new(alloc, stack)?;
+    replay = replay.halt(alloc, &request_of_four(1, Op::Write), 13)?;
+    replay = replay.halt(alloc, &request_of_four(2, Op::Write), 2)?;
+    replay.request(alloc, &request_of_four(3, Op::Read))
+}
+
+/// What a request wrote to two sectors.
+fn wrote(request: u64, start: u64) -> ValueRun {
+    let len = 2;
+    ValueRun::Wrote {
+        request,
+        start,
+        len,
+    }
+}
+
+/// A request of the first four sectors of the second chunk.
+fn request_of_four(number: u64, op: Op) -> Request<'static> {
+    Request {
+        number,
+        op,
+        device: "s",
+        start: 8,
+        len: 4,
     }
 }
 
