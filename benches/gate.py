@@ -29,7 +29,7 @@ TICKS = os.sysconf("SC_CLK_TCK")
 def edit_of(crate, number):
     """Returns the name of the crate's edit of this number, by the order of their names."""
     names = sorted(it for it in os.listdir(f"crates/{crate}/must-fail") if it.endswith(".edit"))
-    return names[number].removesuffix(".edit")
+    return names[number][: -len(".edit")]
 
 
 def part_of(words, folder):
