@@ -58,7 +58,7 @@ CLAIMS = [
     (ORIGIN + "p: 0 16 snapshot-origin base\n", 1, "clash base 0 o p"),
     (ORIGIN + OVER + "p: 0 16 snapshot-origin base\n", 1, "clash base 0 o p"),
     # A third device over the same disk, after the origin and before it.
-    (ORIGIN + OVER + "a: 0 8 linear base 4\n", 1, "clash base 4 o a"),
+    (ORIGIN + OVER + "t: 0 16 snapshot base cow2 P 4\na: 0 8 linear base 4\n", 1, "clash base 4 o a"),
     ("a: 0 8 linear base 4\n" + OVER + ORIGIN, 1, "clash base 4 a s"),
     ("a: 0 8 linear base 4\n" + ORIGIN + OVER, 1, "clash base 4 a o"),
     # What a store is on is the store's alone.
@@ -98,6 +98,14 @@ WRITES = [
     # A snapshot that can't be served is lost, and the write goes on.
     ("r,,,,0 15 linear base 0,15 1 error;o,,,,0 16 snapshot-origin /dev/mapper/r;s,,,,0 16 snapshot /dev/mapper/r cow P 8",
      DISKS, "W o 8 1\nR s 0 1\n", "1 W base 8 1\n2 error 1\ns: 0 16 snapshot Invalid\n"),
+    ("r,,,,0 15 linear base 0,15 1 error;o,,,,0 16 snapshot-origin /dev/mapper/r;s,,,,0 16 snapshot /dev/mapper/r cow P 8",
+     DISKS, "W o 4 8\nR s 0 1\n", "1 copy base 0 8 cow 16\n1 W base 4 8\n2 error 1\ns: 0 16 snapshot Invalid\n"),
+    # A store that runs full on the way: the other snapshot is served to the request's end.
+    ("o,,,,0 16 snapshot-origin base;s,,,,0 16 snapshot base cow P 8;t,,,,0 16 snapshot base cow2 P 4", DISKS,
+     "W o 2 10\nR t 0 8\nR s 0 16\n",
+     "1 copy base 0 8 cow 16\n1 copy base 0 4 cow2 8\n1 W base 2 2\n1 copy base 4 4 cow2 12\n1 W base 4 4\n"
+     "1 copy base 8 8 cow 24\n1 W base 8 4\n2 error 8\n3 R cow 16 16\n"
+     "s: 0 16 snapshot 32/32 16\nt: 0 16 snapshot Invalid\n"),
     # A snapshot of the origin's device is none of what that is over, and reads what is written.
     ("o,,,,0 16 snapshot-origin base;s,,,,0 16 snapshot /dev/mapper/o cow P 8", DISKS, "W o 0 1\nR s 0 16\n",
      "1 W base 0 1\n2 R base 0 16\ns: 0 16 snapshot 16/32 16\n"),
@@ -111,6 +119,11 @@ WRITES = [
      "W o 0 1\nR t 0 8\n",
      "1 copy base 0 4 cow2 8\n1 copy base 0 8 cow 16\n1 W cow 16 1\n2 R cow2 8 4\n2 R cow 20 4\n"
      "s: 0 16 snapshot 24/32 16\nt: 0 16 snapshot 12/16 8\n"),
+    # The same where that snapshot has no place: it is lost, the write fails, and the copies stay.
+    ("s,,,,0 16 snapshot base cow P 16;o,,,,0 16 snapshot-origin /dev/mapper/s;t,,,,0 16 snapshot /dev/mapper/s cow2 P 4", DISKS,
+     "W o 0 1\nR t 0 8\nR o 0 1\n",
+     "1 copy base 0 4 cow2 8\n1 error 1\n2 R cow2 8 4\n2 error 4\n3 error 1\n"
+     "s: 0 16 snapshot Invalid\nt: 0 16 snapshot 12/16 8\n"),
     # Chunks of 4 and of 16 sectors, over stripes, by one request.
     ("r,,,,0 32 striped 2 8 sda 0 sdb 0;o,,,,0 32 snapshot-origin /dev/mapper/r;s,,,,0 32 snapshot /dev/mapper/r c4 P 4;"
      "t,,,,0 32 snapshot /dev/mapper/r c16 P 16", "sda 16\nsdb 16\nc4 64\nc16 64\n", "W o 14 4\n",
@@ -119,8 +132,12 @@ WRITES = [
      "s: 0 32 snapshot 16/64 8\nt: 0 32 snapshot 64/64 32\n"),
 ]
 
-# The length of an origin with eight snapshots in chunks of 1,024 sectors: that of the longest request.
-LENGTH, SNAPSHOTS = 1048576, 8
+# FILE as concise text, DISKS, the requests, and what a replay answers.
+REPLAYED = ("o,,,,0 16 snapshot-origin base;s,,,,0 16 snapshot base cow P 8", DISKS, "W o 0 4\nR s 0 8\nR o 0 8\n",
+            "1 wrote 1 0 4\n2 old base 0 8\n3 wrote 1 0 4\n3 old base 4 4\n")
+
+# An origin with eight snapshots in the greatest chunks, as long as the longest request.
+LENGTH, CHUNK, SNAPSHOTS = 1048576, 1024, 8
 
 
 def small_stack(dice):
@@ -163,6 +180,12 @@ def claims(stack):
                 yield name, words[1], 0, stack.length(words[1]), "serve"
 
 
+def tops(stack):
+    """The devices that no claim is on."""
+    claimed = {it[1] for it in claims(stack)}
+    return [name for name in stack.tables if "/dev/mapper/" + name not in claimed]
+
+
 def tidiness(stack):
     """The last line of a check: each claim is compared with all before it."""
     before = []
@@ -197,10 +220,8 @@ def check(tally, program):
     for source, disks, requests, output in WRITES:
         got = snapshots.run(program, source, disks, requests, "--status")
         tally.same("requests of %s" % source, got, 0, output)
-    got = program.run(["replay", "table", program.file("table", ORIGIN + OVER), program.file("disks", DISKS)],
-                      given="W o 0 4\nR s 0 8\nR o 0 8\n")
-    tally.same("the replay of a written origin", got, 0,
-               "1 wrote 1 0 4\n2 old base 0 8\n3 wrote 1 0 4\n3 old base 4 4\n")
+    source, disks, requests, answers = REPLAYED
+    tally.same("the replay of %s" % source, replays.run(program, source, disks, requests), 0, answers)
     check_long(tally, program)
     for seed in range(ROUNDS):
         check_requests(tally, program, random.Random(seed))
@@ -208,13 +229,19 @@ def check(tally, program):
         check_claims(tally, program, random.Random(seed))
 
 
+def long_stack(length, chunk):
+    """An origin of this length with eight snapshots in chunks of this size, as concise text and disks."""
+    source = "o,,,rw,0 %d snapshot-origin base" % length
+    source += "".join(";s%d,,,rw,0 %d snapshot base c%d P %d" % (it, length, it, chunk) for it in range(SNAPSHOTS))
+    disks = "base %d\n" % length + "".join("c%d %d\n" % (it, length + 2 * chunk) for it in range(SNAPSHOTS))
+    return source, disks
+
+
 def check_long(tally, program):
     """Each chunk is copied to each snapshot and then written; the second time it is only written."""
-    source = "o,,,,0 %d snapshot-origin base" % LENGTH
-    source += "".join(";s%d,,,,0 %d snapshot base c%d P 1024" % (it, LENGTH, it) for it in range(SNAPSHOTS))
-    disks = "base %d\n" % LENGTH + "".join("c%d %d\n" % (it, LENGTH + 2048) for it in range(SNAPSHOTS))
+    source, disks = long_stack(LENGTH, CHUNK)
     wanted = ""
-    for at in range(0, LENGTH, 1024):
+    for at in range(0, LENGTH, CHUNK):
         wanted += "".join("1 copy base %d 1024 c%d %d\n" % (at, it, at + 2048) for it in range(SNAPSHOTS))
         wanted += "1 W base %d 1024\n" % at
     wanted += "2 W base 0 %d\n" % LENGTH

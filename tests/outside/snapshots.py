@@ -217,6 +217,30 @@ def concise(stack):
     return ";".join(devices)
 
 
+def plain(source, disks):
+    """The stack of a concise text and a disk list, of which nothing is checked."""
+    tables, read_only = {}, set()
+    for said in source.split(";"):
+        name, _, _, flags, *rows = said.split(",")
+        tables[name] = [(int(start), int(length), target(*words))
+                        for start, length, *words in (row.split() for row in rows)]
+        if flags == "ro":
+            read_only.add(name)
+    lengths = (line.split() for line in disks.splitlines())
+    return Plain(tables, read_only, {name: int(length) for name, length in lengths})
+
+
+def target(kind, *words):
+    """The target words of a table from those of a line."""
+    if kind == "linear":
+        return kind, words[0], int(words[1])
+    if kind == "striped":
+        return (kind, int(words[1])) + tuple((to, int(offset)) for to, offset in zip(words[2::2], words[3::2]))
+    if kind == "snapshot":
+        return kind, words[0], words[1], int(words[3])
+    return (kind, *words)
+
+
 def table_over(dice, length, below, targets):
     """A table of some lines that lie on what is below, which is long enough."""
     if length % 4 == 0 and dice.random() < 0.3:

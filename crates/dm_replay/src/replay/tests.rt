@@ -10,7 +10,7 @@ use crate::run_text::write_runs;
 use dm_map::PlainTaken;
 use dm_table::{Op, ShortOut, parse_concise, parse_disks, parse_request, parse_table};
 use std::process::Abort;
-use stops::STOPS;
+use stops::{LONG_STOPS, SMALL_STOPS, STOPS};
 
 mod stops;
 
@@ -269,17 +269,45 @@ fn answers_after_stops(rt: HostRuntime) {
 
 #[test]
 fn answers_after_stops_of_random_stacks(rt: HostRuntime) {
-    let alloc = rt.alloc();
     for row in STOPS.split('#') {
-        let (source, rest) = row.split_once('|').expect(&rt, "devices");
-        let (disks, rest) = rest.split_once('|').expect(&rt, "disks");
-        let (requests, want) = rest.split_once('|').expect(&rt, "requests");
-        let devices = parse_concise(alloc, source.as_bytes()).expect(&rt, source);
-        let disks = parse_disks(alloc, disks.as_bytes()).expect(&rt, disks);
-        let stack = Stack::load(alloc, devices, disks).expect(&rt, source);
-        let output = lines_with_stops(&rt, alloc, &stack, requests);
-        assert_eq!(&rt; output.as_slice(), want.as_bytes(), "{source}");
+        answers_as_written(&rt, rt.alloc(), row);
     }
+}
+
+/// The stop is put in place of the `*`, for each of the counts that a row begins with.
+#[test]
+fn answers_after_each_stop_of_small_stacks(rt: HostRuntime) {
+    let alloc = rt.alloc();
+    for row in SMALL_STOPS.split('#') {
+        let (counts, row) = row.split_once('|').expect(&rt, "counts");
+        let (first, end) = counts.split_once(' ').expect(&rt, "two counts");
+        let first = first.parse::<u64>().expect(&rt, "a first count");
+        let end = end.parse::<u64>().expect(&rt, "an end");
+        let (before, after) = row.split_once('*').expect(&rt, "a stop");
+        for units in first..end {
+            let row = format!(in alloc; "{before}{units}{after}").expect(&rt, "a row");
+            answers_as_written(&rt, alloc, row.as_str());
+        }
+    }
+}
+
+#[test]
+fn answers_after_stops_of_the_longest_request(rt: HostRuntime) {
+    for row in LONG_STOPS.split('#') {
+        answers_as_written(&rt, rt.alloc(), row);
+    }
+}
+
+/// Plays a row of devices, disks, requests and the lines of what they answer.
+fn answers_as_written(rt: &impl Abort, alloc: Global, row: &str) {
+    let (source, rest) = row.split_once('|').expect(rt, "devices");
+    let (disks, rest) = rest.split_once('|').expect(rt, "disks");
+    let (requests, want) = rest.split_once('|').expect(rt, "requests");
+    let devices = parse_concise(alloc, source.as_bytes()).expect(rt, source);
+    let disks = parse_disks(alloc, disks.as_bytes()).expect(rt, disks);
+    let stack = Stack::load(alloc, devices, disks).expect(rt, source);
+    let output = lines_with_stops(rt, alloc, &stack, requests);
+    assert_eq!(rt; output.as_slice(), want.as_bytes(), "{row}");
 }
 
 #[test]

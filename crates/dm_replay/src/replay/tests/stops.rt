@@ -1,9 +1,12 @@
-//! Random small stacks without a clash, each with ten stops, and the lines of what the requests between
-//! them answer. `tests/outside/halts.py` writes this file, from a plain program over the rules.
+//! Stops in replays of stacks without a clash, and the lines of what is answered. `tests/outside/halts.py`
+//! writes this file, from a plain program over the rules.
+//!
+//! A table is one text, since a list of so many rows is more than a proof can go through. Each row but the
+//! first comes after a `#`, and has its parts with a `|` between them: devices as concise text, disks,
+//! requests, and the lines of what they answer. A request comes after the number of units after which it is
+//! stopped, and is then not answered, or after a hyphen.
 
-/// Rows, each after a `#` but the first: devices as concise text, disks, requests, each after the number of
-/// units after which it is stopped or a hyphen, and the lines of what the others answer, with a `|` between
-/// them. It is one text, since a list of so many is more than a proof can go through.
+/// Random small stacks, each with ten stops.
 pub(crate) static STOPS: &str = "\
 o,,,rw,0 4 zero,4 8 linear base 7,12 8 linear base 15;a,,,rw,0 16 striped 2 4 sda 2 sdb 5;s,,,rw,0 20 snapshot /dev/mapper/o sc P 2;t,,,rw,0 20 snapshot /dev/mapper/s tc P 2;u,,,rw,0 20 snapshot /dev/mapper/o uc P 8;w,,,rw,0 20 snapshot-origin /dev/mapper/o
 |base 40
@@ -5199,4 +5202,2939 @@ sdb 40
 22 old sda 7 2
 22 wrote 14 11 2
 22 old sdb 10 3
+";
+
+/// Stops after each unit of the requests of small stacks. A row begins with the counts from which on and up to
+/// which, in place of the `*`, all is answered in the same way.
+pub(crate) static SMALL_STOPS: &str = "\
+0 13|o,,,,0 16 snapshot-origin base;s,,,,0 16 snapshot base cow P 8;t,,,,0 16 snapshot base cow2 P 4
+|base 16
+cow 32
+cow2 16
+|* W o 2 4
+- R o 0 16
+- R s 0 16
+- R t 0 16
+- W s 0 1
+- W o 2 1
+- R t 0 8
+- W o 12 4
+- R t 0 1
+- R s 0 16
+- R o 0 16
+- R s 0 16
+- R t 0 16
+|2 old base 0 16
+3 old base 0 16
+4 old base 0 16
+5 wrote 5 0 1
+6 wrote 6 2 1
+7 old base 0 8
+8 wrote 8 12 4
+9 old base 0 1
+10 wrote 5 0 1
+10 old base 1 15
+11 old base 0 2
+11 wrote 6 2 1
+11 old base 3 9
+11 wrote 8 12 4
+12 wrote 5 0 1
+12 old base 1 15
+13 old base 0 16
+#13 14|o,,,,0 16 snapshot-origin base;s,,,,0 16 snapshot base cow P 8;t,,,,0 16 snapshot base cow2 P 4
+|base 16
+cow 32
+cow2 16
+|* W o 2 4
+- R o 0 16
+- R s 0 16
+- R t 0 16
+- W s 0 1
+- W o 2 1
+- R t 0 8
+- W o 12 4
+- R t 0 1
+- R s 0 16
+- R o 0 16
+- R s 0 16
+- R t 0 16
+|2 old base 0 2
+2 wrote 1 2 1
+2 old base 3 13
+3 old base 0 16
+4 old base 0 16
+5 wrote 5 0 1
+6 wrote 6 2 1
+7 old base 0 8
+8 wrote 8 12 4
+9 old base 0 1
+10 wrote 5 0 1
+10 old base 1 15
+11 old base 0 2
+11 wrote 6 2 1
+11 old base 3 9
+11 wrote 8 12 4
+12 wrote 5 0 1
+12 old base 1 15
+13 old base 0 16
+#14 19|o,,,,0 16 snapshot-origin base;s,,,,0 16 snapshot base cow P 8;t,,,,0 16 snapshot base cow2 P 4
+|base 16
+cow 32
+cow2 16
+|* W o 2 4
+- R o 0 16
+- R s 0 16
+- R t 0 16
+- W s 0 1
+- W o 2 1
+- R t 0 8
+- W o 12 4
+- R t 0 1
+- R s 0 16
+- R o 0 16
+- R s 0 16
+- R t 0 16
+|2 old base 0 2
+2 wrote 1 2 2
+2 old base 4 12
+3 old base 0 16
+4 old base 0 16
+5 wrote 5 0 1
+6 wrote 6 2 1
+7 old base 0 8
+8 wrote 8 12 4
+9 old base 0 1
+10 wrote 5 0 1
+10 old base 1 15
+11 old base 0 2
+11 wrote 6 2 1
+11 wrote 1 3 1
+11 old base 4 8
+11 wrote 8 12 4
+12 wrote 5 0 1
+12 old base 1 15
+13 old base 0 16
+#19 20|o,,,,0 16 snapshot-origin base;s,,,,0 16 snapshot base cow P 8;t,,,,0 16 snapshot base cow2 P 4
+|base 16
+cow 32
+cow2 16
+|* W o 2 4
+- R o 0 16
+- R s 0 16
+- R t 0 16
+- W s 0 1
+- W o 2 1
+- R t 0 8
+- W o 12 4
+- R t 0 1
+- R s 0 16
+- R o 0 16
+- R s 0 16
+- R t 0 16
+|2 old base 0 2
+2 wrote 1 2 3
+2 old base 5 11
+3 old base 0 16
+4 old base 0 16
+5 wrote 5 0 1
+6 wrote 6 2 1
+7 old base 0 8
+8 wrote 8 12 4
+9 error 1
+10 wrote 5 0 1
+10 old base 1 15
+11 old base 0 2
+11 wrote 6 2 1
+11 wrote 1 3 2
+11 old base 5 7
+11 wrote 8 12 4
+12 wrote 5 0 1
+12 old base 1 15
+13 error 16
+#20 21|o,,,,0 16 snapshot-origin base;s,,,,0 16 snapshot base cow P 8;t,,,,0 16 snapshot base cow2 P 4
+|base 16
+cow 32
+cow2 16
+|* W o 2 4
+- R o 0 16
+- R s 0 16
+- R t 0 16
+- W s 0 1
+- W o 2 1
+- R t 0 8
+- W o 12 4
+- R t 0 1
+- R s 0 16
+- R o 0 16
+- R s 0 16
+- R t 0 16
+|2 old base 0 2
+2 wrote 1 2 4
+2 old base 6 10
+3 old base 0 16
+4 old base 0 16
+5 wrote 5 0 1
+6 wrote 6 2 1
+7 old base 0 8
+8 wrote 8 12 4
+9 error 1
+10 wrote 5 0 1
+10 old base 1 15
+11 old base 0 2
+11 wrote 6 2 1
+11 wrote 1 3 3
+11 old base 6 6
+11 wrote 8 12 4
+12 wrote 5 0 1
+12 old base 1 15
+13 error 16
+#0 1|o,,,,0 16 snapshot-origin base;s,,,,0 16 snapshot base cow P 8;t,,,,0 16 snapshot base cow2 P 4
+|base 16
+cow 32
+cow2 16
+|- W o 2 4
+* W s 0 1
+- R o 0 16
+- R s 0 16
+- R t 0 16
+- W o 2 1
+- R t 0 8
+- W o 12 4
+- R t 0 1
+- R s 0 16
+- R o 0 16
+- R s 0 16
+- R t 0 16
+|1 wrote 1 2 4
+3 old base 0 2
+3 wrote 1 2 4
+3 old base 6 10
+4 old base 0 16
+5 old base 0 16
+6 wrote 6 2 1
+7 old base 0 8
+8 wrote 8 12 4
+9 error 1
+10 old base 0 16
+11 old base 0 2
+11 wrote 6 2 1
+11 wrote 1 3 3
+11 old base 6 6
+11 wrote 8 12 4
+12 old base 0 16
+13 error 16
+#1 2|o,,,,0 16 snapshot-origin base;s,,,,0 16 snapshot base cow P 8;t,,,,0 16 snapshot base cow2 P 4
+|base 16
+cow 32
+cow2 16
+|- W o 2 4
+* W s 0 1
+- R o 0 16
+- R s 0 16
+- R t 0 16
+- W o 2 1
+- R t 0 8
+- W o 12 4
+- R t 0 1
+- R s 0 16
+- R o 0 16
+- R s 0 16
+- R t 0 16
+|1 wrote 1 2 4
+3 old base 0 2
+3 wrote 1 2 4
+3 old base 6 10
+4 wrote 2 0 1
+4 old base 1 15
+5 old base 0 16
+6 wrote 6 2 1
+7 old base 0 8
+8 wrote 8 12 4
+9 error 1
+10 wrote 2 0 1
+10 old base 1 15
+11 old base 0 2
+11 wrote 6 2 1
+11 wrote 1 3 3
+11 old base 6 6
+11 wrote 8 12 4
+12 wrote 2 0 1
+12 old base 1 15
+13 error 16
+#0 1|o,,,,0 16 snapshot-origin base;s,,,,0 16 snapshot base cow P 8;t,,,,0 16 snapshot base cow2 P 4
+|base 16
+cow 32
+cow2 16
+|- W o 2 4
+- W s 0 1
+* W o 2 1
+- R o 0 16
+- R s 0 16
+- R t 0 16
+- R t 0 8
+- W o 12 4
+- R t 0 1
+- R s 0 16
+- R o 0 16
+- R s 0 16
+- R t 0 16
+|1 wrote 1 2 4
+2 wrote 2 0 1
+4 old base 0 2
+4 wrote 1 2 4
+4 old base 6 10
+5 wrote 2 0 1
+5 old base 1 15
+6 old base 0 16
+7 old base 0 8
+8 wrote 8 12 4
+9 error 1
+10 wrote 2 0 1
+10 old base 1 15
+11 old base 0 2
+11 wrote 1 2 4
+11 old base 6 6
+11 wrote 8 12 4
+12 wrote 2 0 1
+12 old base 1 15
+13 error 16
+#1 2|o,,,,0 16 snapshot-origin base;s,,,,0 16 snapshot base cow P 8;t,,,,0 16 snapshot base cow2 P 4
+|base 16
+cow 32
+cow2 16
+|- W o 2 4
+- W s 0 1
+* W o 2 1
+- R o 0 16
+- R s 0 16
+- R t 0 16
+- R t 0 8
+- W o 12 4
+- R t 0 1
+- R s 0 16
+- R o 0 16
+- R s 0 16
+- R t 0 16
+|1 wrote 1 2 4
+2 wrote 2 0 1
+4 old base 0 2
+4 wrote 3 2 1
+4 wrote 1 3 3
+4 old base 6 10
+5 wrote 2 0 1
+5 old base 1 15
+6 old base 0 16
+7 old base 0 8
+8 wrote 8 12 4
+9 error 1
+10 wrote 2 0 1
+10 old base 1 15
+11 old base 0 2
+11 wrote 3 2 1
+11 wrote 1 3 3
+11 old base 6 6
+11 wrote 8 12 4
+12 wrote 2 0 1
+12 old base 1 15
+13 error 16
+#0 9|o,,,,0 16 snapshot-origin base;s,,,,0 16 snapshot base cow P 8;t,,,,0 16 snapshot base cow2 P 4
+|base 16
+cow 32
+cow2 16
+|- W o 2 4
+- W s 0 1
+- W o 2 1
+* R t 0 8
+- R o 0 16
+- R s 0 16
+- R t 0 16
+- W o 12 4
+- R t 0 1
+- R s 0 16
+- R o 0 16
+- R s 0 16
+- R t 0 16
+|1 wrote 1 2 4
+2 wrote 2 0 1
+3 wrote 3 2 1
+5 old base 0 2
+5 wrote 3 2 1
+5 wrote 1 3 3
+5 old base 6 10
+6 wrote 2 0 1
+6 old base 1 15
+7 old base 0 16
+8 wrote 8 12 4
+9 error 1
+10 wrote 2 0 1
+10 old base 1 15
+11 old base 0 2
+11 wrote 3 2 1
+11 wrote 1 3 3
+11 old base 6 6
+11 wrote 8 12 4
+12 wrote 2 0 1
+12 old base 1 15
+13 error 16
+#0 9|o,,,,0 16 snapshot-origin base;s,,,,0 16 snapshot base cow P 8;t,,,,0 16 snapshot base cow2 P 4
+|base 16
+cow 32
+cow2 16
+|- W o 2 4
+- W s 0 1
+- W o 2 1
+- R t 0 8
+* W o 12 4
+- R o 0 16
+- R s 0 16
+- R t 0 16
+- R t 0 1
+- R s 0 16
+- R o 0 16
+- R s 0 16
+- R t 0 16
+|1 wrote 1 2 4
+2 wrote 2 0 1
+3 wrote 3 2 1
+4 old base 0 8
+6 old base 0 2
+6 wrote 3 2 1
+6 wrote 1 3 3
+6 old base 6 10
+7 wrote 2 0 1
+7 old base 1 15
+8 old base 0 16
+9 old base 0 1
+10 wrote 2 0 1
+10 old base 1 15
+11 old base 0 2
+11 wrote 3 2 1
+11 wrote 1 3 3
+11 old base 6 10
+12 wrote 2 0 1
+12 old base 1 15
+13 old base 0 16
+#9 10|o,,,,0 16 snapshot-origin base;s,,,,0 16 snapshot base cow P 8;t,,,,0 16 snapshot base cow2 P 4
+|base 16
+cow 32
+cow2 16
+|- W o 2 4
+- W s 0 1
+- W o 2 1
+- R t 0 8
+* W o 12 4
+- R o 0 16
+- R s 0 16
+- R t 0 16
+- R t 0 1
+- R s 0 16
+- R o 0 16
+- R s 0 16
+- R t 0 16
+|1 wrote 1 2 4
+2 wrote 2 0 1
+3 wrote 3 2 1
+4 old base 0 8
+6 old base 0 2
+6 wrote 3 2 1
+6 wrote 1 3 3
+6 old base 6 6
+6 wrote 5 12 1
+6 old base 13 3
+7 wrote 2 0 1
+7 old base 1 15
+8 error 16
+9 error 1
+10 wrote 2 0 1
+10 old base 1 15
+11 old base 0 2
+11 wrote 3 2 1
+11 wrote 1 3 3
+11 old base 6 6
+11 wrote 5 12 1
+11 old base 13 3
+12 wrote 2 0 1
+12 old base 1 15
+13 error 16
+#10 11|o,,,,0 16 snapshot-origin base;s,,,,0 16 snapshot base cow P 8;t,,,,0 16 snapshot base cow2 P 4
+|base 16
+cow 32
+cow2 16
+|- W o 2 4
+- W s 0 1
+- W o 2 1
+- R t 0 8
+* W o 12 4
+- R o 0 16
+- R s 0 16
+- R t 0 16
+- R t 0 1
+- R s 0 16
+- R o 0 16
+- R s 0 16
+- R t 0 16
+|1 wrote 1 2 4
+2 wrote 2 0 1
+3 wrote 3 2 1
+4 old base 0 8
+6 old base 0 2
+6 wrote 3 2 1
+6 wrote 1 3 3
+6 old base 6 6
+6 wrote 5 12 2
+6 old base 14 2
+7 wrote 2 0 1
+7 old base 1 15
+8 error 16
+9 error 1
+10 wrote 2 0 1
+10 old base 1 15
+11 old base 0 2
+11 wrote 3 2 1
+11 wrote 1 3 3
+11 old base 6 6
+11 wrote 5 12 2
+11 old base 14 2
+12 wrote 2 0 1
+12 old base 1 15
+13 error 16
+#11 12|o,,,,0 16 snapshot-origin base;s,,,,0 16 snapshot base cow P 8;t,,,,0 16 snapshot base cow2 P 4
+|base 16
+cow 32
+cow2 16
+|- W o 2 4
+- W s 0 1
+- W o 2 1
+- R t 0 8
+* W o 12 4
+- R o 0 16
+- R s 0 16
+- R t 0 16
+- R t 0 1
+- R s 0 16
+- R o 0 16
+- R s 0 16
+- R t 0 16
+|1 wrote 1 2 4
+2 wrote 2 0 1
+3 wrote 3 2 1
+4 old base 0 8
+6 old base 0 2
+6 wrote 3 2 1
+6 wrote 1 3 3
+6 old base 6 6
+6 wrote 5 12 3
+6 old base 15 1
+7 wrote 2 0 1
+7 old base 1 15
+8 error 16
+9 error 1
+10 wrote 2 0 1
+10 old base 1 15
+11 old base 0 2
+11 wrote 3 2 1
+11 wrote 1 3 3
+11 old base 6 6
+11 wrote 5 12 3
+11 old base 15 1
+12 wrote 2 0 1
+12 old base 1 15
+13 error 16
+#12 13|o,,,,0 16 snapshot-origin base;s,,,,0 16 snapshot base cow P 8;t,,,,0 16 snapshot base cow2 P 4
+|base 16
+cow 32
+cow2 16
+|- W o 2 4
+- W s 0 1
+- W o 2 1
+- R t 0 8
+* W o 12 4
+- R o 0 16
+- R s 0 16
+- R t 0 16
+- R t 0 1
+- R s 0 16
+- R o 0 16
+- R s 0 16
+- R t 0 16
+|1 wrote 1 2 4
+2 wrote 2 0 1
+3 wrote 3 2 1
+4 old base 0 8
+6 old base 0 2
+6 wrote 3 2 1
+6 wrote 1 3 3
+6 old base 6 6
+6 wrote 5 12 4
+7 wrote 2 0 1
+7 old base 1 15
+8 error 16
+9 error 1
+10 wrote 2 0 1
+10 old base 1 15
+11 old base 0 2
+11 wrote 3 2 1
+11 wrote 1 3 3
+11 old base 6 6
+11 wrote 5 12 4
+12 wrote 2 0 1
+12 old base 1 15
+13 error 16
+#0 2|o,,,,0 16 snapshot-origin base;s,,,,0 16 snapshot base cow P 8;t,,,,0 16 snapshot base cow2 P 4
+|base 16
+cow 32
+cow2 16
+|- W o 2 4
+- W s 0 1
+- W o 2 1
+- R t 0 8
+- W o 12 4
+* R t 0 1
+- R o 0 16
+- R s 0 16
+- R t 0 16
+- R s 0 16
+- R o 0 16
+- R s 0 16
+- R t 0 16
+|1 wrote 1 2 4
+2 wrote 2 0 1
+3 wrote 3 2 1
+4 old base 0 8
+5 wrote 5 12 4
+7 old base 0 2
+7 wrote 3 2 1
+7 wrote 1 3 3
+7 old base 6 6
+7 wrote 5 12 4
+8 wrote 2 0 1
+8 old base 1 15
+9 error 16
+10 wrote 2 0 1
+10 old base 1 15
+11 old base 0 2
+11 wrote 3 2 1
+11 wrote 1 3 3
+11 old base 6 6
+11 wrote 5 12 4
+12 wrote 2 0 1
+12 old base 1 15
+13 error 16
+#0 17|o,,,,0 16 snapshot-origin base;s,,,,0 16 snapshot base cow P 8;t,,,,0 16 snapshot base cow2 P 4
+|base 16
+cow 32
+cow2 16
+|- W o 2 4
+- W s 0 1
+- W o 2 1
+- R t 0 8
+- W o 12 4
+- R t 0 1
+* R s 0 16
+- R o 0 16
+- R s 0 16
+- R t 0 16
+- R o 0 16
+- R s 0 16
+- R t 0 16
+|1 wrote 1 2 4
+2 wrote 2 0 1
+3 wrote 3 2 1
+4 old base 0 8
+5 wrote 5 12 4
+6 error 1
+8 old base 0 2
+8 wrote 3 2 1
+8 wrote 1 3 3
+8 old base 6 6
+8 wrote 5 12 4
+9 wrote 2 0 1
+9 old base 1 15
+10 error 16
+11 old base 0 2
+11 wrote 3 2 1
+11 wrote 1 3 3
+11 old base 6 6
+11 wrote 5 12 4
+12 wrote 2 0 1
+12 old base 1 15
+13 error 16
+#0 9|o,,,,0 16 snapshot-origin base;s,,,ro,0 16 snapshot base cow P 8
+|base 16
+cow 32
+cow2 16
+|* W o 0 1
+- R o 0 16
+- R s 0 16
+- R s 0 16
+- R o 0 16
+- R s 0 16
+|2 old base 0 16
+3 old base 0 16
+4 old base 0 16
+5 old base 0 16
+6 old base 0 16
+#9 10|o,,,,0 16 snapshot-origin base;s,,,ro,0 16 snapshot base cow P 8
+|base 16
+cow 32
+cow2 16
+|* W o 0 1
+- R o 0 16
+- R s 0 16
+- R s 0 16
+- R o 0 16
+- R s 0 16
+|2 wrote 1 0 1
+2 old base 1 15
+3 old base 0 16
+4 old base 0 16
+5 wrote 1 0 1
+5 old base 1 15
+6 old base 0 16
+#0 17|o,,,,0 16 snapshot-origin base;s,,,ro,0 16 snapshot base cow P 8
+|base 16
+cow 32
+cow2 16
+|- W o 0 1
+* R s 0 16
+- R o 0 16
+- R s 0 16
+- R o 0 16
+- R s 0 16
+|1 wrote 1 0 1
+3 wrote 1 0 1
+3 old base 1 15
+4 old base 0 16
+5 wrote 1 0 1
+5 old base 1 15
+6 old base 0 16
+#0 2|o,,,ro,0 16 snapshot-origin base;s,,,,0 16 snapshot base cow P 8
+|base 16
+cow 32
+cow2 16
+|* W o 0 1
+- R o 0 16
+- R s 0 16
+- R o 0 1
+- R s 0 16
+- R o 0 16
+- R s 0 16
+|2 old base 0 16
+3 old base 0 16
+4 old base 0 1
+5 old base 0 16
+6 old base 0 16
+7 old base 0 16
+#0 2|o,,,ro,0 16 snapshot-origin base;s,,,,0 16 snapshot base cow P 8
+|base 16
+cow 32
+cow2 16
+|- W o 0 1
+* R o 0 1
+- R o 0 16
+- R s 0 16
+- R s 0 16
+- R o 0 16
+- R s 0 16
+|1 error 1
+3 old base 0 16
+4 old base 0 16
+5 old base 0 16
+6 old base 0 16
+7 old base 0 16
+#0 17|o,,,ro,0 16 snapshot-origin base;s,,,,0 16 snapshot base cow P 8
+|base 16
+cow 32
+cow2 16
+|- W o 0 1
+- R o 0 1
+* R s 0 16
+- R o 0 16
+- R s 0 16
+- R o 0 16
+- R s 0 16
+|1 error 1
+2 old base 0 1
+4 old base 0 16
+5 old base 0 16
+6 old base 0 16
+7 old base 0 16
+#0 3|o,,,,0 16 snapshot-origin base;s,,,,0 16 snapshot base cow P 8
+|base 16
+cow 32
+cow2 16
+|* W o 15 2
+- R o 0 16
+- R s 0 16
+- R o 0 16
+- R s 0 16
+|2 old base 0 16
+3 old base 0 16
+4 old base 0 16
+5 old base 0 16
+#0 10|r,,,ro,0 16 linear base 0;o,,,,0 16 snapshot-origin /dev/mapper/r;s,,,,0 16 snapshot /dev/mapper/r cow P 8
+|base 16
+cow 32
+cow2 16
+|* W o 0 1
+- R o 0 16
+- R s 0 16
+- R o 0 16
+- R s 0 16
+|2 old base 0 16
+3 old base 0 16
+4 old base 0 16
+5 old base 0 16
+#0 10|z,,,,0 16 zero;o,,,,0 16 snapshot-origin /dev/mapper/z;s,,,,0 16 snapshot /dev/mapper/z cow P 8
+|base 16
+cow 32
+cow2 16
+|* W o 0 1
+- R o 0 16
+- R s 0 16
+- R s 0 1
+- R o 0 16
+- R s 0 16
+|2 zero 16
+3 zero 16
+4 zero 1
+5 zero 16
+6 zero 16
+#0 2|z,,,,0 16 zero;o,,,,0 16 snapshot-origin /dev/mapper/z;s,,,,0 16 snapshot /dev/mapper/z cow P 8
+|base 16
+cow 32
+cow2 16
+|- W o 0 1
+* R s 0 1
+- R o 0 16
+- R s 0 16
+- R o 0 16
+- R s 0 16
+|1 zero 1
+3 zero 16
+4 zero 16
+5 zero 16
+6 zero 16
+#0 1|r,,,,0 15 linear base 0,15 1 error;o,,,,0 16 snapshot-origin /dev/mapper/r;s,,,,0 16 snapshot /dev/mapper/r cow P 8
+|base 16
+cow 32
+cow2 16
+|* W o 8 1
+- R o 0 16
+- R s 0 16
+- R s 0 1
+- R o 0 16
+- R s 0 16
+|2 old base 0 15
+2 error 1
+3 old base 0 15
+3 error 1
+4 old base 0 1
+5 old base 0 15
+5 error 1
+6 old base 0 15
+6 error 1
+#1 2|r,,,,0 15 linear base 0,15 1 error;o,,,,0 16 snapshot-origin /dev/mapper/r;s,,,,0 16 snapshot /dev/mapper/r cow P 8
+|base 16
+cow 32
+cow2 16
+|* W o 8 1
+- R o 0 16
+- R s 0 16
+- R s 0 1
+- R o 0 16
+- R s 0 16
+|2 old base 0 8
+2 wrote 1 8 1
+2 old base 9 6
+2 error 1
+3 error 16
+4 error 1
+5 old base 0 8
+5 wrote 1 8 1
+5 old base 9 6
+5 error 1
+6 error 16
+#0 2|r,,,,0 15 linear base 0,15 1 error;o,,,,0 16 snapshot-origin /dev/mapper/r;s,,,,0 16 snapshot /dev/mapper/r cow P 8
+|base 16
+cow 32
+cow2 16
+|- W o 8 1
+* R s 0 1
+- R o 0 16
+- R s 0 16
+- R o 0 16
+- R s 0 16
+|1 wrote 1 8 1
+3 old base 0 8
+3 wrote 1 8 1
+3 old base 9 6
+3 error 1
+4 error 16
+5 old base 0 8
+5 wrote 1 8 1
+5 old base 9 6
+5 error 1
+6 error 16
+#0 9|r,,,,0 15 linear base 0,15 1 error;o,,,,0 16 snapshot-origin /dev/mapper/r;s,,,,0 16 snapshot /dev/mapper/r cow P 8
+|base 16
+cow 32
+cow2 16
+|* W o 4 8
+- R o 0 16
+- R s 0 16
+- R s 0 1
+- R o 0 16
+- R s 0 16
+|2 old base 0 15
+2 error 1
+3 old base 0 15
+3 error 1
+4 old base 0 1
+5 old base 0 15
+5 error 1
+6 old base 0 15
+6 error 1
+#9 10|r,,,,0 15 linear base 0,15 1 error;o,,,,0 16 snapshot-origin /dev/mapper/r;s,,,,0 16 snapshot /dev/mapper/r cow P 8
+|base 16
+cow 32
+cow2 16
+|* W o 4 8
+- R o 0 16
+- R s 0 16
+- R s 0 1
+- R o 0 16
+- R s 0 16
+|2 old base 0 4
+2 wrote 1 4 1
+2 old base 5 10
+2 error 1
+3 old base 0 15
+3 error 1
+4 old base 0 1
+5 old base 0 4
+5 wrote 1 4 1
+5 old base 5 10
+5 error 1
+6 old base 0 15
+6 error 1
+#10 11|r,,,,0 15 linear base 0,15 1 error;o,,,,0 16 snapshot-origin /dev/mapper/r;s,,,,0 16 snapshot /dev/mapper/r cow P 8
+|base 16
+cow 32
+cow2 16
+|* W o 4 8
+- R o 0 16
+- R s 0 16
+- R s 0 1
+- R o 0 16
+- R s 0 16
+|2 old base 0 4
+2 wrote 1 4 2
+2 old base 6 9
+2 error 1
+3 old base 0 15
+3 error 1
+4 old base 0 1
+5 old base 0 4
+5 wrote 1 4 2
+5 old base 6 9
+5 error 1
+6 old base 0 15
+6 error 1
+#11 12|r,,,,0 15 linear base 0,15 1 error;o,,,,0 16 snapshot-origin /dev/mapper/r;s,,,,0 16 snapshot /dev/mapper/r cow P 8
+|base 16
+cow 32
+cow2 16
+|* W o 4 8
+- R o 0 16
+- R s 0 16
+- R s 0 1
+- R o 0 16
+- R s 0 16
+|2 old base 0 4
+2 wrote 1 4 3
+2 old base 7 8
+2 error 1
+3 old base 0 15
+3 error 1
+4 old base 0 1
+5 old base 0 4
+5 wrote 1 4 3
+5 old base 7 8
+5 error 1
+6 old base 0 15
+6 error 1
+#12 13|r,,,,0 15 linear base 0,15 1 error;o,,,,0 16 snapshot-origin /dev/mapper/r;s,,,,0 16 snapshot /dev/mapper/r cow P 8
+|base 16
+cow 32
+cow2 16
+|* W o 4 8
+- R o 0 16
+- R s 0 16
+- R s 0 1
+- R o 0 16
+- R s 0 16
+|2 old base 0 4
+2 wrote 1 4 4
+2 old base 8 7
+2 error 1
+3 old base 0 15
+3 error 1
+4 old base 0 1
+5 old base 0 4
+5 wrote 1 4 4
+5 old base 8 7
+5 error 1
+6 old base 0 15
+6 error 1
+#13 14|r,,,,0 15 linear base 0,15 1 error;o,,,,0 16 snapshot-origin /dev/mapper/r;s,,,,0 16 snapshot /dev/mapper/r cow P 8
+|base 16
+cow 32
+cow2 16
+|* W o 4 8
+- R o 0 16
+- R s 0 16
+- R s 0 1
+- R o 0 16
+- R s 0 16
+|2 old base 0 4
+2 wrote 1 4 5
+2 old base 9 6
+2 error 1
+3 error 16
+4 error 1
+5 old base 0 4
+5 wrote 1 4 5
+5 old base 9 6
+5 error 1
+6 error 16
+#14 15|r,,,,0 15 linear base 0,15 1 error;o,,,,0 16 snapshot-origin /dev/mapper/r;s,,,,0 16 snapshot /dev/mapper/r cow P 8
+|base 16
+cow 32
+cow2 16
+|* W o 4 8
+- R o 0 16
+- R s 0 16
+- R s 0 1
+- R o 0 16
+- R s 0 16
+|2 old base 0 4
+2 wrote 1 4 6
+2 old base 10 5
+2 error 1
+3 error 16
+4 error 1
+5 old base 0 4
+5 wrote 1 4 6
+5 old base 10 5
+5 error 1
+6 error 16
+#15 16|r,,,,0 15 linear base 0,15 1 error;o,,,,0 16 snapshot-origin /dev/mapper/r;s,,,,0 16 snapshot /dev/mapper/r cow P 8
+|base 16
+cow 32
+cow2 16
+|* W o 4 8
+- R o 0 16
+- R s 0 16
+- R s 0 1
+- R o 0 16
+- R s 0 16
+|2 old base 0 4
+2 wrote 1 4 7
+2 old base 11 4
+2 error 1
+3 error 16
+4 error 1
+5 old base 0 4
+5 wrote 1 4 7
+5 old base 11 4
+5 error 1
+6 error 16
+#16 17|r,,,,0 15 linear base 0,15 1 error;o,,,,0 16 snapshot-origin /dev/mapper/r;s,,,,0 16 snapshot /dev/mapper/r cow P 8
+|base 16
+cow 32
+cow2 16
+|* W o 4 8
+- R o 0 16
+- R s 0 16
+- R s 0 1
+- R o 0 16
+- R s 0 16
+|2 old base 0 4
+2 wrote 1 4 8
+2 old base 12 3
+2 error 1
+3 error 16
+4 error 1
+5 old base 0 4
+5 wrote 1 4 8
+5 old base 12 3
+5 error 1
+6 error 16
+#0 2|r,,,,0 15 linear base 0,15 1 error;o,,,,0 16 snapshot-origin /dev/mapper/r;s,,,,0 16 snapshot /dev/mapper/r cow P 8
+|base 16
+cow 32
+cow2 16
+|- W o 4 8
+* R s 0 1
+- R o 0 16
+- R s 0 16
+- R o 0 16
+- R s 0 16
+|1 wrote 1 4 8
+3 old base 0 4
+3 wrote 1 4 8
+3 old base 12 3
+3 error 1
+4 error 16
+5 old base 0 4
+5 wrote 1 4 8
+5 old base 12 3
+5 error 1
+6 error 16
+#0 13|o,,,,0 16 snapshot-origin base;s,,,,0 16 snapshot base cow P 8;t,,,,0 16 snapshot base cow2 P 4
+|base 16
+cow 32
+cow2 16
+|* W o 2 10
+- R o 0 16
+- R s 0 16
+- R t 0 16
+- R t 0 8
+- R s 0 16
+- R o 0 16
+- R s 0 16
+- R t 0 16
+|2 old base 0 16
+3 old base 0 16
+4 old base 0 16
+5 old base 0 8
+6 old base 0 16
+7 old base 0 16
+8 old base 0 16
+9 old base 0 16
+#13 14|o,,,,0 16 snapshot-origin base;s,,,,0 16 snapshot base cow P 8;t,,,,0 16 snapshot base cow2 P 4
+|base 16
+cow 32
+cow2 16
+|* W o 2 10
+- R o 0 16
+- R s 0 16
+- R t 0 16
+- R t 0 8
+- R s 0 16
+- R o 0 16
+- R s 0 16
+- R t 0 16
+|2 old base 0 2
+2 wrote 1 2 1
+2 old base 3 13
+3 old base 0 16
+4 old base 0 16
+5 old base 0 8
+6 old base 0 16
+7 old base 0 2
+7 wrote 1 2 1
+7 old base 3 13
+8 old base 0 16
+9 old base 0 16
+#14 19|o,,,,0 16 snapshot-origin base;s,,,,0 16 snapshot base cow P 8;t,,,,0 16 snapshot base cow2 P 4
+|base 16
+cow 32
+cow2 16
+|* W o 2 10
+- R o 0 16
+- R s 0 16
+- R t 0 16
+- R t 0 8
+- R s 0 16
+- R o 0 16
+- R s 0 16
+- R t 0 16
+|2 old base 0 2
+2 wrote 1 2 2
+2 old base 4 12
+3 old base 0 16
+4 old base 0 16
+5 old base 0 8
+6 old base 0 16
+7 old base 0 2
+7 wrote 1 2 2
+7 old base 4 12
+8 old base 0 16
+9 old base 0 16
+#19 20|o,,,,0 16 snapshot-origin base;s,,,,0 16 snapshot base cow P 8;t,,,,0 16 snapshot base cow2 P 4
+|base 16
+cow 32
+cow2 16
+|* W o 2 10
+- R o 0 16
+- R s 0 16
+- R t 0 16
+- R t 0 8
+- R s 0 16
+- R o 0 16
+- R s 0 16
+- R t 0 16
+|2 old base 0 2
+2 wrote 1 2 3
+2 old base 5 11
+3 old base 0 16
+4 old base 0 16
+5 old base 0 8
+6 old base 0 16
+7 old base 0 2
+7 wrote 1 2 3
+7 old base 5 11
+8 old base 0 16
+9 old base 0 16
+#20 21|o,,,,0 16 snapshot-origin base;s,,,,0 16 snapshot base cow P 8;t,,,,0 16 snapshot base cow2 P 4
+|base 16
+cow 32
+cow2 16
+|* W o 2 10
+- R o 0 16
+- R s 0 16
+- R t 0 16
+- R t 0 8
+- R s 0 16
+- R o 0 16
+- R s 0 16
+- R t 0 16
+|2 old base 0 2
+2 wrote 1 2 4
+2 old base 6 10
+3 old base 0 16
+4 old base 0 16
+5 old base 0 8
+6 old base 0 16
+7 old base 0 2
+7 wrote 1 2 4
+7 old base 6 10
+8 old base 0 16
+9 old base 0 16
+#21 22|o,,,,0 16 snapshot-origin base;s,,,,0 16 snapshot base cow P 8;t,,,,0 16 snapshot base cow2 P 4
+|base 16
+cow 32
+cow2 16
+|* W o 2 10
+- R o 0 16
+- R s 0 16
+- R t 0 16
+- R t 0 8
+- R s 0 16
+- R o 0 16
+- R s 0 16
+- R t 0 16
+|2 old base 0 2
+2 wrote 1 2 5
+2 old base 7 9
+3 old base 0 16
+4 old base 0 16
+5 old base 0 8
+6 old base 0 16
+7 old base 0 2
+7 wrote 1 2 5
+7 old base 7 9
+8 old base 0 16
+9 old base 0 16
+#22 31|o,,,,0 16 snapshot-origin base;s,,,,0 16 snapshot base cow P 8;t,,,,0 16 snapshot base cow2 P 4
+|base 16
+cow 32
+cow2 16
+|* W o 2 10
+- R o 0 16
+- R s 0 16
+- R t 0 16
+- R t 0 8
+- R s 0 16
+- R o 0 16
+- R s 0 16
+- R t 0 16
+|2 old base 0 2
+2 wrote 1 2 6
+2 old base 8 8
+3 old base 0 16
+4 old base 0 16
+5 old base 0 8
+6 old base 0 16
+7 old base 0 2
+7 wrote 1 2 6
+7 old base 8 8
+8 old base 0 16
+9 old base 0 16
+#31 32|o,,,,0 16 snapshot-origin base;s,,,,0 16 snapshot base cow P 8;t,,,,0 16 snapshot base cow2 P 4
+|base 16
+cow 32
+cow2 16
+|* W o 2 10
+- R o 0 16
+- R s 0 16
+- R t 0 16
+- R t 0 8
+- R s 0 16
+- R o 0 16
+- R s 0 16
+- R t 0 16
+|2 old base 0 2
+2 wrote 1 2 7
+2 old base 9 7
+3 old base 0 16
+4 error 16
+5 error 8
+6 old base 0 16
+7 old base 0 2
+7 wrote 1 2 7
+7 old base 9 7
+8 old base 0 16
+9 error 16
+#32 33|o,,,,0 16 snapshot-origin base;s,,,,0 16 snapshot base cow P 8;t,,,,0 16 snapshot base cow2 P 4
+|base 16
+cow 32
+cow2 16
+|* W o 2 10
+- R o 0 16
+- R s 0 16
+- R t 0 16
+- R t 0 8
+- R s 0 16
+- R o 0 16
+- R s 0 16
+- R t 0 16
+|2 old base 0 2
+2 wrote 1 2 8
+2 old base 10 6
+3 old base 0 16
+4 error 16
+5 error 8
+6 old base 0 16
+7 old base 0 2
+7 wrote 1 2 8
+7 old base 10 6
+8 old base 0 16
+9 error 16
+#33 34|o,,,,0 16 snapshot-origin base;s,,,,0 16 snapshot base cow P 8;t,,,,0 16 snapshot base cow2 P 4
+|base 16
+cow 32
+cow2 16
+|* W o 2 10
+- R o 0 16
+- R s 0 16
+- R t 0 16
+- R t 0 8
+- R s 0 16
+- R o 0 16
+- R s 0 16
+- R t 0 16
+|2 old base 0 2
+2 wrote 1 2 9
+2 old base 11 5
+3 old base 0 16
+4 error 16
+5 error 8
+6 old base 0 16
+7 old base 0 2
+7 wrote 1 2 9
+7 old base 11 5
+8 old base 0 16
+9 error 16
+#34 35|o,,,,0 16 snapshot-origin base;s,,,,0 16 snapshot base cow P 8;t,,,,0 16 snapshot base cow2 P 4
+|base 16
+cow 32
+cow2 16
+|* W o 2 10
+- R o 0 16
+- R s 0 16
+- R t 0 16
+- R t 0 8
+- R s 0 16
+- R o 0 16
+- R s 0 16
+- R t 0 16
+|2 old base 0 2
+2 wrote 1 2 10
+2 old base 12 4
+3 old base 0 16
+4 error 16
+5 error 8
+6 old base 0 16
+7 old base 0 2
+7 wrote 1 2 10
+7 old base 12 4
+8 old base 0 16
+9 error 16
+#0 9|o,,,,0 16 snapshot-origin base;s,,,,0 16 snapshot base cow P 8;t,,,,0 16 snapshot base cow2 P 4
+|base 16
+cow 32
+cow2 16
+|- W o 2 10
+* R t 0 8
+- R o 0 16
+- R s 0 16
+- R t 0 16
+- R s 0 16
+- R o 0 16
+- R s 0 16
+- R t 0 16
+|1 wrote 1 2 10
+3 old base 0 2
+3 wrote 1 2 10
+3 old base 12 4
+4 old base 0 16
+5 error 16
+6 old base 0 16
+7 old base 0 2
+7 wrote 1 2 10
+7 old base 12 4
+8 old base 0 16
+9 error 16
+#0 17|o,,,,0 16 snapshot-origin base;s,,,,0 16 snapshot base cow P 8;t,,,,0 16 snapshot base cow2 P 4
+|base 16
+cow 32
+cow2 16
+|- W o 2 10
+- R t 0 8
+* R s 0 16
+- R o 0 16
+- R s 0 16
+- R t 0 16
+- R o 0 16
+- R s 0 16
+- R t 0 16
+|1 wrote 1 2 10
+2 error 8
+4 old base 0 2
+4 wrote 1 2 10
+4 old base 12 4
+5 old base 0 16
+6 error 16
+7 old base 0 2
+7 wrote 1 2 10
+7 old base 12 4
+8 old base 0 16
+9 error 16
+#0 13|o,,,,0 16 snapshot-origin base;p,,,,0 16 snapshot-origin /dev/mapper/o;s,,,,0 16 snapshot base cow P 8;t,,,,0 16 snapshot /dev/mapper/o cow2 P 4
+|base 16
+cow 32
+cow2 16
+|* W p 0 1
+- R p 0 16
+- R s 0 16
+- R t 0 16
+- R p 0 16
+- R s 0 16
+- R t 0 16
+|2 old base 0 16
+3 old base 0 16
+4 old base 0 16
+5 old base 0 16
+6 old base 0 16
+7 old base 0 16
+#13 14|o,,,,0 16 snapshot-origin base;p,,,,0 16 snapshot-origin /dev/mapper/o;s,,,,0 16 snapshot base cow P 8;t,,,,0 16 snapshot /dev/mapper/o cow2 P 4
+|base 16
+cow 32
+cow2 16
+|* W p 0 1
+- R p 0 16
+- R s 0 16
+- R t 0 16
+- R p 0 16
+- R s 0 16
+- R t 0 16
+|2 wrote 1 0 1
+2 old base 1 15
+3 old base 0 16
+4 old base 0 16
+5 wrote 1 0 1
+5 old base 1 15
+6 old base 0 16
+7 old base 0 16
+#0 13|s,,,,0 16 snapshot base cow P 8;o,,,,0 16 snapshot-origin /dev/mapper/s;t,,,,0 16 snapshot /dev/mapper/s cow2 P 4
+|base 16
+cow 32
+cow2 16
+|* W o 0 1
+- R o 0 16
+- R t 0 16
+- R t 0 8
+- R o 0 16
+- R t 0 16
+|2 old base 0 16
+3 old base 0 16
+4 old base 0 8
+5 old base 0 16
+6 old base 0 16
+#13 14|s,,,,0 16 snapshot base cow P 8;o,,,,0 16 snapshot-origin /dev/mapper/s;t,,,,0 16 snapshot /dev/mapper/s cow2 P 4
+|base 16
+cow 32
+cow2 16
+|* W o 0 1
+- R o 0 16
+- R t 0 16
+- R t 0 8
+- R o 0 16
+- R t 0 16
+|2 wrote 1 0 1
+2 old base 1 15
+3 old base 0 16
+4 old base 0 8
+5 wrote 1 0 1
+5 old base 1 15
+6 old base 0 16
+#0 9|s,,,,0 16 snapshot base cow P 8;o,,,,0 16 snapshot-origin /dev/mapper/s;t,,,,0 16 snapshot /dev/mapper/s cow2 P 4
+|base 16
+cow 32
+cow2 16
+|- W o 0 1
+* R t 0 8
+- R o 0 16
+- R t 0 16
+- R o 0 16
+- R t 0 16
+|1 wrote 1 0 1
+3 wrote 1 0 1
+3 old base 1 15
+4 old base 0 16
+5 wrote 1 0 1
+5 old base 1 15
+6 old base 0 16
+#0 5|s,,,,0 16 snapshot base cow P 16;o,,,,0 16 snapshot-origin /dev/mapper/s;t,,,,0 16 snapshot /dev/mapper/s cow2 P 4
+|base 16
+cow 32
+cow2 16
+|* W o 0 1
+- R o 0 16
+- R t 0 16
+- R t 0 8
+- R o 0 1
+- R o 0 16
+- R t 0 16
+|2 old base 0 16
+3 old base 0 16
+4 old base 0 8
+5 old base 0 1
+6 old base 0 16
+7 old base 0 16
+#5 6|s,,,,0 16 snapshot base cow P 16;o,,,,0 16 snapshot-origin /dev/mapper/s;t,,,,0 16 snapshot /dev/mapper/s cow2 P 4
+|base 16
+cow 32
+cow2 16
+|* W o 0 1
+- R o 0 16
+- R t 0 16
+- R t 0 8
+- R o 0 1
+- R o 0 16
+- R t 0 16
+|2 error 16
+3 old base 0 4
+3 error 12
+4 old base 0 4
+4 error 4
+5 error 1
+6 error 16
+7 old base 0 4
+7 error 12
+#0 9|s,,,,0 16 snapshot base cow P 16;o,,,,0 16 snapshot-origin /dev/mapper/s;t,,,,0 16 snapshot /dev/mapper/s cow2 P 4
+|base 16
+cow 32
+cow2 16
+|- W o 0 1
+* R t 0 8
+- R o 0 16
+- R t 0 16
+- R o 0 1
+- R o 0 16
+- R t 0 16
+|1 error 1
+3 error 16
+4 old base 0 4
+4 error 12
+5 error 1
+6 error 16
+7 old base 0 4
+7 error 12
+#0 2|s,,,,0 16 snapshot base cow P 16;o,,,,0 16 snapshot-origin /dev/mapper/s;t,,,,0 16 snapshot /dev/mapper/s cow2 P 4
+|base 16
+cow 32
+cow2 16
+|- W o 0 1
+- R t 0 8
+* R o 0 1
+- R o 0 16
+- R t 0 16
+- R o 0 16
+- R t 0 16
+|1 error 1
+2 old base 0 4
+2 error 4
+4 error 16
+5 old base 0 4
+5 error 12
+6 error 16
+7 old base 0 4
+7 error 12
+#0 21|r,,,,0 32 striped 2 8 sda 0 sdb 0;o,,,,0 32 snapshot-origin /dev/mapper/r;s,,,,0 32 snapshot /dev/mapper/r c4 P 4;t,,,,0 32 snapshot /dev/mapper/r c16 P 16
+|sda 16
+sdb 16
+c4 64
+c16 64
+|* W o 14 4
+- R o 0 32
+- R s 0 32
+- R t 0 32
+- R o 0 32
+- R s 0 32
+- R t 0 32
+|2 old sda 0 8
+2 old sdb 0 8
+2 old sda 8 8
+2 old sdb 8 8
+3 old sda 0 8
+3 old sdb 0 8
+3 old sda 8 8
+3 old sdb 8 8
+4 old sda 0 8
+4 old sdb 0 8
+4 old sda 8 8
+4 old sdb 8 8
+5 old sda 0 8
+5 old sdb 0 8
+5 old sda 8 8
+5 old sdb 8 8
+6 old sda 0 8
+6 old sdb 0 8
+6 old sda 8 8
+6 old sdb 8 8
+7 old sda 0 8
+7 old sdb 0 8
+7 old sda 8 8
+7 old sdb 8 8
+#21 22|r,,,,0 32 striped 2 8 sda 0 sdb 0;o,,,,0 32 snapshot-origin /dev/mapper/r;s,,,,0 32 snapshot /dev/mapper/r c4 P 4;t,,,,0 32 snapshot /dev/mapper/r c16 P 16
+|sda 16
+sdb 16
+c4 64
+c16 64
+|* W o 14 4
+- R o 0 32
+- R s 0 32
+- R t 0 32
+- R o 0 32
+- R s 0 32
+- R t 0 32
+|2 old sda 0 8
+2 old sdb 0 6
+2 wrote 1 14 1
+2 old sdb 7 1
+2 old sda 8 8
+2 old sdb 8 8
+3 old sda 0 8
+3 old sdb 0 8
+3 old sda 8 8
+3 old sdb 8 8
+4 old sda 0 8
+4 old sdb 0 8
+4 old sda 8 8
+4 old sdb 8 8
+5 old sda 0 8
+5 old sdb 0 6
+5 wrote 1 14 1
+5 old sdb 7 1
+5 old sda 8 8
+5 old sdb 8 8
+6 old sda 0 8
+6 old sdb 0 8
+6 old sda 8 8
+6 old sdb 8 8
+7 old sda 0 8
+7 old sdb 0 8
+7 old sda 8 8
+7 old sdb 8 8
+#22 43|r,,,,0 32 striped 2 8 sda 0 sdb 0;o,,,,0 32 snapshot-origin /dev/mapper/r;s,,,,0 32 snapshot /dev/mapper/r c4 P 4;t,,,,0 32 snapshot /dev/mapper/r c16 P 16
+|sda 16
+sdb 16
+c4 64
+c16 64
+|* W o 14 4
+- R o 0 32
+- R s 0 32
+- R t 0 32
+- R o 0 32
+- R s 0 32
+- R t 0 32
+|2 old sda 0 8
+2 old sdb 0 6
+2 wrote 1 14 2
+2 old sda 8 8
+2 old sdb 8 8
+3 old sda 0 8
+3 old sdb 0 8
+3 old sda 8 8
+3 old sdb 8 8
+4 old sda 0 8
+4 old sdb 0 8
+4 old sda 8 8
+4 old sdb 8 8
+5 old sda 0 8
+5 old sdb 0 6
+5 wrote 1 14 2
+5 old sda 8 8
+5 old sdb 8 8
+6 old sda 0 8
+6 old sdb 0 8
+6 old sda 8 8
+6 old sdb 8 8
+7 old sda 0 8
+7 old sdb 0 8
+7 old sda 8 8
+7 old sdb 8 8
+#43 44|r,,,,0 32 striped 2 8 sda 0 sdb 0;o,,,,0 32 snapshot-origin /dev/mapper/r;s,,,,0 32 snapshot /dev/mapper/r c4 P 4;t,,,,0 32 snapshot /dev/mapper/r c16 P 16
+|sda 16
+sdb 16
+c4 64
+c16 64
+|* W o 14 4
+- R o 0 32
+- R s 0 32
+- R t 0 32
+- R o 0 32
+- R s 0 32
+- R t 0 32
+|2 old sda 0 8
+2 old sdb 0 6
+2 wrote 1 14 3
+2 old sda 9 7
+2 old sdb 8 8
+3 old sda 0 8
+3 old sdb 0 8
+3 old sda 8 8
+3 old sdb 8 8
+4 old sda 0 8
+4 old sdb 0 8
+4 old sda 8 8
+4 old sdb 8 8
+5 old sda 0 8
+5 old sdb 0 6
+5 wrote 1 14 3
+5 old sda 9 7
+5 old sdb 8 8
+6 old sda 0 8
+6 old sdb 0 8
+6 old sda 8 8
+6 old sdb 8 8
+7 old sda 0 8
+7 old sdb 0 8
+7 old sda 8 8
+7 old sdb 8 8
+#44 45|r,,,,0 32 striped 2 8 sda 0 sdb 0;o,,,,0 32 snapshot-origin /dev/mapper/r;s,,,,0 32 snapshot /dev/mapper/r c4 P 4;t,,,,0 32 snapshot /dev/mapper/r c16 P 16
+|sda 16
+sdb 16
+c4 64
+c16 64
+|* W o 14 4
+- R o 0 32
+- R s 0 32
+- R t 0 32
+- R o 0 32
+- R s 0 32
+- R t 0 32
+|2 old sda 0 8
+2 old sdb 0 6
+2 wrote 1 14 4
+2 old sda 10 6
+2 old sdb 8 8
+3 old sda 0 8
+3 old sdb 0 8
+3 old sda 8 8
+3 old sdb 8 8
+4 old sda 0 8
+4 old sdb 0 8
+4 old sda 8 8
+4 old sdb 8 8
+5 old sda 0 8
+5 old sdb 0 6
+5 wrote 1 14 4
+5 old sda 10 6
+5 old sdb 8 8
+6 old sda 0 8
+6 old sdb 0 8
+6 old sda 8 8
+6 old sdb 8 8
+7 old sda 0 8
+7 old sdb 0 8
+7 old sda 8 8
+7 old sdb 8 8
+#0 9|o,,,,0 16 snapshot-origin base;s,,,,0 16 snapshot base cow P 8
+|base 16
+cow 32
+cow2 16
+|* W o 0 4
+- R o 0 16
+- R s 0 16
+- R s 0 8
+- R o 0 8
+- R o 0 16
+- R s 0 16
+|2 old base 0 16
+3 old base 0 16
+4 old base 0 8
+5 old base 0 8
+6 old base 0 16
+7 old base 0 16
+#9 10|o,,,,0 16 snapshot-origin base;s,,,,0 16 snapshot base cow P 8
+|base 16
+cow 32
+cow2 16
+|* W o 0 4
+- R o 0 16
+- R s 0 16
+- R s 0 8
+- R o 0 8
+- R o 0 16
+- R s 0 16
+|2 wrote 1 0 1
+2 old base 1 15
+3 old base 0 16
+4 old base 0 8
+5 wrote 1 0 1
+5 old base 1 7
+6 wrote 1 0 1
+6 old base 1 15
+7 old base 0 16
+#10 11|o,,,,0 16 snapshot-origin base;s,,,,0 16 snapshot base cow P 8
+|base 16
+cow 32
+cow2 16
+|* W o 0 4
+- R o 0 16
+- R s 0 16
+- R s 0 8
+- R o 0 8
+- R o 0 16
+- R s 0 16
+|2 wrote 1 0 2
+2 old base 2 14
+3 old base 0 16
+4 old base 0 8
+5 wrote 1 0 2
+5 old base 2 6
+6 wrote 1 0 2
+6 old base 2 14
+7 old base 0 16
+#11 12|o,,,,0 16 snapshot-origin base;s,,,,0 16 snapshot base cow P 8
+|base 16
+cow 32
+cow2 16
+|* W o 0 4
+- R o 0 16
+- R s 0 16
+- R s 0 8
+- R o 0 8
+- R o 0 16
+- R s 0 16
+|2 wrote 1 0 3
+2 old base 3 13
+3 old base 0 16
+4 old base 0 8
+5 wrote 1 0 3
+5 old base 3 5
+6 wrote 1 0 3
+6 old base 3 13
+7 old base 0 16
+#12 13|o,,,,0 16 snapshot-origin base;s,,,,0 16 snapshot base cow P 8
+|base 16
+cow 32
+cow2 16
+|* W o 0 4
+- R o 0 16
+- R s 0 16
+- R s 0 8
+- R o 0 8
+- R o 0 16
+- R s 0 16
+|2 wrote 1 0 4
+2 old base 4 12
+3 old base 0 16
+4 old base 0 8
+5 wrote 1 0 4
+5 old base 4 4
+6 wrote 1 0 4
+6 old base 4 12
+7 old base 0 16
+#0 9|o,,,,0 16 snapshot-origin base;s,,,,0 16 snapshot base cow P 8
+|base 16
+cow 32
+cow2 16
+|- W o 0 4
+* R s 0 8
+- R o 0 16
+- R s 0 16
+- R o 0 8
+- R o 0 16
+- R s 0 16
+|1 wrote 1 0 4
+3 wrote 1 0 4
+3 old base 4 12
+4 old base 0 16
+5 wrote 1 0 4
+5 old base 4 4
+6 wrote 1 0 4
+6 old base 4 12
+7 old base 0 16
+#0 9|o,,,,0 16 snapshot-origin base;s,,,,0 16 snapshot base cow P 8
+|base 16
+cow 32
+cow2 16
+|- W o 0 4
+- R s 0 8
+* R o 0 8
+- R o 0 16
+- R s 0 16
+- R o 0 16
+- R s 0 16
+|1 wrote 1 0 4
+2 old base 0 8
+4 wrote 1 0 4
+4 old base 4 12
+5 old base 0 16
+6 wrote 1 0 4
+6 old base 4 12
+7 old base 0 16
+";
+
+/// Stops of the longest request, a write of an origin with eight snapshots.
+pub(crate) static LONG_STOPS: &str = "\
+o,,,rw,0 1048576 snapshot-origin base;s0,,,rw,0 1048576 snapshot base c0 P 1024;s1,,,rw,0 1048576 snapshot base c1 P 1024;s2,,,rw,0 1048576 snapshot base c2 P 1024;s3,,,rw,0 1048576 snapshot base c3 P 1024;s4,,,rw,0 1048576 snapshot base c4 P 1024;s5,,,rw,0 1048576 snapshot base c5 P 1024;s6,,,rw,0 1048576 snapshot base c6 P 1024;s7,,,rw,0 1048576 snapshot base c7 P 1024
+|base 1048576
+c0 1050624
+c1 1050624
+c2 1050624
+c3 1050624
+c4 1050624
+c5 1050624
+c6 1050624
+c7 1050624
+|0 W o 0 1048576
+- R o 0 1048576
+- R s0 0 1048576
+- R s0 0 2048
+- R s1 0 2048
+- R s2 0 2048
+- R s3 0 2048
+- R s4 0 2048
+- R s5 0 2048
+- R s6 0 2048
+- R s7 0 2048
+- W o 0 2048
+- R o 0 2048
+- R s0 0 2048
+- R s1 0 2048
+- R s2 0 2048
+- R s3 0 2048
+- R s4 0 2048
+- R s5 0 2048
+- R s6 0 2048
+- R s7 0 2048
+|2 old base 0 1048576
+3 old base 0 1048576
+4 old base 0 2048
+5 old base 0 2048
+6 old base 0 2048
+7 old base 0 2048
+8 old base 0 2048
+9 old base 0 2048
+10 old base 0 2048
+11 old base 0 2048
+12 wrote 12 0 2048
+13 wrote 12 0 2048
+14 old base 0 2048
+15 old base 0 2048
+16 old base 0 2048
+17 old base 0 2048
+18 old base 0 2048
+19 old base 0 2048
+20 old base 0 2048
+21 old base 0 2048
+#o,,,rw,0 1048576 snapshot-origin base;s0,,,rw,0 1048576 snapshot base c0 P 1024;s1,,,rw,0 1048576 snapshot base c1 P 1024;s2,,,rw,0 1048576 snapshot base c2 P 1024;s3,,,rw,0 1048576 snapshot base c3 P 1024;s4,,,rw,0 1048576 snapshot base c4 P 1024;s5,,,rw,0 1048576 snapshot base c5 P 1024;s6,,,rw,0 1048576 snapshot base c6 P 1024;s7,,,rw,0 1048576 snapshot base c7 P 1024
+|base 1048576
+c0 1050624
+c1 1050624
+c2 1050624
+c3 1050624
+c4 1050624
+c5 1050624
+c6 1050624
+c7 1050624
+|1 W o 0 1048576
+- R o 0 1048576
+- R s0 0 1048576
+- R s0 0 2048
+- R s1 0 2048
+- R s2 0 2048
+- R s3 0 2048
+- R s4 0 2048
+- R s5 0 2048
+- R s6 0 2048
+- R s7 0 2048
+- W o 0 2048
+- R o 0 2048
+- R s0 0 2048
+- R s1 0 2048
+- R s2 0 2048
+- R s3 0 2048
+- R s4 0 2048
+- R s5 0 2048
+- R s6 0 2048
+- R s7 0 2048
+|2 old base 0 1048576
+3 old base 0 1048576
+4 old base 0 2048
+5 old base 0 2048
+6 old base 0 2048
+7 old base 0 2048
+8 old base 0 2048
+9 old base 0 2048
+10 old base 0 2048
+11 old base 0 2048
+12 wrote 12 0 2048
+13 wrote 12 0 2048
+14 old base 0 2048
+15 old base 0 2048
+16 old base 0 2048
+17 old base 0 2048
+18 old base 0 2048
+19 old base 0 2048
+20 old base 0 2048
+21 old base 0 2048
+#o,,,rw,0 1048576 snapshot-origin base;s0,,,rw,0 1048576 snapshot base c0 P 1024;s1,,,rw,0 1048576 snapshot base c1 P 1024;s2,,,rw,0 1048576 snapshot base c2 P 1024;s3,,,rw,0 1048576 snapshot base c3 P 1024;s4,,,rw,0 1048576 snapshot base c4 P 1024;s5,,,rw,0 1048576 snapshot base c5 P 1024;s6,,,rw,0 1048576 snapshot base c6 P 1024;s7,,,rw,0 1048576 snapshot base c7 P 1024
+|base 1048576
+c0 1050624
+c1 1050624
+c2 1050624
+c3 1050624
+c4 1050624
+c5 1050624
+c6 1050624
+c7 1050624
+|1023 W o 0 1048576
+- R o 0 1048576
+- R s0 0 1048576
+- R s0 0 2048
+- R s1 0 2048
+- R s2 0 2048
+- R s3 0 2048
+- R s4 0 2048
+- R s5 0 2048
+- R s6 0 2048
+- R s7 0 2048
+- W o 0 2048
+- R o 0 2048
+- R s0 0 2048
+- R s1 0 2048
+- R s2 0 2048
+- R s3 0 2048
+- R s4 0 2048
+- R s5 0 2048
+- R s6 0 2048
+- R s7 0 2048
+|2 old base 0 1048576
+3 old base 0 1048576
+4 old base 0 2048
+5 old base 0 2048
+6 old base 0 2048
+7 old base 0 2048
+8 old base 0 2048
+9 old base 0 2048
+10 old base 0 2048
+11 old base 0 2048
+12 wrote 12 0 2048
+13 wrote 12 0 2048
+14 old base 0 2048
+15 old base 0 2048
+16 old base 0 2048
+17 old base 0 2048
+18 old base 0 2048
+19 old base 0 2048
+20 old base 0 2048
+21 old base 0 2048
+#o,,,rw,0 1048576 snapshot-origin base;s0,,,rw,0 1048576 snapshot base c0 P 1024;s1,,,rw,0 1048576 snapshot base c1 P 1024;s2,,,rw,0 1048576 snapshot base c2 P 1024;s3,,,rw,0 1048576 snapshot base c3 P 1024;s4,,,rw,0 1048576 snapshot base c4 P 1024;s5,,,rw,0 1048576 snapshot base c5 P 1024;s6,,,rw,0 1048576 snapshot base c6 P 1024;s7,,,rw,0 1048576 snapshot base c7 P 1024
+|base 1048576
+c0 1050624
+c1 1050624
+c2 1050624
+c3 1050624
+c4 1050624
+c5 1050624
+c6 1050624
+c7 1050624
+|1024 W o 0 1048576
+- R o 0 1048576
+- R s0 0 1048576
+- R s0 0 2048
+- R s1 0 2048
+- R s2 0 2048
+- R s3 0 2048
+- R s4 0 2048
+- R s5 0 2048
+- R s6 0 2048
+- R s7 0 2048
+- W o 0 2048
+- R o 0 2048
+- R s0 0 2048
+- R s1 0 2048
+- R s2 0 2048
+- R s3 0 2048
+- R s4 0 2048
+- R s5 0 2048
+- R s6 0 2048
+- R s7 0 2048
+|2 old base 0 1048576
+3 old base 0 1048576
+4 old base 0 2048
+5 old base 0 2048
+6 old base 0 2048
+7 old base 0 2048
+8 old base 0 2048
+9 old base 0 2048
+10 old base 0 2048
+11 old base 0 2048
+12 wrote 12 0 2048
+13 wrote 12 0 2048
+14 old base 0 2048
+15 old base 0 2048
+16 old base 0 2048
+17 old base 0 2048
+18 old base 0 2048
+19 old base 0 2048
+20 old base 0 2048
+21 old base 0 2048
+#o,,,rw,0 1048576 snapshot-origin base;s0,,,rw,0 1048576 snapshot base c0 P 1024;s1,,,rw,0 1048576 snapshot base c1 P 1024;s2,,,rw,0 1048576 snapshot base c2 P 1024;s3,,,rw,0 1048576 snapshot base c3 P 1024;s4,,,rw,0 1048576 snapshot base c4 P 1024;s5,,,rw,0 1048576 snapshot base c5 P 1024;s6,,,rw,0 1048576 snapshot base c6 P 1024;s7,,,rw,0 1048576 snapshot base c7 P 1024
+|base 1048576
+c0 1050624
+c1 1050624
+c2 1050624
+c3 1050624
+c4 1050624
+c5 1050624
+c6 1050624
+c7 1050624
+|1025 W o 0 1048576
+- R o 0 1048576
+- R s0 0 1048576
+- R s0 0 2048
+- R s1 0 2048
+- R s2 0 2048
+- R s3 0 2048
+- R s4 0 2048
+- R s5 0 2048
+- R s6 0 2048
+- R s7 0 2048
+- W o 0 2048
+- R o 0 2048
+- R s0 0 2048
+- R s1 0 2048
+- R s2 0 2048
+- R s3 0 2048
+- R s4 0 2048
+- R s5 0 2048
+- R s6 0 2048
+- R s7 0 2048
+|2 old base 0 1048576
+3 old base 0 1048576
+4 old base 0 2048
+5 old base 0 2048
+6 old base 0 2048
+7 old base 0 2048
+8 old base 0 2048
+9 old base 0 2048
+10 old base 0 2048
+11 old base 0 2048
+12 wrote 12 0 2048
+13 wrote 12 0 2048
+14 old base 0 2048
+15 old base 0 2048
+16 old base 0 2048
+17 old base 0 2048
+18 old base 0 2048
+19 old base 0 2048
+20 old base 0 2048
+21 old base 0 2048
+#o,,,rw,0 1048576 snapshot-origin base;s0,,,rw,0 1048576 snapshot base c0 P 1024;s1,,,rw,0 1048576 snapshot base c1 P 1024;s2,,,rw,0 1048576 snapshot base c2 P 1024;s3,,,rw,0 1048576 snapshot base c3 P 1024;s4,,,rw,0 1048576 snapshot base c4 P 1024;s5,,,rw,0 1048576 snapshot base c5 P 1024;s6,,,rw,0 1048576 snapshot base c6 P 1024;s7,,,rw,0 1048576 snapshot base c7 P 1024
+|base 1048576
+c0 1050624
+c1 1050624
+c2 1050624
+c3 1050624
+c4 1050624
+c5 1050624
+c6 1050624
+c7 1050624
+|8191 W o 0 1048576
+- R o 0 1048576
+- R s0 0 1048576
+- R s0 0 2048
+- R s1 0 2048
+- R s2 0 2048
+- R s3 0 2048
+- R s4 0 2048
+- R s5 0 2048
+- R s6 0 2048
+- R s7 0 2048
+- W o 0 2048
+- R o 0 2048
+- R s0 0 2048
+- R s1 0 2048
+- R s2 0 2048
+- R s3 0 2048
+- R s4 0 2048
+- R s5 0 2048
+- R s6 0 2048
+- R s7 0 2048
+|2 old base 0 1048576
+3 old base 0 1048576
+4 old base 0 2048
+5 old base 0 2048
+6 old base 0 2048
+7 old base 0 2048
+8 old base 0 2048
+9 old base 0 2048
+10 old base 0 2048
+11 old base 0 2048
+12 wrote 12 0 2048
+13 wrote 12 0 2048
+14 old base 0 2048
+15 old base 0 2048
+16 old base 0 2048
+17 old base 0 2048
+18 old base 0 2048
+19 old base 0 2048
+20 old base 0 2048
+21 old base 0 2048
+#o,,,rw,0 1048576 snapshot-origin base;s0,,,rw,0 1048576 snapshot base c0 P 1024;s1,,,rw,0 1048576 snapshot base c1 P 1024;s2,,,rw,0 1048576 snapshot base c2 P 1024;s3,,,rw,0 1048576 snapshot base c3 P 1024;s4,,,rw,0 1048576 snapshot base c4 P 1024;s5,,,rw,0 1048576 snapshot base c5 P 1024;s6,,,rw,0 1048576 snapshot base c6 P 1024;s7,,,rw,0 1048576 snapshot base c7 P 1024
+|base 1048576
+c0 1050624
+c1 1050624
+c2 1050624
+c3 1050624
+c4 1050624
+c5 1050624
+c6 1050624
+c7 1050624
+|8192 W o 0 1048576
+- R o 0 1048576
+- R s0 0 1048576
+- R s0 0 2048
+- R s1 0 2048
+- R s2 0 2048
+- R s3 0 2048
+- R s4 0 2048
+- R s5 0 2048
+- R s6 0 2048
+- R s7 0 2048
+- W o 0 2048
+- R o 0 2048
+- R s0 0 2048
+- R s1 0 2048
+- R s2 0 2048
+- R s3 0 2048
+- R s4 0 2048
+- R s5 0 2048
+- R s6 0 2048
+- R s7 0 2048
+|2 old base 0 1048576
+3 old base 0 1048576
+4 old base 0 2048
+5 old base 0 2048
+6 old base 0 2048
+7 old base 0 2048
+8 old base 0 2048
+9 old base 0 2048
+10 old base 0 2048
+11 old base 0 2048
+12 wrote 12 0 2048
+13 wrote 12 0 2048
+14 old base 0 2048
+15 old base 0 2048
+16 old base 0 2048
+17 old base 0 2048
+18 old base 0 2048
+19 old base 0 2048
+20 old base 0 2048
+21 old base 0 2048
+#o,,,rw,0 1048576 snapshot-origin base;s0,,,rw,0 1048576 snapshot base c0 P 1024;s1,,,rw,0 1048576 snapshot base c1 P 1024;s2,,,rw,0 1048576 snapshot base c2 P 1024;s3,,,rw,0 1048576 snapshot base c3 P 1024;s4,,,rw,0 1048576 snapshot base c4 P 1024;s5,,,rw,0 1048576 snapshot base c5 P 1024;s6,,,rw,0 1048576 snapshot base c6 P 1024;s7,,,rw,0 1048576 snapshot base c7 P 1024
+|base 1048576
+c0 1050624
+c1 1050624
+c2 1050624
+c3 1050624
+c4 1050624
+c5 1050624
+c6 1050624
+c7 1050624
+|8193 W o 0 1048576
+- R o 0 1048576
+- R s0 0 1048576
+- R s0 0 2048
+- R s1 0 2048
+- R s2 0 2048
+- R s3 0 2048
+- R s4 0 2048
+- R s5 0 2048
+- R s6 0 2048
+- R s7 0 2048
+- W o 0 2048
+- R o 0 2048
+- R s0 0 2048
+- R s1 0 2048
+- R s2 0 2048
+- R s3 0 2048
+- R s4 0 2048
+- R s5 0 2048
+- R s6 0 2048
+- R s7 0 2048
+|2 wrote 1 0 1
+2 old base 1 1048575
+3 old base 0 1048576
+4 old base 0 2048
+5 old base 0 2048
+6 old base 0 2048
+7 old base 0 2048
+8 old base 0 2048
+9 old base 0 2048
+10 old base 0 2048
+11 old base 0 2048
+12 wrote 12 0 2048
+13 wrote 12 0 2048
+14 old base 0 2048
+15 old base 0 2048
+16 old base 0 2048
+17 old base 0 2048
+18 old base 0 2048
+19 old base 0 2048
+20 old base 0 2048
+21 old base 0 2048
+#o,,,rw,0 1048576 snapshot-origin base;s0,,,rw,0 1048576 snapshot base c0 P 1024;s1,,,rw,0 1048576 snapshot base c1 P 1024;s2,,,rw,0 1048576 snapshot base c2 P 1024;s3,,,rw,0 1048576 snapshot base c3 P 1024;s4,,,rw,0 1048576 snapshot base c4 P 1024;s5,,,rw,0 1048576 snapshot base c5 P 1024;s6,,,rw,0 1048576 snapshot base c6 P 1024;s7,,,rw,0 1048576 snapshot base c7 P 1024
+|base 1048576
+c0 1050624
+c1 1050624
+c2 1050624
+c3 1050624
+c4 1050624
+c5 1050624
+c6 1050624
+c7 1050624
+|9215 W o 0 1048576
+- R o 0 1048576
+- R s0 0 1048576
+- R s0 0 2048
+- R s1 0 2048
+- R s2 0 2048
+- R s3 0 2048
+- R s4 0 2048
+- R s5 0 2048
+- R s6 0 2048
+- R s7 0 2048
+- W o 0 2048
+- R o 0 2048
+- R s0 0 2048
+- R s1 0 2048
+- R s2 0 2048
+- R s3 0 2048
+- R s4 0 2048
+- R s5 0 2048
+- R s6 0 2048
+- R s7 0 2048
+|2 wrote 1 0 1023
+2 old base 1023 1047553
+3 old base 0 1048576
+4 old base 0 2048
+5 old base 0 2048
+6 old base 0 2048
+7 old base 0 2048
+8 old base 0 2048
+9 old base 0 2048
+10 old base 0 2048
+11 old base 0 2048
+12 wrote 12 0 2048
+13 wrote 12 0 2048
+14 old base 0 2048
+15 old base 0 2048
+16 old base 0 2048
+17 old base 0 2048
+18 old base 0 2048
+19 old base 0 2048
+20 old base 0 2048
+21 old base 0 2048
+#o,,,rw,0 1048576 snapshot-origin base;s0,,,rw,0 1048576 snapshot base c0 P 1024;s1,,,rw,0 1048576 snapshot base c1 P 1024;s2,,,rw,0 1048576 snapshot base c2 P 1024;s3,,,rw,0 1048576 snapshot base c3 P 1024;s4,,,rw,0 1048576 snapshot base c4 P 1024;s5,,,rw,0 1048576 snapshot base c5 P 1024;s6,,,rw,0 1048576 snapshot base c6 P 1024;s7,,,rw,0 1048576 snapshot base c7 P 1024
+|base 1048576
+c0 1050624
+c1 1050624
+c2 1050624
+c3 1050624
+c4 1050624
+c5 1050624
+c6 1050624
+c7 1050624
+|9216 W o 0 1048576
+- R o 0 1048576
+- R s0 0 1048576
+- R s0 1024 2048
+- R s1 1024 2048
+- R s2 1024 2048
+- R s3 1024 2048
+- R s4 1024 2048
+- R s5 1024 2048
+- R s6 1024 2048
+- R s7 1024 2048
+- W o 1024 2048
+- R o 1024 2048
+- R s0 1024 2048
+- R s1 1024 2048
+- R s2 1024 2048
+- R s3 1024 2048
+- R s4 1024 2048
+- R s5 1024 2048
+- R s6 1024 2048
+- R s7 1024 2048
+|2 wrote 1 0 1024
+2 old base 1024 1047552
+3 old base 0 1048576
+4 old base 1024 2048
+5 old base 1024 2048
+6 old base 1024 2048
+7 old base 1024 2048
+8 old base 1024 2048
+9 old base 1024 2048
+10 old base 1024 2048
+11 old base 1024 2048
+12 wrote 12 1024 2048
+13 wrote 12 1024 2048
+14 old base 1024 2048
+15 old base 1024 2048
+16 old base 1024 2048
+17 old base 1024 2048
+18 old base 1024 2048
+19 old base 1024 2048
+20 old base 1024 2048
+21 old base 1024 2048
+#o,,,rw,0 1048576 snapshot-origin base;s0,,,rw,0 1048576 snapshot base c0 P 1024;s1,,,rw,0 1048576 snapshot base c1 P 1024;s2,,,rw,0 1048576 snapshot base c2 P 1024;s3,,,rw,0 1048576 snapshot base c3 P 1024;s4,,,rw,0 1048576 snapshot base c4 P 1024;s5,,,rw,0 1048576 snapshot base c5 P 1024;s6,,,rw,0 1048576 snapshot base c6 P 1024;s7,,,rw,0 1048576 snapshot base c7 P 1024
+|base 1048576
+c0 1050624
+c1 1050624
+c2 1050624
+c3 1050624
+c4 1050624
+c5 1050624
+c6 1050624
+c7 1050624
+|9217 W o 0 1048576
+- R o 0 1048576
+- R s0 0 1048576
+- R s0 1024 2048
+- R s1 1024 2048
+- R s2 1024 2048
+- R s3 1024 2048
+- R s4 1024 2048
+- R s5 1024 2048
+- R s6 1024 2048
+- R s7 1024 2048
+- W o 1024 2048
+- R o 1024 2048
+- R s0 1024 2048
+- R s1 1024 2048
+- R s2 1024 2048
+- R s3 1024 2048
+- R s4 1024 2048
+- R s5 1024 2048
+- R s6 1024 2048
+- R s7 1024 2048
+|2 wrote 1 0 1024
+2 old base 1024 1047552
+3 old base 0 1048576
+4 old base 1024 2048
+5 old base 1024 2048
+6 old base 1024 2048
+7 old base 1024 2048
+8 old base 1024 2048
+9 old base 1024 2048
+10 old base 1024 2048
+11 old base 1024 2048
+12 wrote 12 1024 2048
+13 wrote 12 1024 2048
+14 old base 1024 2048
+15 old base 1024 2048
+16 old base 1024 2048
+17 old base 1024 2048
+18 old base 1024 2048
+19 old base 1024 2048
+20 old base 1024 2048
+21 old base 1024 2048
+#o,,,rw,0 1048576 snapshot-origin base;s0,,,rw,0 1048576 snapshot base c0 P 1024;s1,,,rw,0 1048576 snapshot base c1 P 1024;s2,,,rw,0 1048576 snapshot base c2 P 1024;s3,,,rw,0 1048576 snapshot base c3 P 1024;s4,,,rw,0 1048576 snapshot base c4 P 1024;s5,,,rw,0 1048576 snapshot base c5 P 1024;s6,,,rw,0 1048576 snapshot base c6 P 1024;s7,,,rw,0 1048576 snapshot base c7 P 1024
+|base 1048576
+c0 1050624
+c1 1050624
+c2 1050624
+c3 1050624
+c4 1050624
+c5 1050624
+c6 1050624
+c7 1050624
+|17920 W o 0 1048576
+- R o 0 1048576
+- R s0 0 1048576
+- R s0 1024 2048
+- R s1 1024 2048
+- R s2 1024 2048
+- R s3 1024 2048
+- R s4 1024 2048
+- R s5 1024 2048
+- R s6 1024 2048
+- R s7 1024 2048
+- W o 1024 2048
+- R o 1024 2048
+- R s0 1024 2048
+- R s1 1024 2048
+- R s2 1024 2048
+- R s3 1024 2048
+- R s4 1024 2048
+- R s5 1024 2048
+- R s6 1024 2048
+- R s7 1024 2048
+|2 wrote 1 0 1536
+2 old base 1536 1047040
+3 old base 0 1048576
+4 old base 1024 2048
+5 old base 1024 2048
+6 old base 1024 2048
+7 old base 1024 2048
+8 old base 1024 2048
+9 old base 1024 2048
+10 old base 1024 2048
+11 old base 1024 2048
+12 wrote 12 1024 2048
+13 wrote 12 1024 2048
+14 old base 1024 2048
+15 old base 1024 2048
+16 old base 1024 2048
+17 old base 1024 2048
+18 old base 1024 2048
+19 old base 1024 2048
+20 old base 1024 2048
+21 old base 1024 2048
+#o,,,rw,0 1048576 snapshot-origin base;s0,,,rw,0 1048576 snapshot base c0 P 1024;s1,,,rw,0 1048576 snapshot base c1 P 1024;s2,,,rw,0 1048576 snapshot base c2 P 1024;s3,,,rw,0 1048576 snapshot base c3 P 1024;s4,,,rw,0 1048576 snapshot base c4 P 1024;s5,,,rw,0 1048576 snapshot base c5 P 1024;s6,,,rw,0 1048576 snapshot base c6 P 1024;s7,,,rw,0 1048576 snapshot base c7 P 1024
+|base 1048576
+c0 1050624
+c1 1050624
+c2 1050624
+c3 1050624
+c4 1050624
+c5 1050624
+c6 1050624
+c7 1050624
+|21504 W o 0 1048576
+- R o 0 1048576
+- R s0 0 1048576
+- R s0 2048 2048
+- R s1 2048 2048
+- R s2 2048 2048
+- R s3 2048 2048
+- R s4 2048 2048
+- R s5 2048 2048
+- R s6 2048 2048
+- R s7 2048 2048
+- W o 2048 2048
+- R o 2048 2048
+- R s0 2048 2048
+- R s1 2048 2048
+- R s2 2048 2048
+- R s3 2048 2048
+- R s4 2048 2048
+- R s5 2048 2048
+- R s6 2048 2048
+- R s7 2048 2048
+|2 wrote 1 0 2048
+2 old base 2048 1046528
+3 old base 0 1048576
+4 old base 2048 2048
+5 old base 2048 2048
+6 old base 2048 2048
+7 old base 2048 2048
+8 old base 2048 2048
+9 old base 2048 2048
+10 old base 2048 2048
+11 old base 2048 2048
+12 wrote 12 2048 2048
+13 wrote 12 2048 2048
+14 old base 2048 2048
+15 old base 2048 2048
+16 old base 2048 2048
+17 old base 2048 2048
+18 old base 2048 2048
+19 old base 2048 2048
+20 old base 2048 2048
+21 old base 2048 2048
+#o,,,rw,0 1048576 snapshot-origin base;s0,,,rw,0 1048576 snapshot base c0 P 1024;s1,,,rw,0 1048576 snapshot base c1 P 1024;s2,,,rw,0 1048576 snapshot base c2 P 1024;s3,,,rw,0 1048576 snapshot base c3 P 1024;s4,,,rw,0 1048576 snapshot base c4 P 1024;s5,,,rw,0 1048576 snapshot base c5 P 1024;s6,,,rw,0 1048576 snapshot base c6 P 1024;s7,,,rw,0 1048576 snapshot base c7 P 1024
+|base 1048576
+c0 1050624
+c1 1050624
+c2 1050624
+c3 1050624
+c4 1050624
+c5 1050624
+c6 1050624
+c7 1050624
+|97287 W o 0 1048576
+- R o 0 1048576
+- R s0 0 1048576
+- R s0 10240 2048
+- R s1 10240 2048
+- R s2 10240 2048
+- R s3 10240 2048
+- R s4 10240 2048
+- R s5 10240 2048
+- R s6 10240 2048
+- R s7 10240 2048
+- W o 10240 2048
+- R o 10240 2048
+- R s0 10240 2048
+- R s1 10240 2048
+- R s2 10240 2048
+- R s3 10240 2048
+- R s4 10240 2048
+- R s5 10240 2048
+- R s6 10240 2048
+- R s7 10240 2048
+|2 wrote 1 0 10240
+2 old base 10240 1038336
+3 old base 0 1048576
+4 old base 10240 2048
+5 old base 10240 2048
+6 old base 10240 2048
+7 old base 10240 2048
+8 old base 10240 2048
+9 old base 10240 2048
+10 old base 10240 2048
+11 old base 10240 2048
+12 wrote 12 10240 2048
+13 wrote 12 10240 2048
+14 old base 10240 2048
+15 old base 10240 2048
+16 old base 10240 2048
+17 old base 10240 2048
+18 old base 10240 2048
+19 old base 10240 2048
+20 old base 10240 2048
+21 old base 10240 2048
+#o,,,rw,0 1048576 snapshot-origin base;s0,,,rw,0 1048576 snapshot base c0 P 1024;s1,,,rw,0 1048576 snapshot base c1 P 1024;s2,,,rw,0 1048576 snapshot base c2 P 1024;s3,,,rw,0 1048576 snapshot base c3 P 1024;s4,,,rw,0 1048576 snapshot base c4 P 1024;s5,,,rw,0 1048576 snapshot base c5 P 1024;s6,,,rw,0 1048576 snapshot base c6 P 1024;s7,,,rw,0 1048576 snapshot base c7 P 1024
+|base 1048576
+c0 1050624
+c1 1050624
+c2 1050624
+c3 1050624
+c4 1050624
+c5 1050624
+c6 1050624
+c7 1050624
+|184319 W o 0 1048576
+- R o 0 1048576
+- R s0 0 1048576
+- R s0 19456 2048
+- R s1 19456 2048
+- R s2 19456 2048
+- R s3 19456 2048
+- R s4 19456 2048
+- R s5 19456 2048
+- R s6 19456 2048
+- R s7 19456 2048
+- W o 19456 2048
+- R o 19456 2048
+- R s0 19456 2048
+- R s1 19456 2048
+- R s2 19456 2048
+- R s3 19456 2048
+- R s4 19456 2048
+- R s5 19456 2048
+- R s6 19456 2048
+- R s7 19456 2048
+|2 wrote 1 0 20479
+2 old base 20479 1028097
+3 old base 0 1048576
+4 old base 19456 2048
+5 old base 19456 2048
+6 old base 19456 2048
+7 old base 19456 2048
+8 old base 19456 2048
+9 old base 19456 2048
+10 old base 19456 2048
+11 old base 19456 2048
+12 wrote 12 19456 2048
+13 wrote 12 19456 2048
+14 old base 19456 2048
+15 old base 19456 2048
+16 old base 19456 2048
+17 old base 19456 2048
+18 old base 19456 2048
+19 old base 19456 2048
+20 old base 19456 2048
+21 old base 19456 2048
+#o,,,rw,0 1048576 snapshot-origin base;s0,,,rw,0 1048576 snapshot base c0 P 1024;s1,,,rw,0 1048576 snapshot base c1 P 1024;s2,,,rw,0 1048576 snapshot base c2 P 1024;s3,,,rw,0 1048576 snapshot base c3 P 1024;s4,,,rw,0 1048576 snapshot base c4 P 1024;s5,,,rw,0 1048576 snapshot base c5 P 1024;s6,,,rw,0 1048576 snapshot base c6 P 1024;s7,,,rw,0 1048576 snapshot base c7 P 1024
+|base 1048576
+c0 1050624
+c1 1050624
+c2 1050624
+c3 1050624
+c4 1050624
+c5 1050624
+c6 1050624
+c7 1050624
+|294888 W o 0 1048576
+- R o 0 1048576
+- R s0 0 1048576
+- R s0 31744 2048
+- R s1 31744 2048
+- R s2 31744 2048
+- R s3 31744 2048
+- R s4 31744 2048
+- R s5 31744 2048
+- R s6 31744 2048
+- R s7 31744 2048
+- W o 31744 2048
+- R o 31744 2048
+- R s0 31744 2048
+- R s1 31744 2048
+- R s2 31744 2048
+- R s3 31744 2048
+- R s4 31744 2048
+- R s5 31744 2048
+- R s6 31744 2048
+- R s7 31744 2048
+|2 wrote 1 0 32744
+2 old base 32744 1015832
+3 old base 0 1048576
+4 old base 31744 2048
+5 old base 31744 2048
+6 old base 31744 2048
+7 old base 31744 2048
+8 old base 31744 2048
+9 old base 31744 2048
+10 old base 31744 2048
+11 old base 31744 2048
+12 wrote 12 31744 2048
+13 wrote 12 31744 2048
+14 old base 31744 2048
+15 old base 31744 2048
+16 old base 31744 2048
+17 old base 31744 2048
+18 old base 31744 2048
+19 old base 31744 2048
+20 old base 31744 2048
+21 old base 31744 2048
+#o,,,rw,0 1048576 snapshot-origin base;s0,,,rw,0 1048576 snapshot base c0 P 1024;s1,,,rw,0 1048576 snapshot base c1 P 1024;s2,,,rw,0 1048576 snapshot base c2 P 1024;s3,,,rw,0 1048576 snapshot base c3 P 1024;s4,,,rw,0 1048576 snapshot base c4 P 1024;s5,,,rw,0 1048576 snapshot base c5 P 1024;s6,,,rw,0 1048576 snapshot base c6 P 1024;s7,,,rw,0 1048576 snapshot base c7 P 1024
+|base 1048576
+c0 1050624
+c1 1050624
+c2 1050624
+c3 1050624
+c4 1050624
+c5 1050624
+c6 1050624
+c7 1050624
+|588800 W o 0 1048576
+- R o 0 1048576
+- R s0 0 1048576
+- R s0 64512 2048
+- R s1 64512 2048
+- R s2 64512 2048
+- R s3 64512 2048
+- R s4 64512 2048
+- R s5 64512 2048
+- R s6 64512 2048
+- R s7 64512 2048
+- W o 64512 2048
+- R o 64512 2048
+- R s0 64512 2048
+- R s1 64512 2048
+- R s2 64512 2048
+- R s3 64512 2048
+- R s4 64512 2048
+- R s5 64512 2048
+- R s6 64512 2048
+- R s7 64512 2048
+|2 wrote 1 0 64512
+2 old base 64512 984064
+3 old base 0 1048576
+4 old base 64512 2048
+5 old base 64512 2048
+6 old base 64512 2048
+7 old base 64512 2048
+8 old base 64512 2048
+9 old base 64512 2048
+10 old base 64512 2048
+11 old base 64512 2048
+12 wrote 12 64512 2048
+13 wrote 12 64512 2048
+14 old base 64512 2048
+15 old base 64512 2048
+16 old base 64512 2048
+17 old base 64512 2048
+18 old base 64512 2048
+19 old base 64512 2048
+20 old base 64512 2048
+21 old base 64512 2048
+#o,,,rw,0 1048576 snapshot-origin base;s0,,,rw,0 1048576 snapshot base c0 P 1024;s1,,,rw,0 1048576 snapshot base c1 P 1024;s2,,,rw,0 1048576 snapshot base c2 P 1024;s3,,,rw,0 1048576 snapshot base c3 P 1024;s4,,,rw,0 1048576 snapshot base c4 P 1024;s5,,,rw,0 1048576 snapshot base c5 P 1024;s6,,,rw,0 1048576 snapshot base c6 P 1024;s7,,,rw,0 1048576 snapshot base c7 P 1024
+|base 1048576
+c0 1050624
+c1 1050624
+c2 1050624
+c3 1050624
+c4 1050624
+c5 1050624
+c6 1050624
+c7 1050624
+|589824 W o 0 1048576
+- R o 0 1048576
+- R s0 0 1048576
+- R s0 65536 2048
+- R s1 65536 2048
+- R s2 65536 2048
+- R s3 65536 2048
+- R s4 65536 2048
+- R s5 65536 2048
+- R s6 65536 2048
+- R s7 65536 2048
+- W o 65536 2048
+- R o 65536 2048
+- R s0 65536 2048
+- R s1 65536 2048
+- R s2 65536 2048
+- R s3 65536 2048
+- R s4 65536 2048
+- R s5 65536 2048
+- R s6 65536 2048
+- R s7 65536 2048
+|2 wrote 1 0 65536
+2 old base 65536 983040
+3 old base 0 1048576
+4 old base 65536 2048
+5 old base 65536 2048
+6 old base 65536 2048
+7 old base 65536 2048
+8 old base 65536 2048
+9 old base 65536 2048
+10 old base 65536 2048
+11 old base 65536 2048
+12 wrote 12 65536 2048
+13 wrote 12 65536 2048
+14 old base 65536 2048
+15 old base 65536 2048
+16 old base 65536 2048
+17 old base 65536 2048
+18 old base 65536 2048
+19 old base 65536 2048
+20 old base 65536 2048
+21 old base 65536 2048
+#o,,,rw,0 1048576 snapshot-origin base;s0,,,rw,0 1048576 snapshot base c0 P 1024;s1,,,rw,0 1048576 snapshot base c1 P 1024;s2,,,rw,0 1048576 snapshot base c2 P 1024;s3,,,rw,0 1048576 snapshot base c3 P 1024;s4,,,rw,0 1048576 snapshot base c4 P 1024;s5,,,rw,0 1048576 snapshot base c5 P 1024;s6,,,rw,0 1048576 snapshot base c6 P 1024;s7,,,rw,0 1048576 snapshot base c7 P 1024
+|base 1048576
+c0 1050624
+c1 1050624
+c2 1050624
+c3 1050624
+c4 1050624
+c5 1050624
+c6 1050624
+c7 1050624
+|926600 W o 0 1048576
+- R o 0 1048576
+- R s0 0 1048576
+- R s0 102400 2048
+- R s1 102400 2048
+- R s2 102400 2048
+- R s3 102400 2048
+- R s4 102400 2048
+- R s5 102400 2048
+- R s6 102400 2048
+- R s7 102400 2048
+- W o 102400 2048
+- R o 102400 2048
+- R s0 102400 2048
+- R s1 102400 2048
+- R s2 102400 2048
+- R s3 102400 2048
+- R s4 102400 2048
+- R s5 102400 2048
+- R s6 102400 2048
+- R s7 102400 2048
+|2 wrote 1 0 102400
+2 old base 102400 946176
+3 old base 0 1048576
+4 old base 102400 2048
+5 old base 102400 2048
+6 old base 102400 2048
+7 old base 102400 2048
+8 old base 102400 2048
+9 old base 102400 2048
+10 old base 102400 2048
+11 old base 102400 2048
+12 wrote 12 102400 2048
+13 wrote 12 102400 2048
+14 old base 102400 2048
+15 old base 102400 2048
+16 old base 102400 2048
+17 old base 102400 2048
+18 old base 102400 2048
+19 old base 102400 2048
+20 old base 102400 2048
+21 old base 102400 2048
+#o,,,rw,0 1048576 snapshot-origin base;s0,,,rw,0 1048576 snapshot base c0 P 1024;s1,,,rw,0 1048576 snapshot base c1 P 1024;s2,,,rw,0 1048576 snapshot base c2 P 1024;s3,,,rw,0 1048576 snapshot base c3 P 1024;s4,,,rw,0 1048576 snapshot base c4 P 1024;s5,,,rw,0 1048576 snapshot base c5 P 1024;s6,,,rw,0 1048576 snapshot base c6 P 1024;s7,,,rw,0 1048576 snapshot base c7 P 1024
+|base 1048576
+c0 1050624
+c1 1050624
+c2 1050624
+c3 1050624
+c4 1050624
+c5 1050624
+c6 1050624
+c7 1050624
+|2772993 W o 0 1048576
+- R o 0 1048576
+- R s0 0 1048576
+- R s0 307200 2048
+- R s1 307200 2048
+- R s2 307200 2048
+- R s3 307200 2048
+- R s4 307200 2048
+- R s5 307200 2048
+- R s6 307200 2048
+- R s7 307200 2048
+- W o 307200 2048
+- R o 307200 2048
+- R s0 307200 2048
+- R s1 307200 2048
+- R s2 307200 2048
+- R s3 307200 2048
+- R s4 307200 2048
+- R s5 307200 2048
+- R s6 307200 2048
+- R s7 307200 2048
+|2 wrote 1 0 307201
+2 old base 307201 741375
+3 old base 0 1048576
+4 old base 307200 2048
+5 old base 307200 2048
+6 old base 307200 2048
+7 old base 307200 2048
+8 old base 307200 2048
+9 old base 307200 2048
+10 old base 307200 2048
+11 old base 307200 2048
+12 wrote 12 307200 2048
+13 wrote 12 307200 2048
+14 old base 307200 2048
+15 old base 307200 2048
+16 old base 307200 2048
+17 old base 307200 2048
+18 old base 307200 2048
+19 old base 307200 2048
+20 old base 307200 2048
+21 old base 307200 2048
 ";
