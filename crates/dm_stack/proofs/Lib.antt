@@ -23,7 +23,6 @@ pub mod Passes
 pub mod SweepLemmas
 pub mod PairLemmas
 pub mod PathLemmas
-pub mod PlaceLemmas
 pub mod PlacedLemmas
 pub mod ReportLemmas
 pub mod RoundLemmas
@@ -33,6 +32,7 @@ pub mod SnapshotIds
 pub mod SnapshotRule
 pub mod SoundLines
 pub mod SpanLemmas
+pub mod StoreLayoutLemmas
 pub mod StoreLemmas
 pub mod WithBefore
 mod WorkedOrigins

@@ -56,7 +56,7 @@ target_one stack device targets.Zero one named = absurd (none_there one named)
 target_one stack device targets.Error one named = absurd (none_there one named)
 target_one stack device (targets.Origin origin) one named = absurd (none_there one named)
 target_one stack device (targets.Snapshot origin store kind chunk) one named =
-    let same = only one (record { device = device; snapshot = found_snapshot stack origin store chunk }) named in
+    let same = only one (record { device = device; snapshot = found_snapshot stack origin store kind chunk }) named in
     record { here = sym (ap (λ (o : FoundOver). o.device) same); over = refl; is = ap (λ (o : FoundOver). found.Snapshot o.snapshot) same }
 
 has_one : (stack : Description) (device : ℕ) (lines : List Line) (one : FoundOver) → Contains (flat_map (λ line. over_of stack device line.target) lines) one → has_snapshot lines ≡ true
@@ -102,7 +102,7 @@ target_all stack device targets.Zero snapshot is = absurd cc
 target_all stack device targets.Error snapshot is = absurd cc
 target_all stack device (targets.Origin origin) snapshot is = absurd cc
 target_all stack device (targets.Snapshot origin store kind chunk) snapshot is =
-    let same : found_snapshot stack origin store chunk ≡ snapshot = cc in
+    let same : found_snapshot stack origin store kind chunk ≡ snapshot = cc in
     only_there (record { device = device; snapshot = snapshot }) _ (ap (λ (s : FoundSnapshot). let one : FoundOver = record { device = device; snapshot = s } in one) same)
 
 found_over : (stack : Description) (device : ℕ) (test : Line → Bool) (lines : List Line) (line : FoundLine) (snapshot : FoundSnapshot) → option_map (found_line stack) (find test lines) ≡ Some line → line.target ≡ found.Snapshot snapshot

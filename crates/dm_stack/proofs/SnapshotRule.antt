@@ -61,7 +61,7 @@ over stack (targets.Linear to offset) is = absurd cc
 over stack (targets.Striped chunk columns) is = absurd cc
 over stack targets.Zero is = absurd cc
 over stack targets.Error is = absurd cc
-over stack (targets.Snapshot origin store kind chunk) is = record { snapshot = found_snapshot stack origin store chunk; is = refl }
+over stack (targets.Snapshot origin store kind chunk) is = record { snapshot = found_snapshot stack origin store kind chunk; is = refl }
 over stack (targets.Origin origin) is = absurd cc
 
 -- the only line of a device

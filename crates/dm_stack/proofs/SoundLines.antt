@@ -123,7 +123,7 @@ pub record IsWhole (stack : Description) (id : ℕ) (line : Line) : Type 0 where
   pub len : line.len ≡ device_len stack id
 
 snapshot_sound : (stack : Description) (id lines : ℕ) (line : Line) (origin store : DevRef) (kind : StoreKind) (chunk : ℕ) → (lines ≡ 1 → IsWhole stack id line) → is_bad_snapshot stack lines line.len (targets.Snapshot origin store kind chunk) ≡ false → has_bad_store stack (targets.Snapshot origin store kind chunk) ≡ false
-    → IsSnapshotSound stack id line.start line.len (found_snapshot stack origin store chunk)
+    → IsSnapshotSound stack id line.start line.len (found_snapshot stack origin store kind chunk)
 snapshot_sound stack id lines line origin store kind chunk whole good stored =
     let a = or_parts (not (lines == 1)) (is_bad_chunk chunk || not (line.len == lower_len stack (lower_of stack origin))) good in
     let b = or_parts (is_bad_chunk chunk) (not (line.len == lower_len stack (lower_of stack origin))) a.1 in

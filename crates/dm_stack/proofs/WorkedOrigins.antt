@@ -43,7 +43,7 @@ sample = record {
 }
 
 abbrev served : List FoundOver
-served = record { device = 1; snapshot = record { origin = Disk 0; store = Disk 1; chunk = 8 } } ∷ record { device = 3; snapshot = record { origin = Disk 0; store = Disk 2; chunk = 4 } } ∷ []
+served = record { device = 1; snapshot = record { origin = Disk 0; store = Disk 1; kind = Persistent; chunk = 8 } } ∷ record { device = 3; snapshot = record { origin = Disk 0; store = Disk 2; kind = Persistent; chunk = 4 } } ∷ []
 
 origin_line : found_at sample 0 3 ≡ Some (record { start = 0; len = 16; target = found.Origin (record { to = Disk 0; over = served }) })
 unfolding snapshots_over all_over

@@ -34,7 +34,7 @@ found_target stack (targets.Linear to offset) = found.Linear (lower_of stack to)
 found_target stack (targets.Striped chunk columns) = found.Striped chunk (found_columns stack columns)
 found_target stack targets.Zero = found.Zero
 found_target stack targets.Error = found.Error
-found_target stack (targets.Snapshot origin store kind chunk) = found.Snapshot (found_snapshot stack origin store chunk)
+found_target stack (targets.Snapshot origin store kind chunk) = found.Snapshot (found_snapshot stack origin store kind chunk)
 found_target stack (targets.Origin origin) = found.Origin (record { to = lower_of stack origin; over = snapshots_over stack (lower_of stack origin) })
 
 abbrev pub found_line : Description → Line → FoundLine

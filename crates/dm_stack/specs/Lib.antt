@@ -8,8 +8,8 @@ pub mod Loaded
 pub mod NameIndex
 pub mod Naming
 pub mod Over
-pub mod Places
 pub mod Report
 pub mod Soundness
 pub mod Store
+pub mod StoreLayout
 pub mod Sweep

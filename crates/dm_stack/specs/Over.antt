@@ -2,6 +2,7 @@
 use Rattle.std.specs.Prelude.{ℕ, List, [], ◌∷◌, filter, length}
 use Rattle.std.specs.List.{flat_map, range_with_len}
 use Rattle.dm_table.specs.declared.table.DevRef.{DevRef}
+use Rattle.dm_table.specs.declared.table.StoreKind.{StoreKind}
 use Rattle.dm_table.specs.declared.table.Target.{Target}
 use Rattle.dm_table.specs.declared.table.Target.TheVariants as targets
 use Rattle.dm_stack.specs.declared.found_line.FoundOver.{FoundOver}
@@ -10,12 +11,12 @@ use Rattle.dm_stack.specs.declared.id.Lower.{Lower}
 use Rattle.dm_stack.specs.Description.{Description, is_same_lower, lines_at, lower_of}
 
 -- what a snapshot's line says, with ids for names
-abbrev pub found_snapshot : Description → (origin store : DevRef) → (chunk : ℕ) → FoundSnapshot
-found_snapshot stack origin store chunk = record { origin = lower_of stack origin; store = lower_of stack store; chunk = chunk }
+abbrev pub found_snapshot : Description → (origin store : DevRef) → StoreKind → (chunk : ℕ) → FoundSnapshot
+found_snapshot stack origin store kind chunk = record { origin = lower_of stack origin; store = lower_of stack store; kind = kind; chunk = chunk }
 
 -- the snapshot that a line of a device with this target is; one of any other target is none
 abbrev pub over_of : Description → (device : ℕ) → Target → List FoundOver
-over_of stack device (targets.Snapshot origin store kind chunk) = record { device = device; snapshot = found_snapshot stack origin store chunk } ∷ []
+over_of stack device (targets.Snapshot origin store kind chunk) = record { device = device; snapshot = found_snapshot stack origin store kind chunk } ∷ []
 over_of stack device _ = []
 
 abbrev pub device_over : Description → (device : ℕ) → List FoundOver

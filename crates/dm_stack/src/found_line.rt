@@ -6,7 +6,7 @@
 use crate::divisor::Divisor;
 use crate::found_columns::FoundColumns;
 use crate::id::{DeviceId, Lower};
-use dm_table::Listed;
+use dm_table::{Listed, StoreKind};
 
 /// The line of a sector.
 pub type Found<'s> = &'s FoundLine;
@@ -45,14 +45,18 @@ pub enum FoundTarget {
     Origin(FoundOrigin),
 }
 
-/// A snapshot: its origin, where the chunks that are written are kept, and how long a chunk is.
+/// A snapshot: its origin, where the chunks that are written are kept and in which way, and how long a
+/// chunk is.
 #[derive(Clone, Copy, Debug, Drop)]
 pub struct FoundSnapshot {
     pub origin: Lower,
     pub store: Lower,
-    /// In sectors, from 1 to 1,024.
-    pub chunk: u64,
+    pub kind: StoreKind,
+    /// In sectors, from 1 to 1,024. A `u64` would make lines longer.
+    pub chunk: u32,
 }
+
+const _: () = prove!(std::mem::size_of::<FoundSnapshot>() == 40);
 
 /// An origin: what it is the whole of, and the snapshots of that, in the order of their devices. A
 /// write finds them here, with no search.

@@ -3,21 +3,24 @@
 //! All snapshots of a stack are collected once a load, and each line of an origin has a copy of its
 //! own, so that a write to one neither goes over the devices nor searches their lines.
 
-ghost use Rattle.std.specs.Prelude.{◌≡◌, ◌++◌, IfOk, OnOk, filter};
-ghost use Rattle.std.specs.List.{flat_map};
+ghost use Rattle.std.specs.Prelude.{◌≡◌, ◌≤◌, ◌++◌, IfOk, OnOk, filter};
+ghost use Rattle.std.specs.List.{All, flat_map};
 ghost use Rattle.dm_stack.specs.Description.{is_same_lower};
 ghost use Rattle.dm_stack.specs.Over.{all_over, found_snapshot, over_of};
+ghost use Rattle.dm_stack.specs.Soundness.{HasGoodChunk, HaveGoodChunks};
+ghost use Rattle.dm_stack.specs.declared.limits.TheConstants.{MOST_SNAPSHOT_CHUNK};
 
 use crate::found_line::{FoundOver, FoundSnapshot};
 use crate::id::{DeviceId, Lower};
 use crate::indexed::Indexed;
-use dm_table::{DevRef, Line, Listed, Target};
+use dm_table::{DevRef, Line, Listed, StoreKind, Target};
 use std::alloc::{AllocError, Global};
 
-/// All snapshots of a stack, in the order of their devices.
+/// All snapshots of a stack, whose chunks are within their limits, in the order of their devices.
 ///
 /// Fails only when out of memory. Cost: a walk over the lines, with memory for each snapshot.
 pub(crate) fn all_over(alloc: Global, stack: &Indexed) -> Result<Vec<FoundOver>, AllocError>
+    requires { All (λ device. HaveGoodChunks device.lines) stack.now.devices }
     ensures { IfOk result (λ over. over.items ≡ all_over stack.now) }
 {
     let mut over = Vec::new(alloc);
@@ -34,6 +37,7 @@ fn add_lines(
     device: DeviceId,
     lines: &[Line],
 ) -> Result<(), AllocError>
+    requires { HaveGoodChunks lines.now }
     ensures { OnOk result (over.new.items ≡ over.old.items ++ flat_map (λ line. over_of stack.now device line.target) lines.now) }
 {
     for line in lines {
@@ -48,34 +52,38 @@ fn add_line(
     device: DeviceId,
     target: &Target,
 ) -> Result<(), AllocError>
+    requires { HasGoodChunk target.now }
     ensures { OnOk result (over.new.items ≡ over.old.items ++ over_of stack.now device target.now) }
 {
     if let Target::Snapshot {
         origin,
         store,
+        kind,
         chunk,
-        ..
     } = target
     {
-        let snapshot = found_snapshot(stack, origin, store, *chunk);
+        let snapshot = found_snapshot(stack, origin, store, *kind, *chunk);
         over.push(FoundOver { device, snapshot })?;
     }
     Ok(())
 }
 
-/// What the line of a snapshot says, with ids for names.
+/// What the line of a snapshot with a chunk within its limits says, with ids for names.
 pub(crate) fn found_snapshot(
     stack: &Indexed,
     origin: &DevRef,
     store: &DevRef,
+    kind: StoreKind,
     chunk: u64,
 ) -> FoundSnapshot
-    ensures { result ≡ found_snapshot stack.now origin.now store.now chunk }
+    requires { chunk ≤ MOST_SNAPSHOT_CHUNK }
+    ensures { result ≡ found_snapshot stack.now origin.now store.now kind chunk }
 {
     FoundSnapshot {
         origin: stack.lower_of(origin),
         store: stack.lower_of(store),
-        chunk,
+        kind,
+        chunk: chunk as u32,
     }
 }
 

@@ -4,11 +4,12 @@
 //! nothing. A new target is an arm of `target` here and of `found_target` in the specs.
 
 ghost use Rattle.std.specs.Prelude.{◌≡◌, IfOk, None, map};
+ghost use Rattle.std.specs.List.{All};
 ghost use Rattle.dm_table.specs.LoadFault.{first_or};
 ghost use Rattle.dm_stack.specs.Below.{found_columns, found_line, found_target};
 ghost use Rattle.dm_stack.specs.Loaded.{found_table};
 ghost use Rattle.dm_stack.specs.Over.{all_over};
-ghost use Rattle.dm_stack.specs.Soundness.{is_unknown, unknown};
+ghost use Rattle.dm_stack.specs.Soundness.{HasGoodChunk, HaveGoodChunks, is_unknown, unknown};
 
 use crate::divisor::Divisor;
 use crate::found_columns::FoundColumns;
@@ -42,6 +43,7 @@ fn is_unknown(stack: &Indexed, line: &Line) -> bool
 /// Fails only when out of memory. Cost: linear in the lines and their columns, and in the snapshots
 /// for each line of an origin.
 pub(crate) fn tables(alloc: Global, stack: &Indexed) -> Result<Vec<FoundTable>, AllocError>
+    requires { All (λ device. HaveGoodChunks device.lines) stack.now.devices }
     ensures { IfOk result (λ tables. tables.items ≡ map (found_table stack.now) stack.now.devices) }
 {
     let over = all_over(alloc, stack)?;
@@ -60,7 +62,8 @@ fn table(
     over: &[FoundOver],
     lines: &[Line],
 ) -> Result<FoundTable, AllocError>
-    requires { over.now ≡ all_over stack.now }
+    requires over { over.now ≡ all_over stack.now }
+    requires chunks { HaveGoodChunks lines.now }
     ensures { IfOk result (λ table. table ≡ map (found_line stack.now) lines.now) }
 {
     let mut by_ids = Vec::with_capacity(alloc, lines.len())?;
@@ -81,7 +84,8 @@ fn target(
     over: &[FoundOver],
     target: &Target,
 ) -> Result<FoundTarget, AllocError>
-    requires { over.now ≡ all_over stack.now }
+    requires over { over.now ≡ all_over stack.now }
+    requires chunk { HasGoodChunk target.now }
     ensures { IfOk result (λ by_ids. by_ids ≡ found_target stack.now target.now) }
 {
     match target {
@@ -98,9 +102,9 @@ fn target(
         Target::Snapshot {
             origin,
             store,
+            kind,
             chunk,
-            ..
-        } => Ok(FoundTarget::Snapshot(found_snapshot(stack, origin, store, *chunk))),
+        } => Ok(FoundTarget::Snapshot(found_snapshot(stack, origin, store, *kind, *chunk))),
         Target::Origin { origin } => {
             let to = stack.lower_of(origin);
             let over = snapshots_over(alloc, over, to)?;

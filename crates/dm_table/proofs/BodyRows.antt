@@ -14,7 +14,7 @@ use Rattle.dm_table.specs.declared.table.DevRef.TheVariants.{Device, Disk}
 use Rattle.dm_table.specs.declared.table.Column.{Column}
 use Rattle.dm_table.specs.declared.table.Target.{Target}
 use Rattle.dm_table.specs.declared.table.StoreKind.{StoreKind}
-use Rattle.dm_table.specs.declared.table.StoreKind.TheVariants.{Persistent}
+use Rattle.dm_table.specs.declared.table.StoreKind.TheVariants.{Persistent, Transient, Keeping}
 use Rattle.dm_table.specs.declared.table.Target.TheVariants.{Linear, Striped, Zero, Error, Snapshot, Origin}
 use Rattle.dm_table.specs.declared.table.Line.{Line}
 use Rattle.dm_table.specs.declared.place.Place.{Place}
@@ -165,8 +165,18 @@ striped_says (count ∷ chunk ∷ columns) target h =
       said = λ len named. (counted.1, spelled.short, says.said (sym (column_names (len / length m.1) m.1) ∙ named));
     }
 
+-- a flag that is the word of a kind, or else one of the words after it
+by_flag : (flag : List ℕ) (first kind : StoreKind) (later : Option StoreKind) → (later ≡ Some kind → kind_text kind ≡ flag) → (if pointwise nat_eq flag (kind_text first) then Some first else later) ≡ Some kind → kind_text kind ≡ flag
+by_flag flag first kind later others h = elim (cases_Bool (pointwise nat_eq flag (kind_text first))) [
+  | inl e ↦ (let is : Some first ≡ Some kind = rw e at h in let same : first ≡ kind = cc in subst (λ (k : StoreKind). kind_text k ≡ flag) same (sym (same_name flag (kind_text first) e)))
+  | inr e ↦ others (rw e at h)
+]
+
+no_flag : (flag : List ℕ) (kind : StoreKind) → None ≡ Some kind → kind_text kind ≡ flag
+no_flag flag kind h = absurd cc
+
 kind_spelled : (flag : List ℕ) (kind : StoreKind) → kind_in flag ≡ Some kind → kind_text kind ≡ flag
-kind_spelled flag Persistent h = let c = chosen (pointwise nat_eq flag (codes "P")) (Some Persistent) Persistent h in sym (same_name flag (codes "P") c.0)
+kind_spelled flag kind h = by_flag flag Persistent kind _ (by_flag flag Transient kind _ (by_flag flag Keeping kind _ (no_flag flag kind))) h
 
 snapshot_again : (origin store flag chunk : List ℕ) (kind : StoreKind) (n : ℕ) → kind_in flag ≡ Some kind → chunk ≡ decimal n
     → target_fields (Snapshot (dev_in origin) (dev_in store) kind n) ≡ codes "snapshot" ∷ origin ∷ store ∷ flag ∷ chunk ∷ []
@@ -306,6 +316,8 @@ columns_inked (column ∷ columns) h = (dev_inked column.to h.0.0, (number_inked
 
 kind_inked : (kind : StoreKind) → IsInked (kind_text kind)
 kind_inked Persistent = (refl, refl)
+kind_inked Transient = (refl, refl)
+kind_inked Keeping = (refl, refl)
 
 target_inked : (target : Target) → IsTarget target → AllByRecursion IsInked (target_fields target)
 target_inked (Linear to offset) h = ((refl, refl), (dev_inked to h.0, (number_inked offset h.1, tt)))
@@ -353,6 +365,8 @@ columns_again (column ∷ columns) h = rw (number_of-decimal column.offset h.0.1
 
 kind_again : (kind : StoreKind) → kind_in (kind_text kind) ≡ Some kind
 kind_again Persistent = refl
+kind_again Transient = refl
+kind_again Keeping = refl
 
 target_again : (target : Target) → IsTarget target → target_in (target_fields target) ≡ Some target
 target_again (Linear to offset) h = rw (number_of-decimal offset h.1, dev_again to h.0) refl

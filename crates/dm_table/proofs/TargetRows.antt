@@ -8,7 +8,7 @@ use Rattle.std.proofs.lemmas.List.{take_rest, length-map, append-nil}
 use denote.Ref.{Bor}
 use Rattle.dm_table.specs.declared.table.Column.{Column}
 use Rattle.dm_table.specs.declared.table.DevRef.{DevRef}
-use Rattle.dm_table.specs.declared.table.StoreKind.TheVariants.{Persistent}
+use Rattle.dm_table.specs.declared.table.StoreKind.{StoreKind}
 use Rattle.dm_table.specs.declared.table.Target.{Target}
 use Rattle.dm_table.specs.declared.table.Target.TheVariants.{Linear, Striped, Snapshot, Origin}
 use Rattle.dm_table.specs.declared.table.Line.{Line}
@@ -17,7 +17,7 @@ use Rattle.dm_table.specs.declared.row_faults.RowFault.{RowFault}
 use Rattle.dm_table.specs.declared.row_faults.RowFault.TheVariants.{Field, Name, Memory}
 use Rattle.dm_table.specs.Number.{number_of}
 use Rattle.dm_table.specs.Fields.{texts}
-use Rattle.dm_table.specs.LineBody.{is_dev_ref, dev_in, if_both, linear_in, columns_in, is_half, striped_in, snapshot_in, origin_in, bare_in, target_in, Body, has_target_names}
+use Rattle.dm_table.specs.LineBody.{is_dev_ref, dev_in, if_both, linear_in, columns_in, is_half, striped_in, kind_in, snapshot_in, origin_in, bare_in, target_in, Body, has_target_names}
 use Rattle.dm_table.proofs.BodyRows.{column_names}
 use Rattle.dm_table.specs.LineReading.{line_at, has_column_names, dev_reading, reading_of, columns_reading, fault_before, target_reading, body_reading}
 
@@ -210,33 +210,33 @@ snapshot_none len (a ∷ b ∷ c ∷ []) h = refl
 snapshot_none len (a ∷ b ∷ c ∷ f ∷ []) h = absurd (h refl)
 snapshot_none len (a ∷ b ∷ c ∷ f ∷ x ∷ fs) h = refl
 
-pub snapshot_flag : (len : ℕ) (fs : List (Bor (List ℕ))) (g : Bor (List ℕ)) → length fs ≡ 4 → pointwise nat_eq (slice_index_or fs 2 g).now (codes "P") ≡ false → arguments_reading len snapshot_in fs ≡ Err Field
+pub snapshot_flag : (len : ℕ) (fs : List (Bor (List ℕ))) (g : Bor (List ℕ)) → length fs ≡ 4 → kind_in (slice_index_or fs 2 g).now ≡ None → arguments_reading len snapshot_in fs ≡ Err Field
 snapshot_flag len fs g four p = rw (texts_four fs g g g g four, p) refl
 
-pub snapshot_chunk : (len : ℕ) (fs : List (Bor (List ℕ))) (g k : Bor (List ℕ)) → length fs ≡ 4 → pointwise nat_eq (slice_index_or fs 2 g).now (codes "P") ≡ true → number_of (slice_index_or fs 3 k).now ≡ None
+pub snapshot_chunk : (len : ℕ) (fs : List (Bor (List ℕ))) (g k : Bor (List ℕ)) (kind : StoreKind) → length fs ≡ 4 → kind_in (slice_index_or fs 2 g).now ≡ Some kind → number_of (slice_index_or fs 3 k).now ≡ None
     → arguments_reading len snapshot_in fs ≡ Err Field
-snapshot_chunk len fs g k four p n = rw (texts_four fs g g g k four, p, n) refl
+snapshot_chunk len fs g k kind four p n = rw (texts_four fs g g g k four, p, n) refl
 
 second_unnamed : (first : Bool) (target : Target) → ◌≡◌ {A = Result Target RowFault} (if first && (false && true) then Ok target else Err Name) (Err Name)
 second_unnamed true target = refl
 second_unnamed false target = refl
 
-pub snapshot_origin : (len : ℕ) (fs : List (Bor (List ℕ))) (d g k : Bor (List ℕ)) (chunk : ℕ) (fault : RowFault) → length fs ≡ 4 → pointwise nat_eq (slice_index_or fs 2 g).now (codes "P") ≡ true
+pub snapshot_origin : (len : ℕ) (fs : List (Bor (List ℕ))) (d g k : Bor (List ℕ)) (kind : StoreKind) (chunk : ℕ) (fault : RowFault) → length fs ≡ 4 → kind_in (slice_index_or fs 2 g).now ≡ Some kind
     → number_of (slice_index_or fs 3 k).now ≡ Some chunk → dev_reading (slice_index_or fs 0 d).now ≡ Err fault → arguments_reading len snapshot_in fs ≡ Err fault
-snapshot_origin len fs d g k chunk fault four p n o =
+snapshot_origin len fs d g k kind chunk fault four p n o =
     let a = dev_unnamed (slice_index_or fs 0 d).now fault o in
     rw (texts_four fs d d g k four, p, n, a.0, a.1) (second_unnamed (is_dev_ref (dev_in (slice_index_or fs 1 d).now)) _)
 
-pub snapshot_store : (len : ℕ) (fs : List (Bor (List ℕ))) (d e g k : Bor (List ℕ)) (chunk : ℕ) (origin : DevRef) (fault : RowFault) → length fs ≡ 4 → pointwise nat_eq (slice_index_or fs 2 g).now (codes "P") ≡ true
+pub snapshot_store : (len : ℕ) (fs : List (Bor (List ℕ))) (d e g k : Bor (List ℕ)) (kind : StoreKind) (chunk : ℕ) (origin : DevRef) (fault : RowFault) → length fs ≡ 4 → kind_in (slice_index_or fs 2 g).now ≡ Some kind
     → number_of (slice_index_or fs 3 k).now ≡ Some chunk → dev_reading (slice_index_or fs 0 d).now ≡ Ok origin → dev_reading (slice_index_or fs 1 e).now ≡ Err fault → arguments_reading len snapshot_in fs ≡ Err fault
-snapshot_store len fs d e g k chunk origin fault four p n o s =
+snapshot_store len fs d e g k kind chunk origin fault four p n o s =
     let a = dev_parts (slice_index_or fs 0 d).now origin o in
     let b = dev_unnamed (slice_index_or fs 1 e).now fault s in
     rw (texts_four fs d e g k four, p, n, a.1, a.0, b.0, b.1) refl
 
-pub snapshot_read : (len : ℕ) (fs : List (Bor (List ℕ))) (d e g k : Bor (List ℕ)) (chunk : ℕ) (origin store : DevRef) → length fs ≡ 4 → pointwise nat_eq (slice_index_or fs 2 g).now (codes "P") ≡ true
-    → number_of (slice_index_or fs 3 k).now ≡ Some chunk → dev_reading (slice_index_or fs 0 d).now ≡ Ok origin → dev_reading (slice_index_or fs 1 e).now ≡ Ok store → arguments_reading len snapshot_in fs ≡ Ok (Snapshot origin store Persistent chunk)
-snapshot_read len fs d e g k chunk origin store four p n o s =
+pub snapshot_read : (len : ℕ) (fs : List (Bor (List ℕ))) (d e g k : Bor (List ℕ)) (kind : StoreKind) (chunk : ℕ) (origin store : DevRef) → length fs ≡ 4 → kind_in (slice_index_or fs 2 g).now ≡ Some kind
+    → number_of (slice_index_or fs 3 k).now ≡ Some chunk → dev_reading (slice_index_or fs 0 d).now ≡ Ok origin → dev_reading (slice_index_or fs 1 e).now ≡ Ok store → arguments_reading len snapshot_in fs ≡ Ok (Snapshot origin store kind chunk)
+snapshot_read len fs d e g k kind chunk origin store four p n o s =
     let a = dev_parts (slice_index_or fs 0 d).now origin o in
     let b = dev_parts (slice_index_or fs 1 e).now store s in
     rw (texts_four fs d e g k four, p, n, a.1, a.0, b.1, b.0) refl

@@ -8,7 +8,7 @@ use Rattle.dm_table.specs.declared.table.DevRef.TheVariants.{Device, Disk}
 use Rattle.dm_table.specs.declared.table.Column.{Column}
 use Rattle.dm_table.specs.declared.table.Target.{Target}
 use Rattle.dm_table.specs.declared.table.StoreKind.{StoreKind}
-use Rattle.dm_table.specs.declared.table.StoreKind.TheVariants.{Persistent}
+use Rattle.dm_table.specs.declared.table.StoreKind.TheVariants.{Persistent, Transient, Keeping}
 use Rattle.dm_table.specs.declared.table.Target.TheVariants.{Linear, Striped, Zero, Error, Snapshot, Origin}
 use Rattle.dm_table.specs.declared.table.Line.{Line}
 use Rattle.dm_table.specs.Name.{is_device_name, is_disk_name, names_device, mapper}
@@ -29,6 +29,8 @@ column_text column = 32 ∷ dev_text column.to ++ 32 ∷ decimal column.offset
 -- how the kind of a store is written
 abbrev pub kind_text : StoreKind → List ℕ
 kind_text Persistent = codes "P"
+kind_text Transient = codes "N"
+kind_text Keeping = codes "K"
 
 -- how a target and its arguments are written
 abbrev pub target_text : Target → List ℕ
@@ -107,9 +109,12 @@ abbrev pub striped_in : List (List ℕ) → Option Target
 striped_in (count ∷ chunk ∷ columns) = if is_half count (length columns) then if_both Striped (number_of chunk) (columns_in columns) else None
 striped_in _ = None
 
--- the flag P of a persistent store
+-- the flag of a kind of store
 abbrev pub kind_in : List ℕ → Option StoreKind
-kind_in flag = if pointwise nat_eq flag (codes "P") then Some Persistent else None
+kind_in flag =
+    if pointwise nat_eq flag (codes "P") then Some Persistent
+    else (if pointwise nat_eq flag (codes "N") then Some Transient
+    else (if pointwise nat_eq flag (codes "K") then Some Keeping else None))
 
 -- two texts, the kind of the store, and a number
 abbrev pub snapshot_in : List (List ℕ) → Option Target

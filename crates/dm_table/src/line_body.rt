@@ -10,7 +10,7 @@ ghost use Rattle.std.specs.Prelude.{◌≡◌, ℕ, true, false, length, drop, i
 ghost use Rattle.std.specs.List.{list_all};
 ghost use Rattle.dm_table.specs.Fields.{texts};
 ghost use Rattle.dm_table.specs.Name.{names_device, mapper};
-ghost use Rattle.dm_table.specs.LineBody.{is_body_row, columns_in, is_half, linear_in, striped_in, snapshot_in, origin_in, has_target_names};
+ghost use Rattle.dm_table.specs.LineBody.{is_body_row, columns_in, is_half, linear_in, striped_in, snapshot_in, origin_in, has_target_names, kind_in};
 ghost use Rattle.dm_table.specs.LineReading.{dev_reading, reading_of, columns_reading, fault_before, target_reading, body_reading};
 ghost use Rattle.dm_table.specs.RowFaults.{Reads};
 
@@ -118,16 +118,16 @@ fn read_striped(alloc: Global, arguments: &[&[u8]]) -> Result<Target, RowFault>
     Ok(Target::Striped { chunk, columns })
 }
 
-/// A snapshot's origin and store, and the sectors of a chunk. The only kind of store is `P`.
+/// A snapshot's origin and store, the kind of the store, and the sectors of a chunk.
 fn read_snapshot(alloc: Global, arguments: &[&[u8]]) -> Result<Target, RowFault>
     ensures { (len : ℕ) → Reads (λ target. target) result (reading_of (has_target_names len) (snapshot_in (texts arguments.now))) }
 {
     let [origin, store, flag, chunk] = arguments else {
         return Err(RowFault::Field);
     };
-    if *flag != b"P".as_slice() {
+    let Some(kind) = kind_of(*flag) else {
         return Err(RowFault::Field);
-    }
+    };
     let Some(chunk) = number(*chunk) else {
         return Err(RowFault::Field);
     };
@@ -136,9 +136,24 @@ fn read_snapshot(alloc: Global, arguments: &[&[u8]]) -> Result<Target, RowFault>
     Ok(Target::Snapshot {
         origin,
         store,
-        kind: StoreKind::Persistent,
+        kind,
         chunk,
     })
+}
+
+/// The kind of store that a flag stands for.
+fn kind_of(flag: &[u8]) -> Option<StoreKind>
+    ensures { result ≡ kind_in flag.now }
+{
+    if flag == b"P".as_slice() {
+        Some(StoreKind::Persistent)
+    } else if flag == b"N".as_slice() {
+        Some(StoreKind::Transient)
+    } else if flag == b"K".as_slice() {
+        Some(StoreKind::Keeping)
+    } else {
+        None
+    }
 }
 
 fn read_origin(alloc: Global, arguments: &[&[u8]]) -> Result<Target, RowFault>

@@ -145,6 +145,8 @@ fn kind_text(kind: StoreKind) -> &'static [u8]
 {
     match kind {
         StoreKind::Persistent => b"P",
+        StoreKind::Transient => b"N",
+        StoreKind::Keeping => b"K",
     }
 }
 

@@ -59,11 +59,17 @@ pub enum Target {
     },
 }
 
-/// What a store keeps of the chunks that a snapshot took.
+/// What the store of a snapshot keeps, and what becomes of the snapshot once it is full.
 #[derive(Clone, Copy, Debug, PartialEq, Eq, Drop)]
 pub enum StoreKind {
-    /// Their numbers too, so that the snapshot is there again after a restart: the flag `P`.
+    /// The flag `P`: it keeps the numbers of the chunks too, so that the snapshot is there again
+    /// after a restart.
     Persistent,
+    /// The flag `N`: it keeps the chunks alone.
+    Transient,
+    /// The flag `K`, which no kernel has: it is as `P`, but a write that finds it full fails, and the
+    /// snapshot stays valid.
+    Keeping,
 }
 
 /// How a line uses what it names.
