@@ -35,4 +35,5 @@ pub mod SpanLemmas
 pub mod StoreLayoutLemmas
 pub mod StoreLemmas
 pub mod WithBefore
+mod WorkedLayouts
 mod WorkedOrigins

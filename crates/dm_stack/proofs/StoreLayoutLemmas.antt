@@ -6,7 +6,7 @@ use Rattle.std.proofs.Math.Nat.{mod-lt, mul-le-mul_right, le-div_iff_mul-le}
 use Rattle.std.proofs.lemmas.Bool.{cases_lt, cases_order, ne_eqb}
 use Rattle.dm_table.specs.declared.table.StoreKind.{StoreKind}
 use Rattle.dm_table.specs.declared.table.StoreKind.TheVariants.{Persistent, Transient, Keeping}
-use Rattle.dm_stack.specs.StoreLayout.{is_metadata, place, places, places_in}
+use Rattle.dm_stack.specs.StoreLayout.{is_metadata, metadata, place, places, places_in}
 
 -- the chunks of data and of areas up to that of a number, and the numbers below that
 within : (most rest number q a r b : ℕ) → r < most → b < most + 1 → q * most + r ≡ number → a * (most + 1) + b ≡ rest → number < rest - a → number + q < rest
@@ -124,3 +124,30 @@ allocated_small kind chunk (suc i) most some fits =
     let wide : place kind chunk (suc i) * chunk ≤ (place kind chunk i + 1 + 1) * chunk = mul-le-mul_right chunk (place_next kind chunk i some) in
     let sum : (place kind chunk i + 1 + 1) * chunk ≡ (place kind chunk i + 1) * chunk + chunk = grind arith in
     omega (arith, wide, sum, fits i (omega arith))
+
+pub place_within : (kind : StoreKind) (chunk number : ℕ) → 0 < chunk → place kind chunk number ≤ place kind chunk number * chunk
+place_within kind chunk number some = more_times (place kind chunk number) chunk some
+  where
+    more_times : (n m : ℕ) → 0 < m → n ≤ n * m
+    more_times n m some =
+        let wide : 1 * n ≤ m * n = mul-le-mul_right n (omega (arith, some)) in
+        let same : m * n ≡ n * m = grind arith in
+        omega (arith, wide, same)
+
+-- what lies before a place and is no taken chunk
+
+pub number_within : (kind : StoreKind) (chunk number : ℕ) → number ≤ place kind chunk number
+number_within Persistent chunk number = omega arith
+number_within Transient chunk number = omega arith
+number_within Keeping chunk number = omega arith
+
+pub metadata_within : (kind : StoreKind) (chunk taken : ℕ) → (place kind chunk taken - taken) * chunk ≤ place kind chunk taken * chunk
+metadata_within kind chunk taken = mul-le-mul_right chunk (omega arith)
+
+metadata_apart : (chunk taken : ℕ) → (place Persistent chunk taken - taken) * chunk ≡ metadata Persistent chunk taken
+metadata_apart chunk taken = let left : place Persistent chunk taken - taken ≡ taken / (32 * chunk) + 2 = omega arith in ap (λ (n : ℕ). n * chunk) left
+
+pub metadata_is : (kind : StoreKind) (chunk taken : ℕ) → (place kind chunk taken - taken) * chunk ≡ metadata kind chunk taken
+metadata_is Persistent chunk taken = metadata_apart chunk taken
+metadata_is Transient chunk taken = let none : taken - taken ≡ 0 = omega arith in ap (λ (n : ℕ). n * chunk) none
+metadata_is Keeping chunk taken = metadata_apart chunk taken

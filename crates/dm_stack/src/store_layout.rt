@@ -54,6 +54,7 @@ pub fn place(kind: StoreKind, chunk: u64, number: u64) -> u64
 /// next one. Where an area of chunk numbers comes before that place, this can pass the store's length.
 ///
 /// The chunk is from 1 to 1,024 sectors.
+#[tactic(auto, using(crate::proofs::StoreLayoutLemmas::place_within))]
 pub fn allocated(kind: StoreKind, chunk: u64, taken: u64) -> u64
     requires some { 0 < chunk }
     requires small { chunk ≤ MOST_SNAPSHOT_CHUNK }
@@ -66,6 +67,7 @@ pub fn allocated(kind: StoreKind, chunk: u64, taken: u64) -> u64
 /// How many of the used sectors are the header and the areas of chunk numbers.
 ///
 /// The chunk is from 1 to 1,024 sectors.
+#[tactic(auto, using(crate::proofs::StoreLayoutLemmas::place_within, crate::proofs::StoreLayoutLemmas::number_within, crate::proofs::StoreLayoutLemmas::metadata_within, crate::proofs::StoreLayoutLemmas::metadata_is))]
 pub fn metadata(kind: StoreKind, chunk: u64, taken: u64) -> u64
     requires some { 0 < chunk }
     requires small { chunk ≤ MOST_SNAPSHOT_CHUNK }

@@ -27,3 +27,4 @@ pub mod ConciseFaults
 pub mod ConciseRows
 pub mod ConciseDescribed
 mod ConciseWorked
+mod KindsWorked

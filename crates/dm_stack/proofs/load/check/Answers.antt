@@ -5,7 +5,8 @@ use Rattle.dm_table.proofs.FaultLemmas.{first_fault-none}
 use Rattle.dm_stack.specs.Description.{Description}
 use Rattle.dm_stack.specs.Load.{IsLateFault, HasNoLateFault}
 use Rattle.dm_stack.specs.Loaded.{found_table, stack_depth}
-use Rattle.dm_stack.specs.Soundness.{checks_before, unknown}
+use Rattle.dm_stack.specs.Soundness.{checks_after, checks_before, unknown}
+use Rattle.dm_stack.proofs.ChunkLemmas.{good_chunks}
 use Rattle.dm_stack.proofs.HandedOn.{ends_within}
 use Rattle.dm_stack.proofs.LoadLemmas.{known_passed, refused_late}
 use Rattle.dm_stack.proofs.load.check.Goals as goal
@@ -19,6 +20,9 @@ pub check_links-requires : goal.check_links-requires
 check_links-requires c =
     subst (λ (stack : Description). first_or (unknown stack) None ≡ None) (sym c.new-stack.ensures)
     (known_passed (record { devices = c.args.devices.now; disks = c.args.disks.now }) c.in_ok-names.ensures.passed)
+
+pub tables-requires : goal.tables-requires
+tables-requires c = good_chunks c.new-stack.result (first_fault-none (checks_after c.new-stack.result) c.in_ok-depth.ensures.passed.1).1.1.1.0
 
 pub returns-in_err-depth-clause-fault : goal.returns-in_err-depth-clause-fault
 returns-in_err-depth-clause-fault c =
