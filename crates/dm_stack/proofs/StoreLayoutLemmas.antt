@@ -1,12 +1,12 @@
 -- The layout of a store, of each kind: which places it has, that they are apart, and how far it is used.
 use Rattle.std.proofs.Common.{◌≡◌, ℕ, zero, suc, ◌+◌, ◌-◌, ◌*◌, ◌/◌, ◌%◌, ◌<◌, ◌≤◌, false, arith, refl, ap, ◌∙◌, inl, inr, ◌⊎◌}
-use Rattle.std.specs.Prelude.{◌↔◌, ◌==◌, ◌||◌}
+use Rattle.std.specs.Prelude.{◌↔◌, ◌==◌}
 use Rattle.std.proofs.lemmas.Nat.{div-add-mod', div-mul-add, mod-mul-add}
 use Rattle.std.proofs.Math.Nat.{mod-lt, mul-le-mul_right, le-div_iff_mul-le}
 use Rattle.std.proofs.lemmas.Bool.{cases_lt, cases_order, ne_eqb}
 use Rattle.dm_table.specs.declared.table.StoreKind.{StoreKind}
 use Rattle.dm_table.specs.declared.table.StoreKind.TheVariants.{Persistent, Transient, Keeping}
-use Rattle.dm_stack.specs.StoreLayout.{is_metadata, metadata, place, places, places_in}
+use Rattle.dm_stack.specs.StoreLayout.{allocated, is_metadata, metadata, place, places, places_in}
 
 -- the chunks of data and of areas up to that of a number, and the numbers below that
 within : (most rest number q a r b : ℕ) → r < most → b < most + 1 → q * most + r ≡ number → a * (most + 1) + b ≡ rest → number < rest - a → number + q < rest
@@ -115,17 +115,22 @@ place_first Persistent chunk = let none : 0 / (32 * chunk) ≡ 0 = grind arith i
 place_first Transient chunk = omega arith
 place_first Keeping chunk = let none : 0 / (32 * chunk) ≡ 0 = grind arith in omega (arith, none)
 
--- so a store is used up to a chunk after its last place, where each number below has one
-pub allocated_small : (kind : StoreKind) (chunk taken most : ℕ) → 0 < chunk → ((number : ℕ) → number < taken → (place kind chunk number + 1) * chunk ≤ most) → place kind chunk taken * chunk ≤ most + 2 * chunk
-allocated_small kind chunk zero most some fits =
-    let wide : place kind chunk 0 * chunk ≤ 2 * chunk = mul-le-mul_right chunk (place_first kind chunk) in
-    omega (arith, wide)
-allocated_small kind chunk (suc i) most some fits =
-    let wide : place kind chunk (suc i) * chunk ≤ (place kind chunk i + 1 + 1) * chunk = mul-le-mul_right chunk (place_next kind chunk i some) in
-    let sum : (place kind chunk i + 1 + 1) * chunk ≡ (place kind chunk i + 1) * chunk + chunk = grind arith in
-    omega (arith, wide, sum, fits i (omega arith))
+-- the products are by one number
+two_more : (here next chunk most : ℕ) → next ≤ here + 1 + 1 → (here + 1) * chunk ≤ most → next * chunk ≤ most + 2 * chunk
+two_more here next chunk most near fits =
+    let wide : next * chunk ≤ (here + 1 + 1) * chunk = mul-le-mul_right chunk near in
+    let sum : (here + 1 + 1) * chunk ≡ (here + 1) * chunk + chunk = grind arith in
+    omega (arith, wide, sum, fits)
 
-pub place_within : (kind : StoreKind) (chunk number : ℕ) → 0 < chunk → place kind chunk number ≤ place kind chunk number * chunk
+two_at_most : (first chunk most : ℕ) → first ≤ 2 → first * chunk ≤ most + 2 * chunk
+two_at_most first chunk most few = let wide : first * chunk ≤ 2 * chunk = mul-le-mul_right chunk few in omega (arith, wide)
+
+-- so a store is used up to a chunk after its last place, where each number below has one
+pub allocated_small : (kind : StoreKind) (chunk taken most : ℕ) → 0 < chunk → ((number : ℕ) → number < taken → (place kind chunk number + 1) * chunk ≤ most) → allocated kind chunk taken ≤ most + 2 * chunk
+allocated_small kind chunk zero most some fits = two_at_most (place kind chunk 0) chunk most (place_first kind chunk)
+allocated_small kind chunk (suc i) most some fits = two_more (place kind chunk i) (place kind chunk (suc i)) chunk most (place_next kind chunk i some) (fits i (omega arith))
+
+pub place_within : (kind : StoreKind) (chunk number : ℕ) → 0 < chunk → place kind chunk number ≤ allocated kind chunk number
 place_within kind chunk number some = more_times (place kind chunk number) chunk some
   where
     more_times : (n m : ℕ) → 0 < m → n ≤ n * m
@@ -141,7 +146,7 @@ number_within Persistent chunk number = omega arith
 number_within Transient chunk number = omega arith
 number_within Keeping chunk number = omega arith
 
-pub metadata_within : (kind : StoreKind) (chunk taken : ℕ) → (place kind chunk taken - taken) * chunk ≤ place kind chunk taken * chunk
+pub metadata_within : (kind : StoreKind) (chunk taken : ℕ) → (place kind chunk taken - taken) * chunk ≤ allocated kind chunk taken
 metadata_within kind chunk taken = mul-le-mul_right chunk (omega arith)
 
 metadata_apart : (chunk taken : ℕ) → (place Persistent chunk taken - taken) * chunk ≡ metadata Persistent chunk taken
@@ -149,5 +154,5 @@ metadata_apart chunk taken = let left : place Persistent chunk taken - taken ≡
 
 pub metadata_is : (kind : StoreKind) (chunk taken : ℕ) → (place kind chunk taken - taken) * chunk ≡ metadata kind chunk taken
 metadata_is Persistent chunk taken = metadata_apart chunk taken
-metadata_is Transient chunk taken = let none : taken - taken ≡ 0 = omega arith in ap (λ (n : ℕ). n * chunk) none
+metadata_is Transient chunk taken = let none : taken - taken ≡ 0 = omega arith in rw none (omega arith)
 metadata_is Keeping chunk taken = metadata_apart chunk taken

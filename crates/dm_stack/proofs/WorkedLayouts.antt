@@ -1,5 +1,5 @@
 -- Stores of each kind, worked by hand, at their limits.
-use Rattle.std.proofs.Common.{◌≡◌, ℕ, true, false, List, [], ◌∷◌, refl}
+use Rattle.std.proofs.Common.{◌≡◌, ℕ, true, false, [], ◌∷◌, refl}
 use Rattle.dm_table.specs.declared.load_fault.LoadKind.TheVariants.{Limit}
 use Rattle.dm_table.specs.declared.place.Part.TheVariants.{Source}
 use Rattle.dm_table.specs.declared.place.Place.{Place}

@@ -1,25 +1,28 @@
 -- The flags of stores, worked by hand: what texts with them say, and how they are written.
 use Rattle.std.proofs.Common.{◌≡◌, ℕ, false, List, [], ◌∷◌, ◌++◌, None, Ok, refl}
-use Rattle.std.specs.Prelude.{codes}
+use Rattle.std.specs.Prelude.{codes, decimal}
 use Rattle.std.specs.List.{AllByRecursion}
 use Rattle.dm_table.specs.declared.table.DevRef.TheVariants as refs
 use Rattle.dm_table.specs.declared.table.DeviceSpec.{DeviceSpec}
 use Rattle.dm_table.specs.declared.table.StoreKind.{StoreKind}
 use Rattle.dm_table.specs.declared.table.StoreKind.TheVariants.{Persistent, Transient, Keeping}
+use Rattle.dm_table.specs.declared.table.Target.{Target}
 use Rattle.dm_table.specs.declared.table.Target.TheVariants as targets
 use Rattle.dm_table.specs.Number.{number_of}
-use Rattle.dm_table.specs.CanonicalText.{concise_text, table_text}
 use Rattle.dm_table.specs.ConciseReading.{read_concise}
 use Rattle.dm_table.specs.ConciseText.{place_of}
 use Rattle.dm_table.specs.Fields.{lines_of}
-use Rattle.dm_table.specs.LineBody.{kind_in}
+use Rattle.dm_table.specs.LineBody.{kind_in, target_text}
 use Rattle.dm_table.specs.TableReading.{joined, named_from, rows_of}
+
+abbrev snapshot : StoreKind → Target
+snapshot kind = targets.Snapshot (refs.Disk (codes "a")) (refs.Disk (codes "b")) kind 8
 
 abbrev device : (name : List ℕ) (number : ℕ) → StoreKind → DeviceSpec
 device name number kind = record {
   name = name;
   ro = false;
-  lines = record { start = 0; len = 8; target = targets.Snapshot (refs.Disk (codes "a")) (refs.Disk (codes "b")) kind 8; at = place_of number } ∷ [];
+  lines = record { start = 0; len = 8; target = snapshot kind; at = place_of number } ∷ [];
   at = place_of number;
 }
 
@@ -35,11 +38,8 @@ read_as_table : joined (named_from 1 (rows_of (lines_of (codes "p: 0 8 snapshot 
 unfolding number_of
 read_as_table = refl
 
-written_as_concise : concise_text each_kind ≡ codes "p,,,rw,0 8 snapshot a b P 8;n,,,rw,0 8 snapshot a b N 8;k,,,rw,0 8 snapshot a b K 8\n"
-written_as_concise = refl
-
-written_as_table : table_text each_kind ≡ codes "p: 0 8 snapshot a b P 8\nn: 0 8 snapshot a b N 8\nk: 0 8 snapshot a b K 8\n"
-written_as_table = refl
+written : (target_text (snapshot Persistent) ≡ codes "snapshot a b P " ++ decimal 8) × (target_text (snapshot Transient) ≡ codes "snapshot a b N " ++ decimal 8) × (target_text (snapshot Keeping) ≡ codes "snapshot a b K " ++ decimal 8)
+written = (refl, refl, refl)
 
 -- a small letter, more than one letter, another one, none
 no_flags : AllByRecursion (λ flag. kind_in flag ≡ None) (codes "p" ∷ codes "n" ∷ codes "k" ∷ codes "PO" ∷ codes "NK" ∷ codes "Q" ∷ [] ∷ [])
