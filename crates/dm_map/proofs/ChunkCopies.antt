@@ -5,7 +5,7 @@ use Rattle.dm_stack.specs.declared.found_line.FoundSnapshot.{FoundSnapshot}
 use Rattle.dm_stack.specs.declared.graph.TheConstants.{MOST_DEPTH}
 use Rattle.dm_stack.specs.declared.id.Lower.{Lower}
 use Rattle.dm_stack.specs.Description.{Description}
-use Rattle.dm_stack.specs.Places.{place}
+use Rattle.dm_stack.specs.StoreLayout.{place}
 use Rattle.dm_map.specs.declared.ready.HomeStretch.{HomeStretch}
 use Rattle.dm_map.specs.declared.stretch.Ground.{Ground}
 use Rattle.dm_map.specs.Counts.{AreAdded}
@@ -31,7 +31,7 @@ pub record IsGoingOn {S : Type 0} (stack_of : S → Description) (room_of faults
 pub kept_on : (snapshot : FoundSnapshot) (number sector i : ℕ) → 0 < snapshot.chunk → sector % snapshot.chunk + i < snapshot.chunk → kept_at snapshot number (sector + i) ≡ kept_at snapshot number sector + i
 kept_on snapshot number sector i some within =
     let same = in_chunk snapshot.chunk sector i some (omega (arith, within)) in
-    ap (λ (rest : ℕ). place snapshot.chunk number * snapshot.chunk + rest) same.place ∙ assoc (place snapshot.chunk number * snapshot.chunk) (sector % snapshot.chunk) i
+    ap (λ (rest : ℕ). place snapshot.kind snapshot.chunk number * snapshot.chunk + rest) same.place ∙ assoc (place snapshot.kind snapshot.chunk number * snapshot.chunk) (sector % snapshot.chunk) i
   where
     assoc : (p r i : ℕ) → p + (r + i) ≡ p + r + i
     assoc p r i = omega arith

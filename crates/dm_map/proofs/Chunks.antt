@@ -12,12 +12,12 @@ use Rattle.dm_stack.specs.declared.found_line.FoundTarget.{FoundTarget}
 use Rattle.dm_stack.specs.declared.found_line.FoundTarget.TheVariants.{Snapshot}
 use Rattle.dm_stack.specs.Below.{Below, Lies, IsError, found_at, IsSnapshotSound, IsTargetSound}
 use Rattle.dm_stack.specs.Description.{Description, device_len, lower_len}
-use Rattle.dm_stack.specs.Places.{place}
+use Rattle.dm_stack.specs.StoreLayout.{place}
 use Rattle.dm_map.specs.declared.chunk.ReadAt.{ReadAt}
 use Rattle.dm_map.specs.Homes.{home}
 use Rattle.dm_map.specs.Reads.{by_below, read_unit}
 use Rattle.dm_map.specs.Snapshots.{number_in, kept_at, read_numbered, read_over}
-use Rattle.dm_map.specs.SnapshotWrites.{is_settled, ready, row, store_writes, unit_kept, write_numbered, write_snapshot, write_to}
+use Rattle.dm_map.specs.SnapshotWrites.{is_refused, is_settled, ready, row, store_writes, unit_kept, write_numbered, write_snapshot, write_to}
 use Rattle.dm_map.specs.State.{State, Taken, taken_at}
 use Rattle.dm_map.specs.Steps.{Step, keep, and_then, steps}
 use Rattle.dm_map.specs.Tables.{has_room, room_of, snapshot_at}
@@ -25,7 +25,7 @@ use Rattle.dm_map.specs.Units.{BlockUnit, Zeros, Fails, units_in}
 use Rattle.dm_map.specs.Mapping.{sector_step}
 use Rattle.dm_map.specs.Sink.{OfBeginning}
 use Rattle.dm_map.specs.Walk.{line_step, range_step, target_step, AreInChunk, AreInSnapshot, AreReadAt}
-use Rattle.dm_map.proofs.Readies.{Readied, readied, Settled, Took, Lost, chunk_part}
+use Rattle.dm_map.proofs.Readies.{Readied, readied, Settled, Took, Lost, chunk_part, refused_part, write_is}
 use Rattle.dm_map.proofs.Rows.{left_more, steps_read, steps_same, steps_still}
 use Rattle.dm_map.proofs.Stripes.{in_chunk}
 use Rattle.dm_map.proofs.UnitRows.{row_same}
@@ -69,7 +69,7 @@ pub same_chunk : (snapshot : FoundSnapshot) (sector i : ℕ) → 0 < snapshot.ch
 same_chunk snapshot sector i some within = (in_chunk snapshot.chunk sector i some (omega (arith, within))).number
 
 -- a place that the store has
-pub room_place : (stack : Description) (device number : ℕ) (snapshot : FoundSnapshot) → snapshot_at stack device ≡ Some snapshot → has_room stack device number ≡ true → (place snapshot.chunk number + 1) * snapshot.chunk ≤ lower_len stack snapshot.store
+pub room_place : (stack : Description) (device number : ℕ) (snapshot : FoundSnapshot) → snapshot_at stack device ≡ Some snapshot → has_room stack device number ≡ true → (place snapshot.kind snapshot.chunk number + 1) * snapshot.chunk ≤ lower_len stack snapshot.store
 room_place stack device number snapshot is room =
     leb-true _ _ (subst (λ (o : Option FoundSnapshot). room_of stack o number ≡ true) is room)
 
@@ -82,7 +82,7 @@ pub read_kept : (stack : Description) (state : State) (device sector len number 
     → AreReadAt stack state device snapshot sector len (record { to = snapshot.store; sector = kept_at snapshot number sector })
 read_kept stack state device sector len number snapshot chunk valid is room =
     let some = chunk.whole.sound.chunk_some in let fits = room_place stack device number snapshot chunk.whole.is room in
-    let split : (place snapshot.chunk number + 1) * snapshot.chunk ≡ place snapshot.chunk number * snapshot.chunk + snapshot.chunk = grind arith in
+    let split : (place snapshot.kind snapshot.chunk number + 1) * snapshot.chunk ≡ place snapshot.kind snapshot.chunk number * snapshot.chunk + snapshot.chunk = grind arith in
     record {
       lies = λ i within.
           over_at (taken_at state device) snapshot (sector + i) (sector / snapshot.chunk) (Some number) valid (same_chunk snapshot sector i some (omega (arith, chunk.part, within))) is
@@ -153,18 +153,25 @@ pub ready_there : (stack : Description) (snapshot : FoundSnapshot) (device chunk
 ready_there stack snapshot device chunk state there =
     let same = len_readied state device chunk (ready stack snapshot device chunk state) (readied stack snapshot device chunk state) in omega (arith, there, same)
 
--- the write of sectors of a chunk: it is made ready, and they are written
-pub chunk_written : (stack : Description) (snapshot : FoundSnapshot) (device sector len : ℕ) (state : State) → AreInChunk stack device snapshot sector len → 1 ≤ len → device < length state
+-- the write of sectors of a chunk that is not refused: it is made ready, and they are written
+pub chunk_written : (stack : Description) (snapshot : FoundSnapshot) (device sector len : ℕ) (state : State) → AreInChunk stack device snapshot sector len → 1 ≤ len → device < length state → is_refused stack snapshot (taken_at state device) (sector / snapshot.chunk) ≡ false
     → and_then (ready stack snapshot device (sector / snapshot.chunk) state) (λ after. keep (row (unit_kept stack snapshot device after) sector len) after) ≡ steps (write_snapshot stack snapshot device) state sector len
-chunk_written stack snapshot device sector zero state chunk some there = absurd (omega (arith, some))
-chunk_written stack snapshot device sector (suc n) state chunk some there =
-    sym (chunk_part stack snapshot device (sector / snapshot.chunk) sector n state there (λ i within. same_chunk snapshot sector i chunk.whole.sound.chunk_some (omega (arith, chunk.part, within))))
+chunk_written stack snapshot device sector zero state chunk some there passes = absurd (omega (arith, some))
+chunk_written stack snapshot device sector (suc n) state chunk some there passes =
+    sym (chunk_part stack snapshot device (sector / snapshot.chunk) sector n state passes there (λ i within. same_chunk snapshot sector i chunk.whole.sound.chunk_some (omega (arith, chunk.part, within))))
 
 -- its units begin with those of making ready
-pub left_ready : {S : Type 0} (left : S → List BlockUnit → S → Type 0) (old new : S) (stack : Description) (snapshot : FoundSnapshot) (device sector len : ℕ) (state : State) → 1 ≤ len
+pub left_ready : {S : Type 0} (left : S → List BlockUnit → S → Type 0) (old new : S) (stack : Description) (snapshot : FoundSnapshot) (device sector len : ℕ) (state : State) → 1 ≤ len → is_refused stack snapshot (taken_at state device) (sector / snapshot.chunk) ≡ false
     → OfBeginning left old (ready stack snapshot device (sector / snapshot.chunk) state).units new → OfBeginning left old (steps (write_snapshot stack snapshot device) state sector len).units new
-left_ready left old new stack snapshot device sector zero state some cut = absurd (omega (arith, some))
-left_ready left old new stack snapshot device sector (suc n) state some cut =
+left_ready left old new stack snapshot device sector zero state some passes cut = absurd (omega (arith, some))
+left_ready left old new stack snapshot device sector (suc n) state some passes cut =
     let made = ready stack snapshot device (sector / snapshot.chunk) state in
     let unit = unit_kept stack snapshot device made.state sector ∷ [] in
-    left_more left old new made.units (unit ++ (steps (write_snapshot stack snapshot device) made.state (suc sector) n).units) _ (sym (append_assoc made.units unit _)) cut
+    left_more left old new made.units (unit ++ (steps (write_snapshot stack snapshot device) made.state (suc sector) n).units) _
+    (sym (append_assoc made.units unit _) ∙ ap (λ (step : Step). (and_then step (λ after. steps (write_snapshot stack snapshot device) after (suc sector) n)).units) (sym (write_is false stack snapshot device (sector / snapshot.chunk) state sector refl passes))) cut
+
+-- and where it is refused, they fail
+pub chunk_refused : (stack : Description) (snapshot : FoundSnapshot) (device sector len : ℕ) (state : State) → AreInChunk stack device snapshot sector len → is_refused stack snapshot (taken_at state device) (sector / snapshot.chunk) ≡ true
+    → keep (units_in Fails len) state ≡ steps (write_snapshot stack snapshot device) state sector len
+chunk_refused stack snapshot device sector len state chunk refused =
+    sym (refused_part stack snapshot device (sector / snapshot.chunk) sector len state refused (λ i within. same_chunk snapshot sector i chunk.whole.sound.chunk_some (omega (arith, chunk.part, within))))

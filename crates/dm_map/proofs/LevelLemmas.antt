@@ -95,7 +95,7 @@ on_target over stack P len targets.Zero distance on each = tt
 on_target over stack P len targets.Error distance on each = tt
 on_target over stack P len (targets.Snapshot origin store kind chunk) distance on each =
     let store_first = all_parts P (ref_link stack store) (span_links stack (whole_span origin Reading ∷ [])) each in
-    on (found_snapshot stack origin store chunk) distance (on_ref stack P store store_first.0) (on_ref stack P origin (all_parts P (ref_link stack origin) [] store_first.1).0)
+    on (found_snapshot stack origin store kind chunk) distance (on_ref stack P store store_first.0) (on_ref stack P origin (all_parts P (ref_link stack origin) [] store_first.1).0)
 on_target over stack P len (targets.Origin to) distance on each = on_ref stack P to (all_parts P (ref_link stack to) [] each).0
 
 pub on_lines : (stack : Description) (P : ℕ → Type 0) (lines : List Line) → AllByRecursion P (flat_map (line_links stack) lines) → AllByRecursion (λ line. AllByRecursion P (line_links stack line)) lines

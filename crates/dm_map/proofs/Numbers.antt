@@ -4,9 +4,10 @@ use Rattle.std.specs.List.{AllByRecursion, IsDistinct}
 use Rattle.std.specs.Prelude.{◌==◌, option_map}
 use Rattle.std.proofs.lemmas.Bool.{cases_order, eq-eqb, eqb-true, ne_eqb}
 use Rattle.std.proofs.Math.Nat.{mul-le-mul_right}
-use Rattle.std.proofs.lemmas.Nat.{div-add-mod', div-mul-add, mod-mul-add}
-use Rattle.dm_stack.specs.Places.{is_metadata, place}
+use Rattle.std.proofs.lemmas.Nat.{div-add-mod'}
+use Rattle.dm_stack.specs.StoreLayout.{place}
 use Rattle.dm_stack.specs.declared.found_line.FoundSnapshot.{FoundSnapshot}
+use Rattle.dm_stack.proofs.StoreLayoutLemmas.{place_one}
 use Rattle.dm_map.specs.Snapshots.{kept_at, number_in}
 
 none_parts : (b : Bool) (o : Option ℕ) → cond b (Some 0) (option_map suc o) ≡ None → (b ≡ false) × (o ≡ None)
@@ -60,50 +61,6 @@ number_kept c (x ∷ xs) ys i e = some_cons (x == c) (number_in c xs) (number_in
 pub number_new : (c : ℕ) (xs : List ℕ) → number_in c xs ≡ None → number_in c (xs ++ c ∷ []) ≡ Some (length xs)
 number_new c [] e = rw (eq-eqb c c refl) refl
 number_new c (x ∷ xs) e = let parts = none_parts (x == c) (number_in c xs) e in let k : suc (length xs) ≡ length (x ∷ xs) = omega arith in rw (parts.0, number_new c xs parts.1) (ap Some k)
-
--- Places
-
-quotient_le : (i j e : ℕ) → i ≤ j → i / e ≤ j / e
-quotient_le i j e le = grind (arith, le)
-
-pub place_less : (chunk i j : ℕ) → i < j → place chunk i < place chunk j
-place_less chunk i j less = let q = quotient_le i j (32 * chunk) (omega (arith, less)) in omega (arith, less, q)
-
--- a place is after the header, and what is left of it after whole areas with their data is after the area
-pub place_data : (chunk i : ℕ) → 0 < chunk → is_metadata chunk (place chunk i) ≡ false
-place_data chunk i some =
-    let e = 32 * chunk in
-    let whole : i / e * e + i % e ≡ i = div-add-mod' i e in
-    let small : i % e < e = omega (arith, some) in
-    let parts : (i / e) * (e + 1) ≡ i / e * e + i / e = grind arith in
-    let sum : place chunk i - 1 ≡ (i / e) * (e + 1) + (i % e + 1) = omega (arith, whole, parts) in
-    let rest : (place chunk i - 1) % (e + 1) ≡ i % e + 1 = ap (λ n. n % (e + 1)) sum ∙ mod-mul-add (i / e) (e + 1) (i % e + 1) (omega (arith, small)) in
-    let first : (place chunk i == 0) ≡ false = ne_eqb (place chunk i) 0 (λ is. omega (arith, is)) in
-    let later : ((place chunk i - 1) % (32 * chunk + 1) == 0) ≡ false = ne_eqb ((place chunk i - 1) % (e + 1)) 0 (λ is. omega (arith, is, rest)) in
-    rw (first, later) refl
-
--- the next place is the next chunk, or the one after an area
-quotient_next : (i e : ℕ) → 0 < e → suc i / e ≤ i / e + 1
-quotient_next i e some =
-    let whole : i / e * e + i % e ≡ i = div-add-mod' i e in
-    let small : i % e < e = omega (arith, some) in
-    let at : i + e ≡ (i / e + 1) * e + i % e = omega (arith, whole) in
-    let next : (i + e) / e ≡ i / e + 1 = ap (λ n. n / e) at ∙ div-mul-add (i / e + 1) e (i % e) small in
-    let low = quotient_le (suc i) (i + e) e (omega (arith, some)) in
-    omega (arith, low, next)
-
--- so a store is used up to a chunk after its last place, where each number below has one
-pub allocated_small : (chunk taken most : ℕ) → 0 < chunk → ((number : ℕ) → number < taken → (place chunk number + 1) * chunk ≤ most) → place chunk taken * chunk ≤ most + 2 * chunk
-allocated_small chunk zero most some fits =
-    let none : 0 / (32 * chunk) ≡ 0 = grind arith in
-    let first : place chunk 0 ≡ 2 = omega (arith, none) in
-    rw first (omega arith)
-allocated_small chunk (suc i) most some fits =
-    let q = quotient_next i (32 * chunk) (omega (arith, some)) in
-    let next : place chunk (suc i) ≤ place chunk i + 1 + 1 = omega (arith, q) in
-    let wide : place chunk (suc i) * chunk ≤ (place chunk i + 1 + 1) * chunk = mul-le-mul_right chunk next in
-    let sum : (place chunk i + 1 + 1) * chunk ≡ (place chunk i + 1) * chunk + chunk = grind arith in
-    omega (arith, wide, sum, fits i (omega arith))
 
 -- a chunk that isn't the new one and isn't there is still not there
 pub number_other : (c d : ℕ) (xs : List ℕ) → number_in c xs ≡ None → (d ≡ c → ⊥) → number_in c (xs ++ d ∷ []) ≡ None
@@ -177,19 +134,12 @@ stripe_back chunk n o some =
     ∙ ap (λ (x : ℕ). x * chunk + r) whole_c
     ∙ whole_o
 
--- The places of numbers
-
-place_one : (chunk i j : ℕ) → place chunk i ≡ place chunk j → i ≡ j
-place_one chunk i j e = elim (cases_order i j) [
-  | inl same ↦ same
-  | inr (inl less) ↦ absurd (let p = place_less chunk i j less in omega (arith, p, e))
-  | inr (inr more) ↦ absurd (let p = place_less chunk j i more in omega (arith, p, e))
-]
+-- The sectors of a store
 
 pub kept_parts : (snapshot : FoundSnapshot) (i j s t : ℕ) → 0 < snapshot.chunk → kept_at snapshot i s ≡ kept_at snapshot j t → (i ≡ j) × (s % snapshot.chunk ≡ t % snapshot.chunk)
 kept_parts snapshot i j s t some e =
-    let parts = same_parts (place snapshot.chunk i) (s % snapshot.chunk) (place snapshot.chunk j) (t % snapshot.chunk) snapshot.chunk e (omega (arith, some)) (omega (arith, some)) in
-    (place_one snapshot.chunk i j parts.0, parts.1)
+    let parts = same_parts (place snapshot.kind snapshot.chunk i) (s % snapshot.chunk) (place snapshot.kind snapshot.chunk j) (t % snapshot.chunk) snapshot.chunk e (omega (arith, some)) (omega (arith, some)) in
+    (place_one snapshot.kind snapshot.chunk i j parts.0, parts.1)
 
 -- one number and one place in the chunk are one sector
 pub same_sector : (snapshot : FoundSnapshot) (chunks : List ℕ) (i j s u : ℕ) → 0 < snapshot.chunk → number_in (s / snapshot.chunk) chunks ≡ Some i → number_in (u / snapshot.chunk) chunks ≡ Some j → kept_at snapshot i s ≡ kept_at snapshot j u → u ≡ s
@@ -204,5 +154,5 @@ same_sector snapshot chunks i j s u some a b e =
 rest_below : (len m q r : ℕ) → r < m → (q + 1) * m ≤ len → q * m + r < len
 rest_below len m q r less most = let one : (q + 1) * m ≡ q * m + m = grind arith in omega (arith, less, most, one)
 
-pub kept_inside : (snapshot : FoundSnapshot) (i s len : ℕ) → 0 < snapshot.chunk → (place snapshot.chunk i + 1) * snapshot.chunk ≤ len → kept_at snapshot i s < len
-kept_inside snapshot i s len some most = rest_below len snapshot.chunk (place snapshot.chunk i) (s % snapshot.chunk) (omega (arith, some)) most
+pub kept_inside : (snapshot : FoundSnapshot) (i s len : ℕ) → 0 < snapshot.chunk → (place snapshot.kind snapshot.chunk i + 1) * snapshot.chunk ≤ len → kept_at snapshot i s < len
+kept_inside snapshot i s len some most = rest_below len snapshot.chunk (place snapshot.kind snapshot.chunk i) (s % snapshot.chunk) (omega (arith, some)) most

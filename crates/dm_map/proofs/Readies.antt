@@ -1,17 +1,17 @@
--- A chunk that is made ready is settled, and stays so: the sectors of a chunk are written as one step.
+-- A chunk that is made ready is settled, and stays so: the sectors of a chunk are written as one step, or all of them fail.
 use Rattle.std.proofs.Common.{◌≡◌, ℕ, zero, suc, ◌+◌, ◌/◌, ◌<◌, Bool, true, false, cond, not, List, [], ◌∷◌, Option, Some, None, length, refl, ap, ◌∙◌, arith}
-use Rattle.std.specs.Prelude.{is_some}
+use Rattle.std.specs.Prelude.{◌&&◌, is_some}
 use Rattle.std.proofs.lemmas.Bool.{or_parts, or_right, not-false}
 use Rattle.std.proofs.lemmas.List.{get_or-set_same, get_or-set_other}
 use Rattle.dm_stack.specs.declared.found_line.FoundSnapshot.{FoundSnapshot}
 use Rattle.dm_stack.specs.Description.{Description}
 use Rattle.dm_map.specs.Snapshots.{number_in}
-use Rattle.dm_map.specs.SnapshotWrites.{put, with_chunk, lost, is_settled, ready, row, unit_kept, write_snapshot, copies, first_of, count_of, can_take}
+use Rattle.dm_map.specs.SnapshotWrites.{put, with_chunk, lost, has_place, is_keeping, is_refused, is_settled, ready, row, unit_kept, write_snapshot, copies, first_of, count_of, can_take}
 use Rattle.dm_map.specs.State.{Taken, State, none_taken, taken_at}
 use Rattle.dm_map.specs.Steps.{Step, keep, and_then, steps}
-use Rattle.dm_map.specs.Units.{BlockUnit}
+use Rattle.dm_map.specs.Units.{BlockUnit, Fails, units_in}
 use Rattle.dm_map.proofs.Numbers.{number_new}
-use Rattle.dm_map.proofs.Rows.{and_then_at, step_assoc}
+use Rattle.dm_map.proofs.Rows.{and_then_at, step_assoc, steps_still}
 
 pub taken_same : (state : State) (device : ℕ) (taken : Taken) → device < length state → taken_at (put state device taken) device ≡ taken
 taken_same state device taken there = get_or-set_same state device taken none_taken there
@@ -56,27 +56,54 @@ ready_settles state device chunk step there (Settled done is) = rw is done
 ready_settles state device chunk step there (Took valid fresh units is) = rw (is, taken_same state device (with_chunk (taken_at state device) chunk) there) (new_settled (taken_at state device) chunk fresh)
 ready_settles state device chunk step there (Lost is) = rw (is, taken_same state device (lost (taken_at state device)) there) refl
 
--- The sectors of a chunk: it is made ready once
+-- The write of a sector
 
-settled_part : (stack : Description) (snapshot : FoundSnapshot) (device chunk sector n : ℕ) (state : State) → ready stack snapshot device chunk state ≡ keep [] state → ((i : ℕ) → i < n → (sector + i) / snapshot.chunk ≡ chunk)
+-- by its chunk, and whether that is refused
+abbrev write_by : Bool → Description → FoundSnapshot → (device chunk : ℕ) → State → (sector : ℕ) → Step
+write_by refused stack snapshot device chunk state sector = cond refused (keep (Fails ∷ []) state) (and_then (ready stack snapshot device chunk state) (λ after. keep (unit_kept stack snapshot device after sector ∷ []) after))
+
+pub write_is : (refused : Bool) (stack : Description) (snapshot : FoundSnapshot) (device chunk : ℕ) (state : State) (sector : ℕ) → sector / snapshot.chunk ≡ chunk → is_refused stack snapshot (taken_at state device) chunk ≡ refused
+    → write_snapshot stack snapshot device state sector ≡ write_by refused stack snapshot device chunk state sector
+write_is refused stack snapshot device chunk state sector here is =
+    ap (λ (c : ℕ). write_by (is_refused stack snapshot (taken_at state device) c) stack snapshot device c state sector) here ∙ ap (λ (b : Bool). write_by b stack snapshot device chunk state sector) is
+
+passes : (keeping placed settled : Bool) → settled ≡ true → (keeping && (not placed && not settled)) ≡ false
+passes true true settled is = refl
+passes true false settled is = rw is refl
+passes false placed settled is = refl
+
+-- a chunk for which nothing is left to do is not refused
+pub settled_passes : (stack : Description) (snapshot : FoundSnapshot) (taken : Taken) (chunk : ℕ) → is_settled taken chunk ≡ true → is_refused stack snapshot taken chunk ≡ false
+settled_passes stack snapshot taken chunk settled = passes (is_keeping snapshot.kind) (has_place stack snapshot (length taken.chunks)) (is_settled taken chunk) settled
+
+-- The sectors of a chunk: it is made ready once, or each of them fails
+
+settled_part : (stack : Description) (snapshot : FoundSnapshot) (device chunk sector n : ℕ) (state : State) → is_settled (taken_at state device) chunk ≡ true → ((i : ℕ) → i < n → (sector + i) / snapshot.chunk ≡ chunk)
     → steps (write_snapshot stack snapshot device) state sector n ≡ keep (row (unit_kept stack snapshot device state) sector n) state
-settled_part stack snapshot device chunk sector zero state done each = refl
-settled_part stack snapshot device chunk sector (suc n) state done each =
+settled_part stack snapshot device chunk sector zero state settled each = refl
+settled_part stack snapshot device chunk sector (suc n) state settled each =
     let here : sector / snapshot.chunk ≡ chunk = ap (λ (s : ℕ). s / snapshot.chunk) (let e : sector ≡ sector + 0 = omega arith in e) ∙ each 0 (omega arith) in
     let first : write_snapshot stack snapshot device state sector ≡ keep (unit_kept stack snapshot device state sector ∷ []) state =
-    ap (λ (step : Step). and_then step (λ after. keep (unit_kept stack snapshot device after sector ∷ []) after)) (ap (λ (c : ℕ). ready stack snapshot device c state) here ∙ done) in
+    write_is false stack snapshot device chunk state sector here (settled_passes stack snapshot (taken_at state device) chunk settled)
+    ∙ ap (λ (step : Step). and_then step (λ after. keep (unit_kept stack snapshot device after sector ∷ []) after)) (ready_again stack snapshot device chunk state settled) in
     ap (λ (step : Step). and_then step (λ after. steps (write_snapshot stack snapshot device) after (suc sector) n)) first
     ∙ ap (λ (rest : Step). record { units = unit_kept stack snapshot device state sector ∷ rest.units; state = rest.state })
-    (settled_part stack snapshot device chunk (suc sector) n state done (λ i within. ap (λ (s : ℕ). s / snapshot.chunk) (let e : suc sector + i ≡ sector + suc i = omega arith in e) ∙ each (suc i) (omega (arith, within))))
+    (settled_part stack snapshot device chunk (suc sector) n state settled (λ i within. ap (λ (s : ℕ). s / snapshot.chunk) (let e : suc sector + i ≡ sector + suc i = omega arith in e) ∙ each (suc i) (omega (arith, within))))
 
-pub chunk_part : (stack : Description) (snapshot : FoundSnapshot) (device chunk sector n : ℕ) (state : State) → device < length state → ((i : ℕ) → i < suc n → (sector + i) / snapshot.chunk ≡ chunk)
+pub chunk_part : (stack : Description) (snapshot : FoundSnapshot) (device chunk sector n : ℕ) (state : State) → is_refused stack snapshot (taken_at state device) chunk ≡ false → device < length state → ((i : ℕ) → i < suc n → (sector + i) / snapshot.chunk ≡ chunk)
     → steps (write_snapshot stack snapshot device) state sector (suc n) ≡ and_then (ready stack snapshot device chunk state) (λ after. keep (row (unit_kept stack snapshot device after) sector (suc n)) after)
-chunk_part stack snapshot device chunk sector n state there each =
+chunk_part stack snapshot device chunk sector n state passes there each =
     let here : sector / snapshot.chunk ≡ chunk = ap (λ (s : ℕ). s / snapshot.chunk) (let e : sector ≡ sector + 0 = omega arith in e) ∙ each 0 (omega arith) in
     let made = ready stack snapshot device chunk state in
-    let again : ready stack snapshot device chunk made.state ≡ keep [] made.state = ready_again stack snapshot device chunk made.state (ready_settles state device chunk made there (readied stack snapshot device chunk state)) in
-    ap (λ (c : ℕ). and_then (and_then (ready stack snapshot device c state) (λ after. keep (unit_kept stack snapshot device after sector ∷ []) after)) (λ after. steps (write_snapshot stack snapshot device) after (suc sector) n)) here
+    let settled = ready_settles state device chunk made there (readied stack snapshot device chunk state) in
+    ap (λ (step : Step). and_then step (λ after. steps (write_snapshot stack snapshot device) after (suc sector) n)) (write_is false stack snapshot device chunk state sector here passes)
     ∙ step_assoc made (λ after. keep (unit_kept stack snapshot device after sector ∷ []) after) (λ after. steps (write_snapshot stack snapshot device) after (suc sector) n)
     ∙ and_then_at made (λ after. and_then (keep (unit_kept stack snapshot device after sector ∷ []) after) (λ later. steps (write_snapshot stack snapshot device) later (suc sector) n)) (λ after. keep (row (unit_kept stack snapshot device after) sector (suc n)) after)
     (ap (λ (rest : Step). record { units = unit_kept stack snapshot device made.state sector ∷ rest.units; state = rest.state })
-    (settled_part stack snapshot device chunk (suc sector) n made.state again (λ i within. ap (λ (s : ℕ). s / snapshot.chunk) (let e : suc sector + i ≡ sector + suc i = omega arith in e) ∙ each (suc i) (omega (arith, within)))))
+    (settled_part stack snapshot device chunk (suc sector) n made.state settled (λ i within. ap (λ (s : ℕ). s / snapshot.chunk) (let e : suc sector + i ≡ sector + suc i = omega arith in e) ∙ each (suc i) (omega (arith, within)))))
+
+-- what is refused changes nothing, so that the next sector is refused too
+pub refused_part : (stack : Description) (snapshot : FoundSnapshot) (device chunk sector n : ℕ) (state : State) → is_refused stack snapshot (taken_at state device) chunk ≡ true → ((i : ℕ) → i < n → (sector + i) / snapshot.chunk ≡ chunk)
+    → steps (write_snapshot stack snapshot device) state sector n ≡ keep (units_in Fails n) state
+refused_part stack snapshot device chunk sector n state refused each =
+    steps_still (write_snapshot stack snapshot device) state sector n Fails refl (λ i within. write_is true stack snapshot device chunk state (sector + i) (each i within) refused)

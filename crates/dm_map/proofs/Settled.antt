@@ -16,9 +16,9 @@ use Rattle.dm_map.specs.Mapping.{write_line, write_step, write_target}
 use Rattle.dm_map.specs.Reads.{by_below}
 use Rattle.dm_map.specs.Serving.{serve}
 use Rattle.dm_map.specs.Snapshots.{number_in}
-use Rattle.dm_map.specs.SnapshotWrites.{is_settled, lost, put, ready, with_chunk}
+use Rattle.dm_map.specs.SnapshotWrites.{is_refused, is_settled, lost, put, ready, unit_kept, with_chunk}
 use Rattle.dm_map.specs.State.{State, Taken, taken_at}
-use Rattle.dm_map.specs.Steps.{Step, keep}
+use Rattle.dm_map.specs.Steps.{Step, keep, and_then}
 use Rattle.dm_map.specs.Units.{Drops, Fails}
 use Rattle.dm_map.proofs.Numbers.{number_kept}
 use Rattle.dm_map.proofs.Readies.{Readied, Settled, Took, Lost, readied, taken_other, taken_same}
@@ -84,13 +84,20 @@ below_keeps (Lies to sector) state next keeps = keeps to state sector
 below_keeps IsZero state next keeps = keeps_same state
 below_keeps IsError state next keeps = keeps_same state
 
+-- a step that may fail before it begins
+fails_or_keeps : (failing : Bool) (state : State) (step : Step) → KeepsSettled state step.state → KeepsSettled state (cond failing (keep (Fails ∷ []) state) step).state
+fails_or_keeps true state step keeps = keeps_same state
+fails_or_keeps false state step keeps = keeps
+
 target_keeps : (stack : Description) (state : State) (device : ℕ) (target : FoundTarget) (distance : ℕ) (next : Lower → State → ℕ → Step) → Keeps next → KeepsSettled state (write_target stack state device target distance next).state
 unfolding Keeps
 target_keeps stack state device (founds.Linear to offset) distance next keeps = keeps to state (offset + distance)
 target_keeps stack state device (founds.Striped chunk columns) distance next keeps = below_keeps (below_stripes chunk columns distance) state next keeps
 target_keeps stack state device founds.Zero distance next keeps = keeps_same state
 target_keeps stack state device founds.Error distance next keeps = keeps_same state
-target_keeps stack state device (founds.Snapshot snapshot) distance next keeps = ready_keeps stack snapshot device (distance / snapshot.chunk) state
+target_keeps stack state device (founds.Snapshot snapshot) distance next keeps =
+    let made = ready stack snapshot device (distance / snapshot.chunk) state in
+    fails_or_keeps (is_refused stack snapshot (taken_at state device) (distance / snapshot.chunk)) state (and_then made (λ after. keep (unit_kept stack snapshot device after distance ∷ []) after)) (ready_keeps stack snapshot device (distance / snapshot.chunk) state)
 target_keeps stack state device (founds.Origin origin) distance next keeps =
     let served = serve stack origin.over distance state in
     keeps_then state served.state (next origin.to served.state distance).state (serve_keeps stack origin.over distance state) (keeps origin.to served.state distance)
@@ -99,15 +106,11 @@ line_keeps : (stack : Description) (state : State) (device : ℕ) (line : Option
 line_keeps stack state device None sector next keeps = keeps_same state
 line_keeps stack state device (Some line) sector next keeps = target_keeps stack state device line.target (sector - line.start) next keeps
 
-device_keeps : (ro : Bool) (state : State) (step : Step) → KeepsSettled state step.state → KeepsSettled state (cond ro (keep (Fails ∷ []) state) step).state
-device_keeps true state step keeps = keeps_same state
-device_keeps false state step keeps = keeps
-
 -- whatever is written, through any number of levels
 pub write_keeps_settled : (stack : Description) (levels : ℕ) (lower : Lower) (state : State) (sector : ℕ) → KeepsSettled state (write_step stack levels lower state sector).state
 unfolding write_step Keeps
 write_keeps_settled stack levels (Disk disk) state sector = keeps_same state
 write_keeps_settled stack zero (Device device) state sector = keeps_same state
 write_keeps_settled stack (suc levels) (Device device) state sector =
-    device_keeps (is_ro_at stack device) state (write_line stack state device (found_at stack device sector) sector (λ to after at. write_step stack levels to after at))
+    fails_or_keeps (is_ro_at stack device) state (write_line stack state device (found_at stack device sector) sector (λ to after at. write_step stack levels to after at))
     (line_keeps stack state device (found_at stack device sector) sector (λ to after at. write_step stack levels to after at) (λ to after at. write_keeps_settled stack levels to after at))

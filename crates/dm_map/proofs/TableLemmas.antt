@@ -21,7 +21,7 @@ use Rattle.dm_stack.specs.declared.found_line.FoundTarget.TheVariants as founds
 use Rattle.dm_stack.specs.Below.{found_at, found_line, found_target, holds, line_of}
 use Rattle.dm_stack.specs.Description.{Description, device_id, disk_id, is_same, lines_at, lines_or_none, lower_len, lower_of}
 use Rattle.dm_stack.specs.Loaded.{has_snapshot, is_snapshot, snapshots}
-use Rattle.dm_stack.specs.Places.{place}
+use Rattle.dm_stack.specs.StoreLayout.{place}
 use Rattle.dm_stack.specs.Over.{found_snapshot}
 use Rattle.dm_stack.specs.Soundness.{IsSound, all_lines, is_unknown, is_unknown_ref}
 use Rattle.dm_table.specs.Span.{target_spans, whole_span}
@@ -218,7 +218,7 @@ next_rooms places stack tables next d index new within is same room before devic
 
 -- The places of a snapshot
 
-pub snapshot_room : (stack : Description) (device number count : ℕ) (line : FoundLine) (snapshot : FoundSnapshot) → found_at stack device 0 ≡ Some line → line.target ≡ founds.Snapshot snapshot → ((number < count) ↔ ((place snapshot.chunk number + 1) * snapshot.chunk ≤ lower_len stack snapshot.store)) → nat_lt number count ≡ has_room stack device number
+pub snapshot_room : (stack : Description) (device number count : ℕ) (line : FoundLine) (snapshot : FoundSnapshot) → found_at stack device 0 ≡ Some line → line.target ≡ founds.Snapshot snapshot → ((number < count) ↔ ((place snapshot.kind snapshot.chunk number + 1) * snapshot.chunk ≤ lower_len stack snapshot.store)) → nat_lt number count ≡ has_room stack device number
 snapshot_room stack device number count line snapshot is kind law =
     rw (is, kind) (sym (ltb_from_iff ((λ e. law.1 (leb-true _ _ e)), (λ less. le-leb _ _ (law.0 less)))))
 
@@ -258,7 +258,7 @@ store_at stack (targets.Striped chunk columns) len snapshot sound known is = abs
 store_at stack targets.Zero len snapshot sound known is = absurd cc
 store_at stack targets.Error len snapshot sound known is = absurd cc
 store_at stack (targets.Snapshot origin store kind chunk) len snapshot sound known is =
-    let same : found_snapshot stack origin store chunk ≡ snapshot = cc in
+    let same : found_snapshot stack origin store kind chunk ≡ snapshot = cc in
     let parts = or_parts (is_unknown_ref stack store) (list_any (λ span. is_unknown_ref stack span.to) (whole_span origin Reading ∷ [])) known in
     subst (λ (s : FoundSnapshot). 0 < lower_len stack s.store) same (lower_some stack store sound parts.0)
 store_at stack (targets.Origin origin) len snapshot sound known is = absurd cc

@@ -10,7 +10,7 @@ use Rattle.dm_stack.specs.Below.{Below, Lies, IsZero, IsError, below, found_at}
 use Rattle.dm_stack.specs.Claims.{IsTidy}
 use Rattle.dm_stack.specs.Description.{Description, lower_len}
 use Rattle.dm_stack.specs.Loaded.{lower_depth}
-use Rattle.dm_stack.specs.Places.{place}
+use Rattle.dm_stack.specs.StoreLayout.{place}
 use Rattle.dm_stack.specs.Soundness.{IsSound}
 use Rattle.dm_map.specs.Contents.{Values, content, played, value_read}
 use Rattle.dm_map.specs.Fitting.{IsFitting}
@@ -52,7 +52,7 @@ pub record IsTake (stack : Description) (state : State) (device chunk : ℕ) (sn
   pub there : device < length state
   pub valid : (taken_at state device).valid ≡ true
   pub fresh : number_in chunk (taken_at state device).chunks ≡ None
-  pub place_there : (place snapshot.chunk (length (taken_at state device).chunks) + 1) * snapshot.chunk ≤ lower_len stack snapshot.store
+  pub place_there : (place snapshot.kind snapshot.chunk (length (taken_at state device).chunks) + 1) * snapshot.chunk ≤ lower_len stack snapshot.store
   pub readable : (u : ℕ) → first_of snapshot chunk ≤ u → u < first_of snapshot chunk + count_of stack snapshot device chunk → IsReadable (read stack state snapshot.origin u)
 
 abbrev pub new_number : State → (device : ℕ) → ℕ

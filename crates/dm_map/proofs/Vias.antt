@@ -172,7 +172,7 @@ snapshot_spans stack len (targets.Striped chunk columns) snapshot is = absurd cc
 snapshot_spans stack len targets.Zero snapshot is = absurd cc
 snapshot_spans stack len targets.Error snapshot is = absurd cc
 snapshot_spans stack len (targets.Snapshot origin store kind chunk) snapshot is =
-    let same = snapshot_is (found_snapshot stack origin store chunk) snapshot is in
+    let same = snapshot_is (found_snapshot stack origin store kind chunk) snapshot is in
     (store, origin, refl, ap (λ (s : FoundSnapshot). s.store) same, ap (λ (s : FoundSnapshot). s.origin) same)
   where
     snapshot_is : (a b : FoundSnapshot) → founds.Snapshot a ≡ founds.Snapshot b → a ≡ b

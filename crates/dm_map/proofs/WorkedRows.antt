@@ -7,6 +7,7 @@ use Rattle.dm_table.specs.declared.request.Op.TheVariants.{Read, Write}
 use Rattle.dm_table.specs.declared.table.DevRef.TheVariants as refs
 use Rattle.dm_table.specs.declared.table.DeviceSpec.{DeviceSpec}
 use Rattle.dm_table.specs.declared.table.Line.{Line}
+use Rattle.dm_table.specs.declared.table.StoreKind.TheVariants.{Persistent}
 use Rattle.dm_table.specs.declared.table.Target.{Target}
 use Rattle.dm_table.specs.declared.table.Target.TheVariants as targets
 use Rattle.dm_stack.specs.declared.found_line.FoundSnapshot.{FoundSnapshot}
@@ -17,7 +18,7 @@ use Rattle.dm_stack.specs.declared.id.Lower.TheVariants.{Device, Disk}
 use Rattle.dm_map.specs.Path.{PathStep, path, read_stretches}
 use Rattle.dm_map.specs.Reads.{read_unit}
 use Rattle.dm_map.specs.Mapping.{write_step, request_step}
-use Rattle.dm_stack.specs.Places.{place}
+use Rattle.dm_stack.specs.StoreLayout.{place}
 use Rattle.dm_map.specs.Snapshots.{read_over}
 use Rattle.dm_map.specs.State.{Taken, State, start_state}
 use Rattle.dm_map.specs.Steps.{keep}
@@ -88,7 +89,7 @@ stretches = (refl, refl, refl, refl)
 -- A snapshot of disk 0 with its store on disk 1: chunk 3 was taken first, and then chunk 1
 
 abbrev snapshot : FoundSnapshot
-snapshot = record { origin = Disk 0; store = Disk 1; chunk = 4 }
+snapshot = record { origin = Disk 0; store = Disk 1; kind = Persistent; chunk = 4 }
 
 abbrev taken : Taken
 taken = record { chunks = 3 ∷ 1 ∷ []; valid = true }
@@ -106,8 +107,8 @@ lost_read : read_over (record { chunks = 3 ∷ []; valid = false }) snapshot 13 
 lost_read = refl
 
 -- the store of chunks of one sector has 32 chunks between its header's area and the next
-next_area : place 1 31 ≡ 33
+next_area : place Persistent 1 31 ≡ 33
 next_area = refl
 
-past_the_area : place 1 32 ≡ 35
+past_the_area : place Persistent 1 32 ≡ 35
 past_the_area = refl

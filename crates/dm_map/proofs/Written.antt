@@ -23,7 +23,7 @@ use Rattle.dm_map.specs.Mapping.{write_line, write_step, write_target}
 use Rattle.dm_map.specs.Reads.{by_below, read_below}
 use Rattle.dm_map.specs.Serving.{IsOver, serve, served_step}
 use Rattle.dm_map.specs.Snapshots.{kept_at, number_in, read_over}
-use Rattle.dm_map.specs.SnapshotWrites.{home_kept, read, ready, unit_kept, write_numbered, write_snapshot}
+use Rattle.dm_map.specs.SnapshotWrites.{home_kept, is_refused, read, ready, unit_kept, write_numbered, write_snapshot}
 use Rattle.dm_map.specs.State.{State, Taken, taken_at}
 use Rattle.dm_map.specs.Steps.{Step, keep, and_then}
 use Rattle.dm_map.specs.Tables.{origin_at, snapshot_at}
@@ -157,7 +157,7 @@ kept_alone stack state device sector number snapshot a sound fitting tidy over n
     ]
 
 snapshot_written : (stack : Description) (state : State) (device sector : ℕ) (line : FoundLine) (snapshot : FoundSnapshot) (step : Step) → IsSound stack → IsFitting stack state → IsTidy stack → snapshot_at stack device ≡ Some snapshot → found_at stack device sector ≡ Some line
-    → step ≡ write_snapshot stack snapshot device state sector → Written stack state (Device device) sector step
+    → step ≡ and_then (ready stack snapshot device (sector / snapshot.chunk) state) (λ after. keep (unit_kept stack snapshot device after sector ∷ []) after) → Written stack state (Device device) sector step
 unfolding run
 snapshot_written stack state device sector line snapshot step sound fitting tidy over is step_is =
     let soundly = (snapshot_sound stack device snapshot sound over).soundly in
@@ -188,6 +188,12 @@ snapshot_written stack state device sector line snapshot step sound fitting tidy
           (kept_alone stack first.state device sector unit.number snapshot a sound fits_after tidy over unit.is root
           (subst (λ (n : Node). Touches stack first.state a n) (sym (node_of_unit home.disk home.sector disk x unit.home)) (subst (λ (after : State). Touches stack after a (node (Disk disk) x)) state_is touches)));
     }
+
+-- or a chunk that is refused: its write fails
+chunk_by : (refused : Bool) (stack : Description) (state : State) (device sector : ℕ) (line : FoundLine) (snapshot : FoundSnapshot) (step : Step) → IsSound stack → IsFitting stack state → IsTidy stack → snapshot_at stack device ≡ Some snapshot → found_at stack device sector ≡ Some line
+    → step ≡ cond refused (keep (Fails ∷ []) state) (and_then (ready stack snapshot device (sector / snapshot.chunk) state) (λ after. keep (unit_kept stack snapshot device after sector ∷ []) after)) → Written stack state (Device device) sector step
+chunk_by true stack state device sector line snapshot step sound fitting tidy over is step_is = written_none stack state (Device device) sector step Fails (inl refl) step_is
+chunk_by false stack state device sector line snapshot step sound fitting tidy over is step_is = snapshot_written stack state device sector line snapshot step sound fitting tidy over is step_is
 
 -- A write of an origin's device: its snapshots are served, and then the origin is written
 
@@ -261,7 +267,7 @@ target_written stack state device sector line (founds.Snapshot snapshot) step so
     let over = line_snapshot stack device sector line snapshot sound is target in
     let first = over.0 in
     let same : sector - line.start ≡ sector = omega (arith, first) in
-    snapshot_written stack state device sector line snapshot step sound fitting tidy over.1 is (step_is ∙ ap (λ (s : ℕ). write_snapshot stack snapshot device state s) same)
+    chunk_by (is_refused stack snapshot (taken_at state device) (sector / snapshot.chunk)) stack state device sector line snapshot step sound fitting tidy over.1 is (step_is ∙ ap (λ (s : ℕ). write_snapshot stack snapshot device state s) same)
 target_written stack state device sector line (founds.Origin origin) step sound fitting tidy is target each step_is =
     let over = line_origin stack device sector line origin sound is target in
     let first = over.0 in

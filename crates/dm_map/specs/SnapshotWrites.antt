@@ -1,13 +1,15 @@
 -- What a write of a snapshot's sector does (the kernel's admin guide, device-mapper/snapshot): its chunk is made ready, and then the sector is written.
 use Rattle.std.specs.List.{slice_set}
 use Rattle.std.specs.Prelude.{ℕ, zero, suc, ◌+◌, ◌-◌, ◌*◌, ◌/◌, Bool, true, false, ◌&&◌, ◌||◌, not, List, [], ◌∷◌, ◌++◌, length, Option, Some, None, is_some, min, nat_le, if◌then◌else◌}
+use Rattle.dm_table.specs.declared.table.StoreKind.{StoreKind}
+use Rattle.dm_table.specs.declared.table.StoreKind.TheVariants.{Keeping}
 use Rattle.dm_stack.specs.declared.graph.TheConstants.{MOST_DEPTH}
 use Rattle.dm_stack.specs.declared.id.Lower.{Lower}
 use Rattle.dm_stack.specs.declared.found_line.FoundSnapshot.{FoundSnapshot}
 use Rattle.dm_stack.specs.Description.{Description, device_len, lower_len}
 use Rattle.dm_map.specs.Homes.{Home, home}
 use Rattle.dm_map.specs.Reads.{read_unit}
-use Rattle.dm_stack.specs.Places.{place}
+use Rattle.dm_stack.specs.StoreLayout.{place}
 use Rattle.dm_map.specs.Snapshots.{number_in, kept_at}
 use Rattle.dm_map.specs.State.{Taken, State, taken_at}
 use Rattle.dm_map.specs.Steps.{Step, keep, and_then}
@@ -53,7 +55,7 @@ any_error (unit ∷ units) = is_error unit || any_error units
 
 -- its store has a place for the taken chunk of this number
 abbrev pub has_place : Description → FoundSnapshot → (number : ℕ) → Bool
-has_place stack snapshot number = nat_le ((place snapshot.chunk number + 1) * snapshot.chunk) (lower_len stack snapshot.store)
+has_place stack snapshot number = nat_le ((place snapshot.kind snapshot.chunk number + 1) * snapshot.chunk) (lower_len stack snapshot.store)
 
 -- no sector reads as an error
 abbrev pub reads_all : Description → State → Lower → (sector len : ℕ) → Bool
@@ -91,6 +93,16 @@ ready stack snapshot device chunk state =
     then keep (copies stack state snapshot (length taken.chunks) (first_of snapshot chunk) (count_of stack snapshot device chunk)) (put state device (with_chunk taken chunk))
     else keep [] (put state device (lost taken)))
 
+-- Whether a write is refused
+
+abbrev pub is_keeping : StoreKind → Bool
+is_keeping Keeping = true
+is_keeping kind = false
+
+-- a keeping store, which no kernel has, has no place for a chunk that would have to be taken: the write fails, and nothing changes
+abbrev pub is_refused : Description → FoundSnapshot → Taken → (chunk : ℕ) → Bool
+is_refused stack snapshot taken chunk = is_keeping snapshot.kind && (not (has_place stack snapshot (length taken.chunks)) && not (is_settled taken chunk))
+
 -- And then the sector is written
 
 abbrev pub write_to : Home → BlockUnit
@@ -111,4 +123,5 @@ unit_kept stack snapshot device state sector =
 
 abbrev pub write_snapshot : Description → FoundSnapshot → (device : ℕ) → State → (sector : ℕ) → Step
 write_snapshot stack snapshot device state sector =
-    and_then (ready stack snapshot device (sector / snapshot.chunk) state) (λ after. keep (unit_kept stack snapshot device after sector ∷ []) after)
+    if is_refused stack snapshot (taken_at state device) (sector / snapshot.chunk) then keep (Fails ∷ []) state
+    else and_then (ready stack snapshot device (sector / snapshot.chunk) state) (λ after. keep (unit_kept stack snapshot device after sector ∷ []) after)

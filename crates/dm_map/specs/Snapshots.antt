@@ -2,7 +2,7 @@
 use Rattle.std.specs.Prelude.{ℕ, suc, ◌+◌, ◌*◌, ◌/◌, ◌%◌, ◌==◌, List, [], ◌∷◌, Option, Some, None, option_map, if◌then◌else◌}
 use Rattle.dm_stack.specs.declared.found_line.FoundSnapshot.{FoundSnapshot}
 use Rattle.dm_stack.specs.Below.{Below, Lies, IsError}
-use Rattle.dm_stack.specs.Places.{place}
+use Rattle.dm_stack.specs.StoreLayout.{place}
 use Rattle.dm_map.specs.State.{Taken}
 
 -- the number of a chunk among those that were taken
@@ -12,7 +12,7 @@ number_in chunk (first ∷ rest) = if first == chunk then Some 0 else option_map
 
 -- the sector of a store that has a sector of a chunk of this number
 abbrev pub kept_at : FoundSnapshot → (number sector : ℕ) → ℕ
-kept_at snapshot number sector = place snapshot.chunk number * snapshot.chunk + sector % snapshot.chunk
+kept_at snapshot number sector = place snapshot.kind snapshot.chunk number * snapshot.chunk + sector % snapshot.chunk
 
 -- a taken chunk is read from the store, any other from the origin
 abbrev pub read_numbered : FoundSnapshot → Option ℕ → ℕ → Below

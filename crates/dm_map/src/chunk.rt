@@ -43,7 +43,7 @@ pub(crate) fn read_place<T: Taken>(
         return None;
     }
     walker.is_sound();
-    match walker.find(device, sector / snapshot.chunk) {
+    match walker.find(device, sector / snapshot.chunk as u64) {
         Some(number) => Some(ReadAt {
             to: snapshot.store,
             sector: kept_at(snapshot, number, sector),

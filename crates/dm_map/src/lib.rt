@@ -34,7 +34,6 @@ pub use own::tops_are_alone;
 pub use own_requests::requests_are_alone;
 pub use piece::Piece;
 pub use piece_list::PieceList;
-pub use places::places_are_apart;
 pub use plain_taken::PlainTaken;
 pub use play::play_goes_on;
 pub use run_taken::RunTaken;

@@ -12,7 +12,7 @@ ghost use Rattle.dm_stack.specs.Description.{Description, device_len, lower_len}
 ghost use Rattle.dm_stack.specs.Store.{IsStore};
 ghost use Rattle.dm_map.specs.Counts.{AreAdded};
 ghost use Rattle.dm_map.specs.Homes.{IsFirstHomes};
-ghost use Rattle.dm_map.specs.SnapshotWrites.{can_take, copies, copy_to, first_of, has_place, is_settled, reads_all, ready, store_writes};
+ghost use Rattle.dm_map.specs.SnapshotWrites.{can_take, copies, copy_to, first_of, has_place, is_refused, is_settled, reads_all, ready, store_writes};
 ghost use Rattle.dm_map.specs.State.{taken_at};
 ghost use Rattle.dm_map.specs.Steps.{keep};
 ghost use Rattle.dm_map.specs.Stretch.{ground_unit, IsGroundInStack};
@@ -27,6 +27,7 @@ use crate::stretch::{Ground, Stretch, first_stretch};
 use crate::taken::Taken;
 use crate::walker::Walker;
 use dm_stack::{DeviceId, DiskId, FoundSnapshot, Lower, MOST_DEPTH};
+use dm_table::StoreKind;
 
 /// Sectors of a store that lie in a row on a disk: `len` of them, from `start` on.
 #[derive(Clone, Copy, Drop)]
@@ -58,8 +59,9 @@ pub(crate) fn make_ready<S: Sink, T: Taken>(
         return Ok(());
     }
     let end = walker.len(device);
-    let first = chunk * snapshot.chunk;
-    let count = snapshot.chunk.min(end - first);
+    let size = snapshot.chunk as u64;
+    let first = chunk * size;
+    let count = size.min(end - first);
     if !can_take(walker, device, snapshot, first, count) {
         walker.invalidate(device);
         return Ok(());
@@ -76,6 +78,23 @@ pub(crate) fn is_settled<T: Taken>(walker: &Walker<'_, T>, device: DeviceId, chu
     ensures { result ≡ is_settled (taken_at walker.now.state device) chunk }
 {
     !walker.is_valid(device) || walker.find(device, chunk).is_some()
+}
+
+/// Whether a write of a chunk is refused: its store keeps what it has, and there is no place for a
+/// chunk that still has to be taken.
+pub(crate) fn is_refused<T: Taken>(
+    walker: &Walker<'_, T>,
+    device: DeviceId,
+    snapshot: &FoundSnapshot,
+    chunk: u64,
+) -> bool
+    requires device { device < length walker.now.stack.devices }
+    requires is { snapshot_at walker.now.stack device ≡ Some snapshot.now }
+    ensures { result ≡ is_refused walker.now.stack snapshot.now (taken_at walker.now.state device) chunk }
+{
+    matches!(snapshot.kind, StoreKind::Keeping)
+        && walker.is_full(device)
+        && !is_settled(walker, device, chunk)
 }
 
 /// Whether a chunk can be taken: the store has a place for one more, and the origin reads all of its

@@ -33,7 +33,7 @@ pub(crate) fn serve<S: Sink, T: Taken>(
     walker.is_sound();
     walker.has_tables();
     for one in over {
-        let chunk = sector / one.snapshot.chunk;
+        let chunk = sector / one.snapshot.chunk as u64;
         make_ready(walker, one.device, &one.snapshot, chunk, sink)?;
     }
     Ok(())
@@ -79,7 +79,7 @@ fn settled_in<T: Taken>(walker: &Walker<'_, T>, one: &FoundOver, sector: u64, mo
     if !walker.is_valid(one.device) {
         return most;
     }
-    let size = one.snapshot.chunk;
+    let size = one.snapshot.chunk as u64;
     let mut part = part_of_chunk(size, sector, most);
     while part < most && is_settled(walker, one.device, (sector + part) / size) {
         part += part_of_chunk(size, sector + part, most - part);

@@ -120,7 +120,7 @@ fn line_stretch<T: Taken>(
         },
         FoundTarget::Origin(origin) => first_stretch(walker, levels, origin.to, distance, len),
         FoundTarget::Snapshot(snapshot) => {
-            let part = part_of_chunk(snapshot.chunk, distance, len);
+            let part = part_of_chunk(snapshot.chunk as u64, distance, len);
             match read_place(walker, device, snapshot, distance, part) {
                 Some(place) => first_stretch(walker, levels, place.to, place.sector, part),
                 None => Stretch {

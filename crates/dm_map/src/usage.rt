@@ -2,15 +2,17 @@
 
 ghost use Rattle.std.specs.Prelude.{◌≡◌, ◌+◌, ◌*◌, ◌<◌, ◌≤◌, ◌^◌, IfSome};
 ghost use Rattle.dm_stack.specs.Loaded.{IsSnapshot};
+ghost use Rattle.dm_stack.specs.StoreLayout.{allocated, metadata};
 ghost use Rattle.dm_map.specs.Counts.{AreAdded};
 ghost use Rattle.dm_map.specs.State.{taken_at};
 ghost use Rattle.dm_map.specs.Tables.{snapshot_at};
-ghost use Rattle.dm_map.specs.Usage.{allocated, metadata, usage_of};
+ghost use Rattle.dm_map.specs.Usage.{usage_of};
 ghost use Rattle.dm_map.specs.Walk.{scene};
 
 use crate::taken::Taken;
 use crate::walker::Walker;
-use dm_stack::{DeviceId, FoundTarget};
+use dm_stack::{DeviceId, FoundTarget, allocated, metadata};
+use dm_table::StoreKind;
 
 #[cfg(test)]
 mod tests;
@@ -23,7 +25,8 @@ pub struct Usage {
     pub allocated: u64,
     /// The length of the store.
     pub total: u64,
-    /// How many of the allocated sectors are the header and the areas of chunk numbers.
+    /// How many of the allocated sectors are the header and the areas of chunk numbers. A transient
+    /// store has none.
     pub metadata: u64,
     /// Whether the snapshot is valid.
     pub valid: bool,
@@ -44,22 +47,22 @@ pub(crate) fn usage_of<T: Taken>(walker: &mut Walker<'_, T>, device: DeviceId) -
     };
     let total = walker.lower_len(snapshot.store);
     let valid = walker.is_valid(device);
-    usage_with(snapshot.chunk, walker.count(device), total, valid)
+    let chunk = snapshot.chunk as u64;
+    usage_with(snapshot.kind, chunk, walker.count(device), total, valid)
 }
 
-/// The usage of a store of a length that has this many taken chunks.
-fn usage_with(chunk: u64, taken: usize, total: u64, valid: bool) -> Usage
+/// The usage of a store of a kind and a length that has this many taken chunks.
+fn usage_with(kind: StoreKind, chunk: u64, taken: usize, total: u64, valid: bool) -> Usage
     requires some { 0 < chunk }
     requires small { chunk ≤ 1024 }
-    requires fits { allocated chunk taken < 2 ^ 63 }
-    ensures { result ≡ record { allocated = allocated chunk taken; total = total; metadata = metadata chunk taken; valid = valid } }
+    requires fits { allocated kind chunk taken < 2 ^ 63 }
+    ensures { result ≡ record { allocated = allocated kind chunk taken; total = total; metadata = metadata kind chunk taken; valid = valid } }
 {
     let taken = taken as u64;
-    let areas = taken / (32 * chunk);
     Usage {
-        allocated: (2 + taken + areas) * chunk,
+        allocated: allocated(kind, chunk, taken),
         total,
-        metadata: (areas + 2) * chunk,
+        metadata: metadata(kind, chunk, taken),
         valid,
     }
 }

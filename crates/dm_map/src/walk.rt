@@ -25,7 +25,7 @@ ghost use Rattle.dm_map.specs.Walk.{disk_unit, zero_unit, refuses, range_step, l
 
 use crate::chunk::{part_of_chunk, read_place};
 use crate::piece::Piece;
-use crate::ready::{make_ready, write_store};
+use crate::ready::{is_refused, make_ready, write_store};
 use crate::serving::{serve, settled_part};
 use crate::sink::Sink;
 use crate::stripe::{next_chunk, place_at};
@@ -204,7 +204,7 @@ fn map_snapshot<S: Sink, T: Taken>(
     let mut from = sector;
     let mut left = len;
     while left > 0 {
-        let part = part_of_chunk(snapshot.chunk, from, left);
+        let part = part_of_chunk(snapshot.chunk as u64, from, left);
         map_chunk(walker, op, levels, device, snapshot, from, part, sink)?;
         from += part;
         left -= part;
@@ -241,7 +241,8 @@ fn map_chunk<S: Sink, T: Taken>(
 }
 
 /// Hands over the units of writes to sectors of one chunk of a snapshot: the chunk is made ready, and
-/// then they are written where they are read from then on.
+/// then they are written where they are read from then on. Where it is refused, all of them fail, and
+/// nothing changes.
 fn write_chunk<S: Sink, T: Taken>(
     walker: &mut Walker<'_, T>,
     device: DeviceId,
@@ -255,7 +256,10 @@ fn write_chunk<S: Sink, T: Taken>(
     requires sink { HasRoomFor S.stack S.room sink.old walker.old.stack len }
     ensures { IsWalked S.took S.left S.stack S.room S.faults result sink.old sink.new walker.old walker.new (steps (write_snapshot walker.old.stack snapshot.now device) walker.old.state sector len) len }
 {
-    let chunk = sector / snapshot.chunk;
+    let chunk = sector / snapshot.chunk as u64;
+    if is_refused(walker, device, snapshot, chunk) {
+        return sink.piece(Piece::Error { len });
+    }
     make_ready(walker, device, snapshot, chunk, sink)?;
     match read_place(walker, device, snapshot, sector, len) {
         Some(place) => write_store(walker, &place.to, place.sector, len, sink),

@@ -52,7 +52,7 @@ const TWO: (&str, &str) = (
 
 /// Tables and disks, requests, each after the number of units after which it is stopped or a hyphen, and
 /// the lines of what the others answer.
-static HALTS: [((&str, &str), &str, &str); 19] = [
+static HALTS: [((&str, &str), &str, &str); 22] = [
     // A write of two sectors: four copies, for the chunk is cut short, and two writes.
     (SHORT, "0 W s 18 2\n- R s 16 4\n", "2 old base 16 4\n"),
     (SHORT, "1 W s 18 2\n- R s 16 4\n", "2 old base 16 4\n"),
@@ -112,6 +112,27 @@ static HALTS: [((&str, &str), &str, &str); 19] = [
         ),
         "3 W s 1 2\n- R s 0 8\n7 W s 1 6\n- R s 0 8\n0 W s 4 1\n- R s 0 8\n1 W s 4 1\n- R s 0 8\n",
         "2 zero 8\n4 zero 1\n4 wrote 3 1 3\n4 zero 4\n6 zero 1\n6 wrote 3 1 3\n6 zero 4\n8 error 8\n",
+    ),
+    // A transient store: the place that a stop left torn is its first, and the next write takes it.
+    (
+        ("s: 0 8 snapshot base cow N 4\n", "base 8\ncow 8\n"),
+        "3 W s 5 1\n- W s 1 1\n- W s 5 1\n- R s 0 8\n",
+        "2 wrote 2 1 1\n3 wrote 3 5 1\n4 old base 0 1\n4 wrote 2 1 1\n4 old base 2 3\n4 wrote 3 5 1\n4 old base 6 2\n",
+    ),
+    // A keeping store with no place left: whether the error is played or not, nothing changes.
+    (
+        ("s: 0 8 snapshot base cow K 4\n", "base 8\ncow 12\n"),
+        "3 W s 1 2\n- R s 0 8\n- W s 1 2\n0 W s 4 1\n1 W s 4 1\n- R s 0 8\n- W s 3 2\n- R s 0 8\n",
+        "2 old base 0 8\n3 wrote 3 1 2\n6 old base 0 1\n6 wrote 3 1 2\n6 old base 3 5\n7 wrote 7 3 1\n7 error 1\n8 old base 0 1\n8 wrote 3 1 2\n8 wrote 7 3 1\n8 old base 4 4\n",
+    ),
+    // Its origin is written, which makes it lost, but not where the stop comes before that.
+    (
+        (
+            "o: 0 8 snapshot-origin base\ns: 0 8 snapshot base cow K 4\n",
+            "base 8\ncow 12\n",
+        ),
+        "- W s 0 1\n0 W o 4 1\n- R s 0 8\n1 W o 4 1\n- R s 0 8\n- R o 0 8\n",
+        "1 wrote 1 0 1\n3 wrote 1 0 1\n3 old base 1 7\n5 error 8\n6 old base 0 4\n6 wrote 4 4 1\n6 old base 5 3\n",
     ),
     // Two snapshots of one origin, stopped in turn, each followed by requests.
     (

@@ -3,7 +3,7 @@ use Rattle.std.proofs.lemmas.Bool.{leb-true}
 use Rattle.dm_table.specs.declared.request.Op.TheVariants.{Read}
 use Rattle.dm_stack.specs.declared.found_line.FoundSnapshot.{FoundSnapshot}
 use Rattle.dm_stack.specs.declared.graph.TheConstants.{MOST_DEPTH}
-use Rattle.dm_stack.specs.Places.{place}
+use Rattle.dm_stack.specs.StoreLayout.{place}
 use Rattle.dm_map.specs.declared.ready.HomeStretch.{HomeStretch}
 use Rattle.dm_map.specs.declared.stretch.Stretch.{Stretch}
 use Rattle.dm_map.specs.Homes.{IsFirstHomes, home}
@@ -77,7 +77,7 @@ pub overflow_add-to : goal.overflow_add-to
 overflow_add-to g c =
     let a = c.args in let l = c.loop-left in
     let small = lower_small a.walker.now.stack a.snapshot.now.store c.is_sound.ensures in let fits = leb-true _ _ c.requires.place in
-    let sum = next_place (place a.snapshot.now.chunk a.number) a.snapshot.now.chunk in
+    let sum = next_place (place a.snapshot.now.kind a.snapshot.now.chunk a.number) a.snapshot.now.chunk in
     omega (arith, small, fits, sum, c.requires.part, l.invariant.to, c.first_stretch-source.ensures.most, c.first_homes-target.ensures.is.most)
 
 pub loop-left-preserved : goal.loop-left-preserved

@@ -1,7 +1,7 @@
 use Rattle.std.proofs.Common.{◌≡◌, ◌↔◌, ℕ, ◌+◌, ◌*◌, ◌<◌, ◌≤◌, sym, ap, subst, ◌∙◌, arith}
 use Rattle.std.proofs.lemmas.Bool.{le-ltb}
 use Rattle.dm_stack.specs.Description.{Description, lower_len}
-use Rattle.dm_stack.specs.Places.{place}
+use Rattle.dm_stack.specs.StoreLayout.{place}
 use Rattle.dm_stack.proofs.SoundLines.{device_some}
 use Rattle.dm_map.proofs.TableLemmas.{other_room, snapshot_room, store_some}
 use Rattle.dm_map.proofs.tables.places_of.Goals as goal
@@ -19,7 +19,7 @@ returns-in-Snapshot-clause-places c number =
     let stack = c.args.looker.now.stack in let snapshot = c.in-Snapshot.snapshot in
     let len : c.lower_len-len.result ≡ lower_len stack snapshot.store = c.lower_len-len.ensures.len ∙ ap (λ (s : Description). lower_len s snapshot.store) c.look.ensures.stack in
     snapshot_room stack c.args.device number c.places.result c.look.result.now snapshot c.look.ensures.line c.in-Snapshot.is
-    (subst (λ (n : ℕ). (number < c.places.result) ↔ ((place snapshot.chunk number + 1) * snapshot.chunk ≤ n)) len (c.places.ensures.law number))
+    (subst (λ (n : ℕ). (number < c.places.result) ↔ ((place snapshot.kind snapshot.chunk number + 1) * snapshot.chunk ≤ n)) len (c.places.ensures.law number))
 
 pub returns-in_default-clause-places : goal.returns-in_default-clause-places
 returns-in_default-clause-places c number =

@@ -2,12 +2,12 @@ use Rattle.std.proofs.Common.{◌≡◌, ℕ, ◌+◌, ◌*◌, ◌<◌, ◌≤�
 use Rattle.dm_stack.specs.declared.found_line.FoundTarget.{FoundTarget}
 use Rattle.dm_stack.specs.Below.{IsSnapshotSound, IsTargetSound}
 use Rattle.dm_stack.specs.Description.{lower_len}
-use Rattle.dm_stack.specs.Places.{place}
+use Rattle.dm_stack.specs.StoreLayout.{place}
 use Rattle.dm_stack.proofs.SoundLines.{device_some}
+use Rattle.dm_stack.proofs.StoreLayoutLemmas.{allocated_small}
 use Rattle.dm_map.specs.Tables.{has_room, snapshot_at}
 use Rattle.dm_map.specs.Walk.{Scene}
 use Rattle.dm_map.proofs.Chunks.{room_place}
-use Rattle.dm_map.proofs.Numbers.{allocated_small}
 use Rattle.dm_map.proofs.TableLemmas.{store_some}
 use Rattle.dm_map.proofs.There.{lower_small}
 use Rattle.dm_map.proofs.usage.usage_of.Goals as goal
@@ -27,7 +27,7 @@ usage_with-requires-clause-fits g c =
     let sound : IsSnapshotSound w.stack c.args.device line.start line.len snapshot = subst (λ (target : FoundTarget). IsTargetSound w.stack c.args.device line.start line.len target) c.in-Snapshot.is c.look-line.ensures.holds.target in
     let is : snapshot_at w.stack c.args.device ≡ Some snapshot = rw (c.look-line.ensures.line, c.in-Snapshot.is) refl in
     let small = lower_small w.stack snapshot.store c.is_sound.ensures in
-    let fits : (number : ℕ) → number < c.count.result → (place snapshot.chunk number + 1) * snapshot.chunk ≤ lower_len w.stack snapshot.store = λ number less.
+    let fits : (number : ℕ) → number < c.count.result → (place snapshot.kind snapshot.chunk number + 1) * snapshot.chunk ≤ lower_len w.stack snapshot.store = λ number less.
     room_place w.stack c.args.device number snapshot is (subst (λ (v : Scene). has_room v.stack c.args.device number ≡ true) c.look-line.ensures.same (c.count.ensures.room number less)) in
-    let most = allocated_small snapshot.chunk c.count.result (lower_len w.stack snapshot.store) sound.chunk_some fits in
+    let most = allocated_small snapshot.kind snapshot.chunk c.count.result (lower_len w.stack snapshot.store) sound.chunk_some fits in
     omega (arith, most, small, sound.chunk_small)

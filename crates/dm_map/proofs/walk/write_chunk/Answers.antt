@@ -9,10 +9,23 @@ use Rattle.dm_map.specs.SnapshotWrites.{is_settled, ready, row, store_writes, un
 use Rattle.dm_map.specs.State.{State, taken_at}
 use Rattle.dm_map.specs.Steps.{keep, steps}
 use Rattle.dm_map.specs.Units.{BlockUnit, Fails, units_in}
-use Rattle.dm_map.proofs.Chunks.{chunk_same, chunk_written, first_inside, kept, left_ready, ready_there, row_kept, row_lost}
+use Rattle.dm_map.proofs.Chunks.{chunk_refused, chunk_same, chunk_written, first_inside, kept, left_ready, ready_there, row_kept, row_lost}
 use Rattle.dm_map.proofs.Readies.{readied, ready_settles}
 use Rattle.dm_map.proofs.Rows.{walked_as, walked_cut, walked_piece, walked_then}
+use Rattle.dm_map.proofs.There.{device_there}
 use Rattle.dm_map.proofs.walk.write_chunk.Goals as goal
+
+pub is_refused-requires : goal.is_refused-requires
+is_refused-requires g c =
+    let chunk = c.requires.chunk.whole in
+    record { device = device_there c.args.walker.now.stack c.args.device c.args.sector (omega (arith, chunk.inside, c.requires.some)); is = chunk.is }
+
+pub returns-then-is_refused : goal.returns-then-is_refused
+returns-then-is_refused g c =
+    let a = c.args in let w = a.walker.now in let p = c.piece in
+    walked_piece g.S.Sink.took g.S.Sink.left g.S.Sink.stack g.S.Sink.room g.S.Sink.faults p.result a.sink.now p.new.self w _ _ a.len a.len
+    (chunk_refused w.stack a.snapshot.now a.device a.sector a.len w.state c.requires.chunk (sym c.is_refused.ensures ∙ c.if-is_refused.true))
+    (omega arith) p.ensures.took p.ensures.left p.ensures.faults p.ensures.stack p.ensures.room
 
 pub make_ready-requires : goal.make_ready-requires
 make_ready-requires g c =
@@ -28,7 +41,7 @@ pub returns-in_err-make_ready : goal.returns-in_err-make_ready
 returns-in_err-make_ready g c =
     let a = c.args in let w = a.walker.now in let walk = c.in_err-make_ready.ensures in
     walked_cut g.S.Sink.took g.S.Sink.left g.S.Sink.stack g.S.Sink.room g.S.Sink.faults c.from_residual.result a.sink.now c.make_ready.new.sink w c.make_ready.new.walker (steps (write_snapshot w.stack a.snapshot.now a.device) w.state a.sector a.len) a.len c.from_residual.ensures.0
-    (left_ready g.S.Sink.left a.sink.now c.make_ready.new.sink w.stack a.snapshot.now a.device a.sector a.len w.state c.requires.some walk.left) walk.faults walk.stack walk.looked
+    (left_ready g.S.Sink.left a.sink.now c.make_ready.new.sink w.stack a.snapshot.now a.device a.sector a.len w.state c.requires.some (sym c.is_refused.ensures ∙ c.if-is_refused.false) walk.left) walk.faults walk.stack walk.looked
 
 pub read_place-requires : goal.read_place-requires
 read_place-requires g c =
@@ -65,7 +78,7 @@ returns-in-Some g c =
     ap (λ (s : Description). row (unit_kept s snapshot a.device after.state) a.sector a.len) (sym made.stack)
     ∙ row_kept after.stack snapshot a.device a.sector a.len after.state place (chunk_same w.stack after.stack a.device a.sector a.len snapshot made.stack c.requires.chunk) settled c.in-Some.ensures.place in
     walked_as g.S.Sink.took g.S.Sink.left g.S.Sink.stack g.S.Sink.room g.S.Sink.faults walk.result a.sink.now walk.new.sink w walk.new.walker _ _ a.len
-    (chunk_written w.stack snapshot a.device a.sector a.len w.state c.requires.chunk c.requires.some (ready_there w.stack snapshot a.device number w.state there))
+    (chunk_written w.stack snapshot a.device a.sector a.len w.state c.requires.chunk c.requires.some (ready_there w.stack snapshot a.device number w.state there) (sym c.is_refused.ensures ∙ c.if-is_refused.false))
     (walked_then g.S.Sink.took g.S.Sink.left g.S.Sink.stack g.S.Sink.room g.S.Sink.faults walk.result a.sink.now c.make_ready.new.sink walk.new.sink w after walk.new.walker (ready w.stack snapshot a.device number w.state)
     (keep (store_writes after.stack place.to place.sector a.len) after.state) (λ state. keep (row (unit_kept w.stack snapshot a.device state) a.sector a.len) state) 0 a.len g.met.S.Sink.took_then_took g.met.S.Sink.took_then_left
     made.took (ap (λ (s : State). keep (row (unit_kept w.stack snapshot a.device s) a.sector a.len) s) (sym made.state) ∙ ap (λ (us : List BlockUnit). keep us after.state) units) (omega arith)
@@ -73,12 +86,12 @@ returns-in-Some g c =
 
 pub returns-in-None : goal.returns-in-None
 returns-in-None g c =
-    let a = c.args in let w = a.walker.now in let snapshot = a.snapshot.now in let made = c.in_ok-make_ready.ensures in let after = c.make_ready.new.walker in let p = c.piece in
+    let a = c.args in let w = a.walker.now in let snapshot = a.snapshot.now in let made = c.in_ok-make_ready.ensures in let after = c.make_ready.new.walker in let p = c.piece-in-None in
     let number = a.sector / snapshot.chunk in
     let there = subst (λ (s : State). a.device < length s) made.state c.read_place.ensures.there in
     let units = row_lost w.stack snapshot a.device a.sector a.len after.state c.in-None.ensures.lost in
     walked_as g.S.Sink.took g.S.Sink.left g.S.Sink.stack g.S.Sink.room g.S.Sink.faults p.result a.sink.now p.new.self w after _ _ a.len
-    (chunk_written w.stack snapshot a.device a.sector a.len w.state c.requires.chunk c.requires.some (ready_there w.stack snapshot a.device number w.state there))
+    (chunk_written w.stack snapshot a.device a.sector a.len w.state c.requires.chunk c.requires.some (ready_there w.stack snapshot a.device number w.state there) (sym c.is_refused.ensures ∙ c.if-is_refused.false))
     (walked_then g.S.Sink.took g.S.Sink.left g.S.Sink.stack g.S.Sink.room g.S.Sink.faults p.result a.sink.now c.make_ready.new.sink p.new.self w after after (ready w.stack snapshot a.device number w.state)
     (keep (units_in Fails a.len) after.state) (λ state. keep (row (unit_kept w.stack snapshot a.device state) a.sector a.len) state) a.len a.len g.met.S.Sink.took_then_took g.met.S.Sink.took_then_left
     made.took (ap (λ (s : State). keep (row (unit_kept w.stack snapshot a.device s) a.sector a.len) s) (sym made.state) ∙ ap (λ (us : List BlockUnit). keep us after.state) units) (omega arith)
