@@ -50,9 +50,9 @@ PLACES = {
     ("dm_table/reading", "read_lines", "read_each::<T>"): OURS,
     ("dm_table/text_checks", "check_text", "cut"): OURS,
     ("dmremap/map_whole", "map_whole", "Mapper::<RunTaken>::new"): OURS,
-    ("dmremap/other_whole", "print_parts", "spaced_parts"): OURS,
-    ("dmremap/other_whole", "print_report", "check_report"): OURS,
-    ("dmremap/replay_whole", "replay_stack", "Replay::<RunTaken>::new"):
+    ("dmremap/printing", "print_parts", "spaced_parts"): OURS,
+    ("dmremap/printing", "print_report", "check_report"): OURS,
+    ("dmremap/replay_run", "replay_stack", "Replay::<RunTaken>::new"):
         "claims that meet have an arm of their own, and by its contract it fails for nothing else",
     ("lvm_volume/names", "build_name", "joined"): OURS,
     ("lvm_volume/physical", "physicals_in", "counts_of"): OURS,

@@ -1,5 +1,7 @@
 """The command line: help goes to the standard output, refused words to the standard error."""
 
+VERSION = "0.1.0"
+
 VOLUME = "vol: 0 100 linear sda 50\n"
 DISKS = "sda 150\n"
 
@@ -38,7 +40,11 @@ REFUSED = [
     ["map", "table", "TABLE", "DISKS", "more"],
     ["map", "table", "TABLE", "DISKS", "--nonsense"],
     ["map", "table", "-", "DISKS"],
-    ["--version"],
+    ["-V"],
+    ["--version=1"],
+    ["version"],
+    ["map", "table", "TABLE", "DISKS", "--version"],
+    ["table", "--version", "table", "TABLE", "DISKS"],
     ["MAP", "table", "TABLE", "DISKS"],
     [b"map", b"table", b"\xff", b"DISKS"],
 ]
@@ -75,7 +81,8 @@ HELPED = [
     ("-h", "Usage: dmremap [OPTIONS] <COMMAND>"),
     ("-h", "  concise    Checks"),
     ("help", "Usage: dmremap [OPTIONS] <COMMAND>"),
-    ("help", "  6  out of memory"),
+    ("help", "  6  out of memory\n\nManual: man -l docs/dmremap.1\n"),
+    ("-h", "      --version  Print the version\n"),
     ("help map", "map [OPTIONS] <FORMAT> <FILE> [DISKS]"),
     ("help map", "FORMAT is one of\n  lvm      the"),
     ("map --help", "map [OPTIONS] <FORMAT> <FILE> [DISKS]"),
@@ -92,6 +99,14 @@ HELPED = [
     ("name -h", "dmremap name vg0 lv-1"),
     ("splitname -h", "splitname <NAME>"),
     ("splitname -h", "dmremap splitname vg0-lv--1"),
+]
+
+# Words that ask for the version: before a command, as for help, and whatever comes after.
+VERSIONED = [
+    ["--version"],
+    ["--version", "map"],
+    ["--version", "--help"],
+    ["--status", "--version", "nonsense"],
 ]
 
 # DISKS goes with tables alone.
@@ -152,6 +167,8 @@ def check_told(tally, program):
         got = program.run(line.split())
         is_told = got.status == 0 and told.encode() in got.out and b"Exit status\n  0  " in got.out and got.err == b""
         tally.holds("the help by %r" % line, is_told, "status %s, on standard output %r" % (got.status, got.out))
+    for words in VERSIONED:
+        tally.same("the version by %s" % words, program.run(words), 0, "dmremap %s\n" % VERSION)
     for line in DISKLESS:
         tally.same("the words %r" % line, program.run(line.split()), 2, "", "dmremap: words: disks\n")
     got = program.run([b"map", b"table", b"\xff", b"DISKS"])

@@ -10,7 +10,8 @@ use Rattle.clap.specs.declared.error.kind.ErrorKind.{ErrorKind}
 use Rattle.clap.specs.declared.error.kind.ErrorKind.TheVariants as kind
 use Rattle.clap.proofs.OnLiterals.{clap_on_literals}
 use Rattle.clap.proofs.WalkLemmas.{first_value-rows}
-use Rattle.dmremap.specs.Words.{IsFaultOf, IsRefused, IsTaken, TakesFormats, JobWords, command_line, fault_from, has_lone_hyphen, has_status, is_memory, refusal_of, job_in, job_of, three_app}
+use Rattle.dmremap.specs.Job.{JobWords}
+use Rattle.dmremap.specs.Words.{IsFaultOf, IsRefused, IsTaken, TakesFormats, command_line, fault_from, has_lone_hyphen, has_status, is_memory, refusal_of, job_in, job_of, three_app}
 use Rattle.dmremap.specs.declared.words.WordsFault.TheVariants.{Words, Memory}
 
 -- a command with three arguments, by their rules

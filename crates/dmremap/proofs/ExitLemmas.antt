@@ -1,118 +1,235 @@
--- What the status of an exit says of the run, and of the streams.
-use Rattle.std.proofs.Common.{◌≡◌, ◌≢◌, ◌≤◌, ◌⊎◌, Bool, ℕ, List, [], Option, Some, inl, inr, refl, sym, ap, subst, ◌∙◌, arith}
-use Rattle.dm_table.specs.declared.load_fault.LoadFault.{LoadFault}
+-- What the exit of a command says of its status and of its streams.
+use Rattle.std.proofs.Common.{◌≡◌, ◌≢◌, ◌≤◌, ◌⊎◌, true, false, ℕ, ◌+◌, List, Result, Ok, Err, IsErr, OnErr, OnOk, inl, inr, refl, sym, ap, subst, ◌∙◌, arith}
 use Rattle.dm_table.specs.declared.load_fault.LoadKind.{LoadKind}
 use Rattle.dm_table.specs.declared.load_fault.LoadKind.TheVariants as kinds
-use Rattle.dm_table.specs.DeviceIo.{Delivery, since}
-use Rattle.dm_table.specs.LoadMessage.{load_message}
-use Rattle.dm_table.specs.Progress.{IsReadOn, FailedOutput}
-use Rattle.dm_stack.specs.Description.{Description}
-use Rattle.dm_map.specs.State.{State, start_state}
+use Rattle.dm_table.specs.DeviceIo.{since}
+use Rattle.dm_table.specs.Progress.{HasWritten, IsClosedAfter, IsFinished, IsReadOn, Wrote}
+use Rattle.dm_table.proofs.ProgressLaws.{finished_as, grows-same, written_none}
 use Rattle.dm_stream.specs.declared.ending.Ending.{Ending}
 use Rattle.dm_stream.specs.declared.ending.Ending.TheVariants as endings
 use Rattle.dm_stream.specs.declared.ending.RequestWord.TheVariants as words
-use Rattle.dm_stream.specs.Messages.{HasTold, ending_message}
-use Rattle.dm_stream.specs.Outcome.{Outcome, run_outcome}
-use Rattle.dm_table.proofs.ProgressLaws.{finished_as, finished_untouched, grows-same}
 use Rattle.dm_stream.specs.Requests.{HasMet}
-use Rattle.dm_stream.specs.Run.{HasRun}
-use Rattle.dmremap.specs.declared.words.Format.{Format}
-use Rattle.dmremap.specs.Load.{RefusedBy, SoundAs, PartsGive}
-use Rattle.dmremap.specs.Status.{load_status, ending_status}
-use Rattle.dmremap.specs.Streams.{Exits, MessagesTold, OutputWritten, RequestsRead}
-use Rattle.dmremap.specs.Whole.{Whole, GiveWhole, ended_if, outcome_of}
+use Rattle.lvm_volume.specs.declared.fault.NameFault.{NameFault}
+use Rattle.lvm_volume.specs.declared.fault.NameFault.TheVariants as names
+use Rattle.dmremap.specs.declared.exit.Exit.{Exit}
+use Rattle.dmremap.specs.declared.exit.Exit.TheVariants as exits
+use Rattle.dmremap.specs.declared.exit.Refusal.{Refusal}
+use Rattle.dmremap.specs.declared.exit.Refusal.TheVariants as refusals
+use Rattle.dmremap.specs.declared.status.TheConstants.{STATUS_BAD_REQUEST, STATUS_DONE, STATUS_MEMORY, STATUS_READ_FAULT, STATUS_REFUSED, STATUS_WRITE_FAULT}
+use Rattle.dmremap.specs.Exit.{ending_status, exit_message, exit_status, failed_writes, is_flushed, is_refused, load_status, name_status, refusal_status}
+use Rattle.dmremap.specs.Inputs.{IsUnchanged}
+use Rattle.dmremap.specs.Streams.{AskedBy, EndsAs, Exits, HasExited, HasGiven, IsClosedAs, MessagesTold, OutputWritten, RequestsRead}
 
--- ---- a refused load
+-- ---- the status
 
--- a load is refused since memory ran out, or with status 1
-pub refused_kind : (kind : LoadKind) → load_status kind ≢ 6 → (kind ≢ kinds.Memory) × (1 ≡ load_status kind)
-refused_kind kinds.Memory h = absurd (h refl)
-refused_kind kind h = ((λ e. absurd cc), refl)
+-- a command is refused with one of two statuses
+abbrev IsOfTwo : ℕ → Type 0
+IsOfTwo status = (status ≡ STATUS_REFUSED) ⊎ (status ≡ STATUS_MEMORY)
 
-pub one_or_six : (kind : LoadKind) (status : ℕ) → status ≡ load_status kind → (status ≡ 1) ⊎ (status ≡ 6)
-one_or_six kinds.Memory status is = inr is
-one_or_six kind status is = inl is
+of_kind : (kind : LoadKind) → IsOfTwo (load_status kind)
+of_kind kinds.Memory = inr refl
+of_kind kind = inl refl
 
-pub no_write_fault : (kind : LoadKind) → load_status kind ≡ 5 → ⊥
-no_write_fault kinds.Memory h = omega arith
-no_write_fault kind h = omega arith
+of_name : (fault : NameFault) → IsOfTwo (name_status fault)
+of_name names.Memory = inr refl
+of_name fault = inl refl
 
--- it is a whole run
-pub refused_whole : (format : Format) (flag : Bool) (source disks requests : Delivery) (output : List ℕ) (fault : LoadFault) (status : ℕ) → (fault.kind ≢ kinds.Memory → PartsGive format source disks (RefusedBy fault))
-    → output ≡ [] → status ≡ load_status fault.kind → status ≢ 6 → GiveWhole format flag source disks requests (record { output = output; message = load_message fault; status = status })
-refused_whole format flag source disks requests output fault status gives none is other =
-    let kind = refused_kind fault.kind (λ six. other (is ∙ six)) in
-    let whole : List ℕ → ℕ → Option Whole = λ out n. Some (record { output = out; message = load_message fault; status = n }) in
-    record { load = RefusedBy fault; loaded = gives kind.0; is = ap (λ (out : List ℕ). whole out 1) (sym none) ∙ ap (whole output) (kind.1 ∙ sym is) }
+pub of_refusal : (refusal : Refusal) → IsOfTwo (refusal_status refusal)
+of_refusal (refusals.Load fault) = of_kind fault.kind
+of_refusal (refusals.Name fault) = of_name fault
+of_refusal refusals.Split = inl refl
+of_refusal refusals.Untidy = inl refl
 
--- requests that are not asked for
-pub untouched_requests : {X : Type 0} (handed : X → List ℕ) (faults ends : X → ℕ) (status : ℕ) (requests : X) → (status ≡ 1) ⊎ (status ≡ 6) → RequestsRead handed faults ends status requests requests
-untouched_requests handed faults ends status requests refused = record {
-  read_on = record { grows = grows-same (handed requests) (handed requests); no_more = omega arith };
-  read_fault = λ four. absurd (omega (arith, refused, four));
-  no_fault = λ _. omega arith;
-  bad_line = λ _. omega arith;
-  unasked = λ _. record { same_handed = refl; same_faults = refl; same_ends = refl };
-}
+-- and with no other
+of_two : (status other : ℕ) → IsOfTwo status → status ≡ other → (STATUS_REFUSED ≡ other → ⊥) → (STATUS_MEMORY ≡ other → ⊥) → ⊥
+of_two status other (inl refused) is a b = a (sym refused ∙ is)
+of_two status other (inr memory) is a b = b (sym memory ∙ is)
 
--- an output that nothing is asked of
-pub untouched_output : {X : Type 0} (written waiting : X → List ℕ) (faults flushes : X → ℕ) (status : ℕ) (output : X) → (status ≡ 1) ⊎ (status ≡ 6) → OutputWritten written waiting faults flushes status output output
-untouched_output written waiting faults flushes status output refused = record {
-  finished = finished_untouched written waiting faults flushes output (status ≡ 5) (λ five. omega (arith, refused, five));
-  flushed = λ one five six. absurd (omega (arith, refused, one, six));
-  refused = λ _. refl;
-}
+no_write_fault : (refusal : Refusal) → refusal_status refusal ≡ STATUS_WRITE_FAULT → ⊥
+no_write_fault refusal is = of_two _ STATUS_WRITE_FAULT (of_refusal refusal) is (λ e. omega (arith, e)) (λ e. omega (arith, e))
+
+-- the status of a failed output has one exit
+pub write_fault_is : (exit : Exit) → exit_status exit ≡ STATUS_WRITE_FAULT → exit ≡ exits.Ended endings.WriteFault
+write_fault_is (exits.Refused refusal) five = absurd (no_write_fault refusal five)
+write_fault_is (exits.Ended endings.WriteFault) five = refl
+write_fault_is exit five = absurd (omega (arith, five))
 
 -- what was told where a command exits
-pub exits_told : {X : Type 0} {written : X → List ℕ} {faults flushes : X → ℕ} {status result : ℕ} {message : List ℕ} {old new : X} → Exits written faults flushes status message result old new → MessagesTold written faults flushes result old new
-exits_told {message = message} exits = record { message = message; told = exits.told; write_message = λ five. exits.write_message (sym exits.is ∙ five) }
+pub exits_told : {X : Type 0} {written : X → List ℕ} {faults flushes : X → ℕ} {exit : Exit} {result : ℕ} {old new : X} → Exits written faults flushes exit result old new → MessagesTold written faults flushes result old new
+exits_told {exit = exit} is = record { message = exit_message exit; told = is.told; write_message = λ five. ap exit_message (write_fault_is exit (sym is.is ∙ five)) }
 
--- ---- a run
+-- ---- an output that was written to
+
+-- no write failed
+finished_well : {X : Type 0} (written waiting : X → List ℕ) (faults flushes : X → ℕ) (old new : X) (HasFailed : Type 0) → HasWritten written waiting faults flushes old new 0 → (HasFailed → ⊥) → IsFinished written waiting faults flushes old new HasFailed
+finished_well written waiting faults flushes old new HasFailed moved well = record {
+  appends = moved.appends;
+  write_fault = (λ less. absurd (omega (arith, less, moved.fails)), λ failed. absurd (well failed));
+  grows = omega (arith, moved.fails);
+  fails_once = omega (arith, moved.fails);
+  once = omega (arith, moved.unflushed);
+  still_waiting = λ failed. absurd (well failed);
+}
+
+-- the command was refused
+pub written_refused : {X : Type 0} (written waiting : X → List ℕ) (faults flushes : X → ℕ) (old new : X) (refusal : Refusal) → HasWritten written waiting faults flushes old new 0 → OutputWritten written waiting faults flushes (refusal_status refusal) old new
+written_refused written waiting faults flushes old new refusal moved = record {
+  finished = finished_well written waiting faults flushes old new _ moved (no_write_fault refusal);
+  flushed = λ one five six. absurd (elim (of_refusal refusal) [ inl refused ↦ one refused | inr memory ↦ six memory ]);
+  refused = λ one. moved.unflushed;
+}
+
+-- and nothing was asked of the output
+pub refused_output : {X : Type 0} (written waiting : X → List ℕ) (faults flushes : X → ℕ) (x : X) (refusal : Refusal) (status : ℕ) → status ≡ refusal_status refusal → OutputWritten written waiting faults flushes status x x
+refused_output written waiting faults flushes x refusal status is =
+    subst (λ (n : ℕ). OutputWritten written waiting faults flushes n x x) (sym is) (written_refused written waiting faults flushes x x refusal (written_none written waiting faults flushes x))
+
+-- a write failed
+written_failed : {X : Type 0} (written waiting : X → List ℕ) (faults flushes : X → ℕ) (old new : X) → HasWritten written waiting faults flushes old new 1 → OutputWritten written waiting faults flushes STATUS_WRITE_FAULT old new
+written_failed written waiting faults flushes old new moved = record {
+  finished = record {
+    appends = moved.appends;
+    write_fault = (λ less. refl, λ failed. omega (arith, moved.fails));
+    grows = omega (arith, moved.fails);
+    fails_once = omega (arith, moved.fails);
+    once = omega (arith, moved.unflushed);
+    still_waiting = λ failed more. absurd (omega (arith, more, moved.unflushed));
+  };
+  flushed = λ one five six. absurd (five refl);
+  refused = λ one. absurd (omega (arith, one));
+}
+
+-- ---- an output that is closed
+
+-- it is flushed where the command was not refused and no write failed
+flushes_so : (exit : Exit) → is_refused exit ≡ false → exit ≢ exits.Ended endings.WriteFault → is_flushed exit ≡ true
+flushes_so (exits.Refused refusal) going other = cc
+flushes_so (exits.Ended endings.WriteFault) going other = absurd (other refl)
+flushes_so exit going other = refl
+
+failed_none : (exit : Exit) → exit ≢ exits.Ended endings.WriteFault → failed_writes exit ≡ 0
+failed_none (exits.Ended endings.WriteFault) other = absurd (other refl)
+failed_none exit other = refl
+
+never_refused : (exit : Exit) → is_refused exit ≡ false → exit_status exit ≡ STATUS_REFUSED → ⊥
+never_refused (exits.Refused refusal) going one = absurd cc
+never_refused (exits.Ended endings.Done) going one = omega (arith, one)
+never_refused exit going one = omega (arith, one)
+
+-- the command was refused
+pub closed_refused : {X : Type 0} (written waiting : X → List ℕ) (faults flushes : X → ℕ) (exit : Exit) (x : X) → is_refused exit ≡ true → IsClosedAs written waiting faults flushes exit x x exit
+closed_refused written waiting faults flushes (exits.Refused refusal) x refused = record {
+  bytes = refl;
+  ends = inl (refl, λ _. refl);
+  output = λ start moved. written_refused written waiting faults flushes start x refusal moved;
+  flushed = λ flag start moved. absurd cc;
+}
+closed_refused written waiting faults flushes exit x refused = absurd cc
+
+-- what a command wrote from where it began, if no write failed
+wrote_so : {X E : Type 0} (written waiting : X → List ℕ) (faults flushes : X → ℕ) (start mid : X) (exit : Exit) → exit ≢ exits.Ended endings.WriteFault → HasWritten written waiting faults flushes start mid (failed_writes exit)
+    → Wrote {E = E} written waiting faults flushes start mid (Ok tt) (since (written start) (written mid))
+wrote_so written waiting faults flushes start mid exit other moved = record {
+  moved = subst (λ (n : ℕ). HasWritten written waiting faults flushes start mid n) (failed_none exit other) moved;
+  ok = refl;
+  left = tt;
+}
+
+-- all was written, and flushed
+pub closed_well : {X E : Type 0} (written waiting : X → List ℕ) (faults flushes : X → ℕ) (exit : Exit) (old new : X) (wrote : Result (Unit {0}) E) → is_refused exit ≡ false → OnOk wrote (exit ≢ exits.Ended endings.WriteFault)
+    → OnErr wrote (IsErr {T = Unit {0}} {E = E} (Ok tt) × (new ≡ old)) → written new ≡ written old
+    → ((start : X) (text : List ℕ) → Wrote written waiting faults flushes start old wrote text → IsClosedAfter written waiting faults flushes start new (IsErr {T = Unit {0}} {E = E} (Ok tt)) text)
+    → IsClosedAs written waiting faults flushes exit old new exit
+closed_well {E = E} written waiting faults flushes exit old new (Ok done) going other untouched bytes closes =
+    let closed = λ (start : _) (moved : HasWritten written waiting faults flushes start old (failed_writes exit)). closes start (since (written start) (written old)) (wrote_so written waiting faults flushes start old exit other moved) in
+    record {
+      bytes = bytes;
+      ends = inl (refl, λ shut. let open_still = flushes_so exit going other in absurd cc);
+      output = λ start moved. record {
+        finished = finished_as (IsErr {T = Unit {0}} {E = E} (Ok tt)) (exit_status exit ≡ STATUS_WRITE_FAULT) (λ err. absurd cc) (λ five. absurd (other (write_fault_is exit five))) (closed start moved).finished;
+        flushed = λ one five six. ((closed start moved).whole (λ err. absurd cc)).1;
+        refused = λ one. absurd (never_refused exit going one);
+      };
+      flushed = λ flag start moved. ((closed start moved).whole (λ err. absurd cc)).1;
+    }
+closed_well written waiting faults flushes exit old new (Err fault) going other untouched bytes closes = let err = untouched.0 in absurd cc
+
+-- a write failed before, or the flush now
+pub closed_failed : {X E : Type 0} (written waiting : X → List ℕ) (faults flushes : X → ℕ) (exit : Exit) (old new : X) (fault : E) (wrote : Result (Unit {0}) E) → is_refused exit ≡ false → OnOk wrote (exit ≢ exits.Ended endings.WriteFault) → OnErr wrote (exit ≡ exits.Ended endings.WriteFault)
+    → OnErr wrote (IsErr {T = Unit {0}} (Err fault) × (new ≡ old)) → OnOk wrote (flushes new ≡ flushes old + 1) → written new ≡ written old
+    → ((start : X) (text : List ℕ) → Wrote written waiting faults flushes start old wrote text → IsClosedAfter written waiting faults flushes start new (IsErr {T = Unit {0}} (Err fault)) text)
+    → IsClosedAs written waiting faults flushes exit old new (exits.Ended endings.WriteFault)
+closed_failed written waiting faults flushes exit old new fault (Ok done) going other is untouched more bytes closes = record {
+  bytes = bytes;
+  ends = inr (refl, flushes_so exit going other, more);
+  output = λ start moved. record {
+    finished = finished_as _ _ (λ err. refl) (λ five. refl) (closes start (since (written start) (written old)) (wrote_so written waiting faults flushes start old exit other moved)).finished;
+    flushed = λ one five six. absurd (five refl);
+    refused = λ one. absurd (omega (arith, one));
+  };
+  flushed = λ flag start moved. absurd cc;
+}
+closed_failed written waiting faults flushes exit old new fault (Err before) going other is untouched more bytes closes = record {
+  bytes = bytes;
+  ends = inl (sym is, λ shut. ap flushes untouched.1);
+  output = λ start moved. written_failed written waiting faults flushes start new (subst (λ (x : _). HasWritten written waiting faults flushes start x 1) (sym untouched.1) (subst (λ (e : Exit). HasWritten written waiting faults flushes start old (failed_writes e)) is moved));
+  flushed = λ flag start moved. absurd cc;
+}
+
+-- ---- a command that exits
+
+-- what it gave, where no flush failed
+given_same : (Did : List ℕ → Exit → Type 0) (text : List ℕ) (old new : ℕ) (exit : Exit) → (is_flushed exit ≡ false → new ≡ old) → Did text exit → HasGiven Did text old new exit
+given_same Did text old new (exits.Ended endings.WriteFault) shut did = inl (shut refl, did)
+given_same Did text old new exit shut did = did
+
+given : (Did : List ℕ → Exit → Type 0) (text : List ℕ) (old mid new : ℕ) (before after : Exit) → mid ≡ old → EndsAs before mid new after → Did text before → HasGiven Did text old new after
+given Did text old mid new before after same (inl (is, shut)) did =
+    subst (λ (e : Exit). HasGiven Did text old new e) (sym is) (given_same Did text old new before (λ flag. shut flag ∙ same) did)
+given Did text old mid new before after same (inr (is, flag, more)) did =
+    subst (λ (e : Exit). HasGiven Did text old new e) (sym is) (inr (more ∙ ap (λ (n : ℕ). n + 1) same, (before, flag, did)))
+
+-- one that was refused had been so before its output was closed
+refused_before : (before after : Exit) (old new : ℕ) → EndsAs before old new after → is_refused after ≡ true → (is_refused before ≡ true) × (new ≡ old)
+refused_before before after old new (inl (is, shut)) refused =
+    let so : is_refused before ≡ true = ap is_refused (sym is) ∙ refused in (so, shut (unflushed before so))
+  where
+    unflushed : (exit : Exit) → is_refused exit ≡ true → is_flushed exit ≡ false
+    unflushed (exits.Refused refusal) so = refl
+    unflushed exit so = absurd cc
+refused_before before after old new (inr (is, flag, more)) refused =
+    let not_so : is_refused after ≡ false = ap is_refused is in absurd cc
+
+pub exited : {X : Type 0} (written waiting : X → List ℕ) (faults flushes : X → ℕ) (Did : List ℕ → Exit → Type 0) (start mid new : X) (before after : Exit) → HasWritten written waiting faults flushes start mid (failed_writes before)
+    → Did (since (written start) (written mid)) before → IsClosedAs written waiting faults flushes before mid new after → HasExited written waiting flushes Did start new after
+exited written waiting faults flushes Did start mid new before after moved did closed = record {
+  given = given Did (since (written start) (written new)) (flushes start) (flushes mid) (flushes new) before after moved.unflushed closed.ends
+      (subst (λ (bytes : List ℕ). Did (since (written start) bytes) before) (sym closed.bytes) did);
+  flushed = λ flag. closed.flushed flag start moved;
+  refused = λ so. (refused_before before after (flushes mid) (flushes new) closed.ends so).1 ∙ moved.unflushed;
+}
+
+-- ---- how the requests were read
 
 -- the status tells the ending
-zero_is : (ending : Ending) → ending_status ending ≡ 0 → ending ≡ endings.Done
+zero_is : (ending : Ending) → ending_status ending ≡ STATUS_DONE → ending ≡ endings.Done
 zero_is endings.Done zero = refl
-zero_is ending zero = absurd (omega arith)
+zero_is ending zero = absurd (omega (arith, zero))
 
-four_is : (ending : Ending) → ending_status ending ≡ 4 → ending ≡ endings.ReadFault
+four_is : (ending : Ending) → ending_status ending ≡ STATUS_READ_FAULT → ending ≡ endings.ReadFault
 four_is endings.ReadFault four = refl
-four_is ending four = absurd (omega arith)
-
-five_is : (ending : Ending) → ending_status ending ≡ 5 → ending ≡ endings.WriteFault
-five_is endings.WriteFault five = refl
-five_is ending five = absurd (omega arith)
+four_is ending four = absurd (omega (arith, four))
 
 -- no read failed at a bad line
-three_met : {X : Type 0} (faults ends : X → ℕ) (old new : X) (ending : Ending) → ending_status ending ≡ 3 → HasMet ending faults ends old new → faults new ≤ faults old
+three_met : {X : Type 0} (faults ends : X → ℕ) (old new : X) (ending : Ending) → ending_status ending ≡ STATUS_BAD_REQUEST → HasMet ending faults ends old new → faults new ≤ faults old
 three_met faults ends old new (endings.BadRequest number words.Unended) three met = met
 three_met faults ends old new (endings.BadRequest number word) three met = omega (arith, met.0)
-three_met faults ends old new ending three met = absurd (omega arith)
+three_met faults ends old new ending three met = absurd (omega (arith, three))
 
-never_one : (ending : Ending) → ending_status ending ≡ 1 → ⊥
-never_one endings.Done one = omega arith
-never_one ending one = omega arith
+pub never_one : (ending : Ending) → ending_status ending ≡ STATUS_REFUSED → ⊥
+never_one ending one = never_refused (exits.Ended ending) refl one
 
--- a run is whole, unless the output failed
-pub ran_whole : {X : Type 0} (written waiting : X → List ℕ) (faults flushes : X → ℕ) (old new : X) (format : Format) (flag : Bool) (source disks requests : Delivery) (description : Description) (start left : State) (ending : Ending) (status : ℕ)
-    → PartsGive format source disks (SoundAs description) → start ≡ start_state description → HasRun written waiting faults flushes old new (run_outcome description flag start requests) left ending → status ≡ ending_status ending → status ≢ 5
-    → GiveWhole format flag source disks requests (record { output = since (written old) (written new); message = ending_message ending; status = status })
-ran_whole written waiting faults flushes old new format flag source disks requests description start left ending status gives starts ran is other =
-    let outcome = outcome_of description flag requests in
-    let output = since (written old) (written new) in
-    let no_fault : ending ≢ endings.WriteFault = λ failed. other (is ∙ ap ending_status failed) in
-    let same_output = subst (λ (state : State). (run_outcome description flag state requests).output ≡ output) starts (ran.output.whole no_fault).0 in
-    let same_ending = subst (λ (state : State). (run_outcome description flag state requests).ending ≡ Some ending) starts (ran.ends no_fault).0 in
-    let whole : ℕ → Option Whole = λ n. Some (record { output = output; message = ending_message ending; status = n }) in
-    record { load = SoundAs description; loaded = gives; is = ap (ended_if outcome.output) same_ending ∙ ap (λ (out : List ℕ). ended_if out (Some ending)) same_output ∙ ap whole (sym is) }
-
--- where the output failed, it took a beginning of what there was to write
-pub ran_failed : {X : Type 0} (written waiting : X → List ℕ) (faults flushes : X → ℕ) (old new : X) (flag : Bool) (requests : Delivery) (description : Description) (start left : State) (ending : Ending) (status : ℕ) → start ≡ start_state description
-    → HasRun written waiting faults flushes old new (run_outcome description flag start requests) left ending → status ≡ ending_status ending → status ≡ 5
-    → FailedOutput (outcome_of description flag requests).output (since (written old) (written new)) (flushes old) (flushes new)
-ran_failed written waiting faults flushes old new flag requests description start left ending status starts ran is five =
-    subst (λ (state : State). FailedOutput (run_outcome description flag state requests).output (since (written old) (written new)) (flushes old) (flushes new)) starts (ran.output.failed (five_is ending (sym is ∙ five)))
-
--- how its requests were read
+-- by how a run of them ended
 pub ran_requests : {X : Type 0} (handed : X → List ℕ) (faults ends : X → ℕ) (ending : Ending) (status : ℕ) (old new : X) → status ≡ ending_status ending → IsReadOn handed faults ends old new
     → HasMet ending faults ends old new → RequestsRead handed faults ends status old new
 ran_requests handed faults ends ending status old new is read_on met = record {
@@ -123,15 +240,50 @@ ran_requests handed faults ends ending status old new is read_on met = record {
   unasked = λ one. absurd (never_one ending (sym is ∙ one));
 }
 
--- what it wrote and flushed
-pub ran_output : {X : Type 0} (written waiting : X → List ℕ) (faults flushes : X → ℕ) (ending : Ending) (status : ℕ) (outcome : Outcome) (left : State) (old new : X) → status ≡ ending_status ending → HasRun written waiting faults flushes old new outcome left ending
-    → OutputWritten written waiting faults flushes status old new
-ran_output written waiting faults flushes ending status outcome left old new is ran = record {
-  finished = finished_as (ending ≡ endings.WriteFault) (status ≡ 5) (λ failed. is ∙ ap ending_status failed) (λ five. five_is ending (sym is ∙ five)) ran.output.finished;
-  flushed = λ one five six. (ran.output.whole (λ failed. five (is ∙ ap ending_status failed))).1;
-  refused = λ one. absurd (never_one ending (sym is ∙ one));
+-- requests that are not asked for
+pub unasked_requests : {X : Type 0} (handed : X → List ℕ) (faults ends : X → ℕ) (refusal : Refusal) (status : ℕ) (old new : X) → status ≡ refusal_status refusal → IsReadOn handed faults ends old new → IsUnchanged handed faults ends old new → RequestsRead handed faults ends status old new
+unasked_requests handed faults ends refusal status old new is read_on same = record {
+  read_on = read_on;
+  read_fault = λ four. absurd (of_two _ STATUS_READ_FAULT (of_refusal refusal) (sym is ∙ four) (λ e. omega (arith, e)) (λ e. omega (arith, e)));
+  no_fault = λ _. omega (arith, same.same_faults);
+  bad_line = λ _. omega (arith, same.same_faults);
+  unasked = λ _. same;
 }
 
--- what it told
-pub ran_messages : {X : Type 0} (written : X → List ℕ) (faults flushes : X → ℕ) (ending : Ending) (status : ℕ) (old new : X) → status ≡ ending_status ending → HasTold written faults flushes (ending_message ending) old new → MessagesTold written faults flushes status old new
-ran_messages written faults flushes ending status old new is told = record { message = ending_message ending; told = told; write_message = λ five. ap ending_message (five_is ending (sym is ∙ five)) }
+-- before the output was closed
+asked_read : {X : Type 0} (handed : X → List ℕ) (faults ends : X → ℕ) (old new : X) (exit : Exit) → AskedBy handed faults ends old new exit → RequestsRead handed faults ends (exit_status exit) old new
+asked_read handed faults ends old new (exits.Refused refusal) asked = unasked_requests handed faults ends refusal _ old new refl asked.read_on (asked.unasked refl)
+asked_read handed faults ends old new (exits.Ended ending) asked = ran_requests handed faults ends ending _ old new refl asked.read_on asked.met
+asked_read handed faults ends old new (exits.NotTop number) asked = record {
+  read_on = asked.read_on;
+  read_fault = λ four. absurd (omega (arith, four));
+  no_fault = λ zero. absurd (omega (arith, zero));
+  bad_line = λ _. let same = asked.met.0 in omega (arith, same);
+  unasked = λ one. absurd (omega (arith, one));
+}
+asked_read handed faults ends old new exits.Memory asked = record {
+  read_on = asked.read_on;
+  read_fault = λ four. absurd (omega (arith, four));
+  no_fault = λ zero. absurd (omega (arith, zero));
+  bad_line = λ three. absurd (omega (arith, three));
+  unasked = λ one. absurd (omega (arith, one));
+}
+
+-- and after it, where the flush may have failed
+pub closed_requests : {X : Type 0} (handed : X → List ℕ) (faults ends : X → ℕ) (old new : X) (before after : Exit) (f0 f1 status : ℕ) → EndsAs before f0 f1 after → AskedBy handed faults ends old new before → status ≡ exit_status after → RequestsRead handed faults ends status old new
+closed_requests handed faults ends old new before after f0 f1 status ends_so asked is =
+    subst (λ (n : ℕ). RequestsRead handed faults ends n old new) (sym is) (go ends_so)
+  where
+    go : EndsAs before f0 f1 after → RequestsRead handed faults ends (exit_status after) old new
+    go (inl (same, shut)) = subst (λ (e : Exit). RequestsRead handed faults ends (exit_status e) old new) (sym same) (asked_read handed faults ends old new before asked)
+    go (inr (failed, flag, more)) = subst (λ (e : Exit). RequestsRead handed faults ends (exit_status e) old new) (sym failed) (ran_requests handed faults ends endings.WriteFault _ old new refl asked.read_on tt)
+
+pub closed_unasked : {X : Type 0} (handed : X → List ℕ) (faults ends : X → ℕ) (old new : X) (before after : Exit) (f0 f1 : ℕ) → EndsAs before f0 f1 after → AskedBy handed faults ends old new before → is_refused after ≡ true → IsUnchanged handed faults ends old new
+closed_unasked handed faults ends old new before after f0 f1 ends_so asked refused = asked.unasked (refused_before before after f0 f1 ends_so refused).0
+
+-- an input of which nothing is asked
+pub unchanged : {X : Type 0} (handed : X → List ℕ) (faults ends : X → ℕ) (x : X) → IsUnchanged handed faults ends x x
+unchanged handed faults ends x = record { same_handed = refl; same_faults = refl; same_ends = refl }
+
+pub read_on_none : {X : Type 0} (handed : X → List ℕ) (faults ends : X → ℕ) (x : X) → IsReadOn handed faults ends x x
+read_on_none handed faults ends x = record { grows = grows-same (handed x) (handed x); no_more = omega arith }

@@ -1,7 +1,8 @@
 mod CommandLine
 pub mod ExitLemmas
 pub mod LoadLemmas
-pub mod OneReplay
+pub mod MapLemmas
+pub mod OneOther
 pub mod OneWhole
 pub mod PrintLemmas
 pub mod ReplayLemmas

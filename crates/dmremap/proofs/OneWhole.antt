@@ -12,10 +12,10 @@ use Rattle.dm_table.proofs.ConciseDescribed.{again as again_concise}
 use Rattle.dm_table.proofs.TableDescribed.{again}
 use Rattle.dm_table.proofs.DiskLemmas.{again as again_disks, DescribesDisks-unique}
 use Rattle.dm_table.specs.PartInput.{PartRead, TextOf, Refuses, Unread, part_read}
-use Rattle.dmremap.specs.declared.words.Format.{Format}
-use Rattle.dmremap.specs.declared.words.Format.TheVariants.{Concise, Lvm, Table}
-use Rattle.dmremap.specs.declared.words.Form.{Form}
-use Rattle.dmremap.specs.declared.words.Form.TheVariants as forms
+use Rattle.dmremap.specs.declared.job.Format.{Format}
+use Rattle.dmremap.specs.declared.job.Format.TheVariants.{Lvm, Tables}
+use Rattle.dmremap.specs.declared.job.TableForm.{TableForm}
+use Rattle.dmremap.specs.declared.job.TableForm.TheVariants.{Concise, Table}
 use Rattle.dm_stack.specs.Description.{Description}
 use Rattle.dm_stack.specs.Soundness.{IsSound, IsRefusedBy}
 use Rattle.dm_stack.proofs.OneFault.{never_both, one_fault as one_refusal}
@@ -28,15 +28,15 @@ use Rattle.dmremap.specs.Whole.{Whole, whole_of, GiveWhole}
 abbrev described_as : List DeviceSpec → List Disk → Description
 described_as devices disks = record { devices = devices; disks = disks }
 
-one_list : (form : Form) (text : List ℕ) (a b : List DeviceSpec) → DescribesDevices form text a → DescribesDevices form text b → a ≡ b
-one_list forms.Table text a b is_a is_b = sym (again text a is_a).1 ∙ (again text b is_b).1
-one_list forms.Concise text a b is_a is_b = sym (again_concise text a is_a).1 ∙ (again_concise text b is_b).1
+one_list : (form : TableForm) (text : List ℕ) (a b : List DeviceSpec) → DescribesDevices form text a → DescribesDevices form text b → a ≡ b
+one_list Table text a b is_a is_b = sym (again text a is_a).1 ∙ (again text b is_b).1
+one_list Concise text a b is_a is_b = sym (again_concise text a is_a).1 ∙ (again_concise text b is_b).1
 
-no_fault_of_devices : (form : Form) (text : List ℕ) (devices : List DeviceSpec) → DescribesDevices form text devices → first_fault (device_checks form text) ≡ None
-no_fault_of_devices forms.Table text devices is = (again text devices is).0
-no_fault_of_devices forms.Concise text devices is = (again_concise text devices is).0
+no_fault_of_devices : (form : TableForm) (text : List ℕ) (devices : List DeviceSpec) → DescribesDevices form text devices → first_fault (device_checks form text) ≡ None
+no_fault_of_devices Table text devices is = (again text devices is).0
+no_fault_of_devices Concise text devices is = (again_concise text devices is).0
 
-pub one_description_of : (form : Form) (source list : List ℕ) (a b : Description) → Describes form source list a → Describes form source list b → a ≡ b
+pub one_description_of : (form : TableForm) (source list : List ℕ) (a b : Description) → Describes form source list a → Describes form source list b → a ≡ b
 one_description_of form source list a b is_a is_b =
     ap (λ (devices : List DeviceSpec). described_as devices a.disks) (one_list form source a.devices b.devices is_a.devices is_b.devices)
     ∙ ap (described_as b.devices) (DescribesDisks-unique list a.disks b.disks is_a.disks is_b.disks)
@@ -49,14 +49,14 @@ none_both (check ∷ checks) more a b =
     ap (λ (found : List LoadFault). first_or found (first_fault (checks ++ more))) first.0 ∙ none_both checks more first.1 b
 
 -- no check of the texts finds a fault in texts that describe something
-pub no_fault_of_texts : (form : Form) (source list : List ℕ) (description : Description) → Describes form source list description → first_fault (device_checks form source ++ disk_checks list) ≡ None
+pub no_fault_of_texts : (form : TableForm) (source list : List ℕ) (description : Description) → Describes form source list description → first_fault (device_checks form source ++ disk_checks list) ≡ None
 no_fault_of_texts form source list description is =
     none_both (device_checks form source) (disk_checks list) (no_fault_of_devices form source description.devices is.devices)
     (again_disks list description.disks is.disks).0
 
 -- What they give
 
-one_fault : (form : Form) (source list : List ℕ) (f g : LoadFault) → GivesFault form source list f → GivesFault form source list g → f ≡ g
+one_fault : (form : TableForm) (source list : List ℕ) (f g : LoadFault) → GivesFault form source list f → GivesFault form source list g → f ≡ g
 one_fault form source list f g (inl a) (inl b) = cc
 one_fault form source list f g (inl a) (inr b) = let none = no_fault_of_texts form source list b.0 b.1 in absurd cc
 one_fault form source list f g (inr a) (inl b) = let none = no_fault_of_texts form source list a.0 a.1 in absurd cc
@@ -65,19 +65,19 @@ one_fault form source list f g (inr a) (inr b) =
     one_refusal b.0 f g (subst (λ (description : Description). IsRefusedBy description f) same a.2) b.2
 
 -- texts that describe what is sound give no fault
-no_fault : (form : Form) (source list : List ℕ) (f : LoadFault) (description : Description) → GivesFault form source list f → Describes form source list description → IsSound description → ⊥
+no_fault : (form : TableForm) (source list : List ℕ) (f : LoadFault) (description : Description) → GivesFault form source list f → Describes form source list description → IsSound description → ⊥
 no_fault form source list f description (inl a) is sound = let none = no_fault_of_texts form source list description is in cc
 no_fault form source list f description (inr a) is sound =
     let same = one_description_of form source list a.0 description a.1 is in
     never_both description f sound (subst (λ (other : Description). IsRefusedBy other f) same a.2)
 
-one_of_texts : (form : Form) (source list : List ℕ) (a b : Load) → TextsGive form source list a → TextsGive form source list b → a ≡ b
+one_of_texts : (form : TableForm) (source list : List ℕ) (a b : Load) → TextsGive form source list a → TextsGive form source list b → a ≡ b
 one_of_texts form source list (RefusedBy f) (RefusedBy g) is_a is_b = ap RefusedBy (one_fault form source list f g is_a is_b)
 one_of_texts form source list (RefusedBy f) (SoundAs b) is_a is_b = absurd (no_fault form source list f b is_a is_b.0 is_b.1)
 one_of_texts form source list (SoundAs a) (RefusedBy g) is_a is_b = absurd (no_fault form source list g a is_b is_a.0 is_a.1)
 one_of_texts form source list (SoundAs a) (SoundAs b) is_a is_b = ap SoundAs (one_description_of form source list a b is_a.0 is_b.0)
 
-one_of_parts : (form : Form) (source list : PartRead) (a b : Load) → TextPartsGive form source list a → TextPartsGive form source list b → a ≡ b
+one_of_parts : (form : TableForm) (source list : PartRead) (a b : Load) → TextPartsGive form source list a → TextPartsGive form source list b → a ≡ b
 one_of_parts form (Refuses fault) list a b is_a is_b = is_a ∙ sym is_b
 one_of_parts form (TextOf source) (Refuses fault) a b is_a is_b = is_a ∙ sym is_b
 one_of_parts form (TextOf source) (TextOf list) a b is_a is_b = one_of_texts form source list a b is_a is_b
@@ -115,8 +115,7 @@ one_of_part Unread a b is_a is_b = absurd is_a
 -- What every format gives
 
 pub one_load : (format : Format) (source disks : Delivery) (a b : Load) → PartsGive format source disks a → PartsGive format source disks b → a ≡ b
-one_load Table source disks a b is_a is_b = one_of_parts forms.Table (part_read Source source) (part_read Disks disks) a b is_a is_b
-one_load Concise source disks a b is_a is_b = one_of_parts forms.Concise (part_read Source source) (part_read Disks disks) a b is_a is_b
+one_load (Tables form) source disks a b is_a is_b = one_of_parts form (part_read Source source) (part_read Disks disks) a b is_a is_b
 one_load Lvm source disks a b is_a is_b = one_of_part (part_read Source source) a b is_a is_b
 
 -- What the run gives

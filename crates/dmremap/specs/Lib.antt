@@ -1,12 +1,12 @@
+pub mod Exit
 pub mod Inputs
+pub mod Job
 pub mod Load
 pub mod OtherWhole
 pub mod PartFile
-pub mod Played
 pub mod PlayedLaws
+pub mod Printing
 pub mod ReplayOutcome
-pub mod ReplayWhole
-pub mod Status
 pub mod Streams
 pub mod Whole
 pub mod Words

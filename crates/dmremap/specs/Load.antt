@@ -12,10 +12,10 @@ use Rattle.dm_stack.specs.Description.{Description}
 use Rattle.dm_stack.specs.Soundness.{IsSound, IsRefusedBy}
 use Rattle.dm_table.specs.declared.table.DeviceSpec.{DeviceSpec}
 use Rattle.dm_table.specs.ConciseText.{DescribesConcise, concise_checks}
-use Rattle.dmremap.specs.declared.words.Form.{Form}
-use Rattle.dmremap.specs.declared.words.Form.TheVariants as forms
-use Rattle.dmremap.specs.declared.words.Format.{Format}
-use Rattle.dmremap.specs.declared.words.Format.TheVariants.{Concise, Lvm, Table}
+use Rattle.dmremap.specs.declared.job.Format.{Format}
+use Rattle.dmremap.specs.declared.job.Format.TheVariants.{Lvm, Tables}
+use Rattle.dmremap.specs.declared.job.TableForm.{TableForm}
+use Rattle.dmremap.specs.declared.job.TableForm.TheVariants.{Concise, Table}
 use Rattle.lvm_volume.specs.Metadata.{DescribesGroup, IsRefusedText}
 
 -- what a load gives
@@ -31,34 +31,34 @@ pub record Loads (Gives : Load → Type 0) (result : Result Description LoadFaul
 -- ---- a text of devices in a form, and a disk list
 
 -- the text describes these devices
-abbrev pub DescribesDevices : Form → List ℕ → List DeviceSpec → Type 0
-DescribesDevices forms.Table text devices = DescribesTable text devices
-DescribesDevices forms.Concise text devices = DescribesConcise text devices
+abbrev pub DescribesDevices : TableForm → List ℕ → List DeviceSpec → Type 0
+DescribesDevices Table text devices = DescribesTable text devices
+DescribesDevices Concise text devices = DescribesConcise text devices
 
 -- the checks of the text by itself
-abbrev pub device_checks : Form → List ℕ → List (List LoadFault)
-device_checks forms.Table text = table_checks text
-device_checks forms.Concise text = concise_checks text
+abbrev pub device_checks : TableForm → List ℕ → List (List LoadFault)
+device_checks Table text = table_checks text
+device_checks Concise text = concise_checks text
 
 -- the texts describe this, of which nothing is checked yet
-pub record Describes (form : Form) (source list : List ℕ) (description : Description) : Type 0 where
+pub record Describes (form : TableForm) (source list : List ℕ) (description : Description) : Type 0 where
   pub devices : DescribesDevices form source description.devices
   pub disks : DescribesDisks list description.disks
 
 -- the texts give a fault: one of their own, the source's first, or one of what they describe
-abbrev pub GivesFault : Form → List ℕ → List ℕ → LoadFault → Type 0
+abbrev pub GivesFault : TableForm → List ℕ → List ℕ → LoadFault → Type 0
 GivesFault form source list fault =
     (first_fault (device_checks form source ++ disk_checks list) ≡ Some fault)
     ⊎ ((description : Description) × Describes form source list description × IsRefusedBy description fault)
 
 -- what the two texts give
-abbrev pub TextsGive : Form → List ℕ → List ℕ → Load → Type 0
+abbrev pub TextsGive : TableForm → List ℕ → List ℕ → Load → Type 0
 TextsGive form source list (RefusedBy fault) = GivesFault form source list fault
 TextsGive form source list (SoundAs description) =
     Describes form source list description × IsSound description
 
 -- what the two parts give: one that was not read is refused before any text is looked at
-abbrev pub TextPartsGive : Form → PartRead → PartRead → Load → Type 0
+abbrev pub TextPartsGive : TableForm → PartRead → PartRead → Load → Type 0
 TextPartsGive form (Refuses fault) list load = load ≡ RefusedBy fault
 TextPartsGive form (TextOf source) (Refuses fault) load = load ≡ RefusedBy fault
 TextPartsGive form (TextOf source) (TextOf list) load = TextsGive form source list load
@@ -92,6 +92,5 @@ MetadataPartGives Unread load = ⊥
 
 -- what the source and the disk list give that were delivered: an arm for each format, which takes the parts that it has
 abbrev pub PartsGive : Format → Delivery → Delivery → Load → Type 0
-PartsGive Table source disks load = TextPartsGive forms.Table (part_read Source source) (part_read Disks disks) load
-PartsGive Concise source disks load = TextPartsGive forms.Concise (part_read Source source) (part_read Disks disks) load
 PartsGive Lvm source disks load = MetadataPartGives (part_read Source source) load
+PartsGive (Tables form) source disks load = TextPartsGive form (part_read Source source) (part_read Disks disks) load

@@ -7,10 +7,10 @@ use Rattle.dm_stack.specs.Description.{Description}
 use Rattle.dm_table.proofs.ProgressLaws.{since-same}
 use Rattle.dm_stream.specs.Requests.{NumberedRequest}
 use Rattle.dm_replay.specs.Histories.{Asked}
-use Rattle.dmremap.specs.declared.replay_run.NotPlayed.{NotPlayed}
-use Rattle.dmremap.specs.declared.replay_run.NotPlayed.TheVariants as causes
-use Rattle.dmremap.specs.Played.{HasPlayed, HasStopped}
-use Rattle.dmremap.specs.ReplayOutcome.{AreAnswered, IsCutReplay, StopsAt, asked_of}
+use Rattle.dm_stream.specs.declared.ending.Ending.TheVariants as endings
+use Rattle.dmremap.specs.declared.exit.Exit.{Exit}
+use Rattle.dmremap.specs.declared.exit.Exit.TheVariants as exits
+use Rattle.dmremap.specs.ReplayOutcome.{AreAnswered, HasPlayed, HasStopped, IsCutReplay, StopsAt, asked_of}
 
 pub played_none : (stack : Description) (asked : List Asked) (w : List ℕ) → HasPlayed stack asked asked [] w w
 played_none stack asked w = record { asked = sym (append-nil asked); told = sym (since-same w) }
@@ -71,8 +71,9 @@ cut_more stack a b us vs w0 w1 w2 more again first second = record {
   );
 }
 
-pub stopped_more : (stack : Description) (fault : NotPlayed) (a b : List Asked) (us vs : List NumberedRequest) (w0 w1 w2 : List ℕ) → w1 ≡ w0 ++ since w0 w1 → w2 ≡ w1 ++ since w1 w2
-    → HasPlayed stack a b us w0 w1 → HasStopped stack fault b vs w1 w2 → HasStopped stack fault a (us ++ vs) w0 w2
-stopped_more stack (causes.NotTop number) a b us vs w0 w1 w2 more again first second = stops_more _ stack a b us vs w0 w1 w2 more again first second
-stopped_more stack causes.Memory a b us vs w0 w1 w2 more again first second = stops_more _ stack a b us vs w0 w1 w2 more again first second
-stopped_more stack causes.Output a b us vs w0 w1 w2 more again first second = cut_more stack a b us vs w0 w1 w2 more again first second
+pub stopped_more : (stack : Description) (exit : Exit) (a b : List Asked) (us vs : List NumberedRequest) (w0 w1 w2 : List ℕ) → w1 ≡ w0 ++ since w0 w1 → w2 ≡ w1 ++ since w1 w2
+    → HasPlayed stack a b us w0 w1 → HasStopped stack exit b vs (since w1 w2) → HasStopped stack exit a (us ++ vs) (since w0 w2)
+stopped_more stack (exits.NotTop number) a b us vs w0 w1 w2 more again first second = stops_more _ stack a b us vs w0 w1 w2 more again first second
+stopped_more stack exits.Memory a b us vs w0 w1 w2 more again first second = stops_more _ stack a b us vs w0 w1 w2 more again first second
+stopped_more stack (exits.Ended endings.WriteFault) a b us vs w0 w1 w2 more again first second = cut_more stack a b us vs w0 w1 w2 more again first second
+stopped_more stack exit a b us vs w0 w1 w2 more again first second = absurd second

@@ -1,19 +1,18 @@
--- What a replay of the requests that were delivered writes, and where it ends.
-use Rattle.std.specs.Prelude.{◌≡◌, ℕ, List, [], ◌∷◌, ◌++◌, None, Some}
-use Rattle.dm_table.specs.Progress.{MetNothing}
+-- What a replay of the requests that were delivered writes, and how it exits.
+use Rattle.std.specs.Prelude.{◌≡◌, ℕ, List, [], ◌∷◌, ◌++◌, None, Some, map}
+use Rattle.dm_table.specs.DeviceIo.{since}
 use Rattle.dm_table.specs.WriteAll.{IsCutShort}
 use Rattle.dm_stack.specs.Description.{Description, device_id}
 use Rattle.dm_stream.specs.declared.ending.Ending.{Ending}
 use Rattle.dm_stream.specs.declared.ending.Ending.TheVariants as endings
-use Rattle.dm_stream.specs.Requests.{HasMet, NumberedRequest, Requests}
-use Rattle.dm_stream.specs.Run.{write_faults}
+use Rattle.dm_stream.specs.Requests.{NumberedRequest, Requests}
 use Rattle.dm_replay.specs.declared.value_run.ValueRun.{ValueRun}
 use Rattle.dm_replay.specs.Histories.{Asked, asked_answers, world_after}
 use Rattle.dm_replay.specs.Replay.{HasTop}
 use Rattle.dm_replay.specs.Runs.{AreMaximal, flat}
 use Rattle.dm_replay.specs.RunText.{runs_text}
-use Rattle.dmremap.specs.declared.replay_run.ReplayEnd.{ReplayEnd}
-use Rattle.dmremap.specs.declared.replay_run.ReplayEnd.TheVariants as ends
+use Rattle.dmremap.specs.declared.exit.Exit.{Exit}
+use Rattle.dmremap.specs.declared.exit.Exit.TheVariants as exits
 
 -- a request of a stack that was played whole
 abbrev pub asked_of : Description → NumberedRequest → Asked
@@ -68,28 +67,30 @@ pub record IsCutReplay (stack : Description) (asked : List Asked) (requests : Li
   pub told : AreAnswered stack asked first whole
   pub cut : IsCutShort whole text
 
+-- ---- a player of requests
+
+-- it accepted these requests, and what is written for them was written
+pub record HasPlayed (stack : Description) (old new : List Asked) (requests : List NumberedRequest) (before after : List ℕ) : Type 0 where
+  pub asked : new ≡ old ++ map (asked_of stack) requests
+  pub told : AreAnswered stack old requests (since before after)
+
+-- it stopped at one of these requests, and what is written for those before was written; or a write failed
+abbrev pub HasStopped : Description → Exit → List Asked → List NumberedRequest → List ℕ → Type 0
+HasStopped stack (exits.NotTop number) asked requests text = StopsAt (IsOfNone stack number) stack asked requests text
+HasStopped stack exits.Memory asked requests text = StopsAt (IsOfTop stack) stack asked requests text
+HasStopped stack (exits.Ended endings.WriteFault) asked requests text = IsCutReplay stack asked requests text
+HasStopped stack exit asked requests text = ⊥
+
+-- ---- all requests
+
 -- where all requests were answered, up to their own end, this was written
 pub record IsWhole (stack : Description) (requests : Requests) (text : List ℕ) (e : Ending) : Type 0 where
   pub ends_so : requests.ending ≡ Some e
   pub told : AreAnswered stack [] requests.all text
 
--- what was written before the flush, by where the replay ended
-abbrev pub IsPlayed : Description → Requests → List ℕ → ReplayEnd → Type 0
-IsPlayed stack requests text (ends.Ran endings.Done) = IsWhole stack requests text endings.Done
-IsPlayed stack requests text (ends.Ran (endings.BadRequest number word)) = IsWhole stack requests text (endings.BadRequest number word)
-IsPlayed stack requests text (ends.Ran endings.ReadFault) = IsWhole stack requests text endings.ReadFault
-IsPlayed stack requests text (ends.Ran endings.WriteFault) = IsCutReplay stack [] requests.all text
-IsPlayed stack requests text (ends.NotTop number) = StopsAt (IsOfNone stack number) stack [] requests.all text
-IsPlayed stack requests text ends.Memory = StopsAt (IsOfTop stack) stack [] requests.all text
-
--- how many writes failed until then
-abbrev pub end_faults : ReplayEnd → ℕ
-end_faults (ends.Ran ending) = write_faults ending
-end_faults (ends.NotTop number) = 0
-end_faults ends.Memory = 0
-
--- what the input of requests met, by where the replay ended
-abbrev pub HasMetEnd : {X : Type 0} → ReplayEnd → (faults_of ends_of : X → ℕ) → (old new : X) → Type 0
-HasMetEnd (ends.Ran ending) faults_of ends_of old new = HasMet ending faults_of ends_of old new
-HasMetEnd (ends.NotTop number) faults_of ends_of old new = MetNothing faults_of ends_of old new
-HasMetEnd ends.Memory faults_of ends_of old new = Unit {0}
+-- what was written before the output is closed
+abbrev pub IsPlayed : Description → Requests → List ℕ → Exit → Type 0
+IsPlayed stack requests text (exits.Ended endings.Done) = IsWhole stack requests text endings.Done
+IsPlayed stack requests text (exits.Ended (endings.BadRequest number word)) = IsWhole stack requests text (endings.BadRequest number word)
+IsPlayed stack requests text (exits.Ended endings.ReadFault) = IsWhole stack requests text endings.ReadFault
+IsPlayed stack requests text exit = HasStopped stack exit [] requests.all text

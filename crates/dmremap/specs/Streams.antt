@@ -1,28 +1,37 @@
--- What became of the streams of a command until it exited with a status.
-use Rattle.std.specs.Prelude.{◌≡◌, ◌≢◌, ℕ, ◌<◌, ◌≤◌, List}
-use Rattle.dm_table.specs.Progress.{IsFinished, IsFlushed, IsReadOn}
+-- What became of the streams of a command until it exited.
+use Rattle.std.specs.Prelude.{◌≡◌, ◌≢◌, ◌⊎◌, ◌+◌, ℕ, ◌<◌, ◌≤◌, true, false, List}
+use Rattle.dm_table.specs.DeviceIo.{since}
+use Rattle.dm_table.specs.Progress.{FailedWhere, HasWritten, IsFinished, IsFlushed, IsReadOn, MetNothing}
+use Rattle.dm_stream.specs.declared.ending.Ending.TheVariants.{WriteFault}
+use Rattle.dm_stream.specs.Requests.{HasMet}
 use Rattle.dm_stream.specs.Messages.{HasTold, write_message}
+use Rattle.dmremap.specs.declared.exit.Exit.{Exit}
+use Rattle.dmremap.specs.declared.exit.Exit.TheVariants as exits
+use Rattle.dmremap.specs.declared.status.TheConstants.{STATUS_BAD_REQUEST, STATUS_DONE, STATUS_MEMORY, STATUS_READ_FAULT, STATUS_REFUSED, STATUS_WRITE_FAULT}
+use Rattle.dmremap.specs.Exit.{exit_message, exit_status, failed_writes, is_flushed, is_refused}
 use Rattle.dmremap.specs.Inputs.{IsUnchanged}
+
+-- ---- by the status
 
 -- how the requests were read
 pub record RequestsRead {X : Type 0} (handed : X → List ℕ) (faults ends : X → ℕ) (status : ℕ) (old new : X) : Type 0 where
   -- they are only read on, and nothing is asked of them after an end or a fault
   pub read_on : IsReadOn handed faults ends old new
   -- reading them failed; and where it did, and the output did not, only a request that was not answered takes precedence over that
-  pub read_fault : status ≡ 4 → faults old < faults new
-  pub no_fault : status ≡ 0 → faults new ≤ faults old
+  pub read_fault : status ≡ STATUS_READ_FAULT → faults old < faults new
+  pub no_fault : status ≡ STATUS_DONE → faults new ≤ faults old
   -- nothing is asked of them after a request that was bad: any read may fail, and none did
-  pub bad_line : status ≡ 3 → faults new ≤ faults old
+  pub bad_line : status ≡ STATUS_BAD_REQUEST → faults new ≤ faults old
   -- they are not asked for where the command was refused before the first of them
-  pub unasked : status ≡ 1 → IsUnchanged handed faults ends old new
+  pub unasked : status ≡ STATUS_REFUSED → IsUnchanged handed faults ends old new
 
 -- what was written, and flushed
 pub record OutputWritten {X : Type 0} (written waiting : X → List ℕ) (faults flushes : X → ℕ) (status : ℕ) (old new : X) : Type 0 where
   -- it only took more, and it failed where the status says so: that takes precedence over all else
-  pub finished : IsFinished written waiting faults flushes old new (status ≡ 5)
+  pub finished : IsFinished written waiting faults flushes old new (status ≡ STATUS_WRITE_FAULT)
   -- it is flushed once, at the end; not at all where the command was refused
-  pub flushed : status ≢ 1 → status ≢ 5 → status ≢ 6 → IsFlushed waiting flushes old new
-  pub refused : status ≡ 1 → flushes new ≡ flushes old
+  pub flushed : status ≢ STATUS_REFUSED → status ≢ STATUS_WRITE_FAULT → status ≢ STATUS_MEMORY → IsFlushed waiting flushes old new
+  pub refused : status ≡ STATUS_REFUSED → flushes new ≡ flushes old
 
 -- what was told
 pub record MessagesTold {X : Type 0} (written : X → List ℕ) (faults flushes : X → ℕ) (status : ℕ) (old new : X) : Type 0 where
@@ -30,10 +39,49 @@ pub record MessagesTold {X : Type 0} (written : X → List ℕ) (faults flushes 
   pub message : List ℕ
   pub told : HasTold written faults flushes message old new
   -- a failed output is told
-  pub write_message : status ≡ 5 → message ≡ write_message
+  pub write_message : status ≡ STATUS_WRITE_FAULT → message ≡ write_message
 
--- the command exits with this status, and this message was told
-pub record Exits {X : Type 0} (written : X → List ℕ) (faults flushes : X → ℕ) (status : ℕ) (message : List ℕ) (result : ℕ) (old new : X) : Type 0 where
-  pub is : result ≡ status
-  pub told : HasTold written faults flushes message old new
-  pub write_message : status ≡ 5 → message ≡ write_message
+-- ---- by the exit
+
+-- the command exits so: this is its status, and its message was told
+pub record Exits {X : Type 0} (written : X → List ℕ) (faults flushes : X → ℕ) (exit : Exit) (result : ℕ) (old new : X) : Type 0 where
+  pub is : result ≡ exit_status exit
+  pub told : HasTold written faults flushes (exit_message exit) old new
+
+-- what the input of requests met until then
+abbrev pub HasMetBy : {X : Type 0} → Exit → (faults ends : X → ℕ) → (old new : X) → Type 0
+HasMetBy (exits.Ended ending) faults ends old new = HasMet ending faults ends old new
+HasMetBy (exits.NotTop number) faults ends old new = MetNothing faults ends old new
+HasMetBy _ faults ends old new = Unit {0}
+
+-- how requests were asked for until then: only read on, and not at all where the command was refused
+pub record AskedBy {X : Type 0} (handed : X → List ℕ) (faults ends : X → ℕ) (old new : X) (exit : Exit) : Type 0 where
+  pub read_on : IsReadOn handed faults ends old new
+  pub met : HasMetBy exit faults ends old new
+  pub unasked : is_refused exit ≡ true → IsUnchanged handed faults ends old new
+
+-- a command that would exit as before exits as after, since it does, or since the flush failed
+abbrev pub EndsAs : (before : Exit) → (flushes_old flushes_new : ℕ) → (after : Exit) → Type 0
+EndsAs before old new after =
+    ((after ≡ before) × (is_flushed before ≡ false → new ≡ old))
+    ⊎ ((after ≡ exits.Ended WriteFault) × (is_flushed before ≡ true) × (new ≡ old + 1))
+
+-- the output of a command that would exit as before was closed, so that it exits as after
+pub record IsClosedAs {X : Type 0} (written waiting : X → List ℕ) (faults flushes : X → ℕ) (before : Exit) (old new : X) (after : Exit) : Type 0 where
+  pub bytes : written new ≡ written old
+  pub ends : EndsAs before (flushes old) (flushes new) after
+  -- wherever the command began
+  pub output : (start : X) → HasWritten written waiting faults flushes start old (failed_writes before) → OutputWritten written waiting faults flushes (exit_status after) start new
+  pub flushed : is_flushed after ≡ true → (start : X) → HasWritten written waiting faults flushes start old (failed_writes before) → IsFlushed waiting flushes start new
+
+-- what a command gave that did this before its output was closed. The output failed at a write, or at the flush, after all that there was to write
+abbrev pub HasGiven : (Did : List ℕ → Exit → Type 0) → List ℕ → (flushes_old flushes_new : ℕ) → Exit → Type 0
+HasGiven Did text old new (exits.Ended WriteFault) =
+    FailedWhere (Did text (exits.Ended WriteFault)) ((before : Exit) × (is_flushed before ≡ true) × Did text before) old new
+HasGiven Did text old new exit = Did text exit
+
+-- the same of its output, which is flushed once, at the end; not at all where the command was refused
+pub record HasExited {X : Type 0} (written waiting : X → List ℕ) (flushes : X → ℕ) (Did : List ℕ → Exit → Type 0) (old new : X) (exit : Exit) : Type 0 where
+  pub given : HasGiven Did (since (written old) (written new)) (flushes old) (flushes new) exit
+  pub flushed : is_flushed exit ≡ true → IsFlushed waiting flushes old new
+  pub refused : is_refused exit ≡ true → flushes new ≡ flushes old

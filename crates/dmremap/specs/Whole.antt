@@ -1,15 +1,16 @@
 -- The whole run: what it writes, its message and its exit status, by what was delivered.
 use Rattle.std.specs.Prelude.{◌≡◌, ℕ, Bool, List, [], Option, None, Some}
 use Rattle.dm_table.specs.DeviceIo.{Delivery}
-use Rattle.dm_table.specs.LoadMessage.{load_message}
 use Rattle.dm_stream.specs.declared.ending.Ending.{Ending}
 use Rattle.dm_map.specs.State.{start_state}
 use Rattle.dm_stack.specs.Description.{Description}
 use Rattle.dm_stream.specs.Outcome.{Outcome, run_outcome}
-use Rattle.dm_stream.specs.Messages.{ending_message}
-use Rattle.dmremap.specs.declared.words.Format.{Format}
+use Rattle.dmremap.specs.declared.exit.Exit.{Exit}
+use Rattle.dmremap.specs.declared.exit.Exit.TheVariants.{Ended, Refused}
+use Rattle.dmremap.specs.declared.exit.Refusal.TheVariants as refusals
+use Rattle.dmremap.specs.declared.job.Format.{Format}
+use Rattle.dmremap.specs.Exit.{exit_message, exit_status}
 use Rattle.dmremap.specs.Load.{Load, RefusedBy, SoundAs, PartsGive}
-use Rattle.dmremap.specs.Status.{ending_status}
 
 -- the outcome of what the requests delivered, over a stack in its state at the start; the flag asks for status lines
 abbrev pub outcome_of : Description → (flag : Bool) → Delivery → Outcome
@@ -21,18 +22,18 @@ pub record Whole : Type 0 where
   pub message : List ℕ
   pub status : ℕ
 
--- how a run ends
-abbrev pub ended : List ℕ → Ending → Whole
-ended output ending = record { output = output; message = ending_message ending; status = ending_status ending }
+-- a run with this output, that exits so
+abbrev pub whole_at : List ℕ → Exit → Whole
+whole_at output exit = record { output = output; message = exit_message exit; status = exit_status exit }
 
 -- the same where the ending may not be settled yet
 abbrev pub ended_if : List ℕ → Option Ending → Option Whole
-ended_if output (Some ending) = Some (ended output ending)
+ended_if output (Some ending) = Some (whole_at output (Ended ending))
 ended_if output None = None
 
 -- a refused load writes nothing; a sound one goes by what the requests deliver
 abbrev pub whole_of : Load → (flag : Bool) → Delivery → Option Whole
-whole_of (RefusedBy fault) flag requests = Some (record { output = []; message = load_message fault; status = 1 })
+whole_of (RefusedBy fault) flag requests = Some (whole_at [] (Refused (refusals.Load fault)))
 whole_of (SoundAs description) flag requests =
     let outcome = outcome_of description flag requests in ended_if outcome.output outcome.ending
 

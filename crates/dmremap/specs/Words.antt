@@ -11,21 +11,19 @@ use Rattle.clap.specs.Simple.{on_top}
 use Rattle.clap.specs.Words.{AddsSubcommand, App, Row, Rule, Text, app_of, fault_of, first_of, kind_of}
 use Rattle.clap.specs.Words.{matches_of, new_app, new_rule, subcommand_of, with_rule, with_subcommand}
 use Rattle.clap.specs.declared.builder.command.Command.{Command}
-use Rattle.clap.specs.declared.builder.ArgAction.TheVariants.{SetTrue}
+use Rattle.clap.specs.declared.builder.ArgAction.{ArgAction}
+use Rattle.clap.specs.declared.builder.ArgAction.TheVariants.{SetTrue, Version}
 use Rattle.clap.specs.declared.builder.value_parser.ValueParser.{ValueParser}
 use Rattle.clap.specs.declared.builder.value_parser.ValueParser.TheVariants.{Names}
 use Rattle.clap.specs.declared.error.Error.{Error}
 use Rattle.clap.specs.declared.error.kind.ErrorKind.{ErrorKind}
 use Rattle.clap.specs.declared.error.kind.ErrorKind.TheVariants as kind
-use Rattle.dmremap.specs.declared.words.Form.{Form}
-use Rattle.dmremap.specs.declared.words.Form.TheVariants as forms
-use Rattle.dmremap.specs.declared.words.Format.{Format}
-use Rattle.dmremap.specs.declared.words.Format.TheVariants.{Concise, Lvm, Table}
-use Rattle.dmremap.specs.declared.words.Files.{Files}
-use Rattle.dmremap.specs.declared.words.Task.{Task}
-use Rattle.dmremap.specs.declared.words.Task.TheVariants as task
-use Rattle.lvm_volume.specs.Names.{NameParts}
-use Rattle.dmremap.specs.declared.words.Job.{Job}
+use Rattle.dmremap.specs.Job.{FileWords, JobWords, TaskWords, check_words, job_words, map_words, name_words, print_words, replay_words, split_words, task_has_its_disks, words_of}
+use Rattle.dmremap.specs.declared.job.Format.{Format}
+use Rattle.dmremap.specs.declared.job.Format.TheVariants.{Lvm, Tables}
+use Rattle.dmremap.specs.declared.job.Job.{Job}
+use Rattle.dmremap.specs.declared.job.TableForm.TheVariants.{Concise, Table}
+use Rattle.dmremap.specs.declared.status.TheConstants.{STATUS_DONE, STATUS_MEMORY, STATUS_WORDS}
 use Rattle.dmremap.specs.declared.words.WordsFault.{WordsFault}
 use Rattle.dmremap.specs.declared.words.WordsFault.TheVariants.{Words, Disks, Memory}
 
@@ -38,8 +36,8 @@ formats = codes "lvm" ∷ codes "concise" ∷ codes "table" ∷ []
 -- the format that a word names
 abbrev pub format_named : Text → Option Format
 format_named word = if bytes_eq word (codes "lvm") then Some Lvm
-    else (if bytes_eq word (codes "concise") then Some Concise
-    else (if bytes_eq word (codes "table") then Some Table else None))
+    else (if bytes_eq word (codes "concise") then Some (Tables Concise)
+    else (if bytes_eq word (codes "table") then Some (Tables Table) else None))
 
 -- clap takes these words and no other for FORMAT
 pub record TakesFormats (parser : ValueParser) : Type 0 where
@@ -60,8 +58,16 @@ abbrev pub optional_rule : Text → Rule
 optional_rule id = record (new_rule id) { value_names = 1 }
 
 -- a flag, `--NAME`, which may stand once
-abbrev pub flag_rule : Text → Rule
-flag_rule id = record (new_rule id) { long = Some id; action = Some SetTrue }
+abbrev pub flag_rule : Text → ArgAction → Rule
+flag_rule id action = record (new_rule id) { long = Some id; action = Some action }
+
+-- the flag that asks for status lines
+abbrev pub status_rule : Rule
+status_rule = flag_rule (codes "status") SetTrue
+
+-- the flag that asks for the version
+abbrev pub version_rule : Rule
+version_rule = flag_rule (codes "version") Version
 
 -- a command with three arguments
 abbrev pub three_app : Text → (first second third : Rule) → App
@@ -73,7 +79,7 @@ source_app name parser = three_app name (format_rule parser) (required_rule (cod
 
 -- `map FORMAT FILE [DISKS] [--status]`
 abbrev pub map_app : ValueParser → App
-map_app parser = with_rule (source_app (codes "map") parser) (flag_rule (codes "status"))
+map_app parser = with_rule (source_app (codes "map") parser) status_rule
 
 -- `name VG LV [LAYER]`
 abbrev pub name_app : App
@@ -83,14 +89,18 @@ name_app = three_app (codes "name") (required_rule (codes "vg")) (required_rule 
 abbrev pub split_app : App
 split_app = with_rule (new_app (codes "splitname")) (required_rule (codes "name"))
 
--- the program by itself, which asks for a command and without a word shows its help
+-- the program by itself, which asks for a command and without a word shows its help; its version has no short flag
 abbrev pub bare_app : App
-bare_app = on_top (λ s. record s { subcommand_required = true; arg_required_else_help = true })
-    (new_app (codes "dmremap"))
+bare_app = on_top (λ s. record s {
+  subcommand_required = true;
+  arg_required_else_help = true;
+  has_version = true;
+  disable_version_flag = true;
+}) (new_app (codes "dmremap"))
 
 -- the program with what may stand before the command
 abbrev pub program_app : App
-program_app = with_rule bare_app (flag_rule (codes "status"))
+program_app = with_rule (with_rule bare_app status_rule) version_rule
 
 -- the program with these commands
 abbrev pub with_commands : App → List App → App
@@ -109,43 +119,6 @@ IsCommand app command = (old new : Command) → AddsSubcommand old command new
     → app_of new ≡ with_subcommand (app_of old) app.top
 
 -- ---- what words say
-
--- files with their texts themselves
-pub record FileWords : Type 0 where
-  pub format : Format
-  pub file : Text
-  pub disks : Option Text
-
--- a task with its texts themselves
-pub data TaskWords : Type 0 where
-  map_words : FileWords → TaskWords
-  print_words : Form → FileWords → TaskWords
-  check_words : FileWords → TaskWords
-  replay_words : FileWords → TaskWords
-  name_words : NameParts → TaskWords
-  split_words : Text → TaskWords
-
--- the texts of files
-abbrev pub file_words : Files → FileWords
-file_words files = record { format = files.format; file = files.file.now; disks = option_map (λ d. d.now) files.disks }
-
--- the texts of a task
-abbrev pub words_of : Task → TaskWords
-words_of (task.Map files) = map_words (file_words files)
-words_of (task.Print form files) = print_words form (file_words files)
-words_of (task.Check files) = check_words (file_words files)
-words_of (task.Replay files) = replay_words (file_words files)
-words_of (task.Name vg lv layer) = name_words (record { vg = vg.now; lv = lv.now; layer = option_map (λ l. l.now) layer })
-words_of (task.SplitName name) = split_words name.now
-
--- a job with its texts themselves
-pub record JobWords : Type 0 where
-  pub task : TaskWords
-  pub status : Bool
-
--- the texts of a job
-abbrev pub job_words : Job → JobWords
-job_words job = record { task = words_of job.task; status = job.status }
 
 -- the files that these arguments say, of which the first two have to be there
 abbrev pub files_from : Option Text → Option Text → Option Text → Option FileWords
@@ -174,8 +147,8 @@ split_in rows = option_map split_words (first_of (codes "name") rows)
 abbrev pub task_of : Text → List Row → Option TaskWords
 task_of command rows =
     if bytes_eq command (codes "map") then option_map map_words (files_in rows)
-    else (if bytes_eq command (codes "table") then option_map (print_words forms.Table) (files_in rows)
-    else (if bytes_eq command (codes "concise") then option_map (print_words forms.Concise) (files_in rows)
+    else (if bytes_eq command (codes "table") then option_map (print_words Table) (files_in rows)
+    else (if bytes_eq command (codes "concise") then option_map (print_words Concise) (files_in rows)
     else (if bytes_eq command (codes "check") then option_map check_words (files_in rows)
     else (if bytes_eq command (codes "replay") then option_map replay_words (files_in rows)
     else (if bytes_eq command (codes "name") then name_in rows
@@ -202,29 +175,6 @@ job_of before command rows = if before && not (takes_status command rows) then N
 abbrev pub job_in : App → List Text → Option JobWords
 job_in line words =
     option_and_then (λ met. job_of (has_status (matches_of line words)) met.0 met.1) (subcommand_of line words)
-
--- the files that a task loads, if it loads any
-abbrev pub files_of : TaskWords → Option FileWords
-files_of (map_words files) = Some files
-files_of (print_words form files) = Some files
-files_of (check_words files) = Some files
-files_of (replay_words files) = Some files
-files_of (name_words parts) = None
-files_of (split_words name) = None
-
--- a list of disks goes with texts of this format
-abbrev pub has_disk_list : Format → Bool
-has_disk_list Lvm = false
-has_disk_list Concise = true
-has_disk_list Table = true
-
--- DISKS is there exactly where the format asks for it
-abbrev pub has_its_disks : FileWords → Bool
-has_its_disks files = if has_disk_list files.format then is_some files.disks else not (is_some files.disks)
-
--- so it is with the files of a task, where it loads any
-abbrev pub task_has_its_disks : TaskWords → Bool
-task_has_its_disks asked = option_map_or has_its_disks (files_of asked) true
 
 -- ---- what words give
 
@@ -296,11 +246,11 @@ is_shown kind.DisplayHelp = true
 is_shown kind.DisplayVersion = true
 is_shown _ = false
 
--- 0 for help, 2 for refused words, 6 where memory ran out
+-- the exit status of a fault
 abbrev pub status_of : WordsFault → ℕ
-status_of (Words error) = if is_shown (kind_of error) then 0 else 2
-status_of Disks = 2
-status_of Memory = 6
+status_of (Words error) = if is_shown (kind_of error) then STATUS_DONE else STATUS_WORDS
+status_of Disks = STATUS_WORDS
+status_of Memory = STATUS_MEMORY
 
 -- ---- clap's errors as faults
 

@@ -15,9 +15,9 @@ ghost use Rattle.dm_table.specs.PartInput.{Refuses, TextOf, part_read};
 ghost use Rattle.dm_table.specs.Progress.{IsReadOn};
 ghost use Rattle.dmremap.specs.Inputs.{IsReadOnIf, delivery_if};
 ghost use Rattle.dmremap.specs.Load.{Describes, DescribesDevices, Loads, device_checks, MetadataGives, MetadataPartGives, PartsGive, TextPartsGive, TextsGive};
-ghost use Rattle.dmremap.specs.Words.{has_disk_list};
+ghost use Rattle.dmremap.specs.Job.{has_disk_list};
 
-use crate::words::{Form, Format};
+use crate::job::{Format, TableForm};
 use dm_stack::Stack;
 use dm_table::{
     DeviceSpec, Disk, Input, LoadFault, Part, parse_concise, parse_disks, parse_table, read_part,
@@ -42,15 +42,14 @@ pub(crate) fn load<S: Input, D: Input>(
 {
     match format {
         Format::Lvm => load_metadata(alloc, source),
-        Format::Concise => load_tables(alloc, Form::Concise, source, disks),
-        Format::Table => load_tables(alloc, Form::Table, source, disks),
+        Format::Tables(form) => load_tables(alloc, form, source, disks),
     }
 }
 
 /// What a text of devices in a form and a disk list give.
 fn load_tables<S: Input, D: Input>(
     alloc: Global,
-    form: Form,
+    form: TableForm,
     source: &mut S,
     disks: &mut Option<D>,
 ) -> Result<Stack, LoadFault>
@@ -79,7 +78,12 @@ fn read_disks<D: Input>(alloc: Global, disks: &mut Option<D>) -> Result<Vec<u8>,
 }
 
 /// What two texts give.
-fn load_texts(alloc: Global, form: Form, source: &[u8], list: &[u8]) -> Result<Stack, LoadFault>
+fn load_texts(
+    alloc: Global,
+    form: TableForm,
+    source: &[u8],
+    list: &[u8],
+) -> Result<Stack, LoadFault>
     ensures { Loads (TextsGive form source.now list.now) result }
 {
     let (devices, disks) = parse_texts(alloc, form, source, list)?;
@@ -89,7 +93,7 @@ fn load_texts(alloc: Global, form: Form, source: &[u8], list: &[u8]) -> Result<S
 /// What two texts describe, or the first fault of the source's, and else of the disk list's.
 fn parse_texts(
     alloc: Global,
-    form: Form,
+    form: TableForm,
     source: &[u8],
     list: &[u8],
 ) -> Result<(Vec<DeviceSpec>, Vec<Disk>), LoadFault>
@@ -102,14 +106,14 @@ fn parse_texts(
 }
 
 /// What a text of devices in a form describes, or the first fault of it.
-fn parse_devices(alloc: Global, form: Form, text: &[u8]) -> Result<Vec<DeviceSpec>, LoadFault>
+fn parse_devices(alloc: Global, form: TableForm, text: &[u8]) -> Result<Vec<DeviceSpec>, LoadFault>
     ensures described { IfOk result (λ devices. DescribesDevices form text.now devices.items) }
     ensures sound { OnOk result (first_fault (device_checks form text.now) ≡ None) }
     ensures refused { IfErr result (λ fault. fault.kind ≢ Memory → first_fault (device_checks form text.now) ≡ Some fault) }
 {
     match form {
-        Form::Table => parse_table(alloc, text),
-        Form::Concise => parse_concise(alloc, text),
+        TableForm::Table => parse_table(alloc, text),
+        TableForm::Concise => parse_concise(alloc, text),
     }
 }
 

@@ -1,30 +1,33 @@
 //! dmremap maps block requests through device-mapper tables to the disks below.
 //!
-//! This file is the table of contents: `words` reads the command line, `map_whole`, `replay_whole` and
-//! `other_whole` do the work, and `main` joins them to the real files and streams and does nothing else.
+//! This file is the table of contents: `words` reads the command line, `map_whole` and `other_whole` do the
+//! work, and `main` joins them to the real files and streams and does nothing else.
 #![tactic(auto)]
 
 ghost use Rattle.std.specs.Prelude.{◌≡◌, is_some, true};
+ghost use Rattle.dmremap.specs.Job.{file_words, has_its_disks, task_has_its_disks, words_of};
 ghost use Rattle.dmremap.specs.OtherWhole.{is_other};
-ghost use Rattle.dmremap.specs.Words.{file_words, has_its_disks, task_has_its_disks, words_of};
 
+mod exit;
+mod help;
+mod job;
 mod load;
 mod map_whole;
 mod other_whole;
 mod part_file;
+mod printing;
 mod replay_run;
-mod replay_whole;
 mod status;
 mod words;
 
 use dm_table::{Counted, Gathered};
+use job::{Files, Job, Task};
 use map_whole::map_whole;
 use other_whole::other_whole;
 use part_file::PartFile;
-use replay_whole::replay_whole;
 use std::io;
 use std::process::ExitCode;
-use words::{Files, Job, Task, WordsFault, not_text, read_words};
+use words::{WordsFault, not_text, read_words};
 
 fn main(rt: HostRuntime) -> ExitCode {
     let status = match answer(&rt) {
@@ -44,8 +47,7 @@ fn answer(rt: &HostRuntime) -> Result<u8, WordsFault> {
     let job = read_words(rt.alloc(), words.as_slice())?;
     match job.task {
         Task::Map(files) => Ok(map_files(rt, files, job.status)),
-        Task::Replay(files) => Ok(replay_files(rt, files)),
-        _ => Ok(print_job(rt, &job)),
+        _ => Ok(do_other(rt, &job)),
     }
 }
 
@@ -75,24 +77,8 @@ fn map_files(rt: &HostRuntime, files: Files<'_>, status: bool) -> u8
     )
 }
 
-/// Replays the requests of the standard input on the disks of files.
-fn replay_files(rt: &HostRuntime, files: Files<'_>) -> u8
-    requires disks { has_its_disks (file_words files) ≡ true }
-{
-    let mut disks = disk_list_of(rt, files);
-    replay_whole(
-        rt.alloc(),
-        files.format,
-        &mut file_at(rt, files.file),
-        &mut disks,
-        &mut Counted::new(rt.stdin()),
-        &mut Gathered::new(Counted::new(rt.stdout())),
-        &mut Counted::new(rt.stderr()),
-    )
-}
-
-/// Does a job that has no requests.
-fn print_job<'r>(rt: &'r HostRuntime, job: &'r Job<'r>) -> u8
+/// Does a job of another command.
+fn do_other<'r>(rt: &'r HostRuntime, job: &'r Job<'r>) -> u8
     requires other { is_other (words_of job.now.task) ≡ true }
     requires disks { task_has_its_disks (words_of job.now.task) ≡ true }
 {

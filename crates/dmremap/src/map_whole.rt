@@ -21,19 +21,20 @@ ghost use Rattle.dm_stream.specs.declared.lines.TheConstants.{MOST_LINE_BYTES};
 ghost use Rattle.dm_stream.specs.declared.requests.TheConstants.{MOST_REQUESTS};
 ghost use Rattle.dm_stream.specs.Messages.{IsTold};
 ghost use Rattle.dm_stream.specs.Pieces.{AreFewest, fewest};
-ghost use Rattle.dmremap.specs.declared.words.Format.{Format};
+ghost use Rattle.dmremap.specs.declared.job.Format.{Format};
+ghost use Rattle.dmremap.specs.declared.status.TheConstants.{STATUS_MEMORY, STATUS_WRITE_FAULT};
 ghost use Rattle.dmremap.specs.Inputs.{IsReadOnIf, IsUnchanged, delivery_if};
+ghost use Rattle.dmremap.specs.Job.{has_disk_list};
 ghost use Rattle.dmremap.specs.Load.{PartsGive, SoundAs};
 ghost use Rattle.dmremap.specs.Streams.{MessagesTold, OutputWritten, RequestsRead};
 ghost use Rattle.dmremap.specs.Whole.{GiveWhole, Whole, outcome_of};
-ghost use Rattle.dmremap.specs.Words.{has_disk_list};
 
 #[cfg(test)]
 mod tests;
 
+use crate::exit::Exit;
+use crate::job::Format;
 use crate::load::load;
-use crate::status::{ending_status, refuse};
-use crate::words::Format;
 use dm_map::{Mapper, RunTaken};
 use dm_stream::run;
 use dm_table::{Input, LoadFault, Output, Part};
@@ -81,7 +82,7 @@ pub fn map_whole<S: Input, D: Input, Q: Input, W: Output, M: Output>(
         → IsFreeOfLevels description Op.Read × IsFreeOfLevels description Op.Write × AreHomesFreeOfLevels description }
 
     // Unless the output failed or memory ran out, the deliveries determine everything.
-    ensures whole { result ≢ 5 → result ≢ 6 → (message : List ℕ) × GiveWhole format status
+    ensures whole { result ≢ STATUS_WRITE_FAULT → result ≢ STATUS_MEMORY → (message : List ℕ) × GiveWhole format status
         (delivery S.handed S.faults S.ends source.old source.new)
         (delivery_if D.handed D.faults D.ends disks.old disks.new)
         (delivery Q.handed Q.faults Q.ends requests.old requests.new)
@@ -90,17 +91,17 @@ pub fn map_whole<S: Input, D: Input, Q: Input, W: Output, M: Output>(
 
     // The output failed: a beginning of it was written, that of the bytes which the requests delivered. Something was left to
     // write where no flush was asked, and nothing where the flush failed. So an empty output asks nothing of it but a flush.
-    ensures beginning { result ≡ 5 → (description : Description) × PartsGive format
+    ensures beginning { result ≡ STATUS_WRITE_FAULT → (description : Description) × PartsGive format
         (delivery S.handed S.faults S.ends source.old source.new)
         (delivery_if D.handed D.faults D.ends disks.old disks.new) (SoundAs description)
         × FailedOutput (outcome_of description status (delivery Q.handed Q.faults Q.ends requests.old requests.new)).output
         (since (W.written output.old) (W.written output.new)) (W.flushes output.old) (W.flushes output.new) }
 
     // Memory ran out: nothing was written or flushed, and requests were not asked for.
-    ensures memory { result ≡ 6 → (since (W.written output.old) (W.written output.new) ≡ [])
+    ensures memory { result ≡ STATUS_MEMORY → (since (W.written output.old) (W.written output.new) ≡ [])
         × IsTold memory_message (since (M.written messages.old) (M.written messages.new)) (M.faults messages.old) (M.faults messages.new) }
-    ensures unloaded { result ≡ 6 → W.flushes output.new ≡ W.flushes output.old }
-    ensures unasked_memory { result ≡ 6 → IsUnchanged Q.handed Q.faults Q.ends requests.old requests.new }
+    ensures unloaded { result ≡ STATUS_MEMORY → W.flushes output.new ≡ W.flushes output.old }
+    ensures unasked_memory { result ≡ STATUS_MEMORY → IsUnchanged Q.handed Q.faults Q.ends requests.old requests.new }
 
     // Each input is only read on, and nothing is asked of it after an end or a fault.
     ensures source_read_on { IsReadOn S.handed S.faults S.ends source.old source.new }
@@ -117,12 +118,12 @@ pub fn map_whole<S: Input, D: Input, Q: Input, W: Output, M: Output>(
 {
     let stack = match load(alloc, format, source, disks) {
         Ok(stack) => stack,
-        Err(fault) => return refuse(fault, messages),
+        Err(fault) => return Exit::unloaded(fault).tell(messages),
     };
     match Mapper::<RunTaken>::new(alloc, stack.looker()) {
         Ok(mut mapper) => {
-            ending_status(run(&stack, &mut mapper, requests, output, messages, status))
+            Exit::Ended(run(&stack, &mut mapper, requests, output, messages, status)).status()
         }
-        Err(_) => refuse(LoadFault::memory(Part::Source), messages),
+        Err(_) => Exit::unloaded(LoadFault::memory(Part::Source)).tell(messages),
     }
 }

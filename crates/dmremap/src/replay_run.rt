@@ -1,7 +1,6 @@
-//! Playing requests to an output: the handler of a replay, and the run of its lines.
+//! Replaying requests on the disks of a stack: the handler of a replay, and the run of its lines.
 //!
-//! `specs/ReplayOutcome.antt` says what is written and where it ends, and `specs/Played.antt` what one
-//! request adds to it.
+//! `specs/ReplayOutcome.antt` says what is written for the requests, and what one request adds to it.
 
 ghost use Rattle.std.specs.Prelude.{◌≡◌, false};
 ghost use Rattle.dm_table.specs.DeviceIo.{delivery, since};
@@ -9,39 +8,20 @@ ghost use Rattle.dm_table.specs.Progress.{HasWritten, HasWrittenTo, IsReadOn};
 ghost use Rattle.dm_table.proofs.ProgressLaws.{written_to_none, written_to_more};
 ghost use Rattle.dm_stream.specs.Requests.{requests_of};
 ghost use Rattle.dm_replay.specs.Replay.{new_replay};
-ghost use Rattle.dmremap.specs.Played.{HasPlayed, HasStopped, end_for, failed_writes};
+ghost use Rattle.dmremap.specs.Exit.{failed_writes};
+ghost use Rattle.dmremap.specs.OtherWhole.{ReplaysStack};
 ghost use Rattle.dmremap.specs.PlayedLaws.{played_none, played_more, stopped_more};
-ghost use Rattle.dmremap.specs.ReplayOutcome.{HasMetEnd, IsPlayed, end_faults};
+ghost use Rattle.dmremap.specs.ReplayOutcome.{HasPlayed, HasStopped, IsPlayed};
+ghost use Rattle.dmremap.specs.Streams.{AskedBy, HasMetBy};
 ghost use Rattle.std.proofs.Common.{refl, subst, ◌∙◌};
 
+use crate::exit::{Exit, Refusal};
 use dm_map::RunTaken;
 use dm_replay::{Replay, ReplayFault, write_runs};
 use dm_stack::Stack;
 use dm_stream::{Ending, Handler, handle_requests};
-use dm_table::{Input, OutFault, Output, Request};
+use dm_table::{Input, LoadFault, OutFault, Output, Part, Request};
 use std::alloc::Global;
-
-/// Where a replay of requests ends.
-#[derive(Clone, Copy, PartialEq, Eq)]
-pub(crate) enum ReplayEnd {
-    /// At the end of the requests, at a bad line, or where reading or writing failed.
-    Ran(Ending),
-    /// The request of this number names no top device; those before it were answered.
-    NotTop(u64),
-    /// Memory ran out at a request; those before it were answered.
-    Memory,
-}
-
-/// Why a request was not played, or its answer not written.
-#[derive(Clone, Copy)]
-pub(crate) enum NotPlayed {
-    /// The request of this number names no top device.
-    NotTop(u64),
-    /// Memory ran out.
-    Memory,
-    /// Writing the answer failed.
-    Output,
-}
 
 /// Plays requests, and writes what their sectors answer.
 #[derive(Drop)]
@@ -54,7 +34,7 @@ struct RequestPlayer<'m, 's, W> {
 impl<'s, W: Output> Handler for RequestPlayer<'_, 's, W> {
     type Source = Replay<'s, RunTaken>;
 
-    type Fault = NotPlayed;
+    type Fault = Exit;
 
     ghost ready = { λ h replay. (replay.stack ≡ h.stack.now) × (replay.stopped ≡ false) };
 
@@ -63,9 +43,9 @@ impl<'s, W: Output> Handler for RequestPlayer<'_, 's, W> {
         × HasWrittenTo W.written W.waiting W.faults W.flushes old.output new.output 0
         × (after.stack ≡ before.stack) };
 
-    ghost stopped = { λ old before requests fault new after.
-        HasStopped before.stack fault before.asked requests (W.written old.output.now) (W.written new.output.now)
-        × HasWrittenTo W.written W.waiting W.faults W.flushes old.output new.output (failed_writes fault) };
+    ghost stopped = { λ old before requests exit new after.
+        HasStopped before.stack exit before.asked requests (since (W.written old.output.now) (W.written new.output.now))
+        × HasWrittenTo W.written W.waiting W.faults W.flushes old.output new.output (failed_writes exit) };
 
     ghost answered_none = { λ h replay. (
       played_none replay.stack replay.asked (W.written h.output.now),
@@ -80,24 +60,24 @@ impl<'s, W: Output> Handler for RequestPlayer<'_, 's, W> {
       second.2 ∙ first.2,
     ) };
 
-    ghost answered_then_stopped = { λ a b c s t u us vs fault first second. (
-      stopped_more s.stack fault s.asked t.asked us vs _ _ _ first.1.moved.appends second.1.moved.appends first.0
-          (subst (λ stack. HasStopped stack fault t.asked vs (W.written b.output.now) (W.written c.output.now)) first.2 second.0),
-      written_to_more W.written W.waiting W.faults W.flushes a.output b.output c.output (failed_writes fault) first.1 second.1,
+    ghost answered_then_stopped = { λ a b c s t u us vs exit first second. (
+      stopped_more s.stack exit s.asked t.asked us vs _ _ _ first.1.moved.appends second.1.moved.appends first.0
+          (subst (λ stack. HasStopped stack exit t.asked vs (since (W.written b.output.now) (W.written c.output.now))) first.2 second.0),
+      written_to_more W.written W.waiting W.faults W.flushes a.output b.output c.output (failed_writes exit) first.1 second.1,
     ) };
 
     fn handle(
         &mut self,
         replay: &mut Replay<'s, RunTaken>,
         request: &Request<'_>,
-    ) -> Result<(), NotPlayed> {
+    ) -> Result<(), Exit> {
         match replay.request(self.alloc, request) {
             Ok(runs) => match write_runs(self.stack, request.number, &runs, &mut *self.output) {
                 Ok(()) => Ok(()),
-                Err(OutFault) => Err(NotPlayed::Output),
+                Err(OutFault) => Err(Exit::Ended(Ending::WriteFault)),
             },
-            Err(ReplayFault::NotTop) => Err(NotPlayed::NotTop(request.number)),
-            Err(ReplayFault::Memory) => Err(NotPlayed::Memory),
+            Err(ReplayFault::NotTop) => Err(Exit::NotTop(request.number)),
+            Err(ReplayFault::Memory) => Err(Exit::Memory),
             Err(ReplayFault::Untidy | ReplayFault::Stopped) => unreachable!(),
         }
     }
@@ -107,48 +87,37 @@ impl<'s, W: Output> Handler for RequestPlayer<'_, 's, W> {
     }
 }
 
-/// Where a replay ends that stopped.
-fn end_of(cause: NotPlayed) -> ReplayEnd
-    ensures { result ≡ end_for cause }
-{
-    match cause {
-        NotPlayed::NotTop(number) => ReplayEnd::NotTop(number),
-        NotPlayed::Memory => ReplayEnd::Memory,
-        NotPlayed::Output => ReplayEnd::Ran(Ending::WriteFault),
-    }
-}
-
 /// Plays requests through a player, up to the first bad one, an end or a fault. Nothing is flushed.
 fn play_lines<'s, Q: Input, W: Output>(
     requests: &mut Q,
     replay: &mut Replay<'s, RunTaken>,
     player: &mut RequestPlayer<'_, 's, W>,
-) -> ReplayEnd
+) -> Exit
     requires new { replay.old ≡ new_replay player.old.stack.now }
     ensures reads { IsReadOn Q.handed Q.faults Q.ends requests.old requests.new }
-    ensures met { HasMetEnd result Q.faults Q.ends requests.old requests.new }
-    ensures writes { HasWrittenTo W.written W.waiting W.faults W.flushes player.old.output player.new.output (end_faults result) }
+    ensures met { HasMetBy result Q.faults Q.ends requests.old requests.new }
+    ensures writes { HasWrittenTo W.written W.waiting W.faults W.flushes player.old.output player.new.output (failed_writes result) }
     ensures played { IsPlayed player.old.stack.now (requests_of (delivery Q.handed Q.faults Q.ends requests.old requests.new))
         (since (W.written player.old.output.now) (W.written player.new.output.now)) result }
 {
     match handle_requests(requests, player, replay) {
-        Ok(ending) => ReplayEnd::Ran(ending),
-        Err(cause) => end_of(cause),
+        Ok(ending) => Exit::Ended(ending),
+        Err(exit) => exit,
     }
 }
 
-/// The same for a replay of a stack and an output, which the caller has back afterwards.
-pub(crate) fn play_requests<'s, Q: Input, W: Output>(
+/// Plays requests to an output, up to the first bad one, an end or a fault. Nothing is flushed.
+fn play_requests<'s, Q: Input, W: Output>(
     alloc: Global,
     stack: &'s Stack,
     replay: &mut Replay<'s, RunTaken>,
     requests: &mut Q,
     output: &mut W,
-) -> ReplayEnd
+) -> Exit
     requires new { replay.old ≡ new_replay stack.now }
     ensures reads { IsReadOn Q.handed Q.faults Q.ends requests.old requests.new }
-    ensures met { HasMetEnd result Q.faults Q.ends requests.old requests.new }
-    ensures writes { HasWritten W.written W.waiting W.faults W.flushes output.old output.new (end_faults result) }
+    ensures met { HasMetBy result Q.faults Q.ends requests.old requests.new }
+    ensures writes { HasWritten W.written W.waiting W.faults W.flushes output.old output.new (failed_writes result) }
     ensures played { IsPlayed stack.now (requests_of (delivery Q.handed Q.faults Q.ends requests.old requests.new))
         (since (W.written output.old) (W.written output.new)) result }
 {
@@ -157,10 +126,29 @@ pub(crate) fn play_requests<'s, Q: Input, W: Output>(
         stack,
         output,
     };
-    let ended = play_lines(requests, replay, &mut player);
+    let exit = play_lines(requests, replay, &mut player);
     let RequestPlayer {
         output: _output,
         ..
     } = player;
-    ended
+    exit
+}
+
+/// Replays requests on the disks of a stack, and says how the command would exit. Nothing is flushed.
+pub(crate) fn replay_stack<Q: Input, W: Output>(
+    alloc: Global,
+    stack: &Stack,
+    requests: &mut Q,
+    output: &mut W,
+) -> Exit
+    ensures did { ReplaysStack stack.now (delivery Q.handed Q.faults Q.ends requests.old requests.new)
+        (since (W.written output.old) (W.written output.new)) result }
+    ensures writes { HasWritten W.written W.waiting W.faults W.flushes output.old output.new (failed_writes result) }
+    ensures asked { AskedBy Q.handed Q.faults Q.ends requests.old requests.new result }
+{
+    match Replay::<RunTaken>::new(alloc, stack) {
+        Ok(mut replay) => play_requests(alloc, stack, &mut replay, requests, output),
+        Err(ReplayFault::Untidy) => Exit::Refused(Refusal::Untidy),
+        Err(_) => Exit::unloaded(LoadFault::memory(Part::Source)),
+    }
 }

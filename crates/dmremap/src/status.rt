@@ -1,45 +1,22 @@
-//! Exit statuses, and the messages that go with them: of a refused load, and of how a run ended.
+//! The exit statuses. Their numbers stand here and nowhere else.
 
-ghost use Rattle.std.specs.Prelude.{◌≡◌};
-ghost use Rattle.dm_table.specs.LoadMessage.{load_message};
-ghost use Rattle.dm_stream.specs.Messages.{ending_message};
-ghost use Rattle.dmremap.specs.Status.{ending_status, load_status};
-ghost use Rattle.dmremap.specs.Streams.{Exits};
+/// All was done, or help or the version was asked for.
+pub const STATUS_DONE: u8 = 0;
 
-use dm_stream::{Ending, message_of, tell};
-use dm_table::{LoadFault, LoadKind, Output};
+/// The source, the disk list or a name was refused, or `replay` refused an untidy stack; nothing was written.
+pub const STATUS_REFUSED: u8 = 1;
 
-/// Tells why a load was refused, and returns the exit status.
-pub(crate) fn refuse<M: Output>(fault: LoadFault, messages: &mut M) -> u8
-    ensures { Exits M.written M.faults M.flushes (load_status fault.kind) (load_message fault) result messages.old messages.new }
-{
-    tell(messages, fault.message().as_slice());
-    load_status(fault.kind)
-}
+/// The words were refused.
+pub const STATUS_WORDS: u8 = 2;
 
-/// The exit status of a refused load.
-fn load_status(kind: LoadKind) -> u8
-    ensures { result ≡ load_status kind }
-{
-    if kind == LoadKind::Memory { 6 } else { 1 }
-}
+/// A request was refused; those before it were answered.
+pub const STATUS_BAD_REQUEST: u8 = 3;
 
-/// Tells how a run ended, and returns the exit status.
-pub(crate) fn tell_ending<M: Output>(ending: Ending, messages: &mut M) -> u8
-    ensures { Exits M.written M.faults M.flushes (ending_status ending) (ending_message ending) result messages.old messages.new }
-{
-    tell(messages, message_of(ending).as_slice());
-    ending_status(ending)
-}
+/// Reading requests failed; those before were answered.
+pub const STATUS_READ_FAULT: u8 = 4;
 
-/// The exit status of an ending.
-pub(crate) fn ending_status(ending: Ending) -> u8
-    ensures { result ≡ ending_status ending }
-{
-    match ending {
-        Ending::Done => 0,
-        Ending::BadRequest(_, _) => 3,
-        Ending::ReadFault => 4,
-        Ending::WriteFault => 5,
-    }
-}
+/// Writing or flushing the output failed.
+pub const STATUS_WRITE_FAULT: u8 = 5;
+
+/// Memory ran out.
+pub const STATUS_MEMORY: u8 = 6;

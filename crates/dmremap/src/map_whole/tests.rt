@@ -8,6 +8,7 @@
 ghost use Rattle.std.specs.Prelude.{◌<◌};
 
 use super::*;
+use crate::job::TableForm;
 use dm_table::{ShortIn, ShortOut};
 use std::alloc::AllocError;
 use std::process::Abort;
@@ -130,7 +131,7 @@ fn check(rt: &impl Abort, alloc: Global, case: &Case<'_>) {
     let mut messages = output(rt, alloc, step, streams.messages, false);
     let status = map_whole(
         alloc,
-        Format::Table,
+        Format::Tables(TableForm::Table),
         case.flag,
         &mut source,
         &mut disks,

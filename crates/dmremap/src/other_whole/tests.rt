@@ -1,15 +1,19 @@
-//! The commands that print, over inputs and outputs in memory that go short or fail.
+//! The commands that print, over inputs and outputs in memory that go short or fail; `replays` has those of
+//! `replay`.
 //!
 //! What is printed of which texts is tested on the built program (`tests/outside`). Here each command is
 //! called with ample memory, and its output and its messages fail after each of their bytes in turn.
 
 ghost use Rattle.std.specs.Prelude.{◌<◌, ◌≡◌, is_some, true};
+ghost use Rattle.dmremap.specs.Job.{words_of};
 ghost use Rattle.dmremap.specs.OtherWhole.{has_list, has_source, is_other};
-ghost use Rattle.dmremap.specs.Words.{words_of};
 
 use super::*;
+use crate::job::{Files, TableForm};
 use dm_table::{ShortIn, ShortOut};
 use std::process::Abort;
+
+mod replays;
 
 /// More than any stream of a case has.
 const PLENTY: usize = 4096;
@@ -41,7 +45,7 @@ vg0 {
 /// What is asked for.
 #[derive(Clone, Copy)]
 enum Asked {
-    Print(Form, Format),
+    Print(TableForm, Format),
     Check,
     Name(&'static str, &'static str),
     SplitName(&'static str),
@@ -50,49 +54,49 @@ enum Asked {
 /// What is asked for, of a source and disks, and what is printed at status 0, or told at another one.
 static ROWS: [(Asked, &str, &str, &str, u8); 13] = [
     (
-        Asked::Print(Form::Table, Format::Table),
+        Asked::Print(TableForm::Table, Format::Tables(TableForm::Table)),
         "b: 0 9 zero\nb: 9 8 linear sda 1\na: 0 16 striped 2 4 /dev/mapper/b 9 sda 0\n",
         "sda 9\n",
         "b: 0 9 zero\nb: 9 8 linear sda 1\na: 0 16 striped 2 4 /dev/mapper/b 9 sda 0\n",
         0,
     ),
     (
-        Asked::Print(Form::Concise, Format::Table),
+        Asked::Print(TableForm::Concise, Format::Tables(TableForm::Table)),
         "a: 0 8 error \n",
         "",
         "a,,,rw,0 8 error\n",
         0,
     ),
     (
-        Asked::Print(Form::Table, Format::Concise),
+        Asked::Print(TableForm::Table, Format::Tables(TableForm::Concise)),
         "a,LVM-x,3,ro,0 8 linear sda 0;b,,,,0 8 linear /dev/mapper/a 0\n",
         "sda 8\n",
         "a: 0 8 linear sda 0\nb: 0 8 linear /dev/mapper/a 0\n",
         0,
     ),
     (
-        Asked::Print(Form::Concise, Format::Concise),
+        Asked::Print(TableForm::Concise, Format::Tables(TableForm::Concise)),
         "a,,,,0 8 zero;b,,,,0 8 zero, 8 8 error\n",
         "",
         "a,,,rw,0 8 zero;b,,,rw,0 8 zero,8 8 error\n",
         0,
     ),
     (
-        Asked::Print(Form::Concise, Format::Concise),
+        Asked::Print(TableForm::Concise, Format::Tables(TableForm::Concise)),
         "\n",
         "",
         "\n",
         0,
     ),
     (
-        Asked::Print(Form::Table, Format::Lvm),
+        Asked::Print(TableForm::Table, Format::Lvm),
         GROUP,
         "",
         "vg0-lv--0: 0 8 linear /dev/sda1 16\n",
         0,
     ),
     (
-        Asked::Print(Form::Concise, Format::Lvm),
+        Asked::Print(TableForm::Concise, Format::Lvm),
         GROUP,
         "",
         "vg0-lv--0,,,ro,0 8 linear /dev/sda1 16\n",
@@ -152,7 +156,7 @@ fn task_of(asked: Asked) -> Task<'static>
 {
     match asked {
         Asked::Print(form, format) => Task::Print(form, files_in(format)),
-        Asked::Check => Task::Check(files_in(Format::Table)),
+        Asked::Check => Task::Check(files_in(Format::Tables(TableForm::Table))),
         Asked::Name(vg, lv) => Task::Name {
             vg,
             lv,

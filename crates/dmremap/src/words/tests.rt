@@ -17,7 +17,7 @@ fn words_of<'a>(rt: &impl Abort, alloc: Global, line: &'a str) -> Vec<&'a str> {
 }
 
 // The files of a table and of metadata, as a task shows them.
-const TABLE: &str = r#"Files { format: Table, file: "a.table", disks: Some("a.disks") }"#;
+const TABLE: &str = r#"Files { format: Tables(Table), file: "a.table", disks: Some("a.disks") }"#;
 
 const BACKUP: &str = r#"Files { format: Lvm, file: "vg0.backup", disks: None }"#;
 
@@ -32,14 +32,14 @@ static TASKS: [(&str, &str, &str); 17] = [
     (
         "map concise f d",
         "Map(",
-        r#"Files { format: Concise, file: "f", disks: Some("d") }"#,
+        r#"Files { format: Tables(Concise), file: "f", disks: Some("d") }"#,
     ),
     ("check table a.table a.disks", "Check(", TABLE),
     ("replay table a.table a.disks", "Replay(", TABLE),
     (
         "map table -- - d",
         "Map(",
-        r#"Files { format: Table, file: "-", disks: Some("d") }"#,
+        r#"Files { format: Tables(Table), file: "-", disks: Some("d") }"#,
     ),
     (
         "name vg0 lv-1",

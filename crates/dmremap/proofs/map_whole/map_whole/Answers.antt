@@ -1,12 +1,15 @@
 use Rattle.std.proofs.Common.{ap, ◌≡◌, ◌∙◌}
 use Rattle.dm_table.specs.DeviceIo.{delivery}
-use Rattle.dm_table.specs.LoadMessage.{load_message}
 use Rattle.dm_map.specs.State.{start_state}
 use Rattle.dm_map.proofs.LevelLemmas.{homes_free, reads_free, writes_free}
 use Rattle.dm_stream.specs.Messages.{ending_message}
 use Rattle.dm_table.proofs.ProgressLaws.{since-same}
 use Rattle.dm_stream.proofs.FewestLemmas.{fewest_is}
-use Rattle.dmremap.proofs.ExitLemmas.{one_or_six, ran_failed, ran_messages, ran_output, ran_requests, ran_whole, refused_whole, untouched_output, untouched_requests}
+use Rattle.dmremap.specs.declared.exit.Exit.TheVariants as exits
+use Rattle.dmremap.specs.declared.exit.Refusal.TheVariants as refusals
+use Rattle.dmremap.specs.Exit.{exit_message, exit_status}
+use Rattle.dmremap.proofs.ExitLemmas.{exits_told, ran_requests, read_on_none, refused_output, unasked_requests, unchanged}
+use Rattle.dmremap.proofs.MapLemmas.{ran_failed, ran_output, ran_whole, refused_whole}
 use Rattle.dmremap.proofs.OneWhole.{one_whole}
 use Rattle.dmremap.proofs.map_whole.map_whole.Goals as goal
 
@@ -14,9 +17,9 @@ use Rattle.dmremap.proofs.map_whole.map_whole.Goals as goal
 
 pub returns-in-Err-clause-whole : goal.returns-in-Err-clause-whole
 returns-in-Err-clause-whole g c = λ five six. (
-  load_message c.in-Err.fault,
-  refused_whole _ _ _ _ _ _ c.in-Err.fault _ c.in-Err.ensures.gives.refused (since-same (g.W.Output.written c.args.output.now)) c.refuse.ensures.is six,
-  c.refuse.ensures.told.told,
+  exit_message c.unloaded.result,
+  refused_whole _ _ _ _ _ _ c.in-Err.fault c.unloaded.result _ c.unloaded.ensures c.in-Err.ensures.gives.refused (since-same (g.W.Output.written c.args.output.now)) c.tell.ensures.is six,
+  c.tell.ensures.told.told,
 )
 
 -- ---- the requests were run
@@ -25,7 +28,7 @@ pub returns-in-Ok-new-clause-whole : goal.returns-in-Ok-new-clause-whole
 returns-in-Ok-new-clause-whole g c = λ five six.
     let starts : c.in-Ok-new.mapper.state ≡ start_state c.in-Ok.stack = c.in-Ok-new.ensures.state ∙ ap start_state c.looker.ensures.stack in (
       ending_message c.run.result,
-      ran_whole _ _ _ _ _ _ _ _ _ _ _ c.in-Ok.stack c.in-Ok-new.mapper.state _ c.run.result _ c.in-Ok.ensures.gives.sound starts c.run.ensures.ran c.ending_status.ensures five,
+      ran_whole _ _ _ _ _ _ _ _ _ _ _ c.in-Ok.stack c.in-Ok-new.mapper.state _ c.run.result _ c.in-Ok.ensures.gives.sound starts c.run.ensures.ran c.status.ensures five,
       c.run.ensures.told.told,
     )
 
@@ -35,25 +38,28 @@ returns-in-Ok-new-clause-beginning g c = λ five.
     let starts : c.in-Ok-new.mapper.state ≡ start_state c.in-Ok.stack = c.in-Ok-new.ensures.state ∙ ap start_state c.looker.ensures.stack in (
       c.in-Ok.stack,
       c.in-Ok.ensures.gives.sound,
-      ran_failed _ _ _ _ _ _ c.args.status requests c.in-Ok.stack c.in-Ok-new.mapper.state _ c.run.result _ starts c.run.ensures.ran c.ending_status.ensures five,
+      ran_failed _ _ _ _ _ _ c.args.status requests c.in-Ok.stack c.in-Ok-new.mapper.state _ c.run.result _ starts c.run.ensures.ran c.status.ensures five,
     )
 
 pub returns-in-Ok-new-clause-requests : goal.returns-in-Ok-new-clause-requests
-returns-in-Ok-new-clause-requests g c = ran_requests _ _ _ c.run.result _ _ _ c.ending_status.ensures c.run.ensures.reads c.run.ensures.met
+returns-in-Ok-new-clause-requests g c = ran_requests _ _ _ c.run.result _ _ _ c.status.ensures c.run.ensures.reads c.run.ensures.met
 
 pub returns-in-Ok-new-clause-output : goal.returns-in-Ok-new-clause-output
-returns-in-Ok-new-clause-output g c = ran_output _ _ _ _ c.run.result _ _ _ _ _ c.ending_status.ensures c.run.ensures.ran
+returns-in-Ok-new-clause-output g c = ran_output _ _ _ _ c.run.result _ _ _ _ _ c.status.ensures c.run.ensures.ran
 
 pub returns-in-Ok-new-clause-messages : goal.returns-in-Ok-new-clause-messages
-returns-in-Ok-new-clause-messages g c = ran_messages _ _ _ c.run.result _ _ _ c.ending_status.ensures c.run.ensures.told
+returns-in-Ok-new-clause-messages g c = exits_told {exit = exits.Ended c.run.result} (record { is = c.status.ensures; told = c.run.ensures.told })
 
 -- ---- there was no memory for them
 
 pub returns-clause-requests : goal.returns-clause-requests
-returns-clause-requests g c = untouched_requests _ _ _ _ _ (one_or_six c.memory.result.kind _ c.refuse-in-Err-new.ensures.is)
+returns-clause-requests g c =
+    unasked_requests _ _ _ (refusals.Load c.memory.result) _ _ _ (c.tell-in-Err-new.ensures.is ∙ ap exit_status c.unloaded-in-Err-new.ensures)
+    (read_on_none _ _ _ c.args.requests.now) (unchanged _ _ _ c.args.requests.now)
 
 pub returns-clause-output : goal.returns-clause-output
-returns-clause-output g c = untouched_output _ _ _ _ _ _ (one_or_six c.memory.result.kind _ c.refuse-in-Err-new.ensures.is)
+returns-clause-output g c =
+    refused_output _ _ _ _ c.args.output.now (refusals.Load c.memory.result) _ (c.tell-in-Err-new.ensures.is ∙ ap exit_status c.unloaded-in-Err-new.ensures)
 
 -- ---- the clauses that speak of no run are laws of the definitions
 

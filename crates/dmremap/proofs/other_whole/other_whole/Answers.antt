@@ -1,17 +1,24 @@
-use Rattle.std.proofs.Common.{◌∙◌, sym}
-use Rattle.dmremap.specs.OtherWhole.{printing_message}
-use Rattle.dmremap.proofs.PrintLemmas.{failed_at, one_other, other_at}
+use Rattle.dmremap.proofs.ExitLemmas.{closed_requests, closed_unasked, exited}
+use Rattle.dmremap.proofs.OneOther.{one_other}
 use Rattle.dmremap.proofs.other_whole.other_whole.Goals as goal
 
-pub returns-clause-whole : goal.returns-clause-whole
-returns-clause-whole g c = λ five six. (
-  printing_message c.print.result,
-  other_at _ _ _ _ _ _ c.print.result c.finish.result c.finish.ensures.is c.print.ensures.printed five six,
-  c.finish.ensures.told.told,
-)
-
-pub returns-clause-beginning : goal.returns-clause-beginning
-returns-clause-beginning g c = λ five. failed_at _ _ _ _ _ _ c.print.result c.print.ensures.printed (sym c.finish.ensures.is ∙ five)
+pub returns-clause-exits : goal.returns-clause-exits
+returns-clause-exits g c =
+    let end = c.finish.ensures in
+    let done = c.answer-exit.ensures in (
+      end.0,
+      exited _ _ _ _ _ _ _ _ c.answer-exit.result end.0 done.writes done.did end.1,
+      end.2,
+      closed_unasked _ _ _ _ _ c.answer-exit.result end.0 _ _ end.1.ends done.asked,
+    )
 
 pub returns-clause-one : goal.returns-clause-one
 returns-clause-one g c = one_other
+
+pub returns-clause-requests : goal.returns-clause-requests
+returns-clause-requests g c = let end = c.finish.ensures in closed_requests _ _ _ _ _ c.answer-exit.result end.0 _ _ _ end.1.ends c.answer-exit.ensures.asked end.2.is
+
+pub returns-clause-output : goal.returns-clause-output
+returns-clause-output g c =
+    let end = c.finish.ensures in
+    rw end.2.is (end.1.output _ c.answer-exit.ensures.writes)

@@ -5,7 +5,7 @@ use Rattle.clap.specs.Simple.{app_of_fields, on_top}
 use Rattle.clap.specs.Words.{App, app_of, new_app, with_rule, with_subcommand}
 use Rattle.clap.specs.declared.builder.command.Command.{Command}
 use Rattle.clap.specs.declared.builder.value_parser.ValueParser.{ValueParser}
-use Rattle.dmremap.specs.Words.{TakesFormats, bare_app, command_line, map_app, name_app, program_app, source_app, split_app}
+use Rattle.dmremap.specs.Words.{TakesFormats, bare_app, command_line, map_app, name_app, program_app, source_app, split_app, status_rule}
 use Rattle.dmremap.proofs.words.program.Goals as goal
 
 -- what the last command is added to, and what that gives
@@ -23,9 +23,16 @@ returns c =
     ap app_of_fields c.subcommand_required.ensures in
     let shows : app_of c.arg_required_else_help.result ≡ on_top (λ s. record s { arg_required_else_help = true }) (app_of c.subcommand_required.result) =
     ap app_of_fields c.arg_required_else_help.ensures in
-    let alone : app_of c.arg_required_else_help.result ≡ bare_app = shows
-    ∙ ap (on_top (λ s. record s { arg_required_else_help = true })) (asks ∙ ap (on_top (λ s. record s { subcommand_required = true })) named) in
-    let bare : app_of c.in_ok-line.line ≡ program_app = c.in_ok-line.ensures.shape c.flag.ensures.local ∙ ap₂ with_rule alone c.flag.ensures.rule in
+    let versioned : app_of c.version.result ≡ on_top (λ s. record s { has_version = true }) (app_of c.arg_required_else_help.result) =
+    ap app_of_fields c.version.ensures in
+    let flagless : app_of c.disable_version_flag.result ≡ on_top (λ s. record s { disable_version_flag = true }) (app_of c.version.result) =
+    ap app_of_fields c.disable_version_flag.ensures in
+    let alone : app_of c.disable_version_flag.result ≡ bare_app = flagless
+    ∙ ap (on_top (λ s. record s { disable_version_flag = true })) (versioned
+    ∙ ap (on_top (λ s. record s { has_version = true })) (shows
+    ∙ ap (on_top (λ s. record s { arg_required_else_help = true })) (asks ∙ ap (on_top (λ s. record s { subcommand_required = true })) named))) in
+    let first : app_of c.in_ok-arg.field-0 ≡ with_rule bare_app status_rule = c.in_ok-arg.ensures.shape c.status_flag.ensures.local ∙ ap₂ with_rule alone c.status_flag.ensures.rule in
+    let bare : app_of c.in_ok-line.line ≡ program_app = c.in_ok-line.ensures.shape c.version_flag.ensures.local ∙ ap₂ with_rule first c.version_flag.ensures.rule in
     whole parser (app_of c.in_ok-line-7.line) c.with_command-7.result c.format_parser-parser.ensures (ap (λ (a : App). with_subcommand a split_app.top)
     (c.in_ok-line-7.ensures name_app c.name_command.ensures ∙ ap (λ (a : App). with_subcommand a name_app.top)
     (c.in_ok-line-6.ensures (source_app (codes "replay") parser) c.source_command-4.ensures ∙ ap (λ (a : App). with_subcommand a (source_app (codes "replay") parser).top)

@@ -3,7 +3,7 @@ use Rattle.std.proofs.lemmas.Result.{err_from_is_err_and}
 use Rattle.clap.specs.Kinds.{HasKind}
 use Rattle.clap.specs.Walk.{texts}
 use Rattle.clap.specs.Words.{App, fault_of, is_simple_and_free}
-use Rattle.dmremap.specs.Words.{job_words}
+use Rattle.dmremap.specs.Job.{job_words}
 use Rattle.dmremap.proofs.CommandLine.{lacking, refused, simple_and_free, taken}
 use Rattle.dmremap.proofs.words.read_words.Goals as goal
 
@@ -20,10 +20,10 @@ returns-in_err-matches-clause-fault c =
 pub returns-in_default-clause-fault : goal.returns-in_default-clause-fault
 returns-in_default-clause-fault c =
     let line = c.in_ok-program.ensures in
-    let none : c.of_matches.result ≡ None = search rules in
+    let none : c.job_in.result ≡ None = search rules in
     inr (lacking line.0 _ (texts c.args.words.now) c.in_ok-error-2.error c.in_ok-matches.matches
     (sym c.has_lone_hyphen.ensures ∙ c.if-has_lone_hyphen.false) line.1 line.2 c.in_ok-matches.ensures.kinds c.in_ok-matches.ensures.ok.2
-    (sym (ap (option_map job_words) none) ∙ c.of_matches.ensures) c.in_ok-error-2.ensures.kind)
+    (sym (ap (option_map job_words) none) ∙ c.job_in.ensures) c.in_ok-error-2.ensures.kind)
 
 pub returns-then-not-has_its_disks-clause-fault : goal.returns-then-not-has_its_disks-clause-fault
 returns-then-not-has_its_disks-clause-fault c =

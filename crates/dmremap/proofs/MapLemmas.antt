@@ -1,0 +1,67 @@
+-- What the exit of `map` says of the run.
+use Rattle.std.proofs.Common.{◌≡◌, ◌≢◌, Bool, ℕ, List, [], Option, Some, sym, ap, subst, ◌∙◌}
+use Rattle.dm_table.specs.declared.load_fault.LoadFault.{LoadFault}
+use Rattle.dm_table.specs.declared.load_fault.LoadKind.TheVariants as kinds
+use Rattle.dm_table.specs.DeviceIo.{Delivery, since}
+use Rattle.dm_table.specs.Progress.{FailedOutput}
+use Rattle.dm_table.proofs.ProgressLaws.{finished_as}
+use Rattle.dm_stack.specs.Description.{Description}
+use Rattle.dm_map.specs.State.{State, start_state}
+use Rattle.dm_stream.specs.declared.ending.Ending.{Ending}
+use Rattle.dm_stream.specs.declared.ending.Ending.TheVariants as endings
+use Rattle.dm_stream.specs.Messages.{ending_message}
+use Rattle.dm_stream.specs.Outcome.{Outcome, run_outcome}
+use Rattle.dm_stream.specs.Run.{HasRun}
+use Rattle.dmremap.specs.declared.exit.Exit.{Exit}
+use Rattle.dmremap.specs.declared.exit.Exit.TheVariants as exits
+use Rattle.dmremap.specs.declared.exit.Refusal.TheVariants as refusals
+use Rattle.dmremap.specs.declared.job.Format.{Format}
+use Rattle.dmremap.specs.declared.status.TheConstants.{STATUS_MEMORY, STATUS_WRITE_FAULT}
+use Rattle.dmremap.specs.Exit.{ending_status, exit_message, exit_status, load_status}
+use Rattle.dmremap.specs.Load.{RefusedBy, SoundAs, PartsGive}
+use Rattle.dmremap.specs.Streams.{OutputWritten}
+use Rattle.dmremap.specs.Whole.{Whole, GiveWhole, ended_if, outcome_of, whole_at}
+use Rattle.dmremap.proofs.ExitLemmas.{never_one, write_fault_is}
+
+-- a refused load is a whole run
+pub refused_whole : (format : Format) (flag : Bool) (source disks requests : Delivery) (output : List ℕ) (fault : LoadFault) (exit : Exit) (status : ℕ) → exit ≡ exits.Refused (refusals.Load fault) → (fault.kind ≢ kinds.Memory → PartsGive format source disks (RefusedBy fault))
+    → output ≡ [] → status ≡ exit_status exit → status ≢ STATUS_MEMORY → GiveWhole format flag source disks requests (record { output = output; message = exit_message exit; status = status })
+refused_whole format flag source disks requests output fault exit status same gives none is other = record {
+  load = RefusedBy fault;
+  loaded = gives (λ memory. other (is ∙ ap exit_status same ∙ ap load_status memory));
+  is = ap (λ (e : Exit). Some (whole_at [] e)) (sym same) ∙ ap (λ (out : List ℕ). Some (whole_at out exit)) (sym none)
+      ∙ ap (λ (n : ℕ). Some (record { output = output; message = exit_message exit; status = n })) (sym is);
+}
+
+-- the status of a failed output has one ending
+five_is : (ending : Ending) → ending_status ending ≡ STATUS_WRITE_FAULT → ending ≡ endings.WriteFault
+five_is ending five = let same = write_fault_is (exits.Ended ending) five in cc
+
+-- a run is whole, unless the output failed
+pub ran_whole : {X : Type 0} (written waiting : X → List ℕ) (faults flushes : X → ℕ) (old new : X) (format : Format) (flag : Bool) (source disks requests : Delivery) (description : Description) (start left : State) (ending : Ending) (status : ℕ)
+    → PartsGive format source disks (SoundAs description) → start ≡ start_state description → HasRun written waiting faults flushes old new (run_outcome description flag start requests) left ending → status ≡ ending_status ending → status ≢ STATUS_WRITE_FAULT
+    → GiveWhole format flag source disks requests (record { output = since (written old) (written new); message = ending_message ending; status = status })
+ran_whole written waiting faults flushes old new format flag source disks requests description start left ending status gives starts ran is other =
+    let outcome = outcome_of description flag requests in
+    let output = since (written old) (written new) in
+    let no_fault : ending ≢ endings.WriteFault = λ failed. other (is ∙ ap ending_status failed) in
+    let same_output = subst (λ (state : State). (run_outcome description flag state requests).output ≡ output) starts (ran.output.whole no_fault).0 in
+    let same_ending = subst (λ (state : State). (run_outcome description flag state requests).ending ≡ Some ending) starts (ran.ends no_fault).0 in
+    let whole : ℕ → Option Whole = λ n. Some (record { output = output; message = ending_message ending; status = n }) in
+    record { load = SoundAs description; loaded = gives; is = ap (ended_if outcome.output) same_ending ∙ ap (λ (out : List ℕ). ended_if out (Some ending)) same_output ∙ ap whole (sym is) }
+
+-- where the output failed, it took a beginning of what there was to write
+pub ran_failed : {X : Type 0} (written waiting : X → List ℕ) (faults flushes : X → ℕ) (old new : X) (flag : Bool) (requests : Delivery) (description : Description) (start left : State) (ending : Ending) (status : ℕ) → start ≡ start_state description
+    → HasRun written waiting faults flushes old new (run_outcome description flag start requests) left ending → status ≡ ending_status ending → status ≡ STATUS_WRITE_FAULT
+    → FailedOutput (outcome_of description flag requests).output (since (written old) (written new)) (flushes old) (flushes new)
+ran_failed written waiting faults flushes old new flag requests description start left ending status starts ran is five =
+    subst (λ (state : State). FailedOutput (run_outcome description flag state requests).output (since (written old) (written new)) (flushes old) (flushes new)) starts (ran.output.failed (five_is ending (sym is ∙ five)))
+
+-- what it wrote and flushed
+pub ran_output : {X : Type 0} (written waiting : X → List ℕ) (faults flushes : X → ℕ) (ending : Ending) (status : ℕ) (outcome : Outcome) (left : State) (old new : X) → status ≡ ending_status ending → HasRun written waiting faults flushes old new outcome left ending
+    → OutputWritten written waiting faults flushes status old new
+ran_output written waiting faults flushes ending status outcome left old new is ran = record {
+  finished = finished_as (ending ≡ endings.WriteFault) (status ≡ STATUS_WRITE_FAULT) (λ failed. is ∙ ap ending_status failed) (λ five. five_is ending (sym is ∙ five)) ran.output.finished;
+  flushed = λ one five six. (ran.output.whole (λ failed. five (is ∙ ap ending_status failed))).1;
+  refused = λ one. absurd (never_one ending (sym is ∙ one));
+}

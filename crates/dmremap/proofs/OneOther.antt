@@ -1,0 +1,194 @@
+-- What the words and the deliveries give is one, save where the output failed or memory ran out.
+use Rattle.std.proofs.Common.{◌≡◌, ◌≢◌, ℕ, List, [], ◌∷◌, ◌++◌, Some, None, refl, sym, ap, subst, ◌∙◌}
+use Rattle.std.specs.List.{AllByRecursion}
+use Rattle.dm_table.specs.declared.load_fault.LoadFault.{LoadFault}
+use Rattle.dm_table.specs.declared.load_fault.LoadKind.TheVariants.{Memory}
+use Rattle.dm_table.specs.DeviceIo.{Delivery}
+use Rattle.dm_stack.specs.declared.clash.Clash.{Clash}
+use Rattle.dm_stack.specs.Claims.{IsClash, IsTidy, claims}
+use Rattle.dm_stack.specs.Description.{Description}
+use Rattle.dm_stack.proofs.TopLemmas.{one_clash, one_report}
+use Rattle.dm_stream.specs.declared.ending.Ending.{Ending}
+use Rattle.dm_stream.specs.declared.ending.Ending.TheVariants as endings
+use Rattle.dm_stream.specs.Requests.{NumberedRequest, Requests, requests_of}
+use Rattle.dm_replay.specs.Histories.{Asked}
+use Rattle.dm_replay.specs.Replay.{HasTop}
+use Rattle.dm_replay.specs.RunText.{runs_text}
+use Rattle.dm_replay.proofs.OneRuns.{one_runs}
+use Rattle.lvm_volume.specs.Names.{spaced}
+use Rattle.lvm_volume.proofs.Splits.{one_split}
+use Rattle.dmremap.specs.declared.exit.Exit.{Exit}
+use Rattle.dmremap.specs.declared.exit.Exit.TheVariants as exits
+use Rattle.dmremap.specs.declared.exit.Refusal.TheVariants as refusals
+use Rattle.dmremap.specs.declared.job.Format.{Format}
+use Rattle.dmremap.specs.Exit.{IsPlain, load_status}
+use Rattle.dmremap.specs.Job.{TaskWords, map_words, print_words, check_words, replay_words, name_words, split_words}
+use Rattle.dmremap.specs.Load.{Load, PartsGive, RefusedBy, SoundAs}
+use Rattle.dmremap.specs.OtherWhole.{ReplaysFiles, ReplaysStack, TaskDoes}
+use Rattle.dmremap.specs.Printing.{IsPrinted, Prints, Refuses, ReportSays, Said, SplitSays, TaskSays, devices_said, line}
+use Rattle.dmremap.specs.ReplayOutcome.{AreAnswered, IsAnswer, IsOfNone, IsPlayed, IsWhole, StopsAt, asked_of}
+use Rattle.dmremap.proofs.OneWhole.{one_load}
+
+-- What is said to be printed
+
+one_split_said : (name : List ℕ) (a b : Said) → SplitSays name a → SplitSays name b → a ≡ b
+one_split_said name (Prints a) (Prints b) x y =
+    ap Prints (sym x.2 ∙ ap line (x.1.2 ∙ ap spaced (one_split name x.1.0 y.1.0 x.1.1 y.1.1) ∙ sym y.1.2) ∙ y.2)
+one_split_said name (Prints a) (Refuses b) x y = absurd (y.0 x.1.0 x.1.1)
+one_split_said name (Refuses a) (Prints b) x y = absurd (x.0 y.1.0 y.1.1)
+one_split_said name (Refuses a) (Refuses b) x y = ap Refuses (sym x.1 ∙ y.1)
+
+one_report_said : (load : Load) (a b : Said) → ReportSays load a → ReportSays load b → a ≡ b
+one_report_said (RefusedBy fault) a b x y = sym x ∙ y
+one_report_said (SoundAs description) a b x y = sym x.2 ∙ ap Prints (one_report description x.0 y.0 x.1 y.1) ∙ y.2
+
+one_said : (asked : TaskWords) (source disks : Delivery) (a b : Said) → TaskSays asked source disks a → TaskSays asked source disks b → a ≡ b
+one_said (map_words files) source disks a b x y = absurd x
+one_said (replay_words files) source disks a b x y = absurd x
+one_said (print_words form files) source disks a b x y = sym x.is ∙ ap (devices_said form) (one_load files.format source disks x.load y.load x.loaded y.loaded) ∙ y.is
+one_said (check_words files) source disks a b x y =
+    one_report_said y.load a b (subst (λ (load : Load). ReportSays load a) (one_load files.format source disks x.load y.load x.loaded y.loaded) x.says) y.says
+one_said (name_words parts) source disks a b x y = sym x ∙ y
+one_said (split_words name) source disks a b x y = one_split_said name a b x y
+
+-- what is printed of it, and the exit
+one_printed : (Says : Said → Type 0) → ((a b : Said) → Says a → Says b → a ≡ b) → (a b : Exit) (x y : List ℕ) → IsPlain a → IsPlain b → IsPrinted Says x a → IsPrinted Says y b → (a ≡ b) × (x ≡ y)
+one_printed Says one (exits.Ended endings.Done) (exits.Ended endings.Done) x y plain plain' is is' = let same = one (Prints x) (Prints y) is is' in (refl, cc)
+one_printed Says one (exits.Ended endings.Done) (exits.Refused refusal) x y plain plain' is is' = let same = one (Prints x) (Refuses refusal) is (is'.1 plain'.1) in absurd cc
+one_printed Says one (exits.Refused refusal) (exits.Ended endings.Done) x y plain plain' is is' = let same = one (Refuses refusal) (Prints y) (is.1 plain.1) is' in absurd cc
+one_printed Says one (exits.Refused refusal) (exits.Refused other) x y plain plain' is is' = let same = one (Refuses refusal) (Refuses other) (is.1 plain.1) (is'.1 plain'.1) in (cc, is.0 ∙ sym is'.0)
+one_printed Says one (exits.Ended endings.WriteFault) b x y plain plain' is is' = absurd (plain.0 refl)
+one_printed Says one a (exits.Ended endings.WriteFault) x y plain plain' is is' = absurd (plain'.0 refl)
+one_printed Says one (exits.Ended endings.Done) b x y plain plain' is is' = absurd is'
+one_printed Says one (exits.Refused refusal) b x y plain plain' is is' = absurd is'
+one_printed Says one a b x y plain plain' is is' = absurd is
+
+-- The answers to requests
+
+one_answer : (stack : Description) (asked : List Asked) (request : NumberedRequest) (a b : List ℕ) → IsAnswer stack asked request a → IsAnswer stack asked request b → a ≡ b
+one_answer stack asked request a b is_a is_b =
+    sym is_a.is ∙ ap (runs_text stack request.number) (one_runs is_a.runs is_b.runs is_a.maximal is_b.maximal (is_a.answers ∙ sym is_b.answers)) ∙ is_b.is
+
+one_told : (stack : Description) (asked : List Asked) (requests : List NumberedRequest) (a b : List ℕ) → AreAnswered stack asked requests a → AreAnswered stack asked requests b → a ≡ b
+one_told stack asked [] a b are_a are_b = sym are_a ∙ are_b
+one_told stack asked (request ∷ requests) a b (first, rest, is, are, whole) (first', rest', is', are', whole') =
+    sym whole ∙ ap (λ (text : List ℕ). text ++ rest) (one_answer stack asked request first first' is is')
+    ∙ ap (λ (text : List ℕ). first' ++ text) (one_told stack (asked ++ asked_of stack request ∷ []) requests rest rest' are are') ∙ whole'
+
+abbrev AreTop : Description → List NumberedRequest → Type 0
+AreTop stack requests = AllByRecursion (λ request. HasTop stack request.values.device) requests
+
+told_tops : (stack : Description) (asked : List Asked) (requests : List NumberedRequest) (text : List ℕ) → AreAnswered stack asked requests text → AreTop stack requests
+told_tops stack asked [] text are = tt
+told_tops stack asked (request ∷ requests) text (first, rest, is, are, whole) = (is.top, told_tops stack (asked ++ asked_of stack request ∷ []) requests rest are)
+
+-- Where a replay stops
+
+never_top : (stack : Description) (requests first later : List NumberedRequest) (last : NumberedRequest) → requests ≡ first ++ last ∷ later → AreTop stack requests → (HasTop stack last.values.device → ⊥) → ⊥
+never_top stack requests first later last split tops none = in_midst first (subst (AreTop stack) split tops)
+  where
+    in_midst : (first : List NumberedRequest) → AreTop stack (first ++ last ∷ later) → ⊥
+    in_midst [] tops = none tops.0
+    in_midst (request ∷ first) tops = in_midst first tops.1
+
+-- two fronts of one list, each up to the first request of no top device
+same_front : (stack : Description) (first first' later later' : List NumberedRequest) (last last' : NumberedRequest) → first ++ last ∷ later ≡ first' ++ last' ∷ later'
+    → AreTop stack first → AreTop stack first' → (HasTop stack last.values.device → ⊥) → (HasTop stack last'.values.device → ⊥) → (first ≡ first') × (last ≡ last')
+same_front stack [] [] later later' last last' e tops tops' none none' = (refl, cc)
+same_front stack [] (request ∷ first') later later' last last' e tops tops' none none' =
+    let same : last ≡ request = cc in
+    absurd (none (subst (λ (r : NumberedRequest). HasTop stack r.values.device) (sym same) tops'.0))
+same_front stack (request ∷ first) [] later later' last last' e tops tops' none none' =
+    let same : request ≡ last' = cc in
+    absurd (none' (subst (λ (r : NumberedRequest). HasTop stack r.values.device) same tops.0))
+same_front stack (request ∷ first) (request' ∷ first') later later' last last' e tops tops' none none' =
+    let same : request ≡ request' = cc in
+    let rest : first ++ last ∷ later ≡ first' ++ last' ∷ later' = cc in
+    let more = same_front stack first first' later later' last last' rest tops.1 tops'.1 none none' in
+    (ap (λ (r : NumberedRequest). r ∷ first) same ∙ ap (λ (front : List NumberedRequest). request' ∷ front) more.0, more.1)
+
+one_stop : (stack : Description) (requests : List NumberedRequest) (number other : ℕ) (a b : List ℕ) → StopsAt (IsOfNone stack number) stack [] requests a → StopsAt (IsOfNone stack other) stack [] requests b
+    → (number ≡ other) × (a ≡ b)
+one_stop stack requests number other a b is_a is_b =
+    let same = same_front stack is_a.first is_b.first is_a.later is_b.later is_a.last is_b.last (sym is_a.split ∙ is_b.split)
+    (told_tops stack [] is_a.first a is_a.told) (told_tops stack [] is_b.first b is_b.told) is_a.cause.none is_b.cause.none in (
+      sym is_a.cause.of_number ∙ ap (λ (r : NumberedRequest). r.number) same.1 ∙ is_b.cause.of_number,
+      one_told stack [] is_b.first a b (subst (λ (first : List NumberedRequest). AreAnswered stack [] first a) same.0 is_a.told) is_b.told,
+    )
+
+-- How it exits
+
+one_end : (stack : Description) (requests : Requests) (a b : Exit) (x y : List ℕ) → IsPlain a → IsPlain b → IsPlayed stack requests x a → IsPlayed stack requests y b → (a ≡ b) × (x ≡ y)
+one_end stack requests a b x y plain plain' is is' = go a b plain plain' is is'
+  where
+    ran : (e : Ending) (text : List ℕ) → IsPlain (exits.Ended e) → IsPlayed stack requests text (exits.Ended e) → IsWhole stack requests text e
+    ran endings.Done text plain is = is
+    ran (endings.BadRequest number word) text plain is = is
+    ran endings.ReadFault text plain is = is
+    ran endings.WriteFault text plain is = absurd (plain.0 refl)
+
+    go : (a b : Exit) → IsPlain a → IsPlain b → IsPlayed stack requests x a → IsPlayed stack requests y b → (a ≡ b) × (x ≡ y)
+    go (exits.Ended e) (exits.Ended e') plain plain' is is' =
+        let a = ran e x plain is in let b = ran e' y plain' is' in
+        let some : Some e ≡ Some e' = sym a.ends_so ∙ b.ends_so in
+        (cc, one_told stack [] requests.all x y a.told b.told)
+    go (exits.Ended e) (exits.NotTop number) plain plain' is is' =
+        let a = ran e x plain is in
+        absurd (never_top stack requests.all is'.first is'.later is'.last is'.split (told_tops stack [] requests.all x a.told) is'.cause.none)
+    go (exits.NotTop number) (exits.Ended e') plain plain' is is' =
+        let b = ran e' y plain' is' in
+        absurd (never_top stack requests.all is.first is.later is.last is.split (told_tops stack [] requests.all y b.told) is.cause.none)
+    go (exits.NotTop number) (exits.NotTop other) plain plain' is is' =
+        let same = one_stop stack requests.all number other x y is is' in
+        (ap exits.NotTop same.0, same.1)
+    go exits.Memory b plain plain' is is' = absurd (plain.1 refl)
+    go a exits.Memory plain plain' is is' = absurd (plain'.1 refl)
+    go (exits.Refused refusal) b plain plain' is is' = absurd is
+    go a (exits.Refused refusal) plain plain' is is' = absurd is'
+
+-- What a replay of a stack gives
+
+never_memory : (fault : LoadFault) → IsPlain (exits.Refused (refusals.Load fault)) → fault.kind ≢ Memory
+never_memory fault plain is = plain.1 (ap load_status is)
+
+-- no two claims of a tidy stack meet
+never_tidy : (stack : Description) (clash : Clash) → IsClash (claims stack) clash → IsTidy stack → ⊥
+never_tidy stack clash is tidy = let never = one_clash (claims stack) None (Some clash) tidy is in absurd cc
+
+one_of_stack : (stack : Description) (requests : Delivery) (a b : Exit) (x y : List ℕ) → IsPlain a → IsPlain b → ReplaysStack stack requests x a → ReplaysStack stack requests y b → (a ≡ b) × (x ≡ y)
+one_of_stack stack requests (exits.Refused (refusals.Load fault)) b x y plain plain' is is' = absurd (never_memory fault plain is.1)
+one_of_stack stack requests a (exits.Refused (refusals.Load fault)) x y plain plain' is is' = absurd (never_memory fault plain' is'.1)
+one_of_stack stack requests (exits.Refused refusals.Untidy) (exits.Refused refusals.Untidy) x y plain plain' is is' = (refl, is.0 ∙ sym is'.0)
+one_of_stack stack requests (exits.Refused refusals.Untidy) (exits.Refused refusal) x y plain plain' is is' = absurd is'
+one_of_stack stack requests (exits.Refused refusal) (exits.Refused refusals.Untidy) x y plain plain' is is' = absurd is
+one_of_stack stack requests (exits.Refused refusals.Untidy) b x y plain plain' is is' = absurd (never_tidy stack is.1.0 is.1.1 is'.0)
+one_of_stack stack requests a (exits.Refused refusals.Untidy) x y plain plain' is is' = absurd (never_tidy stack is'.1.0 is'.1.1 is.0)
+one_of_stack stack requests (exits.Refused refusal) b x y plain plain' is is' = absurd is
+one_of_stack stack requests a (exits.Refused refusal) x y plain plain' is is' = absurd is'
+one_of_stack stack requests a b x y plain plain' is is' = one_end stack (requests_of requests) a b x y plain plain' is.1 is'.1
+
+-- What the files give
+
+-- a load is refused or sound, and not both
+never_loaded : (format : Format) (source disks : Delivery) (fault : LoadFault) (stack : Description) → PartsGive format source disks (RefusedBy fault) → PartsGive format source disks (SoundAs stack) → ⊥
+never_loaded format source disks fault stack refused sound = let same = one_load format source disks (RefusedBy fault) (SoundAs stack) refused sound in absurd cc
+
+one_replay : (format : Format) (source disks requests : Delivery) (a b : Exit) (x y : List ℕ) → IsPlain a → IsPlain b
+    → ReplaysFiles format source disks requests x a → ReplaysFiles format source disks requests y b → (a ≡ b) × (x ≡ y)
+one_replay format source disks requests (exits.Refused (refusals.Load f)) (exits.Refused (refusals.Load g)) x y plain plain' is is' =
+    let same = one_load format source disks (RefusedBy f) (RefusedBy g) (is.1 (never_memory f plain)) (is'.1 (never_memory g plain')) in
+    (cc, is.0 ∙ sym is'.0)
+one_replay format source disks requests (exits.Refused (refusals.Load f)) b x y plain plain' is is' = absurd (never_loaded format source disks f is'.0 (is.1 (never_memory f plain)) is'.1)
+one_replay format source disks requests a (exits.Refused (refusals.Load g)) x y plain plain' is is' = absurd (never_loaded format source disks g is.0 (is'.1 (never_memory g plain')) is.1)
+one_replay format source disks requests a b x y plain plain' is is' =
+    let load = one_load format source disks (SoundAs is.0) (SoundAs is'.0) is.1 is'.1 in
+    let same : is.0 ≡ is'.0 = cc in
+    one_of_stack is'.0 requests a b x y plain plain' (subst (λ (stack : Description). ReplaysStack stack requests x a) same is.2) is'.2
+
+-- What every task does
+
+pub one_other : (asked : TaskWords) (source disks requests : Delivery) (a b : Exit) (x y : List ℕ) → IsPlain a → IsPlain b
+    → TaskDoes asked source disks requests x a → TaskDoes asked source disks requests y b → (a ≡ b) × (x ≡ y)
+one_other (map_words files) source disks requests a b x y plain plain' is is' = absurd is
+one_other (replay_words files) source disks requests a b x y plain plain' is is' = one_replay files.format source disks requests a b x y plain plain' is is'
+one_other asked source disks requests a b x y plain plain' is is' = one_printed (TaskSays asked source disks) (one_said asked source disks) a b x y plain plain' is is'

@@ -1,0 +1,11 @@
+use Rattle.dm_table.specs.DeviceIo.{delivery}
+use Rattle.dmremap.proofs.ReplayLemmas.{played_asked, played_stack}
+use Rattle.dmremap.proofs.replay_run.replay_stack.Goals as goal
+
+pub returns-in-Ok-clause-did : goal.returns-in-Ok-clause-did
+returns-in-Ok-clause-did g c =
+    played_stack _ (delivery g.Q.Input.handed g.Q.Input.faults g.Q.Input.ends c.args.requests.now c.play_requests.new.requests) _ c.play_requests.result c.in-Ok.ensures.tidy
+    c.play_requests.ensures.played
+
+pub returns-in-Ok-clause-asked : goal.returns-in-Ok-clause-asked
+returns-in-Ok-clause-asked g c = played_asked _ _ _ _ _ _ _ _ c.play_requests.result c.play_requests.ensures.played c.play_requests.ensures.reads c.play_requests.ensures.met

@@ -1,0 +1,94 @@
+-- How a command exits: its status and its message.
+use Rattle.std.specs.Prelude.{◌≢◌, ℕ, Bool, true, false, List, Result, Ok, Err, codes}
+use Rattle.dm_table.specs.declared.load_fault.LoadKind.{LoadKind}
+use Rattle.dm_table.specs.declared.load_fault.LoadKind.TheVariants as kinds
+use Rattle.dm_table.specs.LoadMessage.{load_message, memory_message}
+use Rattle.dm_stream.specs.declared.ending.Ending.{Ending}
+use Rattle.dm_stream.specs.declared.ending.Ending.TheVariants as endings
+use Rattle.dm_stream.specs.Messages.{ending_message, refused_request}
+use Rattle.dm_stream.specs.Run.{write_faults}
+use Rattle.lvm_volume.specs.declared.fault.NameFault.{NameFault}
+use Rattle.lvm_volume.specs.declared.fault.NameFault.TheVariants as names
+use Rattle.lvm_volume.specs.NameMessage.{name_message, split_message}
+use Rattle.dmremap.specs.declared.exit.Exit.{Exit}
+use Rattle.dmremap.specs.declared.exit.Exit.TheVariants as exits
+use Rattle.dmremap.specs.declared.exit.Refusal.{Refusal}
+use Rattle.dmremap.specs.declared.exit.Refusal.TheVariants as refusals
+use Rattle.dmremap.specs.declared.status.TheConstants.{STATUS_BAD_REQUEST, STATUS_DONE, STATUS_MEMORY, STATUS_READ_FAULT, STATUS_REFUSED, STATUS_WRITE_FAULT}
+
+-- ---- the status
+
+abbrev pub load_status : LoadKind → ℕ
+load_status kinds.Memory = STATUS_MEMORY
+load_status kind = STATUS_REFUSED
+
+abbrev pub name_status : NameFault → ℕ
+name_status names.Memory = STATUS_MEMORY
+name_status fault = STATUS_REFUSED
+
+abbrev pub refusal_status : Refusal → ℕ
+refusal_status (refusals.Load fault) = load_status fault.kind
+refusal_status (refusals.Name fault) = name_status fault
+refusal_status refusals.Split = STATUS_REFUSED
+refusal_status refusals.Untidy = STATUS_REFUSED
+
+abbrev pub ending_status : Ending → ℕ
+ending_status endings.Done = STATUS_DONE
+ending_status (endings.BadRequest number word) = STATUS_BAD_REQUEST
+ending_status endings.ReadFault = STATUS_READ_FAULT
+ending_status endings.WriteFault = STATUS_WRITE_FAULT
+
+abbrev pub exit_status : Exit → ℕ
+exit_status (exits.Refused refusal) = refusal_status refusal
+exit_status (exits.Ended ending) = ending_status ending
+exit_status (exits.NotTop number) = STATUS_BAD_REQUEST
+exit_status exits.Memory = STATUS_MEMORY
+
+-- neither the output failed nor memory ran out
+abbrev pub IsPlain : Exit → Type 0
+IsPlain exit = (exit_status exit ≢ STATUS_WRITE_FAULT) × (exit_status exit ≢ STATUS_MEMORY)
+
+-- ---- the message
+
+-- two claims of the stack of a replay meet
+abbrev pub untidy_message : List ℕ
+untidy_message = codes "dmremap: replay: untidy\n"
+
+-- the request of this number is of no top device
+abbrev pub not_top_message : ℕ → List ℕ
+not_top_message number = refused_request number (codes "not top")
+
+abbrev pub refusal_message : Refusal → List ℕ
+refusal_message (refusals.Load fault) = load_message fault
+refusal_message (refusals.Name fault) = name_message fault
+refusal_message refusals.Split = split_message
+refusal_message refusals.Untidy = untidy_message
+
+abbrev pub exit_message : Exit → List ℕ
+exit_message (exits.Refused refusal) = refusal_message refusal
+exit_message (exits.Ended ending) = ending_message ending
+exit_message (exits.NotTop number) = not_top_message number
+exit_message exits.Memory = memory_message
+
+-- ---- the output
+
+-- nothing was written
+abbrev pub is_refused : Exit → Bool
+is_refused (exits.Refused refusal) = true
+is_refused _ = false
+
+-- the output is flushed at the end: there is nothing to flush of a command that was refused, and nothing more is asked after a write that failed
+abbrev pub is_flushed : Exit → Bool
+is_flushed (exits.Refused refusal) = false
+is_flushed (exits.Ended endings.WriteFault) = false
+is_flushed _ = true
+
+-- how many writes failed
+abbrev pub failed_writes : Exit → ℕ
+failed_writes (exits.Ended ending) = write_faults ending
+failed_writes _ = 0
+
+-- the exit after all was written, or after a write that failed
+abbrev pub exit_after : {E : Type 0} → Result (Unit {0}) E → Exit
+exit_after (Ok done) = exits.Ended endings.Done
+exit_after (Err fault) = exits.Ended endings.WriteFault

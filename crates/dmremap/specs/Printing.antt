@@ -1,0 +1,93 @@
+-- What the commands print that read no requests, by their words and by what was delivered.
+use Rattle.std.specs.Prelude.{◌≡◌, ◌≢◌, ℕ, List, [], ◌∷◌, ◌++◌, Result, Ok, Err}
+use Rattle.dm_table.specs.declared.table.DeviceSpec.{DeviceSpec}
+use Rattle.dm_table.specs.CanonicalText.{concise_text, table_text}
+use Rattle.dm_table.specs.DeviceIo.{Delivery}
+use Rattle.dm_table.specs.WriteAll.{IsCutShort}
+use Rattle.dm_stack.specs.Report.{IsReport}
+use Rattle.dm_stream.specs.declared.ending.Ending.TheVariants as endings
+use Rattle.lvm_volume.specs.declared.fault.NameFault.{NameFault}
+use Rattle.lvm_volume.specs.Names.{Builds, IsSpaced, NameParts, built}
+use Rattle.dmremap.specs.declared.exit.Exit.{Exit}
+use Rattle.dmremap.specs.declared.exit.Exit.TheVariants as exits
+use Rattle.dmremap.specs.declared.exit.Refusal.{Refusal}
+use Rattle.dmremap.specs.declared.exit.Refusal.TheVariants as refusals
+use Rattle.dmremap.specs.declared.job.Format.{Format}
+use Rattle.dmremap.specs.declared.job.TableForm.{TableForm}
+use Rattle.dmremap.specs.declared.job.TableForm.TheVariants.{Concise, Table}
+use Rattle.dmremap.specs.declared.status.TheConstants.{STATUS_MEMORY}
+use Rattle.dmremap.specs.Exit.{refusal_status}
+use Rattle.dmremap.specs.Job.{TaskWords, map_words, print_words, check_words, replay_words, name_words, split_words}
+use Rattle.dmremap.specs.Load.{Load, PartsGive, RefusedBy, SoundAs}
+
+-- ---- what there is to print
+
+-- a text to print, or why there is none
+pub data Said : Type 0 where
+  Prints : List ℕ → Said
+  Refuses : Refusal → Said
+
+-- a line of its own
+abbrev pub line : List ℕ → List ℕ
+line text = text ++ 10 ∷ []
+
+-- the one text of some devices in a form
+abbrev pub written_as : TableForm → List DeviceSpec → List ℕ
+written_as Table devices = table_text devices
+written_as Concise devices = concise_text devices
+
+-- the devices of a load, or why it is refused
+abbrev pub devices_said : TableForm → Load → Said
+devices_said form (RefusedBy fault) = Refuses (refusals.Load fault)
+devices_said form (SoundAs description) = Prints (written_as form description.devices)
+
+-- the files say this
+pub record FilesSay (form : TableForm) (format : Format) (source disks : Delivery) (said : Said) : Type 0 where
+  pub load : Load
+  pub loaded : PartsGive format source disks load
+  pub is : devices_said form load ≡ said
+
+-- the report of a load, or why it is refused
+abbrev pub ReportSays : Load → Said → Type 0
+ReportSays (RefusedBy fault) said = Refuses (refusals.Load fault) ≡ said
+ReportSays (SoundAs description) said = (text : List ℕ) × IsReport description text × (Prints text ≡ said)
+
+-- the files have this report
+pub record CheckSays (format : Format) (source disks : Delivery) (said : Said) : Type 0 where
+  pub load : Load
+  pub loaded : PartsGive format source disks load
+  pub says : ReportSays load said
+
+-- a name, or why it is not built
+abbrev pub name_said : Result (List ℕ) NameFault → Said
+name_said (Ok name) = Prints (line name)
+name_said (Err fault) = Refuses (refusals.Name fault)
+
+-- the parts of a name with single spaces between them, or that no parts build it
+abbrev pub SplitSays : List ℕ → Said → Type 0
+SplitSays name (Prints text) = (parts : List ℕ) × IsSpaced name parts × (line parts ≡ text)
+SplitSays name (Refuses refusal) = ((p : NameParts) → Builds p name → ⊥) × (refusals.Split ≡ refusal)
+
+-- a task says this, by what its files delivered; `map` and `replay`, which read requests, are none of these tasks
+abbrev pub TaskSays : TaskWords → (source disks : Delivery) → Said → Type 0
+TaskSays (map_words files) source disks said = ⊥
+TaskSays (replay_words files) source disks said = ⊥
+TaskSays (print_words form files) source disks said = FilesSay form files.format source disks said
+TaskSays (check_words files) source disks said = CheckSays files.format source disks said
+TaskSays (name_words parts) source disks said = name_said (built parts) ≡ said
+TaskSays (split_words name) source disks said = SplitSays name said
+
+-- ---- what was printed
+
+-- what is said was printed, or, where a write failed, a beginning of it; or the command was refused for that, unless memory ran out
+abbrev pub IsPrinted : (Said → Type 0) → List ℕ → Exit → Type 0
+IsPrinted Says output (exits.Ended endings.Done) = Says (Prints output)
+IsPrinted Says output (exits.Ended endings.WriteFault) = (text : List ℕ) × Says (Prints text) × IsCutShort text output
+IsPrinted Says output (exits.Refused refusal) = (output ≡ []) × (refusal_status refusal ≢ STATUS_MEMORY → Says (Refuses refusal))
+IsPrinted Says output _ = ⊥
+
+-- this text was printed, or a beginning of it
+abbrev pub IsTextPrinted : List ℕ → List ℕ → Exit → Type 0
+IsTextPrinted text output (exits.Ended endings.Done) = text ≡ output
+IsTextPrinted text output (exits.Ended endings.WriteFault) = IsCutShort text output
+IsTextPrinted text output _ = ⊥

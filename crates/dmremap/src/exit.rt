@@ -1,0 +1,180 @@
+//! How a command exits: its status and its message.
+//!
+//! A command does its work and says how it would exit; only then is its output closed, and the message
+//! told. A new way to exit is a variant here, with its status and its message here and in
+//! `specs/Exit.antt`.
+
+ghost use Rattle.std.specs.Prelude.{◌≡◌, ◌≢◌, OnErr, OnOk};
+ghost use Rattle.dm_stream.specs.Messages.{HasTold};
+ghost use Rattle.dmremap.specs.declared.exit.Exit.{Exit};
+ghost use Rattle.dmremap.specs.declared.exit.Exit.TheVariants.{Ended, Refused};
+ghost use Rattle.dmremap.specs.declared.exit.Refusal.TheVariants.{Load};
+ghost use Rattle.dm_stream.specs.declared.ending.Ending.TheVariants.{WriteFault};
+ghost use Rattle.dmremap.specs.Exit.{exit_after, exit_status, is_refused, load_status, name_status, refusal_message, refusal_status};
+ghost use Rattle.dmremap.specs.Streams.{Exits, IsClosedAs};
+
+use crate::status::{
+    STATUS_BAD_REQUEST, STATUS_DONE, STATUS_MEMORY, STATUS_READ_FAULT, STATUS_REFUSED,
+    STATUS_WRITE_FAULT,
+};
+use dm_stream::{Ending, message_of, refused_request, tell};
+use dm_table::{LoadFault, LoadKind, OutFault, Output, close, memory_message};
+use lvm_volume::NameFault;
+
+/// Why a command was refused before it wrote anything.
+#[derive(Clone, Copy)]
+pub(crate) enum Refusal {
+    /// The load was refused.
+    Load(LoadFault),
+    /// The name was not built.
+    Name(NameFault),
+    /// No parts build the name.
+    Split,
+    /// Two claims of the stack meet.
+    Untidy,
+}
+
+/// How a command exits.
+#[derive(Clone, Copy)]
+pub(crate) enum Exit {
+    /// Nothing was written.
+    Refused(Refusal),
+    /// All was written, or the requests or the output ended it so.
+    Ended(Ending),
+    /// The request of this number names no top device; those before it were answered.
+    NotTop(u64),
+    /// Memory ran out at a request; those before it were answered.
+    Memory,
+}
+
+impl Refusal {
+    fn status(self) -> u8
+        ensures { result ≡ refusal_status self }
+    {
+        match self {
+            Refusal::Load(fault) => load_status(fault.kind),
+            Refusal::Name(fault) => name_status(fault),
+            Refusal::Split | Refusal::Untidy => STATUS_REFUSED,
+        }
+    }
+
+    /// Tells why on the message stream.
+    fn tell<M: Output>(self, messages: &mut M)
+        ensures { HasTold M.written M.faults M.flushes (refusal_message self) messages.old messages.new }
+    {
+        match self {
+            Refusal::Load(fault) => tell(messages, fault.message().as_slice()),
+            Refusal::Name(fault) => tell(messages, fault.message()),
+            Refusal::Split => tell(messages, b"dmremap: name: split\n"),
+            Refusal::Untidy => tell(messages, b"dmremap: replay: untidy\n"),
+        }
+    }
+}
+
+fn load_status(kind: LoadKind) -> u8
+    ensures { result ≡ load_status kind }
+{
+    match kind {
+        LoadKind::Memory => STATUS_MEMORY,
+        _ => STATUS_REFUSED,
+    }
+}
+
+fn name_status(fault: NameFault) -> u8
+    ensures { result ≡ name_status fault }
+{
+    match fault {
+        NameFault::Memory => STATUS_MEMORY,
+        _ => STATUS_REFUSED,
+    }
+}
+
+impl Exit {
+    /// The exit of a load that was refused.
+    pub(crate) fn unloaded(fault: LoadFault) -> Exit
+        ensures { result ≡ Refused (Load fault) }
+    {
+        Exit::Refused(Refusal::Load(fault))
+    }
+
+    /// The exit after all was written, or after a write that failed.
+    pub(crate) fn after(written: Result<(), OutFault>) -> Exit
+        ensures { result ≡ exit_after written }
+    {
+        match written {
+            Ok(()) => Exit::Ended(Ending::Done),
+            Err(OutFault) => Exit::Ended(Ending::WriteFault),
+        }
+    }
+
+    /// The exit status.
+    pub(crate) fn status(self) -> u8
+        ensures { result ≡ exit_status self }
+    {
+        match self {
+            Exit::Refused(refusal) => refusal.status(),
+            Exit::Ended(Ending::Done) => STATUS_DONE,
+            Exit::Ended(Ending::BadRequest(_, _)) | Exit::NotTop(_) => STATUS_BAD_REQUEST,
+            Exit::Ended(Ending::ReadFault) => STATUS_READ_FAULT,
+            Exit::Ended(Ending::WriteFault) => STATUS_WRITE_FAULT,
+            Exit::Memory => STATUS_MEMORY,
+        }
+    }
+
+    /// Tells why a command exits so, if not all was done, and returns the exit status.
+    pub(crate) fn tell<M: Output>(self, messages: &mut M) -> u8
+        ensures { Exits M.written M.faults M.flushes self result messages.old messages.new }
+    {
+        match self {
+            Exit::Refused(refusal) => refusal.tell(messages),
+            Exit::Ended(ending) => tell(messages, message_of(ending).as_slice()),
+            Exit::NotTop(number) => tell(messages, refused_request(number, b"not top").as_slice()),
+            Exit::Memory => tell(messages, memory_message()),
+        }
+        self.status()
+    }
+
+    /// Whether the command was refused before it wrote anything.
+    fn is_refused(self) -> bool
+        ensures { result ≡ is_refused self }
+    {
+        match self {
+            Exit::Refused(_) => true,
+            _ => false,
+        }
+    }
+
+    /// Whether no write failed.
+    fn written(self) -> Result<(), OutFault>
+        ensures ok { OnOk result (self ≢ Ended WriteFault) }
+        ensures err { OnErr result (self ≡ Ended WriteFault) }
+    {
+        match self {
+            Exit::Ended(Ending::WriteFault) => Err(OutFault),
+            _ => Ok(()),
+        }
+    }
+
+    /// Closes the output of a command that would exit so: flushes it, unless the command was refused or a
+    /// write failed. It returns how the command exits then.
+    fn close<W: Output>(self, output: &mut W) -> Exit
+        ensures { IsClosedAs W.written W.waiting W.faults W.flushes self output.old output.new result }
+    {
+        if self.is_refused() {
+            return self;
+        }
+        match close(self.written(), output) {
+            Ok(()) => self,
+            Err(OutFault) => Exit::Ended(Ending::WriteFault),
+        }
+    }
+
+    /// Closes the output of a command that would exit so, then tells why not all was done, and returns the
+    /// exit status.
+    pub(crate) fn finish<W: Output, M: Output>(self, output: &mut W, messages: &mut M) -> u8
+        ensures { (exit : Exit) × IsClosedAs W.written W.waiting W.faults W.flushes self output.old output.new exit
+            × Exits M.written M.faults M.flushes exit result messages.old messages.new }
+    {
+        self.close(output).tell(messages)
+    }
+}

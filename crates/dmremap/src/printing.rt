@@ -1,0 +1,111 @@
+//! What the commands print that read no requests: what a load gives, or what a name says.
+//!
+//! Each writes its text and says how the command would exit; nothing is flushed here. What is printed
+//! is said in `specs/Printing.antt`.
+
+ghost use Rattle.std.specs.Prelude.{◌≡◌, option_map};
+ghost use Rattle.dm_table.specs.DeviceIo.{since};
+ghost use Rattle.dm_table.specs.Progress.{HasWritten, Wrote};
+ghost use Rattle.lvm_volume.specs.Names.{built};
+ghost use Rattle.dmremap.specs.Exit.{failed_writes};
+ghost use Rattle.dmremap.specs.Load.{SoundAs};
+ghost use Rattle.dmremap.specs.Printing.{IsPrinted, IsTextPrinted, ReportSays, SplitSays, line, name_said, written_as};
+
+use crate::exit::{Exit, Refusal};
+use crate::job::TableForm;
+use dm_stack::{Stack, check_report};
+use dm_table::{
+    DeviceSpec, LoadFault, OutFault, Output, Part, write_all, write_concise, write_table,
+};
+use lvm_volume::{NameFault, build_name, spaced_parts};
+use std::alloc::Global;
+
+/// Prints the devices of a stack in a form.
+pub(crate) fn print_stack<W: Output>(form: TableForm, stack: Stack, output: &mut W) -> Exit
+    ensures printed { IsTextPrinted (written_as form stack.devices)
+        (since (W.written output.old) (W.written output.new)) result }
+    ensures writes { HasWritten W.written W.waiting W.faults W.flushes output.old output.new (failed_writes result) }
+{
+    let (devices, _) = stack.into_parts();
+    Exit::after(write_devices(form, &devices, output))
+}
+
+/// Writes devices in a form.
+fn write_devices<W: Output>(
+    form: TableForm,
+    devices: &[DeviceSpec],
+    output: &mut W,
+) -> Result<(), OutFault>
+    ensures { Wrote W.written W.waiting W.faults W.flushes output.old output.new result (written_as form devices.now) }
+{
+    match form {
+        TableForm::Table => write_table(devices, output),
+        TableForm::Concise => write_concise(devices, output),
+    }
+}
+
+/// Prints the report of a stack.
+pub(crate) fn print_report<W: Output>(alloc: Global, stack: &Stack, output: &mut W) -> Exit
+    ensures printed { IsPrinted (ReportSays (SoundAs stack.now))
+        (since (W.written output.old) (W.written output.new)) result }
+    ensures writes { HasWritten W.written W.waiting W.faults W.flushes output.old output.new (failed_writes result) }
+{
+    match check_report(alloc, stack) {
+        Ok(text) => print_text(text.as_str().as_bytes(), output),
+        Err(_) => Exit::unloaded(LoadFault::memory(Part::Source)),
+    }
+}
+
+/// Prints the name of a volume, or of a layer of it.
+pub(crate) fn print_name<W: Output>(
+    alloc: Global,
+    vg: &str,
+    lv: &str,
+    layer: Option<&str>,
+    output: &mut W,
+) -> Exit
+    ensures printed { IsPrinted (λ said. name_said (built (record { vg = vg.now; lv = lv.now; layer = option_map (λ l. l.now) layer.entry })) ≡ said)
+        (since (W.written output.old) (W.written output.new)) result }
+    ensures writes { HasWritten W.written W.waiting W.faults W.flushes output.old output.new (failed_writes result) }
+{
+    match build_name(alloc, vg, lv, layer) {
+        Ok(name) => print_line(name.as_str().as_bytes(), output),
+        Err(fault) => Exit::Refused(Refusal::Name(fault)),
+    }
+}
+
+/// Prints the parts of the name of a volume.
+pub(crate) fn print_parts<W: Output>(alloc: Global, name: &str, output: &mut W) -> Exit
+    ensures printed { IsPrinted (SplitSays name.now)
+        (since (W.written output.old) (W.written output.new)) result }
+    ensures writes { HasWritten W.written W.waiting W.faults W.flushes output.old output.new (failed_writes result) }
+{
+    match spaced_parts(alloc, name) {
+        Ok(Some(parts)) => print_line(parts.as_bytes(), output),
+        Ok(None) => Exit::Refused(Refusal::Split),
+        Err(_) => Exit::Refused(Refusal::Name(NameFault::Memory)),
+    }
+}
+
+/// Prints a text of whole lines.
+fn print_text<W: Output>(text: &[u8], output: &mut W) -> Exit
+    ensures printed { IsTextPrinted text.now (since (W.written output.old) (W.written output.new)) result }
+    ensures writes { HasWritten W.written W.waiting W.faults W.flushes output.old output.new (failed_writes result) }
+{
+    Exit::after(write_all(output, text))
+}
+
+/// Prints a line.
+fn print_line<W: Output>(text: &[u8], output: &mut W) -> Exit
+    ensures printed { IsTextPrinted (line text.now) (since (W.written output.old) (W.written output.new)) result }
+    ensures writes { HasWritten W.written W.waiting W.faults W.flushes output.old output.new (failed_writes result) }
+{
+    Exit::after(write_line(text, output))
+}
+
+fn write_line<W: Output>(text: &[u8], output: &mut W) -> Result<(), OutFault>
+    ensures { Wrote W.written W.waiting W.faults W.flushes output.old output.new result (line text.now) }
+{
+    write_all(&mut *output, text)?;
+    write_all(output, b"\n")
+}
