@@ -20,6 +20,7 @@ sys.dont_write_bytecode = True
 
 import answers
 import backups
+import completions
 import documents
 import files
 import groups
@@ -30,6 +31,7 @@ import launcher
 import limits
 import loads
 import lookers
+import manual
 import origins
 import printing
 import ranges
@@ -63,6 +65,8 @@ def main():
             part.check(tally, program)
         launcher.check(tally, program, TOP, built == BUILT)
         documents.check(tally, program, TOP)
+        manual.check(tally, program, TOP)
+        completions.check(tally, program, TOP)
         recipes.check(tally, program, TOP)
         lookers.check(tally, TOP)
         refusals.check(tally, TOP)

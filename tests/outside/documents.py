@@ -1,42 +1,49 @@
-"""The documents: the files and definitions that they name exist, and the outputs in the README are
-the program's."""
+"""The documents: what they name and link to exists, the README is short, and the commands that the README
+and the tutorial show print what is shown there."""
 
 import glob
 import os
 import re
 
+import transcripts
+
 # Where a path of this repository begins, as documents write it.
-PATH = re.compile(r"(?:crates|docs|examples|benches|tests)/[\w./*-]*[\w*]")
+PATH = re.compile(r"(?:crates|docs|examples|benches|tests|completions)/[\w./*-]*[\w*]")
 # A file of definitions of a crate, and words that a document says are in files of a name.
 SPECS = re.compile(r"\b(\w+)/specs/([A-Z]\w*)")
 WORDS = re.compile(r"`([A-Z]\w*)` (?:\(((?:`\w+`(?:, )?)+)\)|(`\w+`))")
+# A link to a file of the repository, and perhaps a heading there, or to a heading of the document itself.
+LINK = re.compile(r"\]\((?!\w+:)([^)#\s]*)(?:#([^)\s]+))?\)")
+HEADING = re.compile(r"^#+ (.*)", re.M)
 
-# The words of each example, of which those with a dot are files, and its requests.
-RUNS = [
-    ("map table volume.table disks.txt", "requests.txt"),
-    ("map table stack.table stack-disks.txt", "stack-requests.txt"),
-    ("map table snapshot.table snapshot-disks.txt --status", "snapshot-requests.txt"),
-    ("map table origin.table snapshot-disks.txt", "origin-requests.txt"),
-    ("map lvm vg0.backup", "vg0-requests.txt"),
-    ("map concise volume.concise disks.txt", "requests.txt"),
-    ("table lvm vg0.backup", None),
-    ("concise lvm vg0.backup", None),
-    ("name vg0 lv-1", None),
-    ("splitname vg0-lv--1", None),
-    ("check table overlap.table overlap-disks.txt", None),
-    ("replay table snapshot.table snapshot-disks.txt", "snapshot-requests.txt"),
-]
+README_BYTES = 10000
+# What a block of the tutorial begins with if its commands want more than the repository's files.
+MARK = "# needs "
 
 
 def check(tally, program, top):
-    for document in [os.path.join(top, "README.md")] + sorted(glob.glob(os.path.join(top, "docs", "*.md"))):
+    documents = [os.path.join(top, "README.md")] + sorted(glob.glob(os.path.join(top, "docs", "*.md")))
+    for document in documents + [os.path.join(top, "docs", "dmremap.1")]:
         name = os.path.relpath(document, top)
         text = text_of(document)
+        if document.endswith(".1"):
+            text = transcripts.without_escapes(text)
         lost = lost_paths(text, top)
         tally.holds("files that %s names" % name, not lost, "there is no %s" % ", ".join(lost))
         lost = lost_words(text, top)
         tally.holds("definitions that %s names" % name, not lost, "there is no %s" % ", ".join(lost))
-    check_examples(tally, program, top)
+        lost = lost_links(text, document)
+        tally.holds("links of %s" % name, not lost, "there is no %s" % ", ".join(lost))
+    size = os.path.getsize(os.path.join(top, "README.md"))
+    tally.holds("the size of README.md", size <= README_BYTES, "it has %d bytes" % size)
+    for name in ("README.md", os.path.join("docs", "TUTORIAL.md")):
+        text = text_of(os.path.join(top, name))
+        transcripts.check(tally, program, top, name, transcripts.of_markdown(text))
+    tutorial = text_of(os.path.join(top, "docs", "TUTORIAL.md"))
+    others = [lines[0] for kind, lines in transcripts.blocks(tutorial) if kind != "console"]
+    unmarked = [it for it in others if not it.startswith(MARK)]
+    tally.holds("commands of the tutorial that aren't run", not unmarked,
+                "no line %r before %s" % (MARK + "..", ", ".join(unmarked)))
 
 
 def lost_paths(text, top):
@@ -65,18 +72,22 @@ def lost_words(text, top):
     return lost
 
 
+def lost_links(text, document):
+    """The links of a document to files and headings that aren't there."""
+    lost = []
+    for path, anchor in LINK.findall(text):
+        target = os.path.join(os.path.dirname(document), path) if path else document
+        if not os.path.exists(target) or anchor and anchor not in anchors(text_of(target)):
+            lost.append(path + (anchor and "#" + anchor))
+    return lost
+
+
+def anchors(text):
+    """What a link calls the headings of a document."""
+    plain = [re.sub(r"[^\w\s-]", "", it.lower()) for it in HEADING.findall(text)]
+    return {it.replace(" ", "-") for it in plain}
+
+
 def text_of(path):
     with open(path, encoding="utf-8") as it:
         return it.read()
-
-
-def check_examples(tally, program, top):
-    readme = text_of(os.path.join(top, "README.md"))
-    examples = os.path.join(top, "examples")
-    for line, requests in RUNS:
-        words = [os.path.join(examples, it) if "." in it else it for it in line.split()]
-        with open(os.path.join(examples, requests) if requests else os.devnull, "rb") as given:
-            got = program.run(words, stdin=given)
-        shown = "```\n%s```\n" % got.out.decode()
-        is_shown = got.status == 0 and got.err == b"" and got.out != b"" and shown in readme
-        tally.holds("the example of " + line, is_shown, "the README has not its output, %r" % got.out)
