@@ -35,6 +35,7 @@ import manual
 import origins
 import printing
 import ranges
+import reading_list
 import recipes
 import refusals
 import replays
@@ -67,6 +68,7 @@ def main():
         documents.check(tally, program, TOP)
         manual.check(tally, program, TOP)
         completions.check(tally, program, TOP)
+        reading_list.check(tally, TOP)
         recipes.check(tally, program, TOP)
         lookers.check(tally, TOP)
         refusals.check(tally, TOP)
