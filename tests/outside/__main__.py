@@ -32,6 +32,7 @@ import limits
 import loads
 import lookers
 import manual
+import metadata_areas
 import origins
 import printing
 import ranges
@@ -70,6 +71,7 @@ def main():
         completions.check(tally, program, TOP)
         reading_list.check(tally, TOP)
         recipes.check(tally, program, TOP)
+        metadata_areas.check(tally, program, TOP)
         lookers.check(tally, TOP)
         refusals.check(tally, TOP)
         halts.check(tally, program, TOP)

@@ -1,119 +1,218 @@
-"""The scripts of the examples, which the documents tell to use: over their samples, and over inputs
-that are easily taken wrong."""
+"""The recipes: the commands of docs/RECIPES.md with the outputs that stand below them, and the scripts that
+they use over inputs that are easily taken wrong, with each awk that is there.
+
+A row of `ROWS` is a script, its variables, its inputs, what it prints, what it says on standard error and
+its status. Its files are `1`, `2` and so on.
+"""
 
 import os
-import struct
-import sys
+import random
+import re
+import shutil
 
 from harness import run
+from origins import SHARING, claims, disks_of, small_stack, tidiness
+from recipe_rows import ROWS
+from snapshots import concise
 
-MAGIC = b" LVM2 x[5A%r0N*>"
-# Where the header of a metadata area lies, and how many bytes the area of the sample has.
-HEADER, SIZE = 4096, 4096
-EXTENTS = """\
-Filesystem type is: ef53
-File size of /mnt/report.odt is 20480 (40 blocks of 512 bytes)
- ext:     logical_offset:        physical_offset: length:   expected: flags:
-%s/mnt/report.odt: 3 extents found
-"""
+# Each awk that is there once: the first name is a link to one of the others.
+AWKS = list({os.path.realpath(shutil.which(it[0])): it for it in (
+    ["awk"], ["mawk"], ["gawk"], ["busybox", "awk"], ["original-awk"]) if shutil.which(it[0])}.values())
+BLOCK = re.compile(r"^```(\w*)\n(.*?)^```$", re.M | re.S)
+STACKS = 12
 
 
 def check(tally, program, top):
-    examples = os.path.join(top, "examples")
-    check_area(tally, program, examples)
-    check_refused_areas(tally, program, examples)
-    check_extents(tally, program, examples)
+    scripts = os.path.join(top, "examples", "recipes")
+    check_document(tally, program, top)
+    check_samples(tally, program, scripts)
+    for row in ROWS:
+        for awk in AWKS:
+            check_row(tally, program, scripts, awk, *row)
+    check_refusal(tally, program)
+    check_read_back(tally, program, scripts)
+    for seed in range(STACKS):
+        check_stack(tally, program, scripts, random.Random(seed))
 
 
-def text_of(examples, name):
-    with open(os.path.join(examples, name), "rb") as it:
+def check_document(tally, program, top):
+    """Runs each block of shell in one folder, and compares the block without a language that follows it."""
+    folder = os.path.dirname(program.file("recipes/room"))
+    shutil.copy(program.path, os.path.join(folder, "dmremap"))
+    os.symlink(os.path.join(top, "examples"), os.path.join(folder, "examples"))
+    with open(os.path.join(top, "docs", "RECIPES.md"), encoding="utf-8") as it:
+        blocks = BLOCK.findall(it.read())
+    for (language, commands), (after, output) in zip(blocks, blocks[1:] + [("end", "")]):
+        if language != "sh":
+            continue
+        name = "the recipe %r" % commands.splitlines()[-1]
+        if commands.startswith("jq") and not shutil.which("jq"):
+            tally.skip(name, "there is no jq")
+            continue
+        got = run(["sh", "-c", commands], folder=folder, env=dict(os.environ, r="examples/recipes"))
+        shown = (got.err + got.out).decode()
+        wanted = output if after == "" else ""
+        tally.holds(name, got.status == 0 and shown == wanted, "status %s, and it prints %r" % (got.status, shown))
+
+
+def check_samples(tally, program, scripts):
+    """Both forms of a machine's tables give the same, but for what table text can't say."""
+    def made(table):
+        inputs = [os.path.join(scripts, "samples", it + ".txt") for it in ("ls", "status", "lsblk", table)]
+        disks = program.file("machine/disks")
+        got = run(AWKS[0] + ["-v", "disks=" + disks] + script_words(scripts, "machine") + inputs)
+        form = "concise" if table == "concise" else "table"
+        return form, program.run(["table", form, program.file("machine/tables", got.out), disks])
+
+    tables, wanted = made("table")[1], made("concise")[1]
+    tally.same("a machine's tables in both forms", tables, 0, wanted.out)
+
+
+def script_words(scripts, name):
+    return ["-f", os.path.join(scripts, "base.awk"), "-f", os.path.join(scripts, name + ".awk")]
+
+
+def check_row(tally, program, scripts, awk, script, variables, inputs, output, message, status):
+    paths = [program.file("row/%d" % place, text) for place, text in enumerate(inputs, 1)]
+    words = awk + [it for pair in variables for it in ("-v", pair)] + script_words(scripts, script)
+    got = run(words + [os.path.basename(it) for it in paths], folder=os.path.join(program.room, "row"))
+    name = "%s of %s over %r" % (script, " ".join(awk), inputs[-1][:40])
+    tally.same(name, got, status, output, message)
+
+
+def check_refusal(tally, program):
+    """dmremap refuses the line that a script prints in place of what it can't make, wherever it reads it."""
+    table, disks, line = "a: 0 8 linear sda 0\n", "sda 8\n", "refused\n"
+    message = "dmremap: %s\n"
+    answered = "1 R sda 0 8\n"
+    tally.same("a refused request", program.map(table, disks, "R a 0 8\n" + line), 3, answered, message % "request 2: form")
+    tally.same("a refused table", program.map(table + line, disks), 1, "", message % "source: syntax at 2")
+    tally.same("a refused disk list", program.map(table, disks + line), 1, "", message % "disks: syntax at 2")
+    for form in ("concise", "lvm"):
+        words = ["table", form, program.file("refusal/source", line)] + [program.file("refusal/disks", disks)] * (form == "concise")
+        tally.same("a refused text, as " + form, program.run(words), 1, "", message % ("source: syntax at %d" % (1 + (form == "lvm"))))
+
+
+def check_read_back(tally, program, scripts):
+    """Commands that put a file together: of disks with names that a shell takes otherwise, of one that ends
+    too early, over a file that is there, and of sectors that can't be read."""
+    folder = os.path.dirname(program.file("back/room"))
+    sectors = [bytes([it]) * 512 for it in range(16)]
+    names = ["it's", "$(id)", "a&b|c>d", '"`x`"']
+    for name in names:
+        program.file("back/" + name, b"".join(sectors))
+
+    def put_together(name, places, pieces):
+        inputs = [program.file("back/places", places), program.file("back/pieces", pieces)]
+        made = run(AWKS[0] + ["-v", "out=" + name] + script_words(scripts, "read_back") + inputs, folder=folder)
+        return run(["sh", "-c", made.out.decode()], folder=folder)
+
+    def holds(name, got, status, content, message=""):
+        path = os.path.join(folder, name)
+        found = read(path) if os.path.exists(path) else None
+        tally.same("the commands that make " + name, got, status, "", message)
+        tally.holds("the content of " + name, found == content, "it is %r" % found)
+
+    places = "size 3000\n0 4\n6 1\n"
+    pieces = "1 R it's 3 1\n1 R $(id) 8 1\n1 zero 1\n1 R a&b|c>d 0 1\n2 R \"`x`\" 15 1\n"
+    whole = sectors[3] + sectors[8] + bytes(512) + sectors[0] + bytes(3000 - 2048)
+    holds("o'ut", put_together("o'ut", places, pieces), 0, whole)
+    holds("o'ut", put_together("o'ut", places, pieces), 1, whole, "there is o'ut already\n")
+    places = "size 1024\n0 2\n"
+    holds("lost", put_together("lost", places, "1 error 1\n1 R it's 1 1\n"), 1, bytes(512) + sectors[1],
+          "1 sectors of the file from 0 on can't be read\n")
+    holds("short", put_together("short", places, "1 R it's 15 2\n"), 1, None, "it's ends before sector 17\n")
+    got = put_together("", places, "1 R it's 0 2\n")
+    tally.same("the commands for no file", got, 1, "", "there is  already\n")
+    # Where extents were refused, so is what was to come of them.
+    inputs = [program.file("back/extents", "Filesystem type is: ef53\n"), "places=places"]
+    run(AWKS[0] + ["-v", "volume=v", "-v", inputs[1]] + script_words(scripts, "filefrag") + inputs[:1], folder=folder)
+    got = run(AWKS[0] + ["-v", "out=o"] + script_words(scripts, "read_back") + ["places", "/dev/null"], folder=folder)
+    tally.same("places of extents that were refused", got, 1, "refused\n", "places:1: not PLACES of filefrag.awk or debugfs.awk\n")
+
+
+def read(path):
+    with open(path, "rb") as it:
         return it.read()
 
 
-def area_text(group, identity, number):
-    """What lvm2 writes into an area: the group first, and a NUL at the end."""
-    head, body = group.split(b"vg0 {\n")
-    return b'vg0 {\nid = "%s"\nseqno = %d\n' % (identity, number) + body + head + b"\0"
+def check_stack(tally, program, scripts, dice):
+    """A random stack: each clash, the owners of each sector of a disk, and where each device lies."""
+    stack = small_stack(dice)
+    source, disks = program.file("stack/source", concise(stack)), program.file("stack/disks", disks_of(stack))
+    tables = program.file("stack/tables", program.run(["table", "concise", source, disks]).out)
+    awk = dice.choice(AWKS)
+
+    def script(name, *inputs, given="", variables=()):
+        return run(awk + [it for pair in variables for it in ("-v", pair)] + script_words(scripts, name) + list(inputs),
+                   given=given)
+
+    spans = program.file("stack/spans", script("spans", disks, tables).out)
+    got = script("clashes", spans)
+    wanted = clashes(stack)
+    found = sorted(got.out.decode().splitlines())
+    tally.holds("all clashes of " + concise(stack), got.status == 0 and found == wanted, "%r and not %r" % (found, wanted))
+    said = "clash" if wanted else "tidy"
+    tally.holds("whether there are any", tidiness(stack).startswith(said), "the rules say %s" % tidiness(stack))
+    places = [(disk, at) for disk, length in stack.disks.items() for at in range(length)]
+    given = "".join("%s %d\n" % it for it in places)
+    found = sorted(set(script("owner", tables, "-", given=given).out.decode().splitlines()))
+    wanted = sorted(set(line for disk, at in places for line in owners(stack, disk, at, "%s %d" % (disk, at))))
+    tally.holds("the owners in " + concise(stack), found == wanted, difference(found, wanted))
+    for name in stack.tables:
+        asked = script("whole", tables, variables=["volume=" + name]).out
+        answers = program.run(["map", "concise", source, disks], given=asked).out
+        found = script("extents", given=answers).out.decode()
+        wanted = extents([stack.read("/dev/mapper/" + name, at) for at in range(stack.length("/dev/mapper/" + name))])
+        tally.holds("the extents of %s" % name, found == wanted, "%r and not %r" % (found, wanted))
 
 
-def head_of(offset, text, others=(), size=SIZE, flags=0):
-    """The head of a physical volume whose area has a text at this offset, and others."""
-    area = bytearray(size)
-    area[4:20] = MAGIC
-    area[20:64] = struct.pack("<L5Q", 1, HEADER, size, offset, len(text), flags << 32)
-    for at, it in [*others, (offset, text)]:
-        for place, byte in enumerate(it, at):
-            area[place if place < size else place - size + 512] = byte
-    return bytes(HEADER) + bytes(area)
+def clashes(stack):
+    """Each two claims that have a sector in common, and are not let have it."""
+    found, all_claims = [], list(claims(stack))
+    for place, later in enumerate(all_claims):
+        for earlier in all_claims[:place]:
+            first, end = max(earlier[2], later[2]), min(earlier[3], later[3])
+            if earlier[1] == later[1] and first < end and (earlier[4], later[4]) not in SHARING:
+                names = [it[0] for it in sorted([earlier, later], key=lambda it: (it[2], it[3], it[0]))]
+                found.append("%s %d %d %s %s" % (later[1], first, end - 1, *names))
+    return sorted(found)
 
 
-def check_area(tally, program, examples):
-    """The valid text goes round the ring, and one of a group that was removed has the higher number."""
-    group = text_of(examples, "vg0.backup")
-    gone = group.replace(b"pe_start = 2048", b"pe_start = 4096").replace(b"pe_count = 128", b"pe_count = 127")
-    old, valid = area_text(gone, b"AAAAAA", 13), area_text(group, b"BBBBBB", 2)
-    head = head_of(3840, valid, [(512 + len(valid), old)])
-    sample = text_of(examples, "vg0-head.img")
-    tally.holds("the sample of a metadata area", sample == head, "it is not what this module makes")
-    got = run_area(examples, os.path.join(examples, "vg0-head.img"))
-    tally.same("the text of a metadata area", got, 0, valid[:-1])
-    group_file = os.path.join(examples, "vg0.backup")
-    wanted = program.run(["table", "lvm", group_file]).out
-    tally.same("the table of that text", program.run(["table", "lvm", program.file("area", got.out)]), 0, wanted)
-    whole = area_text(group, b"CCCCCC", 3)
-    for size in (512 + len(whole), 4096, 1 << 21):
-        for offset in (512, size - 1, size - len(whole)):
-            got = run_area(examples, program.file("head", head_of(offset, whole, size=size)))
-            tally.same("a text at %d of an area of %d bytes" % (offset, size), got, 0, whole[:-1])
+def owners(stack, on, at, path):
+    """Each way up from a sector, found by looking where each sector of each device lies one level below."""
+    found = False
+    for name, table in stack.tables.items():
+        words = table[0][2]
+        if words[0] == "snapshot" and words[2] == on:
+            found = True
+            yield "%s = in the store of %s" % (path, name)
+        for sector in range(stack.length("/dev/mapper/" + name)):
+            to, *place = stack.below(name, sector)
+            beside = " until it is copied" if to == "snapshot" else ""
+            below = (place[0], sector) if to in ("snapshot", "snapshot-origin") else (to, *place)
+            if below == (on, at):
+                found = True
+                yield from owners(stack, "/dev/mapper/" + name, sector, "%s = %s %d%s" % (path, name, sector, beside))
+    if not found:
+        yield path
 
 
-def check_refused_areas(tally, program, examples):
-    text = b"vg0 { }\n\0"
-    other = ": try another physical volume of the group\n"
-    damaged = "the header of the metadata area is damaged" + other
-    rows = [
-        ("no area", bytes(8192), "there is no metadata area" + other),
-        ("an empty file", b"", "there is no metadata area" + other),
-        ("no group", head_of(512, b""), "the physical volume belongs to no group\n"),
-        ("an area that is not used", head_of(512, text, flags=1), "lvm2 keeps no text in this metadata area" + other),
-        ("an area that is cut off", head_of(512, text)[:-10],
-         "the metadata area ends 10 bytes after the end of the image: read more of the disk\n"),
-        ("a text in the header", with_offset(head_of(512, text), 511), damaged),
-        ("a text after the area", with_offset(head_of(512, text), SIZE), damaged),
-        ("a text longer than the area", head_of(512, text * 449), damaged),
-    ]
-    for name, head, message in rows:
-        tally.same("the text of " + name, run_area(examples, program.file("head", head)), 1, "", message)
+def extents(units):
+    """The lines of a device whose sectors lie there."""
+    found = []
+    for at, (word, *place) in enumerate(units):
+        disk, sector = place[0] if place else (word, None)
+        if found:
+            start, count, last, first = found[-1]
+            if last == disk and (sector is None) == (first is None) and sector in (None, (first or 0) + count):
+                found[-1] = (start, count + 1, last, first)
+                continue
+        found.append((at, 1, disk, sector))
+    return "".join("%d %d %s\n" % (start, count, last if first is None else "%s %d" % (last, first))
+                   for start, count, last, first in found)
 
 
-def with_offset(head, offset):
-    return head[:HEADER + 40] + struct.pack("<Q", offset) + head[HEADER + 48:]
-
-
-def run_area(examples, head):
-    return run([sys.executable, "-B", os.path.join(examples, "metadata_area.py"), head])
-
-
-def check_extents(tally, program, examples):
-    """Extents of a file as requests: in sectors, cut where they are longer than a request may be."""
-    two = ("   0:        0..      15:       8000..      8015:     16:            \n"
-           "   1:       16..      23:      40960..     40967:      8:       8016: last,eof\n")
-    long = "  13:  4194304.. 6694303: 6597069766656..6597072266655: 2500000: 40976: last,eof\n"
-    lost = "   4:       32..      39:          0..         0:      8:      40976: last,unknown_loc,delalloc,eof\n"
-    most = 1048576
-    cut = "R v 6597069766656 %d\nR v 6597070815232 %d\nR v 6597071863808 402848\n" % (most, most)
-    rows = [
-        ("two extents", two, "R v 8000 16\nR v 40960 8\n", ""),
-        ("an extent as long as a request", "   0: 0.. 1: 0..1048575: 1048576: last\n", "R v 0 1048576\n", ""),
-        ("one that is longer", "   0: 0.. 1: 0..1048576: 1048577: last\n", "R v 0 1048576\nR v 1048576 1\n", ""),
-        ("a long one far behind", long, cut, ""),
-        ("one without a place", two + lost, "R v 8000 16\nR v 40960 8\n", "no data of the file there: " + lost),
-        ("none", "", "", ""),
-    ]
-    for name, extents, requests, message in rows:
-        words = ["awk", "-v", "volume=v", "-f", os.path.join(examples, "extents.awk")]
-        tally.same("requests of " + name, run(words, given=EXTENTS % extents), 0, requests, message)
-    words = ["awk", "-v", "volume=vg0-lv0", "-f", os.path.join(examples, "extents.awk")]
-    given = run(words, given=EXTENTS % two).out
-    got = program.run(["map", "lvm", os.path.join(examples, "vg0.backup")], given=given)
-    tally.same("the extents of a file", got, 0, "1 R /dev/sda1 10048 16\n2 R /dev/sda1 43008 8\n")
+def difference(found, wanted):
+    return "too many: %r; missing: %r" % ([it for it in found if it not in wanted][:3],
+                                          [it for it in wanted if it not in found][:3])

@@ -1,6 +1,6 @@
 """Prints the metadata text of the group that a physical volume of LVM2 belongs to.
 
-    python3 examples/metadata_area.py HEAD > vg0.backup
+    python3 examples/recipes/metadata_area.py HEAD > vg0.backup
 
 HEAD is the physical volume, or an image of its first MiB. The metadata area there is a ring of texts,
 the valid one and older ones, also of groups that were removed. The area's header says where the valid

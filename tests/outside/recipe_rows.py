@@ -1,0 +1,448 @@
+"""What the scripts of the recipes make of inputs, among them such as are easily taken wrong: a script, its
+variables, its inputs, what it prints, what it says on standard error, and its status."""
+
+LAST = 1048576
+
+
+def good(script, variables, inputs, output, message=""):
+    return script, variables, inputs, output, message, 0
+
+
+def bad(script, variables, inputs, message, output=""):
+    """The script says why, after what it had printed prints the line `refused`, and fails."""
+    return script, variables, inputs, output + "refused\n", message + "\n", 1
+
+
+# Extents of a file.
+
+HEAD = "Filesystem type is: ef53\nFile size of /f is %d (%d blocks of %d bytes)\n"
+LIST = " ext:     logical_offset:        physical_offset: length:   expected: flags:\n"
+V = ["volume=v"]
+
+
+def frag(extents, size=20480, block=512, found=1):
+    """What filefrag prints of a file with these lines of extents."""
+    return HEAD % (size, -(-size // block), block) + LIST + extents + "/f: %d extents found\n" % found
+
+
+def frags(extents, output, message="", **how):
+    return good("filefrag", V, [frag(extents, **how)], output, message)
+
+
+def no_frags(text, message, output=""):
+    return bad("filefrag", V, [text], "1:" + message, output)
+
+
+TWO = ("   0:        0..      15:       8000..      8015:     16:            \n"
+       "   1:       16..      23:      40960..     40967:      8:       8016: last,eof\n")
+WHOLE = "   0:        0..       1:          8..         9:      2:             last,eof\n"
+FILEFRAG = [
+    frags(TWO, "R v 8000 16\nR v 40960 8\n", size=12288),
+    frags(WHOLE, "R v 64 16\n", size=8192, block=4096),
+    frags(WHOLE, "R v 16 4\n", size=2048, block=1024),
+    frags("   0: 0.. 1048575: 0..1048575: 1048576: last\n", "R v 0 1048576\n"),
+    frags("   0: 0.. 1048576: 0..1048576: 1048577: last\n", "R v 0 1048576\nR v 1048576 1\n"),
+    frags("   0: 4194304.. 6694303: 6597069766656..6597072266655: 2500000: 40976: last,eof\n",
+          "R v 6597069766656 %d\nR v 6597070815232 %d\nR v 6597071863808 402848\n" % (LAST, LAST)),
+    frags("   0:        0..       7:         80..        87:      8:             last,merged,shared,eof\n", "R v 80 8\n", size=4096),
+    frags(TWO.replace("last,eof", "") + "   2:       24..      31:      50000..     50007:      8:      40968: last,unwritten,eof\n",
+          "R v 8000 16\nR v 40960 8\n",
+          "unwritten, so that it reads as zeros: 2:       24..      31:      50000..     50007:      8:      40968: last,unwritten,eof\n",
+          size=16384),
+    frags("", "", found=0),
+    good("filefrag", V, ["Filesystem type is: ef53\nFilesystem cylinder groups approximately 3\n" +
+                         "File size of a b (3 blocks of 7 bytes) is 9 is 5 (2 block of 512 bytes)\n" + LIST + "a: 0 extents found\n"], ""),
+    good("filefrag", V, [frag(WHOLE, 1024) + frag(WHOLE, 8192, 4096)], "R v 8 2\nR v 64 16\n"),
+    bad("filefrag", ["volume=v", "places=places"], [frag(WHOLE, 1024) + frag(WHOLE, 1024)],
+        "1:7: PLACES is of one file", "R v 8 2\n"),
+    bad("filefrag", [], [frag(WHOLE, 1024)], "1:2: no name of a device: ''"),
+    bad("filefrag", ["volume=v w"], [frag(WHOLE, 1024)], "1:2: no name of a device: 'v w'"),
+    no_frags("\n", "1: not a line of filefrag -v: "),
+    no_frags("Filesystem type is: ef53\n", "1: no file"),
+    no_frags(WHOLE, "1: not a line of filefrag -v: " + WHOLE[:-1]),
+    no_frags(LIST + WHOLE, "1: not a line of filefrag -v: " + LIST[:-1]),
+    no_frags(HEAD.split("\n")[1] % (8192, 2, 4096) + "\n" + LIST + WHOLE,
+             "1: the line comes too early: File size of /f is 8192 (2 blocks of 4096 bytes)"),
+    no_frags("Filesystem type is: 9123683e\n", "1: neither ext2, ext3, ext4 nor XFS: Filesystem type is: 9123683e"),
+    no_frags(frag(WHOLE, 1000, 500), "4: blocks of 500 bytes, which are no whole sectors"),
+    no_frags(frag(WHOLE, 1024).replace("/f: 1 extents found\n", ""),
+             "4: the end is missing of: File size of /f is 1024 (2 blocks of 512 bytes)", "R v 8 2\n"),
+    no_frags(frag(WHOLE.replace("last", "last,delalloc,unknown_loc"), 1024), "4: an extent whose place is not known: " +
+             WHOLE.replace("last", "last,delalloc,unknown_loc")[3:-1]),
+    no_frags(frag("   0:        0..       4:     171816..    171820:      5:             last,not_aligned,inline,eof\n", 5),
+             "4: an extent whose place is not known: 0:        0..       4:     171816..    171820:      5:             last,not_aligned,inline,eof"),
+    no_frags(frag(WHOLE.replace("last", "last,encoded"), 1024), "4: an extent whose place is not known: " +
+             WHOLE.replace("last", "last,encoded")[3:-1]),
+    no_frags(frag(TWO.replace("   1:", "   2:"), 12288), "5: an extent is missing: 2:       16..      23:      40960..     40967:"
+             "      8:       8016: last,eof", "R v 8000 16\n"),
+    no_frags(frag(TWO.replace("       16..      23", "       15..      22"), 12288), "5: an extent is missing: 1:       15..      22:"
+             "      40960..     40967:      8:       8016: last,eof", "R v 8000 16\n"),
+    no_frags(frag(TWO[:TWO.index("\n") + 1], 12288, found=2), "5: an extent is missing before: /f: 2 extents found", "R v 8000 16\n"),
+    no_frags(frag("", 12288, found=2), "4: an extent is missing before: /f: 2 extents found"),
+    no_frags(frag(WHOLE.replace(",eof", "") + "   1:        2..       3:         20..        21:      2:         10: last,eof\n", 2048),
+             "5: an extent is missing: 1:        2..       3:         20..        21:      2:         10: last,eof", "R v 8 2\n"),
+    no_frags(frag(WHOLE.replace("      2:", "      3:"), 1024), "4: ends and length differ: " + WHOLE.replace("      2:", "      3:")[3:-1]),
+    no_frags(frag(WHOLE.replace(" 9:", "10:"), 1024), "4: ends and length differ: " + WHOLE.replace(" 9:", "10:")[3:-1]),
+    no_frags((HEAD % (20480, 40, 512)).replace("512 bytes", "12 bytes"), "2: bytes and blocks differ: File size of /f is 20480 (40 blocks of 12 bytes)"),
+    # Hexadecimal numbers, as -X prints them: with letters, and where only the file's end tells.
+    no_frags(frag(WHOLE.replace(" 9:", " f:"), 1024), "4: not a line of filefrag -v: " + WHOLE.replace(" 9:", " f:")[:-1]),
+    no_frags(frag("   0:        0..      10:         20..        30:     11:             last,eof\n", 17 * 512),
+             "4: the file ends elsewhere: 0:        0..      10:         20..        30:     11:             last,eof"),
+    no_frags(frag("   0: 0.. 0: 9007199254740992..9007199254740992: 1: last\n", 512),
+             "4: no number that awk is exact with: '9007199254740992'"),
+    # A name with a newline that looks like an extent.
+    no_frags("Filesystem type is: ef53\nFile size of /x\n   0:        0..     119:   1..  120:    120:            \n"
+             " is 0 (0 blocks of 4096 bytes)\n", "2: not a line of filefrag -v: File size of /x"),
+]
+
+# Extents that debugfs lists.
+
+SUPER = "Filesystem volume name:   <none>\nBlock size:               %s\nFragment size:            4096\n"
+TREE = "Level Entries       Logical      Physical Length Flags\n"
+LEAF = " 0/ 0   1/  1     0 -  2197  2070 -  4267   2198 \n"
+
+
+def ex(lines, message=None, output="", block=4096, variables=V, said=""):
+    inputs = [SUPER % block, TREE + lines]
+    if message is None:
+        return good("debugfs", variables, inputs, output, said)
+    return bad("debugfs", variables, inputs, "2:" + message, output)
+
+
+DEBUGFS = [
+    ex(LEAF, output="R v 16560 17584\n"),
+    ex(LEAF, output="R v 4140 4396\n", block=1024),
+    ex(LEAF, output="R v 264960 281344\n", block=65536),
+    ex(" 0/ 1   1/  2     0 -  9  16            10\n 1/ 1   1/  1     0 -  9  20 -  29   10 \n"
+       " 0/ 1   2/  2    10 -  19  17            10\n 1/ 1   1/  1    10 -  19  50 -  59   10 Uninit\n",
+       output="R v 160 80\n", said="unwritten, so that it reads as zeros: 1/ 1   1/  1    10 -  19  50 -  59   10 Uninit\n"),
+    ex(LEAF.replace("1/  1", "1/  2"), "2: entries are missing at the end", "R v 16560 17584\n"),
+    ex(LEAF.replace("1/  1", "2/  2"), "2: an entry is missing: 0/ 0   2/  2     0 -  2197  2070 -  4267   2198"),
+    ex(LEAF.replace("   2198", "   2197"), "2: ends and length differ: 0/ 0   1/  1     0 -  2197  2070 -  4267   2197"),
+    ex(LEAF.replace("2198", "2198 Strange"), "2: not a line of ex: 0/ 0   1/  1     0 -  2197  2070 -  4267   2198 Strange"),
+    ex("/a: does not uses extent block maps\n", "2: not a line of ex: /a: does not uses extent block maps"),
+    ex(LEAF, "2: blocks of 100 bytes, which are no whole sectors", block=100),
+    bad("debugfs", V, [SUPER % 4096], "1:3: no list of extents: only files with extents have one"),
+    bad("debugfs", V, ["Fragment size:  4096\n", TREE + LEAF], "2:1: no line 'Block size' of dumpe2fs before this"),
+    bad("debugfs", V, [SUPER % 4096, TREE + LEAF + TREE + LEAF], "2:3: more than one file", "R v 16560 17584\n"),
+    bad("debugfs", V + ["places=places"], [SUPER % 4096, TREE + LEAF], "2:1: no number that awk is exact with: ''"),
+]
+
+# Requests of traces, logs and bytes.
+
+LS = "vg0-lv0\t(253:0)\nvg0-lv--1\t(253:1)\n"
+QUEUED = "253,0    0        7     0.000000000  4101  Q %s [fio]\n"
+
+
+def traced(lines, output="", message="", names=LS):
+    return good("trace", [], [names, lines], output, message)
+
+
+def no_trace(lines, message, output="", names=LS):
+    return bad("trace", [], [names, lines], message, output)
+
+
+TRACE = [
+    traced(QUEUED % "  R 8 + 16", "R vg0-lv0 8 16\n"),
+    traced(QUEUED % "FWS 8 + 16" + QUEUED % "WFS 24 + 8" + QUEUED % " RA 0 + 8", "W vg0-lv0 8 16\nW vg0-lv0 24 8\nR vg0-lv0 0 8\n"),
+    traced((QUEUED % "  R 8 + 16").replace("[fio]", "[Q R 0 + 8 a]"), "R vg0-lv0 8 16\n"),
+    traced((QUEUED % "  R 8 + 16").replace("253,0 ", "  8,0 "), "", "left out: 1 requests to 8,0, which dmsetup ls has not\n"),
+    traced(QUEUED % "  R 8 + 16", "R a 8 16\n", names="a\t(253, 0)\n"),
+    traced(QUEUED % "  D 8 + 16" + QUEUED % "  N 8 + 16", "", "left out: 2 requests that are neither reads nor writes\n"),
+    traced(QUEUED % "  R 0 + 1048577", "R vg0-lv0 0 1048576\nR vg0-lv0 1048576 1\n"),
+    traced("  fio-1 [002] ..... 12.5: block_bio_queue: 253,1 RA 8 + 16 [x]\n", "R vg0-lv--1 8 16\n"),
+    traced("fio 1 [002] 12.5: block:block_bio_queue: 253,1 W 8 + 16 [x]\n", "W vg0-lv--1 8 16\n"),
+    traced("  fio-1 [002] ..... 12.5: block_bio_queue: 253,1 FF 0 + 0 [x]\n"),
+    traced(QUEUED % "  R 8 + 16" + "CPU0 (253,0):\n Reads Queued:           1,        8KiB\nSkips: 0 forward (0 -   0.0%)\n", "R vg0-lv0 8 16\n"),
+    no_trace(QUEUED % "  R 8 + 16" + "Skips: 2 forward (9 -   1.0%)\n", "2:2: events were lost: Skips: 2 forward (9 -   1.0%)", "R vg0-lv0 8 16\n"),
+    no_trace("CPU:3 [LOST 12 EVENTS]\n", "2:1: events were lost: CPU:3 [LOST 12 EVENTS]"),
+    no_trace("CPU:3 [12 EVENTS DROPPED]\n", "2:1: events were lost: CPU:3 [12 EVENTS DROPPED]"),
+    no_trace(QUEUED % " ZA 8 + 16", "2:1: neither a read nor a write: " + (QUEUED % " ZA 8 + 16")[:-1]),
+    no_trace(QUEUED % "  R 8 / 16", "2:1: not a form of the event: " + (QUEUED % "  R 8 / 16")[:-1]),
+    no_trace(QUEUED % "  R 9007199254740993 + 1", "2:1: no number that awk is exact with: '9007199254740993'"),
+    no_trace("12.5: block_bio_queue: 253,1 R 8 [x]\n", "2:1: not a form of the event: 12.5: block_bio_queue: 253,1 R 8 [x]"),
+    no_trace("hello\n", "2:1: no request in the trace"),
+    no_trace("hello\n", "1:1: not a line of dmsetup ls: No devices found", names="No devices found\n"),
+    no_trace(QUEUED % "  R 8 + 16", "2:1: no name of a device: 'a\\x20b'", names="a\\x20b\t(253:0)\n"),
+]
+
+FIO = "fio version 2 iolog\n/dev/mapper/a add\n/dev/mapper/a open\n"
+LOGS = [
+    good("fio", [], [FIO + "/dev/mapper/a read 4096 8192\n/dev/mapper/a trim 0 512\n/dev/mapper/a sync 0 0\n"
+                     "/dev/mapper/a wait 5 0\n/dev/mapper/a write 0 1\n/dev/mapper/a close\n"],
+         "R a 8 16\nW a 0 1\n", "left out: 1 trims\n"),
+    good("fio", [], ["fio version 3 iolog\n1 /dev/mapper/a read 4095 2\n2 /dev/mapper/a datasync 0 0\n"], "R a 7 2\n"),
+    bad("fio", [], ["fio version 1 iolog\n"], "1:1: not the first line of a log: fio version 1 iolog"),
+    bad("fio", [], [FIO + "/dev/sda read 0 512\n"], "1:4: no device-mapper name: /dev/sda"),
+    bad("fio", [], [FIO + "1 /dev/mapper/a read 0 512\n"], "1:4: not a line of a log: 1 /dev/mapper/a read 0 512"),
+    bad("fio", [], [FIO.replace("2", "3")], "1:2: not a line of a log: /dev/mapper/a add"),
+    bad("fio", [], [FIO + "/dev/mapper/a read 0\n"], "1:4: not a line of a log: /dev/mapper/a read 0"),
+    bad("fio", [], [FIO + "/dev/mapper/a read 0 4k\n"], "1:4: no number that awk is exact with: '4k'"),
+    bad("fio", [], [FIO + "/dev/mapper/a write 9007199254740991 1\n"], "1:4: no number that awk is exact with: '9007199254740992'"),
+    good("bytes", [], ["R a 0 1\nW a 511 2\nR a 1024 512\n"], "R a 0 1\nW a 0 2\nR a 2 1\n"),
+    good("bytes", [], ["R a 4503599627370496 1024\n"], "R a 8796093022208 2\n"),
+    bad("bytes", [], ["R a 0 0\n"], "1:1: no bytes: R a 0 0"),
+    bad("bytes", [], ["R a -1 8\n"], "1:1: no number that awk is exact with: '-1'"),
+    bad("bytes", [], ["R a 1e3 8\n"], "1:1: no number that awk is exact with: '1e3'"),
+    bad("bytes", [], ["R a 0x10 8\n"], "1:1: no number that awk is exact with: '0x10'"),
+    bad("bytes", [], ["R a 010 8\n"], "1:1: no number that awk is exact with: '010'"),
+    bad("bytes", [], ["R a 8\n"], "1:1: not R or W, a device, an offset and a length: R a 8"),
+    good("cut", [], ["R a 0 1048576\nW b 5 1048577\n"], "R a 0 1048576\nW b 5 1048576\nW b 1048581 1\n"),
+    bad("cut", [], ["R a 0 1\nR a 0 0\n"], "1:2: no sectors: R a 0 0", "R a 0 1\n"),
+    bad("cut", [], ["r a 0 1\n"], "1:1: not a request: r a 0 1"),
+    bad("cut", [], ["R a,b 0 1\n"], "1:1: no name of a device: 'a,b'"),
+]
+
+# A machine's tables. What becomes of DISKS is in the outputs of the document.
+
+NUMBERS = "base\t(253:0)\ncow\t(253:1)\nsnap\t(253:2)\norig\t(253:3)\n"
+FRESH = "base: 0 16 linear \ncow: 0 64 linear \nsnap: 0 16 snapshot 16/64 16\norig: 0 16 snapshot-origin \n"
+SIZES = "8:1 1048576\n253:0 8192\n253:1 32768\n253:2 8192\n253:3 8192\n"
+LOWER = "base: 0 16 linear 8:1 0\ncow: 0 64 linear 8:1 16\n"
+SNAP = "snap: 0 16 snapshot 253:0 253:1 %s 8\n"
+SNAP_OUT = "snap: 0 16 snapshot /dev/mapper/base /dev/mapper/cow %s 8\n"
+ORIG = "orig: 0 16 snapshot-origin 253:0\n"
+ORIG_OUT = "orig: 0 16 snapshot-origin /dev/mapper/base\n"
+DISKS = ["disks=disks"]
+
+
+def machine(tables, output, message="", names=NUMBERS, status=FRESH, sizes=SIZES):
+    return good("machine", DISKS, [names, status, sizes, tables], output, message)
+
+
+def no_machine(tables, message, names=NUMBERS, status=FRESH, sizes=SIZES, variables=DISKS):
+    return bad("machine", variables, [names, status, sizes, tables], message)
+
+
+ALL = LOWER + SNAP % "P" + ORIG
+WITHOUT = "left out: snap (%s), the disk 253:2\nleft out: orig (a snapshot of its origin is left out), the disk 253:3\n"
+COPIED = "its store has copies, and nothing says of which chunks"
+MACHINE = [
+    machine(ALL, LOWER + SNAP_OUT % "P" + ORIG_OUT),
+    machine(LOWER + SNAP % "N" + ORIG, LOWER + SNAP_OUT % "N" + ORIG_OUT, status=FRESH.replace("16/64 16", "0/64 0")),
+    machine(ALL, LOWER, WITHOUT % COPIED, status=FRESH.replace("16/64 16", "24/64 16")),
+    machine(ALL, LOWER, WITHOUT % COPIED, status=FRESH.replace("16/64 16", "Invalid")),
+    machine(LOWER + SNAP % "PO" + ORIG, LOWER, WITHOUT % "0 16 snapshot 253:0 253:1 PO 8"),
+    machine(LOWER + (SNAP % "P").replace("8\n", "8 1 discard_zeroes_cow\n") + ORIG, LOWER,
+            WITHOUT % "0 16 snapshot 253:0 253:1 P 8 1 discard_zeroes_cow"),
+    machine(LOWER + SNAP % "P" + ORIG.replace("snapshot-origin 253:0", "snapshot-merge 253:0 253:1 P 8"), LOWER + SNAP_OUT % "P",
+            "left out: orig (snapshot-merge), the disk 253:3\n"),
+    # What lies on a device that is left out ends at its number; 253:10 is not 253:1.
+    machine("a: 0 8 crypt x y 0 8:1 0\nb: 0 8 linear 253:1 0\nb: 8 8 linear 253:10 4\nc: 0 16 zero \n",
+            "b: 0 8 linear 253:1 0\nb: 8 8 linear /dev/mapper/c 4\nc: 0 16 zero\n", "left out: a (crypt), the disk 253:1\n",
+            names="a\t(253:1)\nb\t(253:2)\nc\t(253:10)\n", sizes="8:1 4096\n253:1 4096\n253:2 8192\n253:10 8192\n"),
+    machine("a: 0 8 linear 8:1 0\na: 8 8 thin 8:1 1\n", "", "left out: a (thin), the disk 253:1\n", names="a\t(253:1)\n"),
+    machine("a\\x20b: 0 8 zero \na: 0 8 zero \nc: \n", "a: 0 8 zero\n",
+            "left out: a\\x20b (its name is mangled), the disk 253:1\nleft out: c (it has no table), the disk 253:3\n",
+            names="a\\x20b\t(253:1)\na\t(253:2)\nc\t(253:3)\n", sizes="253:1 4096\n253:2 4096\n"),
+    machine("a,LVM-x,1,ro,0 8 striped 2 4 8:1 0 8:1 8;a\\x20b,,2,rw,0 8 zero ;c,CRYPT-y,3,rw,0 8 crypt x y 0 8:1 0,8 8 zero\n",
+            "a,,,ro,0 8 striped 2 4 8:1 0 8:1 8\n",
+            "left out: a\\x20b (its name is mangled), the disk 253:2\nleft out: c (crypt), the disk 253:3\n",
+            names="a\t(253:1)\na\\x20b\t(253:2)\nc\t(253:3)\n", sizes="8:1 8192\n253:1 4096\n"),
+    no_machine("a\\,b,,2,rw,0 8 zero \n", "4:1: dmsetup ls has not a?b"),
+    no_machine(LOWER + ORIG, "4:3: no table of snap, which may be a snapshot of an origin"),
+    no_machine("base: 0 16 linear 253:9 0\n", "4:1: dmsetup ls has not 253:9", sizes=SIZES + "253:9 8192\n"),
+    no_machine(SNAP % "P", "4:1: no table of base, which others name"),
+    no_machine(ALL, "4:3: dmsetup status has not the snapshot snap", status="base: 0 16 linear \n"),
+    no_machine(ALL, "4:4: lsblk has not 8:1", sizes=SIZES.replace("8:1 1048576\n", "")),
+    no_machine(ALL, "4:4: lsblk and the table of base differ in its length", sizes=SIZES.replace("253:0 8192\n", "")),
+    # Sizes in sectors, sizes for people, and half a sector.
+    no_machine(ALL, "4:4: lsblk and the table of base differ in its length", sizes=SIZES.replace("253:0 8192", "253:0 512")),
+    no_machine(ALL, "3:1: not a line of lsblk -brno MAJ:MIN,SIZE: 8:1 1M", sizes="8:1 1M\n"),
+    no_machine(ALL, "3:1: no whole sectors: 8:1 513", sizes="8:1 513\n"),
+    no_machine(ALL, "3:6: two sizes of 8:1", sizes=SIZES + "8:1 512\n"),
+    no_machine(ALL, "4:1: dmsetup ls has not base", names="a\t(253:0)\n"),
+    no_machine(ALL, "1:1: not a line of dmsetup ls: No devices found", names="No devices found\n"),
+    no_machine(ALL, "2:1: not a line of dmsetup status: No devices found", status="No devices found\n"),
+    no_machine("No devices found\n", "4:1: not a line of dmsetup table: No devices found"),
+    no_machine("0 16 linear 8:1 0\n", "4:1: not a line of dmsetup table: 0 16 linear 8:1 0"),
+    no_machine(LOWER + "snap: 0 16 linear 8:1 99\nbase: 16 8 linear 8:1 0\n", "4:4: two tables of base"),
+    no_machine("base: 0 16 linear /dev/sda 0\n", "4:1: no number of a device: /dev/sda"),
+    no_machine(ALL, "4:4: -v disks=DISKS is missing", variables=[]),
+    no_machine("base,,0,xx,0 16 linear 8:1 0\n", "4:1: not a device of dmsetup table --concise: base,,0,xx,0 16 linear 8:1 0"),
+    no_machine("base,,0,rw,0 16 linear 8:1 0\ncow,,1,rw,0 64 linear 8:1 16\n", "4:2: not a line of dmsetup table: cow,,1,rw,0 64 linear 8:1 16"),
+    bad("machine", DISKS, [NUMBERS, SIZES, ALL], "2:1: not a line of dmsetup status: 8:1 1048576"),
+]
+
+SFDISK = "label: gpt\nlabel-id: x\ndevice: /dev/sda\nunit: sectors\nfirst-lba: 34\nsector-size: %s\n\n"
+PART = "/dev/sda1 : start=        2048, size=       16384, type=83\n"
+
+
+def parted(parts, tables, output, message="", bytes="512"):
+    return good("partitions", [], [SFDISK % bytes + parts, tables], output, message)
+
+
+def no_parts(parts, message, tables="a: 0 8 linear /dev/sda1 0\n", output="", head=SFDISK % "512"):
+    return bad("partitions", [], [head + parts, tables], message, output)
+
+
+PARTITIONS = [
+    parted(PART, "a: 0 8 linear /dev/sda1 4\n", "sda1: 0 16384 linear /dev/sda 2048\na: 0 8 linear /dev/mapper/sda1 4\n"),
+    parted(PART, "a: 0 8 linear /dev/sda1 4\n", "sda1: 0 131072 linear /dev/sda 16384\na: 0 8 linear /dev/mapper/sda1 4\n", bytes="4096"),
+    # /dev/sda10 and /dev/sda are other disks; a store, an origin and a column at the end of a line.
+    parted(PART, "a: 0 8 linear /dev/sda10 4\nb: 0 8 striped 2 4 /dev/sda 0 /dev/sda1 0\nc: 0 8 snapshot-origin /dev/sda1\n"
+           "d: 0 8 snapshot /dev/sda1 /dev/sda1 P 8\n",
+           "sda1: 0 16384 linear /dev/sda 2048\na: 0 8 linear /dev/sda10 4\nb: 0 8 striped 2 4 /dev/sda 0 /dev/mapper/sda1 0\n"
+           "c: 0 8 snapshot-origin /dev/mapper/sda1\nd: 0 8 snapshot /dev/mapper/sda1 /dev/mapper/sda1 P 8\n"),
+    parted(PART + "/dev/sda2 : start=       18432, size=       10240, type=5\n/dev/sda5 : start=20480, size=2048, type=83, bootable\n",
+           "a: 0 8 linear /dev/sda5 0\n", "sda1: 0 16384 linear /dev/sda 2048\nsda5: 0 2048 linear /dev/sda 20480\n"
+           "a: 0 8 linear /dev/mapper/sda5 0\n", "left out, since it holds others: /dev/sda2\n"),
+    # A name that looks like a place.
+    parted('/dev/sda1 : start=2048, size=16384, type=x, name="start=5, size=7"\n', "a: 0 8 linear /dev/sda1 0\n",
+           "sda1: 0 16384 linear /dev/sda 2048\na: 0 8 linear /dev/mapper/sda1 0\n"),
+    good("partitions", ["bytes=512"], ["label: dos\ndevice: a.img\nunit: sectors\n\na.img1 : start=63, size=8, type=83\n",
+                                       "a: 0 8 linear a.img1 0\n"],
+         "a.img1: 0 8 linear a.img 63\na: 0 8 linear /dev/mapper/a.img1 0\n"),
+    parted(PART + (SFDISK % "4096" + PART).replace("sda", "sdb"), "a: 0 8 linear /dev/sdb1 0\n",
+           "sda1: 0 16384 linear /dev/sda 2048\nsdb1: 0 131072 linear /dev/sdb 16384\na: 0 8 linear /dev/mapper/sdb1 0\n"),
+    no_parts(PART + "label: dos\ndevice: /dev/sdb\n" + PART.replace("sda", "sdb"), "1:11: how many bytes has a sector? -v bytes=",
+             output="sda1: 0 16384 linear /dev/sda 2048\n"),
+    no_parts(PART, "1:4: how many bytes has a sector? -v bytes=", head="label: dos\ndevice: /dev/sda\nunit: sectors\n"),
+    no_parts(PART, "1:2: not counted in sectors: unit: cylinders", head="label: dos\nunit: cylinders\n"),
+    no_parts(PART, "2:1: no line of the tables names one of these partitions", "a: 0 8 linear /dev/sdb1 0\n",
+             "sda1: 0 16384 linear /dev/sda 2048\na: 0 8 linear /dev/sdb1 0\n"),
+    no_parts(PART + PART, "1:9: a second partition sda1", output="sda1: 0 16384 linear /dev/sda 2048\n"),
+    no_parts(PART, "2:1: a partition has the name of the device sda1:", "sda1: 0 8 linear /dev/sda1 0\n", "sda1: 0 16384 linear /dev/sda 2048\n"),
+    no_parts("/dev/sda1 : start=2048, size=8MiB\n", "1:8: not a line of sfdisk -d: /dev/sda1 : start=2048, size=8MiB"),
+    no_parts("/dev/sda1 : start=2048, size=9007199254740993, type=83\n",
+             "1:8: no number that awk is exact with: '9007199254740992'"),
+    no_parts("my disk1 : start=2048, size=8, type=83\n", "1:8: not a line of sfdisk -d: my disk1 : start=2048, size=8, type=83"),
+]
+
+PATHS = "/dev/sda1 /dev/loop0\n/dev/sda10 /dev/loop1\n"
+ELSEWHERE = [
+    good("elsewhere", [], [PATHS, "a,,,rw,0 8 linear /dev/sda1 0,8 8 linear /dev/sda10 0;b,,,ro,0 8 snapshot /dev/mapper/a /dev/sda1 P 8\n"],
+         "a,,,ro,0 8 linear /dev/loop0 0,8 8 linear /dev/loop1 0;b,,,ro,0 8 snapshot /dev/mapper/a /dev/loop0 P 8\n"),
+    bad("elsewhere", [], [PATHS, "a,,,rw,0 8 linear /dev/sda 0\n"], "2:1: no path of the disk /dev/sda"),
+    bad("elsewhere", [], [PATHS, "a: 0 8 linear /dev/sda1 0\n"], "2:1: not what ./dmremap concise prints"),
+    bad("elsewhere", [], ["/dev/sda1 loop0\n", "\n"], "1:1: not DISK PATH: /dev/sda1 loop0"),
+    bad("elsewhere", [], [PATHS + "/dev/sdb /dev/loop0\n", "\n"], "1:3: named before: /dev/sdb /dev/loop0"),
+    bad("elsewhere", [], [PATHS], "1:2: no text"),
+]
+
+# What is made of answers.
+
+ANSWERS = "1 R sda 0 3\n2 copy sda 8 8 sdb 16\n2 W sdb 16 1\n3 zero 4\n4 fill 2 sdb 3\n5 drop 1\n6 error 9\ns: 0 8 snapshot 24/64 16\n"
+REPLAYED = "1 wrote 1 18 1\n"
+NOT_PIECE = "1:1: not a piece of an answer: "
+ANSWERED = [
+    good("totals", [], [ANSWERS], "- drop 1 1 512\n- error 1 9 4608\n- zero 1 4 2048\nsda R 2 11 5632\nsdb W 3 11 5632\n"),
+    good("totals", [], ["1 R a 0 1048576\n" * 3], "a R 3 3145728 1610612736\n"),
+    good("histogram", [], [ANSWERS], "sda R 2 1 ########################################\nsda R 8 1 ########################################\n"
+         "sdb W 1 1 ########################################\nsdb W 2 1 ########################################\n"
+         "sdb W 8 1 ########################################\n"),
+    good("to_fio", [], ["1 R /a 2 3\n1 R /b 0 1\n2 R /a 2199023255552 1\n"],
+         "fio version 2 iolog\n/a add\n/a open\n/a read 1024 1536\n/b add\n/b open\n/b read 0 512\n/a read 1125899906842624 512\n"
+         "/a close\n/b close\n"),
+    bad("to_fio", [], ["1 R 8:1 2 3\n"], "1:1: no path of a disk: 8:1"),
+    good("extents", [], ["1 R a 0 8\n2 R a 8 8\n2 zero 4\n3 zero 4\n3 R a 16 1\n3 R b 17 1\n4 error 2\n"],
+         "0 16 a 0\n16 8 zero\n24 1 a 16\n25 1 b 17\n26 2 error\n"),
+    good("extents", [], ["1 R - 0 5\n1 R - 0 5\n"], "0 5 - 0\n5 5 - 0\n"),
+    bad("extents", [], ["1 W a 0 8\n"], "1:1: not a piece of a read: 1 W a 0 8"),
+    bad("extents", [], ["2 R a 0 8\n1 R a 8 8\n"], "1:2: not a piece of a read: 1 R a 8 8"),
+]
+ANSWERED += [bad(script, [], [REPLAYED], NOT_PIECE + REPLAYED[:-1]) for script in ("totals", "histogram", "to_fio")]
+PLACES = "size 4000\n0 8\n16 8\n"
+READ = "1 R a 0 4\n1 R b 0 4\n2 error 8\n"
+ANSWERED += [
+    bad("read_back", ["out=o"], [PLACES, READ[:10]], "2:1: request 1 is not answered in full"),
+    bad("read_back", ["out=o"], [PLACES, READ.replace("1 R b 0 4", "1 R b 0 5")], "2:2: not asked for by PLACES: 1 R b 0 5"),
+    bad("read_back", ["out=o"], [PLACES, READ + "3 R a 0 8\n"], "2:4: not asked for by PLACES: 3 R a 0 8"),
+    bad("read_back", ["out=o"], [PLACES, "1 W a 0 8\n"], "2:1: not of a read: 1 W a 0 8"),
+    bad("read_back", ["out=o"], [PLACES, REPLAYED], "2:1: not a piece of an answer: 1 wrote 1 18 1"),
+    bad("read_back", ["out=o"], [PLACES[10:], READ], "1:1: not PLACES of filefrag.awk or debugfs.awk"),
+]
+
+# Layouts.
+
+LAYOUTS = [
+    good("spans", [], ["d 64\n", "a: 0 8 linear d 4\na: 8 16 striped 2 4 d 0 d 32\ns: 0 24 snapshot /dev/mapper/a d K 8\n"
+                       "o: 0 24 snapshot-origin /dev/mapper/a\n"],
+         "/dev/mapper/a 0 24 o 0 snapshot-origin\n/dev/mapper/a 0 24 s 0 origin\n/dev/mapper/a 24 24 - - end\n"
+         "d 0 8 a 8 striped\nd 0 64 s 0 store\nd 4 12 a 0 linear\nd 32 40 a 8 striped\nd 64 64 - - end\n"),
+    bad("spans", [], ["d 64\n", "a: 0 8 linear e 4\n"], "2:1: neither a disk nor a device: e"),
+    bad("spans", [], ["d 64\n", "0 8 linear d 4\n"], "2:1: not table text: 0 8 linear d 4"),
+    bad("spans", [], ["d 64\n"], "1:1: DISKS and tables are needed, neither of them empty"),
+    good("free", [], ["d 4 8 a 0 linear\nd 6 7 b 0 linear\nd 9 9 - - end\ne 5 5 - - end\n"],
+         "d 0 4 free\nd 4 8 a 0 linear\nd 6 7 b 0 linear\nd 8 9 free\ne 0 5 free\n"),
+    bad("free", [], ["d 4 8 a\n"], "1:1: not a line of spans.awk: d 4 8 a"),
+    bad("clashes", [], ["d 8 4 a 0 linear\n"], "1:1: not a line of spans.awk: d 8 4 a 0 linear"),
+    good("owner", [], ["a: 0 16 striped 2 4 d 0 d 100\n", "d 103\nd 7\nd 8\ne 0\n"], "d 103 = a 7\nd 7 = a 11\nd 8\ne 0\n"),
+    bad("owner", [], ["a: 0 8 linear d 0\n", "d 1 2\n"], "2:1: not DISK SECTOR: d 1 2"),
+    bad("owner", [], ["a: 0 8 linear d 0\n", "d 0x1\n"], "2:1: no number that awk is exact with: '0x1'"),
+    bad("owner", [], ["0 8 linear d 0\n", "d 1\n"], "1:1: not table text: 0 8 linear d 0"),
+    good("tree", [], ["a: 0 8 striped 2 4 /dev/mapper/b 0 /dev/mapper/b 4\nb: 0 8 linear d 0\nc: 0 8 linear /dev/mapper/a 0\n"],
+         "c\n+- 0 8 linear /dev/mapper/a 0\n|    a\n|    +- 0 8 striped 2 4 /dev/mapper/b 0 /dev/mapper/b 4\n"
+         "|    |    b\n|    |    +- 0 8 linear d 0\n"),
+    good("dot", [], ['s: 0 8 snapshot a"b P P 8\nz: 0 8 zero\nt: 0 8 striped 2 4 d 0 d 4\n'],
+         'digraph stack {\n  "disk a\\"b" [shape=box]\n  "s" -> "disk a\\"b" [label="origin 0+8"]\n  "disk P" [shape=box]\n'
+         '  "s" -> "disk P" [label="store 0+8"]\n  "s"\n  "z"\n  "disk d" [shape=box]\n  "t" -> "disk d" [label="striped 0+8"]\n  "t"\n}\n'),
+    good("whole", ["volume=a"], ["a: 0 8 zero\nb: 0 9 zero\na: 8 2000000 zero\n"], "R a 0 1048576\nR a 1048576 951432\n"),
+    bad("whole", ["volume=c"], ["a: 0 8 zero\n"], "1:1: no device c"),
+]
+LAYOUTS += [bad("spans", [], ["d 64\n", line], "2:1: " + message + line[:-1]) for line, message in [
+    ("a: 0 8 striped 3 2 d 0 d 8 d 16\n", "no stripes: "),
+    ("a: 0 8 striped 2 2 d 0\n", "no stripes: "),
+    ("a: 0 8 striped 0 2\n", "no stripes: "),
+]]
+LAYOUTS += [
+    bad("owner", [], ["a: 0 8k linear d 0\n", "d 1\n"], "1:1: no number that awk is exact with: '8k'"),
+    bad("owner", [], ["a: 0 8 linear d x\n", "d 1\n"], "2:1: no number that awk is exact with: 'x'"),
+]
+LAYOUTS += [bad(script, [], ["a 0 8 zero\n"], "1:1: not table text: a 0 8 zero") for script in ("tree", "dot")]
+
+# Metadata without some of its volumes.
+
+GROUP = """\
+version = 1
+g {
+\tdescription = "{ # }"
+\tphysical_volumes {
+\t\tpv0 {
+\t\t\tid = "}"\t# {
+\t\t}
+\t}
+\tlogical_volumes {
+%s\t}
+}
+"""
+
+
+def volume(name, kind, more):
+    return "\t\t%s {\n\t\t\tsegment1 {\n\t\t\t\ttype = \"%s\"\n%s\t\t\t}\n\t\t}\n" % (name, kind, more)
+
+
+def on(*names):
+    return "\t\t\t\tstripes = [\n" + "".join('\t\t\t\t\t"%s", 0%s\n' % (it, "," if it != names[-1] else "") for it in names) + "\t\t\t\t]\n"
+
+
+def record(origin, store):
+    return volume("snapshot0", "snapshot", '\t\t\t\torigin = "%s"\n\t\t\t\tcow_store = "%s"\n' % (origin, store))
+
+
+def kept(volumes, stay, message):
+    return good("leave_out", [], [GROUP % "".join(volumes)], GROUP % "".join(stay), message)
+
+
+A, B = volume("a", "striped", on("pv0")), volume("b", "striped", on("pv0", "pv0"))
+RAID, ON_RAID = volume("a", "raid1", ""), volume("b", "striped", on("pv0", "a"))
+METADATA = [
+    kept([A, B, record("a", "b")], [A, B, record("a", "b")], ""),
+    kept([RAID, B], [B], 'left out: a (type "raid1")\n'),
+    kept([ON_RAID, RAID], [], 'left out: b (it lies on a)\nleft out: a (type "raid1")\n'),
+    kept([RAID, B, record("a", "b")], [], 'left out: a (type "raid1")\nleft out: b (the store of snapshot0)\n'
+         "left out: snapshot0 (its origin is left out)\n"),
+    kept([RAID, B, record("b", "a")], [], 'left out: a (type "raid1")\nleft out: b (the origin of snapshot0)\n'
+         "left out: snapshot0 (its store is left out)\n"),
+    # One that depends on what a later one decides.
+    kept([volume("c", "striped", on("b")), ON_RAID, RAID, A.replace("\ta {", "\td {")], [A.replace("\ta {", "\td {")],
+         'left out: c (it lies on b)\nleft out: b (it lies on a)\nleft out: a (type "raid1")\n'),
+    bad("leave_out", [], ["g { x = 1 }\n"], "1:1: not as lvm2 writes it: g { x = 1 }"),
+    bad("leave_out", [], ["g {\n} h {\n"], "1:2: not as lvm2 writes it: } h {"),
+    bad("leave_out", [], ["a = 1 b = 2\n"], "1:1: not as lvm2 writes it: a = 1 b = 2"),
+    bad("leave_out", [], ['"x", 1\n'], '1:1: not in a list: "x", 1'),
+    bad("leave_out", [], [(GROUP % A)[:-2]], "1:18: the end is missing"),
+    bad("leave_out", [], [GROUP % ""], "1:11: no volumes"),
+]
+
+ROWS = FILEFRAG + DEBUGFS + TRACE + LOGS + MACHINE + PARTITIONS + ELSEWHERE + ANSWERED + LAYOUTS + METADATA
