@@ -27,6 +27,7 @@ import groups
 import growths
 import halts
 import hostile
+import kinds
 import launcher
 import limits
 import loads
@@ -63,7 +64,7 @@ def main():
         os.chmod(room, 0o755)
         program = Program(shutil.copy(built, os.path.join(room, "dmremap")), room)
         for part in (words, files, loads, backups, groups, printing, reports, request_lines, answers, ranges,
-                     snapshot_rows, snapshots, origins, replays, streams, limits, hostile, growths):
+                     snapshot_rows, snapshots, origins, kinds, replays, streams, limits, hostile, growths):
             part.check(tally, program)
         launcher.check(tally, program, TOP, built == BUILT)
         documents.check(tally, program, TOP)

@@ -3,16 +3,17 @@
     python3 -B tests/outside/halts.py
 
 No command stops a request, so the crate's own tests play these. This writes the tables that they read:
-random stacks, requests and stops from fixed seeds; the rows of `origins` with a stop after each unit; and
-stops in the longest request. The answers are those of the plain rules (`replays`). The test from outside
-sees that the tables are those that are written here, and refuses each growth of the crate's test of stops,
-which takes out of memory for an answer.
+random stacks, requests and stops from fixed seeds; rows of `origins` and `kinds` with a stop after each
+unit; and stops in the longest request. The answers are those of the plain rules (`replays`). The test
+from outside sees that the tables are those that are written here, and refuses each growth of the crate's
+test of stops, which takes out of memory for an answer.
 """
 
 import os
 import random
 import shutil
 
+import kinds
 import origins
 from growths import Shim
 from harness import Program
@@ -27,7 +28,8 @@ TEST = "replay::tests::growths_may_be_refused"
 
 # Rows whose requests are stopped after each of their units. One is left out, whose request a replay refuses: the
 # device that it writes is the origin of a snapshot, so it is no top device.
-SMALL = [it[:3] for it in origins.WRITES if "snapshot /dev/mapper/o cow P 8" not in it[0]] + [origins.REPLAYED[:3]]
+SMALL = [it[:3] for it in origins.WRITES if "snapshot /dev/mapper/o cow P 8" not in it[0]]
+SMALL += [it[:3] for it in [origins.REPLAYED] + kinds.REPLAYED]
 
 # The copies of a chunk of the longest request, and with the writes of its sectors all its units.
 COPIES = origins.SNAPSHOTS * origins.CHUNK

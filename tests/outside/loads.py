@@ -86,7 +86,6 @@ TABLES = [
     ("a: 0 8 linear /dev/mapper/ 0\n", "source: name at 1"),
     ("a: 0 8 linear /dev/mapper/a/b 0\n", "source: name at 1"),
     # Snapshots.
-    ("a: 0 8 snapshot sda sdb N 8\n", "source: field at 1"),
     ("a: 0 8 snapshot sda sdb PO 8\n", "source: field at 1"),
     ("a: 0 8 snapshot sda sdb P\n", "source: field at 1"),
     ("a: 0 8 snapshot sda sdb P 8 0\n", "source: field at 1"),

@@ -152,7 +152,8 @@ def small_stack(dice):
             stack.read_only.add(name)
     stack.tables["yc"] = [(0, 20, ("linear", "sda", 3))]
     to = dice.choice(over)
-    stack.tables["y"] = [(0, stack.length(to), ("snapshot", to, "/dev/mapper/yc", dice.choice([1, 2, 4])))]
+    words = ("snapshot", to, "/dev/mapper/yc", dice.choice("PNK"), dice.choice([1, 2, 4]))
+    stack.tables["y"] = [(0, stack.length(to), words)]
     return Plain(stack.tables, stack.read_only, stack.disks)
 
 

@@ -93,7 +93,7 @@ CONCISE = [
     ("a,,-1,,0 8 zero", "", ("", ""), "field at 1"),
     ("a,,,,0 8 mirror", "", ("", ""), "field at 1"),
     ("a,,,,0 8 zero 0", "", ("", ""), "field at 1"),
-    ("a,,,,0 8 snapshot b c N 8", "", ("", ""), "field at 1"),
+    ("a,,,,0 8 snapshot b c PO 8", "", ("", ""), "field at 1"),
     ("a,,,,0 8 snapshot b c P", "", ("", ""), "field at 1"),
     (",,,,0 8 zero", "", ("", ""), "name at 1"),
     ("a!,,,,0 8 zero", "", ("", ""), "name at 1"),

@@ -80,8 +80,8 @@ def tidy_stack(dice):
     origins, named = ["/dev/mapper/o"], set()
     for name in ("s", "t", "u")[:dice.randint(0, 3)]:
         disks[name + "c"] = dice.choice([8, 16, 24, 60])
-        origin = dice.choice(origins)
-        tables[name] = [(0, length, ("snapshot", origin, name + "c", dice.choice([1, 2, 4, 8])))]
+        origin, kind = dice.choice(origins), dice.choice("PNK")
+        tables[name] = [(0, length, ("snapshot", origin, name + "c", kind, dice.choice([1, 2, 4, 8])))]
         named.add(origin)
         origins.append("/dev/mapper/" + name)
     if dice.random() < 0.5:

@@ -78,8 +78,12 @@ class Plain:
         return words
 
     def kept(self, words, number, sector):
-        _, _, store, chunk = words
-        return store, (2 + number + number // (32 * chunk)) * chunk + sector % chunk
+        _, _, store, kind, chunk = words
+        return store, place(kind, chunk, number) * chunk + sector % chunk
+
+    def has_place(self, words, number):
+        _, _, store, kind, chunk = words
+        return (place(kind, chunk, number) + 1) * chunk <= self.length(store)
 
     def read(self, to, sector):
         if not to.startswith("/"):
@@ -94,7 +98,7 @@ class Plain:
             return self.read(*there)
         if name in self.lost:
             return ("error",)
-        chunk = sector // there[3]
+        chunk = sector // there[4]
         if chunk in self.taken[name]:
             return self.read(*self.kept(there, self.taken[name].index(chunk), sector))
         return self.read(there[1], sector)
@@ -118,10 +122,13 @@ class Plain:
         return self.write(*there)
 
     def write_snapshot(self, name, words, sector):
+        chunk, taken = sector // words[4], self.taken[name]
+        if words[3] == "K" and name not in self.lost and chunk not in taken and not self.has_place(words, len(taken)):
+            return [("error",)]
         units = self.ready(name, words, sector)
         if name in self.lost:
             return [("error",)]
-        number = self.taken[name].index(sector // words[3])
+        number = taken.index(chunk)
         return units + [("W", self.read(*self.kept(words, number, sector))[1])]
 
     def write_origin(self, to, sector):
@@ -134,14 +141,14 @@ class Plain:
 
     def ready(self, name, words, sector):
         """What is copied before a write of a sector: the snapshot takes its chunk, or it is lost."""
-        _, origin, store, size = words
+        origin, size = words[1], words[4]
         chunk, taken, units = sector // size, self.taken[name], []
         if name in self.lost or chunk in taken:
             return []
         sectors = range(chunk * size, min((chunk + 1) * size, self.length("/dev/mapper/" + name)))
         read = [self.read(origin, it) for it in sectors]
         number = len(taken)
-        if (2 + number + number // (32 * size) + 1) * size > self.length(store) or ("error",) in read:
+        if not self.has_place(words, number) or ("error",) in read:
             self.lost.add(name)
             return []
         for it, unit in zip(sectors, read):
@@ -165,11 +172,17 @@ class Plain:
         for name, table in self.tables.items():
             words = table[0][2]
             if words[0] == "snapshot":
-                count, size = len(self.taken[name]), words[3]
-                areas = count // (32 * size)
-                used = "%d/%d %d" % ((2 + count + areas) * size, self.length(words[2]), (2 + areas) * size)
+                _, _, store, kind, size = words
+                used = place(kind, size, len(self.taken[name])) * size
+                metadata = used - len(self.taken[name]) * size
+                used = "%d/%d %d" % (used, self.length(store), metadata)
                 shown += "%s: 0 %d snapshot %s\n" % (name, table[0][1], "Invalid" if name in self.lost else used)
         return shown
+
+
+def place(kind, chunk, number):
+    """Where in a store the chunk of a number is kept, in chunks."""
+    return number if kind == "N" else 2 + number + number // (32 * chunk)
 
 
 def device(to):
@@ -207,7 +220,7 @@ def concise(stack):
             elif words[0] == "striped":
                 said = "striped %d %d %s" % (len(words) - 2, words[1], " ".join("%s %d" % it for it in words[2:]))
             elif words[0] == "snapshot":
-                said = "snapshot %s %s P %d" % words[1:]
+                said = "snapshot %s %s %s %d" % words[1:]
             elif words[0] == "snapshot-origin":
                 said = "snapshot-origin %s" % words[1]
             else:
@@ -237,7 +250,7 @@ def target(kind, *words):
     if kind == "striped":
         return (kind, int(words[1])) + tuple((to, int(offset)) for to, offset in zip(words[2::2], words[3::2]))
     if kind == "snapshot":
-        return kind, words[0], words[1], int(words[3])
+        return kind, words[0], words[1], words[2], int(words[3])
     return (kind, *words)
 
 
@@ -268,7 +281,8 @@ def small_stack(dice):
     for name in ("s", "t", "u")[:dice.randint(1, 3)]:
         store = name + "c"
         tables[store] = table_over(dice, dice.choice([8, 16, 24, 36]), below, ["linear"])
-        tables[name] = [(0, length, ("snapshot", dice.choice(origins), "/dev/mapper/" + store, dice.choice([1, 2, 4, 8])))]
+        origin, kind, size = dice.choice(origins), dice.choice("PNK"), dice.choice([1, 2, 4, 8])
+        tables[name] = [(0, length, ("snapshot", origin, "/dev/mapper/" + store, kind, size))]
         origins.append("/dev/mapper/" + name)
         if dice.random() < 0.1:
             read_only.add(name)
@@ -310,7 +324,7 @@ def check(tally, program):
 def check_status(tally, program):
     for disks, length, line in STATUS:
         length_of = dict(it.split() for it in disks.splitlines())
-        stack = Plain({"s": [(0, 64, ("snapshot", "base", "cow", 1))]}, set(), {it: int(length_of[it]) for it in length_of})
+        stack = Plain({"s": [(0, 64, ("snapshot", "base", "cow", "P", 1))]}, set(), {it: int(length_of[it]) for it in length_of})
         given, wanted = "", ""
         if length > 0:
             given, wanted = "W s 0 %d\n" % length, lines(1, stack.request("W", "s", 0, length))
