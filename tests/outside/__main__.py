@@ -39,6 +39,7 @@ import printing
 import ranges
 import reading_list
 import recipes
+import records
 import refusals
 import replays
 import reports
@@ -63,7 +64,7 @@ def main():
         # As root the cases of unreadable files run as nobody, who has to come to the program.
         os.chmod(room, 0o755)
         program = Program(shutil.copy(built, os.path.join(room, "dmremap")), room)
-        for part in (words, files, loads, backups, groups, printing, reports, request_lines, answers, ranges,
+        for part in (words, files, loads, backups, groups, records, printing, reports, request_lines, answers, ranges,
                      snapshot_rows, snapshots, origins, kinds, replays, streams, limits, hostile, growths):
             part.check(tally, program)
         launcher.check(tally, program, TOP, built == BUILT)

@@ -97,7 +97,7 @@ FAULTS = [
     (18, "start_extent = 12345678901234567890", "field at 18"),
     (19, 'extent_count = "25"', "field at 19"),
     (20, "", "field at 17"),
-    (20, 'type = "snapshot"', "field at 20"),
+    (20, 'type = "snapshot"', "field at 17"),
     (21, "", "field at 17"),
     (21, "stripe_count = 0", "field at 21"),
     (21, "stripe_count = 2", "field at 22"),

@@ -54,6 +54,8 @@ PLACES = {
     ("dmremap/printing", "print_report", "check_report"): OURS,
     ("dmremap/replay_run", "replay_stack", "Replay::<RunTaken>::new"):
         "claims that meet have an arm of their own, and by its contract it fails for nothing else",
+    ("lvm_volume/device_names", "name_of", "built_name"):
+        "a name is built of these parts, as is required, and then it fails only for a growth",
     ("lvm_volume/names", "build_name", "joined"): OURS,
     ("lvm_volume/physical", "physicals_in", "counts_of"): OURS,
     ("lvm_volume/physical", "physicals_in", "devices_of"): OURS,
@@ -61,9 +63,10 @@ PLACES = {
     ("lvm_volume/places", "add_key", "keys.insert"): STD,
     ("lvm_volume/tables", "copy_of", "DiskName::new"):
         "a name is one by its type, and then it fails only for a growth",
-    ("lvm_volume/tables", "device_of", "lines_of"): OURS,
-    ("lvm_volume/tables", "devices_of", "devices.push"): STD,
+    ("lvm_volume/tables", "tables", "devices_of"): OURS,
     ("lvm_volume/tables", "tables", "disks_of"): OURS,
+    ("lvm_volume/tables", "tables", "names_fault"): OURS,
+    ("lvm_volume/tables", "tables", "roles_of"): OURS,
     ("lvm_volume/volume_group", "parts_in", "sections_at"): OURS,
     ("lvm_volume/volume_group", "parts_in", "volumes_of"): OURS,
     ("lvm_volume/volume_group", "read", "sections_of"): OURS,

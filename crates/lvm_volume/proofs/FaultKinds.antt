@@ -1,9 +1,11 @@
 -- No check of a group finds a fault of memory.
 use Rattle.std.proofs.Common.{◌≡◌, ◌≢◌, ℕ, Bool, true, false, List, [], ◌∷◌, ◌++◌, length, codes, Option, Some, None, ap, ◌∙◌, if◌then◌else◌, ◌+◌}
+use Rattle.std.specs.Prelude.{is_some}
 use Rattle.std.specs.List.{AllByRecursion, flat_map, range_with_len}
 use Rattle.lvm_text.specs.Tree.{Tree, Shown, node_of, sections_of}
 use Rattle.dm_table.specs.declared.load_fault.LoadKind.{LoadKind}
-use Rattle.dm_table.specs.declared.load_fault.LoadKind.TheVariants.{Memory, Unknown, Extents}
+use Rattle.dm_table.specs.declared.load_fault.LoadKind.TheVariants.{Memory, Name, Unknown, Extents}
+use Rattle.dm_table.specs.declared.load_fault.LoadKind.TheVariants as loads
 use Rattle.dm_table.specs.declared.load_fault.LoadFault.{LoadFault}
 use Rattle.dm_table.specs.declared.place.Place.{Place}
 use Rattle.dm_table.specs.LoadFault.{fault, faults_by, first_or}
@@ -11,12 +13,16 @@ use Rattle.lvm_volume.specs.declared.check.Check.{Check}
 use Rattle.lvm_volume.specs.declared.check.Check.TheVariants.{Fields, Limits}
 use Rattle.lvm_volume.specs.declared.field.Kind.{Kind}
 use Rattle.lvm_volume.specs.declared.physical.Physical.{Physical}
+use Rattle.lvm_volume.specs.declared.roles.Role.{Role}
 use Rattle.lvm_volume.specs.declared.segment.Segment.{Segment}
 use Rattle.lvm_volume.specs.declared.volume.Volume.{Volume}
 use Rattle.lvm_volume.specs.Fields.{Field, faults_of_fields, field_faults, fields_faults, group_faults, group_fields, is_asked, is_wrong, load_kind, missing, node_faults, number_at, one_group_faults, physical_fields, sections_at, segment_field, segment_fields, segments_of, source_faults, top_fields, volume_faults, volume_fields}
 use Rattle.lvm_volume.specs.Extents as extents
-use Rattle.lvm_volume.specs.Extents.{Claim, at_line, claims_of, used_after, used_by, hit, is_misplaced, is_too_long, least_unknown_of, segment_faults, size_faults, source_place, unknown_faults}
+use Rattle.lvm_volume.specs.Extents.{Claim, at_line, claims_of, used_after, used_by, hit, is_misplaced, is_too_long, is_unknown, least_line_of, segment_faults, size_faults, snapshot_faults, source_place, unknown_faults}
 use Rattle.lvm_volume.specs.Group.{Group, Keyed}
+use Rattle.lvm_volume.specs.Roles.{is_bad_snapshot, roles_of}
+use Rattle.lvm_volume.specs.Names.{fault_of}
+use Rattle.lvm_volume.specs.Tables.{device_parts, layers_of, unnamed_layer, unnamed_volume}
 
 abbrev pub NoMemory : List LoadFault → Type 0
 NoMemory = AllByRecursion (λ fault. fault.kind ≢ Memory)
@@ -102,9 +108,9 @@ of_walk check top = both (fields_faults check top top_fields) (one_group_faults 
 
 -- the checks of the parts of a group
 
-of_line : (line : Option ℕ) → NoMemory (at_line Unknown line)
-of_line None = tt
-of_line (Some line) = (λ e. absurd cc, tt)
+of_line : (kind : LoadKind) (line : Option ℕ) → kind ≢ Memory → NoMemory (at_line kind line)
+of_line kind None other = tt
+of_line kind (Some line) other = (other, tt)
 
 of_segments : (physicals : List Physical) (used : List Claim) (end : ℕ) (segments : List Segment) → NoMemory (segment_faults physicals used end segments)
 of_segments physicals used end [] = tt
@@ -116,8 +122,19 @@ of_volumes physicals used [] = tt
 of_volumes physicals used (volume ∷ volumes) = both (segment_faults physicals used 0 volume.segments) (extents.volume_faults physicals (used_after used volume.segments) volumes) (of_segments physicals used 0 volume.segments) (of_volumes physicals (used_after used volume.segments) volumes)
 
 pub of_unknown : (group : Group) → NoMemory (unknown_faults group)
-of_unknown group = of_line (least_unknown_of (length group.physicals) group.volumes)
+of_unknown group = of_line Unknown (least_line_of (λ alone. is_unknown (length group.physicals) (length group.volumes)) group.volumes) (λ e. absurd cc)
+
+pub of_snapshots : (group : Group) → NoMemory (snapshot_faults group)
+of_snapshots group = of_line loads.Snapshot (least_line_of (is_bad_snapshot group.volumes (roles_of group.volumes)) group.volumes) (λ e. absurd cc)
 
 pub of_extents : (group : Group) → NoMemory (size_faults group.extent_size group.physicals ++ extents.volume_faults group.physicals [] group.volumes)
 of_extents group =
     both (size_faults group.extent_size group.physicals) (extents.volume_faults group.physicals [] group.volumes) (by_kind Extents (λ physical. source_place physical.line) (is_too_long group.extent_size) group.physicals (λ e. absurd cc)) (of_volumes group.physicals [] group.volumes)
+
+-- the names of devices
+
+pub of_unnamed : (group : List ℕ) (casts : List (Role × Volume)) → NoMemory (flat_map (unnamed_volume group) casts)
+unfolding unnamed_volume
+of_unnamed group casts = each (unnamed_volume group) one casts where
+  one : (cast : Role × Volume) → NoMemory (unnamed_volume group cast)
+  one cast = each (unnamed_layer group cast.1) (λ layer. if_hit (is_some (fault_of (device_parts group cast.1.name layer))) Name cast.1.line (λ e. absurd cc)) (layers_of cast.0)

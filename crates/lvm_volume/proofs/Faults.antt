@@ -2,8 +2,11 @@
 use Rattle.std.proofs.Common.{◌≡◌, ℕ, suc, ◌+◌, ◌-◌, ◌<◌, List, [], ◌∷◌, ◌++◌, Option, Some, None, refl, sym, ap, ◌∙◌, arith, length, get_or, drop, map, append_assoc}
 use Rattle.std.specs.List.{flat_map, range_with_len}
 use Rattle.std.proofs.lemmas.List.{drop_more}
+use Rattle.dm_table.specs.declared.place.Part.TheVariants.{Source}
 use Rattle.dm_table.specs.declared.load_fault.LoadFault.{LoadFault}
-use Rattle.dm_table.specs.LoadFault.{first_or}
+use Rattle.dm_table.specs.declared.load_fault.LoadKind.{LoadKind}
+use Rattle.dm_table.specs.LoadFault.{fault_at, first_or}
+use Rattle.lvm_volume.specs.Extents.{at_line}
 
 -- what is found first is found first of more, and where nothing is found the others are asked
 pub first_here : (xs ys : List LoadFault) (later : Option LoadFault) (fault : LoadFault) → first_or xs None ≡ Some fault → first_or (xs ++ ys) later ≡ Some fault
@@ -44,3 +47,12 @@ made_more {X} f made more i end below e =
     ap (λ (xs : List X). xs ++ flat_map f (range_with_len (i + 1 + 1) (end - (i + 1)))) e
     ∙ append_assoc made (f (i + 1)) _
     ∙ ap (λ (ns : List ℕ). made ++ flat_map f ns) (sym (range_more i end below))
+
+-- a fault at a line that may be missing
+pub found_at_line : (kind : LoadKind) (o : Option ℕ) (line : ℕ) → o ≡ Some line → Some (fault_at Source kind line) ≡ first_or (at_line kind o) None
+found_at_line kind None line e = absurd cc
+found_at_line kind (Some other) line e = let same : other ≡ line = cc in ap (λ (n : ℕ). Some (fault_at Source kind n)) (sym same)
+
+pub none_at_line : (kind : LoadKind) (o : Option ℕ) → o ≡ None → None ≡ first_or (at_line kind o) None
+none_at_line kind None e = refl
+none_at_line kind (Some line) e = absurd cc

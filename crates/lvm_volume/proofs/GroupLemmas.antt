@@ -6,11 +6,11 @@ use Rattle.dm_table.specs.declared.load_fault.LoadKind.TheVariants.{Memory}
 use Rattle.dm_table.specs.declared.load_fault.LoadFault.{LoadFault}
 use Rattle.dm_table.specs.LoadFault.{IsMemoryFault, first_fault, first_or, unless}
 use Rattle.lvm_volume.specs.declared.check.Check.TheVariants.{Fields, Limits}
-use Rattle.lvm_volume.specs.Extents.{name_faults, unknown_faults}
+use Rattle.lvm_volume.specs.Extents.{name_faults, snapshot_faults, unknown_faults}
 use Rattle.lvm_volume.specs.Fields.{faults_of_fields}
 use Rattle.lvm_volume.specs.Group.{Group, group_of}
-use Rattle.lvm_volume.specs.Tables.{checks_of_parts, extent_faults, group_checks, later_checks}
-use Rattle.lvm_volume.proofs.FaultKinds.{NoMemory, first_kind, of_walk, of_unknown, of_extents}
+use Rattle.lvm_volume.specs.Tables.{casts_of, checks_of_parts, extent_faults, group_checks, later_checks, unnamed}
+use Rattle.lvm_volume.proofs.FaultKinds.{NoMemory, first_kind, of_walk, of_unknown, of_extents, of_snapshots, of_unnamed}
 
 -- what is returned where a fault is found
 abbrev pub Refused : {X : Type 0} → LoadFault → Result X LoadFault → Type 0
@@ -59,10 +59,12 @@ at_names top group x fault is limits h = (
 )
 
 parts_kind : (group : Group) (fault : LoadFault) → first_fault (checks_of_parts group) ≡ Some fault → fault.kind ≢ Memory
-parts_kind group fault found = by_first (unknown_faults group) (of_unknown group) found where
-  by_first : (faults : List LoadFault) → NoMemory faults → first_or faults (first_or (extent_faults group) None) ≡ Some fault → fault.kind ≢ Memory
-  by_first [] none e = first_kind (extent_faults group) fault (of_extents group) e
-  by_first (f ∷ faults) none e = first_kind (f ∷ faults) fault none e
+parts_kind group fault found =
+    by_first (unknown_faults group) (of_unknown group) (first_or (extent_faults group) (first_or (snapshot_faults group) None))
+    (by_first (extent_faults group) (of_extents group) (first_or (snapshot_faults group) None) (first_kind (snapshot_faults group) fault (of_snapshots group))) found where
+      by_first : (faults : List LoadFault) → NoMemory faults → (later : Option LoadFault) → (later ≡ Some fault → fault.kind ≢ Memory) → first_or faults later ≡ Some fault → fault.kind ≢ Memory
+      by_first [] none later h e = h e
+      by_first (f ∷ faults) none later h e = first_kind (f ∷ faults) fault none e
 
 past_names : (top : Tree) (group : Group) → first_or (faults_of_fields (Limits group.extent_size) top) None ≡ None → first_or (name_faults group.physicals) None ≡ None → later_of top group ≡ first_fault (checks_of_parts group)
 past_names top group limits names = found_later (faults_of_fields (Limits group.extent_size) top) _ limits ∙ found_later (name_faults group.physicals) _ names
@@ -77,3 +79,10 @@ at_parts top group fault is limits names found = (
 pub accepted : (top : Tree) (group : Group) → group_of top ≡ group → first_or (faults_of_fields (Limits group.extent_size) top) None ≡ None → first_or (name_faults group.physicals) None ≡ None
     → first_fault (checks_of_parts group) ≡ None → unless (first_fault (later_checks top)) (group_of top) ≡ Ok group
 accepted top group is limits names parts = said_is top group is ∙ ap (λ (o : Option LoadFault). unless o group) (past_names top group limits names ∙ parts)
+
+-- the check of names
+pub at_unnamed : {X : Type 0} (group : Group) (x : X) (fault : LoadFault) → first_or (unnamed group) None ≡ Some fault → Refused fault (unless (first_or (unnamed group) None) x)
+at_unnamed group x fault found = (
+  λ memory. absurd (first_kind (unnamed group) fault (of_unnamed group.name (casts_of group)) found memory),
+  λ other. ap (λ (o : Option LoadFault). unless o x) found,
+)

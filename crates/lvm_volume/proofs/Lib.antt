@@ -6,8 +6,12 @@ pub mod UsedLemmas
 pub mod HoldLemmas
 pub mod Splits
 pub mod FaultKinds
+pub mod RoleLemmas
+pub mod OriginLemmas
+pub mod NamedLemmas
+pub mod MadeLemmas
 pub mod Sound
 pub mod GroupLemmas
-pub mod NamedLemmas
 pub mod MetadataLemmas
 pub mod OneGroup
+mod WorkedSnapshots

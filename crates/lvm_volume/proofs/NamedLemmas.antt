@@ -1,81 +1,72 @@
--- The names of volumes, as they are built one after the other.
-use Rattle.std.proofs.Common.{◌≡◌, ◌≢◌, ℕ, ◌+◌, ◌<◌, List, ◌∷◌, length, get_or, drop, map, Option, Some, None, Ok, Err, refl, sym, ap, subst, ◌∙◌}
-use Rattle.std.specs.Prelude.{is_some}
+-- Names of devices that are built, and those that are refused.
+use Rattle.std.proofs.Common.{◌≡◌, ◌≢◌, ℕ, false, List, [], ◌∷◌, Option, Some, None, Result, Ok, Err, refl, subst, ◌∙◌}
+use Rattle.std.specs.Prelude.{IfOk, is_some}
 use Rattle.std.specs.List.{AllByRecursion, flat_map}
-use Rattle.std.proofs.lemmas.List.{drop_more}
+use Rattle.std.specs.declared.alloc.AllocError.{AllocError}
 use Rattle.dm_table.specs.declared.place.Part.TheVariants.{Source}
-use Rattle.dm_table.specs.declared.load_fault.LoadKind.TheVariants.{Memory, Name}
+use Rattle.dm_table.specs.declared.load_fault.LoadKind.TheVariants.{Name}
 use Rattle.dm_table.specs.declared.load_fault.LoadFault.{LoadFault}
-use Rattle.dm_table.specs.declared.table.DeviceSpec.{DeviceSpec}
-use Rattle.dm_table.specs.LoadFault.{fault_at, first_or, unless}
+use Rattle.dm_table.specs.LoadFault.{fault_at, first_or}
+use Rattle.lvm_volume.specs.declared.device_names.Layer.{Layer}
+use Rattle.lvm_volume.specs.declared.device_names.Layer.TheVariants.{Real, Cow}
 use Rattle.lvm_volume.specs.declared.fault.NameFault.{NameFault}
 use Rattle.lvm_volume.specs.declared.fault.NameFault.TheVariants as names
+use Rattle.lvm_volume.specs.declared.roles.Record.{Record}
+use Rattle.lvm_volume.specs.declared.roles.Role.{Role}
+use Rattle.lvm_volume.specs.declared.roles.Role.TheVariants as roles
 use Rattle.lvm_volume.specs.declared.volume.Volume.{Volume}
-use Rattle.lvm_volume.specs.Names.{Returns, name_or}
+use Rattle.lvm_volume.specs.Names.{Returns, fault_of, name_or}
 use Rattle.lvm_volume.specs.Extents.{hit}
-use Rattle.lvm_volume.proofs.GroupLemmas.{Refused, ok_is}
-use Rattle.lvm_volume.proofs.Faults.{first_here, first_after}
+use Rattle.lvm_volume.specs.Tables.{device_parts, layers_of, unnamed_layer, unnamed_volume}
+use Rattle.lvm_volume.proofs.Sound.{append-nil_both, hit-nil}
 
-pub named : (o : Option NameFault) (text name : List ℕ) (line : ℕ) → Returns (Ok name) (name_or o text) → unless (first_or (hit (is_some o) Name line) None) text ≡ Ok name
-named None text name line e = cc
+pub named : (o : Option NameFault) (text name : List ℕ) (line : ℕ) → Returns (Ok name) (name_or o text) → None ≡ first_or (hit (is_some o) Name line) None
+named None text name line e = refl
 named (Some f) text name line e = absurd cc
 
-unnamed_as : (o : Option NameFault) (text : List ℕ) (f : NameFault) (line : ℕ) → Err f ≡ name_or o text → unless (first_or (hit (is_some o) Name line) None) text ≡ Err (fault_at Source Name line)
-unnamed_as None text f line e = absurd cc
-unnamed_as (Some g) text f line e = refl
+pub refused : (o : Option NameFault) (text : List ℕ) (f : NameFault) (line : ℕ) → f ≢ names.Memory → Returns (Err f) (name_or o text) → Some (fault_at Source Name line) ≡ first_or (hit (is_some o) Name line) None
+refused (Some g) text f line other e = refl
+refused None text names.Letter line other e = absurd cc
+refused None text names.HyphenFirst line other e = absurd cc
+refused None text names.Empty line other e = absurd cc
+refused None text names.Long line other e = absurd cc
+refused None text names.Memory line other e = absurd (other refl)
 
-pub unnamed : (o : Option NameFault) (text : List ℕ) (f : NameFault) (line : ℕ) → f ≢ names.Memory → Returns (Err f) (name_or o text) → unless (first_or (hit (is_some o) Name line) None) text ≡ Err (fault_at Source Name line)
-unnamed o text names.Letter line other e = unnamed_as o text names.Letter line e
-unnamed o text names.HyphenFirst line other e = unnamed_as o text names.HyphenFirst line e
-unnamed o text names.Empty line other e = unnamed_as o text names.Empty line e
-unnamed o text names.Long line other e = unnamed_as o text names.Long line e
-unnamed o text names.Memory line other e = absurd (other refl)
+pub refused_found : (r : Result (Option LoadFault) AllocError) (o : Option NameFault) (text : List ℕ) (f : NameFault) (line : ℕ) → IfOk r (λ found. f ≢ names.Memory) → IfOk r (λ found. found ≡ Some (fault_at Source Name line))
+    → Returns (Err f) (name_or o text) → IfOk r (λ found. found ≡ first_or (hit (is_some o) Name line) None)
+refused_found (Ok found) o text f line other is e = is ∙ refused o text f line other e
+refused_found (Err lack) o text f line other is e = tt
 
-pub refused_name : (o : Option NameFault) (text : List ℕ) (f : NameFault) (line : ℕ) (fault : LoadFault) → (f ≡ names.Memory → fault ≡ fault_at Source Memory 0) → (f ≢ names.Memory → fault ≡ fault_at Source Name line)
-    → Returns (Err f) (name_or o text) → Refused fault (unless (first_or (hit (is_some o) Name line) None) text)
-refused_name o text f line fault memory name e = by_cases f refl where
-  no_memory : (g : LoadFault) → g ≡ fault_at Source Name line → g.kind ≡ Memory → ⊥
-  no_memory g is kind = let wrong : Name ≡ Memory = sym (ap (λ (h : LoadFault). h.kind) is) ∙ kind in cc
+-- Volumes of which no name is refused
 
-  other_is : f ≢ names.Memory → Refused fault (unless (first_or (hit (is_some o) Name line) None) text)
-  other_is other = (λ kind. absurd (no_memory fault (name other) kind), λ _. unnamed o text f line other e ∙ ap Err (sym (name other)))
+not_some : (o : Option NameFault) → is_some o ≡ false → o ≡ None
+not_some None e = refl
+not_some (Some f) e = absurd cc
 
-  by_cases : (g : NameFault) → f ≡ g → Refused fault (unless (first_or (hit (is_some o) Name line) None) text)
-  by_cases names.Letter is = other_is (λ memory. let wrong : names.Letter ≡ names.Memory = sym is ∙ memory in cc)
-  by_cases names.HyphenFirst is = other_is (λ memory. let wrong : names.HyphenFirst ≡ names.Memory = sym is ∙ memory in cc)
-  by_cases names.Empty is = other_is (λ memory. let wrong : names.Empty ≡ names.Memory = sym is ∙ memory in cc)
-  by_cases names.Long is = other_is (λ memory. let wrong : names.Long ≡ names.Memory = sym is ∙ memory in cc)
-  by_cases names.Memory is = (λ kind. memory is, λ other. absurd (other (ap (λ (h : LoadFault). h.kind) (memory is))))
+layers_named : (group : List ℕ) (volume : Volume) (layers : List (Option Layer)) → flat_map (unnamed_layer group volume) layers ≡ [] → AllByRecursion (λ layer. fault_of (device_parts group volume.name layer) ≡ None) layers
+layers_named group volume [] e = tt
+layers_named group volume (layer ∷ layers) e =
+    let a = append-nil_both (unnamed_layer group volume layer) _ e in
+    (not_some (fault_of (device_parts group volume.name layer)) (hit-nil _ Name volume.line a.0), layers_named group volume layers a.1)
 
--- One volume after the other
+-- the names of a volume by its role
 
-err_is : {X : Type 0} (o : Option LoadFault) (x : X) (fault : LoadFault) → unless o x ≡ Err fault → o ≡ Some fault
-err_is None x fault e = absurd cc
-err_is (Some f) x fault e = cc
+abbrev Named : List ℕ → Volume → Option Layer → Type 0
+Named group volume layer = fault_of (device_parts group volume.name layer) ≡ None
 
-at_place : {X Y : Type 0} (f : List X → Y) (xs : List X) (i : ℕ) (x : X) → i < length xs → x ≡ get_or xs i x → f (drop i xs) ≡ f (x ∷ drop (i + 1) xs)
-at_place {X} f xs i x within is = ap f (drop_more xs i x within ∙ ap (λ (y : X). y ∷ drop (i + 1) xs) (sym is))
+volume_named : (group : List ℕ) (role : Role) (volume : Volume) → unnamed_volume group (role, volume) ≡ [] → AllByRecursion (Named group volume) (layers_of role)
+unfolding unnamed_volume
+volume_named group role volume e = layers_named group volume (layers_of role) e
 
-pub refused_volume : (f : Volume → List LoadFault) (m : Volume → DeviceSpec) (xs : List Volume) (i : ℕ) (x : Volume) (fault : LoadFault) → i < length xs → x ≡ get_or xs i x → first_or (flat_map f (drop i xs)) None ≡ first_or (flat_map f xs) None
-    → Refused fault (unless (first_or (f x) None) (m x)) → Refused fault (unless (first_or (flat_map f xs) None) (map m xs))
-refused_volume f m xs i x fault within is left h = (
-  h.0,
-  λ other.
-      let found = sym left ∙ at_place (λ (ys : List Volume). first_or (flat_map f ys) None) xs i x within is ∙ first_here (f x) (flat_map f (drop (i + 1) xs)) None fault (err_is (first_or (f x) None) (m x) fault (h.1 other)) in
-      ap (λ (o : Option LoadFault). unless o (map m xs)) found,
-)
+pub plain_named : (group : List ℕ) (role : Role) (volume : Volume) → unnamed_volume group (role, volume) ≡ [] → role ≡ roles.Plain → Named group volume None
+plain_named group role volume e is = (subst (λ (r : Role). AllByRecursion (Named group volume) (layers_of r)) is (volume_named group role volume e)).0
 
-pub made_volume : (f : Volume → List LoadFault) (m : Volume → DeviceSpec) (xs : List Volume) (i : ℕ) (x : Volume) (d : DeviceSpec) → i < length xs → x ≡ get_or xs i x → unless (first_or (f x) None) (m x) ≡ Ok d
-    → (map m (drop i xs) ≡ d ∷ map m (drop (i + 1) xs)) × (first_or (flat_map f (drop (i + 1) xs)) None ≡ first_or (flat_map f (drop i xs)) None)
-made_volume f m xs i x d within is e =
-    let a = ok_is (first_or (f x) None) (m x) d e in (
-      at_place (map m) xs i x within is ∙ ap (λ (y : DeviceSpec). y ∷ map m (drop (i + 1) xs)) a.1,
-      sym (at_place (λ (ys : List Volume). first_or (flat_map f ys) None) xs i x within is ∙ first_after (f x) (flat_map f (drop (i + 1) xs)) None a.0),
-    )
+pub origin_named : (group : List ℕ) (role : Role) (volume : Volume) → unnamed_volume group (role, volume) ≡ [] → role ≡ roles.Origin → Named group volume (Some Real) × Named group volume None
+origin_named group role volume e is =
+    let both = subst (λ (r : Role). AllByRecursion (Named group volume) (layers_of r)) is (volume_named group role volume e) in
+    (both.0, both.1.0)
 
--- what holds of all that are left holds of those after the next
-pub all_left : (p : Volume → Type 0) (xs : List Volume) (i : ℕ) (x : Volume) → i < length xs → x ≡ get_or xs i x → AllByRecursion p (drop i xs) → AllByRecursion p (drop (i + 1) xs)
-all_left p xs i x within is all =
-    let at : drop i xs ≡ x ∷ drop (i + 1) xs = at_place (λ (ys : List Volume). ys) xs i x within is in
-    let split : AllByRecursion p (x ∷ drop (i + 1) xs) = subst (AllByRecursion p) at all in
-    split.1
+pub store_named : (group : List ℕ) (role : Role) (volume : Volume) (snapshot : Record) → unnamed_volume group (role, volume) ≡ [] → role ≡ roles.Store snapshot → Named group volume (Some Cow) × Named group volume None
+store_named group role volume snapshot e is =
+    let both = subst (λ (r : Role). AllByRecursion (Named group volume) (layers_of r)) is (volume_named group role volume e) in
+    (both.0, both.1.0)

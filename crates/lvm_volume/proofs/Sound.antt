@@ -6,6 +6,7 @@ use Rattle.std.proofs.lemmas.Bool.{ltb-false, ltb-true}
 use Rattle.lvm_text.specs.Tree.{Tree, Shown, Content, Inner, Whole, Items, Int, Text, node_of, sections_of}
 use Rattle.dm_table.specs.declared.load_fault.LoadKind.{LoadKind}
 use Rattle.dm_table.specs.declared.load_fault.LoadKind.TheVariants.{Extents, Unknown}
+use Rattle.dm_table.specs.declared.load_fault.LoadKind.TheVariants as loads
 use Rattle.dm_table.specs.declared.load_fault.LoadFault.{LoadFault}
 use Rattle.dm_table.specs.LoadFault.{first_or, first_fault}
 use Rattle.lvm_volume.specs.declared.check.Check.TheVariants.{Fields, Limits}
@@ -13,15 +14,18 @@ use Rattle.lvm_volume.specs.declared.field.Kind.{Kind}
 use Rattle.lvm_volume.specs.declared.field.Kind.TheVariants as kinds
 use Rattle.lvm_volume.specs.declared.field.Condition.TheVariants.{Always}
 use Rattle.lvm_volume.specs.declared.physical.Physical.{Physical}
+use Rattle.lvm_volume.specs.declared.places.GroupPlaces.{GroupPlaces}
 use Rattle.lvm_volume.specs.declared.segment.Stripe.{Stripe}
 use Rattle.lvm_volume.specs.declared.segment.Segment.{Segment}
 use Rattle.lvm_volume.specs.declared.volume.Volume.{Volume}
 use Rattle.lvm_volume.specs.Fields.{faults_of_fields, field, field_faults, fields_faults, group_faults, group_fields, is_far, most, number_at, number_in, held, one_group_faults, physical_fields, sections_at, segment_field, segment_fields, segments_of, top_fields, volume_faults, volume_fields}
 use Rattle.lvm_volume.specs.Extents as extents
-use Rattle.lvm_volume.specs.Extents.{Claim, at_line, claims_of, used_after, used_by, extents_at, have_clash, hit, is_misplaced, is_unknown, least_unknown, least_unknown_of, lesser, meets, parts_of, segment_faults, size_faults, stripes_of, unknown_faults}
+use Rattle.lvm_volume.specs.Extents.{Claim, at_line, claims_of, used_after, used_by, extents_at, have_clash, hit, is_misplaced, is_unknown, least_line, least_line_of, lesser, meets, parts_of, segment_faults, size_faults, snapshot_faults, stripes_of, unknown_faults}
 use Rattle.lvm_volume.specs.Used.{claims_by}
-use Rattle.lvm_volume.specs.Group.{Keyed, device_of, group_in, physical_of, segment_of, volume_of}
+use Rattle.lvm_volume.specs.Group.{Keyed, device_of, group_in, physical_of, places_in, segment_of, volume_of}
+use Rattle.lvm_volume.specs.Roles.{is_bad_snapshot, roles_of}
 use Rattle.lvm_volume.specs.Tables.{IsSegmentIn, IsSoundGroup, IsStripeIn, checks_of_parts, extent_faults, physical_at}
+use Rattle.lvm_volume.proofs.OriginLemmas.{all_origins}
 
 -- Lists of faults that are empty
 
@@ -29,7 +33,7 @@ pub first_or-nil : (faults : List LoadFault) (later : Option LoadFault) → firs
 first_or-nil [] later e = (refl, e)
 first_or-nil (f ∷ faults) later e = absurd cc
 
-append-nil_both : (xs ys : List LoadFault) → xs ++ ys ≡ [] → (xs ≡ []) × (ys ≡ [])
+pub append-nil_both : (xs ys : List LoadFault) → xs ++ ys ≡ [] → (xs ≡ []) × (ys ≡ [])
 append-nil_both [] ys e = (refl, e)
 append-nil_both (x ∷ xs) ys e = absurd cc
 
@@ -37,7 +41,7 @@ flat-nil : {X : Type 0} (f : X → List LoadFault) (xs : List X) → flat_map f 
 flat-nil f [] e = tt
 flat-nil f (x ∷ xs) e = let a = append-nil_both (f x) (flat_map f xs) e in (a.0, flat-nil f xs a.1)
 
-hit-nil : (b : Bool) (kind : LoadKind) (line : ℕ) → hit b kind line ≡ [] → b ≡ false
+pub hit-nil : (b : Bool) (kind : LoadKind) (line : ℕ) → hit b kind line ≡ [] → b ≡ false
 hit-nil true kind line e = absurd cc
 hit-nil false kind line e = refl
 
@@ -195,22 +199,41 @@ known_stripes physicals (stripe ∷ stripes) e =
       not-false_true true h = refl
       not-false_true false h = absurd cc
 
-known_segments : (physicals : ℕ) (segments : List Segment) (later : Option ℕ) → least_unknown physicals segments later ≡ None → AllByRecursion (IsKnown physicals) segments × (later ≡ None)
-known_segments physicals [] later e = (tt, e)
-known_segments physicals (segment ∷ segments) later e = by_test (is_unknown physicals segment) refl e (known_segments physicals segments later) where
-  by_test : (b : Bool) → is_unknown physicals segment ≡ b → (if b then Some (lesser segment.line (least_unknown physicals segments later)) else least_unknown physicals segments later) ≡ None
-      → (least_unknown physicals segments later ≡ None → AllByRecursion (IsKnown physicals) segments × (later ≡ None)) → AllByRecursion (IsKnown physicals) (segment ∷ segments) × (later ≡ None)
-  by_test true is h more = absurd cc
-  by_test false is h more = let a = more h in ((known_stripes physicals (stripes_of segment.target) is, a.0), a.1)
+-- what a test of segments does not find
 
-known_volumes : (physicals : ℕ) (volumes : List Volume) → least_unknown_of physicals volumes ≡ None → AllByRecursion (λ volume. AllByRecursion (IsKnown physicals) volume.segments) volumes
-known_volumes physicals [] e = tt
-known_volumes physicals (volume ∷ volumes) e = let a = known_segments physicals volume.segments (least_unknown_of physicals volumes) e in (a.0, known_volumes physicals volumes a.1)
+unhit : (test : Segment → Bool) (segments : List Segment) (later : Option ℕ) → least_line test segments later ≡ None → AllByRecursion (λ segment. test segment ≡ false) segments × (later ≡ None)
+unhit test [] later e = (tt, e)
+unhit test (segment ∷ segments) later e = by_test (test segment) refl e (unhit test segments later) where
+  by_test : (b : Bool) → test segment ≡ b → (if b then Some (lesser segment.line (least_line test segments later)) else least_line test segments later) ≡ None
+      → (least_line test segments later ≡ None → AllByRecursion (λ s. test s ≡ false) segments × (later ≡ None)) → AllByRecursion (λ s. test s ≡ false) (segment ∷ segments) × (later ≡ None)
+  by_test true is h more = absurd cc
+  by_test false is h more = let a = more h in ((is, a.0), a.1)
+
+pub unhit_volumes : (test : (alone : Bool) → Segment → Bool) (volumes : List Volume) → least_line_of test volumes ≡ None → AllByRecursion (λ volume. AllByRecursion (λ segment. test (length volume.segments == 1) segment ≡ false) volume.segments) volumes
+unhit_volumes test [] e = tt
+unhit_volumes test (volume ∷ volumes) e = let a = unhit (test (length volume.segments == 1)) volume.segments (least_line_of test volumes) e in (a.0, unhit_volumes test volumes a.1)
+
+pub no_line : (kind : LoadKind) (line : Option ℕ) → at_line kind line ≡ [] → line ≡ None
+no_line kind None h = refl
+no_line kind (Some line) h = absurd cc
+
+known_segments : (physicals volumes : ℕ) (segments : List Segment) → AllByRecursion (λ segment. is_unknown physicals volumes segment ≡ false) segments → AllByRecursion (IsKnown physicals) segments
+known_segments physicals volumes [] none = tt
+known_segments physicals volumes (segment ∷ segments) none =
+    (known_stripes physicals (stripes_of segment.target) (or_false (list_any (λ stripe. not (nat_lt stripe.physical physicals)) (stripes_of segment.target)) _ none.0).0, known_segments physicals volumes segments none.1)
+
+known_volumes : (physicals count : ℕ) (volumes : List Volume) → AllByRecursion (λ volume. AllByRecursion (λ segment. is_unknown physicals count segment ≡ false) volume.segments) volumes
+    → AllByRecursion (λ volume. AllByRecursion (IsKnown physicals) volume.segments) volumes
+known_volumes physicals count [] none = tt
+known_volumes physicals count (volume ∷ volumes) none = (known_segments physicals count volume.segments none.0, known_volumes physicals count volumes none.1)
 
 -- All together
 
 below_limit : (n : ℕ) → n ≤ most → n < 2 ^ 64
 below_limit n h = omega (arith, h)
+
+end_limit : (start count size : ℕ) → start * size ≤ most → count * size ≤ most → (start + count) * size < 2 ^ 64
+end_limit start count size low high = omega (arith, low, high)
 
 stripe_offset : (start extent extents size : ℕ) → start ≤ most → extent ≤ extents → extents * size ≤ most → start + extent * size < 2 ^ 64
 stripe_offset start extent extents size low within_it sectors = omega (arith, low, sectors, mul-le-mul_right size within_it)
@@ -223,17 +246,17 @@ sound_stripes size physicals (stripe ∷ stripes) few known begins =
       sound_stripes size physicals stripes few known.1 begins.1,
     )
 
-sound_segments : (size : ℕ) (physicals : List Physical) (keys : List (List ℕ)) (trees : List Tree) → AllByRecursion (IsSmall size) physicals → AllByRecursion (λ segment. fields_faults (Limits size) segment segment_fields ≡ []) trees
+sound_segments : (size : ℕ) (physicals : List Physical) (keys : GroupPlaces) (trees : List Tree) → AllByRecursion (IsSmall size) physicals → AllByRecursion (λ segment. fields_faults (Limits size) segment segment_fields ≡ []) trees
     → AllByRecursion (IsKnown (length physicals)) (map (segment_of keys) trees) → AllByRecursion (BeginsIn physicals) (map (segment_of keys) trees) → AllByRecursion (IsSegmentIn size physicals) (map (segment_of keys) trees)
 unfolding segment_of
 sound_segments size physicals keys [] few limits known begins = tt
 sound_segments size physicals keys (tree ∷ trees) few limits known begins =
     let a = segment-limits size tree limits.0 in (
-      record { start = below_limit _ a.0; len = below_limit _ a.1; stripes = sound_stripes size physicals (stripes_of (segment_of keys tree).target) few known.0 begins.0 },
+      record { start = below_limit _ a.0; len = below_limit _ a.1; end = end_limit _ _ size a.0 a.1; stripes = sound_stripes size physicals (stripes_of (segment_of keys tree).target) few known.0 begins.0 },
       sound_segments size physicals keys trees few limits.1 known.1 begins.1,
     )
 
-sound_volumes : (size : ℕ) (physicals : List Physical) (keys : List (List ℕ)) (trees : List Keyed) → AllByRecursion (IsSmall size) physicals → AllByRecursion (λ (volume : Keyed). volume_faults (Limits size) volume.1 ≡ []) trees
+sound_volumes : (size : ℕ) (physicals : List Physical) (keys : GroupPlaces) (trees : List Keyed) → AllByRecursion (IsSmall size) physicals → AllByRecursion (λ (volume : Keyed). volume_faults (Limits size) volume.1 ≡ []) trees
     → AllByRecursion (λ volume. AllByRecursion (IsKnown (length physicals)) volume.segments) (map (volume_of keys) trees) → AllByRecursion (λ volume. AllByRecursion (BeginsIn physicals) volume.segments) (map (volume_of keys) trees)
     → AllByRecursion (λ volume. AllByRecursion (IsSegmentIn size physicals) volume.segments) (map (volume_of keys) trees)
 unfolding volume_of
@@ -243,19 +266,20 @@ sound_volumes size physicals keys (tree ∷ trees) few limits known begins = (
   sound_volumes size physicals keys trees few limits.1 known.1 begins.1,
 )
 
--- a group in the limits, in which neither stripes nor extents are at fault
+-- a group in the limits, in which neither stripes, extents nor snapshots are at fault
 pub sound_group : (group : Keyed) → InLimits (group_in group).extent_size group.1 → first_fault (checks_of_parts (group_in group)) ≡ None → IsSoundGroup (group_in group)
 sound_group group limits e =
     let g = group_in group in
     let a = first_or-nil (unknown_faults g) _ e in
-    let b = first_or-nil (extent_faults g) None a.1 in
+    let b = first_or-nil (extent_faults g) _ a.1 in
+    let c = first_or-nil (snapshot_faults g) None b.1 in
     let lies = append-nil_both (size_faults g.extent_size g.physicals) _ b.0 in
     let sections = sections_at (codes "physical_volumes") group.1 in
     let few = small g.extent_size (map device_of sections) sections limits.physicals in
+    let known = unhit_volumes (λ alone. is_unknown (length g.physicals) (length g.volumes)) g.volumes (no_line Unknown (least_line_of (λ alone. is_unknown (length g.physicals) (length g.volumes)) g.volumes) a.0) in
+    let good = unhit_volumes (is_bad_snapshot g.volumes (roles_of g.volumes)) g.volumes (no_line loads.Snapshot (least_line_of (is_bad_snapshot g.volumes (roles_of g.volumes)) g.volumes) c.0) in
     record {
-      volumes = sound_volumes g.extent_size g.physicals (map (λ physical. physical.0) sections) (sections_at (codes "logical_volumes") group.1) few limits.volumes
-          (known_volumes (length g.physicals) g.volumes (no_line (least_unknown_of (length g.physicals) g.volumes) a.0)) (volumes_placed g.physicals [] g.volumes lies.1);
-    } where
-      no_line : (line : Option ℕ) → at_line Unknown line ≡ [] → line ≡ None
-      no_line None h = refl
-      no_line (Some line) h = absurd cc
+      volumes = sound_volumes g.extent_size g.physicals (places_in group.1) (sections_at (codes "logical_volumes") group.1) few limits.volumes
+          (known_volumes (length g.physicals) (length g.volumes) g.volumes known) (volumes_placed g.physicals [] g.volumes lies.1);
+      origins = all_origins (length g.physicals) g.volumes known good;
+    }

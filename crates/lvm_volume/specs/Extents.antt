@@ -1,21 +1,23 @@
--- The checks of a group beyond its fields: names of disks, stripes that name nothing, and how extents lie.
+-- The checks of a group beyond its fields: names of disks, segments that name nothing, how extents lie, and snapshots.
 use Rattle.std.specs.Prelude.{ℕ, ◌+◌, ◌*◌, ◌/◌, ◌%◌, Bool, false, not, ◌&&◌, ◌||◌, ◌==◌, List, [], ◌∷◌, ◌++◌, Option, Some, None, nat_lt, length, map, min, slice_index, if◌then◌else◌}
 use Rattle.std.specs.List.{list_any}
 use Rattle.dm_table.specs.declared.place.Part.TheVariants.{Source}
 use Rattle.dm_table.specs.declared.place.Place.{Place}
 use Rattle.dm_table.specs.declared.load_fault.LoadKind.{LoadKind}
 use Rattle.dm_table.specs.declared.load_fault.LoadKind.TheVariants.{Name, Unknown, Extents}
+use Rattle.dm_table.specs.declared.load_fault.LoadKind.TheVariants as loads
 use Rattle.dm_table.specs.declared.load_fault.LoadFault.{LoadFault}
 use Rattle.dm_table.specs.LoadFault.{faults_by}
 use Rattle.dm_table.specs.Name.{is_disk_name}
 use Rattle.lvm_volume.specs.declared.segment.Stripe.{Stripe}
 use Rattle.lvm_volume.specs.declared.segment.SegmentType.{SegmentType}
-use Rattle.lvm_volume.specs.declared.segment.SegmentType.TheVariants.{Zero, Error, Striped}
+use Rattle.lvm_volume.specs.declared.segment.SegmentType.TheVariants.{Zero, Error, Striped, Snapshot}
 use Rattle.lvm_volume.specs.declared.segment.Segment.{Segment}
 use Rattle.lvm_volume.specs.declared.volume.Volume.{Volume}
 use Rattle.lvm_volume.specs.declared.physical.Physical.{Physical}
 use Rattle.lvm_volume.specs.Fields.{source_faults}
 use Rattle.lvm_volume.specs.Group.{Group}
+use Rattle.lvm_volume.specs.Roles.{is_bad_snapshot, roles_of}
 
 -- a line of the text, as a place
 abbrev pub source_place : ℕ → Place
@@ -29,37 +31,55 @@ hit bad kind line = if bad then source_faults kind line else []
 abbrev pub name_faults : List Physical → List LoadFault
 name_faults physicals = faults_by Name (λ physical. source_place physical.line) (λ physical. not (is_disk_name physical.disk)) physicals
 
--- Unknown: a stripe that names no physical volume, the first in the text, whose lines ascend
-
-abbrev pub stripes_of : SegmentType → List Stripe
-stripes_of (Striped chunk stripes) = stripes
-stripes_of Zero = []
-stripes_of Error = []
-
-abbrev pub is_unknown : ℕ → Segment → Bool
-is_unknown physicals segment = list_any (λ stripe. not (nat_lt stripe.physical physicals)) (stripes_of segment.target)
+-- The first segment in the text that a test finds: its lines ascend, whatever the numbers of segments
 
 -- the lesser of a line and one that may be missing
 abbrev pub lesser : ℕ → Option ℕ → ℕ
 lesser line None = line
 lesser line (Some other) = min line other
 
--- the least line of a segment that names nothing, or of those after them
-abbrev pub least_unknown : ℕ → List Segment → Option ℕ → Option ℕ
-least_unknown physicals [] later = later
-least_unknown physicals (segment ∷ segments) later =
-    if is_unknown physicals segment then Some (lesser segment.line (least_unknown physicals segments later)) else least_unknown physicals segments later
+-- the least line of a segment that the test finds, or of those after them
+abbrev pub least_line : (Segment → Bool) → List Segment → Option ℕ → Option ℕ
+least_line test [] later = later
+least_line test (segment ∷ segments) later = if test segment then Some (lesser segment.line (least_line test segments later)) else least_line test segments later
 
-abbrev pub least_unknown_of : ℕ → List Volume → Option ℕ
-least_unknown_of physicals [] = None
-least_unknown_of physicals (volume ∷ volumes) = least_unknown physicals volume.segments (least_unknown_of physicals volumes)
+-- the same over volumes, where the test is told whether a segment is the only one of its volume
+abbrev pub least_line_of : ((alone : Bool) → Segment → Bool) → List Volume → Option ℕ
+least_line_of test [] = None
+least_line_of test (volume ∷ volumes) = least_line (test (length volume.segments == 1)) volume.segments (least_line_of test volumes)
 
 abbrev pub at_line : LoadKind → Option ℕ → List LoadFault
 at_line kind None = []
 at_line kind (Some line) = source_faults kind line
 
+-- Unknown: a stripe that names no physical volume, or a snapshot that names no volume
+
+abbrev pub stripes_of : SegmentType → List Stripe
+stripes_of (Striped chunk stripes) = stripes
+stripes_of Zero = []
+stripes_of Error = []
+stripes_of (Snapshot chunk origin store) = []
+
+abbrev pub volumes_named : SegmentType → List ℕ
+volumes_named (Snapshot chunk origin store) = origin ∷ store ∷ []
+volumes_named (Striped chunk stripes) = []
+volumes_named Zero = []
+volumes_named Error = []
+
+abbrev pub is_unknown : (physicals volumes : ℕ) → Segment → Bool
+is_unknown physicals volumes segment =
+    list_any (λ stripe. not (nat_lt stripe.physical physicals)) (stripes_of segment.target) || list_any (λ place. not (nat_lt place volumes)) (volumes_named segment.target)
+
 abbrev pub unknown_faults : Group → List LoadFault
-unknown_faults group = at_line Unknown (least_unknown_of (length group.physicals) group.volumes)
+unknown_faults group = at_line Unknown (least_line_of (λ alone. is_unknown (length group.physicals) (length group.volumes)) group.volumes)
+
+-- Snapshot: a snapshot that its group can't have
+
+abbrev pub snapshot_faults_in : List Volume → List LoadFault
+snapshot_faults_in volumes = at_line loads.Snapshot (least_line_of (is_bad_snapshot volumes (roles_of volumes)) volumes)
+
+abbrev pub snapshot_faults : Group → List LoadFault
+snapshot_faults group = snapshot_faults_in group.volumes
 
 -- Extents: physical volumes that are longer than their device
 
@@ -90,6 +110,7 @@ abbrev pub parts_of : SegmentType → ℕ
 parts_of (Striped chunk stripes) = length stripes
 parts_of Zero = 1
 parts_of Error = 1
+parts_of (Snapshot chunk origin store) = 1
 
 -- the claims of a segment, each of as many extents
 abbrev pub claims_of : Segment → List Claim

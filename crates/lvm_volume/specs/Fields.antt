@@ -10,7 +10,7 @@ use Rattle.dm_table.specs.LoadFault.{fault_at}
 use Rattle.lvm_volume.specs.declared.field.Kind.{Kind}
 use Rattle.lvm_volume.specs.declared.field.Kind.TheVariants as kinds
 use Rattle.lvm_volume.specs.declared.field.Condition.{Condition}
-use Rattle.lvm_volume.specs.declared.field.Condition.TheVariants.{Always, Given, Striped, Several}
+use Rattle.lvm_volume.specs.declared.field.Condition.TheVariants.{Always, Given, Striped, Several, Snapshot}
 use Rattle.lvm_volume.specs.declared.field.Field as code
 use Rattle.lvm_volume.specs.declared.check.Check.{Check}
 use Rattle.lvm_volume.specs.declared.check.Check.TheVariants.{Fields, Limits}
@@ -65,6 +65,9 @@ segment_fields =
     ∷ field (codes "stripe_count") kinds.Positive Striped
     ∷ field (codes "stripes") kinds.Stripes Striped
     ∷ field (codes "stripe_size") kinds.Number Several
+    ∷ field (codes "chunk_size") kinds.Number Snapshot
+    ∷ field (codes "origin") kinds.Text Snapshot
+    ∷ field (codes "cow_store") kinds.Text Snapshot
     ∷ []
 
 -- What a section holds under a key
@@ -120,11 +123,15 @@ segments_of volume = flat_map (λ i. section_at (codes "segment" ++ decimal i) v
 abbrev pub is_striped : Tree → Bool
 is_striped segment = bytes_eq (text_at (codes "type") segment) (codes "striped")
 
+abbrev pub is_snapshot : Tree → Bool
+is_snapshot segment = bytes_eq (text_at (codes "type") segment) (codes "snapshot")
+
 abbrev pub is_asked : Condition → List ℕ → Tree → Bool
 is_asked Always key tree = true
 is_asked Given key tree = is_some (node_of key tree.values)
 is_asked Striped key tree = is_striped tree
 is_asked Several key tree = is_striped tree && nat_lt 1 (number_at (codes "stripe_count") tree)
+is_asked Snapshot key tree = is_snapshot tree
 
 -- What a field may hold
 
@@ -150,7 +157,7 @@ is_text (Int n) = false
 
 -- the types of segments
 abbrev pub is_type : List ℕ → Bool
-is_type text = bytes_eq text (codes "striped") || (bytes_eq text (codes "zero") || bytes_eq text (codes "error"))
+is_type text = bytes_eq text (codes "striped") || (bytes_eq text (codes "zero") || (bytes_eq text (codes "error") || bytes_eq text (codes "snapshot")))
 
 -- strings and integers in turn
 abbrev pub are_pairs : List Scalar → Bool

@@ -3,13 +3,14 @@ use Rattle.std.specs.Prelude.{ℕ, Bool, false, not, ◌&&◌, ◌||◌, ◌==�
 use Rattle.std.specs.List.{list_any, position_or_len}
 use Rattle.lvm_text.specs.Tree.{Tree, Scalar, Int, Text, Nothing, sections_of}
 use Rattle.dm_table.specs.Name.{is_disk_name}
+use Rattle.lvm_volume.specs.declared.places.GroupPlaces.{GroupPlaces}
 use Rattle.lvm_volume.specs.declared.segment.Stripe.{Stripe}
 use Rattle.lvm_volume.specs.declared.segment.SegmentType.{SegmentType}
-use Rattle.lvm_volume.specs.declared.segment.SegmentType.TheVariants.{Zero, Error, Striped}
+use Rattle.lvm_volume.specs.declared.segment.SegmentType.TheVariants.{Zero, Error, Striped, Snapshot}
 use Rattle.lvm_volume.specs.declared.segment.Segment.{Segment}
 use Rattle.lvm_volume.specs.declared.volume.Volume.{Volume}
 use Rattle.lvm_volume.specs.declared.physical.Physical.{Physical}
-use Rattle.lvm_volume.specs.Fields.{number_at, text_at, items_at, sections_at, segments_of, is_striped}
+use Rattle.lvm_volume.specs.Fields.{number_at, text_at, items_at, sections_at, segments_of, is_snapshot, is_striped}
 
 -- a group: its name, the sectors of an extent, its physical volumes, and its volumes
 pub record Group : Type 0 where
@@ -58,7 +59,7 @@ physical_of devices physical = record {
 abbrev pub keys_in : List Keyed → List (List ℕ)
 keys_in = map (λ section. section.0)
 
--- the place of a physical volume by its key, or their number where none has it
+-- the place of a key, or their number where it is none of them
 abbrev pub place_of : List (List ℕ) → List ℕ → ℕ
 place_of keys key = position_or_len (bytes_eq key) keys
 
@@ -66,12 +67,17 @@ abbrev pub stripes_in : List (List ℕ) → List Scalar → List Stripe
 stripes_in keys (Text key ∷ Int extent ∷ items) = record { physical = place_of keys key; extent = extent } ∷ stripes_in keys items
 stripes_in keys _ = []
 
-abbrev pub target_of : List (List ℕ) → Tree → SegmentType
-target_of keys segment =
-    if is_striped segment then Striped (number_at (codes "stripe_size") segment) (stripes_in keys (items_at (codes "stripes") segment))
-    else (if bytes_eq (text_at (codes "type") segment) (codes "zero") then Zero else Error)
+abbrev pub snapshot_in : List (List ℕ) → Tree → SegmentType
+snapshot_in keys segment =
+    Snapshot (number_at (codes "chunk_size") segment) (place_of keys (text_at (codes "origin") segment)) (place_of keys (text_at (codes "cow_store") segment))
 
-unfoldable pub segment_of : List (List ℕ) → Tree → Segment
+abbrev pub target_of : GroupPlaces → Tree → SegmentType
+target_of keys segment =
+    if is_striped segment then Striped (number_at (codes "stripe_size") segment) (stripes_in keys.physicals (items_at (codes "stripes") segment))
+    else (if is_snapshot segment then snapshot_in keys.volumes segment
+    else (if bytes_eq (text_at (codes "type") segment) (codes "zero") then Zero else Error))
+
+unfoldable pub segment_of : GroupPlaces → Tree → Segment
 segment_of keys segment = record {
   start = number_at (codes "start_extent") segment;
   count = number_at (codes "extent_count") segment;
@@ -83,7 +89,7 @@ abbrev pub is_write : Scalar → Bool
 is_write (Text text) = bytes_eq text (codes "WRITE") || bytes_eq text (codes "WRITE_LOCKED")
 is_write (Int n) = false
 
-unfoldable pub volume_of : List (List ℕ) → Keyed → Volume
+unfoldable pub volume_of : GroupPlaces → Keyed → Volume
 volume_of keys volume = record {
   name = volume.0;
   ro = not (list_any is_write (items_at (codes "status") volume.1));
@@ -93,6 +99,13 @@ volume_of keys volume = record {
 
 -- The group
 
+-- the keys of a group, in their order
+abbrev pub places_in : Tree → GroupPlaces
+places_in group = record {
+  physicals = keys_in (sections_at (codes "physical_volumes") group);
+  volumes = keys_in (sections_at (codes "logical_volumes") group);
+}
+
 abbrev pub group_in : Keyed → Group
 group_in group =
     let physicals = sections_at (codes "physical_volumes") group.1 in
@@ -100,7 +113,7 @@ group_in group =
       name = group.0;
       extent_size = number_at (codes "extent_size") group.1;
       physicals = map (physical_of (map device_of physicals)) physicals;
-      volumes = map (volume_of (keys_in physicals)) (sections_at (codes "logical_volumes") group.1);
+      volumes = map (volume_of (places_in group.1)) (sections_at (codes "logical_volumes") group.1);
     }
 
 -- the first section, or an empty one

@@ -4,6 +4,8 @@ pub mod Fields
 pub mod Group
 pub mod Metadata
 pub mod GroupCode
+pub mod Roles
+pub mod RoleCode
 pub mod Extents
 pub mod Used
 pub mod Cuts

@@ -1,6 +1,6 @@
 -- The checks of a group in their order, and the devices and disks that a group is.
-use Rattle.std.specs.Prelude.{ℕ, ◌+◌, ◌*◌, ◌^◌, ◌<◌, List, [], ◌∷◌, ◌++◌, None, is_some, length, map, slice_index_or}
-use Rattle.std.specs.List.{flat_map, AllByRecursion}
+use Rattle.std.specs.Prelude.{◌≡◌, ℕ, ◌+◌, ◌*◌, ◌^◌, ◌<◌, Bool, false, List, [], ◌∷◌, ◌++◌, Option, None, Some, ⊤, codes, is_some, length, map, option_map, slice_index_or}
+use Rattle.std.specs.List.{flat_map, zip, AllByRecursion}
 use Rattle.lvm_text.specs.Tree.{Tree}
 use Rattle.dm_table.specs.declared.place.Part.TheVariants.{Source}
 use Rattle.dm_table.specs.declared.place.Place.{Place}
@@ -10,6 +10,7 @@ use Rattle.dm_table.specs.declared.table.DevRef.TheVariants as refs
 use Rattle.dm_table.specs.declared.table.Column.{Column}
 use Rattle.dm_table.specs.declared.table.Target.{Target}
 use Rattle.dm_table.specs.declared.table.Target.TheVariants as targets
+use Rattle.dm_table.specs.declared.table.StoreKind.TheVariants.{Persistent}
 use Rattle.dm_table.specs.declared.table.Line.{Line}
 use Rattle.dm_table.specs.declared.table.DeviceSpec.{DeviceSpec}
 use Rattle.dm_table.specs.declared.disk.Disk.{Disk}
@@ -18,15 +19,21 @@ use Rattle.lvm_text.specs.declared.fault.TextFault.{TextFault}
 use Rattle.lvm_text.specs.declared.fault.TextFault.TheVariants as texts
 use Rattle.lvm_volume.specs.declared.segment.Stripe.{Stripe}
 use Rattle.lvm_volume.specs.declared.segment.SegmentType.{SegmentType}
-use Rattle.lvm_volume.specs.declared.segment.SegmentType.TheVariants.{Zero, Error, Striped}
+use Rattle.lvm_volume.specs.declared.segment.SegmentType.TheVariants.{Zero, Error, Striped, Snapshot}
 use Rattle.lvm_volume.specs.declared.segment.Segment.{Segment}
 use Rattle.lvm_volume.specs.declared.volume.Volume.{Volume}
 use Rattle.lvm_volume.specs.declared.physical.Physical.{Physical}
+use Rattle.lvm_volume.specs.declared.device_names.Layer.{Layer}
+use Rattle.lvm_volume.specs.declared.device_names.Layer.TheVariants.{Real, Cow}
+use Rattle.lvm_volume.specs.declared.roles.Record.{Record}
+use Rattle.lvm_volume.specs.declared.roles.Role.{Role}
+use Rattle.lvm_volume.specs.declared.roles.Role.TheVariants as roles
 use Rattle.lvm_volume.specs.declared.check.Check.TheVariants.{Fields, Limits}
 use Rattle.lvm_volume.specs.Names.{NameParts, fault_of, joined}
 use Rattle.lvm_volume.specs.Fields.{faults_of_fields}
 use Rattle.lvm_volume.specs.Group.{Group, group_of}
-use Rattle.lvm_volume.specs.Extents.{hit, name_faults, size_faults, stripes_of, unknown_faults, volume_faults}
+use Rattle.lvm_volume.specs.Roles.{extents_of, name_at, records_of, role_at, roles_of, segments_at}
+use Rattle.lvm_volume.specs.Extents.{hit, name_faults, size_faults, snapshot_faults, stripes_of, unknown_faults, volume_faults}
 
 -- The checks, in their order
 
@@ -35,7 +42,7 @@ abbrev pub extent_faults : Group → List LoadFault
 extent_faults group = size_faults group.extent_size group.physicals ++ volume_faults group.physicals [] group.volumes
 
 abbrev pub checks_of_parts : Group → List (List LoadFault)
-checks_of_parts group = unknown_faults group ∷ extent_faults group ∷ []
+checks_of_parts group = unknown_faults group ∷ extent_faults group ∷ snapshot_faults group ∷ []
 
 abbrev pub later_checks : Tree → List (List LoadFault)
 later_checks top =
@@ -71,6 +78,8 @@ abbrev pub line_target : ℕ → List Physical → SegmentType → Target
 line_target extent_size physicals (Striped chunk stripes) = columns_target chunk (map (column_of extent_size physicals) stripes)
 line_target extent_size physicals Zero = targets.Zero
 line_target extent_size physicals Error = targets.Error
+-- no device has the segment of a record
+line_target extent_size physicals (Snapshot chunk origin store) = targets.Error
 
 -- the line of a segment
 unfoldable pub line_of : ℕ → List Physical → Segment → Line
@@ -81,34 +90,107 @@ line_of extent_size physicals segment = record {
   at = source_line segment.line;
 }
 
--- what the name of a volume of a group is built of
-abbrev pub volume_parts : List ℕ → Volume → NameParts
-volume_parts group volume = record { vg = group; lv = volume.name; layer = None }
+abbrev pub lines_of : Group → List Segment → List Line
+lines_of group segments = map (line_of group.extent_size group.physicals) segments
 
--- the device of a volume, in a group of this name
-unfoldable pub device_in : List ℕ → ℕ → List Physical → Volume → DeviceSpec
-device_in group extent_size physicals volume = record {
-  name = joined (volume_parts group volume);
-  ro = volume.ro;
-  lines = map (line_of extent_size physicals) volume.segments;
+-- Devices
+
+-- the layers of an origin and of a store, below them in the stack
+abbrev pub layer_text : Layer → List ℕ
+layer_text Real = codes "real"
+layer_text Cow = codes "cow"
+
+-- what the name of a volume of a group, or of a layer of it, is built of
+abbrev pub device_parts : List ℕ → List ℕ → Option Layer → NameParts
+device_parts group volume layer = record { vg = group; lv = volume; layer = option_map layer_text layer }
+
+abbrev pub device_name : List ℕ → List ℕ → Option Layer → List ℕ
+device_name group volume layer = joined (device_parts group volume layer)
+
+-- the device of a volume's own segments: the volume itself, or its layer
+abbrev pub own_device : Group → Volume → (ro : Bool) → Option Layer → DeviceSpec
+own_device group volume ro layer = record {
+  name = device_name group.name volume.name layer;
+  ro = ro;
+  lines = lines_of group volume.segments;
   at = source_line volume.line;
 }
+
+-- the device of a volume over its layer, of one line
+abbrev pub over_device : Group → Volume → Line → DeviceSpec
+over_device group volume line = record {
+  name = device_name group.name volume.name None;
+  ro = volume.ro;
+  lines = line ∷ [];
+  at = source_line volume.line;
+}
+
+-- the sectors of a volume
+abbrev pub length_of : Group → List Segment → ℕ
+length_of group segments = extents_of segments * group.extent_size
+
+abbrev pub origin_line : Group → Volume → Line
+origin_line group volume = record {
+  start = 0;
+  len = length_of group volume.segments;
+  target = targets.Origin (refs.Device (device_name group.name volume.name (Some Real)));
+  at = source_line volume.line;
+}
+
+abbrev pub snapshot_line : Group → Volume → Record → Line
+snapshot_line group volume snapshot = record {
+  start = 0;
+  len = length_of group (segments_at group.volumes snapshot.origin);
+  target = targets.Snapshot
+      (refs.Device (device_name group.name (name_at group.volumes snapshot.origin) (Some Real)))
+      (refs.Device (device_name group.name volume.name (Some Cow)))
+      Persistent
+      snapshot.chunk;
+  at = source_line snapshot.line;
+}
+
+-- the devices of a volume by its role
+abbrev pub devices_by : Group → Volume → Role → List DeviceSpec
+devices_by group volume roles.Plain = own_device group volume volume.ro None ∷ []
+devices_by group volume roles.Origin = own_device group volume false (Some Real) ∷ over_device group volume (origin_line group volume) ∷ []
+devices_by group volume (roles.Store snapshot) = own_device group volume false (Some Cow) ∷ over_device group volume (snapshot_line group volume snapshot) ∷ []
+devices_by group volume roles.Record = []
+devices_by group volume roles.Clashing = []
+
+unfoldable pub devices_in : Group → Role × Volume → List DeviceSpec
+devices_in group cast = devices_by group cast.1 cast.0
 
 unfoldable pub disk_of : Physical → Disk
 disk_of physical = record { name = physical.disk; len = physical.size; at = source_line physical.line }
 
--- a volume of whose group and key no name is built
-unfoldable pub unnamed_volume : List ℕ → Volume → List LoadFault
-unnamed_volume group volume = hit (is_some (fault_of (volume_parts group volume))) Name volume.line
+-- the layers of a volume that are devices, by its role: one that isn't a layer is the volume itself
+abbrev pub layers_of : Role → List (Option Layer)
+layers_of roles.Plain = None ∷ []
+layers_of roles.Origin = Some Real ∷ None ∷ []
+layers_of (roles.Store snapshot) = Some Cow ∷ None ∷ []
+layers_of roles.Record = []
+layers_of roles.Clashing = []
+
+-- a device of whose parts no name is built
+abbrev pub unnamed_layer : List ℕ → Volume → Option Layer → List LoadFault
+unnamed_layer group volume layer = hit (is_some (fault_of (device_parts group volume.name layer))) Name volume.line
+
+unfoldable pub unnamed_volume : List ℕ → Role × Volume → List LoadFault
+unnamed_volume group cast = flat_map (unnamed_layer group cast.1) (layers_of cast.0)
+
+-- the volumes of a group with their roles
+abbrev pub casts_of : Group → List (Role × Volume)
+casts_of group = zip (roles_of group.volumes) group.volumes
 
 abbrev pub unnamed : Group → List LoadFault
-unnamed group = flat_map (unnamed_volume group.name) group.volumes
+unnamed group = flat_map (unnamed_volume group.name) (casts_of group)
 
 -- the devices and the disks of a group
 abbrev pub tables_of : Group → List DeviceSpec × List Disk
-tables_of group = (map (device_in group.name group.extent_size group.physicals) group.volumes, map disk_of group.physicals)
+tables_of group = (flat_map (devices_in group) (casts_of group), map disk_of group.physicals)
 
--- What checks leave: numbers that fit 64 bits in sectors, and stripes of physical volumes that are there
+-- What checks leave: numbers that fit 64 bits in sectors, stripes of physical volumes that are there, and snapshots of
+-- volumes that are origins
 
 pub record IsStripeIn (extent_size : ℕ) (physicals : List Physical) (stripe : Stripe) : Type 0 where
   pub there : stripe.physical < length physicals
@@ -117,10 +199,25 @@ pub record IsStripeIn (extent_size : ℕ) (physicals : List Physical) (stripe : 
 pub record IsSegmentIn (extent_size : ℕ) (physicals : List Physical) (segment : Segment) : Type 0 where
   pub start : segment.start * extent_size < 2 ^ 64
   pub len : segment.count * extent_size < 2 ^ 64
+  pub end : (segment.start + segment.count) * extent_size < 2 ^ 64
   pub stripes : AllByRecursion (IsStripeIn extent_size physicals) (stripes_of segment.target)
 
 pub record IsSoundGroup (group : Group) : Type 0 where
   pub volumes : AllByRecursion (λ volume. AllByRecursion (IsSegmentIn group.extent_size group.physicals) volume.segments) group.volumes
+  pub origins : AllByRecursion (λ snapshot. role_at (roles_of group.volumes) snapshot.origin ≡ roles.Origin) (records_of group.volumes)
+
+-- what the devices of a volume with its role need: lengths that fit, and names
+
+abbrev pub IsSnapshotIn : Group → Role → Type 0
+IsSnapshotIn group (roles.Store snapshot) =
+    (length_of group (segments_at group.volumes snapshot.origin) < 2 ^ 64) × (fault_of (device_parts group.name (name_at group.volumes snapshot.origin) (Some Real)) ≡ None)
+IsSnapshotIn group role = ⊤
+
+pub record IsMadeIn (group : Group) (cast : Role × Volume) : Type 0 where
+  pub segments : AllByRecursion (IsSegmentIn group.extent_size group.physicals) cast.1.segments
+  pub length : length_of group cast.1.segments < 2 ^ 64
+  pub names : unnamed_volume group.name cast ≡ []
+  pub snapshot : IsSnapshotIn group cast.0
 
 -- Faults of a metadata text, as faults of a load
 abbrev pub text_fault : TextFault → LoadFault

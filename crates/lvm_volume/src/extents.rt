@@ -105,7 +105,7 @@ fn segments_fault(
         if is_misplaced(physicals, maps, end, segment)? {
             return Ok(Some(source_fault(LoadKind::Extents, segment.line)));
         }
-        end = u128::from(segment.start) + u128::from(segment.count);
+        end = segment.end();
     }
     Ok(None)
 }
@@ -134,7 +134,7 @@ fn is_misplaced(
             }
             claim_all(physicals, maps, segment.count / parts, stripes)
         }
-        SegmentType::Zero | SegmentType::Error => Ok(false),
+        SegmentType::Zero | SegmentType::Error | SegmentType::Snapshot { .. } => Ok(false),
     }
 }
 

@@ -42,6 +42,8 @@ pub(crate) enum Condition {
     Striped,
     /// In a segment of two stripes or more.
     Several,
+    /// In a segment of a snapshot.
+    Snapshot,
 }
 
 /// A row of a table: a key, what it may hold, and where it is asked for.
@@ -96,7 +98,7 @@ pub(crate) fn volume_fields() -> [Field<'static>; 2]
 }
 
 /// The fields of a segment.
-pub(crate) fn segment_fields() -> [Field<'static>; 6]
+pub(crate) fn segment_fields() -> [Field<'static>; 9]
     ensures { field_views result ≡ spec.segment_fields }
 {
     [
@@ -106,6 +108,9 @@ pub(crate) fn segment_fields() -> [Field<'static>; 6]
         row("stripe_count", Kind::Positive, Condition::Striped),
         row("stripes", Kind::Stripes, Condition::Striped),
         row("stripe_size", Kind::Number, Condition::Several),
+        row("chunk_size", Kind::Number, Condition::Snapshot),
+        row("origin", Kind::Text, Condition::Snapshot),
+        row("cow_store", Kind::Text, Condition::Snapshot),
     ]
 }
 

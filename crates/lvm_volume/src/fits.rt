@@ -5,7 +5,7 @@
 ghost use Rattle.std.specs.Prelude.{◌≡◌, ◌==◌, ◌*◌, nat_lt};
 ghost use Rattle.std.specs.List.{list_all, list_any};
 ghost use Rattle.lvm_text.specs.View.{content_view, scalar_view, scalar_views};
-ghost use Rattle.lvm_volume.specs.Fields.{fits, is_far, is_far_scalar, is_text, is_type, are_pairs, is_striped, is_asked, most};
+ghost use Rattle.lvm_volume.specs.Fields.{fits, is_far, is_far_scalar, is_text, is_type, are_pairs, is_snapshot, is_striped, is_asked, most};
 
 use crate::field::{Condition, Field, Kind};
 use crate::value::{number_at, text_at};
@@ -23,6 +23,7 @@ pub(crate) fn is_asked(section: &Section<'_>, field: &Field<'_>) -> bool
         Condition::Given => section.get(field.key).is_some(),
         Condition::Striped => is_striped(section),
         Condition::Several => is_striped(section) && 1 < number_at(section, "stripe_count"),
+        Condition::Snapshot => is_snapshot(section),
     }
 }
 
@@ -31,6 +32,13 @@ pub(crate) fn is_striped(segment: &Section<'_>) -> bool
     ensures { result ≡ is_striped segment.now }
 {
     text_at(segment, "type") == "striped"
+}
+
+/// Whether a segment is one of a snapshot.
+pub(crate) fn is_snapshot(segment: &Section<'_>) -> bool
+    ensures { result ≡ is_snapshot segment.now }
+{
+    text_at(segment, "type") == "snapshot"
 }
 
 /// Whether a value is what a field of this kind may hold, in this section.
@@ -80,7 +88,7 @@ fn are_texts(items: &[Scalar<'_>]) -> bool
 fn is_type(text: &str) -> bool
     ensures { result ≡ is_type text.now }
 {
-    text == "striped" || text == "zero" || text == "error"
+    text == "striped" || text == "zero" || text == "error" || text == "snapshot"
 }
 
 /// Whether strings and integers stand in turn. One pass.

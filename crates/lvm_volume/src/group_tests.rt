@@ -16,6 +16,10 @@ const ONE: &str =
 const BOTH: &str =
     "contents = \"Text Format Volume Group\"\nversion = 1\nvg0 {\n  extent_size = 8192\n  physical_volumes {\n    pv0 {\n      device = \"/dev/sda1\"\n      dev_size = 1050624\n      pe_start = 2048\n      pe_count = 128\n    }\n  }\n  logical_volumes {\n    lv0 {\n      status = [\"READ\", \"WRITE\", \"VISIBLE\"]\n      segment_count = 1\n      segment1 {\n        start_extent = 0\n        extent_count = 25\n        type = \"striped\"\n        stripe_count = 1\n        stripes = [\"pv0\", 0]\n      }\n    }\n    lv-1 {\n      status = [\"READ\"]\n      segment_count = 1\n      segment1 {\n        start_extent = 0\n        extent_count = 4\n        type = \"striped\"\n        stripe_count = 2\n        stripe_size = 128\n        stripes = [\"pv0\", 25, \"pv0\", 27]\n      }\n    }\n  }\n}\n";
 
+/// One volume, in lines 25 to 35 the store of its snapshot, and in lines 36 to 47 the record of that.
+const RECORDED: &str =
+    "contents = \"Text Format Volume Group\"\nversion = 1\nvg0 {\n  extent_size = 8192\n  physical_volumes {\n    pv0 {\n      device = \"/dev/sda1\"\n      dev_size = 1050624\n      pe_start = 2048\n      pe_count = 128\n    }\n  }\n  logical_volumes {\n    lv0 {\n      status = [\"READ\", \"WRITE\", \"VISIBLE\"]\n      segment_count = 1\n      segment1 {\n        start_extent = 0\n        extent_count = 25\n        type = \"striped\"\n        stripe_count = 1\n        stripes = [\"pv0\", 0]\n      }\n    }\n    snap {\n      status = [\"READ\", \"WRITE\", \"VISIBLE\"]\n      segment_count = 1\n      segment1 {\n        start_extent = 0\n        extent_count = 2\n        type = \"striped\"\n        stripe_count = 1\n        stripes = [\"pv0\", 25]\n      }\n    }\n    snapshot0 {\n      status = [\"READ\", \"WRITE\"]\n      segment_count = 1\n      segment1 {\n        start_extent = 0\n        extent_count = 25\n        type = \"snapshot\"\n        chunk_size = 8\n        origin = \"lv0\"\n        cow_store = \"snap\"\n      }\n    }\n  }\n}\n";
+
 /// The devices and the disks of a text.
 fn tables_of(rt: &impl Abort, alloc: Global, text: &str) -> (Vec<DeviceSpec>, Vec<Disk>) {
     let top = parse(alloc, text).expect(rt, "a text");
@@ -73,7 +77,7 @@ const ON_KEY: &[DiskRow] = &[("pv0", 1_050_624, 6)];
 
 /// A text, a line of it and what stands in its place, where line 0 is none; its devices in the concise form,
 /// the numbers of the lines that each of them and its lines are from, and its disks.
-static ACCEPTED: [(&str, usize, &str, &str, &[(u64, u64)], &[DiskRow]); 14] = [
+static ACCEPTED: [(&str, usize, &str, &str, &[(u64, u64)], &[DiskRow]); 15] = [
     (
         ONE,
         0,
@@ -184,6 +188,14 @@ static ACCEPTED: [(&str, usize, &str, &str, &[(u64, u64)], &[DiskRow]); 14] = [
         "",
         "vg0-lv0,,,rw,0 204800 linear /dev/sda1 2048;vg0-lv--1,,,ro,0 32768 striped 2 128 /dev/sda1 206848 /dev/sda1 223232\n",
         &[(14, 17), (25, 28)],
+        ON_DEVICE,
+    ),
+    (
+        RECORDED,
+        0,
+        "",
+        "vg0-lv0-real,,,rw,0 204800 linear /dev/sda1 2048;vg0-lv0,,,rw,0 204800 snapshot-origin /dev/mapper/vg0-lv0-real;vg0-snap-cow,,,rw,0 16384 linear /dev/sda1 206848;vg0-snap,,,rw,0 204800 snapshot /dev/mapper/vg0-lv0-real /dev/mapper/vg0-snap-cow P 8\n",
+        &[(14, 17), (14, 14), (25, 28), (25, 39)],
         ON_DEVICE,
     ),
 ];

@@ -5,6 +5,8 @@
 #![tactic(auto)]
 
 mod check;
+mod device_names;
+mod devices;
 mod extents;
 mod fault;
 mod field;
@@ -17,12 +19,13 @@ mod names;
 mod physical;
 mod places;
 mod refused_text;
+mod roles;
 mod segment;
+mod segment_check;
 mod source_line;
 mod tables;
 #[cfg(test)]
 mod tests;
-mod unknown;
 mod used;
 mod value;
 mod volume;

@@ -1,5 +1,5 @@
-//! The places of physical volumes by their keys, so that a stripe finds its own at about the same cost however many
-//! there are.
+//! The places of physical volumes and of volumes by their keys, so that what names one finds it at about the same
+//! cost however many there are.
 //!
 //! The keys of a section all differ, so each is new to the set. A clause sees the keys in source order.
 
@@ -7,7 +7,7 @@ ghost use Rattle.std.specs.Prelude.{◌≡◌, ◌++◌, ◌∷◌, [], false, I
 ghost use Rattle.std.specs.List.{list_any};
 ghost use Rattle.lvm_text.specs.Tree.{sections_of};
 ghost use Rattle.lvm_volume.specs.Fields.{sections_at};
-ghost use Rattle.lvm_volume.specs.Group.{keys_in, place_of};
+ghost use Rattle.lvm_volume.specs.Group.{keys_in, place_of, places_in};
 ghost use Rattle.lvm_volume.specs.GroupCode.{texts};
 
 use crate::value::section_at;
@@ -20,6 +20,13 @@ use std::marker::Model;
 #[derive(Drop)]
 pub(crate) struct Places<'a> {
     keys: IndexSet<&'a str>,
+}
+
+/// The places of a group's physical volumes, and those of its volumes.
+#[derive(Drop)]
+pub(crate) struct GroupPlaces<'a> {
+    pub physicals: Places<'a>,
+    pub volumes: Places<'a>,
 }
 
 impl<'a> Model for Places<'a> {
@@ -59,6 +66,18 @@ impl<'a> Places<'a> {
             Some(place) => place,
             None => self.keys.len(),
         }
+    }
+}
+
+impl<'a> GroupPlaces<'a> {
+    /// The places of what is inside the section of a group.
+    pub(crate) fn new(alloc: Global, group: &Section<'a>) -> Result<GroupPlaces<'a>, AllocError>
+        ensures { IfOk result (λ places. places ≡ places_in group.now) }
+    {
+        Ok(GroupPlaces {
+            physicals: Places::new(alloc, group, "physical_volumes")?,
+            volumes: Places::new(alloc, group, "logical_volumes")?,
+        })
     }
 }
 

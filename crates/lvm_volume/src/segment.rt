@@ -1,18 +1,18 @@
-//! Segments of a volume, as their sections say them, with physical volumes by their places.
+//! Segments of a volume, as their sections say them, with physical volumes and volumes by their places.
 //!
 //! What they say is not checked here. A new type of segment is a variant of `SegmentType`, a word of the field
 //! `type`, and an arm where segments are checked and where they become lines.
 
-ghost use Rattle.std.specs.Prelude.{◌≡◌, ◌∷◌, [], ℕ, List, MatchOption, IfOk, codes, map};
+ghost use Rattle.std.specs.Prelude.{◌≡◌, ◌+◌, ◌∷◌, [], ℕ, List, MatchOption, IfOk, codes, map};
 ghost use Rattle.lvm_text.specs.Tree as tree;
 ghost use Rattle.lvm_text.specs.View.{scalar_view, scalar_views};
 ghost use Rattle.lvm_volume.specs.Fields as fields;
 ghost use Rattle.lvm_volume.specs.Fields.{section_view};
 ghost use Rattle.lvm_volume.specs.declared.segment.SegmentType.TheVariants.{Striped};
-ghost use Rattle.lvm_volume.specs.Group.{segment_of, stripes_in, target_of};
+ghost use Rattle.lvm_volume.specs.Group.{segment_of, snapshot_in, stripes_in, target_of};
 
-use crate::fits::is_striped;
-use crate::places::Places;
+use crate::fits::{is_snapshot, is_striped};
+use crate::places::{GroupPlaces, Places};
 use crate::value::{items_at, number_at, text_at};
 use dm_table::Listed;
 use lvm_text::{Scalar, Section};
@@ -34,7 +34,17 @@ pub(crate) type Stripes = Listed<Stripe>;
 pub(crate) enum SegmentType {
     Zero,
     Error,
-    Striped { chunk: u64, stripes: Stripes },
+    Striped {
+        chunk: u64,
+        stripes: Stripes,
+    },
+    /// A snapshot of a volume with another one as its store: their places among the volumes of the group, or the
+    /// number of volumes where it names none of them.
+    Snapshot {
+        chunk: u64,
+        origin: usize,
+        store: usize,
+    },
 }
 
 /// A segment: its first extent in the volume, how many there are, and the line of its key.
@@ -44,6 +54,15 @@ pub(crate) struct Segment {
     pub count: u64,
     pub target: SegmentType,
     pub line: u64,
+}
+
+impl Segment {
+    /// The extent of the volume at which it ends.
+    pub(crate) fn end(&self) -> u128
+        ensures { result ≡ self.now.start + self.now.count }
+    {
+        u128::from(self.start) + u128::from(self.count)
+    }
 }
 
 /// The segments of a volume, from 1 on.
@@ -86,13 +105,16 @@ fn pair<'a>(first: &Scalar<'a>, second: &Scalar<'a>) -> Option<(&'a str, u64)>
 /// What becomes of a segment's extents.
 fn target_of(
     alloc: Global,
-    places: &Places<'_>,
+    places: &GroupPlaces<'_>,
     segment: &Section<'_>,
 ) -> Result<SegmentType, AllocError>
     ensures { IfOk result (λ target. target ≡ target_of places.now segment.now) }
 {
     if is_striped(segment) {
-        return striped(alloc, places, segment);
+        return striped(alloc, &places.physicals, segment);
+    }
+    if is_snapshot(segment) {
+        return Ok(snapshot(&places.volumes, segment));
     }
     if text_at(segment, "type") == "zero" {
         Ok(SegmentType::Zero)
@@ -119,11 +141,22 @@ fn striped(
     })
 }
 
+/// A snapshot, with its volumes by their places.
+fn snapshot(places: &Places<'_>, segment: &Section<'_>) -> SegmentType
+    ensures { result ≡ snapshot_in places.now segment.now }
+{
+    SegmentType::Snapshot {
+        chunk: number_at(segment, "chunk_size"),
+        origin: places.place_of(text_at(segment, "origin")),
+        store: places.place_of(text_at(segment, "cow_store")),
+    }
+}
+
 /// The segments that sections say.
 #[tactic(auto, unfolding(crate::specs::Group::segment_of))]
 pub(crate) fn segments_in(
     alloc: Global,
-    places: &Places<'_>,
+    places: &GroupPlaces<'_>,
     sections: &[&Section<'_>],
 ) -> Result<Segments, AllocError>
     ensures { IfOk result (λ made. made ≡ map (segment_of places.now) (map section_view sections.now)) }

@@ -1,52 +1,61 @@
-//! The tables of a group: for each volume a device, for each segment a line, and the disks of its physical volumes.
+//! The tables of a group: the devices of its volumes, for each segment a line, and the disks of its physical volumes.
 //!
 //! What the checks of a group left makes each product fit and each look-up succeed, so nothing here is refused but a
 //! name. A new type of segment is an arm in `line_target`, here and in `specs/Tables.antt`.
 
-ghost use Rattle.std.specs.Prelude.{◌≡◌, ◌≢◌, None, IfOk, map};
-ghost use Rattle.std.specs.List.{AllByRecursion, flat_map};
-ghost use Rattle.dm_table.specs.LoadFault.{Answers, fault_at, first_or, unless};
-ghost use Rattle.dm_table.specs.declared.load_fault.LoadKind.TheVariants as loads;
-ghost use Rattle.lvm_volume.specs.declared.fault.NameFault.TheVariants as names;
+ghost use Rattle.std.specs.Prelude.{◌≡◌, None, IfOk, map};
+ghost use Rattle.std.specs.List.{AllByRecursion};
+ghost use Rattle.dm_table.specs.LoadFault.{Answers, first_or, unless};
 ghost use Rattle.dm_table.specs.declared.place.Part.TheVariants.{Source};
 ghost use Rattle.lvm_volume.specs.Extents.{stripes_of};
-ghost use Rattle.lvm_volume.specs.Names.{joined};
-ghost use Rattle.lvm_volume.specs.Tables.{IsSegmentIn, IsStripeIn, column_of, columns_target, device_in, disk_of, line_of, line_target, tables_of, unnamed, unnamed_volume, volume_parts};
+ghost use Rattle.lvm_volume.specs.Tables.{IsSegmentIn, IsStripeIn, column_of, columns_target, disk_of, line_of, line_target, tables_of, unnamed};
 
-use crate::fault::NameFault;
-use crate::names::build_name;
+use crate::device_names::names_fault;
+use crate::devices::{Seen, devices_of};
 use crate::physical::Physical;
+use crate::roles::roles_of;
 use crate::segment::{Segment, SegmentType, Stripe};
-use crate::source_line::{source_fault, source_line};
-use crate::volume::Volume;
+use crate::source_line::source_line;
 use crate::volume_group::VolumeGroup;
 use dm_table::{
-    CheckFault, Column, Columns, DevRef, DeviceSpec, Disk, DiskName, Line, LoadFault, LoadKind,
-    Name, Part, Table, Target,
+    CheckFault, Column, Columns, DevRef, DeviceSpec, Disk, DiskName, Line, LoadFault, Part, Table,
+    Target,
 };
 use std::alloc::{AllocError, Global};
 
 impl VolumeGroup {
     /// The devices of the group's volumes, in the order of the text, and the disks of its physical volumes.
     ///
-    /// A device is named by `build_name` of group and volume; its place is the line of the volume's key, a line's
-    /// that of the segment's, a disk's that of the physical volume's. `Name`, at the volume's key, where no name is
-    /// built, and `Memory` where a growth was refused.
+    /// A volume is a device with a line for each segment, named by `build_name` of group and volume. The origin of
+    /// snapshots is two: first its layer `real`, with those lines, and then the volume itself, whose one line is an
+    /// origin's over that. So is the store of a snapshot: its layer `cow`, and then the volume, whose one line is the
+    /// snapshot of the origin's `real` on that store. A snapshot's record is none. Layers are never read-only.
     ///
-    /// Cost: near-linear, with memory for each name of a line.
+    /// The place of a device, and of an origin's line, is the line of its volume's key, that of a snapshot's line the
+    /// segment of its record, that of any other line its segment's, a disk's that of the physical volume's. `Name`, at
+    /// the volume's key, where no name is built, and `Memory` where a growth was refused.
+    ///
+    /// Cost: near-linear, with memory for each name of a device and of a line.
     pub fn tables(&self, alloc: Global) -> Result<(Vec<DeviceSpec>, Vec<Disk>), LoadFault>
-        // The tables of the group exactly where each volume has a name, unless memory runs out.
+        // The tables of the group exactly where each device has a name, unless memory runs out.
         ensures { Answers Source (λ tables. (tables.0.items, tables.1.items)) result (unless (first_or (unnamed self.now) None) (tables_of self.now)) }
     {
-        let devices = match devices_of(
-            alloc,
-            self.name.as_str(),
-            self.extent_size,
-            &self.physicals,
-            &self.volumes,
-        ) {
-            Ok(devices) => devices,
-            Err(fault) => return Err(fault),
+        let Ok(roles) = roles_of(alloc, &self.volumes) else {
+            return Err(LoadFault::memory(Part::Source));
+        };
+        match names_fault(alloc, self.name.as_str(), &roles, &self.volumes) {
+            Ok(None) => {}
+            Ok(Some(fault)) => return Err(fault),
+            Err(_) => return Err(LoadFault::memory(Part::Source)),
+        }
+        let group = Seen {
+            name: self.name.as_str(),
+            extent_size: self.extent_size,
+            physicals: &self.physicals,
+            volumes: &self.volumes,
+        };
+        let Ok(devices) = devices_of(alloc, &group, &roles) else {
+            return Err(LoadFault::memory(Part::Source));
         };
         match disks_of(alloc, &self.physicals) {
             Ok(disks) => Ok((devices, disks)),
@@ -55,83 +64,8 @@ impl VolumeGroup {
     }
 }
 
-/// The devices of volumes of a group of this name, or the first that gets no name.
-fn devices_of(
-    alloc: Global,
-    name: &str,
-    extent_size: u64,
-    physicals: &[Physical],
-    volumes: &[Volume],
-) -> Result<Vec<DeviceSpec>, LoadFault>
-    requires { AllByRecursion (λ volume. AllByRecursion (IsSegmentIn extent_size physicals.now) volume.segments) volumes.now }
-    ensures { Answers Source (λ v. v.items) result
-        (unless (first_or (flat_map (unnamed_volume name.now) volumes.now) None) (map (device_in name.now extent_size physicals.now) volumes.now)) }
-{
-    let mut devices = Vec::new(alloc);
-    for volume in volumes {
-        let device = match device_of(alloc, name, extent_size, physicals, volume) {
-            Ok(device) => device,
-            Err(fault) => return Err(fault),
-        };
-        let Ok(()) = devices.push(device) else {
-            return Err(LoadFault::memory(Part::Source));
-        };
-    }
-    Ok(devices)
-}
-
-/// The device of a volume of a group of this name, unless it gets no name.
-#[tactic(auto, unfolding(crate::specs::Tables::device_in))]
-fn device_of(
-    alloc: Global,
-    name: &str,
-    extent_size: u64,
-    physicals: &[Physical],
-    volume: &Volume,
-) -> Result<DeviceSpec, LoadFault>
-    requires { AllByRecursion (IsSegmentIn extent_size physicals.now) volume.now.segments }
-    ensures { Answers Source (λ device. device) result
-        (unless (first_or (unnamed_volume name.now volume.now) None) (device_in name.now extent_size physicals.now volume.now)) }
-{
-    let name = match name_of(alloc, name, volume) {
-        Ok(name) => name,
-        Err(fault) => return Err(fault),
-    };
-    match lines_of(alloc, extent_size, physicals, volume.segments.as_slice()) {
-        Ok(lines) => Ok(DeviceSpec {
-            name,
-            ro: volume.ro,
-            lines,
-            at: source_line(volume.line),
-        }),
-        Err(_) => Err(LoadFault::memory(Part::Source)),
-    }
-}
-
-/// The name of a volume's device.
-fn name_of(alloc: Global, group: &str, volume: &Volume) -> Result<Name, LoadFault>
-    ensures { Answers Source (λ name. name) result (unless (first_or (unnamed_volume group.now volume.now) None) (joined (volume_parts group.now volume.now))) }
-{
-    match build_name(alloc, group, volume.name.as_str(), None) {
-        Ok(name) => Ok(name),
-        Err(fault) => Err(refused_name(fault, volume.line)),
-    }
-}
-
-/// The fault of a volume, at this line, of which no name was built.
-fn refused_name(fault: NameFault, line: u64) -> LoadFault
-    ensures memory { fault ≡ names.Memory → result ≡ fault_at Source loads.Memory 0 }
-    ensures name { fault ≢ names.Memory → result ≡ fault_at Source loads.Name line }
-{
-    match fault {
-        NameFault::Memory => LoadFault::memory(Part::Source),
-        NameFault::Letter | NameFault::HyphenFirst | NameFault::Empty | NameFault::Long =>
-            source_fault(LoadKind::Name, line),
-    }
-}
-
 /// The lines of segments.
-fn lines_of(
+pub(crate) fn lines_of(
     alloc: Global,
     extent_size: u64,
     physicals: &[Physical],
@@ -182,7 +116,7 @@ fn line_target(
             Ok(columns_target(*chunk, columns))
         }
         SegmentType::Zero => Ok(Target::Zero),
-        SegmentType::Error => Ok(Target::Error),
+        SegmentType::Error | SegmentType::Snapshot { .. } => Ok(Target::Error),
     }
 }
 

@@ -8,7 +8,7 @@ ghost use Rattle.lvm_volume.specs.Fields as fields;
 ghost use Rattle.lvm_volume.specs.Group.{is_write, volume_of};
 
 use crate::key::Key;
-use crate::places::Places;
+use crate::places::GroupPlaces;
 use crate::segment::{Segments, segments_in};
 use crate::value::{items_at, segments_of};
 use lvm_text::{Scalar, Section};
@@ -26,7 +26,7 @@ pub(crate) struct Volume {
 /// The volumes that sections say.
 pub(crate) fn volumes_in(
     alloc: Global,
-    places: &Places<'_>,
+    places: &GroupPlaces<'_>,
     sections: &[(&str, &Section<'_>)],
 ) -> Result<Vec<Volume>, AllocError>
     ensures { IfOk result (λ v. v.items ≡ map (volume_of places.now) (map item_view sections.now)) }
@@ -42,7 +42,7 @@ pub(crate) fn volumes_in(
 #[tactic(auto, unfolding(crate::specs::Group::volume_of))]
 fn volume_of(
     alloc: Global,
-    places: &Places<'_>,
+    places: &GroupPlaces<'_>,
     section: (&str, &Section<'_>),
 ) -> Result<Volume, AllocError>
     ensures { IfOk result (λ volume. volume ≡ volume_of places.now (item_view section.entry)) }

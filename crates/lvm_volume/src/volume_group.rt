@@ -1,8 +1,8 @@
 //! Volume groups: what the metadata of a group says, once no check finds a fault in it.
 //!
 //! A `VolumeGroup` exists only where that is so, and its type keeps what tables rest on: numbers that fit 64 bits
-//! in sectors, and stripes of physical volumes that are there. A new check takes its place here and in
-//! `group_checks` of `specs/Tables.antt`.
+//! in sectors, stripes of physical volumes that are there, and snapshots of volumes that are origins. A new check
+//! takes its place here and in `group_checks` of `specs/Tables.antt`.
 
 ghost use Rattle.std.specs.Prelude.{◌≡◌, ◌∷◌, [], ℕ, List, None, IfOk, codes, length, map};
 ghost use Rattle.lvm_text.specs.Tree as tree;
@@ -13,7 +13,7 @@ ghost use Rattle.lvm_volume.specs.declared.check.Check.TheVariants.{Fields};
 ghost use Rattle.lvm_volume.specs.Extents.{name_faults};
 ghost use Rattle.lvm_volume.specs.Fields as fields;
 ghost use Rattle.lvm_volume.specs.Fields.{faults_of_fields};
-ghost use Rattle.lvm_volume.specs.Group.{group_in, group_of, keys_in, volume_of};
+ghost use Rattle.lvm_volume.specs.Group.{group_in, group_of, places_in, volume_of};
 ghost use Rattle.lvm_volume.specs.GroupCode.{parts_view};
 ghost use Rattle.lvm_volume.specs.Tables.{checks_of_parts, group_checks, later_checks};
 
@@ -21,9 +21,9 @@ use crate::check::Check;
 use crate::extents::{size_fault, volumes_fault};
 use crate::key::Key;
 use crate::physical::{Physical, physicals_in};
-use crate::places::Places;
+use crate::places::GroupPlaces;
+use crate::segment_check::{snapshot_fault, unknown_line};
 use crate::source_line::source_fault;
-use crate::unknown::least_unknown_of;
 use crate::value::{number_at, sections_at, sections_of};
 use crate::volume::{Volume, volumes_in};
 use crate::walk;
@@ -65,8 +65,11 @@ impl VolumeGroup {
     /// The checks run over the whole text one after the other, and the first that finds anything gives the fault, at
     /// the first place in its order, in which the segments of a volume go by their numbers: `Field` for a field that
     /// is missing or not what it may be, `Limit` for an integer above 2^50, also where extents are counted in
-    /// sectors, `Name` for a physical volume whose disk gets no name, `Unknown` for a stripe of no physical volume,
-    /// `Extents` for physical volumes longer than their device and segments that are misplaced or use an extent twice.
+    /// sectors, `Name` for a physical volume whose disk gets no name, `Unknown` for a stripe of no physical volume and
+    /// a snapshot of no volume or on none, `Extents` for physical volumes longer than their device and segments that
+    /// are misplaced or use an extent twice, `Snapshot` for a snapshot beside other segments, one of or on a volume
+    /// that is itself the record of a snapshot, one on an origin or on another one's store, and one that hasn't as
+    /// many extents as its origin.
     /// `Memory` is returned only where an allocation was refused.
     ///
     /// Cost: near-linear in the text. Source: vgcfgbackup(8), lvm.conf(5); the limits are this project's own.
@@ -150,14 +153,14 @@ fn parts_in(alloc: Global, group: (&str, &Section<'_>)) -> Result<Parts, LoadFau
 
 /// The volumes of a group.
 fn volumes_of(alloc: Global, group: &Section<'_>) -> Result<Vec<Volume>, AllocError>
-    ensures { IfOk result (λ v. v.items ≡ map (volume_of (keys_in (fields.sections_at (codes "physical_volumes") group.now))) (fields.sections_at (codes "logical_volumes") group.now)) }
+    ensures { IfOk result (λ v. v.items ≡ map (volume_of (places_in group.now)) (fields.sections_at (codes "logical_volumes") group.now)) }
 {
-    let places = Places::new(alloc, group, "physical_volumes")?;
+    let places = GroupPlaces::new(alloc, group)?;
     let sections = sections_at(alloc, group, "logical_volumes")?;
     volumes_in(alloc, &places, &sections)
 }
 
-/// The first fault of the checks of stripes and extents.
+/// The first fault of the checks of what segments name, of extents, and of snapshots.
 fn parts_fault(
     alloc: Global,
     extent_size: u64,
@@ -165,11 +168,14 @@ fn parts_fault(
 ) -> Result<Option<LoadFault>, AllocError>
     ensures { (name : List ℕ) → IfOk result (λ fault. fault ≡ first_fault (checks_of_parts (record { name = name; extent_size = extent_size; physicals = parts.now.physicals.items; volumes = parts.now.volumes.items }))) }
 {
-    if let Some(line) = least_unknown_of(parts.physicals.len(), &parts.volumes) {
+    if let Some(line) = unknown_line(parts.physicals.len(), &parts.volumes) {
         return Ok(Some(source_fault(LoadKind::Unknown, line)));
     }
     if let Some(fault) = size_fault(extent_size, &parts.physicals) {
         return Ok(Some(fault));
     }
-    volumes_fault(alloc, &parts.physicals, &parts.volumes)
+    if let Some(fault) = volumes_fault(alloc, &parts.physicals, &parts.volumes)? {
+        return Ok(Some(fault));
+    }
+    snapshot_fault(alloc, &parts.volumes)
 }

@@ -1,10 +1,11 @@
 use Rattle.std.proofs.Common.{◌≡◌, ◌≤◌, drop, length}
-use Rattle.lvm_volume.specs.Extents.{least_unknown_of}
-use Rattle.lvm_volume.proofs.unknown.least_unknown_of.Given as goal
+use Rattle.lvm_volume.specs.Extents.{least_line_of}
+use Rattle.lvm_volume.specs.RoleCode.{test_of}
+use Rattle.lvm_volume.proofs.segment_check.least_line_of.Given as goal
 
 abbrev pub invariant-loop-at : goal.invariant-loop-at
 invariant-loop-at l = record {
-  least : l.least ≡ least_unknown_of l.physicals (drop l.at l.volumes);
+  least : l.least ≡ least_line_of (test_of l.check) (drop l.at l.volumes);
   within : l.at ≤ length l.volumes;
 }
 

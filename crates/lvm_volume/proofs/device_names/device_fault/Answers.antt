@@ -1,0 +1,25 @@
+use Rattle.std.proofs.Common.{◌≡◌, List, ℕ, Option, None, Ok, Err, Result, sym, subst}
+use Rattle.std.specs.Prelude.{IfOk, is_some}
+use Rattle.std.specs.declared.alloc.AllocError.{AllocError}
+use Rattle.dm_table.specs.declared.load_fault.LoadFault.{LoadFault}
+use Rattle.dm_table.specs.declared.load_fault.LoadKind.TheVariants.{Name}
+use Rattle.dm_table.specs.LoadFault.{first_or}
+use Rattle.lvm_volume.specs.Names.{NameParts, Returns, built, fault_of, joined}
+use Rattle.lvm_volume.specs.Extents.{hit}
+use Rattle.lvm_volume.specs.Tables.{device_parts}
+use Rattle.lvm_volume.proofs.NamedLemmas.{named, refused_found}
+use Rattle.lvm_volume.proofs.device_names.device_fault.Goals as goal
+use Rattle.lvm_volume.proofs.device_names.device_fault.Goals.{in-Ok, in-Err}
+
+pub returns : goal.returns
+returns c =
+    let parts : List ℕ → NameParts = λ name. device_parts c.args.group.now name c.args.layer in
+    let said = parts c.args.volume.now.name in
+    let line = c.args.volume.now.line in
+    let Found : Result (Option LoadFault) AllocError → Type 0 = λ result. IfOk result (λ fault. fault ≡ first_or (hit (is_some (fault_of said)) Name line) None) in
+    elim c.match-built_name.branch [
+      | in-Ok w ↦ subst Found (sym w.result-is) (named (fault_of said) (joined said) w.in-Ok.field-0 line (subst (λ (name : List ℕ). Returns (Ok w.in-Ok.field-0) (built (parts name))) c.as_str.ensures w.in-Ok.ensures))
+      | in-Err w ↦ subst Found (sym w.result-is)
+          (refused_found w.refused_name.result (fault_of said) (joined said) w.in-Err.fault line w.refused_name.ensures.kind w.refused_name.ensures.found
+          (subst (λ (name : List ℕ). Returns (Err w.in-Err.fault) (built (parts name))) c.as_str.ensures w.in-Err.ensures))
+    ]

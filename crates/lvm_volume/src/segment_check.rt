@@ -1,0 +1,147 @@
+//! The checks of what segments name: that each stripe names a physical volume of the group and each snapshot two of its
+//! volumes, and that these are an origin and a store of its own.
+//!
+//! The fault is the first in the text, where segments may stand in any order, so it is the one at the least line.
+
+ghost use Rattle.std.specs.Prelude.{◌≡◌, ◌==◌, None, IfOk, length, not, nat_lt};
+ghost use Rattle.std.specs.List.{list_any};
+ghost use Rattle.dm_table.specs.LoadFault.{first_or};
+ghost use Rattle.lvm_volume.specs.Extents as spec;
+ghost use Rattle.lvm_volume.specs.Extents.{is_unknown, least_line, least_line_of, snapshot_faults_in};
+ghost use Rattle.lvm_volume.specs.RoleCode.{test_of};
+ghost use Rattle.lvm_volume.specs.Roles.{is_bad_snapshot, is_bad_target};
+
+use crate::roles::{Role, extents_of, role_at, roles_of, segments_at};
+use crate::segment::{Segment, SegmentType, Stripe};
+use crate::source_line::source_fault;
+use crate::volume::Volume;
+use dm_table::{LoadFault, LoadKind};
+use std::alloc::{AllocError, Global};
+
+/// What a segment is checked for.
+#[derive(Drop)]
+enum SegmentCheck<'g> {
+    /// It names something else than these many physical volumes and volumes.
+    Unknown {
+        physicals: usize,
+        volumes: usize,
+    },
+    /// It is a snapshot that these volumes, with their roles, can't have.
+    Snapshot {
+        volumes: &'g [Volume],
+        roles: &'g [Role],
+    },
+}
+
+/// The first segment in the text that names none of this many physical volumes, or none of the volumes.
+pub(crate) fn unknown_line(physicals: usize, volumes: &[Volume]) -> Option<u64>
+    ensures { result ≡ least_line_of (λ alone. is_unknown physicals (length volumes.now)) volumes.now }
+{
+    let check = SegmentCheck::Unknown {
+        physicals,
+        volumes: volumes.len(),
+    };
+    least_line_of(&check, volumes)
+}
+
+/// The first snapshot in the text that the volumes can't have.
+///
+/// Cost: linear in the volumes and their segments.
+pub(crate) fn snapshot_fault(
+    alloc: Global,
+    volumes: &[Volume],
+) -> Result<Option<LoadFault>, AllocError>
+    ensures { IfOk result (λ fault. fault ≡ first_or (snapshot_faults_in volumes.now) None) }
+{
+    let roles = roles_of(alloc, volumes)?;
+    let check = SegmentCheck::Snapshot {
+        volumes,
+        roles: &roles,
+    };
+    match least_line_of(&check, volumes) {
+        Some(line) => Ok(Some(source_fault(LoadKind::Snapshot, line))),
+        None => Ok(None),
+    }
+}
+
+/// The least line of a segment that a check finds.
+fn least_line_of(check: &SegmentCheck<'_>, volumes: &[Volume]) -> Option<u64>
+    ensures { result ≡ least_line_of (test_of check.now) volumes.now }
+{
+    let mut least = None;
+    let mut at = volumes.len();
+    while at > 0 {
+        at -= 1;
+        least = least_line(check, volumes[at].segments.as_slice(), least);
+    }
+    least
+}
+
+/// The same of the segments of a volume, or of others that were looked at before.
+fn least_line(check: &SegmentCheck<'_>, segments: &[Segment], others: Option<u64>) -> Option<u64>
+    ensures { result ≡ least_line (test_of check.now (length segments.now == 1)) segments.now others }
+{
+    let alone = segments.len() == 1;
+    let mut least = others;
+    let mut at = segments.len();
+    while at > 0 {
+        at -= 1;
+        if is_hit(check, alone, &segments[at]) {
+            least = Some(lesser(segments[at].line, least));
+        }
+    }
+    least
+}
+
+fn lesser(line: u64, other: Option<u64>) -> u64
+    ensures { result ≡ spec.lesser line other }
+{
+    match other {
+        Some(other) => line.min(other),
+        None => line,
+    }
+}
+
+/// Whether a check finds a segment, which is alone in its volume or not.
+fn is_hit(check: &SegmentCheck<'_>, alone: bool, segment: &Segment) -> bool
+    ensures { result ≡ test_of check.now alone segment.now }
+{
+    match check {
+        SegmentCheck::Unknown { physicals, volumes } => is_unknown(*physicals, *volumes, segment),
+        SegmentCheck::Snapshot { volumes, roles } => is_bad_snapshot(
+            volumes, roles, alone, segment,
+        ),
+    }
+}
+
+/// Whether a segment names a physical volume or a volume that isn't there.
+fn is_unknown(physicals: usize, volumes: usize, segment: &Segment) -> bool
+    ensures { result ≡ is_unknown physicals volumes segment.now }
+{
+    match &segment.target {
+        SegmentType::Striped { stripes, .. } => has_unknown(physicals, stripes.as_slice()),
+        SegmentType::Snapshot { origin, store, .. } => !(*origin < volumes) || !(*store < volumes),
+        SegmentType::Zero | SegmentType::Error => false,
+    }
+}
+
+fn has_unknown(physicals: usize, stripes: &[Stripe]) -> bool
+    ensures { result ≡ list_any (λ stripe. not (nat_lt stripe.physical physicals)) stripes.now }
+{
+    stripes.iter().any(|stripe| !(stripe.physical < physicals))
+}
+
+/// Whether a segment is a snapshot that these volumes, with their roles, can't have.
+fn is_bad_snapshot(volumes: &[Volume], roles: &[Role], alone: bool, segment: &Segment) -> bool
+    ensures { result ≡ is_bad_snapshot volumes.now roles.now alone segment.now }
+{
+    match &segment.target {
+        SegmentType::Snapshot { origin, store, .. } => {
+            !alone
+                || role_at(roles, *origin).is_record()
+                || !role_at(roles, *store).is_store()
+                || extents_of(segments_at(volumes, *origin)) != u128::from(segment.count)
+        }
+        SegmentType::Striped { .. } | SegmentType::Zero | SegmentType::Error => false,
+    }
+}
