@@ -37,7 +37,7 @@ Lines
             NAME: START LEN striped COLUMNS CHUNK DEV OFFSET DEV OFFSET ..
             NAME: START LEN zero
             NAME: START LEN error
-            NAME: START LEN snapshot ORIGIN STORE P CHUNK
+            NAME: START LEN snapshot ORIGIN STORE KIND CHUNK
             NAME: START LEN snapshot-origin DEV
   DISKS     DISK LEN
   requests  R NAME START LEN      a read
@@ -53,7 +53,8 @@ Lines
   --status  NAME: 0 LEN snapshot ALLOCATED/TOTAL METADATA
                                   what is used of a store, at the end of the requests
             NAME: 0 LEN snapshot Invalid
-DEV, ORIGIN and STORE are a disk, or /dev/mapper/NAME for a device of FILE. A request has 1 to 1048576 sectors.
+DEV, ORIGIN and STORE are a disk, or /dev/mapper/NAME for a device of FILE. KIND is P, N or K.
+A request has 1 to 1048576 sectors.
 
 Exit status
   0  all requests were answered
