@@ -42,7 +42,8 @@ pub(crate) fn serve<S: Sink, T: Taken>(
 /// How many of at most `most` sectors of an origin, from `sector` on, lie in chunks for which nothing
 /// is left to do, in all of its snapshots. Those of `sector` itself do.
 ///
-/// It only looks, at each chunk at most once, and at none of a snapshot that is lost.
+/// It only looks, at each chunk at most once, and at none of a snapshot that is lost. A lesser answer
+/// would be right too, and only cost time: the rest is served and written in further steps.
 pub(crate) fn settled_part<T: Taken>(
     walker: &Walker<'_, T>,
     over: &[FoundOver],

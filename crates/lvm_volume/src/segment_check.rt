@@ -21,7 +21,7 @@ use std::alloc::{AllocError, Global};
 /// What a segment is checked for.
 #[derive(Drop)]
 enum SegmentCheck<'g> {
-    /// It names something else than these many physical volumes and volumes.
+    /// It names a physical volume or a volume that isn't among these many.
     Unknown {
         physicals: usize,
         volumes: usize,
@@ -33,7 +33,7 @@ enum SegmentCheck<'g> {
     },
 }
 
-/// The first segment in the text that names none of this many physical volumes, or none of the volumes.
+/// The first segment in the text that names a physical volume or a volume that isn't there: its line.
 pub(crate) fn unknown_line(physicals: usize, volumes: &[Volume]) -> Option<u64>
     ensures { result ≡ least_line_of (λ alone. is_unknown physicals (length volumes.now)) volumes.now }
 {
