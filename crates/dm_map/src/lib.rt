@@ -20,6 +20,7 @@ mod ready;
 mod run_taken;
 mod serving;
 mod sink;
+mod step;
 mod stretch;
 mod stripe;
 mod tables;

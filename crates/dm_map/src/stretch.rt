@@ -13,9 +13,9 @@ ghost use Rattle.dm_map.specs.Stretch.{IsFirst};
 ghost use Rattle.dm_map.specs.Walk.{line_step, range_step};
 
 use crate::chunk::{part_of_chunk, read_place};
+use crate::step::{part_in, sector_at};
 use crate::stripe::place_at;
 use crate::taken::Taken;
-use crate::walk::{part_in, sector_at};
 use crate::walker::Walker;
 use dm_stack::{DeviceId, DiskId, FoundLine, FoundTarget, Lower};
 

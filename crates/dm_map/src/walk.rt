@@ -8,7 +8,7 @@
 //! read, how often it searches: at most once a level for each stretch of sectors with one path
 //! (`specs/Path`).
 
-ghost use Rattle.std.specs.Prelude.{◌≡◌, ℕ, ◌+◌, ◌-◌, ◌<◌, ◌≤◌, ◌^◌, Some, length, min};
+ghost use Rattle.std.specs.Prelude.{◌≡◌, ℕ, ◌+◌, ◌-◌, ◌<◌, ◌≤◌, ◌^◌, Some, length};
 ghost use Rattle.dm_table.specs.declared.request.Op.TheVariants.{Write};
 ghost use Rattle.dm_stack.specs.Below.{found_at, IsTargetSound};
 ghost use Rattle.dm_stack.specs.Description.{Description, device_len, lower_len};
@@ -28,6 +28,7 @@ use crate::piece::Piece;
 use crate::ready::{is_refused, make_ready, write_store};
 use crate::serving::{serve, settled_part};
 use crate::sink::Sink;
+use crate::step::{part_in, sector_at};
 use crate::stripe::{next_chunk, place_at};
 use crate::taken::Taken;
 use crate::walker::Walker;
@@ -356,29 +357,6 @@ fn refuses<T: Taken>(walker: &Walker<'_, T>, op: Op, device: DeviceId) -> bool
     ensures { result ≡ refuses walker.now.stack op device }
 {
     walker.is_ro(device) && matches!(op, Op::Write)
-}
-
-/// How many of at most `most` sectors, from a distance from its start on, a line has.
-pub(crate) fn part_in(line: &FoundLine, distance: u64, most: u64) -> u64
-    requires { distance < line.now.len }
-    ensures { result ≡ min most (line.now.len - distance) }
-{
-    most.min(line.len - distance)
-}
-
-/// The sector at a distance from an offset into a device or a disk, where it is there.
-pub(crate) fn sector_at<T: Taken>(
-    walker: &Walker<'_, T>,
-    to: Lower,
-    offset: u64,
-    distance: u64,
-) -> u64
-    requires { offset + distance < lower_len walker.now.stack to }
-    ensures { result ≡ offset + distance }
-{
-    let end = walker.lower_len(to);
-    prove!(offset <= end && distance < end - offset);
-    offset + distance
 }
 
 /// What is done at sectors of a disk. The sink's code is put in line after this, and where the two kinds
