@@ -1,4 +1,4 @@
--- The sectors of one chunk of a snapshot: where they are read, and that they are written there once the chunk is ready.
+-- The sectors of one chunk of a snapshot: where they are read, and that they are written there once the chunk is settled.
 use Rattle.std.proofs.Common.{◌≡◌, ℕ, zero, suc, ◌+◌, ◌-◌, ◌*◌, ◌/◌, ◌%◌, ◌<◌, ◌≤◌, Bool, true, false, cond, not, List, [], ◌∷◌, ◌++◌, Option, Some, None, length, append_assoc, refl, sym, ap, subst, ◌∙◌, arith}
 use Rattle.std.specs.Prelude.{◌||◌, is_some, min}
 use Rattle.std.proofs.lemmas.Bool.{leb-true}
@@ -16,8 +16,8 @@ use Rattle.dm_stack.specs.StoreLayout.{place}
 use Rattle.dm_map.specs.declared.chunk.ReadAt.{ReadAt}
 use Rattle.dm_map.specs.Homes.{home}
 use Rattle.dm_map.specs.Reads.{by_below, read_unit}
-use Rattle.dm_map.specs.Snapshots.{number_in, kept_at, read_numbered, read_over}
-use Rattle.dm_map.specs.SnapshotWrites.{is_refused, is_settled, ready, row, store_writes, unit_kept, write_numbered, write_snapshot, write_to}
+use Rattle.dm_map.specs.Snapshots.{number_in, store_sector, read_numbered, read_over}
+use Rattle.dm_map.specs.SnapshotWrites.{is_refused, is_settled, take_chunk, row, store_writes, unit_in_store, write_numbered, write_snapshot, write_to}
 use Rattle.dm_map.specs.State.{State, Taken, taken_at}
 use Rattle.dm_map.specs.Steps.{Step, keep, and_then, steps}
 use Rattle.dm_map.specs.Tables.{has_room, room_of, snapshot_at}
@@ -25,7 +25,7 @@ use Rattle.dm_map.specs.Units.{BlockUnit, Zeros, Fails, units_in}
 use Rattle.dm_map.specs.Mapping.{sector_step}
 use Rattle.dm_map.specs.Sink.{OfBeginning}
 use Rattle.dm_map.specs.Walk.{line_step, range_step, target_step, AreInChunk, AreInSnapshot, AreReadAt}
-use Rattle.dm_map.proofs.Readies.{Readied, readied, Settled, Took, Lost, chunk_part, refused_part, write_is}
+use Rattle.dm_map.proofs.ChunkTaking.{ChunkOutcome, chunk_outcome, Settled, Took, Lost, chunk_part, refused_part, write_is}
 use Rattle.dm_map.proofs.Rows.{left_more, steps_read, steps_same, steps_still}
 use Rattle.dm_map.proofs.Stripes.{in_chunk}
 use Rattle.dm_map.proofs.UnitRows.{row_same}
@@ -43,10 +43,10 @@ in_snapshot stack device distance len line snapshot found kind target inside =
     }
 
 pub in_one_chunk : (stack before : Description) (device sector len at left part : ℕ) (snapshot : FoundSnapshot) → AreInSnapshot stack device snapshot sector len → before ≡ stack → at + left ≡ sector + len → part ≡ min left (snapshot.chunk - at % snapshot.chunk) → AreInChunk before device snapshot at part
-in_one_chunk stack before device sector len at left part snapshot lies same place part_is =
+in_one_chunk stack before device sector len at left part snapshot lies same position part_is =
     let some = lies.sound.chunk_some in
     rw same (record {
-      whole = record { is = lies.is; sound = lies.sound; inside = omega (arith, lies.inside, place, part_is) };
+      whole = record { is = lies.is; sound = lies.sound; inside = omega (arith, lies.inside, position, part_is) };
       part = omega (arith, part_is, some);
     })
 
@@ -58,12 +58,12 @@ first_inside stack device sector len snapshot chunk some =
     let whole : sector / snapshot.chunk * snapshot.chunk + sector % snapshot.chunk ≡ sector = div-add-mod' sector snapshot.chunk in
     omega (arith, whole, chunk.whole.inside, some)
 
--- Places in a chunk
+-- Sectors of one chunk
 
--- the sectors of a chunk that was taken go on in its place
-pub kept_on : (snapshot : FoundSnapshot) (number sector i : ℕ) → 0 < snapshot.chunk → sector % snapshot.chunk + i < snapshot.chunk → kept_at snapshot number (sector + i) ≡ kept_at snapshot number sector + i
+-- the sectors of a chunk that was taken lie one after the other in its place in the store
+pub kept_on : (snapshot : FoundSnapshot) (number sector i : ℕ) → 0 < snapshot.chunk → sector % snapshot.chunk + i < snapshot.chunk → store_sector snapshot number (sector + i) ≡ store_sector snapshot number sector + i
 kept_on snapshot number sector i some within =
-    let at = (in_chunk snapshot.chunk sector i some (omega (arith, within))).place in omega (arith, at)
+    let at = (in_chunk snapshot.chunk sector i some (omega (arith, within))).position in omega (arith, at)
 
 pub same_chunk : (snapshot : FoundSnapshot) (sector i : ℕ) → 0 < snapshot.chunk → sector % snapshot.chunk + i < snapshot.chunk → (sector + i) / snapshot.chunk ≡ sector / snapshot.chunk
 same_chunk snapshot sector i some within = (in_chunk snapshot.chunk sector i some (omega (arith, within))).number
@@ -79,7 +79,7 @@ over_at : (taken : Taken) (snapshot : FoundSnapshot) (sector chunk : ℕ) (numbe
 over_at taken snapshot sector chunk number valid same is = rw (valid, same, is) refl
 
 pub read_kept : (stack : Description) (state : State) (device sector len number : ℕ) (snapshot : FoundSnapshot) → AreInChunk stack device snapshot sector len → (taken_at state device).valid ≡ true → number_in (sector / snapshot.chunk) (taken_at state device).chunks ≡ Some number → has_room stack device number ≡ true
-    → AreReadAt stack state device snapshot sector len (record { to = snapshot.store; sector = kept_at snapshot number sector })
+    → AreReadAt stack state device snapshot sector len (record { to = snapshot.store; sector = store_sector snapshot number sector })
 read_kept stack state device sector len number snapshot chunk valid is room =
     let some = chunk.whole.sound.chunk_some in let fits = room_place stack device number snapshot chunk.whole.is room in
     let split : (place snapshot.kind snapshot.chunk number + 1) * snapshot.chunk ≡ place snapshot.kind snapshot.chunk number * snapshot.chunk + snapshot.chunk = grind arith in
@@ -98,9 +98,9 @@ read_origin stack state device sector len snapshot chunk valid is =
       inside = omega (arith, chunk.whole.inside, chunk.whole.sound.origin);
     }
 
-pub chunk_read : (stack : Description) (levels device sector n len : ℕ) (snapshot : FoundSnapshot) (state : State) (place : ReadAt) → AreReadAt stack state device snapshot sector len place → n ≤ len → line_step stack ops.Read levels device (Snapshot snapshot) state sector n ≡ range_step stack ops.Read levels place.to state place.sector n
-chunk_read stack levels device sector n len snapshot state place at few =
-    steps_read (target_step stack ops.Read levels device (Snapshot snapshot)) (sector_step stack ops.Read levels place.to) state sector place.sector n
+pub chunk_read : (stack : Description) (levels device sector n len : ℕ) (snapshot : FoundSnapshot) (state : State) (source : ReadAt) → AreReadAt stack state device snapshot sector len source → n ≤ len → line_step stack ops.Read levels device (Snapshot snapshot) state sector n ≡ range_step stack ops.Read levels source.to state source.sector n
+chunk_read stack levels device sector n len snapshot state source at few =
+    steps_read (target_step stack ops.Read levels device (Snapshot snapshot)) (sector_step stack ops.Read levels source.to) state sector source.sector n
     (λ i within. ap (λ (b : Below). keep (by_below b Zeros Fails (λ to s. read_unit stack state levels to s) ∷ []) state) (at.lies i (omega (arith, within, few)))) (λ i within. refl)
 
 pub lost_read : (stack : Description) (levels device sector n : ℕ) (snapshot : FoundSnapshot) (state : State) → (taken_at state device).valid ≡ false → line_step stack ops.Read levels device (Snapshot snapshot) state sector n ≡ keep (units_in Fails n) state
@@ -122,51 +122,51 @@ kept_by : (stack : Description) (snapshot : FoundSnapshot) (sector : ℕ) (valid
 kept_by stack snapshot sector false number to at settled lies = absurd cc
 kept_by stack snapshot sector true None to at settled lies = absurd cc
 kept_by stack snapshot sector true (Some number) to at settled lies =
-    let store : snapshot.store ≡ to = cc in let place : kept_at snapshot number sector ≡ at = cc in
-    record { store = sym store; written = rw (sym store, sym place) refl }
+    let store : snapshot.store ≡ to = cc in let position : store_sector snapshot number sector ≡ at = cc in
+    record { store = sym store; written = rw (sym store, sym position) refl }
 
-pub kept : (stack : Description) (snapshot : FoundSnapshot) (device sector : ℕ) (state : State) (to : Lower) (at : ℕ) → is_settled (taken_at state device) (sector / snapshot.chunk) ≡ true → read_over (taken_at state device) snapshot sector ≡ Lies to at → IsKept stack snapshot (unit_kept stack snapshot device state sector) to at
+pub kept : (stack : Description) (snapshot : FoundSnapshot) (device sector : ℕ) (state : State) (to : Lower) (at : ℕ) → is_settled (taken_at state device) (sector / snapshot.chunk) ≡ true → read_over (taken_at state device) snapshot sector ≡ Lies to at → IsKept stack snapshot (unit_in_store stack snapshot device state sector) to at
 kept stack snapshot device sector state to at settled lies =
     kept_by stack snapshot sector (taken_at state device).valid (number_in (sector / snapshot.chunk) (taken_at state device).chunks) to at settled lies
 
 -- all sectors of the chunk
-pub row_kept : (stack : Description) (snapshot : FoundSnapshot) (device sector len : ℕ) (state : State) (place : ReadAt) → AreInChunk stack device snapshot sector len → is_settled (taken_at state device) (sector / snapshot.chunk) ≡ true → AreReadAt stack state device snapshot sector len place
-    → row (unit_kept stack snapshot device state) sector len ≡ store_writes stack place.to place.sector len
-row_kept stack snapshot device sector len state place chunk settled at =
-    row_same (unit_kept stack snapshot device state) (λ s. write_to (home stack place.to s)) sector place.sector len
-    (λ i within. (kept stack snapshot device (sector + i) state place.to (place.sector + i)
+pub row_kept : (stack : Description) (snapshot : FoundSnapshot) (device sector len : ℕ) (state : State) (source : ReadAt) → AreInChunk stack device snapshot sector len → is_settled (taken_at state device) (sector / snapshot.chunk) ≡ true → AreReadAt stack state device snapshot sector len source
+    → row (unit_in_store stack snapshot device state) sector len ≡ store_writes stack source.to source.sector len
+row_kept stack snapshot device sector len state source chunk settled at =
+    row_same (unit_in_store stack snapshot device state) (λ s. write_to (home stack source.to s)) sector source.sector len
+    (λ i within. (kept stack snapshot device (sector + i) state source.to (source.sector + i)
     (subst (λ (c : ℕ). is_settled (taken_at state device) c ≡ true) (sym (same_chunk snapshot sector i chunk.whole.sound.chunk_some (omega (arith, chunk.part, within)))) settled) (at.lies i within)).written)
 
-pub row_lost : (stack : Description) (snapshot : FoundSnapshot) (device sector len : ℕ) (state : State) → (taken_at state device).valid ≡ false → row (unit_kept stack snapshot device state) sector len ≡ units_in Fails len
+pub row_lost : (stack : Description) (snapshot : FoundSnapshot) (device sector len : ℕ) (state : State) → (taken_at state device).valid ≡ false → row (unit_in_store stack snapshot device state) sector len ≡ units_in Fails len
 row_lost stack snapshot device sector zero state off = refl
 row_lost stack snapshot device sector (suc len) state off =
-    let here : unit_kept stack snapshot device state sector ≡ Fails = rw off refl in
-    ap (λ (unit : BlockUnit). unit ∷ row (unit_kept stack snapshot device state) (suc sector) len) here ∙ ap (λ (rest : List BlockUnit). Fails ∷ rest) (row_lost stack snapshot device (suc sector) len state off)
+    let here : unit_in_store stack snapshot device state sector ≡ Fails = rw off refl in
+    ap (λ (unit : BlockUnit). unit ∷ row (unit_in_store stack snapshot device state) (suc sector) len) here ∙ ap (λ (rest : List BlockUnit). Fails ∷ rest) (row_lost stack snapshot device (suc sector) len state off)
 
--- what it takes to make a chunk ready leaves as many tables
-len_readied : (state : State) (device chunk : ℕ) (step : Step) → Readied state device chunk step → length step.state ≡ length state
+-- taking a chunk leaves as many tables
+len_readied : (state : State) (device chunk : ℕ) (step : Step) → ChunkOutcome state device chunk step → length step.state ≡ length state
 len_readied state device chunk step (Settled settled is) = rw is refl
 len_readied state device chunk step (Took valid fresh units is) = rw is (length-set state device _)
 len_readied state device chunk step (Lost is) = rw is (length-set state device _)
 
-pub ready_there : (stack : Description) (snapshot : FoundSnapshot) (device chunk : ℕ) (state : State) → device < length (ready stack snapshot device chunk state).state → device < length state
-ready_there stack snapshot device chunk state there =
-    let same = len_readied state device chunk (ready stack snapshot device chunk state) (readied stack snapshot device chunk state) in omega (arith, there, same)
+pub take_chunk_there : (stack : Description) (snapshot : FoundSnapshot) (device chunk : ℕ) (state : State) → device < length (take_chunk stack snapshot device chunk state).state → device < length state
+take_chunk_there stack snapshot device chunk state there =
+    let same = len_readied state device chunk (take_chunk stack snapshot device chunk state) (chunk_outcome stack snapshot device chunk state) in omega (arith, there, same)
 
--- the write of sectors of a chunk that is not refused: it is made ready, and they are written
+-- the write of sectors of a chunk that is not refused: it is taken, and they are written
 pub chunk_written : (stack : Description) (snapshot : FoundSnapshot) (device sector len : ℕ) (state : State) → AreInChunk stack device snapshot sector len → 1 ≤ len → device < length state → is_refused stack snapshot (taken_at state device) (sector / snapshot.chunk) ≡ false
-    → and_then (ready stack snapshot device (sector / snapshot.chunk) state) (λ after. keep (row (unit_kept stack snapshot device after) sector len) after) ≡ steps (write_snapshot stack snapshot device) state sector len
+    → and_then (take_chunk stack snapshot device (sector / snapshot.chunk) state) (λ after. keep (row (unit_in_store stack snapshot device after) sector len) after) ≡ steps (write_snapshot stack snapshot device) state sector len
 chunk_written stack snapshot device sector zero state chunk some there passes = absurd (omega (arith, some))
 chunk_written stack snapshot device sector (suc n) state chunk some there passes =
     sym (chunk_part stack snapshot device (sector / snapshot.chunk) sector n state passes there (λ i within. same_chunk snapshot sector i chunk.whole.sound.chunk_some (omega (arith, chunk.part, within))))
 
--- its units begin with those of making ready
-pub left_ready : {S : Type 0} (left : S → List BlockUnit → S → Type 0) (old new : S) (stack : Description) (snapshot : FoundSnapshot) (device sector len : ℕ) (state : State) → 1 ≤ len → is_refused stack snapshot (taken_at state device) (sector / snapshot.chunk) ≡ false
-    → OfBeginning left old (ready stack snapshot device (sector / snapshot.chunk) state).units new → OfBeginning left old (steps (write_snapshot stack snapshot device) state sector len).units new
-left_ready left old new stack snapshot device sector zero state some passes cut = absurd (omega (arith, some))
-left_ready left old new stack snapshot device sector (suc n) state some passes cut =
-    let made = ready stack snapshot device (sector / snapshot.chunk) state in
-    let unit = unit_kept stack snapshot device made.state sector ∷ [] in
+-- its units begin with those of taking the chunk
+pub left_taking : {S : Type 0} (left : S → List BlockUnit → S → Type 0) (old new : S) (stack : Description) (snapshot : FoundSnapshot) (device sector len : ℕ) (state : State) → 1 ≤ len → is_refused stack snapshot (taken_at state device) (sector / snapshot.chunk) ≡ false
+    → OfBeginning left old (take_chunk stack snapshot device (sector / snapshot.chunk) state).units new → OfBeginning left old (steps (write_snapshot stack snapshot device) state sector len).units new
+left_taking left old new stack snapshot device sector zero state some passes cut = absurd (omega (arith, some))
+left_taking left old new stack snapshot device sector (suc n) state some passes cut =
+    let made = take_chunk stack snapshot device (sector / snapshot.chunk) state in
+    let unit = unit_in_store stack snapshot device made.state sector ∷ [] in
     left_more left old new made.units (unit ++ (steps (write_snapshot stack snapshot device) made.state (suc sector) n).units) _
     (sym (append_assoc made.units unit _) ∙ ap (λ (step : Step). (and_then step (λ after. steps (write_snapshot stack snapshot device) after (suc sector) n)).units) (sym (write_is false stack snapshot device (sector / snapshot.chunk) state sector refl passes))) cut
 

@@ -12,13 +12,13 @@ use Rattle.dm_stack.specs.Store.{is_store_to}
 use Rattle.dm_map.specs.Fitting.{IsFitting}
 use Rattle.dm_map.specs.Homes.{Home, home, home_to, nowhere}
 use Rattle.dm_map.specs.Reads.{by_below}
-use Rattle.dm_map.specs.Snapshots.{kept_at, number_in, read_over}
+use Rattle.dm_map.specs.Snapshots.{store_sector, number_in, read_over}
 use Rattle.dm_map.specs.State.{State, taken_at}
 use Rattle.dm_map.specs.Tables.{snapshot_at}
 use Rattle.dm_map.specs.Ways.{Node, node, Touches}
-use Rattle.dm_map.proofs.Back.{IsNoLines, IsRoot, back_line, back_store, goes_on_inside, store_no_lines}
+use Rattle.dm_map.proofs.UniqueSteps.{IsNoLines, IsRoot, only_by_line, only_by_store, goes_on_inside, store_no_lines}
 use Rattle.dm_map.proofs.FoundLines.{snapshot_sound}
-use Rattle.dm_map.proofs.How.{IsLineStep, how, line_step}
+use Rattle.dm_map.proofs.ReadSteps.{IsLineStep, read_step, line_step}
 use Rattle.dm_map.proofs.Stores.{LiesInStore, below_store, store_line}
 use Rattle.dm_map.proofs.WayLemmas.{Here, Before, back, touch_first, touch_same, touch_self}
 
@@ -29,7 +29,7 @@ home_node home = node (Disk home.disk) home.sector
 
 home_suc : (stack : Description) (levels device sector : ℕ) (step : LiesInStore stack levels (λ over. below over stack device sector)) → home_to stack (suc levels) (Device device) sector ≡ home_to stack levels step.to step.at
 unfolding home_to
-home_suc stack levels device sector step = ap (λ (b : Below). by_below b nowhere nowhere (λ to at. home_to stack levels to at)) (step.is (λ snapshot place. IsError))
+home_suc stack levels device sector step = ap (λ (b : Below). by_below b nowhere nowhere (λ to at. home_to stack levels to at)) (step.is (λ snapshot sector. IsError))
 
 store_touches : (stack : Description) (state : State) (levels : ℕ) (lower : Lower) (sector : ℕ) → IsSound stack → is_store_to stack levels lower ≡ true → sector < lower_len stack lower
     → Touches stack state (node lower sector) (home_node (home_to stack levels lower sector))
@@ -53,8 +53,8 @@ pub touch_up : (stack : Description) (state : State) (a : Node) (device sector :
 touch_up stack state a device sector lower at sound fitting tidy free step touches = elim (back stack state a (node lower at) touches) [
   | Here e ↦ absurd (free_of (ap (λ (n : Node). n.lower) e))
   | Before c before leads ↦
-      let is = back_line stack state device sector leads.device c.sector lower at step.line sound fitting tidy (goes_on_inside stack state leads.device c.sector lower at sound leads.below) step.is step.step
-      (how stack state leads.device c.sector lower at sound leads.below) in
+      let is = only_by_line stack state device sector leads.device c.sector lower at step.line sound fitting tidy (goes_on_inside stack state leads.device c.sector lower at sound leads.below) step.is step.step
+      (read_step stack state leads.device c.sector lower at sound leads.below) in
       subst (λ (n : Node). Touches stack state a n) (node_is c leads.device device c.sector sector leads.on is.device refl is.sector) before
 ]
   where
@@ -71,7 +71,7 @@ home_touched stack state a (suc levels) (Device device) sector sound fitting tid
     let step = below_store stack levels device sector sound store inside in
     let later = home_touched stack state a levels step.to step.at sound fitting tidy free step.store step.inside
     (subst (λ (h : Home). Touches stack state a (home_node h)) (home_suc stack levels device sector step) touches) in
-    touch_up stack state a device sector step.to step.at sound fitting tidy free (line_step stack device sector step.to step.at (λ held is. store_line stack levels device sector held store is) (step.is (λ snapshot place. IsError))) later
+    touch_up stack state a device sector step.to step.at sound fitting tidy free (line_step stack device sector step.to step.at (λ held is. store_line stack levels device sector held store is) (step.is (λ snapshot sector. IsError))) later
 
 -- sectors of a store have homes of their own
 pub homes_apart : (stack : Description) (state : State) (device : ℕ) (snapshot : FoundSnapshot) (x y : ℕ) → IsSound stack → IsFitting stack state → IsTidy stack → snapshot_at stack device ≡ Some snapshot
@@ -85,14 +85,14 @@ homes_apart stack state device snapshot x y sound fitting tidy over x_in y_in sa
 
 -- the place of a number that isn't taken is touched by no way from a root
 pub fresh_apart : (stack : Description) (state : State) (a : Node) (device : ℕ) (snapshot : FoundSnapshot) (x : ℕ) → IsSound stack → IsFitting stack state → IsTidy stack → snapshot_at stack device ≡ Some snapshot → IsRoot stack a.lower
-    → x < lower_len stack snapshot.store → ((t i : ℕ) → number_in (t / snapshot.chunk) (taken_at state device).chunks ≡ Some i → x ≡ kept_at snapshot i t → ⊥) → Touches stack state a (home_node (home stack snapshot.store x)) → ⊥
+    → x < lower_len stack snapshot.store → ((t i : ℕ) → number_in (t / snapshot.chunk) (taken_at state device).chunks ≡ Some i → x ≡ store_sector snapshot i t → ⊥) → Touches stack state a (home_node (home stack snapshot.store x)) → ⊥
 fresh_apart stack state a device snapshot x sound fitting tidy over root x_in fresh touches =
     let store = (snapshot_sound stack device snapshot sound over).soundly.store in
     let up = home_touched stack state a MOST_DEPTH snapshot.store x sound fitting tidy root.lines store x_in touches in
     elim (back stack state a (node snapshot.store x) up) [
       | Here e ↦ root.stores.none device snapshot over (ap (λ (n : Node). n.lower) e)
       | Before c before leads ↦
-          let kept = back_store stack state device leads.device c.sector x snapshot sound fitting tidy (goes_on_inside stack state leads.device c.sector snapshot.store x sound leads.below) over x_in
-          (how stack state leads.device c.sector snapshot.store x sound leads.below) in
+          let kept = only_by_store stack state device leads.device c.sector x snapshot sound fitting tidy (goes_on_inside stack state leads.device c.sector snapshot.store x sound leads.below) over x_in
+          (read_step stack state leads.device c.sector snapshot.store x sound leads.below) in
           fresh c.sector kept.number kept.is kept.sector
     ]

@@ -40,7 +40,7 @@ use Rattle.dm_map.specs.Reads.{by_below, read_below, read_unit}
 use Rattle.dm_map.specs.Homes.{AreHomesFreeOfLevels, home_to, nowhere}
 use Rattle.dm_map.specs.Mapping.{write_line, write_target, write_step, IsFreeOfLevels}
 use Rattle.dm_map.proofs.Rows.{and_then_at}
-use Rattle.dm_map.proofs.Stripes.{at_place}
+use Rattle.dm_map.proofs.Stripes.{at_index}
 
 -- What lies below a device is among what it names
 
@@ -70,7 +70,7 @@ on_columns stack P share (column ∷ columns) each =
 on_column : (P : ℕ → Type 0) (columns : List FoundColumn) (i sector : ℕ) (found : Option FoundColumn) → AllByRecursion (λ column. OnLower P column.to) columns → slice_get columns i ≡ found → OnBelow P (below_column found sector)
 unfolding OnBelow
 on_column P columns i sector None each e = tt
-on_column P columns i sector (Some column) each e = at_place (λ c. OnLower P c.to) columns i column each e
+on_column P columns i sector (Some column) each e = at_index (λ c. OnLower P c.to) columns i column each e
 
 -- a snapshot goes on in its store or its origin, where it goes on
 unfoldable pub GoesOn : (over : FoundSnapshot → ℕ → Below) (P : ℕ → Type 0) → Type 0
@@ -205,9 +205,9 @@ none_at kind bad id (suc i) (device ∷ devices) e below =
 
 pub shallow : (stack : Description) (device : ℕ) → IsSound stack → device < length stack.devices → depth_of stack device ≤ MOST_DEPTH
 shallow stack device sound there =
-    let place : 0 + device ≡ device = omega arith in
+    let position : 0 + device ≡ device = omega arith in
     let passes = none_at _ (λ id. nat_lt MOST_DEPTH (depth_of stack id)) 0 device stack.devices (passes_all stack sound).shallow there in
-    ltb-false MOST_DEPTH (depth_of stack device) (subst (λ (id : ℕ). nat_lt MOST_DEPTH (depth_of stack id) ≡ false) place passes)
+    ltb-false MOST_DEPTH (depth_of stack device) (subst (λ (id : ℕ). nat_lt MOST_DEPTH (depth_of stack id) ≡ false) position passes)
 
 shallow_at : (stack : Description) (device levels : ℕ) → IsSound stack → device < length stack.devices → depth_of stack device ≤ levels → IsShallow (links stack) (suc MOST_DEPTH) levels MOST_DEPTH device
 shallow_at stack device levels sound there enough =
@@ -227,7 +227,7 @@ writes_free stack sound = record {
 
 -- The homes at two numbers of levels
 
-over_none : (P : ℕ → Type 0) → GoesOn (λ snapshot place. IsError) P
+over_none : (P : ℕ → Type 0) → GoesOn (λ snapshot sector. IsError) P
 unfolding GoesOn OnBelow
 over_none P snapshot sector store origin = tt
 
@@ -238,8 +238,8 @@ same_home stack zero j k (Device device) sector h = absurd (omega (arith, h.seen
 same_home stack (suc n) zero k (Device device) sector h = absurd (some_level (links stack) n k device h.first)
 same_home stack (suc n) (suc j) zero (Device device) sector h = absurd (some_level (links stack) n j device h.second)
 same_home stack (suc n) (suc j) (suc k) (Device device) sector h =
-    same_below (IsShallow (links stack) n j k) (below (λ snapshot place. IsError) stack device sector) nowhere nowhere (λ to s. home_to stack j to s) (λ to s. home_to stack k to s)
-    (on_below (λ snapshot place. IsError) stack (IsShallow (links stack) n j k) device sector (over_none (IsShallow (links stack) n j k)) (named_shallow (links stack) n j k device h)) (λ to s on. same_home stack n j k to s on)
+    same_below (IsShallow (links stack) n j k) (below (λ snapshot sector. IsError) stack device sector) nowhere nowhere (λ to s. home_to stack j to s) (λ to s. home_to stack k to s)
+    (on_below (λ snapshot sector. IsError) stack (IsShallow (links stack) n j k) device sector (over_none (IsShallow (links stack) n j k)) (named_shallow (links stack) n j k device h)) (λ to s on. same_home stack n j k to s on)
 
 pub homes_free : (stack : Description) → IsSound stack → AreHomesFreeOfLevels stack
 unfolding OnLower

@@ -1,4 +1,4 @@
-pub mod Back
+pub mod UniqueSteps
 pub mod BlockLemmas
 pub mod Bounds
 pub mod ChunkCopies
@@ -7,10 +7,10 @@ pub mod Depths
 pub mod FoundLines
 pub mod GrowLemmas
 pub mod HomeLemmas
-pub mod How
+pub mod ReadSteps
 pub mod LevelLemmas
 pub mod Losses
-pub mod Made
+pub mod ChunkOutcomes
 pub mod Numbers
 pub mod OneLevel
 pub mod OriginParts
@@ -20,11 +20,11 @@ pub mod OwnWrites
 pub mod Paths
 pub mod Plays
 pub mod Ranges
-pub mod Readies
+pub mod ChunkTaking
 pub mod RingLemmas
 pub mod Rows
 pub mod RunLemmas
-pub mod Runs
+pub mod TakenInARow
 pub mod Served
 pub mod ServedRuns
 pub mod Settled
@@ -34,9 +34,9 @@ pub mod Stores
 pub mod Stripes
 pub mod TableLemmas
 pub mod Takes
-pub mod There
+pub mod InStack
 pub mod UnitRows
-pub mod Vias
+pub mod StepClaims
 pub mod WalkedOn
 pub mod WayLemmas
 pub mod WithinPlaces

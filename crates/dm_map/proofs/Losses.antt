@@ -16,7 +16,7 @@ use Rattle.dm_map.specs.Snapshots.{read_over}
 use Rattle.dm_map.specs.SnapshotWrites.{lost, put}
 use Rattle.dm_map.specs.State.{State, Taken, taken_at}
 use Rattle.dm_map.proofs.OneLevel.{by_depth, next_depth, read_disk}
-use Rattle.dm_map.proofs.Readies.{taken_other, taken_same}
+use Rattle.dm_map.proofs.ChunkTaking.{taken_other, taken_same}
 use Rattle.dm_map.proofs.Takes.{content_down, next_same}
 
 -- What stays, or is an error, twice

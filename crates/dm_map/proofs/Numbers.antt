@@ -8,14 +8,14 @@ use Rattle.std.proofs.lemmas.Nat.{div-add-mod'}
 use Rattle.dm_stack.specs.StoreLayout.{place}
 use Rattle.dm_stack.specs.declared.found_line.FoundSnapshot.{FoundSnapshot}
 use Rattle.dm_stack.proofs.StoreLayoutLemmas.{place_one}
-use Rattle.dm_map.specs.Snapshots.{kept_at, number_in}
+use Rattle.dm_map.specs.Snapshots.{store_sector, number_in}
 
 none_parts : (b : Bool) (o : Option ℕ) → cond b (Some 0) (option_map suc o) ≡ None → (b ≡ false) × (o ≡ None)
 none_parts true o e = absurd cc
 none_parts false None e = (refl, refl)
 none_parts false (Some j) e = absurd cc
 
--- a chunk that isn't among the first ones is at this place, or not there either
+-- a chunk that isn't among the chunks before this number has this number, or none
 pub number_here : (c : ℕ) (xs : List ℕ) (i d : ℕ) → number_in c (take i xs) ≡ None → i < length xs → get_or xs i d ≡ c → number_in c xs ≡ Some i
 number_here c [] i d none below is = absurd (omega arith)
 number_here c (x ∷ xs) zero d none below is = rw (eq-eqb x c is) refl
@@ -117,7 +117,7 @@ of_chunk c m u some is =
     let rest : u % m < m = omega (arith, some) in
     (omega (arith, whole, same, rest), omega (arith, whole, same, rest))
 
--- a sector of stripes is told by its column and its place there
+-- one column and one sector of that column are one sector of the striped line
 pub stripe_back : (chunk n o : ℕ) → 0 < chunk → ((o / chunk / n * chunk + o % chunk) / chunk * n + o / chunk % n) * chunk + (o / chunk / n * chunk + o % chunk) % chunk ≡ o
 stripe_back chunk n o some =
     let q = o / chunk / n in
@@ -136,13 +136,13 @@ stripe_back chunk n o some =
 
 -- The sectors of a store
 
-pub kept_parts : (snapshot : FoundSnapshot) (i j s t : ℕ) → 0 < snapshot.chunk → kept_at snapshot i s ≡ kept_at snapshot j t → (i ≡ j) × (s % snapshot.chunk ≡ t % snapshot.chunk)
+pub kept_parts : (snapshot : FoundSnapshot) (i j s t : ℕ) → 0 < snapshot.chunk → store_sector snapshot i s ≡ store_sector snapshot j t → (i ≡ j) × (s % snapshot.chunk ≡ t % snapshot.chunk)
 kept_parts snapshot i j s t some e =
     let parts = same_parts (place snapshot.kind snapshot.chunk i) (s % snapshot.chunk) (place snapshot.kind snapshot.chunk j) (t % snapshot.chunk) snapshot.chunk e (omega (arith, some)) (omega (arith, some)) in
     (place_one snapshot.kind snapshot.chunk i j parts.0, parts.1)
 
--- one number and one place in the chunk are one sector
-pub same_sector : (snapshot : FoundSnapshot) (chunks : List ℕ) (i j s u : ℕ) → 0 < snapshot.chunk → number_in (s / snapshot.chunk) chunks ≡ Some i → number_in (u / snapshot.chunk) chunks ≡ Some j → kept_at snapshot i s ≡ kept_at snapshot j u → u ≡ s
+-- one number and one distance into the chunk are one sector
+pub same_sector : (snapshot : FoundSnapshot) (chunks : List ℕ) (i j s u : ℕ) → 0 < snapshot.chunk → number_in (s / snapshot.chunk) chunks ≡ Some i → number_in (u / snapshot.chunk) chunks ≡ Some j → store_sector snapshot i s ≡ store_sector snapshot j u → u ≡ s
 same_sector snapshot chunks i j s u some a b e =
     let parts = kept_parts snapshot i j s u some e in
     let whole_s : s / snapshot.chunk * snapshot.chunk + s % snapshot.chunk ≡ s = div-add-mod' s snapshot.chunk in
@@ -154,5 +154,5 @@ same_sector snapshot chunks i j s u some a b e =
 rest_below : (len m q r : ℕ) → r < m → (q + 1) * m ≤ len → q * m + r < len
 rest_below len m q r less most = let one : (q + 1) * m ≡ q * m + m = grind arith in omega (arith, less, most, one)
 
-pub kept_inside : (snapshot : FoundSnapshot) (i s len : ℕ) → 0 < snapshot.chunk → (place snapshot.kind snapshot.chunk i + 1) * snapshot.chunk ≤ len → kept_at snapshot i s < len
-kept_inside snapshot i s len some most = rest_below len snapshot.chunk (place snapshot.kind snapshot.chunk i) (s % snapshot.chunk) (omega (arith, some)) most
+pub store_sector_inside : (snapshot : FoundSnapshot) (i s len : ℕ) → 0 < snapshot.chunk → (place snapshot.kind snapshot.chunk i + 1) * snapshot.chunk ≤ len → store_sector snapshot i s < len
+store_sector_inside snapshot i s len some most = rest_below len snapshot.chunk (place snapshot.kind snapshot.chunk i) (s % snapshot.chunk) (omega (arith, some)) most

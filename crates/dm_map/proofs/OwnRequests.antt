@@ -20,10 +20,10 @@ use Rattle.dm_map.specs.State.{State, start_state}
 use Rattle.dm_map.specs.Steps.{Step, keep, steps}
 use Rattle.dm_map.specs.Units.{BlockUnit, ReadOf, WriteOf, Fails, CopyOf, FillOf}
 use Rattle.dm_map.proofs.Losses.{stays_as, stays_on}
-use Rattle.dm_map.proofs.Made.{IsRead, Sector, Nothing, Fault, is_read}
+use Rattle.dm_map.proofs.ChunkOutcomes.{IsRead, Sector, Nothing, Fault, is_read}
 use Rattle.dm_map.proofs.OwnWrites.{own_write, start_fits}
 use Rattle.dm_map.proofs.Plays.{past-append, played_on, stored_other, stored_same}
-use Rattle.dm_map.proofs.Runs.{all_front}
+use Rattle.dm_map.proofs.TakenInARow.{all_front}
 
 -- Units before the one that answers
 
@@ -114,15 +114,15 @@ last_own {V = V} zeros written stack state top sector step values rows w own (St
 last_own {V = V} zeros written stack state top sector step values rows w own (WritesTo disk at is) =
     subst (λ (unit : BlockUnit). AreOwn zeros stack step.state (played_unit zeros (written sector) unit values) (row_unit (written sector) top sector unit rows)) (sym is) (record {
       fits = own.fits;
-      tops = λ other place other_top. elim (same_or_not other place top sector) [
+      tops = λ other other_sector other_top. elim (same_or_not other other_sector top sector) [
         | inl same ↦ rw (same.0, same.1) (inl (
             ap (value_read zeros (stored values disk at (written sector))) (w.reads disk at is)
             ∙ ap Some (stored_same values disk at (written sector))
             ∙ sym (stored_same rows top sector (Some (written sector)))))
         | inr differ ↦ stays_as _ _ _ _
-            (stored_other rows top sector other place (Some (written sector)) (λ e. differ (sym (ap (λ (h : Home). h.disk) e), sym (ap (λ (h : Home). h.sector) e))))
-            (value_other zeros values disk at (written sector) (read stack step.state (Device other) place) (λ e. differ (w.alone disk at other place is other_top e)))
-            (own.tops other place other_top)
+            (stored_other rows top sector other other_sector (Some (written sector)) (λ e. differ (sym (ap (λ (h : Home). h.disk) e), sym (ap (λ (h : Home). h.sector) e))))
+            (value_other zeros values disk at (written sector) (read stack step.state (Device other) other_sector) (λ e. differ (w.alone disk at other other_sector is other_top e)))
+            (own.tops other other_sector other_top)
       ];
     })
 
@@ -159,7 +159,7 @@ write_own {V = V} zeros written stack state top sector values rows sound tidy is
     let middle = played zeros written sector w.front values in
     let before : AreOwn zeros stack step.state middle rows = record {
       fits = w.fits;
-      tops = λ other place other_top. stays_on _ _ _ (own.tops other place other_top) (w.kept values other place other_top);
+      tops = λ other other_sector other_top. stays_on _ _ _ (own.tops other other_sector other_top) (w.kept values other other_sector other_top);
     } in
     let split : (vs : List BlockUnit) → step.units ++ vs ≡ w.front ++ w.last ∷ vs = λ vs. ap (λ (us : List BlockUnit). us ++ vs) w.units ∙ append_assoc w.front (w.last ∷ []) vs in
     let parts : (n : ℕ) → w.front ≡ take n w.front ++ drop n w.front = λ n. sym (take-append-drop n w.front) in
@@ -174,8 +174,8 @@ write_own {V = V} zeros written stack state top sector values rows sound tidy is
       past = λ vs at. ap (λ (us : List BlockUnit). sector_past us at) (split vs) ∙ past_on w.front (w.last ∷ vs) at w.moves ∙ past_first w.last vs at w.answered;
       torn = λ n below. subst (λ (us : List BlockUnit). AreOwn zeros stack state (played zeros written sector us values) (rows_played written top sector us rows)) (sym (fewer w.front w.last step.units n w.units below)) (record {
         fits = own.fits;
-        tops = λ other place other_top. stays_as _ _ _ _ (ap (λ (r : Rows V). r other place) (rows_moved written top sector (take n w.front) rows (moves n))) (w.torn values (take n w.front) (drop n w.front) (parts n) other place other_top)
-            (own.tops other place other_top);
+        tops = λ other other_sector other_top. stays_as _ _ _ _ (ap (λ (r : Rows V). r other other_sector) (rows_moved written top sector (take n w.front) rows (moves n))) (w.torn values (take n w.front) (drop n w.front) (parts n) other other_sector other_top)
+            (own.tops other other_sector other_top);
       });
       none = λ n at below. ap (λ (us : List BlockUnit). sector_past us at) (fewer w.front w.last step.units n w.units below) ∙ past_moved (take n w.front) at (moves n);
     }
@@ -247,4 +247,4 @@ request_own {V = V} zeros written stack op state top start len values rows sound
     by_end false = inside_own zeros written stack op state top start len values rows sound tidy is_top own
 
 pub first_own : {V : Type 0} (zeros : V) (stack : Description) (values : Values V) → AreOwn zeros stack (start_state stack) values (first_rows zeros stack values)
-first_own zeros stack values = record { fits = start_fits stack; tops = λ top place is_top. inl refl }
+first_own zeros stack values = record { fits = start_fits stack; tops = λ top other_sector is_top. inl refl }

@@ -13,10 +13,10 @@ use Rattle.dm_map.specs.State.{State, Taken, none_taken, start_state, taken_at}
 use Rattle.dm_map.specs.Steps.{Step}
 use Rattle.dm_map.specs.Units.{BlockUnit}
 use Rattle.dm_map.specs.Ways.{Node, node, Touches}
-use Rattle.dm_map.proofs.Back.{top_back, top_root, top_unserved}
-use Rattle.dm_map.proofs.How.{how}
+use Rattle.dm_map.proofs.UniqueSteps.{no_step_to_top, top_root, top_unserved}
+use Rattle.dm_map.proofs.ReadSteps.{read_step}
 use Rattle.dm_map.proofs.Losses.{stays_as}
-use Rattle.dm_map.proofs.Runs.{IsFresh, all_front, all_moves, fresh_stays, grown_same, ran, run, run_stays}
+use Rattle.dm_map.proofs.TakenInARow.{IsFresh, all_front, all_moves, fresh_stays, grown_same, ran, run, run_stays}
 use Rattle.dm_map.proofs.WayLemmas.{Here, Before, back, read_touches}
 use Rattle.dm_map.proofs.Written.{written}
 
@@ -24,7 +24,7 @@ use Rattle.dm_map.proofs.Written.{written}
 top_touched : (stack : Description) (state : State) (a : Node) (top sector : ℕ) → IsSound stack → IsTop stack top → Touches stack state a (node (Device top) sector) → a ≡ node (Device top) sector
 top_touched stack state a top sector sound is_top touches = elim (back stack state a (node (Device top) sector) touches) [
   | Here e ↦ e
-  | Before c before leads ↦ absurd (top_back stack state top leads.device c.sector sector sound is_top (how stack state leads.device c.sector (Device top) sector sound leads.below))
+  | Before c before leads ↦ absurd (no_step_to_top stack state top leads.device c.sector sector sound is_top (read_step stack state leads.device c.sector (Device top) sector sound leads.below))
 ]
 
 device_is : (a b : ℕ) → Device a ≡ Device b → a ≡ b
@@ -44,16 +44,16 @@ own_write {V = V} zeros value stack state top sector sound tidy fitting is_top =
       moves = all_moves stack state us r.fresh;
       answered = w.answered;
       fits = subst (λ (x : State). IsFitting stack x) (sym state_is) r.fits;
-      torn = λ values some rest whole other place other_top.
-          fresh_stays zeros value sector stack state (Device other) place some values sound (top_root stack other sound other_top)
+      torn = λ values some rest whole other other_sector other_top.
+          fresh_stays zeros value sector stack state (Device other) other_sector some values sound (top_root stack other sound other_top)
           (all_front (IsFresh stack state) some rest (subst (λ (vs : List BlockUnit). AllByRecursion (IsFresh stack state) vs) whole r.fresh));
-      kept = λ values other place other_top.
-          stays_as _ _ _ _ refl (ap (λ (x : State). content zeros stack x (played zeros value sector us values) (Device other) place) state_is)
-          (run_stays zeros value sector stack state w.events values (Device other) place sound fitting tidy w.each (top_root stack other sound other_top));
+      kept = λ values other other_sector other_top.
+          stays_as _ _ _ _ refl (ap (λ (x : State). content zeros stack x (played zeros value sector us values) (Device other) other_sector) state_is)
+          (run_stays zeros value sector stack state w.events values (Device other) other_sector sound fitting tidy w.each (top_root stack other sound other_top));
       reads = λ disk at last_is. w.reads disk at last_is;
-      alone = λ disk at other place last_is other_top is.
-          let up = w.alone disk at (node (Device other) place) last_is (top_root stack other sound other_top) (top_unserved stack other sound other_top) (read_touches stack step.state (Device other) place disk at sound is) in
-          let same = top_touched stack step.state (node (Device other) place) top sector sound is_top up in
+      alone = λ disk at other other_sector last_is other_top is.
+          let up = w.alone disk at (node (Device other) other_sector) last_is (top_root stack other sound other_top) (top_unserved stack other sound other_top) (read_touches stack step.state (Device other) other_sector disk at sound is) in
+          let same = top_touched stack step.state (node (Device other) other_sector) top sector sound is_top up in
           (device_is other top (ap (λ (n : Node). n.lower) same), ap (λ (n : Node). n.sector) same);
     }
 

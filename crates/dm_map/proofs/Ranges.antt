@@ -10,13 +10,13 @@ use Rattle.dm_stack.specs.declared.found_line.FoundOrigin.{FoundOrigin}
 use Rattle.dm_stack.specs.declared.found_line.FoundTarget.TheVariants as found
 use Rattle.dm_stack.specs.Description.{Description}
 use Rattle.dm_stack.specs.Below.{Below, Lies, IsZero, IsError, below_stripes, found_at}
-use Rattle.dm_map.specs.declared.stripe.ChunkPlace.{ChunkPlace}
+use Rattle.dm_map.specs.declared.stripe.StripePosition.{StripePosition}
 use Rattle.dm_map.specs.State.{State}
 use Rattle.dm_map.specs.Steps.{Step, keep}
 use Rattle.dm_map.specs.Units.{ReadOf, WriteOf, Zeros, Fails, next_unit, units_in}
 use Rattle.dm_map.specs.Reads.{by_below, read_unit}
 use Rattle.dm_map.specs.Mapping.{sector_step, write_step}
-use Rattle.dm_map.specs.Walk.{disk_unit, zero_unit, below_step, refuses, range_step, target_step, line_step, origin_step, served_sector, stripes_step, IsPlace}
+use Rattle.dm_map.specs.Walk.{disk_unit, zero_unit, below_step, refuses, range_step, target_step, line_step, origin_step, served_sector, stripes_step, IsStripePosition}
 use Rattle.dm_map.proofs.Rows.{steps_same, steps_still}
 use Rattle.dm_map.proofs.Stripes.{below_chunk}
 
@@ -91,7 +91,7 @@ stripes_sector stack ops.Write levels device chunk columns distance state = refl
 
 pub line_striped : (stack : Description) (op : Op) (levels device chunk : ℕ) (columns : List FoundColumn) (distance n : ℕ) (state : State) → line_step stack op levels device (found.Striped chunk columns) state distance n ≡ stripes_step stack op levels chunk columns state distance n
 line_striped stack op levels device chunk columns distance n state =
-    steps_same (target_step stack op levels device (found.Striped chunk columns)) (λ after place. below_step stack op levels (below_stripes chunk columns place) after) state distance distance n
+    steps_same (target_step stack op levels device (found.Striped chunk columns)) (λ after position. below_step stack op levels (below_stripes chunk columns position) after) state distance distance n
     (λ after i within. stripes_sector stack op levels device chunk columns (distance + i) after)
 
 zeros_sector : (stack : Description) (op : Op) (levels device distance : ℕ) (state : State) → target_step stack op levels device found.Zero state distance ≡ keep (zero_unit op ∷ []) state
@@ -122,9 +122,9 @@ pub origin_read : (stack : Description) (levels : ℕ) (origin : FoundOrigin) (s
 origin_read stack levels origin sector n state = steps_same (served_sector stack ops.Read levels origin) (sector_step stack ops.Read levels origin.to) state sector sector n (λ after i within. refl)
 
 -- what is left of a chunk is a range of its column
-pub stripes_chunk : (stack : Description) (op : Op) (levels chunk distance n : ℕ) (columns : List FoundColumn) (state : State) (column : FoundColumn) (place : ChunkPlace) → 0 < length columns → 0 < chunk → IsPlace chunk (length columns) distance place
-    → n ≤ chunk - place.past → column ≡ get_or columns place.column column
-    → stripes_step stack op levels chunk columns state distance n ≡ range_step stack op levels column.to state (column.offset + (place.chunk_start + place.past)) n
-stripes_chunk stack op levels chunk distance n columns state column place some chunk_some at most is =
-    steps_same (λ after d. below_step stack op levels (below_stripes chunk columns d) after) (sector_step stack op levels column.to) state distance (column.offset + (place.chunk_start + place.past)) n
-    (λ after i within. ap (λ (b : Below). below_step stack op levels b after) (below_chunk chunk distance i columns column place some chunk_some at (omega (arith, within, most)) is))
+pub stripes_chunk : (stack : Description) (op : Op) (levels chunk distance n : ℕ) (columns : List FoundColumn) (state : State) (column : FoundColumn) (position : StripePosition) → 0 < length columns → 0 < chunk → IsStripePosition chunk (length columns) distance position
+    → n ≤ chunk - position.past → column ≡ get_or columns position.column column
+    → stripes_step stack op levels chunk columns state distance n ≡ range_step stack op levels column.to state (column.offset + (position.chunk_start + position.past)) n
+stripes_chunk stack op levels chunk distance n columns state column position some chunk_some at most is =
+    steps_same (λ after d. below_step stack op levels (below_stripes chunk columns d) after) (sector_step stack op levels column.to) state distance (column.offset + (position.chunk_start + position.past)) n
+    (λ after i within. ap (λ (b : Below). below_step stack op levels b after) (below_chunk chunk distance i columns column position some chunk_some at (omega (arith, within, most)) is))

@@ -12,7 +12,7 @@ use Rattle.dm_map.specs.Sink.{OfBeginning}
 use Rattle.dm_map.specs.State.{State}
 use Rattle.dm_map.specs.Steps.{Step, keep, and_then, steps}
 use Rattle.dm_map.specs.Mapping.{request_step}
-use Rattle.dm_map.specs.Walk.{Walking, IsWalked}
+use Rattle.dm_map.specs.Walk.{WalkerView, IsWalked}
 
 -- Counts that only searches were added to
 
@@ -47,12 +47,12 @@ on_ok_then (Ok x) P Q f p = f p
 on_ok_then (Err e) P Q f p = tt
 
 -- a walk whose step is said in another way
-pub walked_as : {S F : Type 0} (took left : S → List BlockUnit → S → Type 0) (stack : S → Description) (room faults : S → ℕ) (result : Result (Unit {0}) F) (old new : S) (before after : Walking) (step other : Step) (len : ℕ) → step ≡ other
+pub walked_as : {S F : Type 0} (took left : S → List BlockUnit → S → Type 0) (stack : S → Description) (room faults : S → ℕ) (result : Result (Unit {0}) F) (old new : S) (before after : WalkerView) (step other : Step) (len : ℕ) → step ≡ other
     → IsWalked took left stack room faults result old new before after step len → IsWalked took left stack room faults result old new before after other len
 walked_as took left stack room faults result old new before after step other len same walked = subst (λ (x : Step). IsWalked took left stack room faults result old new before after x len) same walked
 
 -- one piece as a walk
-pub walked_piece : {S F : Type 0} (took left : S → List BlockUnit → S → Type 0) (stack : S → Description) (room faults : S → ℕ) (result : Result (Unit {0}) F) (old new : S) (walk : Walking) (units : List BlockUnit) (step : Step) (diskless len : ℕ)
+pub walked_piece : {S F : Type 0} (took left : S → List BlockUnit → S → Type 0) (stack : S → Description) (room faults : S → ℕ) (result : Result (Unit {0}) F) (old new : S) (walk : WalkerView) (units : List BlockUnit) (step : Step) (diskless len : ℕ)
     → keep units walk.state ≡ step → diskless ≤ len → OnOk result (took old units new) → OnErr result (left old units new) → faults new ≡ faults old + fault_of result → OnOk result (stack new ≡ stack old) → OnOk result (room old ≤ room new + diskless)
     → IsWalked took left stack room faults result old new walk walk step len
 walked_piece took left stack room faults result old new walk units step diskless len same few took_is left_is faults_is kept_is room_is =
@@ -68,13 +68,13 @@ walked_piece took left stack room faults result old new walk units step diskless
     })
 
 -- a walk that the sink cut short
-pub walked_cut : {S F : Type 0} (took left : S → List BlockUnit → S → Type 0) (stack : S → Description) (room faults : S → ℕ) (result : Result (Unit {0}) F) (old new : S) (before after : Walking) (step : Step) (len : ℕ)
+pub walked_cut : {S F : Type 0} (took left : S → List BlockUnit → S → Type 0) (stack : S → Description) (room faults : S → ℕ) (result : Result (Unit {0}) F) (old new : S) (before after : WalkerView) (step : Step) (len : ℕ)
     → IsErr result → OfBeginning left old step.units new → faults new ≡ faults old + 1 → after.stack ≡ before.stack → AreAdded before.looked after.looked → IsWalked took left stack room faults result old new before after step len
 walked_cut took left stack room faults (Ok done) old new before after step len is_err cut one same looked = absurd cc
 walked_cut took left stack room faults (Err fault) old new before after step len is_err cut one same looked = record { took = tt; state = tt; kept = tt; room = tt; left = cut; faults = one; stack = same; looked = looked }
 
 -- a walk after another one, which took its units
-pub walked_then : {S F : Type 0} (took left : S → List BlockUnit → S → Type 0) (stack : S → Description) (room faults : S → ℕ) (result : Result (Unit {0}) F) (old middle new : S) (before between after : Walking) (first second : Step) (next : State → Step) (m n : ℕ)
+pub walked_then : {S F : Type 0} (took left : S → List BlockUnit → S → Type 0) (stack : S → Description) (room faults : S → ℕ) (result : Result (Unit {0}) F) (old middle new : S) (before between after : WalkerView) (first second : Step) (next : State → Step) (m n : ℕ)
     → ((a b c : S) (us vs : List BlockUnit) → took a us b → took b vs c → took a (us ++ vs) c) → ((a b c : S) (us vs : List BlockUnit) → took a us b → left b vs c → left a (us ++ vs) c)
     → took old first.units middle → next first.state ≡ second → m ≤ n → stack middle ≡ stack old → room old ≤ room middle → faults middle ≡ faults old → between.stack ≡ before.stack → AreAdded before.looked between.looked
     → IsWalked took left stack room faults result middle new between after second m → IsWalked took left stack room faults result old new before after (and_then first next) n

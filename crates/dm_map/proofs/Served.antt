@@ -12,21 +12,21 @@ use Rattle.dm_stack.specs.Soundness.{IsSound}
 use Rattle.dm_stack.specs.declared.found_line.FoundSnapshot.{FoundSnapshot}
 use Rattle.dm_stack.specs.declared.found_line.FoundOver.{FoundOver}
 use Rattle.dm_map.specs.Serving.{AreSettled, IsOver, serve, served_step}
-use Rattle.dm_map.specs.SnapshotWrites.{is_settled, ready}
+use Rattle.dm_map.specs.SnapshotWrites.{is_settled, take_chunk}
 use Rattle.dm_map.specs.State.{State, Taken, taken_at}
 use Rattle.dm_map.specs.Steps.{Step, keep, and_then, steps}
 use Rattle.dm_map.specs.Units.{BlockUnit}
-use Rattle.dm_map.specs.Walk.{Walking, IsWalked}
+use Rattle.dm_map.specs.Walk.{WalkerView, IsWalked}
 use Rattle.dm_map.proofs.Chunks.{same_chunk}
 use Rattle.dm_map.proofs.FoundLines.{snapshot_sound}
-use Rattle.dm_map.proofs.Readies.{readied, ready_again, ready_settles}
+use Rattle.dm_map.proofs.ChunkTaking.{chunk_outcome, take_chunk_again, take_chunk_settles}
 use Rattle.dm_map.proofs.Rows.{and_then_at, left_more, step_assoc, walked_as, walked_cut, walked_then}
-use Rattle.dm_map.proofs.Settled.{KeepsSettled, ready_keeps, serve_keeps}
-use Rattle.dm_map.proofs.There.{device_there}
+use Rattle.dm_map.proofs.Settled.{KeepsSettled, take_chunk_keeps, serve_keeps}
+use Rattle.dm_map.proofs.InStack.{device_there}
 use Rattle.dm_map.proofs.WalkedOn.{going_on}
 
-abbrev ready_one : Description → FoundOver → (sector : ℕ) → State → Step
-ready_one stack one sector state = ready stack one.snapshot one.device (sector / one.snapshot.chunk) state
+abbrev take_chunk_one : Description → FoundOver → (sector : ℕ) → State → Step
+take_chunk_one stack one sector state = take_chunk stack one.snapshot one.device (sector / one.snapshot.chunk) state
 
 -- One after another
 
@@ -34,7 +34,7 @@ pub serve_append : (stack : Description) (over more : List FoundOver) (sector : 
 unfolding serve
 serve_append stack [] more sector state = refl
 serve_append stack (one ∷ over) more sector state =
-    let first = ready_one stack one sector state in
+    let first = take_chunk_one stack one sector state in
     and_then_at first (λ after. serve stack (over ++ more) sector after) (λ after. and_then (serve stack over sector after) (λ later. serve stack more sector later)) (serve_append stack over more sector first.state)
     ∙ sym (step_assoc first (λ after. serve stack over sector after) (λ after. serve stack more sector after))
 
@@ -42,12 +42,12 @@ then_nothing : (step : Step) → and_then step (λ after. keep [] after) ≡ ste
 then_nothing step = ap (λ (units : List BlockUnit). record { units = units; state = step.state }) (append-nil step.units)
 
 -- with one more
-pub serve_more : (stack : Description) (over : List FoundOver) (one : FoundOver) (sector : ℕ) (state : State) → serve stack (over ++ one ∷ []) sector state ≡ and_then (serve stack over sector state) (λ after. ready_one stack one sector after)
+pub serve_more : (stack : Description) (over : List FoundOver) (one : FoundOver) (sector : ℕ) (state : State) → serve stack (over ++ one ∷ []) sector state ≡ and_then (serve stack over sector state) (λ after. take_chunk_one stack one sector after)
 unfolding serve
 serve_more stack over one sector state =
     let first = serve stack over sector state in
     serve_append stack over (one ∷ []) sector state
-    ∙ and_then_at first (λ after. serve stack (one ∷ []) sector after) (λ after. ready_one stack one sector after) (then_nothing (ready_one stack one sector first.state))
+    ∙ and_then_at first (λ after. serve stack (one ∷ []) sector after) (λ after. take_chunk_one stack one sector after) (then_nothing (take_chunk_one stack one sector first.state))
 
 -- What is settled
 
@@ -64,10 +64,10 @@ pub serve_settled : (stack : Description) (over : List FoundOver) (sector : ℕ)
 unfolding serve
 serve_settled stack [] sector state there = tt
 serve_settled stack (one ∷ over) sector state there =
-    let first = ready_one stack one sector state in
+    let first = take_chunk_one stack one sector state in
     let chunk = sector / one.snapshot.chunk in
-    let settled = ready_settles state one.device chunk first there.0 (readied stack one.snapshot one.device chunk state) in
-    let count = (ready_keeps stack one.snapshot one.device chunk state).count in (
+    let settled = take_chunk_settles state one.device chunk first there.0 (chunk_outcome stack one.snapshot one.device chunk state) in
+    let count = (take_chunk_keeps stack one.snapshot one.device chunk state).count in (
       (serve_keeps stack over sector first.state).settled one.device chunk settled,
       serve_settled stack over sector first.state (subst (λ (n : ℕ). AllByRecursion (λ one. one.device < n) over) (sym count) there.1),
     )
@@ -77,7 +77,7 @@ pub served_done : (stack : Description) (over : List FoundOver) (sector : ℕ) (
 unfolding serve
 served_done stack [] sector state settled = refl
 served_done stack (one ∷ over) sector state settled =
-    ap (λ (step : Step). and_then step (λ after. serve stack over sector after)) (ready_again stack one.snapshot one.device (sector / one.snapshot.chunk) state settled.0)
+    ap (λ (step : Step). and_then step (λ after. serve stack over sector after)) (take_chunk_again stack one.snapshot one.device (sector / one.snapshot.chunk) state settled.0)
     ∙ served_done stack over sector state settled.1
 
 -- A range
@@ -144,19 +144,19 @@ over_there stack state len (one ∷ over) count some all =
 
 -- those before were served, and then one more
 pub served_on : {S F : Type 0} (took left : S → List BlockUnit → S → Type 0) (stack : S → Description) (room faults : S → ℕ) (both : (a b c : S) (us vs : List BlockUnit) → took a us b → took b vs c → took a (us ++ vs) c)
-    (cut : (a b c : S) (us vs : List BlockUnit) → took a us b → left b vs c → left a (us ++ vs) c) (result : Result (Unit {0}) F) (old middle new : S) (before between after : Walking) (over : List FoundOver) (i sector : ℕ) (one : FoundOver) → i < length over → one ≡ get_or over i one
-    → IsWalked took left stack room faults going_on old middle before between (serve before.stack (take i over) sector before.state) 0 → IsWalked took left stack room faults result middle new between after (ready_one between.stack one sector between.state) 0
+    (cut : (a b c : S) (us vs : List BlockUnit) → took a us b → left b vs c → left a (us ++ vs) c) (result : Result (Unit {0}) F) (old middle new : S) (before between after : WalkerView) (over : List FoundOver) (i sector : ℕ) (one : FoundOver) → i < length over → one ≡ get_or over i one
+    → IsWalked took left stack room faults going_on old middle before between (serve before.stack (take i over) sector before.state) 0 → IsWalked took left stack room faults result middle new between after (take_chunk_one between.stack one sector between.state) 0
     → IsWalked took left stack room faults result old new before after (serve before.stack (take (i + 1) over) sector before.state) 0
 served_on took left stack room faults both cut result old middle new before between after over i sector one within is so_far next =
     let first = serve before.stack (take i over) sector before.state in
-    let second = ready_one between.stack one sector between.state in
+    let second = take_chunk_one between.stack one sector between.state in
     let list : take (i + 1) over ≡ take i over ++ one ∷ [] = take_more over i one within ∙ ap (λ (x : FoundOver). take i over ++ x ∷ []) (sym is) in
-    let here : ready_one before.stack one sector first.state ≡ second = ap (λ (s : Description). ready_one s one sector first.state) (sym so_far.stack) ∙ ap (λ (state : State). ready_one between.stack one sector state) (sym so_far.state) in
+    let here : take_chunk_one before.stack one sector first.state ≡ second = ap (λ (s : Description). take_chunk_one s one sector first.state) (sym so_far.stack) ∙ ap (λ (state : State). take_chunk_one between.stack one sector state) (sym so_far.state) in
     walked_as took left stack room faults result old new before after _ _ 0 (sym (ap (λ (xs : List FoundOver). serve before.stack xs sector before.state) list ∙ serve_more before.stack (take i over) one sector before.state))
-    (walked_then took left stack room faults result old middle new before between after first second (λ later. ready_one before.stack one sector later) 0 0 both cut so_far.took here (omega arith) so_far.kept (omega (arith, so_far.room)) (omega (arith, so_far.faults)) so_far.stack so_far.looked next)
+    (walked_then took left stack room faults result old middle new before between after first second (λ later. take_chunk_one before.stack one sector later) 0 0 both cut so_far.took here (omega arith) so_far.kept (omega (arith, so_far.room)) (omega (arith, so_far.faults)) so_far.stack so_far.looked next)
 
 -- or the sink failed at it
-pub served_cut : {S F : Type 0} (took left : S → List BlockUnit → S → Type 0) (stack : S → Description) (room faults : S → ℕ) (fault : F) (result : Result (Unit {0}) F) (old new : S) (before after : Walking) (over : List FoundOver) (i sector : ℕ) → IsErr result
+pub served_cut : {S F : Type 0} (took left : S → List BlockUnit → S → Type 0) (stack : S → Description) (room faults : S → ℕ) (fault : F) (result : Result (Unit {0}) F) (old new : S) (before after : WalkerView) (over : List FoundOver) (i sector : ℕ) → IsErr result
     → IsWalked took left stack room faults (Err fault) old new before after (serve before.stack (take i over) sector before.state) 0 → IsWalked took left stack room faults result old new before after (serve before.stack over sector before.state) 0
 served_cut took left stack room faults fault result old new before after over i sector is_err walk =
     let first = serve before.stack (take i over) sector before.state in

@@ -1,4 +1,4 @@
--- Snapshots that are served, as chunks made ready.
+-- Snapshots that are served, as chunks taken one after the other.
 use Rattle.std.proofs.Common.{◌≡◌, ℕ, ◌/◌, List, [], ◌∷◌, ◌++◌, map, refl, sym, ◌∙◌}
 use Rattle.std.specs.List.{AllByRecursion}
 use Rattle.dm_stack.specs.declared.found_line.FoundOver.{FoundOver}
@@ -7,7 +7,7 @@ use Rattle.dm_map.specs.Serving.{IsOver, serve}
 use Rattle.dm_map.specs.State.{State}
 use Rattle.dm_map.specs.Steps.{and_then}
 use Rattle.dm_map.proofs.Rows.{and_then_at, step_assoc}
-use Rattle.dm_map.proofs.Runs.{Event, IsEvent, ready_by, run}
+use Rattle.dm_map.proofs.TakenInARow.{Event, IsEvent, take_chunk_by, run}
 
 -- the chunk of a sector, of a snapshot
 abbrev pub event_of : (sector : ℕ) → FoundOver → Event
@@ -17,14 +17,14 @@ pub serve_run : (stack : Description) (over : List FoundOver) (sector : ℕ) (st
 unfolding serve run
 serve_run stack [] sector state = refl
 serve_run stack (one ∷ over) sector state =
-    let first = ready_by stack (event_of sector one) state in
+    let first = take_chunk_by stack (event_of sector one) state in
     and_then_at first (λ after. serve stack over sector after) (λ after. run stack (map (event_of sector) over) after) (serve_run stack over sector first.state)
 
 pub run_append : (stack : Description) (events more : List Event) (state : State) → run stack (events ++ more) state ≡ and_then (run stack events state) (λ after. run stack more after)
 unfolding run
 run_append stack [] more state = refl
 run_append stack (e ∷ es) more state =
-    let first = ready_by stack e state in
+    let first = take_chunk_by stack e state in
     and_then_at first (λ after. run stack (es ++ more) after) (λ after. and_then (run stack es after) (λ later. run stack more later)) (run_append stack es more first.state)
     ∙ sym (step_assoc first (λ after. run stack es after) (λ after. run stack more after))
 

@@ -28,9 +28,9 @@ use Rattle.dm_map.specs.Snapshots.{read_over}
 use Rattle.dm_map.specs.State.{State, taken_at}
 use Rattle.dm_map.specs.Stretch.{ground_unit}
 use Rattle.dm_map.specs.Units.{BlockUnit, ReadOf, Zeros, Fails, units_in}
-use Rattle.dm_map.proofs.How.{has_columns}
-use Rattle.dm_map.proofs.Stripes.{at_place, in_column_room}
-use Rattle.dm_map.proofs.There.{device_there}
+use Rattle.dm_map.proofs.ReadSteps.{has_columns}
+use Rattle.dm_map.proofs.Stripes.{at_index, in_column_room}
+use Rattle.dm_map.proofs.InStack.{device_there}
 use Rattle.dm_map.proofs.UnitRows.{row_same}
 
 -- What lies below a sector of a store
@@ -58,16 +58,16 @@ store_columns stack levels share (column ∷ columns) all =
 below_striped : (stack : Description) (levels len chunk : ℕ) (columns : List FoundColumn) (distance : ℕ) → AreStripes stack len chunk columns → AllByRecursion (λ column. is_store_to stack levels column.to ≡ true) columns → distance < len
     → LiesInStore stack levels (λ over. below_column (slice_get columns (column_of chunk (length columns) distance)) (in_column chunk (length columns) distance))
 below_striped stack levels len chunk columns distance stripes stores inside =
-    let count = length columns in let place = column_of chunk count distance in let some = stripes.some in
-    let column = there columns place (omega (arith, some)) in
-    let share = at_place (λ c. c.offset + stripes.column_len ≤ lower_len stack c.to) columns place column.it stripes.inside column.at in
+    let count = length columns in let index = column_of chunk count distance in let some = stripes.some in
+    let column = there columns index (omega (arith, some)) in
+    let share = at_index (λ c. c.offset + stripes.column_len ≤ lower_len stack c.to) columns index column.it stripes.inside column.at in
     let room = in_column_room chunk count stripes.column_len stripes.chunks len distance stripes.chunk_some stripes.some stripes.shares stripes.whole inside in
     let chunk_some = stripes.chunk_some in
     record {
       to = column.it.to;
       at = column.it.offset + in_column chunk count distance;
       is = λ over. ap (λ (c : Option FoundColumn). below_column c (in_column chunk count distance)) column.at;
-      store = at_place (λ c. is_store_to stack levels c.to ≡ true) columns place column.it stores column.at;
+      store = at_index (λ c. is_store_to stack levels c.to ≡ true) columns index column.it stores column.at;
       inside = omega (arith, share, room, chunk_some);
     }
 
@@ -147,7 +147,7 @@ store_read stack state (suc levels) (Device device) sector sound store inside =
     let b = below_store stack levels device sector sound store inside in
     ap (λ (low : Below). by_below low Zeros Fails (λ to s. read_unit stack state levels to s)) (b.is (read_over (taken_at state device)))
     ∙ store_read stack state levels b.to b.at sound b.store b.inside
-    ∙ sym (ap (λ (low : Below). read_home (by_below low nowhere nowhere (λ to s. home_to stack levels to s))) (b.is (λ snapshot place. IsError)))
+    ∙ sym (ap (λ (low : Below). read_home (by_below low nowhere nowhere (λ to s. home_to stack levels to s))) (b.is (λ snapshot sector. IsError)))
 
 -- so the reads of sectors in a row are those of their homes
 pub store_row : (stack : Description) (state : State) (store : Lower) (sector n : ℕ) → IsSound stack → IsStore stack store → sector + n ≤ lower_len stack store

@@ -10,8 +10,8 @@ use Rattle.dm_stack.specs.declared.found_line.FoundTarget.{FoundTarget}
 use Rattle.dm_stack.specs.declared.found_line.FoundTarget.TheVariants.{Striped}
 use Rattle.dm_stack.specs.Description.{Description, lower_len}
 use Rattle.dm_stack.specs.Below.{column_of, in_column, below_stripes, below_column, IsTargetSound, Lies}
-use Rattle.dm_map.specs.declared.stripe.ChunkPlace.{ChunkPlace}
-use Rattle.dm_map.specs.Walk.{AreInStripes, IsPlace}
+use Rattle.dm_map.specs.declared.stripe.StripePosition.{StripePosition}
+use Rattle.dm_map.specs.Walk.{AreInStripes, IsStripePosition}
 
 -- what is left of a chunk lies in its column's share of the line
 pub in_column_room : (chunk count column_len chunks len distance : ℕ) → 0 < chunk → 0 < count → len ≡ count * column_len → column_len ≡ chunks * chunk → distance < len
@@ -26,7 +26,7 @@ in_column_room chunk count column_len chunks len distance chunk_some count_some 
 -- the sectors of a chunk go on in one column
 pub record IsInChunk (chunk distance i : ℕ) : Type 0 where
   pub number : (distance + i) / chunk ≡ distance / chunk
-  pub place : (distance + i) % chunk ≡ distance % chunk + i
+  pub position : (distance + i) % chunk ≡ distance % chunk + i
 
 pub in_chunk : (chunk distance i : ℕ) → 0 < chunk → i < chunk - distance % chunk → IsInChunk chunk distance i
 in_chunk chunk distance i some within =
@@ -35,20 +35,20 @@ in_chunk chunk distance i some within =
     let small : distance % chunk + i < chunk = omega (arith, within) in
     record {
       number = ap (λ n. n / chunk) at ∙ div-mul-add (distance / chunk) chunk (distance % chunk + i) small;
-      place = ap (λ n. n % chunk) at ∙ mod-mul-add (distance / chunk) chunk (distance % chunk + i) small;
+      position = ap (λ n. n % chunk) at ∙ mod-mul-add (distance / chunk) chunk (distance % chunk + i) small;
     }
 
 -- what holds of each element holds of one
-pub at_place : {X : Type 0} (P : X → Type 0) (xs : List X) (i : ℕ) (x : X) → AllByRecursion P xs → slice_get xs i ≡ Some x → P x
-at_place P [] i x each e = absurd cc
-at_place P (y ∷ ys) zero x each e = let same : y ≡ x = cc in subst (λ z. P z) same each.0
-at_place P (y ∷ ys) (suc i) x each e = at_place P ys i x each.1 e
+pub at_index : {X : Type 0} (P : X → Type 0) (xs : List X) (i : ℕ) (x : X) → AllByRecursion P xs → slice_get xs i ≡ Some x → P x
+at_index P [] i x each e = absurd cc
+at_index P (y ∷ ys) zero x each e = let same : y ≡ x = cc in subst (λ z. P z) same each.0
+at_index P (y ∷ ys) (suc i) x each e = at_index P ys i x each.1 e
 
 -- the column of a sector, as one of the columns
 column_got : (chunk distance : ℕ) (columns : List FoundColumn) (column : FoundColumn) → 0 < length columns → column ≡ get_or columns (column_of chunk (length columns) distance) column → slice_get columns (column_of chunk (length columns) distance) ≡ Some column
 column_got chunk distance columns column some e =
-    let place : column_of chunk (length columns) distance < length columns = omega arith in
-    slice_get_read columns (length columns) _ column refl place e
+    let position : column_of chunk (length columns) distance < length columns = omega arith in
+    slice_get_read columns (length columns) _ column refl position e
 
 -- sectors of a line whose target is stripes
 pub in_stripes : (stack : Description) (device start line_len distance len chunk : ℕ) (columns : List FoundColumn) (target : FoundTarget) → target ≡ Striped chunk columns → IsTargetSound stack device start line_len target → distance + len ≤ line_len → line_len ≤ 2 ^ 50
@@ -56,27 +56,27 @@ pub in_stripes : (stack : Description) (device start line_len distance len chunk
 in_stripes stack device start line_len distance len chunk columns target is sound inside small = record { line_len = line_len; stripes = subst (λ (t : FoundTarget). IsTargetSound stack device start line_len t) is sound; inside = inside; small = small }
 
 -- n sectors of what is left of a chunk lie in what their column names
-pub column_inside : (stack : Description) (chunk distance len done n : ℕ) (columns : List FoundColumn) (column : FoundColumn) (place : ChunkPlace) → AreInStripes stack chunk columns distance len → done < len
-    → IsPlace chunk (length columns) (distance + done) place → n ≤ chunk - place.past → column ≡ get_or columns place.column column → column.offset + (place.chunk_start + place.past) + n ≤ lower_len stack column.to
-column_inside stack chunk distance len done n columns column place lies some at most is =
+pub column_inside : (stack : Description) (chunk distance len done n : ℕ) (columns : List FoundColumn) (column : FoundColumn) (position : StripePosition) → AreInStripes stack chunk columns distance len → done < len
+    → IsStripePosition chunk (length columns) (distance + done) position → n ≤ chunk - position.past → column ≡ get_or columns position.column column → column.offset + (position.chunk_start + position.past) + n ≤ lower_len stack column.to
+column_inside stack chunk distance len done n columns column position lies some at most is =
     let stripes = lies.stripes in
     let got = column_got chunk (distance + done) columns column stripes.some (subst (λ (i : ℕ). column ≡ get_or columns i column) at.column is) in
-    let share = at_place (λ c. c.offset + stripes.column_len ≤ lower_len stack c.to) columns _ column stripes.inside got in
+    let share = at_index (λ c. c.offset + stripes.column_len ≤ lower_len stack c.to) columns _ column stripes.inside got in
     let low = in_column_room chunk (length columns) stripes.column_len stripes.chunks lies.line_len (distance + done) stripes.chunk_some stripes.some stripes.shares stripes.whole (omega (arith, lies.inside, some)) in
     omega (arith, share, low, most, at.chunk_start, at.past)
 
 -- what lies below a sector of what is left of a chunk
-pub below_chunk : (chunk distance i : ℕ) (columns : List FoundColumn) (column : FoundColumn) (place : ChunkPlace) → 0 < length columns → 0 < chunk → IsPlace chunk (length columns) distance place
-    → i < chunk - place.past → column ≡ get_or columns place.column column → below_stripes chunk columns (distance + i) ≡ Lies column.to (column.offset + (place.chunk_start + place.past) + i)
-below_chunk chunk distance i columns column place some chunk_some at within is =
+pub below_chunk : (chunk distance i : ℕ) (columns : List FoundColumn) (column : FoundColumn) (position : StripePosition) → 0 < length columns → 0 < chunk → IsStripePosition chunk (length columns) distance position
+    → i < chunk - position.past → column ≡ get_or columns position.column column → below_stripes chunk columns (distance + i) ≡ Lies column.to (column.offset + (position.chunk_start + position.past) + i)
+below_chunk chunk distance i columns column position some chunk_some at within is =
     let left : i < chunk - distance % chunk = omega (arith, within, at.past) in
     let same = in_chunk chunk distance i chunk_some left in
     let there : column ≡ get_or columns (column_of chunk (length columns) (distance + i)) column = rw same.number (subst (λ (k : ℕ). column ≡ get_or columns k column) at.column is) in
-    let sum : in_column chunk (length columns) (distance + i) ≡ place.chunk_start + place.past + i = rw (same.number, same.place) (omega (arith, at.chunk_start, at.past)) in
+    let sum : in_column chunk (length columns) (distance + i) ≡ position.chunk_start + position.past + i = rw (same.number, same.position) (omega (arith, at.chunk_start, at.past)) in
     ap (λ (c : Option FoundColumn). below_column c (in_column chunk (length columns) (distance + i))) (column_got chunk (distance + i) columns column some there)
     ∙ ap (Lies column.to) (rw sum (omega arith))
 
--- The place of the next chunk
+-- The position of the next chunk
 
 -- the first sector after a chunk
 pub record IsAfter (chunk distance : ℕ) : Type 0 where
@@ -94,9 +94,9 @@ after_chunk chunk distance some =
     }
 
 -- on the next column
-pub place_within : (chunk count distance : ℕ) (place : ChunkPlace) → 0 < chunk → IsPlace chunk count distance place → place.column + 1 < count
-    → IsPlace chunk count (distance + (chunk - place.past)) (record { column = place.column + 1; chunk_start = place.chunk_start; past = 0 })
-place_within chunk count distance place some at within =
+pub position_within : (chunk count distance : ℕ) (position : StripePosition) → 0 < chunk → IsStripePosition chunk count distance position → position.column + 1 < count
+    → IsStripePosition chunk count (distance + (chunk - position.past)) (record { column = position.column + 1; chunk_start = position.chunk_start; past = 0 })
+position_within chunk count distance position some at within =
     let next = after_chunk chunk distance some in
     let whole : distance / chunk / count * count + distance / chunk % count ≡ distance / chunk = div-add-mod' (distance / chunk) count in
     let on : distance / chunk + 1 ≡ distance / chunk / count * count + (distance / chunk % count + 1) = omega (arith, whole) in
@@ -110,9 +110,9 @@ place_within chunk count distance place some at within =
     })
 
 -- after the last column, on the first one
-pub place_after : (chunk count distance : ℕ) (place : ChunkPlace) → 0 < chunk → IsPlace chunk count distance place → place.column + 1 ≡ count
-    → IsPlace chunk count (distance + (chunk - place.past)) (record { column = 0; chunk_start = place.chunk_start + chunk; past = 0 })
-place_after chunk count distance place some at last =
+pub position_after : (chunk count distance : ℕ) (position : StripePosition) → 0 < chunk → IsStripePosition chunk count distance position → position.column + 1 ≡ count
+    → IsStripePosition chunk count (distance + (chunk - position.past)) (record { column = 0; chunk_start = position.chunk_start + chunk; past = 0 })
+position_after chunk count distance position some at last =
     let next = after_chunk chunk distance some in
     let whole : distance / chunk / count * count + distance / chunk % count ≡ distance / chunk = div-add-mod' (distance / chunk) count in
     let on : distance / chunk + 1 ≡ (distance / chunk / count + 1) * count + 0 = omega (arith, whole, last, at.column) in
@@ -125,9 +125,9 @@ place_after chunk count distance place some at last =
       past = sym next.past;
     })
 
--- a place is no further on its column than the sector is in the line
-pub place_small : (chunk count distance : ℕ) (place : ChunkPlace) → 0 < count → IsPlace chunk count distance place → place.chunk_start + place.past ≤ distance
-place_small chunk count distance place some at =
+-- a position is no further into its column than the sector is into the line
+pub position_small : (chunk count distance : ℕ) (position : StripePosition) → 0 < count → IsStripePosition chunk count distance position → position.chunk_start + position.past ≤ distance
+position_small chunk count distance position some at =
     let whole : distance / chunk * chunk + distance % chunk ≡ distance = div-add-mod' distance chunk in
     let rows : distance / chunk / count ≤ distance / chunk = div-le_self (distance / chunk) count in
     omega (arith, whole, mul-le-mul_right chunk rows, at.chunk_start, at.past)

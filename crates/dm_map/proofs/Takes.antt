@@ -16,19 +16,19 @@ use Rattle.dm_map.specs.Contents.{Values, content, played, value_read}
 use Rattle.dm_map.specs.Fitting.{IsFitting}
 use Rattle.dm_map.specs.Homes.{Home}
 use Rattle.dm_map.specs.Reads.{by_below, read_below}
-use Rattle.dm_map.specs.Snapshots.{kept_at, number_in, read_numbered, read_over}
-use Rattle.dm_map.specs.SnapshotWrites.{copies, count_of, first_of, home_kept, put, read, with_chunk}
+use Rattle.dm_map.specs.Snapshots.{store_sector, number_in, read_numbered, read_over}
+use Rattle.dm_map.specs.SnapshotWrites.{copies, count_of, first_of, home_in_store, put, read, with_chunk}
 use Rattle.dm_map.specs.State.{State, Taken, taken_at}
 use Rattle.dm_map.specs.Tables.{snapshot_at}
 use Rattle.dm_map.specs.Units.{BlockUnit, Zeros, Fails}
 use Rattle.dm_map.specs.Ways.{Node, node, Touches}
-use Rattle.dm_map.proofs.Back.{IsRoot, origin_root}
+use Rattle.dm_map.proofs.UniqueSteps.{IsRoot, origin_root}
 use Rattle.dm_map.proofs.FoundLines.{line_sound, snapshot_sound}
 use Rattle.dm_map.proofs.HomeLemmas.{fresh_apart, home_node, homes_apart}
-use Rattle.dm_map.proofs.Numbers.{chunk_rest, kept_inside, kept_parts, number_kept, number_new, number_other, of_chunk}
+use Rattle.dm_map.proofs.Numbers.{chunk_rest, store_sector_inside, kept_parts, number_kept, number_new, number_other, of_chunk}
 use Rattle.dm_map.proofs.OneLevel.{by_depth, next_depth, read_disk, read_down}
 use Rattle.dm_map.proofs.Plays.{AreFreshTargets, IsReadable, copies_keep, copies_move, home_at, some_value}
-use Rattle.dm_map.proofs.Readies.{taken_other, taken_same}
+use Rattle.dm_map.proofs.ChunkTaking.{taken_other, taken_same}
 use Rattle.dm_map.proofs.Stores.{store_read}
 use Rattle.dm_map.proofs.TableLemmas.{number_within}
 use Rattle.dm_map.proofs.WayLemmas.{read_touches, touch_more, touch_self}
@@ -64,8 +64,8 @@ taken_state state device chunk = put state device (with_chunk (taken_at state de
 abbrev pub chunk_copies : Description → State → (device chunk : ℕ) → FoundSnapshot → List BlockUnit
 chunk_copies stack state device chunk snapshot = copies stack state snapshot (new_number state device) (first_of snapshot chunk) (count_of stack snapshot device chunk)
 
--- no taken chunk is kept at the new number's place
-new_is_fresh : (state : State) (device : ℕ) (snapshot : FoundSnapshot) (v t i : ℕ) → 0 < snapshot.chunk → number_in (t / snapshot.chunk) (taken_at state device).chunks ≡ Some i → kept_at snapshot (new_number state device) v ≡ kept_at snapshot i t → ⊥
+-- no taken chunk lies in the place of the new number
+new_is_fresh : (state : State) (device : ℕ) (snapshot : FoundSnapshot) (v t i : ℕ) → 0 < snapshot.chunk → number_in (t / snapshot.chunk) (taken_at state device).chunks ≡ Some i → store_sector snapshot (new_number state device) v ≡ store_sector snapshot i t → ⊥
 new_is_fresh state device snapshot v t i some is e =
     let parts = kept_parts snapshot (new_number state device) i v t some e in
     let below = number_within (t / snapshot.chunk) (taken_at state device).chunks i is in
@@ -76,17 +76,17 @@ same_in_chunk m c u v n most ul uh vl vh e =
     let a = chunk_rest c m u ul (omega (arith, uh, most)) in let b = chunk_rest c m v vl (omega (arith, vh, most)) in omega (arith, a, b, e, ul, vl)
 
 take_fresh : (stack : Description) (state : State) (device chunk : ℕ) (snapshot : FoundSnapshot) → IsSound stack → IsFitting stack state → IsTidy stack → IsTake stack state device chunk snapshot
-    → AreFreshTargets (read stack state snapshot.origin) (home_kept stack snapshot (new_number state device)) (first_of snapshot chunk) (count_of stack snapshot device chunk)
+    → AreFreshTargets (read stack state snapshot.origin) (home_in_store stack snapshot (new_number state device)) (first_of snapshot chunk) (count_of stack snapshot device chunk)
 take_fresh stack state device chunk snapshot sound fitting tidy take =
     let some = (snapshot_sound stack device snapshot sound take.over).soundly.chunk_some in
     let n = new_number state device in
-    let inside : (u : ℕ) → kept_at snapshot n u < lower_len stack snapshot.store = λ u. kept_inside snapshot n u (lower_len stack snapshot.store) some take.place_there in
+    let inside : (u : ℕ) → store_sector snapshot n u < lower_len stack snapshot.store = λ u. store_sector_inside snapshot n u (lower_len stack snapshot.store) some take.place_there in
     record {
       targets = λ u v ul uh vl vh e.
-          let same = homes_apart stack state device snapshot (kept_at snapshot n u) (kept_at snapshot n v) sound fitting tidy take.over (inside u) (inside v) e in
+          let same = homes_apart stack state device snapshot (store_sector snapshot n u) (store_sector snapshot n v) sound fitting tidy take.over (inside u) (inside v) e in
           same_in_chunk snapshot.chunk chunk u v (count_of stack snapshot device chunk) (omega arith) ul uh vl vh (kept_parts snapshot n n u v some same).1;
       sources = λ u v k x ul uh vl vh reads e.
-          fresh_apart stack state (node snapshot.origin u) device snapshot (kept_at snapshot n v) sound fitting tidy take.over (origin_root stack device snapshot sound tidy take.over)
+          fresh_apart stack state (node snapshot.origin u) device snapshot (store_sector snapshot n v) sound fitting tidy take.over (origin_root stack device snapshot sound tidy take.over)
           (inside v) (λ t i is same. new_is_fresh state device snapshot v t i some is same) (subst (λ (h : Home). Touches stack state (node snapshot.origin u) (home_node h)) (sym e) (read_touches stack state snapshot.origin u k x sound reads));
     }
 
@@ -94,7 +94,7 @@ take_fresh stack state device chunk snapshot sound fitting tidy take =
 
 record IsMoved (stack : Description) (state : State) (device chunk : ℕ) (snapshot : FoundSnapshot) (e s : ℕ) : Type 0 where
   old : read_below stack state e s ≡ Lies snapshot.origin s
-  new : read_below stack (taken_state state device chunk) e s ≡ Lies snapshot.store (kept_at snapshot (new_number state device) s)
+  new : read_below stack (taken_state state device chunk) e s ≡ Lies snapshot.store (store_sector snapshot (new_number state device) s)
   from : first_of snapshot chunk ≤ s
   before : s < first_of snapshot chunk + count_of stack snapshot device chunk
 
@@ -165,8 +165,8 @@ after stack state device chunk snapshot e s sound take = elim (cases_eq e device
 -- What a root has
 
 -- what is touched on the way from a root
-Keeps : {V : Type 0} → (zeros : V) → Description → (state other : State) → (values later : Values V) → Node → Lower → Type 0
-Keeps zeros stack state other values later a lower = (s : ℕ) → Touches stack state a (node lower s) → content zeros stack other later lower s ≡ content zeros stack state values lower s
+Appends : {V : Type 0} → (zeros : V) → Description → (state other : State) → (values later : Values V) → Node → Lower → Type 0
+Appends zeros stack state other values later a lower = (s : ℕ) → Touches stack state a (node lower s) → content zeros stack other later lower s ≡ content zeros stack state values lower s
 
 same_step : {V : Type 0} (zeros : V) (stack : Description) (state other : State) (values later : Values V) (b : Below) → ((to : Lower) (at : ℕ) → b ≡ Lies to at → content zeros stack other later to at ≡ content zeros stack state values to at)
     → by_below b (Some zeros) None (λ to at. content zeros stack other later to at) ≡ by_below b (Some zeros) None (λ to at. content zeros stack state values to at)
@@ -180,17 +180,17 @@ keeps_disk zeros written at stack state values device chunk snapshot a disk s so
     let some = (snapshot_sound stack device snapshot sound take.over).soundly.chunk_some in
     let later = played zeros written at (chunk_copies stack state device chunk snapshot) values in
     let n = new_number state device in
-    let apart : (u : ℕ) → first_of snapshot chunk ≤ u → u < first_of snapshot chunk + count_of stack snapshot device chunk → home_kept stack snapshot n u ≡ home_at disk s → ⊥ = λ u low high e.
-    fresh_apart stack state a device snapshot (kept_at snapshot n u) sound fitting tidy take.over root (kept_inside snapshot n u (lower_len stack snapshot.store) some take.place_there)
+    let apart : (u : ℕ) → first_of snapshot chunk ≤ u → u < first_of snapshot chunk + count_of stack snapshot device chunk → home_in_store stack snapshot n u ≡ home_at disk s → ⊥ = λ u low high e.
+    fresh_apart stack state a device snapshot (store_sector snapshot n u) sound fitting tidy take.over root (store_sector_inside snapshot n u (lower_len stack snapshot.store) some take.place_there)
     (λ t i is same. new_is_fresh state device snapshot u t i some is same) (subst (λ (h : Home). Touches stack state a (home_node h)) (sym e) touches) in
     ap (value_read zeros later) (read_disk stack (taken_state state device chunk) disk s)
-    ∙ ap Some (copies_keep zeros written at (read stack state snapshot.origin) (home_kept stack snapshot n) (first_of snapshot chunk) (count_of stack snapshot device chunk) values disk s apart)
+    ∙ ap Some (copies_keep zeros written at (read stack state snapshot.origin) (home_in_store stack snapshot n) (first_of snapshot chunk) (count_of stack snapshot device chunk) values disk s apart)
     ∙ sym (ap (value_read zeros values) (read_disk stack state disk s))
 
 keeps_step : {V : Type 0} (zeros : V) (written : ℕ → V) (at : ℕ) (stack : Description) (state : State) (values : Values V) (device chunk : ℕ) (snapshot : FoundSnapshot) (a : Node) → IsSound stack → IsFitting stack state → IsTidy stack → IsTake stack state device chunk snapshot → IsRoot stack a.lower
-    → (lower : Lower) → ((other : Lower) → lower_depth stack other < lower_depth stack lower → Keeps zeros stack state (taken_state state device chunk) values (played zeros written at (chunk_copies stack state device chunk snapshot) values) a other)
-    → Keeps zeros stack state (taken_state state device chunk) values (played zeros written at (chunk_copies stack state device chunk snapshot) values) a lower
-unfolding Keeps After
+    → (lower : Lower) → ((other : Lower) → lower_depth stack other < lower_depth stack lower → Appends zeros stack state (taken_state state device chunk) values (played zeros written at (chunk_copies stack state device chunk snapshot) values) a other)
+    → Appends zeros stack state (taken_state state device chunk) values (played zeros written at (chunk_copies stack state device chunk snapshot) values) a lower
+unfolding Appends After
 keeps_step zeros written at stack state values device chunk snapshot a sound fitting tidy take root (Disk disk) each s touches =
     keeps_disk zeros written at stack state values device chunk snapshot a disk s sound fitting tidy take root touches
 keeps_step zeros written at stack state values device chunk snapshot a sound fitting tidy take root (Device e) each s touches =
@@ -201,24 +201,24 @@ keeps_step zeros written at stack state values device chunk snapshot a sound fit
     elim (after stack state device chunk snapshot e s sound take) [
       | inl same ↦
           content_down zeros stack other later e s sound
-          ∙ ap (λ (b : Below). by_below b (Some zeros) None (λ to place. content zeros stack other later to place)) same
+          ∙ ap (λ (b : Below). by_below b (Some zeros) None (λ to lower_at. content zeros stack other later to lower_at)) same
           ∙ same_step zeros stack state other values later (read_below stack state e s)
-          (λ to place is. each to (next_depth stack state e s to place sound is) place (touch_more stack state a (node (Device e) s) (node to place) touches (record { device = e; on = refl; below = is })))
+          (λ to lower_at is. each to (next_depth stack state e s to lower_at sound is) lower_at (touch_more stack state a (node (Device e) s) (node to lower_at) touches (record { device = e; on = refl; below = is })))
           ∙ sym (content_down zeros stack state values e s sound)
       | inr moved ↦
           content_down zeros stack other later e s sound
-          ∙ ap (λ (b : Below). by_below b (Some zeros) None (λ to place. content zeros stack other later to place)) moved.new
-          ∙ ap (value_read zeros later) (store_read stack other MOST_DEPTH snapshot.store (kept_at snapshot n s) sound over.store (kept_inside snapshot n s (lower_len stack snapshot.store) over.chunk_some take.place_there))
-          ∙ ap Some (copies_move zeros written at (read stack state snapshot.origin) (home_kept stack snapshot n) (first_of snapshot chunk) (count_of stack snapshot device chunk) values s
+          ∙ ap (λ (b : Below). by_below b (Some zeros) None (λ to lower_at. content zeros stack other later to lower_at)) moved.new
+          ∙ ap (value_read zeros later) (store_read stack other MOST_DEPTH snapshot.store (store_sector snapshot n s) sound over.store (store_sector_inside snapshot n s (lower_len stack snapshot.store) over.chunk_some take.place_there))
+          ∙ ap Some (copies_move zeros written at (read stack state snapshot.origin) (home_in_store stack snapshot n) (first_of snapshot chunk) (count_of stack snapshot device chunk) values s
           (take_fresh stack state device chunk snapshot sound fitting tidy take) moved.from moved.before)
           ∙ some_value zeros values (read stack state snapshot.origin s) (take.readable s moved.from moved.before)
-          ∙ sym (ap (λ (b : Below). by_below b (Some zeros) None (λ to place. content zeros stack state values to place)) moved.old)
+          ∙ sym (ap (λ (b : Below). by_below b (Some zeros) None (λ to lower_at. content zeros stack state values to lower_at)) moved.old)
           ∙ sym (content_down zeros stack state values e s sound)
     ]
 
 pub take_keeps : {V : Type 0} (zeros : V) (written : ℕ → V) (at : ℕ) (stack : Description) (state : State) (values : Values V) (device chunk : ℕ) (snapshot : FoundSnapshot) (lower : Lower) (s : ℕ) → IsSound stack → IsFitting stack state → IsTidy stack → IsTake stack state device chunk snapshot → IsRoot stack lower
     → content zeros stack (taken_state state device chunk) (played zeros written at (chunk_copies stack state device chunk snapshot) values) lower s ≡ content zeros stack state values lower s
-unfolding Keeps
+unfolding Appends
 take_keeps zeros written at stack state values device chunk snapshot lower s sound fitting tidy take root =
-    by_depth stack (Keeps zeros stack state (taken_state state device chunk) values (played zeros written at (chunk_copies stack state device chunk snapshot) values) (node lower s))
+    by_depth stack (Appends zeros stack state (taken_state state device chunk) values (played zeros written at (chunk_copies stack state device chunk snapshot) values) (node lower s))
     (keeps_step zeros written at stack state values device chunk snapshot (node lower s) sound fitting tidy take root) lower s (touch_self stack state (node lower s))

@@ -8,7 +8,7 @@ use Rattle.dm_map.specs.Sink.{OfBeginning}
 use Rattle.dm_map.specs.State.{State}
 use Rattle.dm_map.specs.Steps.{Step, keep, steps}
 use Rattle.dm_map.specs.Units.{BlockUnit}
-use Rattle.dm_map.specs.Walk.{Scene, Walking, scene, IsWalked}
+use Rattle.dm_map.specs.Walk.{StackState, WalkerView, stack_state, IsWalked}
 use Rattle.dm_map.proofs.Rows.{added_then, none_added, steps-append}
 
 -- a walk so far, in which the sink did not fail
@@ -16,7 +16,7 @@ abbrev pub going_on : Result (Unit {0}) (Unit {0})
 going_on = Ok tt
 
 -- one that has not begun
-pub walked_none : {S : Type 0} (took left : S → List BlockUnit → S → Type 0) (stack : S → Description) (room faults : S → ℕ) (sink : S) (walk : Walking) → took sink [] sink → IsWalked took left stack room faults going_on sink sink walk walk (keep [] walk.state) 0
+pub walked_none : {S : Type 0} (took left : S → List BlockUnit → S → Type 0) (stack : S → Description) (room faults : S → ℕ) (sink : S) (walk : WalkerView) → took sink [] sink → IsWalked took left stack room faults going_on sink sink walk walk (keep [] walk.state) 0
 walked_none took left stack room faults sink walk taken = record { took = taken; state = refl; kept = refl; room = omega arith; left = tt; faults = omega arith; stack = refl; looked = none_added walk.looked }
 
 -- a sink that took the first part of a row, and then the next one
@@ -54,7 +54,7 @@ left_on took left both a b c step state after sector m n len within is first sec
 
 -- the first sectors, and then the next ones
 pub walked_on : {S F : Type 0} (took left : S → List BlockUnit → S → Type 0) (stack : S → Description) (room faults : S → ℕ) (both : (a b c : S) (us vs : List BlockUnit) → took a us b → took b vs c → took a (us ++ vs) c)
-    (fine : Unit {0}) (old middle new : S) (before between after : Walking) (step : State → ℕ → Step) (sector m n all : ℕ) → m + n ≡ all → IsWalked took left stack room faults going_on old middle before between (steps step before.state sector m) m
+    (fine : Unit {0}) (old middle new : S) (before between after : WalkerView) (step : State → ℕ → Step) (sector m n all : ℕ) → m + n ≡ all → IsWalked took left stack room faults going_on old middle before between (steps step before.state sector m) m
     → IsWalked {F = F} took left stack room faults (Ok fine) middle new between after (steps step between.state (sector + m) n) n → IsWalked took left stack room faults going_on old new before after (steps step before.state sector all) all
 walked_on took left stack room faults both fine old middle new before between after step sector m n all is one two =
     subst (λ (k : ℕ). IsWalked took left stack room faults going_on old new before after (steps step before.state sector k) k) is (record {
@@ -70,7 +70,7 @@ walked_on took left stack room faults both fine old middle new before between af
 
 -- or a beginning of the next ones, and then a fault
 pub cut_on : {S F : Type 0} (took left : S → List BlockUnit → S → Type 0) (stack : S → Description) (room faults : S → ℕ) (both : (a b c : S) (us vs : List BlockUnit) → took a us b → left b vs c → left a (us ++ vs) c)
-    (fault : F) (result : Result (Unit {0}) F) (old middle new : S) (before between after : Walking) (step : State → ℕ → Step) (sector m n len : ℕ) → IsErr result → m + n ≤ len → IsWalked took left stack room faults going_on old middle before between (steps step before.state sector m) m
+    (fault : F) (result : Result (Unit {0}) F) (old middle new : S) (before between after : WalkerView) (step : State → ℕ → Step) (sector m n len : ℕ) → IsErr result → m + n ≤ len → IsWalked took left stack room faults going_on old middle before between (steps step before.state sector m) m
     → IsWalked took left stack room faults (Err fault) middle new between after (steps step between.state (sector + m) n) n → IsWalked took left stack room faults result old new before after (steps step before.state sector len) len
 cut_on took left stack room faults both fault (Ok done) old middle new before between after step sector m n len is_err within one two = absurd cc
 cut_on took left stack room faults both fault (Err cause) old middle new before between after step sector m n len is_err within one two = record {
@@ -85,7 +85,7 @@ cut_on took left stack room faults both fault (Err cause) old middle new before 
 }
 
 -- a walk after a look, which changes nothing but the counts
-pub walked_after_look : {S F : Type 0} (took left : S → List BlockUnit → S → Type 0) (stack : S → Description) (room faults : S → ℕ) (result : Result (Unit {0}) F) (old new : S) (before looked after : Walking) (step : Step) (len : ℕ) → scene looked ≡ scene before
+pub walked_after_look : {S F : Type 0} (took left : S → List BlockUnit → S → Type 0) (stack : S → Description) (room faults : S → ℕ) (result : Result (Unit {0}) F) (old new : S) (before looked after : WalkerView) (step : Step) (len : ℕ) → stack_state looked ≡ stack_state before
     → AreAdded before.looked looked.looked → IsWalked took left stack room faults result old new looked after step len → IsWalked took left stack room faults result old new before after step len
 walked_after_look took left stack room faults result old new before looked after step len same added walk = record {
   took = walk.took;
@@ -94,6 +94,6 @@ walked_after_look took left stack room faults result old new before looked after
   room = walk.room;
   left = walk.left;
   faults = walk.faults;
-  stack = walk.stack ∙ ap (λ (v : Scene). v.stack) same;
+  stack = walk.stack ∙ ap (λ (v : StackState). v.stack) same;
   looked = added_then before.looked looked.looked after.looked added walk.looked;
 }

@@ -20,7 +20,7 @@ most_within : (count most : ℕ) → ((number : ℕ) → number < count → numb
 most_within zero most each = omega arith
 most_within (suc count) most each = let last = each count (omega arith) in omega (arith, last)
 
--- the places of a table are those of its store
+-- a table has as many places as its store
 within_store : {T : Type 0} (places_of : T → ℕ) (stack : Description) (tables : List T) (device number : ℕ) (table : T) (snapshot : FoundSnapshot) → IsSound stack → AreTables places_of stack tables → snapshot_at stack device ≡ Some snapshot
     → slice_get tables device ≡ Some table → number < places_of table → number < places snapshot.kind snapshot.chunk (lower_len stack snapshot.store)
 within_store places_of stack tables device number table snapshot sound are is got less =

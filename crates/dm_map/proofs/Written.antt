@@ -1,4 +1,4 @@
--- The write of a sector: chunks made ready, then one unit; what is read then, and by whom.
+-- The write of a sector: chunks are taken, then one unit follows; what is read then, and by whom.
 use Rattle.std.proofs.Common.{◌≡◌, ◌⊎◌, inl, inr, ℕ, ◌+◌, ◌-◌, ◌/◌, ◌<◌, Bool, true, false, cond, List, [], ◌∷◌, ◌++◌, map, Option, Some, None, length, refl, sym, ap, subst, ◌∙◌, arith}
 use Rattle.std.specs.List.{AllByRecursion}
 use Rattle.std.proofs.lemmas.List.{append-nil}
@@ -22,23 +22,23 @@ use Rattle.dm_map.specs.Fitting.{IsFitting}
 use Rattle.dm_map.specs.Mapping.{write_line, write_step, write_target}
 use Rattle.dm_map.specs.Reads.{by_below, read_below}
 use Rattle.dm_map.specs.Serving.{IsOver, serve, served_step}
-use Rattle.dm_map.specs.Snapshots.{kept_at, number_in, read_over}
-use Rattle.dm_map.specs.SnapshotWrites.{home_kept, is_refused, read, ready, unit_kept, write_numbered, write_snapshot}
+use Rattle.dm_map.specs.Snapshots.{store_sector, number_in, read_over}
+use Rattle.dm_map.specs.SnapshotWrites.{home_in_store, is_refused, read, take_chunk, unit_in_store, write_numbered, write_snapshot}
 use Rattle.dm_map.specs.State.{State, Taken, taken_at}
 use Rattle.dm_map.specs.Steps.{Step, keep, and_then}
 use Rattle.dm_map.specs.Tables.{origin_at, snapshot_at}
 use Rattle.dm_map.specs.Units.{BlockUnit, ReadOf, WriteOf, Zeros, Drops, Fails}
 use Rattle.dm_map.specs.Ways.{Node, node, Touches}
-use Rattle.dm_map.proofs.Back.{IsRoot, IsUnserved, back_origin, back_store, fits, goes_on_inside}
+use Rattle.dm_map.proofs.UniqueSteps.{IsRoot, IsUnserved, only_by_origin, only_by_store, fits, goes_on_inside}
 use Rattle.dm_map.proofs.FoundLines.{line_origin, line_snapshot, line_sound, origin_sound, snapshot_sound}
 use Rattle.dm_map.proofs.HomeLemmas.{home_node, home_touched, node_is, touch_up}
-use Rattle.dm_map.proofs.How.{has_columns, how, line_step}
-use Rattle.dm_map.proofs.Made.{made, made_fits}
+use Rattle.dm_map.proofs.ReadSteps.{has_columns, read_step, line_step}
+use Rattle.dm_map.proofs.ChunkOutcomes.{full_outcome, full_outcome_fits}
 use Rattle.dm_map.proofs.Numbers.{same_sector}
 use Rattle.dm_map.proofs.OneLevel.{by_depth, next_depth, read_disk, read_down, write_down}
 use Rattle.dm_map.proofs.Overs.{overs}
 use Rattle.dm_map.proofs.Rows.{and_then_at, step_assoc}
-use Rattle.dm_map.proofs.Runs.{Event, IsEvent, grown_same, ran, run}
+use Rattle.dm_map.proofs.TakenInARow.{Event, IsEvent, grown_same, ran, run}
 use Rattle.dm_map.proofs.Served.{over_there, serve_settled, settled_on}
 use Rattle.dm_map.proofs.ServedRuns.{each_event, event_of, events_append, run_append, serve_run}
 use Rattle.dm_map.proofs.Settled.{write_keeps_settled}
@@ -107,22 +107,22 @@ line_written stack state device sector to at step sound fitting tidy has goes lo
       answered = w.answered;
       reads = λ disk x e. read_next stack step.state device sector to at sound (goes (read_over (taken_at step.state device))) ∙ w.reads disk x e;
       alone = λ disk x a e root unserved touches.
-          touch_up stack step.state a device sector to at sound fits_after tidy root.lines (line_step stack device sector to at has (goes (λ snapshot place. IsError))) (w.alone disk x a e root unserved touches);
+          touch_up stack step.state a device sector to at sound fits_after tidy root.lines (line_step stack device sector to at has (goes (λ snapshot sector. IsError))) (w.alone disk x a e root unserved touches);
     }
 
 -- A snapshot's own write
 
-record IsKeptUnit (stack : Description) (snapshot : FoundSnapshot) (taken : Taken) (sector disk x : ℕ) : Type 0 where
+record IsStoredUnit (stack : Description) (snapshot : FoundSnapshot) (taken : Taken) (sector disk x : ℕ) : Type 0 where
   valid : taken.valid ≡ true
   number : ℕ
   is : number_in (sector / snapshot.chunk) taken.chunks ≡ Some number
-  home : WriteOf (home_kept stack snapshot number sector).disk (home_kept stack snapshot number sector).sector ≡ WriteOf disk x
+  home : WriteOf (home_in_store stack snapshot number sector).disk (home_in_store stack snapshot number sector).sector ≡ WriteOf disk x
 
-kept_unit : (stack : Description) (snapshot : FoundSnapshot) (taken : Taken) (sector disk x : ℕ) (valid : Bool) (number : Option ℕ) → taken.valid ≡ valid → number_in (sector / snapshot.chunk) taken.chunks ≡ number → cond valid (write_numbered stack snapshot number sector) Fails ≡ WriteOf disk x
-    → IsKeptUnit stack snapshot taken sector disk x
-kept_unit stack snapshot taken sector disk x false number v n e = absurd (no_write Fails disk x (inl refl) e)
-kept_unit stack snapshot taken sector disk x true None v n e = absurd (no_write Fails disk x (inl refl) e)
-kept_unit stack snapshot taken sector disk x true (Some i) v n e = record { valid = v; number = i; is = n; home = e }
+stored_unit : (stack : Description) (snapshot : FoundSnapshot) (taken : Taken) (sector disk x : ℕ) (valid : Bool) (number : Option ℕ) → taken.valid ≡ valid → number_in (sector / snapshot.chunk) taken.chunks ≡ number → cond valid (write_numbered stack snapshot number sector) Fails ≡ WriteOf disk x
+    → IsStoredUnit stack snapshot taken sector disk x
+stored_unit stack snapshot taken sector disk x false number v n e = absurd (no_write Fails disk x (inl refl) e)
+stored_unit stack snapshot taken sector disk x true None v n e = absurd (no_write Fails disk x (inl refl) e)
+stored_unit stack snapshot taken sector disk x true (Some i) v n e = record { valid = v; number = i; is = n; home = e }
 
 unit_answers : (stack : Description) (snapshot : FoundSnapshot) (sector : ℕ) (valid : Bool) (number : Option ℕ) → answers (cond valid (write_numbered stack snapshot number sector) Fails) ≡ true
 unit_answers stack snapshot sector false number = refl
@@ -136,35 +136,35 @@ read_of_unit : (disk sector k x : ℕ) → WriteOf disk sector ≡ WriteOf k x �
 read_of_unit disk sector k x e = cc
 
 kept_next : (stack : Description) (state : State) (device sector number : ℕ) (line : FoundLine) (snapshot : FoundSnapshot) → IsSound stack → snapshot_at stack device ≡ Some snapshot → found_at stack device sector ≡ Some line → (taken_at state device).valid ≡ true
-    → number_in (sector / snapshot.chunk) (taken_at state device).chunks ≡ Some number → read_below stack state device sector ≡ Lies snapshot.store (kept_at snapshot number sector)
+    → number_in (sector / snapshot.chunk) (taken_at state device).chunks ≡ Some number → read_below stack state device sector ≡ Lies snapshot.store (store_sector snapshot number sector)
 kept_next stack state device sector number line snapshot sound over is valid n =
     snapshot_next stack state device sector snapshot line (taken_at state device) sound over is refl ∙ (rw (valid, n) refl)
 
 -- only that sector leads to its taken chunk's home
 kept_alone : (stack : Description) (state : State) (device sector number : ℕ) (snapshot : FoundSnapshot) (a : Node) → IsSound stack → IsFitting stack state → IsTidy stack → snapshot_at stack device ≡ Some snapshot → number_in (sector / snapshot.chunk) (taken_at state device).chunks ≡ Some number → IsRoot stack a.lower
-    → Touches stack state a (home_node (home_kept stack snapshot number sector)) → Touches stack state a (node (Device device) sector)
+    → Touches stack state a (home_node (home_in_store stack snapshot number sector)) → Touches stack state a (node (Device device) sector)
 kept_alone stack state device sector number snapshot a sound fitting tidy over n root touches =
     let soundly = (snapshot_sound stack device snapshot sound over).soundly in
     let inside = fits stack state device sector number snapshot sound fitting over n in
-    let up = home_touched stack state a MOST_DEPTH snapshot.store (kept_at snapshot number sector) sound fitting tidy root.lines soundly.store inside touches in
-    elim (back stack state a (node snapshot.store (kept_at snapshot number sector)) up) [
+    let up = home_touched stack state a MOST_DEPTH snapshot.store (store_sector snapshot number sector) sound fitting tidy root.lines soundly.store inside touches in
+    elim (back stack state a (node snapshot.store (store_sector snapshot number sector)) up) [
       | Here e ↦ absurd (root.stores.none device snapshot over (ap (λ (x : Node). x.lower) e))
       | Before c before leads ↦
-          let kept = back_store stack state device leads.device c.sector (kept_at snapshot number sector) snapshot sound fitting tidy (goes_on_inside stack state leads.device c.sector snapshot.store (kept_at snapshot number sector) sound leads.below) over inside
-          (how stack state leads.device c.sector snapshot.store (kept_at snapshot number sector) sound leads.below) in
+          let kept = only_by_store stack state device leads.device c.sector (store_sector snapshot number sector) snapshot sound fitting tidy (goes_on_inside stack state leads.device c.sector snapshot.store (store_sector snapshot number sector) sound leads.below) over inside
+          (read_step stack state leads.device c.sector snapshot.store (store_sector snapshot number sector) sound leads.below) in
           let same = same_sector snapshot (taken_at state device).chunks number kept.number sector c.sector soundly.chunk_some n kept.is kept.sector in
           subst (λ (x : Node). Touches stack state a x) (node_is c leads.device device c.sector sector leads.on kept.same refl same) before
     ]
 
 snapshot_written : (stack : Description) (state : State) (device sector : ℕ) (line : FoundLine) (snapshot : FoundSnapshot) (step : Step) → IsSound stack → IsFitting stack state → IsTidy stack → snapshot_at stack device ≡ Some snapshot → found_at stack device sector ≡ Some line
-    → step ≡ and_then (ready stack snapshot device (sector / snapshot.chunk) state) (λ after. keep (unit_kept stack snapshot device after sector ∷ []) after) → Written stack state (Device device) sector step
+    → step ≡ and_then (take_chunk stack snapshot device (sector / snapshot.chunk) state) (λ after. keep (unit_in_store stack snapshot device after sector ∷ []) after) → Written stack state (Device device) sector step
 unfolding run
 snapshot_written stack state device sector line snapshot step sound fitting tidy over is step_is =
     let soundly = (snapshot_sound stack device snapshot sound over).soundly in
     let there : device < length state = let t = (line_sound stack device sector line sound is).there in let count = fitting.count in omega (arith, t, count) in
-    let first = ready stack snapshot device (sector / snapshot.chunk) state in
-    let fits_after = made_fits stack state device (sector / snapshot.chunk) snapshot first fitting there (made stack state device (sector / snapshot.chunk) snapshot over there) in
-    let last = unit_kept stack snapshot device first.state sector in
+    let first = take_chunk stack snapshot device (sector / snapshot.chunk) state in
+    let fits_after = full_outcome_fits stack state device (sector / snapshot.chunk) snapshot first fitting there (full_outcome stack state device (sector / snapshot.chunk) snapshot over there) in
+    let last = unit_in_store stack snapshot device first.state sector in
     let state_is : step.state ≡ first.state = ap (λ (x : Step). x.state) step_is in
     let taken = taken_at first.state device in
     record {
@@ -174,16 +174,16 @@ snapshot_written stack state device sector line snapshot step sound fitting tidy
       each = (over, tt);
       answered = unit_answers stack snapshot sector taken.valid (number_in (sector / snapshot.chunk) taken.chunks);
       reads = λ disk x e.
-          let unit = kept_unit stack snapshot taken sector disk x taken.valid (number_in (sector / snapshot.chunk) taken.chunks) refl refl e in
+          let unit = stored_unit stack snapshot taken sector disk x taken.valid (number_in (sector / snapshot.chunk) taken.chunks) refl refl e in
           let inside = fits stack first.state device sector unit.number snapshot sound fits_after over unit.is in
-          let home = home_kept stack snapshot unit.number sector in
+          let home = home_in_store stack snapshot unit.number sector in
           subst (λ (after : State). read stack after (Device device) sector ≡ ReadOf disk x) (sym state_is)
-          (read_next stack first.state device sector snapshot.store (kept_at snapshot unit.number sector) sound (kept_next stack first.state device sector unit.number line snapshot sound over is unit.valid unit.is)
-          ∙ store_read stack first.state MOST_DEPTH snapshot.store (kept_at snapshot unit.number sector) sound soundly.store inside
+          (read_next stack first.state device sector snapshot.store (store_sector snapshot unit.number sector) sound (kept_next stack first.state device sector unit.number line snapshot sound over is unit.valid unit.is)
+          ∙ store_read stack first.state MOST_DEPTH snapshot.store (store_sector snapshot unit.number sector) sound soundly.store inside
           ∙ read_of_unit home.disk home.sector disk x unit.home);
       alone = λ disk x a e root unserved touches.
-          let unit = kept_unit stack snapshot taken sector disk x taken.valid (number_in (sector / snapshot.chunk) taken.chunks) refl refl e in
-          let home = home_kept stack snapshot unit.number sector in
+          let unit = stored_unit stack snapshot taken sector disk x taken.valid (number_in (sector / snapshot.chunk) taken.chunks) refl refl e in
+          let home = home_in_store stack snapshot unit.number sector in
           subst (λ (after : State). Touches stack after a (node (Device device) sector)) (sym state_is)
           (kept_alone stack first.state device sector unit.number snapshot a sound fits_after tidy over unit.is root
           (subst (λ (n : Node). Touches stack first.state a n) (sym (node_of_unit home.disk home.sector disk x unit.home)) (subst (λ (after : State). Touches stack after a (node (Disk disk) x)) state_is touches)));
@@ -191,7 +191,7 @@ snapshot_written stack state device sector line snapshot step sound fitting tidy
 
 -- or a chunk that is refused: its write fails
 chunk_by : (refused : Bool) (stack : Description) (state : State) (device sector : ℕ) (line : FoundLine) (snapshot : FoundSnapshot) (step : Step) → IsSound stack → IsFitting stack state → IsTidy stack → snapshot_at stack device ≡ Some snapshot → found_at stack device sector ≡ Some line
-    → step ≡ cond refused (keep (Fails ∷ []) state) (and_then (ready stack snapshot device (sector / snapshot.chunk) state) (λ after. keep (unit_kept stack snapshot device after sector ∷ []) after)) → Written stack state (Device device) sector step
+    → step ≡ cond refused (keep (Fails ∷ []) state) (and_then (take_chunk stack snapshot device (sector / snapshot.chunk) state) (λ after. keep (unit_in_store stack snapshot device after sector ∷ []) after)) → Written stack state (Device device) sector step
 chunk_by true stack state device sector line snapshot step sound fitting tidy over is step_is = written_none stack state (Device device) sector step Fails (inl refl) step_is
 chunk_by false stack state device sector line snapshot step sound fitting tidy over is step_is = snapshot_written stack state device sector line snapshot step sound fitting tidy over is step_is
 
@@ -231,7 +231,7 @@ origin_written stack state device sector line origin step sound fitting tidy ser
           (elim (back stack after.state a (node origin.to sector) up) [
             | Here here ↦ absurd (unserved.none device origin served (ap (λ (n : Node). n.lower) here))
             | Before c before leads ↦
-                let at = back_origin stack after.state device leads.device c.sector sector origin sound tidy served below settled (how stack after.state leads.device c.sector origin.to sector sound leads.below) in
+                let at = only_by_origin stack after.state device leads.device c.sector sector origin sound tidy served below settled (read_step stack after.state leads.device c.sector origin.to sector sound leads.below) in
                 subst (λ (n : Node). Touches stack after.state a n) (node_is c leads.device device c.sector sector leads.on at.device refl at.sector) before
           ]);
     }

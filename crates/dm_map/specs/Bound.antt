@@ -9,10 +9,10 @@ use Rattle.dm_stack.specs.Description.{Description}
 use Rattle.dm_stack.specs.Soundness.{IsSound, depth_of}
 use Rattle.dm_map.specs.Path.{PathStep, line_path, path, stretches}
 use Rattle.dm_map.specs.State.{State}
-use Rattle.dm_map.specs.Walk.{Walking}
+use Rattle.dm_map.specs.Walk.{WalkerView}
 
 -- a walk that reads len sectors searched at most once a level for each stretch of these paths
-abbrev pub IsBounded : (before after : Walking) → Op → (levels : ℕ) → (paths : ℕ → List PathStep) → (sector len : ℕ) → Type 0
+abbrev pub IsBounded : (before after : WalkerView) → Op → (levels : ℕ) → (paths : ℕ → List PathStep) → (sector len : ℕ) → Type 0
 IsBounded before after op levels paths sector len = op ≡ Read → IsSound before.stack → after.looked.searches ≤ before.looked.searches + levels * stretches paths sector len
 
 -- the paths of the sectors of a line of a device, by their distance from its start, with at most this many levels of devices below it
@@ -20,11 +20,11 @@ abbrev pub line_paths : Description → State → (levels device : ℕ) → Foun
 line_paths stack state levels device line distance = line_path state device line distance (λ to lower. path stack state levels to lower)
 
 -- the device of a line is no level that is searched below it
-abbrev pub IsLineBounded : (before after : Walking) → Op → (levels device : ℕ) → FoundLine → (distance len : ℕ) → Type 0
+abbrev pub IsLineBounded : (before after : WalkerView) → Op → (levels device : ℕ) → FoundLine → (distance len : ℕ) → Type 0
 IsLineBounded before after op levels device line distance len =
     IsBounded before after op (depth_of before.stack device - 1) (line_paths before.stack before.state levels device line) distance len
 
 -- so for each line of a device that has this target
-abbrev pub IsTargetBounded : (before after : Walking) → Op → (levels device : ℕ) → FoundTarget → (distance len : ℕ) → Type 0
+abbrev pub IsTargetBounded : (before after : WalkerView) → Op → (levels device : ℕ) → FoundTarget → (distance len : ℕ) → Type 0
 IsTargetBounded before after op levels device target distance len =
     (line : FoundLine) → found_at before.stack device line.start ≡ Some line → line.target ≡ target → IsLineBounded before after op levels device line distance len

@@ -6,7 +6,7 @@ use Rattle.dm_stack.specs.declared.id.Lower.TheVariants.{Device, Disk}
 use Rattle.dm_stack.specs.Below.{IsError, below}
 use Rattle.dm_stack.specs.Description.{Description}
 use Rattle.dm_stack.specs.Soundness.{depth_of}
-use Rattle.dm_map.specs.declared.ready.HomeStretch.{HomeStretch}
+use Rattle.dm_map.specs.declared.take_chunk.HomeStretch.{HomeStretch}
 use Rattle.dm_map.specs.Reads.{by_below}
 use Rattle.dm_map.specs.Units.{IsOnDisk}
 
@@ -23,7 +23,7 @@ unfoldable pub home_to : Description → ℕ → Lower → ℕ → Home
 home_to stack levels (Disk disk) sector = record { disk = disk; sector = sector }
 home_to stack zero (Device device) sector = nowhere
 home_to stack (suc levels) (Device device) sector =
-    by_below (below (λ snapshot place. IsError) stack device sector) nowhere nowhere (λ to lower. home_to stack levels to lower)
+    by_below (below (λ snapshot sector. IsError) stack device sector) nowhere nowhere (λ to lower. home_to stack levels to lower)
 
 -- no stack has more levels
 abbrev pub home : Description → Lower → ℕ → Home

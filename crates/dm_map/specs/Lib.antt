@@ -4,7 +4,7 @@ pub mod Contents
 pub mod Counts
 pub mod Fitting
 pub mod Homes
-pub mod KeptLaws
+pub mod PieceListLaws
 pub mod Mapper
 pub mod Mapping
 pub mod Own

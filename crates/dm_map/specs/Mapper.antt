@@ -3,7 +3,7 @@ use Rattle.std.specs.Prelude.{Bool, Result, Ok, Err}
 use Rattle.dm_stack.specs.Description.{Description}
 use Rattle.dm_map.specs.Counts.{Counts}
 use Rattle.dm_map.specs.State.{State}
-use Rattle.dm_map.specs.Walk.{Walking}
+use Rattle.dm_map.specs.Walk.{WalkerView}
 use Rattle.dm_map.specs.declared.mapper.MapFault.{MapFault}
 use Rattle.dm_map.specs.declared.mapper.MapFault.TheVariants as faults
 
@@ -15,9 +15,9 @@ pub record MapperView : Type 0 where
   pub looked : Counts
   pub last : Counts
 
--- the walk that a mapper makes
-abbrev pub walking_of : MapperView → Walking
-walking_of mapper = record { stack = mapper.stack; state = mapper.state; looked = mapper.looked }
+-- the walker of a mapper
+abbrev pub walker_of : MapperView → WalkerView
+walker_of mapper = record { stack = mapper.stack; state = mapper.state; looked = mapper.looked }
 
 -- a mapper after look-ups that belong to no request
 abbrev pub with_looked : MapperView → Counts → MapperView

@@ -29,12 +29,12 @@ pub record IsOwnWrite {V : Type 0} (zeros : V) (written : ℕ → V) (stack : De
   -- it leaves a state that the stack can be in
   pub fits : IsFitting stack step.state
   -- where it stops before the last unit, all top devices have what they had in the state before it
-  pub torn : (values : Values V) (some rest : List BlockUnit) → front ≡ some ++ rest → (other place : ℕ) → IsTop stack other
-      → content zeros stack state (played zeros written sector some values) (Device other) place ≡ content zeros stack state values (Device other) place
+  pub torn : (values : Values V) (some rest : List BlockUnit) → front ≡ some ++ rest → (other other_sector : ℕ) → IsTop stack other
+      → content zeros stack state (played zeros written sector some values) (Device other) other_sector ≡ content zeros stack state values (Device other) other_sector
   -- up to the last unit they have the same in the state after it too, or an error
-  pub kept : (values : Values V) (other place : ℕ) → IsTop stack other
-      → Stays (content zeros stack state values (Device other) place) (content zeros stack step.state (played zeros written sector front values) (Device other) place)
+  pub kept : (values : Values V) (other other_sector : ℕ) → IsTop stack other
+      → Stays (content zeros stack state values (Device other) other_sector) (content zeros stack step.state (played zeros written sector front values) (Device other) other_sector)
   -- where the last unit writes, the sector that was written is read
   pub reads : (disk at : ℕ) → last ≡ WriteOf disk at → read stack step.state (Device top) sector ≡ ReadOf disk at
   -- and no other sector of a top device is
-  pub alone : (disk at other place : ℕ) → last ≡ WriteOf disk at → IsTop stack other → read stack step.state (Device other) place ≡ ReadOf disk at → (other ≡ top) × (place ≡ sector)
+  pub alone : (disk at other other_sector : ℕ) → last ≡ WriteOf disk at → IsTop stack other → read stack step.state (Device other) other_sector ≡ ReadOf disk at → (other ≡ top) × (other_sector ≡ sector)

@@ -29,4 +29,4 @@ first_rows zeros stack values device sector = content zeros stack (start_state s
 -- each top device has its row, or errors
 pub record AreOwn {V : Type 0} (zeros : V) (stack : Description) (state : State) (values : Values V) (rows : Rows V) : Type 0 where
   pub fits : IsFitting stack state
-  pub tops : (top place : ℕ) → IsTop stack top → Stays (rows top place) (content zeros stack state values (Device top) place)
+  pub tops : (top sector : ℕ) → IsTop stack top → Stays (rows top sector) (content zeros stack state values (Device top) sector)

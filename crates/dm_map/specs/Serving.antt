@@ -1,18 +1,18 @@
--- What a write of an origin's sector does before it: each of its snapshots is made ready (the kernel's admin guide, device-mapper/snapshot).
+-- What a write of an origin's sector does before it: the chunk of that sector is taken in each of its snapshots (the kernel's admin guide, device-mapper/snapshot).
 use Rattle.std.specs.Prelude.{◌≡◌, ℕ, ◌/◌, ◌≤◌, true, List, [], ◌∷◌, Some}
 use Rattle.std.specs.List.{AllByRecursion}
 use Rattle.dm_stack.specs.Description.{Description, device_len}
 use Rattle.dm_stack.specs.declared.found_line.FoundOver.{FoundOver}
-use Rattle.dm_map.specs.SnapshotWrites.{is_settled, ready}
+use Rattle.dm_map.specs.SnapshotWrites.{is_settled, take_chunk}
 use Rattle.dm_map.specs.State.{State, taken_at}
 use Rattle.dm_map.specs.Steps.{Step, keep, and_then}
 use Rattle.dm_map.specs.Tables.{snapshot_at}
 
--- each of these snapshots is made ready for a write of a sector of its origin, in their order
+-- the chunk of a sector is taken in each of these snapshots, in their order
 unfoldable pub serve : Description → List FoundOver → (sector : ℕ) → State → Step
 serve stack [] sector state = keep [] state
 serve stack (one ∷ over) sector state =
-    and_then (ready stack one.snapshot one.device (sector / one.snapshot.chunk) state) (λ after. serve stack over sector after)
+    and_then (take_chunk stack one.snapshot one.device (sector / one.snapshot.chunk) state) (λ after. serve stack over sector after)
 
 -- nothing is left to do for the chunk of a sector in any of them
 abbrev pub AreSettled : State → List FoundOver → (sector : ℕ) → Type 0

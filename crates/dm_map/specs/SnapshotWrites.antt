@@ -1,4 +1,4 @@
--- What a write of a snapshot's sector does (the kernel's admin guide, device-mapper/snapshot): its chunk is made ready, and then the sector is written.
+-- What a write of a snapshot's sector does (the kernel's admin guide, device-mapper/snapshot): its chunk is taken, and then the sector is written.
 use Rattle.std.specs.List.{slice_set}
 use Rattle.std.specs.Prelude.{ℕ, zero, suc, ◌+◌, ◌-◌, ◌*◌, ◌/◌, Bool, true, false, ◌&&◌, ◌||◌, not, List, [], ◌∷◌, ◌++◌, length, Option, Some, None, is_some, min, nat_le, if◌then◌else◌}
 use Rattle.dm_table.specs.declared.table.StoreKind.{StoreKind}
@@ -10,7 +10,7 @@ use Rattle.dm_stack.specs.Description.{Description, device_len, lower_len}
 use Rattle.dm_map.specs.Homes.{Home, home}
 use Rattle.dm_map.specs.Reads.{read_unit}
 use Rattle.dm_stack.specs.StoreLayout.{place}
-use Rattle.dm_map.specs.Snapshots.{number_in, kept_at}
+use Rattle.dm_map.specs.Snapshots.{number_in, store_sector}
 use Rattle.dm_map.specs.State.{Taken, State, taken_at}
 use Rattle.dm_map.specs.Steps.{Step, keep, and_then}
 use Rattle.dm_map.specs.Units.{BlockUnit, ReadOf, WriteOf, Fails, CopyOf, FillOf}
@@ -68,13 +68,13 @@ abbrev pub copy_to : BlockUnit → Home → BlockUnit
 copy_to (ReadOf disk sector) to = CopyOf disk sector to.disk to.sector
 copy_to unit to = FillOf to.disk to.sector
 
-abbrev pub home_kept : Description → FoundSnapshot → (number sector : ℕ) → Home
-home_kept stack snapshot number sector = home stack snapshot.store (kept_at snapshot number sector)
+abbrev pub home_in_store : Description → FoundSnapshot → (number sector : ℕ) → Home
+home_in_store stack snapshot number sector = home stack snapshot.store (store_sector snapshot number sector)
 
 abbrev pub copies : Description → State → FoundSnapshot → (number sector len : ℕ) → List BlockUnit
-copies stack state snapshot number sector len = row (λ s. copy_to (read stack state snapshot.origin s) (home_kept stack snapshot number s)) sector len
+copies stack state snapshot number sector len = row (λ s. copy_to (read stack state snapshot.origin s) (home_in_store stack snapshot number s)) sector len
 
--- A chunk is made ready
+-- A chunk is taken
 
 -- nothing is left to do for it: it is taken, or the snapshot is lost
 abbrev pub is_settled : Taken → (chunk : ℕ) → Bool
@@ -84,9 +84,9 @@ is_settled taken chunk = not taken.valid || is_some (number_in chunk taken.chunk
 abbrev pub can_take : Description → State → FoundSnapshot → (device sector len : ℕ) → Bool
 can_take stack state snapshot device sector len = has_place stack snapshot (length (taken_at state device).chunks) && reads_all stack state snapshot.origin sector len
 
--- it is copied and taken, where it can be; else the snapshot is lost
-abbrev pub ready : Description → FoundSnapshot → (device chunk : ℕ) → State → Step
-ready stack snapshot device chunk state =
+-- nothing is done for a settled chunk; any other is copied and taken where it can be, and else the snapshot is lost, as it is where its store is full
+abbrev pub take_chunk : Description → FoundSnapshot → (device chunk : ℕ) → State → Step
+take_chunk stack snapshot device chunk state =
     let taken = taken_at state device in
     if is_settled taken chunk then keep [] state
     else (if can_take stack state snapshot device (first_of snapshot chunk) (count_of stack snapshot device chunk)
@@ -113,15 +113,15 @@ abbrev pub store_writes : Description → Lower → (sector len : ℕ) → List 
 store_writes stack store sector len = row (λ s. write_to (home stack store s)) sector len
 
 abbrev pub write_numbered : Description → FoundSnapshot → Option ℕ → (sector : ℕ) → BlockUnit
-write_numbered stack snapshot (Some number) sector = write_to (home_kept stack snapshot number sector)
+write_numbered stack snapshot (Some number) sector = write_to (home_in_store stack snapshot number sector)
 write_numbered stack snapshot None sector = Fails
 
-abbrev pub unit_kept : Description → FoundSnapshot → (device : ℕ) → State → (sector : ℕ) → BlockUnit
-unit_kept stack snapshot device state sector =
+abbrev pub unit_in_store : Description → FoundSnapshot → (device : ℕ) → State → (sector : ℕ) → BlockUnit
+unit_in_store stack snapshot device state sector =
     let taken = taken_at state device in
     if taken.valid then write_numbered stack snapshot (number_in (sector / snapshot.chunk) taken.chunks) sector else Fails
 
 abbrev pub write_snapshot : Description → FoundSnapshot → (device : ℕ) → State → (sector : ℕ) → Step
 write_snapshot stack snapshot device state sector =
     if is_refused stack snapshot (taken_at state device) (sector / snapshot.chunk) then keep (Fails ∷ []) state
-    else and_then (ready stack snapshot device (sector / snapshot.chunk) state) (λ after. keep (unit_kept stack snapshot device after sector ∷ []) after)
+    else and_then (take_chunk stack snapshot device (sector / snapshot.chunk) state) (λ after. keep (unit_in_store stack snapshot device after sector ∷ []) after)

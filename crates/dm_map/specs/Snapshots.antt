@@ -10,13 +10,13 @@ abbrev pub number_in : ℕ → List ℕ → Option ℕ
 number_in chunk [] = None
 number_in chunk (first ∷ rest) = if first == chunk then Some 0 else option_map suc (number_in chunk rest)
 
--- the sector of a store that has a sector of a chunk of this number
-abbrev pub kept_at : FoundSnapshot → (number sector : ℕ) → ℕ
-kept_at snapshot number sector = place snapshot.kind snapshot.chunk number * snapshot.chunk + sector % snapshot.chunk
+-- the sector of a store that has a sector of the taken chunk of this number
+abbrev pub store_sector : FoundSnapshot → (number sector : ℕ) → ℕ
+store_sector snapshot number sector = place snapshot.kind snapshot.chunk number * snapshot.chunk + sector % snapshot.chunk
 
 -- a taken chunk is read from the store, any other from the origin
 abbrev pub read_numbered : FoundSnapshot → Option ℕ → ℕ → Below
-read_numbered snapshot (Some number) sector = Lies snapshot.store (kept_at snapshot number sector)
+read_numbered snapshot (Some number) sector = Lies snapshot.store (store_sector snapshot number sector)
 read_numbered snapshot None sector = Lies snapshot.origin sector
 
 -- what lies below a sector of a snapshot that has taken these: nothing, once it isn't valid

@@ -7,7 +7,7 @@ use Rattle.dm_map.specs.declared.stretch.Stretch.{Stretch}
 use Rattle.dm_map.specs.Counts.{AreAdded}
 use Rattle.dm_map.specs.Steps.{Step, keep}
 use Rattle.dm_map.specs.Units.{BlockUnit, ReadOf, Zeros, Fails, IsOnDisk, units_in}
-use Rattle.dm_map.specs.Walk.{Walking, scene}
+use Rattle.dm_map.specs.Walk.{WalkerView, stack_state}
 
 -- the read of the first sector
 abbrev pub ground_unit : Ground → BlockUnit
@@ -22,10 +22,10 @@ IsGroundInStack stack grounds.Zeros len = Unit {0}
 IsGroundInStack stack grounds.Fails len = Unit {0}
 
 -- the first sectors of a range of len are read from its ground, which is there; reads gives the step of the first ones
-pub record IsFirst (before after : Walking) (reads : ℕ → Step) (len : ℕ) (stretch : Stretch) : Type 0 where
+pub record IsFirst (before after : WalkerView) (reads : ℕ → Step) (len : ℕ) (stretch : Stretch) : Type 0 where
   pub some : 1 ≤ stretch.len
   pub most : stretch.len ≤ len
   pub read : reads stretch.len ≡ keep (units_in (ground_unit stretch.ground) stretch.len) before.state
   pub lies : IsGroundInStack before.stack stretch.ground stretch.len
-  pub same : scene after ≡ scene before
+  pub same : stack_state after ≡ stack_state before
   pub looked : AreAdded before.looked after.looked

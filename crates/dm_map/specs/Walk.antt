@@ -1,4 +1,4 @@
--- What a walk down a stack hands over: the steps of ranges and of lines, and places in stripes.
+-- What a walk down a stack hands over: the steps of ranges and of lines, and positions in stripes.
 use Rattle.std.specs.Prelude.{ℕ, ◌≡◌, ◌+◌, ◌*◌, ◌/◌, ◌%◌, ◌^◌, ◌<◌, ◌≤◌, Bool, false, List, [], ◌∷◌, Some, Result, OnOk, OnErr}
 use Rattle.dm_table.specs.declared.request.Op.{Op}
 use Rattle.dm_table.specs.declared.request.Op.TheVariants as ops
@@ -12,7 +12,7 @@ use Rattle.dm_stack.specs.Description.{Description, device_len, is_ro_at, lower_
 use Rattle.dm_stack.specs.Below.{Below, Lies, below_stripes, below_target, column_of, AreStripes, IsSnapshotSound}
 use Rattle.dm_stack.specs.Over.{snapshots_over}
 use Rattle.dm_map.specs.declared.chunk.ReadAt.{ReadAt}
-use Rattle.dm_map.specs.declared.stripe.ChunkPlace.{ChunkPlace}
+use Rattle.dm_map.specs.declared.stripe.StripePosition.{StripePosition}
 use Rattle.dm_map.specs.Counts.{AreAdded, Counts}
 use Rattle.dm_map.specs.Sink.{OfBeginning}
 use Rattle.dm_map.specs.Reads.{by_below, read_unit}
@@ -24,19 +24,19 @@ use Rattle.dm_map.specs.Tables.{snapshot_at}
 use Rattle.dm_map.specs.Units.{BlockUnit, ReadOf, WriteOf, Zeros, Drops, Fails}
 use Rattle.dm_map.specs.Mapping.{write_step, write_target, sector_step}
 
--- a walk: its stack, the state that it is in, and what its looker counted so far
-pub record Walking : Type 0 where
+-- a walker: its stack, the state of its devices, and what its looker counted so far
+pub record WalkerView : Type 0 where
   pub stack : Description
   pub state : State
   pub looked : Counts
 
--- what a walk sees: all of it but the counts
-pub record Scene : Type 0 where
+-- all of it but the counts: what look-ups leave as it is
+pub record StackState : Type 0 where
   pub stack : Description
   pub state : State
 
-abbrev pub scene : Walking → Scene
-scene walk = record { stack = walk.stack; state = walk.state }
+abbrev pub stack_state : WalkerView → StackState
+stack_state walker = record { stack = walker.stack; state = walker.state }
 
 -- the unit of a sector of a disk, and that of one in zeros
 abbrev pub disk_unit : Op → (disk sector : ℕ) → BlockUnit
@@ -66,9 +66,9 @@ abbrev pub below_step : Description → Op → ℕ → Below → State → Step
 below_step stack op levels b state = by_below b (keep (zero_unit op ∷ []) state) (keep (Fails ∷ []) state) (λ to sector. sector_step stack op levels to state sector)
 
 -- the step of len sectors of a striped line
-abbrev pub stripes_step : Description → Op → ℕ → (chunk : ℕ) → List FoundColumn → State → (distance len : ℕ) → Step
-stripes_step stack op levels chunk columns state distance len =
-    steps (λ after place. below_step stack op levels (below_stripes chunk columns place) after) state distance len
+abbrev pub stripes_step : Description → Op → ℕ → (chunk_size : ℕ) → List FoundColumn → State → (distance len : ℕ) → Step
+stripes_step stack op levels chunk_size columns state distance len =
+    steps (λ after at. below_step stack op levels (below_stripes chunk_size columns at) after) state distance len
 
 -- the step of a sector of the line of an origin's device, through at most this many levels of devices below it, and of len of them
 abbrev pub served_sector : Description → Op → ℕ → FoundOrigin → State → (sector : ℕ) → Step
@@ -89,7 +89,7 @@ pub record HasRoomFor {S : Type 0} (stack_of : S → Description) (room_of : S �
   pub room : len ≤ room_of sink
 
 -- a sink took the units of a step of len sectors, and the walk is in the state after it; or the sink failed at a beginning of them
-pub record IsWalked {S F : Type 0} (takes leaves : S → List BlockUnit → S → Type 0) (stack_of : S → Description) (room_of faults_of : S → ℕ) (result : Result (Unit {0}) F) (old new : S) (before after : Walking) (step : Step) (len : ℕ) : Type 0 where
+pub record IsWalked {S F : Type 0} (takes leaves : S → List BlockUnit → S → Type 0) (stack_of : S → Description) (room_of faults_of : S → ℕ) (result : Result (Unit {0}) F) (old new : S) (before after : WalkerView) (step : Step) (len : ℕ) : Type 0 where
   pub took : OnOk result (takes old step.units new)
   pub state : OnOk result (after.state ≡ step.state)
   pub kept : OnOk result (stack_of new ≡ stack_of old)
@@ -107,16 +107,16 @@ pub record IsHanded {S F : Type 0} (takes leaves : S → List BlockUnit → S �
   pub stack : OnOk result (stack_of new ≡ stack_of old)
   pub room : OnOk result (room_of old ≤ room_of new + len)
 
--- the place in stripes of a sector at a distance from the line's start
-pub record IsPlace (chunk count distance : ℕ) (place : ChunkPlace) : Type 0 where
-  pub column : place.column ≡ column_of chunk count distance
-  pub chunk_start : place.chunk_start ≡ distance / chunk / count * chunk
-  pub past : place.past ≡ distance % chunk
+-- the position in stripes of a sector at a distance from the line's start
+pub record IsStripePosition (chunk_size count distance : ℕ) (position : StripePosition) : Type 0 where
+  pub column : position.column ≡ column_of chunk_size count distance
+  pub chunk_start : position.chunk_start ≡ distance / chunk_size / count * chunk_size
+  pub past : position.past ≡ distance % chunk_size
 
 -- len sectors from a distance on are of a striped line
-pub record AreInStripes (stack : Description) (chunk : ℕ) (columns : List FoundColumn) (distance len : ℕ) : Type 0 where
+pub record AreInStripes (stack : Description) (chunk_size : ℕ) (columns : List FoundColumn) (distance len : ℕ) : Type 0 where
   pub line_len : ℕ
-  pub stripes : AreStripes stack line_len chunk columns
+  pub stripes : AreStripes stack line_len chunk_size columns
   pub inside : distance + len ≤ line_len
   pub small : line_len ≤ 2 ^ 50
 
@@ -132,9 +132,9 @@ pub record AreInChunk (stack : Description) (device : ℕ) (snapshot : FoundSnap
   pub part : sector % snapshot.chunk + len ≤ snapshot.chunk
 
 -- where len sectors of one chunk are read: in a row on a device or a disk, which has them
-pub record AreReadAt (stack : Description) (state : State) (device : ℕ) (snapshot : FoundSnapshot) (sector len : ℕ) (place : ReadAt) : Type 0 where
-  pub lies : (i : ℕ) → i < len → read_over (taken_at state device) snapshot (sector + i) ≡ Lies place.to (place.sector + i)
-  pub inside : place.sector + len ≤ lower_len stack place.to
+pub record AreReadAt (stack : Description) (state : State) (device : ℕ) (snapshot : FoundSnapshot) (sector len : ℕ) (source : ReadAt) : Type 0 where
+  pub lies : (i : ℕ) → i < len → read_over (taken_at state device) snapshot (sector + i) ≡ Lies source.to (source.sector + i)
+  pub inside : source.sector + len ≤ lower_len stack source.to
 
 -- len sectors from a sector on are of what an origin's line names, which has the snapshots of that
 pub record AreInOrigin (stack : Description) (origin : FoundOrigin) (sector len : ℕ) : Type 0 where

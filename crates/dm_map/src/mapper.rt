@@ -10,7 +10,7 @@ ghost use Rattle.dm_stack.specs.Loaded.{snapshots, stack_depth, IsSnapshot};
 ghost use Rattle.dm_map.specs.Mapping.{request_step};
 ghost use Rattle.dm_map.specs.Counts.{grown_by, no_counts, AreAdded};
 ghost use Rattle.dm_map.specs.Fitting.{IsWithinPlaces};
-ghost use Rattle.dm_map.specs.Mapper.{walking_of, with_looked, OnSinkFault, OnStopped, OnTried};
+ghost use Rattle.dm_map.specs.Mapper.{walker_of, with_looked, OnSinkFault, OnStopped, OnTried};
 ghost use Rattle.dm_map.specs.Path.{read_stretches};
 ghost use Rattle.dm_map.specs.Sink.{OfBeginning};
 ghost use Rattle.dm_map.specs.State.{start_state, taken_at};
@@ -194,7 +194,7 @@ impl<'s, T: Taken> Mapper<'s, T> {
         requires some { 1 ≤ len }
         requires device { device < length self.old.stack.devices }
         requires sink { HasRoomFor S.stack S.room sink.old self.old.stack len }
-        ensures walked { IsWalked S.took S.left S.stack S.room S.faults result sink.old sink.new (walking_of self.old) (walking_of self.new) (request_step self.old.stack op device start len self.old.state) len }
+        ensures walked { IsWalked S.took S.left S.stack S.room S.faults result sink.old sink.new (walker_of self.old) (walker_of self.new) (request_step self.old.stack op device start len self.old.state) len }
         ensures bounded { op ≡ Read → self.new.looked.searches ≤ self.old.looked.searches + stack_depth self.old.stack * read_stretches self.old.stack self.old.state device start len }
         ensures stopped { self.new.stopped ≡ self.old.stopped }
     {

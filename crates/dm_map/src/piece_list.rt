@@ -21,9 +21,9 @@ pub struct PieceList<'s> {
 }
 
 impl<'s> Model for PieceList<'s> {
-    ghost use Rattle.dm_map.specs.PieceList.{Kept};
+    ghost use Rattle.dm_map.specs.PieceList.{PieceListView};
 
-    ghost Value = { Kept };
+    ghost Value = { PieceListView };
 
     ghost view = { λ list. record { stack = list.stack.now; pieces = list.pieces.items; faults = list.faults } };
 }
@@ -52,9 +52,9 @@ impl<'s> PieceList<'s> {
 
 impl Sink for PieceList<'_> {
     ghost use Rattle.std.specs.Prelude.{◌^◌};
-    ghost use Rattle.dm_map.specs.PieceList.{Keeps};
+    ghost use Rattle.dm_map.specs.PieceList.{Appends};
     ghost use Rattle.dm_map.specs.Sink.{OfBeginning};
-    ghost use Rattle.dm_map.specs.KeptLaws.{keeps_nothing, keeps_both, keeps_beginning};
+    ghost use Rattle.dm_map.specs.PieceListLaws.{appends_nothing, appends_both, appends_beginning};
 
     type Fault = AllocError;
 
@@ -64,9 +64,9 @@ impl Sink for PieceList<'_> {
 
     ghost faults = { λ list. list.faults };
 
-    ghost took = { λ old units new. Keeps old units new };
+    ghost took = { λ old units new. Appends old units new };
 
-    ghost left = { λ old units new. OfBeginning Keeps old units new };
+    ghost left = { λ old units new. OfBeginning Appends old units new };
 
     /// Keeps the piece, or none of it if an allocation is refused.
     fn piece(&mut self, piece: Piece) -> Result<(), AllocError> {
@@ -79,9 +79,9 @@ impl Sink for PieceList<'_> {
         }
     }
 
-    ghost took_nothing = { λ s. keeps_nothing s };
+    ghost took_nothing = { λ s. appends_nothing s };
 
-    ghost took_then_took = { λ a b c us vs first second. keeps_both a b c us vs first second };
+    ghost took_then_took = { λ a b c us vs first second. appends_both a b c us vs first second };
 
-    ghost took_then_left = { λ a b c us vs first second. keeps_beginning a b c us vs first second };
+    ghost took_then_left = { λ a b c us vs first second. appends_beginning a b c us vs first second };
 }

@@ -1,6 +1,6 @@
 //! The snapshots of an origin: what a write to the origin's device does before it writes.
 //!
-//! In each of them the chunk of a sector is made ready, so that it keeps what the origin had there.
+//! In each of them the chunk of a sector is taken, so that the snapshot still has what the origin had.
 //! Then as many sectors are written as need no more of it: a range is cut where a snapshot has
 //! something left to do, and not wherever a chunk ends.
 
@@ -12,13 +12,13 @@ ghost use Rattle.dm_map.specs.State.{taken_at};
 ghost use Rattle.dm_map.specs.Walk.{HasRoomFor, IsWalked};
 
 use crate::chunk::part_of_chunk;
-use crate::ready::{is_settled, make_ready};
 use crate::sink::Sink;
+use crate::take_chunk::{is_settled, take_chunk};
 use crate::taken::Taken;
 use crate::walker::Walker;
 use dm_stack::FoundOver;
 
-/// Makes the chunk of a sector of an origin ready in each of its snapshots, in their order.
+/// Takes the chunk of a sector of an origin in each of its snapshots, in their order.
 pub(crate) fn serve<S: Sink, T: Taken>(
     walker: &mut Walker<'_, T>,
     over: &[FoundOver],
@@ -34,7 +34,7 @@ pub(crate) fn serve<S: Sink, T: Taken>(
     walker.has_tables();
     for one in over {
         let chunk = sector / one.snapshot.chunk as u64;
-        make_ready(walker, one.device, &one.snapshot, chunk, sink)?;
+        take_chunk(walker, one.device, &one.snapshot, chunk, sink)?;
     }
     Ok(())
 }
@@ -80,10 +80,10 @@ fn settled_in<T: Taken>(walker: &Walker<'_, T>, one: &FoundOver, sector: u64, mo
     if !walker.is_valid(one.device) {
         return most;
     }
-    let size = one.snapshot.chunk as u64;
-    let mut part = part_of_chunk(size, sector, most);
-    while part < most && is_settled(walker, one.device, (sector + part) / size) {
-        part += part_of_chunk(size, sector + part, most - part);
+    let chunk_size = one.snapshot.chunk as u64;
+    let mut part = part_of_chunk(chunk_size, sector, most);
+    while part < most && is_settled(walker, one.device, (sector + part) / chunk_size) {
+        part += part_of_chunk(chunk_size, sector + part, most - part);
     }
     part
 }

@@ -12,9 +12,9 @@ ghost use Rattle.dm_stack.specs.Description.{lower_len};
 ghost use Rattle.dm_map.specs.Stretch.{IsFirst};
 ghost use Rattle.dm_map.specs.Walk.{line_step, range_step};
 
-use crate::chunk::{part_of_chunk, read_place};
+use crate::chunk::{part_of_chunk, read_at};
 use crate::step::{part_in, sector_at};
-use crate::stripe::place_at;
+use crate::stripe::position_at;
 use crate::taken::Taken;
 use crate::walker::Walker;
 use dm_stack::{DeviceId, DiskId, FoundLine, FoundTarget, Lower};
@@ -102,12 +102,15 @@ fn line_stretch<T: Taken>(
             let sector = sector_at(walker, *to, *offset, distance);
             first_stretch(walker, levels, *to, sector, len)
         }
-        FoundTarget::Striped { chunk, columns } => {
-            let place = place_at(chunk, columns.count(), distance);
+        FoundTarget::Striped {
+            chunk: chunk_size,
+            columns,
+        } => {
+            let position = position_at(chunk_size, columns.count(), distance);
             let columns = columns.as_slice();
-            let part = len.min(chunk.value() - place.past);
-            let column = columns[place.column];
-            let sector = sector_at(walker, column.to, column.offset, place.in_column());
+            let part = len.min(chunk_size.value() - position.past);
+            let column = columns[position.column];
+            let sector = sector_at(walker, column.to, column.offset, position.in_column());
             first_stretch(walker, levels, column.to, sector, part)
         }
         FoundTarget::Zero => Stretch {
@@ -121,8 +124,8 @@ fn line_stretch<T: Taken>(
         FoundTarget::Origin(origin) => first_stretch(walker, levels, origin.to, distance, len),
         FoundTarget::Snapshot(snapshot) => {
             let part = part_of_chunk(snapshot.chunk as u64, distance, len);
-            match read_place(walker, device, snapshot, distance, part) {
-                Some(place) => first_stretch(walker, levels, place.to, place.sector, part),
+            match read_at(walker, device, snapshot, distance, part) {
+                Some(source) => first_stretch(walker, levels, source.to, source.sector, part),
                 None => Stretch {
                     ground: Ground::Fails,
                     len: part,

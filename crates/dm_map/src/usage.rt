@@ -7,7 +7,7 @@ ghost use Rattle.dm_map.specs.Counts.{AreAdded};
 ghost use Rattle.dm_map.specs.State.{taken_at};
 ghost use Rattle.dm_map.specs.Tables.{snapshot_at};
 ghost use Rattle.dm_map.specs.Usage.{usage_of};
-ghost use Rattle.dm_map.specs.Walk.{scene};
+ghost use Rattle.dm_map.specs.Walk.{stack_state};
 
 use crate::taken::Taken;
 use crate::walker::Walker;
@@ -36,7 +36,7 @@ pub struct Usage {
 pub(crate) fn usage_of<T: Taken>(walker: &mut Walker<'_, T>, device: DeviceId) -> Usage
     requires { IsSnapshot walker.old.stack device }
     ensures usage { IfSome (snapshot_at walker.old.stack device) (λ snapshot. result ≡ usage_of walker.old.stack snapshot (taken_at walker.old.state device)) }
-    ensures same { scene walker.new ≡ scene walker.old }
+    ensures same { stack_state walker.new ≡ stack_state walker.old }
     ensures looked { AreAdded walker.old.looked walker.new.looked }
     ensures one { walker.new.looked.searches ≤ walker.old.looked.searches + 1 }
 {
@@ -47,22 +47,33 @@ pub(crate) fn usage_of<T: Taken>(walker: &mut Walker<'_, T>, device: DeviceId) -
     };
     let total = walker.lower_len(snapshot.store);
     let valid = walker.is_valid(device);
-    let chunk = snapshot.chunk as u64;
-    usage_with(snapshot.kind, chunk, walker.count(device), total, valid)
+    let chunk_size = snapshot.chunk as u64;
+    usage_with(
+        snapshot.kind,
+        chunk_size,
+        walker.count(device),
+        total,
+        valid,
+    )
 }
 
-/// The usage of a store of a kind and a length that has this many taken chunks.
-fn usage_with(kind: StoreKind, chunk: u64, taken: usize, total: u64, valid: bool) -> Usage
-    requires some { 0 < chunk }
-    requires small { chunk ≤ 1024 }
-    requires fits { allocated kind chunk taken < 2 ^ 63 }
-    ensures { result ≡ record { allocated = allocated kind chunk taken; total = total; metadata = metadata kind chunk taken; valid = valid } }
+/// The usage of a store of a kind and a length that has this many taken chunks, of this size.
+fn usage_with(kind: StoreKind, chunk_size: u64, taken: usize, total: u64, valid: bool) -> Usage
+    requires some { 0 < chunk_size }
+    requires small { chunk_size ≤ 1024 }
+    requires fits { allocated kind chunk_size taken < 2 ^ 63 }
+    ensures { result ≡ record {
+      allocated = allocated kind chunk_size taken;
+      total = total;
+      metadata = metadata kind chunk_size taken;
+      valid = valid;
+    } }
 {
     let taken = taken as u64;
     Usage {
-        allocated: allocated(kind, chunk, taken),
+        allocated: allocated(kind, chunk_size, taken),
         total,
-        metadata: metadata(kind, chunk, taken),
+        metadata: metadata(kind, chunk_size, taken),
         valid,
     }
 }

@@ -23,13 +23,13 @@ ghost use Rattle.dm_map.specs.Steps.{steps};
 ghost use Rattle.dm_map.specs.Units.{Fails, diskless_len, piece_len, units_in, units_of, IsOnDisk, IsOnDisks};
 ghost use Rattle.dm_map.specs.Walk.{disk_unit, zero_unit, refuses, range_step, line_step, origin_step, stripes_step, AreInChunk, AreInOrigin, AreInSnapshot, AreInStripes, IsHanded, HasRoomFor, IsWalked};
 
-use crate::chunk::{part_of_chunk, read_place};
+use crate::chunk::{part_of_chunk, read_at};
 use crate::piece::Piece;
-use crate::ready::{is_refused, make_ready, write_store};
 use crate::serving::{serve, settled_part};
 use crate::sink::Sink;
 use crate::step::{part_in, sector_at};
-use crate::stripe::{next_chunk, place_at};
+use crate::stripe::{next_chunk, position_at};
+use crate::take_chunk::{is_refused, take_chunk, write_store};
 use crate::taken::Taken;
 use crate::walker::Walker;
 use dm_stack::{
@@ -128,11 +128,14 @@ fn map_line<S: Sink, T: Taken>(
             let sector = sector_at(walker, *to, *offset, distance);
             map_range(walker, op, levels, *to, sector, len, sink)
         }
-        FoundTarget::Striped { chunk, columns } => {
+        FoundTarget::Striped {
+            chunk: chunk_size,
+            columns,
+        } => {
             let count = columns.count();
             let columns = columns.as_slice();
             map_stripes(
-                walker, op, levels, chunk, columns, count, distance, len, sink,
+                walker, op, levels, chunk_size, columns, count, distance, len, sink,
             )
         }
         FoundTarget::Zero => hand_zeros(op, len, sink),
@@ -152,7 +155,7 @@ fn map_stripes<S: Sink, T: Taken>(
     walker: &mut Walker<'_, T>,
     op: Op,
     levels: u32,
-    chunk: &Divisor,
+    chunk_size: &Divisor,
     columns: &[FoundColumn],
     count: &Divisor,
     distance: u64,
@@ -160,22 +163,22 @@ fn map_stripes<S: Sink, T: Taken>(
     sink: &mut S,
 ) -> Result<(), S::Fault>
     requires some { 1 ≤ len }
-    requires inside { AreInStripes walker.old.stack chunk.now columns.now distance len }
+    requires inside { AreInStripes walker.old.stack chunk_size.now columns.now distance len }
     requires count { count.now ≡ length columns.now }
     requires sink { HasRoomFor S.stack S.room sink.old walker.old.stack len }
-    ensures walked { IsWalked S.took S.left S.stack S.room S.faults result sink.old sink.new walker.old walker.new (stripes_step walker.old.stack op levels chunk.now columns.now walker.old.state distance len) len }
-    ensures bounded { (device : ℕ) → IsTargetBounded walker.old walker.new op levels device (Striped chunk.now columns.now) distance len }
+    ensures walked { IsWalked S.took S.left S.stack S.room S.faults result sink.old sink.new walker.old walker.new (stripes_step walker.old.stack op levels chunk_size.now columns.now walker.old.state distance len) len }
+    ensures bounded { (device : ℕ) → IsTargetBounded walker.old walker.new op levels device (Striped chunk_size.now columns.now) distance len }
 {
-    let size = chunk.value();
-    let mut place = place_at(chunk, count, distance);
+    let size = chunk_size.value();
+    let mut position = position_at(chunk_size, count, distance);
     let mut left = len;
     while left > 0 {
-        let part = left.min(size - place.past);
-        let column = columns[place.column];
-        let sector = sector_at(walker, column.to, column.offset, place.in_column());
+        let part = left.min(size - position.past);
+        let column = columns[position.column];
+        let sector = sector_at(walker, column.to, column.offset, position.in_column());
         map_range(walker, op, levels, column.to, sector, part, sink)?;
         left -= part;
-        place = next_chunk(size, columns.len(), place);
+        position = next_chunk(size, columns.len(), position);
     }
     Ok(())
 }
@@ -234,14 +237,14 @@ fn map_chunk<S: Sink, T: Taken>(
 {
     match op {
         Op::Write => write_chunk(walker, device, snapshot, sector, len, sink),
-        Op::Read => match read_place(walker, device, snapshot, sector, len) {
-            Some(place) => map_range(walker, op, levels, place.to, place.sector, len, sink),
+        Op::Read => match read_at(walker, device, snapshot, sector, len) {
+            Some(source) => map_range(walker, op, levels, source.to, source.sector, len, sink),
             None => sink.piece(Piece::Error { len }),
         },
     }
 }
 
-/// Hands over the units of writes to sectors of one chunk of a snapshot: the chunk is made ready, and
+/// Hands over the units of writes to sectors of one chunk of a snapshot: the chunk is taken, and
 /// then they are written where they are read from then on. Where it is refused, all of them fail, and
 /// nothing changes.
 fn write_chunk<S: Sink, T: Taken>(
@@ -261,9 +264,9 @@ fn write_chunk<S: Sink, T: Taken>(
     if is_refused(walker, device, snapshot, chunk) {
         return sink.piece(Piece::Error { len });
     }
-    make_ready(walker, device, snapshot, chunk, sink)?;
-    match read_place(walker, device, snapshot, sector, len) {
-        Some(place) => write_store(walker, &place.to, place.sector, len, sink),
+    take_chunk(walker, device, snapshot, chunk, sink)?;
+    match read_at(walker, device, snapshot, sector, len) {
+        Some(source) => write_store(walker, &source.to, source.sector, len, sink),
         None => sink.piece(Piece::Error { len }),
     }
 }
@@ -295,8 +298,8 @@ fn map_origin<S: Sink, T: Taken>(
     }
 }
 
-/// Hands over the units of writes to sectors of an origin: its snapshots are made ready for the first
-/// of them, and then as many are written as need nothing more.
+/// Hands over the units of writes to sectors of an origin: the chunk of the first of them is
+/// taken in its snapshots, and then as many are written as need nothing more.
 ///
 /// A part that was cut short lets the next one look no further than twice as far, so that no part
 /// looks again at all that lies behind it.

@@ -14,7 +14,7 @@ ghost use Rattle.dm_map.specs.SnapshotWrites.{lost, put, with_chunk};
 ghost use Rattle.dm_map.specs.Snapshots.{number_in};
 ghost use Rattle.dm_map.specs.State.{taken_at};
 ghost use Rattle.dm_map.specs.Tables.{AreTables, has_room, state_of};
-ghost use Rattle.dm_map.specs.Walk.{scene};
+ghost use Rattle.dm_map.specs.Walk.{stack_state};
 
 use crate::taken::Taken;
 use dm_stack::{DeviceId, Found, Looker, Lower};
@@ -30,9 +30,9 @@ pub(crate) struct Walker<'s, T: Taken> {
 impl<'s, T: Taken> Model for Walker<'s, T> {
     ghost use Rattle.dm_map.specs.Tables.{AreTables, state_of};
     ghost use Rattle.dm_map.specs.Counts.{counts_of};
-    ghost use Rattle.dm_map.specs.Walk.{Walking};
+    ghost use Rattle.dm_map.specs.Walk.{WalkerView};
 
-    ghost Value = { Walking };
+    ghost Value = { WalkerView };
 
     ghost view = { λ walker. record { stack = walker.looker.stack; state = state_of T.chunks T.valid walker.tables.items; looked = counts_of walker.looker } };
 
@@ -87,7 +87,7 @@ impl<'s, T: Taken> Walker<'s, T> {
         ensures line { found_at self.old.stack device sector ≡ Some result.now }
         ensures holds { HoldsSoundly self.old.stack device result.now sector }
         ensures all { (other : ℕ) → result.now.start ≤ other → other < result.now.start + result.now.len → found_at self.old.stack device other ≡ Some result.now }
-        ensures same { scene self.new ≡ scene self.old }
+        ensures same { stack_state self.new ≡ stack_state self.old }
         ensures looked { AreAdded self.old.looked self.new.looked }
         ensures one { self.new.looked.searches ≤ self.old.looked.searches + 1 }
     {

@@ -19,22 +19,22 @@ nonzero_div-chunk g c =
     let a = c.args in let w = a.walker.now in let l = c.loop-one in
     (over_sound w.stack (a.sector + 1) c.one-item.result c.is_sound.ensures (over_at w.stack (a.sector + 1) a.over.now l.one-index c.one-item.result c.requires.over c.loop-one-test.true c.one-item.is)).chunk_some
 
-pub make_ready-requires-clause-sound : goal.make_ready-requires-clause-sound
-make_ready-requires-clause-sound g c =
+pub take_chunk-requires-clause-sound : goal.take_chunk-requires-clause-sound
+take_chunk-requires-clause-sound g c =
     let a = c.args in let w = a.walker.now in let l = c.loop-one in let one = c.one-item.result in
     let it = over_at w.stack (a.sector + 1) a.over.now l.one-index one c.requires.over c.loop-one-test.true c.one-item.is in
     subst (λ (s : Description). IsSnapshotSound s one.device 0 (device_len s one.device) one.snapshot) (sym l.invariant.stack) (over_sound w.stack (a.sector + 1) one c.is_sound.ensures it)
 
-pub returns-in_err-make_ready-clause-walked : goal.returns-in_err-make_ready-clause-walked
-returns-in_err-make_ready-clause-walked g c =
+pub returns-in_err-take_chunk-clause-walked : goal.returns-in_err-take_chunk-clause-walked
+returns-in_err-take_chunk-clause-walked g c =
     let a = c.args in let w = a.walker.now in let l = c.loop-one in let one = c.one-item.result in
-    served_cut g.S.Sink.took g.S.Sink.left g.S.Sink.stack g.S.Sink.room g.S.Sink.faults _ c.from_residual.result a.sink.now c.make_ready.new.sink w c.make_ready.new.walker a.over.now (l.one-index + 1) a.sector c.from_residual.ensures.0
-    (served_on g.S.Sink.took g.S.Sink.left g.S.Sink.stack g.S.Sink.room g.S.Sink.faults g.met.S.Sink.took_then_took g.met.S.Sink.took_then_left _ a.sink.now l.sink c.make_ready.new.sink w l.walker c.make_ready.new.walker a.over.now l.one-index a.sector one c.loop-one-test.true c.one-item.is l.invariant c.in_err-make_ready.ensures)
+    served_cut g.S.Sink.took g.S.Sink.left g.S.Sink.stack g.S.Sink.room g.S.Sink.faults _ c.from_residual.result a.sink.now c.take_chunk.new.sink w c.take_chunk.new.walker a.over.now (l.one-index + 1) a.sector c.from_residual.ensures.0
+    (served_on g.S.Sink.took g.S.Sink.left g.S.Sink.stack g.S.Sink.room g.S.Sink.faults g.met.S.Sink.took_then_took g.met.S.Sink.took_then_left _ a.sink.now l.sink c.take_chunk.new.sink w l.walker c.take_chunk.new.walker a.over.now l.one-index a.sector one c.loop-one-test.true c.one-item.is l.invariant c.in_err-take_chunk.ensures)
 
 pub loop-one-preserved : goal.loop-one-preserved
 loop-one-preserved g c =
     let a = c.args in let w = a.walker.now in let l = c.loop-one in let one = c.one-item.result in
-    let on = served_on g.S.Sink.took g.S.Sink.left g.S.Sink.stack g.S.Sink.room g.S.Sink.faults g.met.S.Sink.took_then_took g.met.S.Sink.took_then_left _ a.sink.now l.sink c.make_ready.new.sink w l.walker c.make_ready.new.walker a.over.now l.one-index a.sector one c.loop-one-test.true c.one-item.is l.invariant c.in_ok-make_ready.ensures in
+    let on = served_on g.S.Sink.took g.S.Sink.left g.S.Sink.stack g.S.Sink.room g.S.Sink.faults g.met.S.Sink.took_then_took g.met.S.Sink.took_then_left _ a.sink.now l.sink c.take_chunk.new.sink w l.walker c.take_chunk.new.walker a.over.now l.one-index a.sector one c.loop-one-test.true c.one-item.is l.invariant c.in_ok-take_chunk.ensures in
     record { took = on.took; state = on.state; kept = on.kept; room = on.room; left = tt; faults = on.faults; stack = on.stack; looked = on.looked }
 
 pub returns-clause-settled : goal.returns-clause-settled

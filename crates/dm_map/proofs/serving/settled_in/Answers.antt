@@ -1,7 +1,7 @@
 use Rattle.std.proofs.Common.{◌+◌, sym, ◌∙◌, arith}
 use Rattle.dm_map.specs.State.{taken_at}
 use Rattle.dm_map.proofs.Served.{chunk_more, chunk_settled, over_sound}
-use Rattle.dm_map.proofs.There.{device_there}
+use Rattle.dm_map.proofs.InStack.{device_there}
 use Rattle.dm_map.proofs.serving.settled_in.Goals as goal
 
 pub part_of_chunk-part-requires : goal.part_of_chunk-part-requires

@@ -6,10 +6,10 @@ use Rattle.dm_stack.specs.StoreLayout.{place}
 use Rattle.dm_stack.proofs.SoundLines.{device_some}
 use Rattle.dm_stack.proofs.StoreLayoutLemmas.{allocated_small}
 use Rattle.dm_map.specs.Tables.{has_room, snapshot_at}
-use Rattle.dm_map.specs.Walk.{Scene}
+use Rattle.dm_map.specs.Walk.{StackState}
 use Rattle.dm_map.proofs.Chunks.{room_place}
 use Rattle.dm_map.proofs.TableLemmas.{store_some}
-use Rattle.dm_map.proofs.There.{lower_small}
+use Rattle.dm_map.proofs.InStack.{lower_small}
 use Rattle.dm_map.proofs.usage.usage_of.Goals as goal
 
 pub look-line-requires-clause-sector : goal.look-line-requires-clause-sector
@@ -18,7 +18,7 @@ look-line-requires-clause-sector g c = device_some c.args.walker.now.stack c.arg
 pub lower_len-total-requires : goal.lower_len-total-requires
 lower_len-total-requires g c =
     let w = c.args.walker.now in let snapshot = c.in-Snapshot.snapshot in
-    subst (λ (v : Scene). 0 < lower_len v.stack snapshot.store) (sym c.look-line.ensures.same)
+    subst (λ (v : StackState). 0 < lower_len v.stack snapshot.store) (sym c.look-line.ensures.same)
     (store_some w.stack c.args.device 0 c.look-line.result.now snapshot c.is_sound.ensures c.look-line.ensures.line c.in-Snapshot.is)
 
 pub usage_with-requires-clause-fits : goal.usage_with-requires-clause-fits
@@ -28,6 +28,6 @@ usage_with-requires-clause-fits g c =
     let is : snapshot_at w.stack c.args.device ≡ Some snapshot = rw (c.look-line.ensures.line, c.in-Snapshot.is) refl in
     let small = lower_small w.stack snapshot.store c.is_sound.ensures in
     let fits : (number : ℕ) → number < c.count.result → (place snapshot.kind snapshot.chunk number + 1) * snapshot.chunk ≤ lower_len w.stack snapshot.store = λ number less.
-    room_place w.stack c.args.device number snapshot is (subst (λ (v : Scene). has_room v.stack c.args.device number ≡ true) c.look-line.ensures.same (c.count.ensures.room number less)) in
+    room_place w.stack c.args.device number snapshot is (subst (λ (v : StackState). has_room v.stack c.args.device number ≡ true) c.look-line.ensures.same (c.count.ensures.room number less)) in
     let most = allocated_small snapshot.kind snapshot.chunk c.count.result (lower_len w.stack snapshot.store) sound.chunk_some fits in
     omega (arith, most, small, sound.chunk_small)

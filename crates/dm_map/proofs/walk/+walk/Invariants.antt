@@ -5,7 +5,7 @@ use Rattle.dm_stack.specs.declared.id.Lower.TheVariants.{Device}
 use Rattle.dm_stack.specs.Soundness.{depth_of}
 use Rattle.dm_map.specs.Bound.{IsBounded, IsTargetBounded}
 use Rattle.dm_map.specs.Path.{path}
-use Rattle.dm_map.specs.Walk.{range_step, line_step, origin_step, stripes_step, IsPlace, IsWalked}
+use Rattle.dm_map.specs.Walk.{range_step, line_step, origin_step, stripes_step, IsStripePosition, IsWalked}
 use Rattle.dm_map.proofs.Bounds.{FirstOfChunk, LineBefore}
 use Rattle.dm_map.proofs.WalkedOn.{going_on}
 use Rattle.dm_map.proofs.walk.+walk.Given as goal
@@ -38,7 +38,7 @@ abbrev pub invariant-map_device-loop-left : goal.invariant-map_device-loop-left
 invariant-map_device-loop-left g l = record {
   walked : IsWalked g.S.Sink.took g.S.Sink.left g.S.Sink.stack g.S.Sink.room g.S.Sink.faults going_on l.fn.sink l.sink l.fn.walker l.walker (range_step l.fn.walker.stack l.op l.levels (Device l.device) l.fn.walker.state l.sector (l.len - l.left)) (l.len - l.left);
   within : l.left ≤ l.len;
-  place : l.at + l.left ≡ l.sector + l.len;
+  position : l.at + l.left ≡ l.sector + l.len;
   edge : 0 < l.len - l.left → 0 < l.left → LineBefore l.fn.walker.stack l.device l.at;
   bounded : IsBounded l.fn.walker l.walker l.op (depth_of l.fn.walker.stack l.device) (path l.fn.walker.stack l.fn.walker.state l.levels (Device l.device)) l.sector (l.len - l.left);
 }
@@ -48,11 +48,11 @@ decreases-map_device-loop-left g l = l.left
 
 abbrev pub invariant-map_stripes-loop-left : goal.invariant-map_stripes-loop-left
 invariant-map_stripes-loop-left g l = record {
-  walked : IsWalked g.S.Sink.took g.S.Sink.left g.S.Sink.stack g.S.Sink.room g.S.Sink.faults going_on l.fn.sink l.sink l.fn.walker l.walker (stripes_step l.fn.walker.stack l.op l.levels l.chunk l.columns l.fn.walker.state l.distance (l.len - l.left)) (l.len - l.left);
+  walked : IsWalked g.S.Sink.took g.S.Sink.left g.S.Sink.stack g.S.Sink.room g.S.Sink.faults going_on l.fn.sink l.sink l.fn.walker l.walker (stripes_step l.fn.walker.stack l.op l.levels l.chunk_size l.columns l.fn.walker.state l.distance (l.len - l.left)) (l.len - l.left);
   within : l.left ≤ l.len;
-  place : 0 < l.left → IsPlace l.chunk (length l.columns) (l.distance + (l.len - l.left)) l.place;
-  edge : 0 < l.len - l.left → 0 < l.left → FirstOfChunk l.chunk (l.distance + (l.len - l.left));
-  bounded : (device : ℕ) → IsTargetBounded l.fn.walker l.walker l.op l.levels device (Striped l.chunk l.columns) l.distance (l.len - l.left);
+  position : 0 < l.left → IsStripePosition l.chunk_size (length l.columns) (l.distance + (l.len - l.left)) l.position;
+  edge : 0 < l.len - l.left → 0 < l.left → FirstOfChunk l.chunk_size (l.distance + (l.len - l.left));
+  bounded : (device : ℕ) → IsTargetBounded l.fn.walker l.walker l.op l.levels device (Striped l.chunk_size l.columns) l.distance (l.len - l.left);
 }
 
 abbrev pub decreases-map_stripes-loop-left : goal.decreases-map_stripes-loop-left
@@ -62,7 +62,7 @@ abbrev pub invariant-map_snapshot-loop-left : goal.invariant-map_snapshot-loop-l
 invariant-map_snapshot-loop-left g l = record {
   walked : IsWalked g.S.Sink.took g.S.Sink.left g.S.Sink.stack g.S.Sink.room g.S.Sink.faults going_on l.fn.sink l.sink l.fn.walker l.walker (line_step l.fn.walker.stack l.op l.levels l.device (Snapshot l.snapshot) l.fn.walker.state l.sector (l.len - l.left)) (l.len - l.left);
   within : l.left ≤ l.len;
-  place : l.from + l.left ≡ l.sector + l.len;
+  position : l.from + l.left ≡ l.sector + l.len;
   edge : 0 < l.len - l.left → 0 < l.left → FirstOfChunk l.snapshot.chunk (l.sector + (l.len - l.left));
   bounded : IsTargetBounded l.fn.walker l.walker l.op l.levels l.device (Snapshot l.snapshot) l.sector (l.len - l.left);
 }
@@ -74,7 +74,7 @@ abbrev pub invariant-write_origin-loop-left : goal.invariant-write_origin-loop-l
 invariant-write_origin-loop-left g l = record {
   walked : IsWalked g.S.Sink.took g.S.Sink.left g.S.Sink.stack g.S.Sink.room g.S.Sink.faults going_on l.fn.sink l.sink l.fn.walker l.walker (origin_step l.fn.walker.stack Write l.levels l.origin l.fn.walker.state l.sector (l.len - l.left)) (l.len - l.left);
   within : l.left ≤ l.len;
-  place : l.from + l.left ≡ l.sector + l.len;
+  position : l.from + l.left ≡ l.sector + l.len;
   some : 1 ≤ l.most;
 }
 

@@ -5,7 +5,7 @@ use Rattle.dm_stack.specs.Soundness.{depth_of, IsSound}
 use Rattle.dm_stack.specs.declared.graph.TheConstants.{MOST_DEPTH}
 use Rattle.dm_stack.specs.declared.id.Lower.TheVariants.{Device}
 use Rattle.dm_map.specs.Bound.{IsBounded}
-use Rattle.dm_map.specs.Mapper.{MapperView, walking_of}
+use Rattle.dm_map.specs.Mapper.{MapperView, walker_of}
 use Rattle.dm_map.specs.Mapping.{request_step}
 use Rattle.dm_map.specs.Path.{path}
 use Rattle.dm_map.specs.Walk.{IsWalked}
@@ -17,19 +17,19 @@ pub returns-then-passes_end-clause-walked : goal.returns-then-passes_end-clause-
 returns-then-passes_end-clause-walked g c =
     let a = c.args in let m = a.self.now in let f = c.fail in
     let past : nat_lt (device_len m.stack a.device) (a.start + a.len) ≡ true = ap (λ x. nat_lt (device_len x.stack a.device) (a.start + a.len)) (sym c.self.view_is) ∙ ap (λ end. nat_lt end (a.start + a.len)) (sym c.len-end.ensures.len) ∙ sym c.if-passes_end.ensures in
-    walked_piece g.S.Sink.took g.S.Sink.left g.S.Sink.stack g.S.Sink.room g.S.Sink.faults f.result a.sink.now f.new.sink (walking_of m) _ _ a.len a.len (step_past_end m.stack a.op a.device a.start a.len m.state past) (omega arith)
+    walked_piece g.S.Sink.took g.S.Sink.left g.S.Sink.stack g.S.Sink.room g.S.Sink.faults f.result a.sink.now f.new.sink (walker_of m) _ _ a.len a.len (step_past_end m.stack a.op a.device a.start a.len m.state past) (omega arith)
     f.ensures.took f.ensures.left f.ensures.faults f.ensures.stack f.ensures.room
 
 pub returns-clause-walked : goal.returns-clause-walked
 returns-clause-walked g c =
     let a = c.args in let walk = c.map_range in
     let inside : nat_lt (device_len c.self.inside.walker.stack a.device) (a.start + a.len) ≡ false = ap (λ end. nat_lt end (a.start + a.len)) (sym c.len-end.ensures.len) ∙ sym c.passes_end.ensures ∙ c.if-passes_end.false in
-    subst (λ (m : MapperView). IsWalked g.S.Sink.took g.S.Sink.left g.S.Sink.stack g.S.Sink.room g.S.Sink.faults walk.result a.sink.now walk.new.sink (walking_of m) walk.new.walker (request_step m.stack a.op a.device a.start a.len m.state) a.len) c.self.view_is (rw inside walk.ensures.walked)
+    subst (λ (m : MapperView). IsWalked g.S.Sink.took g.S.Sink.left g.S.Sink.stack g.S.Sink.room g.S.Sink.faults walk.result a.sink.now walk.new.sink (walker_of m) walk.new.walker (request_step m.stack a.op a.device a.start a.len m.state) a.len) c.self.view_is (rw inside walk.ensures.walked)
 
 pub returns-clause-bounded : goal.returns-clause-bounded
 returns-clause-bounded g c =
     let a = c.args in let m = a.self.now in
     let inside : nat_lt (device_len m.stack a.device) (a.start + a.len) ≡ false = ap (λ x. nat_lt (device_len x.stack a.device) (a.start + a.len)) (sym c.self.view_is) ∙ ap (λ end. nat_lt end (a.start + a.len)) (sym c.len-end.ensures.len) ∙ sym c.passes_end.ensures ∙ c.if-passes_end.false in
     let sound = subst (λ (x : MapperView). IsSound x.stack) c.self.view_is c.is_sound.ensures in
-    let bounded = subst (λ (x : MapperView). IsBounded (walking_of x) c.map_range.new.walker a.op (depth_of x.stack a.device) (path x.stack x.state MOST_DEPTH (Device a.device)) a.start a.len) c.self.view_is c.map_range.ensures.bounded in
-    request_bound (walking_of m) c.map_range.new.walker a.op a.device a.start a.len sound c.requires.device inside bounded
+    let bounded = subst (λ (x : MapperView). IsBounded (walker_of x) c.map_range.new.walker a.op (depth_of x.stack a.device) (path x.stack x.state MOST_DEPTH (Device a.device)) a.start a.len) c.self.view_is c.map_range.ensures.bounded in
+    request_bound (walker_of m) c.map_range.new.walker a.op a.device a.start a.len sound c.requires.device inside bounded

@@ -3,14 +3,14 @@ use Rattle.std.proofs.Math.ListN.{set}
 use Rattle.dm_map.specs.SnapshotWrites.{lost, put}
 use Rattle.dm_map.specs.State.{taken_at}
 use Rattle.dm_map.specs.Tables.{state_of}
-use Rattle.dm_map.specs.Walk.{Walking}
+use Rattle.dm_map.specs.Walk.{WalkerView}
 use Rattle.dm_map.proofs.TableLemmas.{lost_put, table_got}
 use Rattle.dm_map.proofs.walker.Walker.invalidate.Goals as goal
 
 pub returns-clause-state : goal.returns-clause-state
 returns-clause-state g c =
     let w = c.self.inside in let table = c.index_mut-table.result.now in
-    let there = subst (λ (v : Walking). c.args.device < length v.stack.devices) (sym c.self.view_is) c.requires.device in
+    let there = subst (λ (v : WalkerView). c.args.device < length v.stack.devices) (sym c.self.view_is) c.requires.device in
     let got = table_got g.T.Taken.places w.looker.stack w.tables.items c.args.device c.index.result table c.self.invariant there c.index.ensures c.index_mut-table.ensures.value in
-    subst (λ (v : Walking). state_of g.T.Taken.chunks g.T.Taken.valid (set w.tables.items c.index.result c.invalidate.new.self) ≡ put v.state c.args.device (lost (taken_at v.state c.args.device))) c.self.view_is
+    subst (λ (v : WalkerView). state_of g.T.Taken.chunks g.T.Taken.valid (set w.tables.items c.index.result c.invalidate.new.self) ≡ put v.state c.args.device (lost (taken_at v.state c.args.device))) c.self.view_is
     (lost_put g.T.Taken.chunks g.T.Taken.valid w.tables.items c.args.device c.index.result table c.invalidate.new.self c.index.ensures got c.invalidate.ensures.chunks c.invalidate.ensures.valid)

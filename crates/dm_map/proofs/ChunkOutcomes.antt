@@ -1,4 +1,4 @@
--- A chunk that is made ready, with what was needed: nothing is done, or it is taken, or its snapshot is lost; the state still fits.
+-- What becomes of a chunk that is to be taken, with the facts that each case rests on: nothing is done, or it is taken, or its snapshot is lost; the state still fits.
 use Rattle.std.proofs.Common.{◌≡◌, ◌⊎◌, inl, inr, ℕ, zero, suc, ◌+◌, ◌<◌, ◌≤◌, Bool, true, false, cond, not, List, [], ◌∷◌, ◌++◌, length-append, Some, length, refl, sym, ap, subst, ◌∙◌, arith}
 use Rattle.std.specs.Prelude.{is_some}
 use Rattle.std.proofs.lemmas.Bool.{and_parts, cases_eq, cases_lt, le-leb, leb-true, not-false, not-true, or_parts}
@@ -12,13 +12,13 @@ use Rattle.dm_stack.specs.Description.{Description}
 use Rattle.dm_map.specs.Fitting.{IsFitting}
 use Rattle.dm_map.specs.Reads.{by_below, read_below, read_unit}
 use Rattle.dm_map.specs.Snapshots.{number_in}
-use Rattle.dm_map.specs.SnapshotWrites.{any_error, can_take, count_of, first_of, has_place, is_error, is_settled, lost, put, read, reads_all, ready, row, with_chunk}
+use Rattle.dm_map.specs.SnapshotWrites.{any_error, can_take, count_of, first_of, has_place, is_error, is_settled, lost, put, read, reads_all, take_chunk, row, with_chunk}
 use Rattle.dm_map.specs.State.{State, Taken, taken_at}
 use Rattle.dm_map.specs.Steps.{Step, keep}
 use Rattle.dm_map.specs.Tables.{snapshot_at}
 use Rattle.dm_map.specs.Units.{BlockUnit, ReadOf, Zeros, Fails}
 use Rattle.dm_map.proofs.Plays.{IsReadable, Reads, AreZeros}
-use Rattle.dm_map.proofs.Readies.{none_of, taken_other, taken_same}
+use Rattle.dm_map.proofs.ChunkTaking.{none_of, taken_other, taken_same}
 use Rattle.dm_map.proofs.Takes.{IsTake, chunk_copies, new_number, taken_state}
 
 -- A read gives one of three units
@@ -56,18 +56,18 @@ no_errors f s (suc n) u e low high =
       | inr differ ↦ no_errors f (suc s) n u parts.1 (omega (arith, low, differ)) (omega (arith, high))
     ]
 
--- The three ways
+-- The three outcomes
 
-pub data Made (stack : Description) (state : State) (device chunk : ℕ) (snapshot : FoundSnapshot) (step : Step) : Type 0 where
-  Done : step ≡ keep [] state → Made stack state device chunk snapshot step
-  Taking : IsTake stack state device chunk snapshot → step ≡ keep (chunk_copies stack state device chunk snapshot) (taken_state state device chunk) → Made stack state device chunk snapshot step
-  Losing : step ≡ keep [] (put state device (lost (taken_at state device))) → Made stack state device chunk snapshot step
+pub data FullOutcome (stack : Description) (state : State) (device chunk : ℕ) (snapshot : FoundSnapshot) (step : Step) : Type 0 where
+  Done : step ≡ keep [] state → FullOutcome stack state device chunk snapshot step
+  Taking : IsTake stack state device chunk snapshot → step ≡ keep (chunk_copies stack state device chunk snapshot) (taken_state state device chunk) → FullOutcome stack state device chunk snapshot step
+  Losing : step ≡ keep [] (put state device (lost (taken_at state device))) → FullOutcome stack state device chunk snapshot step
 
-made_by : (stack : Description) (state : State) (device chunk : ℕ) (snapshot : FoundSnapshot) (settled can : Bool) → snapshot_at stack device ≡ Some snapshot → device < length state → is_settled (taken_at state device) chunk ≡ settled
+full_outcome_by : (stack : Description) (state : State) (device chunk : ℕ) (snapshot : FoundSnapshot) (settled can : Bool) → snapshot_at stack device ≡ Some snapshot → device < length state → is_settled (taken_at state device) chunk ≡ settled
     → can_take stack state snapshot device (first_of snapshot chunk) (count_of stack snapshot device chunk) ≡ can
-    → Made stack state device chunk snapshot (cond settled (keep [] state) (cond can (keep (chunk_copies stack state device chunk snapshot) (taken_state state device chunk)) (keep [] (put state device (lost (taken_at state device))))))
-made_by stack state device chunk snapshot true can over there settled_is can_is = Done refl
-made_by stack state device chunk snapshot false true over there settled_is can_is =
+    → FullOutcome stack state device chunk snapshot (cond settled (keep [] state) (cond can (keep (chunk_copies stack state device chunk snapshot) (taken_state state device chunk)) (keep [] (put state device (lost (taken_at state device))))))
+full_outcome_by stack state device chunk snapshot true can over there settled_is can_is = Done refl
+full_outcome_by stack state device chunk snapshot false true over there settled_is can_is =
     let parts = or_parts (not (taken_at state device).valid) (is_some (number_in chunk (taken_at state device).chunks)) settled_is in
     let able = and_parts (has_place stack snapshot (new_number state device)) (reads_all stack state snapshot.origin (first_of snapshot chunk) (count_of stack snapshot device chunk)) can_is in
     Taking (record {
@@ -79,11 +79,11 @@ made_by stack state device chunk snapshot false true over there settled_is can_i
       readable = λ u low high. readable_of (read stack state snapshot.origin u) (is_read stack state MOST_DEPTH snapshot.origin u)
           (no_errors (read stack state snapshot.origin) (first_of snapshot chunk) (count_of stack snapshot device chunk) u (not-true _ able.1) low high);
     }) refl
-made_by stack state device chunk snapshot false false over there settled_is can_is = Losing refl
+full_outcome_by stack state device chunk snapshot false false over there settled_is can_is = Losing refl
 
-pub made : (stack : Description) (state : State) (device chunk : ℕ) (snapshot : FoundSnapshot) → snapshot_at stack device ≡ Some snapshot → device < length state → Made stack state device chunk snapshot (ready stack snapshot device chunk state)
-made stack state device chunk snapshot over there =
-    made_by stack state device chunk snapshot (is_settled (taken_at state device) chunk) (can_take stack state snapshot device (first_of snapshot chunk) (count_of stack snapshot device chunk)) over there refl refl
+pub full_outcome : (stack : Description) (state : State) (device chunk : ℕ) (snapshot : FoundSnapshot) → snapshot_at stack device ≡ Some snapshot → device < length state → FullOutcome stack state device chunk snapshot (take_chunk stack snapshot device chunk state)
+full_outcome stack state device chunk snapshot over there =
+    full_outcome_by stack state device chunk snapshot (is_settled (taken_at state device) chunk) (can_take stack state snapshot device (first_of snapshot chunk) (count_of stack snapshot device chunk)) over there refl refl
 
 -- The state still fits
 
@@ -108,9 +108,9 @@ fits_put stack state device taken fitting there each = record {
   ];
 }
 
-pub made_fits : (stack : Description) (state : State) (device chunk : ℕ) (snapshot : FoundSnapshot) (step : Step) → IsFitting stack state → device < length state → Made stack state device chunk snapshot step → IsFitting stack step.state
-made_fits stack state device chunk snapshot step fitting there (Done is) = rw is fitting
-made_fits stack state device chunk snapshot step fitting there (Taking take is) =
+pub full_outcome_fits : (stack : Description) (state : State) (device chunk : ℕ) (snapshot : FoundSnapshot) (step : Step) → IsFitting stack state → device < length state → FullOutcome stack state device chunk snapshot step → IsFitting stack step.state
+full_outcome_fits stack state device chunk snapshot step fitting there (Done is) = rw is fitting
+full_outcome_fits stack state device chunk snapshot step fitting there (Taking take is) =
     rw is (fits_put stack state device (with_chunk (taken_at state device) chunk) fitting there (λ number other over below.
     elim (length_push (taken_at state device).chunks chunk number below) [
       | inl old ↦ fitting.places device number other over old
@@ -119,5 +119,5 @@ made_fits stack state device chunk snapshot step fitting there (Taking take is) 
           let room : has_place stack snapshot (new_number state device) ≡ true = le-leb _ _ take.place_there in
           subst (λ (n : ℕ). has_place stack other n ≡ true) (sym new) (subst (λ (s : FoundSnapshot). has_place stack s (new_number state device) ≡ true) same room)
     ]))
-made_fits stack state device chunk snapshot step fitting there (Losing is) =
+full_outcome_fits stack state device chunk snapshot step fitting there (Losing is) =
     rw is (fits_put stack state device (lost (taken_at state device)) fitting there (λ number other over below. fitting.places device number other over below))

@@ -1,15 +1,13 @@
 use Rattle.std.proofs.Common.{◌≡◌, ◌+◌, ◌-◌, ◌≤◌}
-use Rattle.dm_map.specs.Snapshots.{kept_at}
-use Rattle.dm_map.specs.SnapshotWrites.{copies}
+use Rattle.dm_map.specs.SnapshotWrites.{store_writes}
 use Rattle.dm_map.proofs.ChunkCopies.{IsGoingOn}
-use Rattle.dm_map.proofs.ready.copy_chunk.Given as goal
+use Rattle.dm_map.proofs.take_chunk.write_store.Given as goal
 
 abbrev pub invariant-loop-left : goal.invariant-loop-left
 invariant-loop-left g l = record {
-  taken : g.S.Sink.took l.fn.sink (copies l.fn.walker.stack l.fn.walker.state l.snapshot l.number l.sector (l.len - l.left)) l.sink;
+  taken : g.S.Sink.took l.fn.sink (store_writes l.fn.walker.stack l.store l.sector (l.len - l.left)) l.sink;
   within : l.left ≤ l.len;
-  from : l.from + l.left ≡ l.sector + l.len;
-  to : l.to + l.left ≡ kept_at l.snapshot l.number l.sector + l.len;
+  position : l.at + l.left ≡ l.sector + l.len;
   going_on : IsGoingOn g.S.Sink.stack g.S.Sink.room g.S.Sink.faults l.fn.sink l.sink l.fn.walker l.walker;
 }
 

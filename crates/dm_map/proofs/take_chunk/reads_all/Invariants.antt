@@ -1,15 +1,15 @@
 use Rattle.std.proofs.Common.{◌≡◌, ◌+◌, ◌-◌, ◌≤◌, false}
 use Rattle.dm_map.specs.Counts.{AreAdded}
 use Rattle.dm_map.specs.SnapshotWrites.{any_error, read, row}
-use Rattle.dm_map.specs.Walk.{scene}
-use Rattle.dm_map.proofs.ready.reads_all.Given as goal
+use Rattle.dm_map.specs.Walk.{stack_state}
+use Rattle.dm_map.proofs.take_chunk.reads_all.Given as goal
 
 abbrev pub invariant-loop-left : goal.invariant-loop-left
 invariant-loop-left g l = record {
   good : any_error (row (read l.fn.walker.stack l.fn.walker.state l.lower) l.sector (l.len - l.left)) ≡ false;
   within : l.left ≤ l.len;
-  place : l.at + l.left ≡ l.sector + l.len;
-  same : scene l.walker ≡ scene l.fn.walker;
+  position : l.at + l.left ≡ l.sector + l.len;
+  same : stack_state l.walker ≡ stack_state l.fn.walker;
   looked : AreAdded l.fn.walker.looked l.walker.looked;
 }
 

@@ -1,4 +1,4 @@
-//! Chunks made ready: what a write to a snapshot does before it writes.
+//! Taking a chunk: what a write to a snapshot does before it writes.
 //!
 //! A chunk that is not taken is tested once, copied from the origin to its place in the store, and
 //! then taken. The copies are handed over before that, so that all of them read what was there
@@ -12,16 +12,16 @@ ghost use Rattle.dm_stack.specs.Description.{Description, device_len, lower_len}
 ghost use Rattle.dm_stack.specs.Store.{IsStore};
 ghost use Rattle.dm_map.specs.Counts.{AreAdded};
 ghost use Rattle.dm_map.specs.Homes.{IsFirstHomes};
-ghost use Rattle.dm_map.specs.SnapshotWrites.{can_take, copies, copy_to, first_of, has_place, is_refused, is_settled, reads_all, ready, store_writes};
+ghost use Rattle.dm_map.specs.SnapshotWrites.{can_take, copies, copy_to, first_of, has_place, is_refused, is_settled, reads_all, take_chunk, store_writes};
 ghost use Rattle.dm_map.specs.State.{taken_at};
 ghost use Rattle.dm_map.specs.Steps.{keep};
 ghost use Rattle.dm_map.specs.Stretch.{ground_unit, IsGroundInStack};
 ghost use Rattle.dm_map.specs.Tables.{snapshot_at};
 ghost use Rattle.dm_map.specs.Units.{diskless_len, piece_len, units_in, units_of, IsOnDisk, IsOnDisks};
-ghost use Rattle.dm_map.specs.Walk.{scene, HasRoomFor, IsWalked};
+ghost use Rattle.dm_map.specs.Walk.{stack_state, HasRoomFor, IsWalked};
 
+use crate::chunk::store_sector;
 use crate::piece::Piece;
-use crate::places::kept_at;
 use crate::sink::Sink;
 use crate::stretch::{Ground, Stretch, first_stretch};
 use crate::taken::Taken;
@@ -37,12 +37,13 @@ pub(crate) struct HomeStretch {
     len: u64,
 }
 
-/// Makes a chunk of a snapshot ready for a write to its sectors.
+/// Takes a chunk of a snapshot, before its sectors are written: copies it to the store, and notes that
+/// the store has it.
 ///
-/// There is nothing to do for a chunk that was taken, nor once the snapshot is lost. Any other is
-/// copied to the store and taken, if the store has a place for it and the origin reads without an
-/// error; if not, the snapshot is lost.
-pub(crate) fn make_ready<S: Sink, T: Taken>(
+/// There is nothing to do for a chunk that was taken, nor once the snapshot is lost. Where the store is
+/// full, or the origin can't be read without an error, it loses the snapshot in place of taking the
+/// chunk.
+pub(crate) fn take_chunk<S: Sink, T: Taken>(
     walker: &mut Walker<'_, T>,
     device: DeviceId,
     snapshot: &FoundSnapshot,
@@ -53,15 +54,15 @@ pub(crate) fn make_ready<S: Sink, T: Taken>(
     requires sound { IsSnapshotSound walker.old.stack device 0 (device_len walker.old.stack device) snapshot.now }
     requires inside { first_of snapshot.now chunk < device_len walker.old.stack device }
     requires sink { HasRoomFor S.stack S.room sink.old walker.old.stack 0 }
-    ensures { IsWalked S.took S.left S.stack S.room S.faults result sink.old sink.new walker.old walker.new (ready walker.old.stack snapshot.now device chunk walker.old.state) 0 }
+    ensures { IsWalked S.took S.left S.stack S.room S.faults result sink.old sink.new walker.old walker.new (take_chunk walker.old.stack snapshot.now device chunk walker.old.state) 0 }
 {
     if is_settled(walker, device, chunk) {
         return Ok(());
     }
     let end = walker.len(device);
-    let size = snapshot.chunk as u64;
-    let first = chunk * size;
-    let count = size.min(end - first);
+    let chunk_size = snapshot.chunk as u64;
+    let first = chunk * chunk_size;
+    let count = chunk_size.min(end - first);
     if !can_take(walker, device, snapshot, first, count) {
         walker.invalidate(device);
         return Ok(());
@@ -110,7 +111,7 @@ fn can_take<T: Taken>(
     requires is { snapshot_at walker.old.stack device ≡ Some snapshot.now }
     requires inside { sector + len ≤ lower_len walker.old.stack snapshot.now.origin }
     ensures is { result ≡ can_take walker.old.stack walker.old.state snapshot.now device sector len }
-    ensures same { scene walker.new ≡ scene walker.old }
+    ensures same { stack_state walker.new ≡ stack_state walker.old }
     ensures looked { AreAdded walker.old.looked walker.new.looked }
 {
     !walker.is_full(device) && reads_all(walker, &snapshot.origin, sector, len)
@@ -120,7 +121,7 @@ fn can_take<T: Taken>(
 fn reads_all<T: Taken>(walker: &mut Walker<'_, T>, lower: &Lower, sector: u64, len: u64) -> bool
     requires { sector + len ≤ lower_len walker.old.stack lower.now }
     ensures is { result ≡ reads_all walker.old.stack walker.old.state lower.now sector len }
-    ensures same { scene walker.new ≡ scene walker.old }
+    ensures same { stack_state walker.new ≡ stack_state walker.old }
     ensures looked { AreAdded walker.old.looked walker.new.looked }
 {
     walker.is_sound();
@@ -157,7 +158,7 @@ fn copy_chunk<S: Sink, T: Taken>(
 {
     walker.is_sound();
     let mut from = sector;
-    let mut to = kept_at(snapshot, number, sector);
+    let mut to = store_sector(snapshot, number, sector);
     let mut left = len;
     while left > 0 {
         let source = first_stretch(walker, MOST_DEPTH, snapshot.origin, from, left);
@@ -234,7 +235,7 @@ fn first_homes<T: Taken>(
     requires inside { sector + len ≤ lower_len walker.old.stack store }
     requires store { IsStore walker.old.stack store }
     ensures is { IsFirstHomes walker.old.stack store sector len result }
-    ensures same { scene walker.new ≡ scene walker.old }
+    ensures same { stack_state walker.new ≡ stack_state walker.old }
     ensures looked { AreAdded walker.old.looked walker.new.looked }
 {
     walker.is_sound();

@@ -1,9 +1,9 @@
 use Rattle.std.proofs.Common.{◌≡◌, ℕ, ◌+◌, ◌*◌, ◌%◌, ◌<◌, length, sym, ap, subst, ◌∙◌, arith}
 use Rattle.std.proofs.lemmas.Nat.{mod-mul-add}
 use Rattle.dm_stack.specs.Description.{Description}
-use Rattle.dm_map.specs.Walk.{Scene}
-use Rattle.dm_map.proofs.There.{device_there}
-use Rattle.dm_map.proofs.ready.make_ready.Goals as goal
+use Rattle.dm_map.specs.Walk.{StackState}
+use Rattle.dm_map.proofs.InStack.{device_there}
+use Rattle.dm_map.proofs.take_chunk.take_chunk.Goals as goal
 
 pub len-end-requires : goal.len-end-requires
 len-end-requires g c = device_there c.args.walker.now.stack c.args.device _ c.requires.inside
@@ -16,11 +16,11 @@ can_take-requires-clause-device g c = device_there c.args.walker.now.stack c.arg
 
 pub invalidate-requires : goal.invalidate-requires
 invalidate-requires g c =
-    record { device = subst (λ (w : Scene). c.args.device < length w.stack.devices) (sym c.can_take.ensures.same) (device_there c.args.walker.now.stack c.args.device _ c.requires.inside) }
+    record { device = subst (λ (w : StackState). c.args.device < length w.stack.devices) (sym c.can_take.ensures.same) (device_there c.args.walker.now.stack c.args.device _ c.requires.inside) }
 
 pub count-number-requires : goal.count-number-requires
 count-number-requires g c =
-    subst (λ (w : Scene). c.args.device < length w.stack.devices) (sym c.can_take.ensures.same) (device_there c.args.walker.now.stack c.args.device _ c.requires.inside)
+    subst (λ (w : StackState). c.args.device < length w.stack.devices) (sym c.can_take.ensures.same) (device_there c.args.walker.now.stack c.args.device _ c.requires.inside)
 
 pub copy_chunk-requires-clause-part : goal.copy_chunk-requires-clause-part
 copy_chunk-requires-clause-part g c =
@@ -32,4 +32,4 @@ copy_chunk-requires-clause-part g c =
 
 pub take-requires-clause-device : goal.take-requires-clause-device
 take-requires-clause-device g c =
-    subst (λ (s : Description). c.args.device < length s.devices) (sym (c.in_ok-copy_chunk.ensures.stack ∙ ap (λ (w : Scene). w.stack) c.can_take.ensures.same)) (device_there c.args.walker.now.stack c.args.device _ c.requires.inside)
+    subst (λ (s : Description). c.args.device < length s.devices) (sym (c.in_ok-copy_chunk.ensures.stack ∙ ap (λ (w : StackState). w.stack) c.can_take.ensures.same)) (device_there c.args.walker.now.stack c.args.device _ c.requires.inside)

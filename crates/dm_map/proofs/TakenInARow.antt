@@ -1,4 +1,4 @@
--- Chunks made ready one after the other: what roots have stays, or is an error, and what is played on the way is touched by no root in the state before.
+-- Chunks taken one after the other: what roots have stays, or is an error, and what is played on the way is touched by no root in the state before.
 use Rattle.std.proofs.Common.{◌≡◌, inl, inr, ℕ, zero, suc, ◌+◌, ◌/◌, ◌<◌, ◌≤◌, false, List, [], ◌∷◌, ◌++◌, length-append, Some, length, refl, sym, ap, subst, ◌∙◌, arith}
 use Rattle.std.specs.List.{AllByRecursion}
 use Rattle.std.proofs.lemmas.Bool.{cases_eq}
@@ -11,21 +11,21 @@ use Rattle.dm_stack.specs.Soundness.{IsSound}
 use Rattle.dm_map.specs.Contents.{Values, Stays, answers, content, played, played_unit, sector_after, value_read}
 use Rattle.dm_map.specs.Fitting.{IsFitting}
 use Rattle.dm_map.specs.Homes.{Home}
-use Rattle.dm_map.specs.Snapshots.{kept_at}
-use Rattle.dm_map.specs.SnapshotWrites.{copy_to, count_of, first_of, home_kept, lost, put, read, ready, row, with_chunk}
+use Rattle.dm_map.specs.Snapshots.{store_sector}
+use Rattle.dm_map.specs.SnapshotWrites.{copy_to, count_of, first_of, home_in_store, lost, put, read, take_chunk, row, with_chunk}
 use Rattle.dm_map.specs.State.{State, Taken, taken_at}
 use Rattle.dm_map.specs.Steps.{Step, keep, and_then}
 use Rattle.dm_map.specs.Tables.{snapshot_at}
 use Rattle.dm_map.specs.Units.{BlockUnit, ReadOf}
 use Rattle.dm_map.specs.Ways.{Node, node, Touches}
-use Rattle.dm_map.proofs.Back.{IsRoot}
+use Rattle.dm_map.proofs.UniqueSteps.{IsRoot}
 use Rattle.dm_map.proofs.FoundLines.{snapshot_sound}
 use Rattle.dm_map.proofs.HomeLemmas.{fresh_apart, home_node}
 use Rattle.dm_map.proofs.Losses.{lost_stays, stays_as, stays_on}
-use Rattle.dm_map.proofs.Made.{Made, Done, Taking, Losing, made, made_fits}
-use Rattle.dm_map.proofs.Numbers.{kept_inside, kept_parts}
+use Rattle.dm_map.proofs.ChunkOutcomes.{FullOutcome, Done, Taking, Losing, full_outcome, full_outcome_fits}
+use Rattle.dm_map.proofs.Numbers.{store_sector_inside, kept_parts}
 use Rattle.dm_map.proofs.Plays.{home_at, played_on, stored_other}
-use Rattle.dm_map.proofs.Readies.{taken_other, taken_same}
+use Rattle.dm_map.proofs.ChunkTaking.{taken_other, taken_same}
 use Rattle.dm_map.proofs.TableLemmas.{number_within}
 use Rattle.dm_map.proofs.Takes.{IsTake, chunk_copies, new_number, take_keeps}
 use Rattle.dm_map.proofs.WayLemmas.{read_touches}
@@ -89,7 +89,7 @@ fresh_stays zeros written at stack state lower sector us values sound root each 
 
 -- Runs
 
--- a chunk of a snapshot that is to be made ready
+-- a chunk of a snapshot that is to be taken
 pub record Event : Type 0 where
   pub device : ℕ
   pub chunk : ℕ
@@ -98,12 +98,12 @@ pub record Event : Type 0 where
 abbrev pub IsEvent : Description → Event → Type 0
 IsEvent stack event = snapshot_at stack event.device ≡ Some event.snapshot
 
-abbrev pub ready_by : Description → Event → State → Step
-ready_by stack event state = ready stack event.snapshot event.device event.chunk state
+abbrev pub take_chunk_by : Description → Event → State → Step
+take_chunk_by stack event state = take_chunk stack event.snapshot event.device event.chunk state
 
 unfoldable pub run : Description → List Event → State → Step
 run stack [] state = keep [] state
-run stack (event ∷ events) state = and_then (ready_by stack event state) (λ after. run stack events after)
+run stack (event ∷ events) state = and_then (take_chunk_by stack event state) (λ after. run stack events after)
 
 -- no list is shorter than it was
 pub record IsGrown (old state : State) : Type 0 where
@@ -120,12 +120,12 @@ grown_put old state device taken there grown more = record {
   ];
 }
 
-made_grown : (stack : Description) (old state : State) (device chunk : ℕ) (snapshot : FoundSnapshot) (step : Step) → device < length state → IsGrown old state → Made stack state device chunk snapshot step → IsGrown old step.state
-made_grown stack old state device chunk snapshot step there grown (Done is) = rw is grown
-made_grown stack old state device chunk snapshot step there grown (Taking take is) =
+outcome_grown : (stack : Description) (old state : State) (device chunk : ℕ) (snapshot : FoundSnapshot) (step : Step) → device < length state → IsGrown old state → FullOutcome stack state device chunk snapshot step → IsGrown old step.state
+outcome_grown stack old state device chunk snapshot step there grown (Done is) = rw is grown
+outcome_grown stack old state device chunk snapshot step there grown (Taking take is) =
     let e : length ((taken_at state device).chunks ++ chunk ∷ []) ≡ length (taken_at state device).chunks + 1 = length-append (taken_at state device).chunks (chunk ∷ []) in
     rw is (grown_put old state device (with_chunk (taken_at state device) chunk) there grown (omega (arith, e)))
-made_grown stack old state device chunk snapshot step there grown (Losing is) = rw is (grown_put old state device (lost (taken_at state device)) there grown (omega arith))
+outcome_grown stack old state device chunk snapshot step there grown (Losing is) = rw is (grown_put old state device (lost (taken_at state device)) there grown (omega arith))
 
 -- what is copied for a chunk, seen from a state before
 
@@ -134,29 +134,29 @@ copies_fresh : (stack : Description) (old state : State) (device chunk : ℕ) (s
 copies_fresh stack old state device chunk snapshot sound fitting tidy grown take =
     let some = (snapshot_sound stack device snapshot sound take.over).soundly.chunk_some in
     let n = new_number state device in
-    all_row (IsFresh stack old) (λ u. copy_to (read stack state snapshot.origin u) (home_kept stack snapshot n u)) (first_of snapshot chunk) (count_of stack snapshot device chunk) (λ u low high. record {
+    all_row (IsFresh stack old) (λ u. copy_to (read stack state snapshot.origin u) (home_in_store stack snapshot n u)) (first_of snapshot chunk) (count_of stack snapshot device chunk) (λ u low high. record {
       from = read stack state snapshot.origin u;
-      to = home_kept stack snapshot n u;
+      to = home_in_store stack snapshot n u;
       is = refl;
-      apart = λ a root touches. fresh_apart stack old a device snapshot (kept_at snapshot n u) sound fitting tidy take.over root (kept_inside snapshot n u (lower_len stack snapshot.store) some take.place_there)
+      apart = λ a root touches. fresh_apart stack old a device snapshot (store_sector snapshot n u) sound fitting tidy take.over root (store_sector_inside snapshot n u (lower_len stack snapshot.store) some take.place_there)
           (λ t i is e.
           let below = number_within (t / snapshot.chunk) (taken_at old device).chunks i is in let more = grown.lists device in let parts = kept_parts snapshot n i u t some e in
           omega (arith, below, more, parts.0)) touches;
     })
 
-made_fresh : (stack : Description) (old state : State) (device chunk : ℕ) (snapshot : FoundSnapshot) (step : Step) → IsSound stack → IsFitting stack old → IsTidy stack → IsGrown old state → Made stack state device chunk snapshot step
+outcome_fresh : (stack : Description) (old state : State) (device chunk : ℕ) (snapshot : FoundSnapshot) (step : Step) → IsSound stack → IsFitting stack old → IsTidy stack → IsGrown old state → FullOutcome stack state device chunk snapshot step
     → AllByRecursion (IsFresh stack old) step.units
-made_fresh stack old state device chunk snapshot step sound fitting tidy grown (Done is) = rw is tt
-made_fresh stack old state device chunk snapshot step sound fitting tidy grown (Taking take is) = rw is (copies_fresh stack old state device chunk snapshot sound fitting tidy grown take)
-made_fresh stack old state device chunk snapshot step sound fitting tidy grown (Losing is) = rw is tt
+outcome_fresh stack old state device chunk snapshot step sound fitting tidy grown (Done is) = rw is tt
+outcome_fresh stack old state device chunk snapshot step sound fitting tidy grown (Taking take is) = rw is (copies_fresh stack old state device chunk snapshot sound fitting tidy grown take)
+outcome_fresh stack old state device chunk snapshot step sound fitting tidy grown (Losing is) = rw is tt
 
-made_stays : {V : Type 0} (zeros : V) (written : ℕ → V) (at : ℕ) (stack : Description) (state : State) (values : Values V) (device chunk : ℕ) (snapshot : FoundSnapshot) (lower : Lower) (sector : ℕ) (step : Step) → IsSound stack → IsFitting stack state → IsTidy stack → device < length state
-    → IsRoot stack lower → Made stack state device chunk snapshot step → Stays (content zeros stack state values lower sector) (content zeros stack step.state (played zeros written at step.units values) lower sector)
+outcome_stays : {V : Type 0} (zeros : V) (written : ℕ → V) (at : ℕ) (stack : Description) (state : State) (values : Values V) (device chunk : ℕ) (snapshot : FoundSnapshot) (lower : Lower) (sector : ℕ) (step : Step) → IsSound stack → IsFitting stack state → IsTidy stack → device < length state
+    → IsRoot stack lower → FullOutcome stack state device chunk snapshot step → Stays (content zeros stack state values lower sector) (content zeros stack step.state (played zeros written at step.units values) lower sector)
 unfolding played
-made_stays zeros written at stack state values device chunk snapshot lower sector step sound fitting tidy there root (Done is) = rw is (inl refl)
-made_stays zeros written at stack state values device chunk snapshot lower sector step sound fitting tidy there root (Taking take is) =
+outcome_stays zeros written at stack state values device chunk snapshot lower sector step sound fitting tidy there root (Done is) = rw is (inl refl)
+outcome_stays zeros written at stack state values device chunk snapshot lower sector step sound fitting tidy there root (Taking take is) =
     rw is (inl (take_keeps zeros written at stack state values device chunk snapshot lower sector sound fitting tidy take root))
-made_stays zeros written at stack state values device chunk snapshot lower sector step sound fitting tidy there root (Losing is) = rw is (lost_stays zeros stack state values device lower sector sound there)
+outcome_stays zeros written at stack state values device chunk snapshot lower sector step sound fitting tidy there root (Losing is) = rw is (lost_stays zeros stack state values device lower sector sound there)
 
 pub event_there : (stack : Description) (state : State) (event : Event) → IsSound stack → IsFitting stack state → IsEvent stack event → event.device < length state
 event_there stack state event sound fitting is = let there = (snapshot_sound stack event.device event.snapshot sound is).there in let count = fitting.count in omega (arith, there, count)
@@ -172,11 +172,11 @@ unfolding run
 ran stack old state [] sound fit_old fitting tidy grown each = record { fits = fitting; grown = grown; fresh = tt }
 ran stack old state (e ∷ es) sound fit_old fitting tidy grown each =
     let there = event_there stack state e sound fitting each.0 in
-    let step = ready_by stack e state in
-    let how : Made stack state e.device e.chunk e.snapshot step = made stack state e.device e.chunk e.snapshot each.0 there in
-    let fits = made_fits stack state e.device e.chunk e.snapshot step fitting there how in
-    let more = made_grown stack old state e.device e.chunk e.snapshot step there grown how in
-    let fresh = made_fresh stack old state e.device e.chunk e.snapshot step sound fit_old tidy grown how in
+    let step = take_chunk_by stack e state in
+    let outcome : FullOutcome stack state e.device e.chunk e.snapshot step = full_outcome stack state e.device e.chunk e.snapshot each.0 there in
+    let fits = full_outcome_fits stack state e.device e.chunk e.snapshot step fitting there outcome in
+    let more = outcome_grown stack old state e.device e.chunk e.snapshot step there grown outcome in
+    let fresh = outcome_fresh stack old state e.device e.chunk e.snapshot step sound fit_old tidy grown outcome in
     let later = ran stack old step.state es sound fit_old fits tidy more each.1 in
     record { fits = later.fits; grown = later.grown; fresh = all_append (IsFresh stack old) step.units (run stack es step.state).units fresh later.fresh }
 
@@ -187,10 +187,10 @@ unfolding run played
 run_stays zeros written at stack state [] values lower sector sound fitting tidy each root = inl refl
 run_stays {V = V} zeros written at stack state (e ∷ es) values lower sector sound fitting tidy each root =
     let there = event_there stack state e sound fitting each.0 in
-    let step = ready_by stack e state in
-    let how : Made stack state e.device e.chunk e.snapshot step = made stack state e.device e.chunk e.snapshot each.0 there in
-    let fits = made_fits stack state e.device e.chunk e.snapshot step fitting there how in
-    let moves = all_moves stack state step.units (made_fresh stack state state e.device e.chunk e.snapshot step sound fitting tidy (grown_same state) how) in
+    let step = take_chunk_by stack e state in
+    let outcome : FullOutcome stack state e.device e.chunk e.snapshot step = full_outcome stack state e.device e.chunk e.snapshot each.0 there in
+    let fits = full_outcome_fits stack state e.device e.chunk e.snapshot step fitting there outcome in
+    let moves = all_moves stack state step.units (outcome_fresh stack state state e.device e.chunk e.snapshot step sound fitting tidy (grown_same state) outcome) in
     stays_as _ _ _ _ refl (ap (λ (v : Values V). content zeros stack (run stack es step.state).state v lower sector) (played_on zeros written at step.units (run stack es step.state).units values moves))
-    (stays_on _ _ _ (made_stays zeros written at stack state values e.device e.chunk e.snapshot lower sector step sound fitting tidy there root how)
+    (stays_on _ _ _ (outcome_stays zeros written at stack state values e.device e.chunk e.snapshot lower sector step sound fitting tidy there root outcome)
     (run_stays zeros written at stack step.state es (played zeros written at step.units values) lower sector sound fits tidy each.1 root))

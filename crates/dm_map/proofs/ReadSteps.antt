@@ -12,7 +12,7 @@ use Rattle.dm_stack.specs.Below.{Lies, IsError, below, below_column, below_line,
 use Rattle.dm_stack.specs.Description.{Description}
 use Rattle.dm_stack.specs.Soundness.{IsSound}
 use Rattle.dm_map.specs.Reads.{read_below}
-use Rattle.dm_map.specs.Snapshots.{kept_at, number_in, read_numbered, read_over}
+use Rattle.dm_map.specs.Snapshots.{store_sector, number_in, read_numbered, read_over}
 use Rattle.dm_map.specs.State.{State, taken_at}
 use Rattle.dm_map.specs.Tables.{origin_at, snapshot_at}
 use Rattle.dm_map.proofs.FoundLines.{line_origin, line_snapshot}
@@ -51,13 +51,13 @@ pub record IsColumnStep (target : FoundTarget) (distance : ℕ) (lower : Lower) 
   pub to : column.to ≡ lower
   pub sector : at ≡ column.offset + within_at target distance
 
-pub data How (stack : Description) (state : State) (device sector : ℕ) (lower : Lower) (at : ℕ) : Type 0 where
-  ByLine : (line : FoundLine) → found_at stack device sector ≡ Some line → IsColumnStep line.target (sector - line.start) lower at → How stack state device sector lower at
+pub data ReadStep (stack : Description) (state : State) (device sector : ℕ) (lower : Lower) (at : ℕ) : Type 0 where
+  ByLine : (line : FoundLine) → found_at stack device sector ≡ Some line → IsColumnStep line.target (sector - line.start) lower at → ReadStep stack state device sector lower at
   ByStore : (snapshot : FoundSnapshot) (number : ℕ) → snapshot_at stack device ≡ Some snapshot → (taken_at state device).valid ≡ true → number_in (sector / snapshot.chunk) (taken_at state device).chunks ≡ Some number
-      → lower ≡ snapshot.store → at ≡ kept_at snapshot number sector → How stack state device sector lower at
+      → lower ≡ snapshot.store → at ≡ store_sector snapshot number sector → ReadStep stack state device sector lower at
   ByRead : (snapshot : FoundSnapshot) → snapshot_at stack device ≡ Some snapshot → (taken_at state device).valid ≡ true → number_in (sector / snapshot.chunk) (taken_at state device).chunks ≡ None
-      → lower ≡ snapshot.origin → at ≡ sector → How stack state device sector lower at
-  ByServe : (origin : FoundOrigin) → origin_at stack device ≡ Some origin → lower ≡ origin.to → at ≡ sector → How stack state device sector lower at
+      → lower ≡ snapshot.origin → at ≡ sector → ReadStep stack state device sector lower at
+  ByServe : (origin : FoundOrigin) → origin_at stack device ≡ Some origin → lower ≡ origin.to → at ≡ sector → ReadStep stack state device sector lower at
 
 lower_is : (a b : Lower) (s t : ℕ) → Lies a s ≡ Lies b t → a ≡ b
 lower_is a b s t e = cc
@@ -69,37 +69,37 @@ pub column_step : (target : FoundTarget) (distance : ℕ) (found : Option FoundC
 column_step target distance None lower at is e = absurd cc
 column_step target distance (Some column) lower at is e = record { column = column; is = is; to = lower_is _ _ _ _ e; sector = sym (sector_is _ _ _ _ e) }
 
-how_snapshot : (stack : Description) (state : State) (device sector : ℕ) (lower : Lower) (at : ℕ) (snapshot : FoundSnapshot) (valid : Bool) (number : Option ℕ) → snapshot_at stack device ≡ Some snapshot
-    → (taken_at state device).valid ≡ valid → number_in (sector / snapshot.chunk) (taken_at state device).chunks ≡ number → cond valid (read_numbered snapshot number sector) IsError ≡ Lies lower at → How stack state device sector lower at
-how_snapshot stack state device sector lower at snapshot false number over v n e = absurd cc
-how_snapshot stack state device sector lower at snapshot true (Some i) over v n e = ByStore snapshot i over v n (sym (lower_is _ _ _ _ e)) (sym (sector_is _ _ _ _ e))
-how_snapshot stack state device sector lower at snapshot true None over v n e = ByRead snapshot over v n (sym (lower_is _ _ _ _ e)) (sym (sector_is _ _ _ _ e))
+read_step_snapshot : (stack : Description) (state : State) (device sector : ℕ) (lower : Lower) (at : ℕ) (snapshot : FoundSnapshot) (valid : Bool) (number : Option ℕ) → snapshot_at stack device ≡ Some snapshot
+    → (taken_at state device).valid ≡ valid → number_in (sector / snapshot.chunk) (taken_at state device).chunks ≡ number → cond valid (read_numbered snapshot number sector) IsError ≡ Lies lower at → ReadStep stack state device sector lower at
+read_step_snapshot stack state device sector lower at snapshot false number over v n e = absurd cc
+read_step_snapshot stack state device sector lower at snapshot true (Some i) over v n e = ByStore snapshot i over v n (sym (lower_is _ _ _ _ e)) (sym (sector_is _ _ _ _ e))
+read_step_snapshot stack state device sector lower at snapshot true None over v n e = ByRead snapshot over v n (sym (lower_is _ _ _ _ e)) (sym (sector_is _ _ _ _ e))
 
-how_target : (stack : Description) (state : State) (device sector : ℕ) (lower : Lower) (at : ℕ) (line : FoundLine) (target : FoundTarget) → IsSound stack → found_at stack device sector ≡ Some line → line.target ≡ target
-    → below_target (read_over (taken_at state device)) target (sector - line.start) ≡ Lies lower at → How stack state device sector lower at
-how_target stack state device sector lower at line (founds.Linear to offset) sound is t e =
+read_step_target : (stack : Description) (state : State) (device sector : ℕ) (lower : Lower) (at : ℕ) (line : FoundLine) (target : FoundTarget) → IsSound stack → found_at stack device sector ≡ Some line → line.target ≡ target
+    → below_target (read_over (taken_at state device)) target (sector - line.start) ≡ Lies lower at → ReadStep stack state device sector lower at
+read_step_target stack state device sector lower at line (founds.Linear to offset) sound is t e =
     ByLine line is (subst (λ (x : FoundTarget). IsColumnStep x (sector - line.start) lower at) (sym t) (column_step (founds.Linear to offset) (sector - line.start) (Some (record { to = to; offset = offset })) lower at refl e))
-how_target stack state device sector lower at line (founds.Striped chunk columns) sound is t e =
+read_step_target stack state device sector lower at line (founds.Striped chunk columns) sound is t e =
     ByLine line is (subst (λ (x : FoundTarget). IsColumnStep x (sector - line.start) lower at) (sym t)
     (column_step (founds.Striped chunk columns) (sector - line.start) (slice_get columns (column_of chunk (length columns) (sector - line.start))) lower at refl e))
-how_target stack state device sector lower at line founds.Zero sound is t e = absurd cc
-how_target stack state device sector lower at line founds.Error sound is t e = absurd cc
-how_target stack state device sector lower at line (founds.Snapshot snapshot) sound is t e =
+read_step_target stack state device sector lower at line founds.Zero sound is t e = absurd cc
+read_step_target stack state device sector lower at line founds.Error sound is t e = absurd cc
+read_step_target stack state device sector lower at line (founds.Snapshot snapshot) sound is t e =
     let over = line_snapshot stack device sector line snapshot sound is t in
     let same : sector - line.start ≡ sector = omega (arith, over.0) in
     let there : read_over (taken_at state device) snapshot sector ≡ Lies lower at = subst (λ (s : ℕ). read_over (taken_at state device) snapshot s ≡ Lies lower at) same e in
-    how_snapshot stack state device sector lower at snapshot (taken_at state device).valid (number_in (sector / snapshot.chunk) (taken_at state device).chunks) over.1 refl refl there
-how_target stack state device sector lower at line (founds.Origin origin) sound is t e =
+    read_step_snapshot stack state device sector lower at snapshot (taken_at state device).valid (number_in (sector / snapshot.chunk) (taken_at state device).chunks) over.1 refl refl there
+read_step_target stack state device sector lower at line (founds.Origin origin) sound is t e =
     let over = line_origin stack device sector line origin sound is t in
     ByServe origin over.1 (sym (lower_is _ _ _ _ e)) (let there = sector_is _ _ _ _ e in omega (arith, there, over.0))
 
-how_line : (stack : Description) (state : State) (device sector : ℕ) (lower : Lower) (at : ℕ) (line : Option FoundLine) → IsSound stack → found_at stack device sector ≡ line
-    → below_line (read_over (taken_at state device)) line sector ≡ Lies lower at → How stack state device sector lower at
-how_line stack state device sector lower at None sound is e = absurd cc
-how_line stack state device sector lower at (Some line) sound is e = how_target stack state device sector lower at line line.target sound is refl e
+read_step_line : (stack : Description) (state : State) (device sector : ℕ) (lower : Lower) (at : ℕ) (line : Option FoundLine) → IsSound stack → found_at stack device sector ≡ line
+    → below_line (read_over (taken_at state device)) line sector ≡ Lies lower at → ReadStep stack state device sector lower at
+read_step_line stack state device sector lower at None sound is e = absurd cc
+read_step_line stack state device sector lower at (Some line) sound is e = read_step_target stack state device sector lower at line line.target sound is refl e
 
-pub how : (stack : Description) (state : State) (device sector : ℕ) (lower : Lower) (at : ℕ) → IsSound stack → read_below stack state device sector ≡ Lies lower at → How stack state device sector lower at
-how stack state device sector lower at sound e = how_line stack state device sector lower at (found_at stack device sector) sound refl e
+pub read_step : (stack : Description) (state : State) (device sector : ℕ) (lower : Lower) (at : ℕ) → IsSound stack → read_below stack state device sector ≡ Lies lower at → ReadStep stack state device sector lower at
+read_step stack state device sector lower at sound e = read_step_line stack state device sector lower at (found_at stack device sector) sound refl e
 
 -- a linear or striped line
 abbrev pub has_columns : FoundTarget → Bool
@@ -114,7 +114,7 @@ pub record IsLineStep (stack : Description) (device sector : ℕ) (lower : Lower
   pub step : IsColumnStep line.target (sector - line.start) lower at
 
 plain_target : (stack : Description) (device sector : ℕ) (lower : Lower) (at : ℕ) (line : FoundLine) (target : FoundTarget) → has_columns target ≡ true → found_at stack device sector ≡ Some line → line.target ≡ target
-    → below_target (λ snapshot place. IsError) target (sector - line.start) ≡ Lies lower at → IsLineStep stack device sector lower at
+    → below_target (λ snapshot sector. IsError) target (sector - line.start) ≡ Lies lower at → IsLineStep stack device sector lower at
 plain_target stack device sector lower at line (founds.Linear to offset) has is t e = record {
   line = line;
   is = is;
@@ -131,9 +131,9 @@ plain_target stack device sector lower at line founds.Error has is t e = absurd 
 plain_target stack device sector lower at line (founds.Snapshot snapshot) has is t e = absurd cc
 plain_target stack device sector lower at line (founds.Origin origin) has is t e = absurd cc
 
-plain_line : (stack : Description) (device sector : ℕ) (lower : Lower) (at : ℕ) (line : Option FoundLine) → ((held : FoundLine) → found_at stack device sector ≡ Some held → has_columns held.target ≡ true) → found_at stack device sector ≡ line → below_line (λ snapshot place. IsError) line sector ≡ Lies lower at → IsLineStep stack device sector lower at
+plain_line : (stack : Description) (device sector : ℕ) (lower : Lower) (at : ℕ) (line : Option FoundLine) → ((held : FoundLine) → found_at stack device sector ≡ Some held → has_columns held.target ≡ true) → found_at stack device sector ≡ line → below_line (λ snapshot sector. IsError) line sector ≡ Lies lower at → IsLineStep stack device sector lower at
 plain_line stack device sector lower at None has is e = absurd cc
 plain_line stack device sector lower at (Some line) has is e = plain_target stack device sector lower at line line.target (has line is) is refl e
 
-pub line_step : (stack : Description) (device sector : ℕ) (lower : Lower) (at : ℕ) → ((held : FoundLine) → found_at stack device sector ≡ Some held → has_columns held.target ≡ true) → below (λ snapshot place. IsError) stack device sector ≡ Lies lower at → IsLineStep stack device sector lower at
+pub line_step : (stack : Description) (device sector : ℕ) (lower : Lower) (at : ℕ) → ((held : FoundLine) → found_at stack device sector ≡ Some held → has_columns held.target ≡ true) → below (λ snapshot sector. IsError) stack device sector ≡ Lies lower at → IsLineStep stack device sector lower at
 line_step stack device sector lower at has e = plain_line stack device sector lower at (found_at stack device sector) has refl e

@@ -1,4 +1,4 @@
--- How a step of a read goes through a claim: through a column of its line, through the store or the origin of its snapshot, or through the line of an origin.
+-- Each step of a read goes by a claim: through a column of its line, through the store or the origin of its snapshot, or through the line of an origin.
 use Rattle.std.proofs.Common.{◌≡◌, ℕ, zero, suc, ◌+◌, ◌-◌, ◌/◌, ◌%◌, ◌<◌, ◌≤◌, List, [], ◌∷◌, Option, Some, None, length, refl, sym, ap, subst, ◌∙◌, arith}
 use Rattle.std.specs.Prelude.{option_map, slice_get}
 use Rattle.std.proofs.lemmas.List.{length-map}
@@ -28,8 +28,8 @@ use Rattle.dm_stack.proofs.Apart.{IsNamed, IsVia}
 use Rattle.dm_stack.proofs.Parts.{found_place}
 use Rattle.dm_map.specs.Tables.{origin_at, snapshot_at}
 use Rattle.dm_map.proofs.FoundLines.{first_line, first_origin, line_sound, origin_sound, snapshot_sound}
-use Rattle.dm_map.proofs.How.{IsColumnStep, column_at, columns_of, within_at}
-use Rattle.dm_map.proofs.Stripes.{at_place, in_column_room}
+use Rattle.dm_map.proofs.ReadSteps.{IsColumnStep, column_at, columns_of, within_at}
+use Rattle.dm_map.proofs.Stripes.{at_index, in_column_room}
 
 -- The columns of a line and its spans
 
@@ -104,10 +104,10 @@ within_share stack device start len (targets.Origin origin) distance column soun
 -- Through a column of a line
 
 pub record IsLineVia (stack : Description) (device sector : ℕ) (line : FoundLine) (lower : Lower) (at : ℕ) : Type 0 where
-  pub place : ℕ
+  pub index : ℕ
   pub it : Line
   pub is : found_line stack it ≡ line
-  pub via : IsVia stack device place (column_at line.target (sector - line.start)) it lower at Own
+  pub via : IsVia stack device index (column_at line.target (sector - line.start)) it lower at Own
 
 raw_line : (stack : Description) (o : Option Line) (line : FoundLine) → option_map (found_line stack) o ≡ Some line → (it : Line) × (o ≡ Some it) × (found_line stack it ≡ line)
 raw_line stack None line is = absurd cc
@@ -122,7 +122,7 @@ end_some stack whole offset share len is = ap (span_end whole offset) is
 pub via_line : (stack : Description) (device sector : ℕ) (line : FoundLine) (lower : Lower) (at : ℕ) → IsSound stack → found_at stack device sector ≡ Some line → IsColumnStep line.target (sector - line.start) lower at → IsLineVia stack device sector line lower at
 via_line stack device sector line lower at sound is step =
     let raw = raw_line stack (line_of (lines_at stack device) sector) line is in
-    let place = found_place (holds sector) (lines_at stack device) raw.0 raw.1 in
+    let index = found_place (holds sector) (lines_at stack device) raw.0 raw.1 in
     let of = line_sound stack device sector line sound is in
     let target : found_target stack raw.0.target ≡ line.target = ap (λ (l : FoundLine). l.target) raw.2 in
     let lens : raw.0.len ≡ line.len = ap (λ (l : FoundLine). l.len) raw.2 in
@@ -138,12 +138,12 @@ via_line stack device sector line lower at sound is step =
     let ends = end_some stack (lower_len stack (lower_of stack span.span.to)) span.span.offset (share_of raw.0.len raw.0.target) span.span.len span.share in
     let offset = span.offset in let at_is = step.sector in
     record {
-      place = place.0;
+      index = index.0;
       it = raw.0;
       is = raw.2;
       via = record {
         there = of.there;
-        line_at = place.1;
+        line_at = index.1;
         span = span.span;
         span_at = ap (slice_get (target_spans raw.0.len raw.0.target)) (sym columns) ∙ span.at;
         on = span.to ∙ step.to;
@@ -156,14 +156,14 @@ via_line stack device sector line lower at sound is step =
 -- Through a snapshot
 
 pub record IsSnapshotVia (stack : Description) (device : ℕ) (snapshot : FoundSnapshot) : Type 0 where
-  pub place : ℕ
+  pub index : ℕ
   pub it : Line
   -- its line has no columns
   pub target : found_target stack it.target ≡ founds.Snapshot snapshot
-  pub store_named : IsNamed stack device place 0 it snapshot.store
-  pub origin_named : IsNamed stack device place 1 it snapshot.origin
-  pub store : (at : ℕ) → at < lower_len stack snapshot.store → IsVia stack device place 0 it snapshot.store at Own
-  pub origin : (at : ℕ) → at < lower_len stack snapshot.origin → IsVia stack device place 1 it snapshot.origin at Reading
+  pub store_named : IsNamed stack device index 0 it snapshot.store
+  pub origin_named : IsNamed stack device index 1 it snapshot.origin
+  pub store : (at : ℕ) → at < lower_len stack snapshot.store → IsVia stack device index 0 it snapshot.store at Own
+  pub origin : (at : ℕ) → at < lower_len stack snapshot.origin → IsVia stack device index 1 it snapshot.origin at Reading
 
 snapshot_spans : (stack : Description) (len : ℕ) (target : Target) (snapshot : FoundSnapshot) → found_target stack target ≡ founds.Snapshot snapshot
     → (store : DevRef) × (origin : DevRef) × (target_spans len target ≡ whole_span store Own ∷ whole_span origin Reading ∷ []) × (lower_of stack store ≡ snapshot.store) × (lower_of stack origin ≡ snapshot.origin)
@@ -180,13 +180,13 @@ snapshot_spans stack len (targets.Snapshot origin store kind chunk) snapshot is 
 snapshot_spans stack len (targets.Origin origin) snapshot is = absurd cc
 
 -- what a line names as a whole: each sector of it is one that the line leads to
-record IsWholeVia (stack : Description) (device place column : ℕ) (it : Line) (lower : Lower) (kind : Use) : Type 0 where
-  named : IsNamed stack device place column it lower
-  via : (at : ℕ) → at < lower_len stack lower → IsVia stack device place column it lower at kind
+record IsWholeVia (stack : Description) (device index column : ℕ) (it : Line) (lower : Lower) (kind : Use) : Type 0 where
+  named : IsNamed stack device index column it lower
+  via : (at : ℕ) → at < lower_len stack lower → IsVia stack device index column it lower at kind
 
-whole_via : (stack : Description) (device place column : ℕ) (it : Line) (lower : Lower) (kind : Use) (to : DevRef) → device < length stack.devices → slice_get (lines_at stack device) place ≡ Some it
-    → slice_get (target_spans it.len it.target) column ≡ Some (whole_span to kind) → lower_of stack to ≡ lower → IsWholeVia stack device place column it lower kind
-whole_via stack device place column it lower kind to there line_at span_at on = record {
+whole_via : (stack : Description) (device index column : ℕ) (it : Line) (lower : Lower) (kind : Use) (to : DevRef) → device < length stack.devices → slice_get (lines_at stack device) index ≡ Some it
+    → slice_get (target_spans it.len it.target) column ≡ Some (whole_span to kind) → lower_of stack to ≡ lower → IsWholeVia stack device index column it lower kind
+whole_via stack device index column it lower kind to there line_at span_at on = record {
   named = record { there = there; line_at = line_at; span = whole_span to kind; span_at = span_at; on = on };
   via = λ at below. record {
     there = there;
@@ -204,14 +204,14 @@ pub via_snapshot : (stack : Description) (device : ℕ) (snapshot : FoundSnapsho
 via_snapshot stack device snapshot sound at =
     let first = first_line stack device snapshot (found_at stack device 0) refl at in
     let raw = raw_line stack (line_of (lines_at stack device) 0) first.0 first.1 in
-    let place = found_place (holds 0) (lines_at stack device) raw.0 raw.1 in
+    let index = found_place (holds 0) (lines_at stack device) raw.0 raw.1 in
     let target : found_target stack raw.0.target ≡ founds.Snapshot snapshot = ap (λ (l : FoundLine). l.target) raw.2 ∙ first.2 in
     let named = snapshot_spans stack raw.0.len raw.0.target snapshot target in
     let there = (snapshot_sound stack device snapshot sound at).there in
-    let store = whole_via stack device place.0 0 raw.0 snapshot.store Own named.0 there place.1 (ap (λ (all : List Span). slice_get all 0) named.2) named.3 in
-    let origin = whole_via stack device place.0 1 raw.0 snapshot.origin Reading named.1 there place.1 (ap (λ (all : List Span). slice_get all 1) named.2) named.4 in
+    let store = whole_via stack device index.0 0 raw.0 snapshot.store Own named.0 there index.1 (ap (λ (all : List Span). slice_get all 0) named.2) named.3 in
+    let origin = whole_via stack device index.0 1 raw.0 snapshot.origin Reading named.1 there index.1 (ap (λ (all : List Span). slice_get all 1) named.2) named.4 in
     record {
-      place = place.0;
+      index = index.0;
       it = raw.0;
       target = target;
       store_named = store.named;
@@ -223,12 +223,12 @@ via_snapshot stack device snapshot sound at =
 -- Through an origin's line
 
 pub record IsOriginVia (stack : Description) (device : ℕ) (origin : FoundOrigin) : Type 0 where
-  pub place : ℕ
+  pub index : ℕ
   pub it : Line
   -- it has no columns, and is no snapshot's
   pub target : found_target stack it.target ≡ founds.Origin origin
-  pub named : IsNamed stack device place 0 it origin.to
-  pub via : (at : ℕ) → at < lower_len stack origin.to → IsVia stack device place 0 it origin.to at Serving
+  pub named : IsNamed stack device index 0 it origin.to
+  pub via : (at : ℕ) → at < lower_len stack origin.to → IsVia stack device index 0 it origin.to at Serving
 
 origin_spans : (stack : Description) (len : ℕ) (target : Target) (origin : FoundOrigin) → found_target stack target ≡ founds.Origin origin → (to : DevRef) × (target_spans len target ≡ whole_span to Serving ∷ []) × (lower_of stack to ≡ origin.to)
 origin_spans stack len (targets.Linear to offset) origin is = absurd cc
@@ -245,12 +245,12 @@ pub via_origin : (stack : Description) (device : ℕ) (origin : FoundOrigin) →
 via_origin stack device origin sound at =
     let first = first_origin stack device origin (found_at stack device 0) refl at in
     let raw = raw_line stack (line_of (lines_at stack device) 0) first.0 first.1 in
-    let place = found_place (holds 0) (lines_at stack device) raw.0 raw.1 in
+    let index = found_place (holds 0) (lines_at stack device) raw.0 raw.1 in
     let target : found_target stack raw.0.target ≡ founds.Origin origin = ap (λ (l : FoundLine). l.target) raw.2 ∙ first.2 in
     let named = origin_spans stack raw.0.len raw.0.target origin target in
     let there = (origin_sound stack device origin sound at).there in
-    let whole = whole_via stack device place.0 0 raw.0 origin.to Serving named.0 there place.1 (ap (λ (all : List Span). slice_get all 0) named.1) named.2 in
-    record { place = place.0; it = raw.0; target = target; named = whole.named; via = whole.via }
+    let whole = whole_via stack device index.0 0 raw.0 origin.to Serving named.0 there index.1 (ap (λ (all : List Span). slice_get all 0) named.1) named.2 in
+    record { index = index.0; it = raw.0; target = target; named = whole.named; via = whole.via }
 
 -- a step by a column of a sound line goes to a sector that is there
 pub column_inside : (stack : Description) (device start len : ℕ) (target : FoundTarget) (distance : ℕ) (lower : Lower) (at : ℕ) → IsTargetSound stack device start len target → IsColumnStep target distance lower at → distance < len → at < lower_len stack lower
@@ -263,7 +263,7 @@ column_inside stack device start len (founds.Linear to offset) distance lower at
 column_inside stack device start len (founds.Striped chunk columns) distance lower at sound step inside =
     let stripes : AreStripes stack len chunk columns = sound in
     let some = stripes.chunk_some in
-    let share = at_place (λ c. c.offset + stripes.column_len ≤ lower_len stack c.to) columns (column_of chunk (length columns) distance) step.column stripes.inside step.is in
+    let share = at_index (λ c. c.offset + stripes.column_len ≤ lower_len stack c.to) columns (column_of chunk (length columns) distance) step.column stripes.inside step.is in
     let room = in_column_room chunk (length columns) stripes.column_len stripes.chunks len distance stripes.chunk_some stripes.some stripes.shares stripes.whole inside in
     let rest : distance % chunk < chunk = omega (arith, some) in
     let at_is = step.sector in

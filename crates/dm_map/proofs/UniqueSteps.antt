@@ -1,4 +1,4 @@
--- Where no claims meet: what leads to a sector that a line or a store's snapshot has, and what leads nowhere.
+-- Where no claims meet, at most one step of a read leads to a sector of a column, a store or an origin, and none to a top device.
 use Rattle.std.proofs.Common.{◌≡◌, ℕ, ◌+◌, ◌-◌, ◌*◌, ◌/◌, ◌%◌, ◌<◌, true, false, List, Option, Some, None, length, refl, sym, ap, subst, ◌∙◌, arith}
 use Rattle.std.specs.Prelude.{slice_get}
 use Rattle.std.proofs.lemmas.Bool.{leb-true}
@@ -24,17 +24,17 @@ use Rattle.dm_map.specs.Fitting.{IsFitting}
 use Rattle.dm_map.specs.Reads.{read_below}
 use Rattle.dm_map.specs.Serving.{AreSettled}
 use Rattle.dm_map.specs.SnapshotWrites.{is_settled}
-use Rattle.dm_map.specs.Snapshots.{kept_at, number_in, read_over}
+use Rattle.dm_map.specs.Snapshots.{store_sector, number_in, read_over}
 use Rattle.dm_map.specs.State.{State, Taken, taken_at}
 use Rattle.dm_map.specs.Tables.{origin_at, snapshot_at}
 use Rattle.dm_map.proofs.FoundLines.{line_sound, origin_sound, snapshot_sound}
-use Rattle.dm_map.proofs.How.{How, ByLine, ByStore, ByRead, ByServe, IsColumnStep, column_at, columns_of, within_at}
-use Rattle.dm_map.proofs.Numbers.{kept_inside, stripe_back}
+use Rattle.dm_map.proofs.ReadSteps.{ReadStep, ByLine, ByStore, ByRead, ByServe, IsColumnStep, column_at, columns_of, within_at}
+use Rattle.dm_map.proofs.Numbers.{store_sector_inside, stripe_back}
 use Rattle.dm_map.proofs.Overs.{settled_over}
 use Rattle.dm_map.proofs.TableLemmas.{number_within}
-use Rattle.dm_map.proofs.Vias.{IsLineVia, IsSnapshotVia, column_inside, via_line, via_origin, via_snapshot}
+use Rattle.dm_map.proofs.StepClaims.{IsLineVia, IsSnapshotVia, column_inside, via_line, via_origin, via_snapshot}
 
--- A sector of a line is told by its column and its place there
+-- One column and one sector of that column are one sector of the line
 
 distance_one : (stack : Description) (device start len : ℕ) (target : FoundTarget) (d e : ℕ) (column : FoundColumn) → IsTargetSound stack device start len target → slice_get (columns_of target) (column_at target d) ≡ Some column
     → column_at target d ≡ column_at target e → within_at target d ≡ within_at target e → d ≡ e
@@ -87,10 +87,10 @@ snapshot_no_origin stack l m snapshot origin is same target = differ (sym is ∙
 -- What a taken chunk's number is inside of
 
 pub fits : (stack : Description) (state : State) (device sector number : ℕ) (snapshot : FoundSnapshot) → IsSound stack → IsFitting stack state → snapshot_at stack device ≡ Some snapshot → number_in (sector / snapshot.chunk) (taken_at state device).chunks ≡ Some number
-    → kept_at snapshot number sector < lower_len stack snapshot.store
+    → store_sector snapshot number sector < lower_len stack snapshot.store
 fits stack state device sector number snapshot sound fitting at is =
     let over = snapshot_sound stack device snapshot sound at in
-    kept_inside snapshot number sector (lower_len stack snapshot.store) over.soundly.chunk_some
+    store_sector_inside snapshot number sector (lower_len stack snapshot.store) over.soundly.chunk_some
     (leb-true _ _ (fitting.places device number snapshot at (number_within (sector / snapshot.chunk) (taken_at state device).chunks number is)))
 
 -- a read of the origin is inside of it
@@ -109,7 +109,7 @@ inside_of stack state device sector lower at (Some line) sound is e = (line_soun
 pub goes_on_inside : (stack : Description) (state : State) (device sector : ℕ) (lower : Lower) (at : ℕ) → IsSound stack → read_below stack state device sector ≡ Lies lower at → sector < device_len stack device
 goes_on_inside stack state device sector lower at sound e = inside_of stack state device sector lower at (found_at stack device sector) sound refl e
 
--- What leads to a sector
+-- The only step that leads to a sector
 
 pub record IsAt (d s e u : ℕ) : Type 0 where
   pub device : d ≡ e
@@ -119,11 +119,11 @@ two_columns : (i j : ℕ) → i ≡ 0 → j ≡ 1 → i ≡ j → ⊥
 two_columns i j first second same = omega (arith, first, second, same)
 
 -- to one that a line's column has: that line's sector
-pub back_line : (stack : Description) (state : State) (d s e t : ℕ) (lower : Lower) (at : ℕ) (line : FoundLine) → IsSound stack → IsFitting stack state → IsTidy stack → t < device_len stack e
-    → found_at stack d s ≡ Some line → IsColumnStep line.target (s - line.start) lower at → How stack state e t lower at → IsAt e t d s
-back_line stack state d s e t lower at line sound fitting tidy inside is step (ByLine other is_other step_other) =
+pub only_by_line : (stack : Description) (state : State) (d s e t : ℕ) (lower : Lower) (at : ℕ) (line : FoundLine) → IsSound stack → IsFitting stack state → IsTidy stack → t < device_len stack e
+    → found_at stack d s ≡ Some line → IsColumnStep line.target (s - line.start) lower at → ReadStep stack state e t lower at → IsAt e t d s
+only_by_line stack state d s e t lower at line sound fitting tidy inside is step (ByLine other is_other step_other) =
     let a = via_line stack d s line lower at sound is step in let b = via_line stack e t other lower at sound is_other step_other in
-    let one = one_via stack d e a.place b.place (column_at line.target (s - line.start)) (column_at other.target (t - other.start)) a.it b.it lower at Own Own tidy a.via b.via refl in
+    let one = one_via stack d e a.index b.index (column_at line.target (s - line.start)) (column_at other.target (t - other.start)) a.it b.it lower at Own Own tidy a.via b.via refl in
     let same : line ≡ other = sym a.is ∙ ap (found_line stack) one.lines ∙ b.is in
     let of = (line_sound stack d s line sound is).soundly in let of_other = (line_sound stack e t other sound is_other).soundly in
     let starts : line.start ≡ other.start = ap (λ (l : FoundLine). l.start) same in
@@ -132,23 +132,23 @@ back_line stack state d s e t lower at line sound fitting tidy inside is step (B
     let distances = step_one stack d line.start line.len line.target (s - line.start) (t - other.start) lower at of.target step moved columns in
     let from = of.from in let from_other = of_other.from in
     record { device = sym one.devices; sector = omega (arith, distances, starts, from, from_other) }
-back_line stack state d s e t lower at line sound fitting tidy inside is step (ByStore snapshot number over valid n lower_is at_is) =
+only_by_line stack state d s e t lower at line sound fitting tidy inside is step (ByStore snapshot number over valid n lower_is at_is) =
     let a = via_line stack d s line lower at sound is step in let b = via_snapshot stack e snapshot sound over in
     let below : at < lower_len stack snapshot.store = subst (λ (x : ℕ). x < lower_len stack snapshot.store) (sym at_is) (fits stack state e t number snapshot sound fitting over n) in
-    let via : IsVia stack e b.place 0 b.it lower at Own = subst (λ (x : Lower). IsVia stack e b.place 0 b.it x at Own) (sym lower_is) (b.store at below) in
-    let one = one_via stack d e a.place b.place (column_at line.target (s - line.start)) 0 a.it b.it lower at Own Own tidy a.via via refl in
+    let via : IsVia stack e b.index 0 b.it lower at Own = subst (λ (x : Lower). IsVia stack e b.index 0 b.it x at Own) (sym lower_is) (b.store at below) in
+    let one = one_via stack d e a.index b.index (column_at line.target (s - line.start)) 0 a.it b.it lower at Own Own tidy a.via via refl in
     absurd (line_no_snapshot stack d s line lower at a.it b.it snapshot a.is step one.lines b.target)
-back_line stack state d s e t lower at line sound fitting tidy inside is step (ByRead snapshot over valid n lower_is at_is) =
+only_by_line stack state d s e t lower at line sound fitting tidy inside is step (ByRead snapshot over valid n lower_is at_is) =
     let a = via_line stack d s line lower at sound is step in let b = via_snapshot stack e snapshot sound over in
     let below : at < lower_len stack snapshot.origin = subst (λ (x : ℕ). x < lower_len stack snapshot.origin) (sym at_is) (read_inside stack state e t snapshot sound over inside) in
-    let via : IsVia stack e b.place 1 b.it lower at Reading = subst (λ (x : Lower). IsVia stack e b.place 1 b.it x at Reading) (sym lower_is) (b.origin at below) in
-    let one = one_via stack d e a.place b.place (column_at line.target (s - line.start)) 1 a.it b.it lower at Own Reading tidy a.via via refl in
+    let via : IsVia stack e b.index 1 b.it lower at Reading = subst (λ (x : Lower). IsVia stack e b.index 1 b.it x at Reading) (sym lower_is) (b.origin at below) in
+    let one = one_via stack d e a.index b.index (column_at line.target (s - line.start)) 1 a.it b.it lower at Own Reading tidy a.via via refl in
     absurd (line_no_snapshot stack d s line lower at a.it b.it snapshot a.is step one.lines b.target)
-back_line stack state d s e t lower at line sound fitting tidy inside is step (ByServe origin over lower_is at_is) =
+only_by_line stack state d s e t lower at line sound fitting tidy inside is step (ByServe origin over lower_is at_is) =
     let a = via_line stack d s line lower at sound is step in let b = via_origin stack e origin sound over in
     let below : at < lower_len stack origin.to = subst (λ (x : ℕ). x < lower_len stack origin.to) (sym at_is) (serve_inside stack e t origin sound over inside) in
-    let via : IsVia stack e b.place 0 b.it lower at Serving = subst (λ (x : Lower). IsVia stack e b.place 0 b.it x at Serving) (sym lower_is) (b.via at below) in
-    let one = one_via stack d e a.place b.place (column_at line.target (s - line.start)) 0 a.it b.it lower at Own Serving tidy a.via via refl in
+    let via : IsVia stack e b.index 0 b.it lower at Serving = subst (λ (x : Lower). IsVia stack e b.index 0 b.it x at Serving) (sym lower_is) (b.via at below) in
+    let one = one_via stack d e a.index b.index (column_at line.target (s - line.start)) 0 a.it b.it lower at Own Serving tidy a.via via refl in
     absurd (line_no_origin stack d s line lower at a.it b.it origin a.is step one.lines b.target)
 
 -- to one of a store: its snapshot, by a taken chunk
@@ -156,35 +156,35 @@ pub record IsKept (state : State) (device : ℕ) (snapshot : FoundSnapshot) (at 
   pub same : e ≡ device
   pub number : ℕ
   pub is : number_in (t / snapshot.chunk) (taken_at state device).chunks ≡ Some number
-  pub sector : at ≡ kept_at snapshot number t
+  pub sector : at ≡ store_sector snapshot number t
 
 snapshot_is : (a b : FoundSnapshot) → founds.Snapshot a ≡ founds.Snapshot b → a ≡ b
 snapshot_is a b e = cc
 
-pub back_store : (stack : Description) (state : State) (d e t at : ℕ) (snapshot : FoundSnapshot) → IsSound stack → IsFitting stack state → IsTidy stack → t < device_len stack e
-    → snapshot_at stack d ≡ Some snapshot → at < lower_len stack snapshot.store → How stack state e t snapshot.store at → IsKept state d snapshot at e t
-back_store stack state d e t at snapshot sound fitting tidy inside over below (ByLine line is step) =
+pub only_by_store : (stack : Description) (state : State) (d e t at : ℕ) (snapshot : FoundSnapshot) → IsSound stack → IsFitting stack state → IsTidy stack → t < device_len stack e
+    → snapshot_at stack d ≡ Some snapshot → at < lower_len stack snapshot.store → ReadStep stack state e t snapshot.store at → IsKept state d snapshot at e t
+only_by_store stack state d e t at snapshot sound fitting tidy inside over below (ByLine line is step) =
     let a = via_line stack e t line snapshot.store at sound is step in let b = via_snapshot stack d snapshot sound over in
-    let one = one_via stack e d a.place b.place (column_at line.target (t - line.start)) 0 a.it b.it snapshot.store at Own Own tidy a.via (b.store at below) refl in
+    let one = one_via stack e d a.index b.index (column_at line.target (t - line.start)) 0 a.it b.it snapshot.store at Own Own tidy a.via (b.store at below) refl in
     absurd (line_no_snapshot stack e t line snapshot.store at a.it b.it snapshot a.is step one.lines b.target)
-back_store stack state d e t at snapshot sound fitting tidy inside over below (ByStore other number over_other valid n store_is at_is) =
+only_by_store stack state d e t at snapshot sound fitting tidy inside over below (ByStore other number over_other valid n store_is at_is) =
     let a = via_snapshot stack d snapshot sound over in let b = via_snapshot stack e other sound over_other in
     let below_other : at < lower_len stack other.store = subst (λ (x : Lower). at < lower_len stack x) store_is below in
-    let via : IsVia stack e b.place 0 b.it snapshot.store at Own = subst (λ (x : Lower). IsVia stack e b.place 0 b.it x at Own) (sym store_is) (b.store at below_other) in
-    let one = one_via stack d e a.place b.place 0 0 a.it b.it snapshot.store at Own Own tidy (a.store at below) via refl in
+    let via : IsVia stack e b.index 0 b.it snapshot.store at Own = subst (λ (x : Lower). IsVia stack e b.index 0 b.it x at Own) (sym store_is) (b.store at below_other) in
+    let one = one_via stack d e a.index b.index 0 0 a.it b.it snapshot.store at Own Own tidy (a.store at below) via refl in
     let same : snapshot ≡ other = snapshot_is snapshot other (sym a.target ∙ ap (λ (l : Line). found_target stack l.target) one.lines ∙ b.target) in
     record { same = sym one.devices; number = number; is = rw (same, one.devices) n; sector = rw same at_is }
-back_store stack state d e t at snapshot sound fitting tidy inside over below (ByRead other over_other valid n store_is at_is) =
+only_by_store stack state d e t at snapshot sound fitting tidy inside over below (ByRead other over_other valid n store_is at_is) =
     let a = via_snapshot stack d snapshot sound over in let b = via_snapshot stack e other sound over_other in
     let below_other : at < lower_len stack other.origin = subst (λ (x : ℕ). x < lower_len stack other.origin) (sym at_is) (read_inside stack state e t other sound over_other inside) in
-    let via : IsVia stack e b.place 1 b.it snapshot.store at Reading = subst (λ (x : Lower). IsVia stack e b.place 1 b.it x at Reading) (sym store_is) (b.origin at below_other) in
-    let one = one_via stack d e a.place b.place 0 1 a.it b.it snapshot.store at Own Reading tidy (a.store at below) via refl in
+    let via : IsVia stack e b.index 1 b.it snapshot.store at Reading = subst (λ (x : Lower). IsVia stack e b.index 1 b.it x at Reading) (sym store_is) (b.origin at below_other) in
+    let one = one_via stack d e a.index b.index 0 1 a.it b.it snapshot.store at Own Reading tidy (a.store at below) via refl in
     absurd (two_columns 0 1 refl refl one.columns)
-back_store stack state d e t at snapshot sound fitting tidy inside over below (ByServe origin over_other store_is at_is) =
+only_by_store stack state d e t at snapshot sound fitting tidy inside over below (ByServe origin over_other store_is at_is) =
     let a = via_snapshot stack d snapshot sound over in let b = via_origin stack e origin sound over_other in
     let below_other : at < lower_len stack origin.to = subst (λ (x : Lower). at < lower_len stack x) store_is below in
-    let via : IsVia stack e b.place 0 b.it snapshot.store at Serving = subst (λ (x : Lower). IsVia stack e b.place 0 b.it x at Serving) (sym store_is) (b.via at below_other) in
-    let one = one_via stack d e a.place b.place 0 0 a.it b.it snapshot.store at Own Serving tidy (a.store at below) via refl in
+    let via : IsVia stack e b.index 0 b.it snapshot.store at Serving = subst (λ (x : Lower). IsVia stack e b.index 0 b.it x at Serving) (sym store_is) (b.via at below_other) in
+    let one = one_via stack d e a.index b.index 0 0 a.it b.it snapshot.store at Own Serving tidy (a.store at below) via refl in
     absurd (snapshot_no_origin stack a.it b.it snapshot origin a.target one.lines b.target)
 
 -- Roots: no line leads into them, and they are no store
@@ -205,11 +205,11 @@ step_inside stack device sector line lower at sound is step =
 
 -- nor into what a snapshot's line names at a column
 named_no_lines : (stack : Description) (device column : ℕ) (snapshot : FoundSnapshot) (lower : Lower) (kind : Use) → IsSound stack → IsTidy stack → (b : IsSnapshotVia stack device snapshot)
-    → ((at : ℕ) → at < lower_len stack lower → IsVia stack device b.place column b.it lower at kind) → IsNoLines stack lower
+    → ((at : ℕ) → at < lower_len stack lower → IsVia stack device b.index column b.it lower at kind) → IsNoLines stack lower
 named_no_lines stack device column snapshot lower kind sound tidy b via = record {
   none = λ e t line at is step.
       let a = via_line stack e t line lower at sound is step in
-      let one = one_via stack e device a.place b.place (column_at line.target (t - line.start)) column a.it b.it lower at Own kind tidy a.via (via at (step_inside stack e t line lower at sound is step)) refl in
+      let one = one_via stack e device a.index b.index (column_at line.target (t - line.start)) column a.it b.it lower at Own kind tidy a.via (via at (step_inside stack e t line lower at sound is step)) refl in
       line_no_snapshot stack e t line lower at a.it b.it snapshot a.is step one.lines b.target;
 }
 
@@ -226,8 +226,8 @@ origin_no_store stack device snapshot sound tidy over = record {
       let whole = of.soundly.origin in let some = of.some in
       let below : 0 < lower_len stack snapshot.origin = omega (arith, whole, some) in
       let a = via_snapshot stack device snapshot sound over in let b = via_snapshot stack e other sound over_other in
-      let via : IsVia stack e b.place 0 b.it snapshot.origin 0 Own = subst (λ (x : Lower). IsVia stack e b.place 0 b.it x 0 Own) (sym same) (b.store 0 (subst (λ (x : Lower). 0 < lower_len stack x) same below)) in
-      let one = one_via stack e device b.place a.place 0 1 b.it a.it snapshot.origin 0 Own Reading tidy via (a.origin 0 below) refl in
+      let via : IsVia stack e b.index 0 b.it snapshot.origin 0 Own = subst (λ (x : Lower). IsVia stack e b.index 0 b.it x 0 Own) (sym same) (b.store 0 (subst (λ (x : Lower). 0 < lower_len stack x) same below)) in
+      let one = one_via stack e device b.index a.index 0 1 b.it a.it snapshot.origin 0 Own Reading tidy via (a.origin 0 below) refl in
       two_columns 0 1 refl refl one.columns;
 }
 
@@ -244,32 +244,32 @@ not_settled taken chunk valid none settled = true_false (sym settled ∙ (rw (va
     true_false e = cc
 
 -- to one of it, where all its snapshots are settled: that device's sector
-pub back_origin : (stack : Description) (state : State) (d e t at : ℕ) (origin : FoundOrigin) → IsSound stack → IsTidy stack → origin_at stack d ≡ Some origin → at < lower_len stack origin.to
-    → AreSettled state origin.over at → How stack state e t origin.to at → IsAt e t d at
-back_origin stack state d e t at origin sound tidy served below settled (ByLine line is step) =
+pub only_by_origin : (stack : Description) (state : State) (d e t at : ℕ) (origin : FoundOrigin) → IsSound stack → IsTidy stack → origin_at stack d ≡ Some origin → at < lower_len stack origin.to
+    → AreSettled state origin.over at → ReadStep stack state e t origin.to at → IsAt e t d at
+only_by_origin stack state d e t at origin sound tidy served below settled (ByLine line is step) =
     let a = via_line stack e t line origin.to at sound is step in let b = via_origin stack d origin sound served in
-    let one = one_via stack e d a.place b.place (column_at line.target (t - line.start)) 0 a.it b.it origin.to at Own Serving tidy a.via (b.via at below) refl in
+    let one = one_via stack e d a.index b.index (column_at line.target (t - line.start)) 0 a.it b.it origin.to at Own Serving tidy a.via (b.via at below) refl in
     absurd (line_no_origin stack e t line origin.to at a.it b.it origin a.is step one.lines b.target)
-back_origin stack state d e t at origin sound tidy served below settled (ByStore snapshot number over valid n lower_is at_is) =
+only_by_origin stack state d e t at origin sound tidy served below settled (ByStore snapshot number over valid n lower_is at_is) =
     let a = via_snapshot stack e snapshot sound over in let b = via_origin stack d origin sound served in
     let below_store : at < lower_len stack snapshot.store = subst (λ (x : Lower). at < lower_len stack x) lower_is below in
-    let via : IsVia stack e a.place 0 a.it origin.to at Own = subst (λ (x : Lower). IsVia stack e a.place 0 a.it x at Own) (sym lower_is) (a.store at below_store) in
-    let one = one_via stack e d a.place b.place 0 0 a.it b.it origin.to at Own Serving tidy via (b.via at below) refl in
+    let via : IsVia stack e a.index 0 a.it origin.to at Own = subst (λ (x : Lower). IsVia stack e a.index 0 a.it x at Own) (sym lower_is) (a.store at below_store) in
+    let one = one_via stack e d a.index b.index 0 0 a.it b.it origin.to at Own Serving tidy via (b.via at below) refl in
     absurd (snapshot_no_origin stack a.it b.it snapshot origin a.target one.lines b.target)
-back_origin stack state d e t at origin sound tidy served below settled (ByRead snapshot over valid n lower_is at_is) =
+only_by_origin stack state d e t at origin sound tidy served below settled (ByRead snapshot over valid n lower_is at_is) =
     let list : origin.over ≡ snapshots_over stack snapshot.origin = (origin_sound stack d origin sound served).soundly.over ∙ ap (snapshots_over stack) lower_is in
     let here = settled_over stack state e at snapshot over (subst (λ (xs : List FoundOver). AreSettled state xs at) list settled) in
     absurd (not_settled (taken_at state e) (t / snapshot.chunk) valid n (subst (λ (s : ℕ). is_settled (taken_at state e) (s / snapshot.chunk) ≡ true) at_is here))
-back_origin stack state d e t at origin sound tidy served below settled (ByServe other over lower_is at_is) =
+only_by_origin stack state d e t at origin sound tidy served below settled (ByServe other over lower_is at_is) =
     let a = via_origin stack e other sound over in let b = via_origin stack d origin sound served in
     let below_other : at < lower_len stack other.to = subst (λ (x : Lower). at < lower_len stack x) lower_is below in
-    let via : IsVia stack e a.place 0 a.it origin.to at Serving = subst (λ (x : Lower). IsVia stack e a.place 0 a.it x at Serving) (sym lower_is) (a.via at below_other) in
-    let one = one_via stack e d a.place b.place 0 0 a.it b.it origin.to at Serving Serving tidy via (b.via at below) refl in
+    let via : IsVia stack e a.index 0 a.it origin.to at Serving = subst (λ (x : Lower). IsVia stack e a.index 0 a.it x at Serving) (sym lower_is) (a.via at below_other) in
+    let one = one_via stack e d a.index b.index 0 0 a.it b.it origin.to at Serving Serving tidy via (b.via at below) refl in
     record { device = one.devices; sector = sym at_is }
 
 -- Top devices: nothing leads to them
 
-line_named : (stack : Description) (device sector : ℕ) (line : FoundLine) (lower : Lower) (at : ℕ) (via : IsLineVia stack device sector line lower at) → IsNamed stack device via.place (column_at line.target (sector - line.start)) via.it lower
+line_named : (stack : Description) (device sector : ℕ) (line : FoundLine) (lower : Lower) (at : ℕ) (via : IsLineVia stack device sector line lower at) → IsNamed stack device via.index (column_at line.target (sector - line.start)) via.it lower
 line_named stack device sector line lower at via = record { there = via.via.there; line_at = via.via.line_at; span = via.via.span; span_at = via.via.span_at; on = via.via.on }
 
 pub record IsRoot (stack : Description) (lower : Lower) : Type 0 where
@@ -284,19 +284,19 @@ top_root stack top sound is_top = record {
   lines = record {
     none = λ e t line at is step.
         let a = via_line stack e t line (Device top) at sound is step in
-        top_named stack top e a.place (column_at line.target (t - line.start)) a.it (Device top) is_top (line_named stack e t line (Device top) at a) refl;
+        top_named stack top e a.index (column_at line.target (t - line.start)) a.it (Device top) is_top (line_named stack e t line (Device top) at a) refl;
   };
   stores = record {
-    none = λ e snapshot over same. let b = via_snapshot stack e snapshot sound over in top_named stack top e b.place 0 b.it snapshot.store is_top b.store_named (sym same);
+    none = λ e snapshot over same. let b = via_snapshot stack e snapshot sound over in top_named stack top e b.index 0 b.it snapshot.store is_top b.store_named (sym same);
   };
 }
 
 pub top_unserved : (stack : Description) (top : ℕ) → IsSound stack → IsTop stack top → IsUnserved stack (Device top)
-top_unserved stack top sound is_top = record { none = λ e origin over same. let b = via_origin stack e origin sound over in top_named stack top e b.place 0 b.it origin.to is_top b.named (sym same) }
+top_unserved stack top sound is_top = record { none = λ e origin over same. let b = via_origin stack e origin sound over in top_named stack top e b.index 0 b.it origin.to is_top b.named (sym same) }
 
-pub top_back : (stack : Description) (state : State) (top e t at : ℕ) → IsSound stack → IsTop stack top → How stack state e t (Device top) at → ⊥
-top_back stack state top e t at sound is_top (ByLine line is step) = (top_root stack top sound is_top).lines.none e t line at is step
-top_back stack state top e t at sound is_top (ByStore snapshot number over valid n same at_is) = (top_root stack top sound is_top).stores.none e snapshot over same
-top_back stack state top e t at sound is_top (ByRead snapshot over valid n same at_is) =
-    let b = via_snapshot stack e snapshot sound over in top_named stack top e b.place 1 b.it snapshot.origin is_top b.origin_named (sym same)
-top_back stack state top e t at sound is_top (ByServe origin over same at_is) = (top_unserved stack top sound is_top).none e origin over same
+pub no_step_to_top : (stack : Description) (state : State) (top e t at : ℕ) → IsSound stack → IsTop stack top → ReadStep stack state e t (Device top) at → ⊥
+no_step_to_top stack state top e t at sound is_top (ByLine line is step) = (top_root stack top sound is_top).lines.none e t line at is step
+no_step_to_top stack state top e t at sound is_top (ByStore snapshot number over valid n same at_is) = (top_root stack top sound is_top).stores.none e snapshot over same
+no_step_to_top stack state top e t at sound is_top (ByRead snapshot over valid n same at_is) =
+    let b = via_snapshot stack e snapshot sound over in top_named stack top e b.index 1 b.it snapshot.origin is_top b.origin_named (sym same)
+no_step_to_top stack state top e t at sound is_top (ByServe origin over same at_is) = (top_unserved stack top sound is_top).none e origin over same

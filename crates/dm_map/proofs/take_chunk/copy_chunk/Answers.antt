@@ -4,23 +4,23 @@ use Rattle.dm_table.specs.declared.request.Op.TheVariants.{Read}
 use Rattle.dm_stack.specs.declared.found_line.FoundSnapshot.{FoundSnapshot}
 use Rattle.dm_stack.specs.declared.graph.TheConstants.{MOST_DEPTH}
 use Rattle.dm_stack.specs.StoreLayout.{place}
-use Rattle.dm_map.specs.declared.ready.HomeStretch.{HomeStretch}
+use Rattle.dm_map.specs.declared.take_chunk.HomeStretch.{HomeStretch}
 use Rattle.dm_map.specs.declared.stretch.Stretch.{Stretch}
 use Rattle.dm_map.specs.Homes.{IsFirstHomes, home}
-use Rattle.dm_map.specs.SnapshotWrites.{copies, copy_to, home_kept, read, row}
-use Rattle.dm_map.specs.Snapshots.{kept_at}
+use Rattle.dm_map.specs.SnapshotWrites.{copies, copy_to, home_in_store, read, row}
+use Rattle.dm_map.specs.Snapshots.{store_sector}
 use Rattle.dm_map.specs.Steps.{keep}
 use Rattle.dm_map.specs.Stretch.{ground_unit, IsFirst}
 use Rattle.dm_map.specs.Units.{BlockUnit, units_in, units_of}
-use Rattle.dm_map.specs.Walk.{Scene, Walking, range_step, scene}
+use Rattle.dm_map.specs.Walk.{StackState, WalkerView, range_step, stack_state}
 use Rattle.dm_map.proofs.ChunkCopies.{copy_part}
 use Rattle.dm_map.proofs.Rows.{added_then, none_added, walked_cut}
-use Rattle.dm_map.proofs.There.{lower_small}
+use Rattle.dm_map.proofs.InStack.{lower_small}
 use Rattle.dm_map.proofs.UnitRows.{left_row, took_row}
-use Rattle.dm_map.proofs.ready.copy_chunk.Goals as goal
+use Rattle.dm_map.proofs.take_chunk.copy_chunk.Goals as goal
 
-pub kept_at-to-requires-clause-small : goal.kept_at-to-requires-clause-small
-kept_at-to-requires-clause-small g c =
+pub store_sector-to-requires-clause-small : goal.store_sector-to-requires-clause-small
+store_sector-to-requires-clause-small g c =
     let a = c.args in
     let small = lower_small a.walker.now.stack a.snapshot.now.store c.is_sound.ensures in let fits = leb-true _ _ c.requires.place in
     omega (arith, small, fits)
@@ -28,16 +28,16 @@ kept_at-to-requires-clause-small g c =
 next_place : (place chunk : ℕ) → (place + 1) * chunk ≡ place * chunk + chunk
 next_place place chunk = omega arith
 
-abbrev copy_of : Walking → FoundSnapshot → (number : ℕ) → ℕ → BlockUnit
-copy_of walk snapshot number u = copy_to (read walk.stack walk.state snapshot.origin u) (home_kept walk.stack snapshot number u)
+abbrev copy_of : WalkerView → FoundSnapshot → (number : ℕ) → ℕ → BlockUnit
+copy_of walk snapshot number u = copy_to (read walk.stack walk.state snapshot.origin u) (home_in_store walk.stack snapshot number u)
 
 -- what a piece copies is the next part of the row
-copy_next : (before now then : Walking) (snapshot : FoundSnapshot) (number sector len left from to : ℕ) (source : Stretch) (first : HomeStretch) → 0 < snapshot.chunk → sector % snapshot.chunk + len ≤ snapshot.chunk → left ≤ len → scene now ≡ scene before
-    → from + left ≡ sector + len → to + left ≡ kept_at snapshot number sector + len → IsFirst now then (range_step now.stack Read MOST_DEPTH snapshot.origin now.state from) left source → IsFirstHomes then.stack snapshot.store to source.len first
+copy_next : (before now then : WalkerView) (snapshot : FoundSnapshot) (number sector len left from to : ℕ) (source : Stretch) (first : HomeStretch) → 0 < snapshot.chunk → sector % snapshot.chunk + len ≤ snapshot.chunk → left ≤ len → stack_state now ≡ stack_state before
+    → from + left ≡ sector + len → to + left ≡ store_sector snapshot number sector + len → IsFirst now then (range_step now.stack Read MOST_DEPTH snapshot.origin now.state from) left source → IsFirstHomes then.stack snapshot.store to source.len first
     → row (copy_of before snapshot number) (sector + (len - left)) first.len ≡ units_in (copy_to (ground_unit source.ground) (record { disk = first.disk; sector = first.start })) first.len
 copy_next before now then snapshot number sector len left from to source first some part within same from_is to_is stretch homes =
     copy_part before now snapshot number sector (len - left) from to source.len source.ground first some (omega (arith, part, within, homes.most, stretch.most)) same (omega (arith, from_is, within)) (omega (arith, to_is, within)) stretch.read homes.most
-    (λ i more. ap (λ (v : Scene). home v.stack snapshot.store (to + i)) (sym (stretch.same ∙ same)) ∙ homes.homes i more)
+    (λ i more. ap (λ (v : StackState). home v.stack snapshot.store (to + i)) (sym (stretch.same ∙ same)) ∙ homes.homes i more)
 
 pub loop-left-init : goal.loop-left-init
 loop-left-init g c =
@@ -47,7 +47,7 @@ loop-left-init g c =
       taken = rw none (g.met.S.Sink.took_nothing a.sink.now);
       within = omega arith;
       from = refl;
-      to = ap (λ (s : ℕ). s + a.len) c.kept_at-to.ensures;
+      to = ap (λ (s : ℕ). s + a.len) c.store_sector-to.ensures;
       going_on = record {
         same = refl;
         looked = none_added a.walker.now.looked;
@@ -64,7 +64,7 @@ returns-in_err-piece g c =
     walked_cut g.S.Sink.took g.S.Sink.left g.S.Sink.stack g.S.Sink.room g.S.Sink.faults c.from_residual.result a.sink.now c.piece.new.self w h.new.walker (keep (copies w.stack w.state a.snapshot.now a.number a.sector a.len) w.state) 0 c.from_residual.ensures.0
     (left_row g.S.Sink.took g.S.Sink.left g.met.S.Sink.took_then_left a.sink.now l.sink c.piece.new.self (copy_of w a.snapshot.now a.number) a.sector done n a.len (units_of c.copy_piece.result)
     (omega (arith, h.ensures.is.most, s.ensures.most, l.invariant.within)) (next ∙ sym c.copy_piece.ensures.units) l.invariant.taken c.in_err-piece.ensures.left)
-    (omega (arith, c.in_err-piece.ensures.faults, l.invariant.going_on.faults)) (ap (λ (v : Scene). v.stack) (h.ensures.same ∙ s.ensures.same ∙ l.invariant.going_on.same))
+    (omega (arith, c.in_err-piece.ensures.faults, l.invariant.going_on.faults)) (ap (λ (v : StackState). v.stack) (h.ensures.same ∙ s.ensures.same ∙ l.invariant.going_on.same))
     (added_then w.looked l.walker.looked h.new.walker.looked l.invariant.going_on.looked (added_then l.walker.looked s.new.walker.looked h.new.walker.looked s.ensures.looked h.ensures.looked))
 
 pub overflow_add-from : goal.overflow_add-from

@@ -4,7 +4,7 @@ use Rattle.dm_map.specs.Stretch.{ground_unit, IsGroundInStack}
 use Rattle.dm_map.specs.Units.{units_in}
 use Rattle.dm_map.proofs.Stores.{not_on_disk, store_row}
 use Rattle.dm_map.proofs.UnitRows.{first_reads, homes_go_on}
-use Rattle.dm_map.proofs.ready.first_homes.Goals as goal
+use Rattle.dm_map.proofs.take_chunk.first_homes.Goals as goal
 
 pub unreachable-requires : goal.unreachable-requires
 unreachable-requires g c =
