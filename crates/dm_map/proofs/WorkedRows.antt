@@ -15,14 +15,14 @@ use Rattle.dm_stack.specs.Below.{Lies, IsError}
 use Rattle.dm_stack.specs.Description.{Description}
 use Rattle.dm_stack.specs.declared.graph.TheConstants.{MOST_DEPTH}
 use Rattle.dm_stack.specs.declared.id.Lower.TheVariants.{Device, Disk}
-use Rattle.dm_map.specs.Path.{PathStep, path, read_stretches}
-use Rattle.dm_map.specs.Reads.{read_unit}
-use Rattle.dm_map.specs.Mapping.{write_step, request_step}
+use Rattle.dm_map.specs.walk.Path.{PathStep, path, read_stretches}
+use Rattle.dm_map.specs.walk.Reads.{read_unit}
+use Rattle.dm_map.specs.walk.Mapping.{write_step, request_step}
 use Rattle.dm_stack.specs.StoreLayout.{place}
-use Rattle.dm_map.specs.Snapshots.{read_over}
-use Rattle.dm_map.specs.State.{Taken, State, start_state}
-use Rattle.dm_map.specs.Steps.{keep}
-use Rattle.dm_map.specs.Units.{ReadOf, WriteOf, Zeros, Drops, Fails}
+use Rattle.dm_map.specs.state.Snapshots.{read_over}
+use Rattle.dm_map.specs.state.State.{Taken, State, start_state}
+use Rattle.dm_map.specs.walk.Steps.{keep}
+use Rattle.dm_map.specs.pieces.Units.{ReadOf, WriteOf, Zeros, Drops, Fails}
 
 abbrev pub at : Place
 at = record { part = parts.Source; number = 1 }

@@ -10,15 +10,15 @@ use Rattle.dm_stack.specs.Description.{Description}
 use Rattle.dm_stack.specs.Over.{all_over, snapshots_over}
 use Rattle.dm_stack.specs.declared.id.Lower.{Lower}
 use Rattle.dm_stack.specs.declared.id.Lower.TheVariants.{Device, Disk}
-use Rattle.dm_map.specs.Homes.{home_to}
-use Rattle.dm_map.specs.Reads.{read_unit}
-use Rattle.dm_map.specs.Mapping.{request_step, write_step}
-use Rattle.dm_map.specs.Serving.{serve}
-use Rattle.dm_map.specs.SnapshotWrites.{write_snapshot}
-use Rattle.dm_map.specs.State.{State, Taken, none_taken, start_state}
-use Rattle.dm_map.specs.Steps.{keep, steps}
-use Rattle.dm_map.specs.Units.{ReadOf, WriteOf, CopyOf, FillOf, Fails}
-use Rattle.dm_map.specs.Usage.{usage_of}
+use Rattle.dm_map.specs.walk.Homes.{home_to}
+use Rattle.dm_map.specs.walk.Reads.{read_unit}
+use Rattle.dm_map.specs.walk.Mapping.{request_step, write_step}
+use Rattle.dm_map.specs.walk.Serving.{serve}
+use Rattle.dm_map.specs.walk.SnapshotWrites.{write_snapshot}
+use Rattle.dm_map.specs.state.State.{State, Taken, none_taken, start_state}
+use Rattle.dm_map.specs.walk.Steps.{keep, steps}
+use Rattle.dm_map.specs.pieces.Units.{ReadOf, WriteOf, CopyOf, FillOf, Fails}
+use Rattle.dm_map.specs.state.Usage.{usage_of}
 use Rattle.dm_map.proofs.WorkedRows.{line, device, disk}
 
 -- s: the snapshot's sectors, whose line plays no part here; then devices to be origins and stores

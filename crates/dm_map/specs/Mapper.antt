@@ -1,9 +1,9 @@
 -- A mapper, and what its results say.
 use Rattle.std.specs.Prelude.{Bool, Result, Ok, Err}
 use Rattle.dm_stack.specs.Description.{Description}
-use Rattle.dm_map.specs.Counts.{Counts}
-use Rattle.dm_map.specs.State.{State}
-use Rattle.dm_map.specs.Walk.{WalkerView}
+use Rattle.dm_map.specs.state.Counts.{Counts}
+use Rattle.dm_map.specs.state.State.{State}
+use Rattle.dm_map.specs.state.Walker.{WalkerView}
 use Rattle.dm_map.specs.declared.mapper.MapFault.{MapFault}
 use Rattle.dm_map.specs.declared.mapper.MapFault.TheVariants as faults
 

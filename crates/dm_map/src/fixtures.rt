@@ -1,9 +1,9 @@
 //! Stacks for tests, and what a mapper tells after a request.
 
 use crate::mapper::Mapper;
-use crate::piece_list::PieceList;
-use crate::run_taken::RunTaken;
-use crate::usage::Usage;
+use crate::pieces::piece_list::PieceList;
+use crate::state::run_taken::RunTaken;
+use crate::state::usage::Usage;
 use dm_stack::Stack;
 use dm_table::{parse_disks, parse_request, parse_table};
 use std::alloc::Global;

@@ -1,29 +1,29 @@
 //! The mapper: hands the units of requests to a sink.
 //!
 //! It finds lines through its looker alone and keeps no list, so a request takes no memory.
-//! `specs/Mapping.antt` defines what becomes of a sector, `walk` cuts a range into pieces, and
+//! `specs/walk/Mapping.antt` defines what becomes of a sector, `walk` cuts a range into pieces, and
 //! `walker` keeps what one request leaves for the next.
 
 ghost use Rattle.std.specs.Prelude.{◌≡◌, ◌+◌, ◌*◌, ◌<◌, ◌≤◌, false, true, length, nat_lt, IfOk, IfSome, OnOk};
 ghost use Rattle.dm_table.specs.declared.request.Op.TheVariants.{Read};
 ghost use Rattle.dm_stack.specs.Loaded.{snapshots, stack_depth, IsSnapshot};
-ghost use Rattle.dm_map.specs.Mapping.{request_step};
-ghost use Rattle.dm_map.specs.Counts.{grown_by, no_counts, AreAdded};
-ghost use Rattle.dm_map.specs.Fitting.{IsWithinPlaces};
+ghost use Rattle.dm_map.specs.walk.Mapping.{request_step};
+ghost use Rattle.dm_map.specs.state.Counts.{grown_by, no_counts, AreAdded};
+ghost use Rattle.dm_map.specs.state.Fitting.{IsWithinPlaces};
 ghost use Rattle.dm_map.specs.Mapper.{walker_of, with_looked, OnSinkFault, OnStopped, OnTried};
-ghost use Rattle.dm_map.specs.Path.{read_stretches};
-ghost use Rattle.dm_map.specs.Sink.{OfBeginning};
-ghost use Rattle.dm_map.specs.State.{start_state, taken_at};
-ghost use Rattle.dm_map.specs.Tables.{snapshot_at};
-ghost use Rattle.dm_map.specs.Usage.{usage_of};
-ghost use Rattle.dm_map.specs.Walk.{HasRoomFor, IsWalked};
+ghost use Rattle.dm_map.specs.walk.Path.{read_stretches};
+ghost use Rattle.dm_map.specs.pieces.Sink.{OfBeginning};
+ghost use Rattle.dm_map.specs.state.State.{start_state, taken_at};
+ghost use Rattle.dm_map.specs.state.Tables.{snapshot_at};
+ghost use Rattle.dm_map.specs.state.Usage.{usage_of};
+ghost use Rattle.dm_map.specs.walk.Range.{HasRoomFor, IsWalked};
 
-use crate::sink::Sink;
-use crate::tables::empty_tables;
-use crate::taken::Taken;
-use crate::usage::{Usage, usage_of};
-use crate::walk::{fail, map_range};
-use crate::walker::Walker;
+use crate::pieces::sink::Sink;
+use crate::state::tables::empty_tables;
+use crate::state::taken::Taken;
+use crate::state::usage::{Usage, usage_of};
+use crate::walk::range::{fail, map_range};
+use crate::state::walker::Walker;
 use dm_stack::{DeviceId, Looker, Lower, MOST_DEPTH};
 use dm_table::{Op, Request};
 use std::alloc::{AllocError, Global};
@@ -96,7 +96,7 @@ impl<'s, T: Taken> Mapper<'s, T> {
     /// The id belongs to the mapper's stack, which is also the sink's, and the sink has room for the
     /// request. Each piece is a stretch of sectors whose path down stays in one line, and one chunk,
     /// of each device. Cost of a read: at most as many line searches as the stack is deep for each run
-    /// of sectors with one path (`specs/Path`), however long, and at most 17 comparisons each; they are
+    /// of sectors with one path (`specs/walk/Path`), however long, and at most 17 comparisons each; they are
     /// counted (`searches`, `probes`). No memory is taken. Whatever comes of the request, no snapshot has
     /// taken more chunks than its store has places.
     ///

@@ -4,13 +4,13 @@ use Rattle.dm_stack.specs.Description.{device_len}
 use Rattle.dm_stack.specs.Soundness.{depth_of, IsSound}
 use Rattle.dm_stack.specs.declared.graph.TheConstants.{MOST_DEPTH}
 use Rattle.dm_stack.specs.declared.id.Lower.TheVariants.{Device}
-use Rattle.dm_map.specs.Bound.{IsBounded}
+use Rattle.dm_map.specs.walk.Bound.{IsBounded}
 use Rattle.dm_map.specs.Mapper.{MapperView, walker_of}
-use Rattle.dm_map.specs.Mapping.{request_step}
-use Rattle.dm_map.specs.Path.{path}
-use Rattle.dm_map.specs.Walk.{IsWalked}
-use Rattle.dm_map.proofs.Bounds.{request_bound}
-use Rattle.dm_map.proofs.Rows.{step_past_end, walked_piece}
+use Rattle.dm_map.specs.walk.Mapping.{request_step}
+use Rattle.dm_map.specs.walk.Path.{path}
+use Rattle.dm_map.specs.walk.Range.{IsWalked}
+use Rattle.dm_map.proofs.walk.Bounds.{request_bound}
+use Rattle.dm_map.proofs.walk.Rows.{step_past_end, walked_piece}
 use Rattle.dm_map.proofs.mapper.Mapper.map_request.Goals as goal
 
 pub returns-then-passes_end-clause-walked : goal.returns-then-passes_end-clause-walked

@@ -1,0 +1,14 @@
+pub mod ChunkOutcomes
+pub mod HomeLemmas
+pub mod Losses
+pub mod OwnRequests
+pub mod OwnWrites
+pub mod Plays
+pub mod ServedRuns
+pub mod StepClaims
+pub mod StoppedRequests
+pub mod TakenInARow
+pub mod Takes
+pub mod UniqueSteps
+pub mod WayLemmas
+pub mod Written

@@ -1,0 +1,74 @@
+-- Where no claims meet, no top device sees another's writes.
+use Rattle.std.proofs.Common.{◌≡◌, ℕ, zero, suc, ◌<◌, List, length, replicate, refl, sym, ap, subst, arith}
+use Rattle.std.specs.List.{AllByRecursion}
+use Rattle.std.proofs.lemmas.List.{length-replicate}
+use Rattle.dm_stack.specs.declared.id.Lower.TheVariants.{Device}
+use Rattle.dm_stack.specs.Claims.{IsTidy, IsTop}
+use Rattle.dm_stack.specs.Description.{Description}
+use Rattle.dm_stack.specs.Soundness.{IsSound}
+use Rattle.dm_map.specs.own.Contents.{content, played}
+use Rattle.dm_map.specs.state.Fitting.{IsFitting}
+use Rattle.dm_map.specs.own.Tops.{IsOwnWrite, write}
+use Rattle.dm_map.specs.state.State.{State, Taken, none_taken, start_state, taken_at}
+use Rattle.dm_map.specs.walk.Steps.{Step}
+use Rattle.dm_map.specs.pieces.Units.{BlockUnit}
+use Rattle.dm_map.specs.own.Ways.{Node, node, Touches}
+use Rattle.dm_map.proofs.own.UniqueSteps.{no_step_to_top, top_root, top_unserved}
+use Rattle.dm_map.proofs.walk.ReadSteps.{read_step}
+use Rattle.dm_map.proofs.own.Losses.{stays_as}
+use Rattle.dm_map.proofs.own.TakenInARow.{IsFresh, all_front, all_moves, fresh_stays, grown_same, ran, run, run_stays}
+use Rattle.dm_map.proofs.own.WayLemmas.{Here, Before, back, read_touches}
+use Rattle.dm_map.proofs.own.Written.{written}
+
+-- nothing but itself leads to a sector of a top device
+top_touched : (stack : Description) (state : State) (a : Node) (top sector : ℕ) → IsSound stack → IsTop stack top → Touches stack state a (node (Device top) sector) → a ≡ node (Device top) sector
+top_touched stack state a top sector sound is_top touches = elim (back stack state a (node (Device top) sector) touches) [
+  | Here e ↦ e
+  | Before c before leads ↦ absurd (no_step_to_top stack state top leads.device c.sector sector sound is_top (read_step stack state leads.device c.sector (Device top) sector sound leads.below))
+]
+
+device_is : (a b : ℕ) → Device a ≡ Device b → a ≡ b
+device_is a b e = cc
+
+pub own_write : {V : Type 0} (zeros : V) (value : ℕ → V) (stack : Description) (state : State) (top sector : ℕ) → IsSound stack → IsTidy stack → IsFitting stack state → IsTop stack top → IsOwnWrite zeros value stack state top sector (write stack state (Device top) sector)
+own_write {V = V} zeros value stack state top sector sound tidy fitting is_top =
+    let step = write stack state (Device top) sector in
+    let w = written stack (Device top) sector state sound tidy fitting in
+    let r = ran stack state state w.events sound fitting fitting tidy (grown_same state) w.each in
+    let us = (run stack w.events state).units in
+    let state_is : step.state ≡ (run stack w.events state).state = ap (λ (x : Step). x.state) w.is in
+    record {
+      front = us;
+      last = w.last;
+      units = ap (λ (x : Step). x.units) w.is;
+      moves = all_moves stack state us r.fresh;
+      answered = w.answered;
+      fits = subst (λ (x : State). IsFitting stack x) (sym state_is) r.fits;
+      torn = λ values some rest whole other other_sector other_top.
+          fresh_stays zeros value sector stack state (Device other) other_sector some values sound (top_root stack other sound other_top)
+          (all_front (IsFresh stack state) some rest (subst (λ (vs : List BlockUnit). AllByRecursion (IsFresh stack state) vs) whole r.fresh));
+      kept = λ values other other_sector other_top.
+          stays_as _ _ _ _ refl (ap (λ (x : State). content zeros stack x (played zeros value sector us values) (Device other) other_sector) state_is)
+          (run_stays zeros value sector stack state w.events values (Device other) other_sector sound fitting tidy w.each (top_root stack other sound other_top));
+      reads = λ disk at last_is. w.reads disk at last_is;
+      alone = λ disk at other other_sector last_is other_top is.
+          let up = w.alone disk at (node (Device other) other_sector) last_is (top_root stack other sound other_top) (top_unserved stack other sound other_top) (read_touches stack step.state (Device other) other_sector disk at sound is) in
+          let same = top_touched stack step.state (node (Device other) other_sector) top sector sound is_top up in
+          (device_is other top (ap (λ (n : Node). n.lower) same), ap (λ (n : Node). n.sector) same);
+    }
+
+-- At the start
+
+none_at : (count device : ℕ) → taken_at (replicate count none_taken) device ≡ none_taken
+none_at zero device = refl
+none_at (suc count) zero = refl
+none_at (suc count) (suc device) = none_at count device
+
+pub start_fits : (stack : Description) → IsFitting stack (start_state stack)
+start_fits stack = record {
+  count = length-replicate (length stack.devices) none_taken;
+  places = λ device number snapshot over below. absurd (none_below number (subst (λ (taken : Taken). number < length taken.chunks) (none_at (length stack.devices) device) below));
+}
+  where
+    none_below : (number : ℕ) → number < 0 → ⊥
+    none_below number below = omega (arith, below)

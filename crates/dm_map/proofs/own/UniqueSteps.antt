@@ -1,0 +1,302 @@
+-- Where no claims meet, at most one step of a read leads to a sector of a column, a store or an origin, and none to a top device.
+use Rattle.std.proofs.Common.{◌≡◌, ℕ, ◌+◌, ◌-◌, ◌*◌, ◌/◌, ◌%◌, ◌<◌, true, false, List, Option, Some, None, length, refl, sym, ap, subst, ◌∙◌, arith}
+use Rattle.std.specs.Prelude.{slice_get}
+use Rattle.std.proofs.lemmas.Bool.{leb-true}
+use Rattle.dm_table.specs.declared.table.Line.{Line}
+use Rattle.dm_table.specs.declared.table.Use.{Use}
+use Rattle.dm_table.specs.declared.table.Use.TheVariants.{Own, Reading, Serving}
+use Rattle.dm_stack.specs.declared.found_line.FoundColumn.{FoundColumn}
+use Rattle.dm_stack.specs.declared.found_line.FoundLine.{FoundLine}
+use Rattle.dm_stack.specs.declared.found_line.FoundOrigin.{FoundOrigin}
+use Rattle.dm_stack.specs.declared.found_line.FoundOver.{FoundOver}
+use Rattle.dm_stack.specs.declared.found_line.FoundSnapshot.{FoundSnapshot}
+use Rattle.dm_stack.specs.declared.found_line.FoundTarget.{FoundTarget}
+use Rattle.dm_stack.specs.declared.found_line.FoundTarget.TheVariants as founds
+use Rattle.dm_stack.specs.declared.id.Lower.{Lower}
+use Rattle.dm_stack.specs.declared.id.Lower.TheVariants.{Device}
+use Rattle.dm_stack.specs.Below.{AreStripes, IsTargetSound, Lies, below_line, column_of, found_at, found_line, found_target, in_column}
+use Rattle.dm_stack.specs.Claims.{IsTidy, IsTop}
+use Rattle.dm_stack.specs.Description.{Description, device_len, lower_len}
+use Rattle.dm_stack.specs.Over.{snapshots_over}
+use Rattle.dm_stack.specs.Soundness.{IsSound}
+use Rattle.dm_stack.proofs.Apart.{IsVia, IsNamed, one_via, top_named}
+use Rattle.dm_map.specs.state.Fitting.{IsFitting}
+use Rattle.dm_map.specs.walk.Reads.{read_below}
+use Rattle.dm_map.specs.walk.Serving.{AreSettled}
+use Rattle.dm_map.specs.walk.SnapshotWrites.{is_settled}
+use Rattle.dm_map.specs.state.Snapshots.{store_sector, number_in, read_over}
+use Rattle.dm_map.specs.state.State.{State, Taken, taken_at}
+use Rattle.dm_map.specs.state.Tables.{origin_at, snapshot_at}
+use Rattle.dm_map.proofs.state.FoundLines.{line_sound, origin_sound, snapshot_sound}
+use Rattle.dm_map.proofs.walk.ReadSteps.{ReadStep, ByLine, ByStore, ByRead, ByServe, IsColumnStep, column_at, columns_of, within_at}
+use Rattle.dm_map.proofs.state.Numbers.{store_sector_inside, stripe_back}
+use Rattle.dm_map.proofs.walk.Overs.{settled_over}
+use Rattle.dm_map.proofs.state.TableLemmas.{number_within}
+use Rattle.dm_map.proofs.own.StepClaims.{IsLineVia, IsSnapshotVia, column_inside, via_line, via_origin, via_snapshot}
+
+-- One column and one sector of that column are one sector of the line
+
+distance_one : (stack : Description) (device start len : ℕ) (target : FoundTarget) (d e : ℕ) (column : FoundColumn) → IsTargetSound stack device start len target → slice_get (columns_of target) (column_at target d) ≡ Some column
+    → column_at target d ≡ column_at target e → within_at target d ≡ within_at target e → d ≡ e
+distance_one stack device start len (founds.Linear to offset) d e column sound is columns within = within
+distance_one stack device start len (founds.Striped chunk columns) d e column sound is same within =
+    let stripes : AreStripes stack len chunk columns = sound in
+    let n = length columns in
+    sym (stripe_back chunk n d stripes.chunk_some)
+    ∙ ap (λ (w : ℕ). (w / chunk * n + column_of chunk n d) * chunk + w % chunk) within
+    ∙ ap (λ (i : ℕ). (in_column chunk n e / chunk * n + i) * chunk + in_column chunk n e % chunk) same
+    ∙ stripe_back chunk n e stripes.chunk_some
+distance_one stack device start len founds.Zero d e column sound is columns within = absurd cc
+distance_one stack device start len founds.Error d e column sound is columns within = absurd cc
+distance_one stack device start len (founds.Snapshot snapshot) d e column sound is columns within = absurd cc
+distance_one stack device start len (founds.Origin origin) d e column sound is columns within = absurd cc
+
+column_is : (a b : FoundColumn) → Some a ≡ Some b → a ≡ b
+column_is a b e = cc
+
+-- one column and one sector below are one distance
+step_one : (stack : Description) (device start len : ℕ) (target : FoundTarget) (d e : ℕ) (lower : Lower) (at : ℕ) → IsTargetSound stack device start len target → IsColumnStep target d lower at → IsColumnStep target e lower at → column_at target d ≡ column_at target e → d ≡ e
+step_one stack device start len target d e lower at sound a b same =
+    let columns = column_is a.column b.column (sym a.is ∙ ap (slice_get (columns_of target)) same ∙ b.is) in
+    let offsets : a.column.offset ≡ b.column.offset = ap (λ (c : FoundColumn). c.offset) columns in
+    let on_a = a.sector in let on_b = b.sector in
+    distance_one stack device start len target d e a.column sound a.is same (omega (arith, offsets, on_a, on_b))
+
+-- neither a snapshot's line nor an origin's has columns
+no_column : (target other : FoundTarget) (distance : ℕ) (lower : Lower) (at : ℕ) → target ≡ other → slice_get (columns_of other) (column_at other distance) ≡ None → IsColumnStep target distance lower at → ⊥
+no_column target other distance lower at is none step = absurd_none (sym (ap (λ (t : FoundTarget). slice_get (columns_of t) (column_at t distance)) is ∙ none) ∙ step.is)
+  where
+    absurd_none : None ≡ Some step.column → ⊥
+    absurd_none e = cc
+
+line_no_snapshot : (stack : Description) (device sector : ℕ) (line : FoundLine) (lower : Lower) (at : ℕ) (l m : Line) (snapshot : FoundSnapshot) → found_line stack l ≡ line → IsColumnStep line.target (sector - line.start) lower at → l ≡ m → found_target stack m.target ≡ founds.Snapshot snapshot → ⊥
+line_no_snapshot stack device sector line lower at l m snapshot is step same target =
+    no_column line.target (founds.Snapshot snapshot) (sector - line.start) lower at (sym (ap (λ (x : FoundLine). x.target) is) ∙ ap (λ (x : Line). found_target stack x.target) same ∙ target) refl step
+
+line_no_origin : (stack : Description) (device sector : ℕ) (line : FoundLine) (lower : Lower) (at : ℕ) (l m : Line) (origin : FoundOrigin) → found_line stack l ≡ line → IsColumnStep line.target (sector - line.start) lower at → l ≡ m → found_target stack m.target ≡ founds.Origin origin → ⊥
+line_no_origin stack device sector line lower at l m origin is step same target =
+    no_column line.target (founds.Origin origin) (sector - line.start) lower at (sym (ap (λ (x : FoundLine). x.target) is) ∙ ap (λ (x : Line). found_target stack x.target) same ∙ target) refl step
+
+-- and no line is both
+snapshot_no_origin : (stack : Description) (l m : Line) (snapshot : FoundSnapshot) (origin : FoundOrigin) → found_target stack l.target ≡ founds.Snapshot snapshot → l ≡ m → found_target stack m.target ≡ founds.Origin origin → ⊥
+snapshot_no_origin stack l m snapshot origin is same target = differ (sym is ∙ ap (λ (x : Line). found_target stack x.target) same ∙ target)
+  where
+    differ : founds.Snapshot snapshot ≡ founds.Origin origin → ⊥
+    differ e = cc
+
+-- What a taken chunk's number is inside of
+
+pub fits : (stack : Description) (state : State) (device sector number : ℕ) (snapshot : FoundSnapshot) → IsSound stack → IsFitting stack state → snapshot_at stack device ≡ Some snapshot → number_in (sector / snapshot.chunk) (taken_at state device).chunks ≡ Some number
+    → store_sector snapshot number sector < lower_len stack snapshot.store
+fits stack state device sector number snapshot sound fitting at is =
+    let over = snapshot_sound stack device snapshot sound at in
+    store_sector_inside snapshot number sector (lower_len stack snapshot.store) over.soundly.chunk_some
+    (leb-true _ _ (fitting.places device number snapshot at (number_within (sector / snapshot.chunk) (taken_at state device).chunks number is)))
+
+-- a read of the origin is inside of it
+read_inside : (stack : Description) (state : State) (device sector : ℕ) (snapshot : FoundSnapshot) → IsSound stack → snapshot_at stack device ≡ Some snapshot → sector < device_len stack device → sector < lower_len stack snapshot.origin
+read_inside stack state device sector snapshot sound at inside = let over = (snapshot_sound stack device snapshot sound at).soundly.origin in omega (arith, over, inside)
+
+-- and so is that of what an origin's device names
+serve_inside : (stack : Description) (device sector : ℕ) (origin : FoundOrigin) → IsSound stack → origin_at stack device ≡ Some origin → sector < device_len stack device → sector < lower_len stack origin.to
+serve_inside stack device sector origin sound at inside = let same = (origin_sound stack device origin sound at).soundly.same in omega (arith, same, inside)
+
+-- what goes on is inside its device
+inside_of : (stack : Description) (state : State) (device sector : ℕ) (lower : Lower) (at : ℕ) (line : Option FoundLine) → IsSound stack → found_at stack device sector ≡ line → below_line (read_over (taken_at state device)) line sector ≡ Lies lower at → sector < device_len stack device
+inside_of stack state device sector lower at None sound is e = absurd cc
+inside_of stack state device sector lower at (Some line) sound is e = (line_sound stack device sector line sound is).inside
+
+pub goes_on_inside : (stack : Description) (state : State) (device sector : ℕ) (lower : Lower) (at : ℕ) → IsSound stack → read_below stack state device sector ≡ Lies lower at → sector < device_len stack device
+goes_on_inside stack state device sector lower at sound e = inside_of stack state device sector lower at (found_at stack device sector) sound refl e
+
+-- The only step that leads to a sector
+
+pub record IsAt (d s e u : ℕ) : Type 0 where
+  pub device : d ≡ e
+  pub sector : s ≡ u
+
+two_columns : (i j : ℕ) → i ≡ 0 → j ≡ 1 → i ≡ j → ⊥
+two_columns i j first second same = omega (arith, first, second, same)
+
+-- to one that a line's column has: that line's sector
+pub only_by_line : (stack : Description) (state : State) (d s e t : ℕ) (lower : Lower) (at : ℕ) (line : FoundLine) → IsSound stack → IsFitting stack state → IsTidy stack → t < device_len stack e
+    → found_at stack d s ≡ Some line → IsColumnStep line.target (s - line.start) lower at → ReadStep stack state e t lower at → IsAt e t d s
+only_by_line stack state d s e t lower at line sound fitting tidy inside is step (ByLine other is_other step_other) =
+    let a = via_line stack d s line lower at sound is step in let b = via_line stack e t other lower at sound is_other step_other in
+    let one = one_via stack d e a.index b.index (column_at line.target (s - line.start)) (column_at other.target (t - other.start)) a.it b.it lower at Own Own tidy a.via b.via refl in
+    let same : line ≡ other = sym a.is ∙ ap (found_line stack) one.lines ∙ b.is in
+    let of = (line_sound stack d s line sound is).soundly in let of_other = (line_sound stack e t other sound is_other).soundly in
+    let starts : line.start ≡ other.start = ap (λ (l : FoundLine). l.start) same in
+    let moved : IsColumnStep line.target (t - other.start) lower at = subst (λ (l : FoundLine). IsColumnStep l.target (t - other.start) lower at) (sym same) step_other in
+    let columns : column_at line.target (s - line.start) ≡ column_at line.target (t - other.start) = one.columns ∙ ap (λ (l : FoundLine). column_at l.target (t - other.start)) (sym same) in
+    let distances = step_one stack d line.start line.len line.target (s - line.start) (t - other.start) lower at of.target step moved columns in
+    let from = of.from in let from_other = of_other.from in
+    record { device = sym one.devices; sector = omega (arith, distances, starts, from, from_other) }
+only_by_line stack state d s e t lower at line sound fitting tidy inside is step (ByStore snapshot number over valid n lower_is at_is) =
+    let a = via_line stack d s line lower at sound is step in let b = via_snapshot stack e snapshot sound over in
+    let below : at < lower_len stack snapshot.store = subst (λ (x : ℕ). x < lower_len stack snapshot.store) (sym at_is) (fits stack state e t number snapshot sound fitting over n) in
+    let via : IsVia stack e b.index 0 b.it lower at Own = subst (λ (x : Lower). IsVia stack e b.index 0 b.it x at Own) (sym lower_is) (b.store at below) in
+    let one = one_via stack d e a.index b.index (column_at line.target (s - line.start)) 0 a.it b.it lower at Own Own tidy a.via via refl in
+    absurd (line_no_snapshot stack d s line lower at a.it b.it snapshot a.is step one.lines b.target)
+only_by_line stack state d s e t lower at line sound fitting tidy inside is step (ByRead snapshot over valid n lower_is at_is) =
+    let a = via_line stack d s line lower at sound is step in let b = via_snapshot stack e snapshot sound over in
+    let below : at < lower_len stack snapshot.origin = subst (λ (x : ℕ). x < lower_len stack snapshot.origin) (sym at_is) (read_inside stack state e t snapshot sound over inside) in
+    let via : IsVia stack e b.index 1 b.it lower at Reading = subst (λ (x : Lower). IsVia stack e b.index 1 b.it x at Reading) (sym lower_is) (b.origin at below) in
+    let one = one_via stack d e a.index b.index (column_at line.target (s - line.start)) 1 a.it b.it lower at Own Reading tidy a.via via refl in
+    absurd (line_no_snapshot stack d s line lower at a.it b.it snapshot a.is step one.lines b.target)
+only_by_line stack state d s e t lower at line sound fitting tidy inside is step (ByServe origin over lower_is at_is) =
+    let a = via_line stack d s line lower at sound is step in let b = via_origin stack e origin sound over in
+    let below : at < lower_len stack origin.to = subst (λ (x : ℕ). x < lower_len stack origin.to) (sym at_is) (serve_inside stack e t origin sound over inside) in
+    let via : IsVia stack e b.index 0 b.it lower at Serving = subst (λ (x : Lower). IsVia stack e b.index 0 b.it x at Serving) (sym lower_is) (b.via at below) in
+    let one = one_via stack d e a.index b.index (column_at line.target (s - line.start)) 0 a.it b.it lower at Own Serving tidy a.via via refl in
+    absurd (line_no_origin stack d s line lower at a.it b.it origin a.is step one.lines b.target)
+
+-- to one of a store: its snapshot, by a taken chunk
+pub record IsKept (state : State) (device : ℕ) (snapshot : FoundSnapshot) (at e t : ℕ) : Type 0 where
+  pub same : e ≡ device
+  pub number : ℕ
+  pub is : number_in (t / snapshot.chunk) (taken_at state device).chunks ≡ Some number
+  pub sector : at ≡ store_sector snapshot number t
+
+snapshot_is : (a b : FoundSnapshot) → founds.Snapshot a ≡ founds.Snapshot b → a ≡ b
+snapshot_is a b e = cc
+
+pub only_by_store : (stack : Description) (state : State) (d e t at : ℕ) (snapshot : FoundSnapshot) → IsSound stack → IsFitting stack state → IsTidy stack → t < device_len stack e
+    → snapshot_at stack d ≡ Some snapshot → at < lower_len stack snapshot.store → ReadStep stack state e t snapshot.store at → IsKept state d snapshot at e t
+only_by_store stack state d e t at snapshot sound fitting tidy inside over below (ByLine line is step) =
+    let a = via_line stack e t line snapshot.store at sound is step in let b = via_snapshot stack d snapshot sound over in
+    let one = one_via stack e d a.index b.index (column_at line.target (t - line.start)) 0 a.it b.it snapshot.store at Own Own tidy a.via (b.store at below) refl in
+    absurd (line_no_snapshot stack e t line snapshot.store at a.it b.it snapshot a.is step one.lines b.target)
+only_by_store stack state d e t at snapshot sound fitting tidy inside over below (ByStore other number over_other valid n store_is at_is) =
+    let a = via_snapshot stack d snapshot sound over in let b = via_snapshot stack e other sound over_other in
+    let below_other : at < lower_len stack other.store = subst (λ (x : Lower). at < lower_len stack x) store_is below in
+    let via : IsVia stack e b.index 0 b.it snapshot.store at Own = subst (λ (x : Lower). IsVia stack e b.index 0 b.it x at Own) (sym store_is) (b.store at below_other) in
+    let one = one_via stack d e a.index b.index 0 0 a.it b.it snapshot.store at Own Own tidy (a.store at below) via refl in
+    let same : snapshot ≡ other = snapshot_is snapshot other (sym a.target ∙ ap (λ (l : Line). found_target stack l.target) one.lines ∙ b.target) in
+    record { same = sym one.devices; number = number; is = rw (same, one.devices) n; sector = rw same at_is }
+only_by_store stack state d e t at snapshot sound fitting tidy inside over below (ByRead other over_other valid n store_is at_is) =
+    let a = via_snapshot stack d snapshot sound over in let b = via_snapshot stack e other sound over_other in
+    let below_other : at < lower_len stack other.origin = subst (λ (x : ℕ). x < lower_len stack other.origin) (sym at_is) (read_inside stack state e t other sound over_other inside) in
+    let via : IsVia stack e b.index 1 b.it snapshot.store at Reading = subst (λ (x : Lower). IsVia stack e b.index 1 b.it x at Reading) (sym store_is) (b.origin at below_other) in
+    let one = one_via stack d e a.index b.index 0 1 a.it b.it snapshot.store at Own Reading tidy (a.store at below) via refl in
+    absurd (two_columns 0 1 refl refl one.columns)
+only_by_store stack state d e t at snapshot sound fitting tidy inside over below (ByServe origin over_other store_is at_is) =
+    let a = via_snapshot stack d snapshot sound over in let b = via_origin stack e origin sound over_other in
+    let below_other : at < lower_len stack origin.to = subst (λ (x : Lower). at < lower_len stack x) store_is below in
+    let via : IsVia stack e b.index 0 b.it snapshot.store at Serving = subst (λ (x : Lower). IsVia stack e b.index 0 b.it x at Serving) (sym store_is) (b.via at below_other) in
+    let one = one_via stack d e a.index b.index 0 0 a.it b.it snapshot.store at Own Serving tidy (a.store at below) via refl in
+    absurd (snapshot_no_origin stack a.it b.it snapshot origin a.target one.lines b.target)
+
+-- Roots: no line leads into them, and they are no store
+
+pub record IsNoLines (stack : Description) (lower : Lower) : Type 0 where
+  pub none : (device sector : ℕ) (line : FoundLine) (at : ℕ) → found_at stack device sector ≡ Some line → IsColumnStep line.target (sector - line.start) lower at → ⊥
+
+pub record IsNoStore (stack : Description) (lower : Lower) : Type 0 where
+  pub none : (device : ℕ) (snapshot : FoundSnapshot) → snapshot_at stack device ≡ Some snapshot → lower ≡ snapshot.store → ⊥
+
+-- no line leads into a store or an origin, and no store is an origin
+
+step_inside : (stack : Description) (device sector : ℕ) (line : FoundLine) (lower : Lower) (at : ℕ) → IsSound stack → found_at stack device sector ≡ Some line → IsColumnStep line.target (sector - line.start) lower at → at < lower_len stack lower
+step_inside stack device sector line lower at sound is step =
+    let of = (line_sound stack device sector line sound is).soundly in
+    let from = of.from in let before = of.before in
+    column_inside stack device line.start line.len line.target (sector - line.start) lower at of.target step (omega (arith, from, before))
+
+-- nor into what a snapshot's line names at a column
+named_no_lines : (stack : Description) (device column : ℕ) (snapshot : FoundSnapshot) (lower : Lower) (kind : Use) → IsSound stack → IsTidy stack → (b : IsSnapshotVia stack device snapshot)
+    → ((at : ℕ) → at < lower_len stack lower → IsVia stack device b.index column b.it lower at kind) → IsNoLines stack lower
+named_no_lines stack device column snapshot lower kind sound tidy b via = record {
+  none = λ e t line at is step.
+      let a = via_line stack e t line lower at sound is step in
+      let one = one_via stack e device a.index b.index (column_at line.target (t - line.start)) column a.it b.it lower at Own kind tidy a.via (via at (step_inside stack e t line lower at sound is step)) refl in
+      line_no_snapshot stack e t line lower at a.it b.it snapshot a.is step one.lines b.target;
+}
+
+pub store_no_lines : (stack : Description) (device : ℕ) (snapshot : FoundSnapshot) → IsSound stack → IsTidy stack → snapshot_at stack device ≡ Some snapshot → IsNoLines stack snapshot.store
+store_no_lines stack device snapshot sound tidy over = let b = via_snapshot stack device snapshot sound over in named_no_lines stack device 0 snapshot snapshot.store Own sound tidy b b.store
+
+pub origin_no_lines : (stack : Description) (device : ℕ) (snapshot : FoundSnapshot) → IsSound stack → IsTidy stack → snapshot_at stack device ≡ Some snapshot → IsNoLines stack snapshot.origin
+origin_no_lines stack device snapshot sound tidy over = let b = via_snapshot stack device snapshot sound over in named_no_lines stack device 1 snapshot snapshot.origin Reading sound tidy b b.origin
+
+pub origin_no_store : (stack : Description) (device : ℕ) (snapshot : FoundSnapshot) → IsSound stack → IsTidy stack → snapshot_at stack device ≡ Some snapshot → IsNoStore stack snapshot.origin
+origin_no_store stack device snapshot sound tidy over = record {
+  none = λ e other over_other same.
+      let of = snapshot_sound stack device snapshot sound over in
+      let whole = of.soundly.origin in let some = of.some in
+      let below : 0 < lower_len stack snapshot.origin = omega (arith, whole, some) in
+      let a = via_snapshot stack device snapshot sound over in let b = via_snapshot stack e other sound over_other in
+      let via : IsVia stack e b.index 0 b.it snapshot.origin 0 Own = subst (λ (x : Lower). IsVia stack e b.index 0 b.it x 0 Own) (sym same) (b.store 0 (subst (λ (x : Lower). 0 < lower_len stack x) same below)) in
+      let one = one_via stack e device b.index a.index 0 1 b.it a.it snapshot.origin 0 Own Reading tidy via (a.origin 0 below) refl in
+      two_columns 0 1 refl refl one.columns;
+}
+
+-- What an origin's device names
+
+pub record IsUnserved (stack : Description) (lower : Lower) : Type 0 where
+  pub none : (device : ℕ) (origin : FoundOrigin) → origin_at stack device ≡ Some origin → lower ≡ origin.to → ⊥
+
+-- a snapshot that would still read it is none whose chunk is settled
+not_settled : (taken : Taken) (chunk : ℕ) → taken.valid ≡ true → number_in chunk taken.chunks ≡ None → is_settled taken chunk ≡ true → ⊥
+not_settled taken chunk valid none settled = true_false (sym settled ∙ (rw (valid, none) refl))
+  where
+    true_false : true ≡ false → ⊥
+    true_false e = cc
+
+-- to one of it, where all its snapshots are settled: that device's sector
+pub only_by_origin : (stack : Description) (state : State) (d e t at : ℕ) (origin : FoundOrigin) → IsSound stack → IsTidy stack → origin_at stack d ≡ Some origin → at < lower_len stack origin.to
+    → AreSettled state origin.over at → ReadStep stack state e t origin.to at → IsAt e t d at
+only_by_origin stack state d e t at origin sound tidy served below settled (ByLine line is step) =
+    let a = via_line stack e t line origin.to at sound is step in let b = via_origin stack d origin sound served in
+    let one = one_via stack e d a.index b.index (column_at line.target (t - line.start)) 0 a.it b.it origin.to at Own Serving tidy a.via (b.via at below) refl in
+    absurd (line_no_origin stack e t line origin.to at a.it b.it origin a.is step one.lines b.target)
+only_by_origin stack state d e t at origin sound tidy served below settled (ByStore snapshot number over valid n lower_is at_is) =
+    let a = via_snapshot stack e snapshot sound over in let b = via_origin stack d origin sound served in
+    let below_store : at < lower_len stack snapshot.store = subst (λ (x : Lower). at < lower_len stack x) lower_is below in
+    let via : IsVia stack e a.index 0 a.it origin.to at Own = subst (λ (x : Lower). IsVia stack e a.index 0 a.it x at Own) (sym lower_is) (a.store at below_store) in
+    let one = one_via stack e d a.index b.index 0 0 a.it b.it origin.to at Own Serving tidy via (b.via at below) refl in
+    absurd (snapshot_no_origin stack a.it b.it snapshot origin a.target one.lines b.target)
+only_by_origin stack state d e t at origin sound tidy served below settled (ByRead snapshot over valid n lower_is at_is) =
+    let list : origin.over ≡ snapshots_over stack snapshot.origin = (origin_sound stack d origin sound served).soundly.over ∙ ap (snapshots_over stack) lower_is in
+    let here = settled_over stack state e at snapshot over (subst (λ (xs : List FoundOver). AreSettled state xs at) list settled) in
+    absurd (not_settled (taken_at state e) (t / snapshot.chunk) valid n (subst (λ (s : ℕ). is_settled (taken_at state e) (s / snapshot.chunk) ≡ true) at_is here))
+only_by_origin stack state d e t at origin sound tidy served below settled (ByServe other over lower_is at_is) =
+    let a = via_origin stack e other sound over in let b = via_origin stack d origin sound served in
+    let below_other : at < lower_len stack other.to = subst (λ (x : Lower). at < lower_len stack x) lower_is below in
+    let via : IsVia stack e a.index 0 a.it origin.to at Serving = subst (λ (x : Lower). IsVia stack e a.index 0 a.it x at Serving) (sym lower_is) (a.via at below_other) in
+    let one = one_via stack e d a.index b.index 0 0 a.it b.it origin.to at Serving Serving tidy via (b.via at below) refl in
+    record { device = one.devices; sector = sym at_is }
+
+-- Top devices: nothing leads to them
+
+line_named : (stack : Description) (device sector : ℕ) (line : FoundLine) (lower : Lower) (at : ℕ) (via : IsLineVia stack device sector line lower at) → IsNamed stack device via.index (column_at line.target (sector - line.start)) via.it lower
+line_named stack device sector line lower at via = record { there = via.via.there; line_at = via.via.line_at; span = via.via.span; span_at = via.via.span_at; on = via.via.on }
+
+pub record IsRoot (stack : Description) (lower : Lower) : Type 0 where
+  pub lines : IsNoLines stack lower
+  pub stores : IsNoStore stack lower
+
+pub origin_root : (stack : Description) (device : ℕ) (snapshot : FoundSnapshot) → IsSound stack → IsTidy stack → snapshot_at stack device ≡ Some snapshot → IsRoot stack snapshot.origin
+origin_root stack device snapshot sound tidy over = record { lines = origin_no_lines stack device snapshot sound tidy over; stores = origin_no_store stack device snapshot sound tidy over }
+
+pub top_root : (stack : Description) (top : ℕ) → IsSound stack → IsTop stack top → IsRoot stack (Device top)
+top_root stack top sound is_top = record {
+  lines = record {
+    none = λ e t line at is step.
+        let a = via_line stack e t line (Device top) at sound is step in
+        top_named stack top e a.index (column_at line.target (t - line.start)) a.it (Device top) is_top (line_named stack e t line (Device top) at a) refl;
+  };
+  stores = record {
+    none = λ e snapshot over same. let b = via_snapshot stack e snapshot sound over in top_named stack top e b.index 0 b.it snapshot.store is_top b.store_named (sym same);
+  };
+}
+
+pub top_unserved : (stack : Description) (top : ℕ) → IsSound stack → IsTop stack top → IsUnserved stack (Device top)
+top_unserved stack top sound is_top = record { none = λ e origin over same. let b = via_origin stack e origin sound over in top_named stack top e b.index 0 b.it origin.to is_top b.named (sym same) }
+
+pub no_step_to_top : (stack : Description) (state : State) (top e t at : ℕ) → IsSound stack → IsTop stack top → ReadStep stack state e t (Device top) at → ⊥
+no_step_to_top stack state top e t at sound is_top (ByLine line is step) = (top_root stack top sound is_top).lines.none e t line at is step
+no_step_to_top stack state top e t at sound is_top (ByStore snapshot number over valid n same at_is) = (top_root stack top sound is_top).stores.none e snapshot over same
+no_step_to_top stack state top e t at sound is_top (ByRead snapshot over valid n same at_is) =
+    let b = via_snapshot stack e snapshot sound over in top_named stack top e b.index 1 b.it snapshot.origin is_top b.origin_named (sym same)
+no_step_to_top stack state top e t at sound is_top (ByServe origin over same at_is) = (top_unserved stack top sound is_top).none e origin over same

@@ -1,0 +1,309 @@
+-- The write of a sector: chunks are taken, then one unit follows; what is read then, and by whom.
+use Rattle.std.proofs.Common.{◌≡◌, ◌⊎◌, inl, inr, ℕ, ◌+◌, ◌-◌, ◌/◌, ◌<◌, Bool, true, false, cond, List, [], ◌∷◌, ◌++◌, map, Option, Some, None, length, refl, sym, ap, subst, ◌∙◌, arith}
+use Rattle.std.specs.List.{AllByRecursion}
+use Rattle.std.proofs.lemmas.List.{append-nil}
+use Rattle.dm_stack.specs.declared.found_line.FoundColumn.{FoundColumn}
+use Rattle.dm_stack.specs.declared.found_line.FoundLine.{FoundLine}
+use Rattle.dm_stack.specs.declared.found_line.FoundOrigin.{FoundOrigin}
+use Rattle.dm_stack.specs.declared.found_line.FoundOver.{FoundOver}
+use Rattle.dm_stack.specs.declared.found_line.FoundSnapshot.{FoundSnapshot}
+use Rattle.dm_stack.specs.declared.found_line.FoundTarget.{FoundTarget}
+use Rattle.dm_stack.specs.declared.found_line.FoundTarget.TheVariants as founds
+use Rattle.dm_stack.specs.declared.graph.TheConstants.{MOST_DEPTH}
+use Rattle.dm_stack.specs.declared.id.Lower.{Lower}
+use Rattle.dm_stack.specs.declared.id.Lower.TheVariants.{Device, Disk}
+use Rattle.dm_stack.specs.Below.{Below, Lies, IsZero, IsError, below, below_stripes, found_at}
+use Rattle.dm_stack.specs.Claims.{IsTidy}
+use Rattle.dm_stack.specs.Description.{Description, is_ro_at, lower_len}
+use Rattle.dm_stack.specs.Loaded.{lower_depth}
+use Rattle.dm_stack.specs.Soundness.{IsSound}
+use Rattle.dm_map.specs.own.Contents.{answers}
+use Rattle.dm_map.specs.state.Fitting.{IsFitting}
+use Rattle.dm_map.specs.walk.Mapping.{write_line, write_step, write_target}
+use Rattle.dm_map.specs.walk.Reads.{by_below, read_below}
+use Rattle.dm_map.specs.walk.Serving.{IsOver, serve, served_step}
+use Rattle.dm_map.specs.state.Snapshots.{store_sector, number_in, read_over}
+use Rattle.dm_map.specs.walk.SnapshotWrites.{home_in_store, is_refused, read, take_chunk, unit_in_store, write_numbered, write_snapshot}
+use Rattle.dm_map.specs.state.State.{State, Taken, taken_at}
+use Rattle.dm_map.specs.walk.Steps.{Step, keep, and_then}
+use Rattle.dm_map.specs.state.Tables.{origin_at, snapshot_at}
+use Rattle.dm_map.specs.pieces.Units.{BlockUnit, ReadOf, WriteOf, Zeros, Drops, Fails}
+use Rattle.dm_map.specs.own.Ways.{Node, node, Touches}
+use Rattle.dm_map.proofs.own.UniqueSteps.{IsRoot, IsUnserved, only_by_origin, only_by_store, fits, goes_on_inside}
+use Rattle.dm_map.proofs.state.FoundLines.{line_origin, line_snapshot, line_sound, origin_sound, snapshot_sound}
+use Rattle.dm_map.proofs.own.HomeLemmas.{home_node, home_touched, node_is, touch_up}
+use Rattle.dm_map.proofs.walk.ReadSteps.{has_columns, read_step, line_step}
+use Rattle.dm_map.proofs.own.ChunkOutcomes.{full_outcome, full_outcome_fits}
+use Rattle.dm_map.proofs.state.Numbers.{same_sector}
+use Rattle.dm_map.proofs.walk.OneLevel.{by_depth, next_depth, read_disk, read_down, write_down}
+use Rattle.dm_map.proofs.walk.Overs.{overs}
+use Rattle.dm_map.proofs.walk.Rows.{and_then_at, step_assoc}
+use Rattle.dm_map.proofs.own.TakenInARow.{Event, IsEvent, grown_same, ran, run}
+use Rattle.dm_map.proofs.walk.Served.{over_there, serve_settled, settled_on}
+use Rattle.dm_map.proofs.own.ServedRuns.{each_event, event_of, events_append, run_append, serve_run}
+use Rattle.dm_map.proofs.walk.Settled.{write_keeps_settled}
+use Rattle.dm_map.proofs.walk.Stores.{store_read}
+use Rattle.dm_map.proofs.own.Takes.{snapshot_next}
+use Rattle.dm_map.proofs.own.WayLemmas.{Here, Before, back}
+
+pub record Written (stack : Description) (state : State) (lower : Lower) (sector : ℕ) (step : Step) : Type 0 where
+  pub events : List Event
+  pub last : BlockUnit
+  pub is : step ≡ and_then (run stack events state) (λ after. keep (last ∷ []) after)
+  pub each : AllByRecursion (IsEvent stack) events
+  pub answered : answers last ≡ true
+  -- a written sector is read where it was written
+  pub reads : (disk x : ℕ) → last ≡ WriteOf disk x → read stack step.state lower sector ≡ ReadOf disk x
+  -- and from a root that is not served only by way of that sector
+  pub alone : (disk x : ℕ) (a : Node) → last ≡ WriteOf disk x → IsRoot stack a.lower → IsUnserved stack a.lower → Touches stack step.state a (node (Disk disk) x) → Touches stack step.state a (node lower sector)
+
+Writes : Description → Lower → Type 0
+Writes stack lower = (sector : ℕ) (state : State) → IsFitting stack state → Written stack state lower sector (write_step stack MOST_DEPTH lower state sector)
+
+-- One unit that writes nothing
+
+no_write : (unit : BlockUnit) (disk x : ℕ) → (unit ≡ Fails) ⊎ (unit ≡ Drops) → unit ≡ WriteOf disk x → ⊥
+no_write unit disk x (inl e) f = differ (sym e ∙ f)
+  where
+    differ : Fails ≡ WriteOf disk x → ⊥
+    differ e = cc
+no_write unit disk x (inr e) f = differ (sym e ∙ f)
+  where
+    differ : Drops ≡ WriteOf disk x → ⊥
+    differ e = cc
+
+written_none : (stack : Description) (state : State) (lower : Lower) (sector : ℕ) (step : Step) (unit : BlockUnit) → (unit ≡ Fails) ⊎ (unit ≡ Drops) → step ≡ keep (unit ∷ []) state → Written stack state lower sector step
+unfolding run
+written_none stack state lower sector step unit which is = record {
+  events = [];
+  last = unit;
+  is = is;
+  each = tt;
+  answered = elim which [ inl e ↦ ap answers e | inr e ↦ ap answers e ];
+  reads = λ disk x e. absurd (no_write unit disk x which e);
+  alone = λ disk x a e root unserved touches. absurd (no_write unit disk x which e);
+}
+
+-- A write that goes on below, by a line
+
+read_next : (stack : Description) (state : State) (device sector : ℕ) (to : Lower) (at : ℕ) → IsSound stack → read_below stack state device sector ≡ Lies to at → read stack state (Device device) sector ≡ read stack state to at
+read_next stack state device sector to at sound e = read_down stack state device sector sound ∙ ap (λ (b : Below). by_below b Zeros Fails (λ t v. read stack state t v)) e
+
+step_state : (a b : Step) → a ≡ b → a.state ≡ b.state
+step_state a b e = ap (λ (x : Step). x.state) e
+
+line_written : (stack : Description) (state : State) (device sector : ℕ) (to : Lower) (at : ℕ) (step : Step) → IsSound stack → IsFitting stack state → IsTidy stack → ((held : FoundLine) → found_at stack device sector ≡ Some held → has_columns held.target ≡ true) → ((over : FoundSnapshot → ℕ → Below) → below over stack device sector ≡ Lies to at)
+    → Writes stack to → step ≡ write_step stack MOST_DEPTH to state at → Written stack state (Device device) sector step
+unfolding Writes
+line_written stack state device sector to at step sound fitting tidy has goes lower_writes step_is =
+    let w : Written stack state to at step = subst (λ (x : Step). Written stack state to at x) (sym step_is) (lower_writes at state fitting) in
+    let first = ran stack state state w.events sound fitting fitting tidy (grown_same state) w.each in
+    let fits_after : IsFitting stack step.state = subst (λ (x : State). IsFitting stack x) (sym (step_state step _ w.is)) first.fits in
+    record {
+      events = w.events;
+      last = w.last;
+      is = w.is;
+      each = w.each;
+      answered = w.answered;
+      reads = λ disk x e. read_next stack step.state device sector to at sound (goes (read_over (taken_at step.state device))) ∙ w.reads disk x e;
+      alone = λ disk x a e root unserved touches.
+          touch_up stack step.state a device sector to at sound fits_after tidy root.lines (line_step stack device sector to at has (goes (λ snapshot sector. IsError))) (w.alone disk x a e root unserved touches);
+    }
+
+-- A snapshot's own write
+
+record IsStoredUnit (stack : Description) (snapshot : FoundSnapshot) (taken : Taken) (sector disk x : ℕ) : Type 0 where
+  valid : taken.valid ≡ true
+  number : ℕ
+  is : number_in (sector / snapshot.chunk) taken.chunks ≡ Some number
+  home : WriteOf (home_in_store stack snapshot number sector).disk (home_in_store stack snapshot number sector).sector ≡ WriteOf disk x
+
+stored_unit : (stack : Description) (snapshot : FoundSnapshot) (taken : Taken) (sector disk x : ℕ) (valid : Bool) (number : Option ℕ) → taken.valid ≡ valid → number_in (sector / snapshot.chunk) taken.chunks ≡ number → cond valid (write_numbered stack snapshot number sector) Fails ≡ WriteOf disk x
+    → IsStoredUnit stack snapshot taken sector disk x
+stored_unit stack snapshot taken sector disk x false number v n e = absurd (no_write Fails disk x (inl refl) e)
+stored_unit stack snapshot taken sector disk x true None v n e = absurd (no_write Fails disk x (inl refl) e)
+stored_unit stack snapshot taken sector disk x true (Some i) v n e = record { valid = v; number = i; is = n; home = e }
+
+unit_answers : (stack : Description) (snapshot : FoundSnapshot) (sector : ℕ) (valid : Bool) (number : Option ℕ) → answers (cond valid (write_numbered stack snapshot number sector) Fails) ≡ true
+unit_answers stack snapshot sector false number = refl
+unit_answers stack snapshot sector true None = refl
+unit_answers stack snapshot sector true (Some i) = refl
+
+node_of_unit : (disk sector k x : ℕ) → WriteOf disk sector ≡ WriteOf k x → node (Disk disk) sector ≡ node (Disk k) x
+node_of_unit disk sector k x e = cc
+
+read_of_unit : (disk sector k x : ℕ) → WriteOf disk sector ≡ WriteOf k x → ReadOf disk sector ≡ ReadOf k x
+read_of_unit disk sector k x e = cc
+
+kept_next : (stack : Description) (state : State) (device sector number : ℕ) (line : FoundLine) (snapshot : FoundSnapshot) → IsSound stack → snapshot_at stack device ≡ Some snapshot → found_at stack device sector ≡ Some line → (taken_at state device).valid ≡ true
+    → number_in (sector / snapshot.chunk) (taken_at state device).chunks ≡ Some number → read_below stack state device sector ≡ Lies snapshot.store (store_sector snapshot number sector)
+kept_next stack state device sector number line snapshot sound over is valid n =
+    snapshot_next stack state device sector snapshot line (taken_at state device) sound over is refl ∙ (rw (valid, n) refl)
+
+-- only that sector leads to its taken chunk's home
+kept_alone : (stack : Description) (state : State) (device sector number : ℕ) (snapshot : FoundSnapshot) (a : Node) → IsSound stack → IsFitting stack state → IsTidy stack → snapshot_at stack device ≡ Some snapshot → number_in (sector / snapshot.chunk) (taken_at state device).chunks ≡ Some number → IsRoot stack a.lower
+    → Touches stack state a (home_node (home_in_store stack snapshot number sector)) → Touches stack state a (node (Device device) sector)
+kept_alone stack state device sector number snapshot a sound fitting tidy over n root touches =
+    let soundly = (snapshot_sound stack device snapshot sound over).soundly in
+    let inside = fits stack state device sector number snapshot sound fitting over n in
+    let up = home_touched stack state a MOST_DEPTH snapshot.store (store_sector snapshot number sector) sound fitting tidy root.lines soundly.store inside touches in
+    elim (back stack state a (node snapshot.store (store_sector snapshot number sector)) up) [
+      | Here e ↦ absurd (root.stores.none device snapshot over (ap (λ (x : Node). x.lower) e))
+      | Before c before leads ↦
+          let kept = only_by_store stack state device leads.device c.sector (store_sector snapshot number sector) snapshot sound fitting tidy (goes_on_inside stack state leads.device c.sector snapshot.store (store_sector snapshot number sector) sound leads.below) over inside
+          (read_step stack state leads.device c.sector snapshot.store (store_sector snapshot number sector) sound leads.below) in
+          let same = same_sector snapshot (taken_at state device).chunks number kept.number sector c.sector soundly.chunk_some n kept.is kept.sector in
+          subst (λ (x : Node). Touches stack state a x) (node_is c leads.device device c.sector sector leads.on kept.same refl same) before
+    ]
+
+snapshot_written : (stack : Description) (state : State) (device sector : ℕ) (line : FoundLine) (snapshot : FoundSnapshot) (step : Step) → IsSound stack → IsFitting stack state → IsTidy stack → snapshot_at stack device ≡ Some snapshot → found_at stack device sector ≡ Some line
+    → step ≡ and_then (take_chunk stack snapshot device (sector / snapshot.chunk) state) (λ after. keep (unit_in_store stack snapshot device after sector ∷ []) after) → Written stack state (Device device) sector step
+unfolding run
+snapshot_written stack state device sector line snapshot step sound fitting tidy over is step_is =
+    let soundly = (snapshot_sound stack device snapshot sound over).soundly in
+    let there : device < length state = let t = (line_sound stack device sector line sound is).there in let count = fitting.count in omega (arith, t, count) in
+    let first = take_chunk stack snapshot device (sector / snapshot.chunk) state in
+    let fits_after = full_outcome_fits stack state device (sector / snapshot.chunk) snapshot first fitting there (full_outcome stack state device (sector / snapshot.chunk) snapshot over there) in
+    let last = unit_in_store stack snapshot device first.state sector in
+    let state_is : step.state ≡ first.state = ap (λ (x : Step). x.state) step_is in
+    let taken = taken_at first.state device in
+    record {
+      events = record { device = device; chunk = sector / snapshot.chunk; snapshot = snapshot } ∷ [];
+      last = last;
+      is = step_is ∙ ap (λ (us : List BlockUnit). record { units = us ++ last ∷ []; state = first.state }) (sym (append-nil first.units));
+      each = (over, tt);
+      answered = unit_answers stack snapshot sector taken.valid (number_in (sector / snapshot.chunk) taken.chunks);
+      reads = λ disk x e.
+          let unit = stored_unit stack snapshot taken sector disk x taken.valid (number_in (sector / snapshot.chunk) taken.chunks) refl refl e in
+          let inside = fits stack first.state device sector unit.number snapshot sound fits_after over unit.is in
+          let home = home_in_store stack snapshot unit.number sector in
+          subst (λ (after : State). read stack after (Device device) sector ≡ ReadOf disk x) (sym state_is)
+          (read_next stack first.state device sector snapshot.store (store_sector snapshot unit.number sector) sound (kept_next stack first.state device sector unit.number line snapshot sound over is unit.valid unit.is)
+          ∙ store_read stack first.state MOST_DEPTH snapshot.store (store_sector snapshot unit.number sector) sound soundly.store inside
+          ∙ read_of_unit home.disk home.sector disk x unit.home);
+      alone = λ disk x a e root unserved touches.
+          let unit = stored_unit stack snapshot taken sector disk x taken.valid (number_in (sector / snapshot.chunk) taken.chunks) refl refl e in
+          let home = home_in_store stack snapshot unit.number sector in
+          subst (λ (after : State). Touches stack after a (node (Device device) sector)) (sym state_is)
+          (kept_alone stack first.state device sector unit.number snapshot a sound fits_after tidy over unit.is root
+          (subst (λ (n : Node). Touches stack first.state a n) (sym (node_of_unit home.disk home.sector disk x unit.home)) (subst (λ (after : State). Touches stack after a (node (Disk disk) x)) state_is touches)));
+    }
+
+-- or a chunk that is refused: its write fails
+chunk_by : (refused : Bool) (stack : Description) (state : State) (device sector : ℕ) (line : FoundLine) (snapshot : FoundSnapshot) (step : Step) → IsSound stack → IsFitting stack state → IsTidy stack → snapshot_at stack device ≡ Some snapshot → found_at stack device sector ≡ Some line
+    → step ≡ cond refused (keep (Fails ∷ []) state) (and_then (take_chunk stack snapshot device (sector / snapshot.chunk) state) (λ after. keep (unit_in_store stack snapshot device after sector ∷ []) after)) → Written stack state (Device device) sector step
+chunk_by true stack state device sector line snapshot step sound fitting tidy over is step_is = written_none stack state (Device device) sector step Fails (inl refl) step_is
+chunk_by false stack state device sector line snapshot step sound fitting tidy over is step_is = snapshot_written stack state device sector line snapshot step sound fitting tidy over is step_is
+
+-- A write of an origin's device: its snapshots are served, and then the origin is written
+
+origin_written : (stack : Description) (state : State) (device sector : ℕ) (line : FoundLine) (origin : FoundOrigin) (step : Step) → IsSound stack → IsFitting stack state → IsTidy stack → origin_at stack device ≡ Some origin → found_at stack device sector ≡ Some line
+    → ((after : State) → read_below stack after device sector ≡ Lies origin.to sector) → Writes stack origin.to → step ≡ served_step stack origin.over (λ after at. write_step stack MOST_DEPTH origin.to after at) state sector → Written stack state (Device device) sector step
+unfolding Writes
+origin_written stack state device sector line origin step sound fitting tidy served is goes lower_writes step_is =
+    let soundly = (origin_sound stack device origin sound served).soundly in
+    let len = lower_len stack origin.to in
+    let below : sector < len = let inside = (line_sound stack device sector line sound is).inside in let same = soundly.same in omega (arith, inside, same) in
+    let members : AllByRecursion (IsOver stack len) origin.over = subst (λ (over : List FoundOver). AllByRecursion (IsOver stack len) over) (sym soundly.over) (overs stack origin.to len sound (omega arith)) in
+    let es = map (event_of sector) origin.over in
+    let each = each_event stack len sector origin.over members in
+    let first = serve stack origin.over sector state in
+    let first_is : first ≡ run stack es state = serve_run stack origin.over sector state in
+    let fits : IsFitting stack first.state = subst (λ (x : Step). IsFitting stack x.state) (sym first_is) (ran stack state state es sound fitting fitting tidy (grown_same state) each).fits in
+    let after = write_step stack MOST_DEPTH origin.to first.state sector in
+    let w : Written stack first.state origin.to sector after = lower_writes sector first.state fits in
+    let last_step : State → Step = λ x. keep (w.last ∷ []) x in
+    let settled = settled_on first.state after.state origin.over sector (write_keeps_settled stack MOST_DEPTH origin.to first.state sector) (serve_settled stack origin.over sector state (over_there stack state len origin.over fitting.count (omega (arith, below)) members)) in
+    let state_is : step.state ≡ after.state = ap (λ (x : Step). x.state) step_is in
+    record {
+      events = es ++ w.events;
+      last = w.last;
+      is = step_is ∙ and_then_at first (λ x. write_step stack MOST_DEPTH origin.to x sector) (λ x. and_then (run stack w.events x) last_step) w.is
+          ∙ sym (step_assoc first (λ x. run stack w.events x) last_step)
+          ∙ ap (λ (x : Step). and_then (and_then x (λ y. run stack w.events y)) last_step) first_is
+          ∙ ap (λ (x : Step). and_then x last_step) (sym (run_append stack es w.events state));
+      each = events_append stack es w.events each w.each;
+      answered = w.answered;
+      reads = λ disk x e. read_next stack step.state device sector origin.to sector sound (goes step.state) ∙ ap (λ (s : State). read stack s origin.to sector) state_is ∙ w.reads disk x e;
+      alone = λ disk x a e root unserved touches.
+          let up = w.alone disk x a e root unserved (subst (λ (s : State). Touches stack s a (node (Disk disk) x)) state_is touches) in
+          subst (λ (s : State). Touches stack s a (node (Device device) sector)) (sym state_is)
+          (elim (back stack after.state a (node origin.to sector) up) [
+            | Here here ↦ absurd (unserved.none device origin served (ap (λ (n : Node). n.lower) here))
+            | Before c before leads ↦
+                let at = only_by_origin stack after.state device leads.device c.sector sector origin sound tidy served below settled (read_step stack after.state leads.device c.sector origin.to sector sound leads.below) in
+                subst (λ (n : Node). Touches stack after.state a n) (node_is c leads.device device c.sector sector leads.on at.device refl at.sector) before
+          ]);
+    }
+
+-- Each write
+
+held_is : (stack : Description) (device sector : ℕ) (line held : FoundLine) (target : FoundTarget) → found_at stack device sector ≡ Some line → line.target ≡ target → has_columns target ≡ true → found_at stack device sector ≡ Some held → has_columns held.target ≡ true
+held_is stack device sector line held target is t has held_at = subst (λ (l : FoundLine). has_columns l.target ≡ true) (some_is line held (sym is ∙ held_at)) (rw t has)
+  where
+    some_is : (a b : FoundLine) → Some a ≡ Some b → a ≡ b
+    some_is a b e = cc
+
+stripes_written : (stack : Description) (state : State) (device sector : ℕ) (line : FoundLine) (chunk : ℕ) (columns : List FoundColumn) (b : Below) (step : Step) → IsSound stack → IsFitting stack state → IsTidy stack → found_at stack device sector ≡ Some line → line.target ≡ founds.Striped chunk columns
+    → below_stripes chunk columns (sector - line.start) ≡ b → ((to : Lower) → lower_depth stack to < lower_depth stack (Device device) → Writes stack to)
+    → step ≡ by_below b (keep (Drops ∷ []) state) (keep (Fails ∷ []) state) (λ to at. write_step stack MOST_DEPTH to state at) → Written stack state (Device device) sector step
+stripes_written stack state device sector line chunk columns (Lies to at) step sound fitting tidy is target b_is each step_is =
+    let goes : (over : FoundSnapshot → ℕ → Below) → below over stack device sector ≡ Lies to at = λ over. rw (is, target) b_is in
+    line_written stack state device sector to at step sound fitting tidy (λ held held_at. held_is stack device sector line held (founds.Striped chunk columns) is target refl held_at) goes (each to (next_depth stack state device sector to at sound (goes (read_over (taken_at state device))))) step_is
+stripes_written stack state device sector line chunk columns IsZero step sound fitting tidy is target b_is each step_is = written_none stack state (Device device) sector step Drops (inr refl) step_is
+stripes_written stack state device sector line chunk columns IsError step sound fitting tidy is target b_is each step_is = written_none stack state (Device device) sector step Fails (inl refl) step_is
+
+target_written : (stack : Description) (state : State) (device sector : ℕ) (line : FoundLine) (target : FoundTarget) (step : Step) → IsSound stack → IsFitting stack state → IsTidy stack → found_at stack device sector ≡ Some line → line.target ≡ target
+    → ((to : Lower) → lower_depth stack to < lower_depth stack (Device device) → Writes stack to) → step ≡ write_target stack state device target (sector - line.start) (λ to after at. write_step stack MOST_DEPTH to after at) → Written stack state (Device device) sector step
+target_written stack state device sector line (founds.Linear to offset) step sound fitting tidy is target each step_is =
+    let at = offset + (sector - line.start) in
+    let goes : (over : FoundSnapshot → ℕ → Below) → below over stack device sector ≡ Lies to at = λ over. rw (is, target) refl in
+    line_written stack state device sector to at step sound fitting tidy (λ held held_at. held_is stack device sector line held (founds.Linear to offset) is target refl held_at) goes (each to (next_depth stack state device sector to at sound (goes (read_over (taken_at state device))))) step_is
+target_written stack state device sector line (founds.Striped chunk columns) step sound fitting tidy is target each step_is =
+    stripes_written stack state device sector line chunk columns (below_stripes chunk columns (sector - line.start)) step sound fitting tidy is target refl each step_is
+target_written stack state device sector line founds.Zero step sound fitting tidy is target each step_is = written_none stack state (Device device) sector step Drops (inr refl) step_is
+target_written stack state device sector line founds.Error step sound fitting tidy is target each step_is = written_none stack state (Device device) sector step Fails (inl refl) step_is
+target_written stack state device sector line (founds.Snapshot snapshot) step sound fitting tidy is target each step_is =
+    let over = line_snapshot stack device sector line snapshot sound is target in
+    let first = over.0 in
+    let same : sector - line.start ≡ sector = omega (arith, first) in
+    chunk_by (is_refused stack snapshot (taken_at state device) (sector / snapshot.chunk)) stack state device sector line snapshot step sound fitting tidy over.1 is (step_is ∙ ap (λ (s : ℕ). write_snapshot stack snapshot device state s) same)
+target_written stack state device sector line (founds.Origin origin) step sound fitting tidy is target each step_is =
+    let over = line_origin stack device sector line origin sound is target in
+    let first = over.0 in
+    let same : sector - line.start ≡ sector = omega (arith, first) in
+    let goes : (after : State) → read_below stack after device sector ≡ Lies origin.to sector = λ after. rw (is, target, same) refl in
+    origin_written stack state device sector line origin step sound fitting tidy over.1 is goes (each origin.to (next_depth stack state device sector origin.to sector sound (goes state)))
+    (step_is ∙ ap (λ (s : ℕ). served_step stack origin.over (λ after at. write_step stack MOST_DEPTH origin.to after at) state s) same)
+
+found_written : (stack : Description) (state : State) (device sector : ℕ) (line : Option FoundLine) (step : Step) → IsSound stack → IsFitting stack state → IsTidy stack → found_at stack device sector ≡ line
+    → ((to : Lower) → lower_depth stack to < lower_depth stack (Device device) → Writes stack to) → step ≡ write_line stack state device line sector (λ to after at. write_step stack MOST_DEPTH to after at) → Written stack state (Device device) sector step
+found_written stack state device sector None step sound fitting tidy is each step_is = written_none stack state (Device device) sector step Fails (inl refl) step_is
+found_written stack state device sector (Some line) step sound fitting tidy is each step_is = target_written stack state device sector line line.target step sound fitting tidy is refl each step_is
+
+device_written : (stack : Description) (state : State) (device sector : ℕ) (ro : Bool) (step : Step) → IsSound stack → IsFitting stack state → IsTidy stack → ((to : Lower) → lower_depth stack to < lower_depth stack (Device device) → Writes stack to)
+    → step ≡ cond ro (keep (Fails ∷ []) state) (write_line stack state device (found_at stack device sector) sector (λ to after at. write_step stack MOST_DEPTH to after at)) → Written stack state (Device device) sector step
+device_written stack state device sector true step sound fitting tidy each step_is = written_none stack state (Device device) sector step Fails (inl refl) step_is
+device_written stack state device sector false step sound fitting tidy each step_is = found_written stack state device sector (found_at stack device sector) step sound fitting tidy refl each step_is
+
+write_disk : (stack : Description) (disk sector : ℕ) (state : State) → write_step stack MOST_DEPTH (Disk disk) state sector ≡ keep (WriteOf disk sector ∷ []) state
+unfolding write_step
+write_disk stack disk sector state = refl
+
+writes_step : (stack : Description) → IsSound stack → IsTidy stack → (lower : Lower) → ((other : Lower) → lower_depth stack other < lower_depth stack lower → Writes stack other) → Writes stack lower
+unfolding run Writes
+writes_step stack sound tidy (Disk disk) each sector state fitting = record {
+  events = [];
+  last = WriteOf disk sector;
+  is = write_disk stack disk sector state;
+  each = tt;
+  answered = refl;
+  reads = λ k x e. read_disk stack (write_step stack MOST_DEPTH (Disk disk) state sector).state disk sector ∙ read_of_unit disk sector k x e;
+  alone = λ k x a e root unserved touches. subst (λ (n : Node). Touches stack (write_step stack MOST_DEPTH (Disk disk) state sector).state a n) (sym (node_of_unit disk sector k x e)) touches;
+}
+writes_step stack sound tidy (Device device) each sector state fitting =
+    device_written stack state device sector (is_ro_at stack device) (write_step stack MOST_DEPTH (Device device) state sector) sound fitting tidy each (write_down stack device sector state sound)
+
+pub written : (stack : Description) (lower : Lower) (sector : ℕ) (state : State) → IsSound stack → IsTidy stack → IsFitting stack state → Written stack state lower sector (write_step stack MOST_DEPTH lower state sector)
+unfolding Writes
+written stack lower sector state sound tidy fitting = by_depth stack (Writes stack) (λ low each. writes_step stack sound tidy low each) lower sector state fitting

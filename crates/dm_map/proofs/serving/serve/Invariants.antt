@@ -1,9 +1,0 @@
--- those so far are served
-use Rattle.std.proofs.Common.{take}
-use Rattle.dm_map.specs.Serving.{serve}
-use Rattle.dm_map.specs.Walk.{IsWalked}
-use Rattle.dm_map.proofs.WalkedOn.{going_on}
-use Rattle.dm_map.proofs.serving.serve.Given as goal
-
-abbrev pub invariant-loop-one : goal.invariant-loop-one
-invariant-loop-one g l = IsWalked g.S.Sink.took g.S.Sink.left g.S.Sink.stack g.S.Sink.room g.S.Sink.faults going_on l.fn.sink l.sink l.fn.walker l.walker (serve l.fn.walker.stack (take l.one-index l.over) l.sector l.fn.walker.state) 0

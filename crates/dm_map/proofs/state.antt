@@ -1,0 +1,9 @@
+pub mod BlockLemmas
+pub mod FoundLines
+pub mod GrowLemmas
+pub mod Numbers
+pub mod RingLemmas
+pub mod RunLemmas
+pub mod SortedLemmas
+pub mod TableLemmas
+pub mod WithinPlaces

@@ -1,0 +1,163 @@
+-- What a sound stack says of the line that was found for a sector.
+use Rattle.std.proofs.Common.{◌≡◌, ℕ, ◌+◌, ◌<◌, ◌≤◌, inl, inr, Bool, true, false, cond, List, [], ◌∷◌, Option, Some, None, length, refl, sym, ap, subst, ◌∙◌, arith}
+use Rattle.std.specs.Prelude.{option_map, nat_le, nat_lt}
+use Rattle.std.proofs.lemmas.Bool.{and_parts, cases_lt, ltb-true}
+use Rattle.std.proofs.lemmas.Option.{slice_get_past}
+use Rattle.dm_table.specs.declared.table.Line.{Line}
+use Rattle.dm_stack.specs.declared.found_line.FoundLine.{FoundLine}
+use Rattle.dm_stack.specs.declared.found_line.FoundOrigin.{FoundOrigin}
+use Rattle.dm_stack.specs.declared.found_line.FoundSnapshot.{FoundSnapshot}
+use Rattle.dm_stack.specs.declared.found_line.FoundTarget.{FoundTarget}
+use Rattle.dm_stack.specs.declared.found_line.FoundTarget.TheVariants as founds
+use Rattle.dm_stack.specs.Below.{found_at, found_line, holds, line_of, HoldsSoundly, IsOriginSound, IsSnapshotSound, IsTargetSound}
+use Rattle.dm_stack.specs.Description.{Description, device_len, end_of, lines_or_none}
+use Rattle.dm_stack.specs.Soundness.{IsSound}
+use Rattle.dm_stack.proofs.LayoutLemmas.{AreInRow}
+use Rattle.dm_stack.proofs.SameLine.{same_found}
+use Rattle.dm_stack.proofs.SoundLines.{device_sound, lines_there, sector_found, there}
+use Rattle.dm_map.specs.state.Tables.{origin_at, origin_of, origin_of_line, snapshot_at, snapshot_of_line, snapshot_of}
+
+-- A sector that has a line is before its device's end
+
+end_after : (end : ℕ) (line : Line) (lines : List Line) → AreInRow end (line ∷ lines) → end + line.len ≤ end_of (line ∷ lines)
+end_after end line [] row = let from = row.0 in omega (arith, from)
+end_after end line (next ∷ lines) row = let from = row.0 in let later = end_after (line.start + line.len) next lines row.1 in omega (arith, from, later)
+
+inside_by : (end sector : ℕ) (first line : Line) (lines : List Line) (b : Bool) → AreInRow end (first ∷ lines) → holds sector first ≡ b → (line_of lines sector ≡ Some line → sector < end_of (first ∷ lines)) → cond b (Some first) (line_of lines sector) ≡ Some line → sector < end_of (first ∷ lines)
+inside_by end sector first line lines true row holding later is =
+    let from = row.0 in let ends = end_after end first lines row in
+    let before = ltb-true _ _ (and_parts (nat_le first.start sector) (nat_lt sector (first.start + first.len)) holding).1 in
+    omega (arith, from, ends, before)
+inside_by end sector first line lines false row holding later is = later is
+
+line_inside : (end sector : ℕ) (lines : List Line) (line : Line) → AreInRow end lines → line_of lines sector ≡ Some line → sector < end_of lines
+line_inside end sector [] line row is = absurd cc
+line_inside end sector (first ∷ []) line row is = inside_by end sector first line [] (holds sector first) row refl (λ later. absurd cc) is
+line_inside end sector (first ∷ next ∷ lines) line row is =
+    inside_by end sector first line (next ∷ lines) (holds sector first) row refl (λ later. line_inside (first.start + first.len) sector (next ∷ lines) line row.1 later) is
+
+some_line : (stack : Description) (line : Option Line) (found : FoundLine) → option_map (found_line stack) line ≡ Some found → (it : Line) × (line ≡ Some it)
+some_line stack None found is = absurd cc
+some_line stack (Some it) found is = (it, refl)
+
+-- what is said of the line of a sector
+pub record IsLineOf (stack : Description) (device sector : ℕ) (line : FoundLine) : Type 0 where
+  pub there : device < length stack.devices
+  pub inside : sector < device_len stack device
+  pub soundly : HoldsSoundly stack device line sector
+
+line_there : (stack : Description) (device sector : ℕ) (line : FoundLine) → found_at stack device sector ≡ Some line → device < length stack.devices
+line_there stack device sector line is =
+    elim (cases_lt device (length stack.devices)) [
+      | inl there ↦ there
+      | inr past ↦ absurd (none (ap (λ o. option_map (found_line stack) (line_of (lines_or_none o) sector)) (sym (slice_get_past stack.devices device past)) ∙ is))
+    ]
+  where
+    none : None ≡ Some line → ⊥
+    none e = cc
+
+pub line_sound : (stack : Description) (device sector : ℕ) (line : FoundLine) → IsSound stack → found_at stack device sector ≡ Some line → IsLineOf stack device sector line
+line_sound stack device sector line sound is =
+    let within = line_there stack device sector line is in
+    let d = there stack.devices device within in
+    let s = device_sound stack device d.it sound d.at in
+    let lines = lines_there stack device d.it d.at in
+    let it = some_line stack (line_of d.it.lines sector) line (sym (ap (λ (ls : List Line). option_map (found_line stack) (line_of ls sector)) lines) ∙ is) in
+    let inside : sector < device_len stack device = subst (λ (ls : List Line). sector < end_of ls) (sym lines) (line_inside 0 sector d.it.lines it.0 s.placed it.1) in
+    let f = sector_found stack device sector sound within inside in
+    let same : f.line ≡ line = some_is f.line line (sym f.is ∙ is) in
+    record { there = within; inside = inside; soundly = subst (λ (l : FoundLine). HoldsSoundly stack device l sector) same f.soundly }
+  where
+    some_is : (a b : FoundLine) → Some a ≡ Some b → a ≡ b
+    some_is a b e = cc
+
+-- A snapshot is all of its device
+
+pub record IsSnapshotOf (stack : Description) (device : ℕ) (snapshot : FoundSnapshot) : Type 0 where
+  pub there : device < length stack.devices
+  pub some : 0 < device_len stack device
+  pub soundly : IsSnapshotSound stack device 0 (device_len stack device) snapshot
+  -- each of its sectors has that line
+  pub each : (sector : ℕ) (line : FoundLine) → found_at stack device sector ≡ Some line → (line.start ≡ 0) × (line.target ≡ founds.Snapshot snapshot)
+
+pub line_snapshot : (stack : Description) (device sector : ℕ) (line : FoundLine) (snapshot : FoundSnapshot) → IsSound stack → found_at stack device sector ≡ Some line → line.target ≡ founds.Snapshot snapshot
+    → (line.start ≡ 0) × (snapshot_at stack device ≡ Some snapshot)
+line_snapshot stack device sector line snapshot sound is target =
+    let of = line_sound stack device sector line sound is in
+    let over : IsSnapshotSound stack device line.start line.len snapshot = subst (λ (t : FoundTarget). IsTargetSound stack device line.start line.len t) target of.soundly.target in
+    let from = over.from in let before = of.soundly.before in
+    let first = same_found stack device sector 0 line sound of.there is (omega (arith, from)) (omega (arith, from, before)) in
+    (from, rw (first, target) refl)
+
+target_snapshot : (line : FoundLine) (target : FoundTarget) (snapshot : FoundSnapshot) → line.target ≡ target → snapshot_of target ≡ Some snapshot → line.target ≡ founds.Snapshot snapshot
+target_snapshot line (founds.Linear to offset) snapshot is e = absurd cc
+target_snapshot line (founds.Striped chunk columns) snapshot is e = absurd cc
+target_snapshot line founds.Zero snapshot is e = absurd cc
+target_snapshot line founds.Error snapshot is e = absurd cc
+target_snapshot line (founds.Snapshot other) snapshot is e = is ∙ ap founds.Snapshot (some_is other snapshot e)
+  where
+    some_is : (a b : FoundSnapshot) → Some a ≡ Some b → a ≡ b
+    some_is a b same = cc
+target_snapshot line (founds.Origin origin) snapshot is e = absurd cc
+
+pub first_line : (stack : Description) (device : ℕ) (snapshot : FoundSnapshot) (found : Option FoundLine) → found_at stack device 0 ≡ found → snapshot_of_line found ≡ Some snapshot → (line : FoundLine) × (found_at stack device 0 ≡ Some line) × (line.target ≡ founds.Snapshot snapshot)
+first_line stack device snapshot None is e = absurd cc
+first_line stack device snapshot (Some line) is e = (line, is, target_snapshot line line.target snapshot refl e)
+
+pub snapshot_sound : (stack : Description) (device : ℕ) (snapshot : FoundSnapshot) → IsSound stack → snapshot_at stack device ≡ Some snapshot → IsSnapshotOf stack device snapshot
+snapshot_sound stack device snapshot sound at =
+    let first = first_line stack device snapshot (found_at stack device 0) refl at in
+    let of = line_sound stack device 0 first.0 sound first.1 in
+    let over : IsSnapshotSound stack device first.0.start first.0.len snapshot = subst (λ (t : FoundTarget). IsTargetSound stack device first.0.start first.0.len t) first.2 of.soundly.target in
+    let from = over.from in let whole = over.whole in
+    record {
+      there = of.there;
+      some = of.inside;
+      soundly = record { chunk_some = over.chunk_some; chunk_small = over.chunk_small; from = refl; whole = refl; origin = over.origin ∙ whole; store = over.store };
+      each = λ sector line is.
+          let inside = (line_sound stack device sector line sound is).inside in
+          let same = line_is line first.0 (sym is ∙ same_found stack device 0 sector first.0 sound of.there first.1 (omega (arith, from)) (omega (arith, from, whole, inside))) in
+          (ap (λ (l : FoundLine). l.start) same ∙ from, ap (λ (l : FoundLine). l.target) same ∙ first.2);
+    }
+  where
+    line_is : (a b : FoundLine) → Some a ≡ Some b → a ≡ b
+    line_is a b e = cc
+
+-- An origin's line is all of its device
+
+pub record IsOriginOf (stack : Description) (device : ℕ) (origin : FoundOrigin) : Type 0 where
+  pub there : device < length stack.devices
+  pub some : 0 < device_len stack device
+  pub soundly : IsOriginSound stack device 0 (device_len stack device) origin
+
+pub line_origin : (stack : Description) (device sector : ℕ) (line : FoundLine) (origin : FoundOrigin) → IsSound stack → found_at stack device sector ≡ Some line → line.target ≡ founds.Origin origin
+    → (line.start ≡ 0) × (origin_at stack device ≡ Some origin)
+line_origin stack device sector line origin sound is target =
+    let of = line_sound stack device sector line sound is in
+    let it : IsOriginSound stack device line.start line.len origin = subst (λ (t : FoundTarget). IsTargetSound stack device line.start line.len t) target of.soundly.target in
+    let from = it.from in let before = of.soundly.before in
+    let first = same_found stack device sector 0 line sound of.there is (omega (arith, from)) (omega (arith, from, before)) in
+    (from, rw (first, target) refl)
+
+target_origin : (line : FoundLine) (target : FoundTarget) (origin : FoundOrigin) → line.target ≡ target → origin_of target ≡ Some origin → line.target ≡ founds.Origin origin
+target_origin line (founds.Linear to offset) origin is e = absurd cc
+target_origin line (founds.Striped chunk columns) origin is e = absurd cc
+target_origin line founds.Zero origin is e = absurd cc
+target_origin line founds.Error origin is e = absurd cc
+target_origin line (founds.Snapshot snapshot) origin is e = absurd cc
+target_origin line (founds.Origin other) origin is e = is ∙ ap founds.Origin (some_is other origin e)
+  where
+    some_is : (a b : FoundOrigin) → Some a ≡ Some b → a ≡ b
+    some_is a b same = cc
+
+pub first_origin : (stack : Description) (device : ℕ) (origin : FoundOrigin) (found : Option FoundLine) → found_at stack device 0 ≡ found → origin_of_line found ≡ Some origin → (line : FoundLine) × (found_at stack device 0 ≡ Some line) × (line.target ≡ founds.Origin origin)
+first_origin stack device origin None is e = absurd cc
+first_origin stack device origin (Some line) is e = (line, is, target_origin line line.target origin refl e)
+
+pub origin_sound : (stack : Description) (device : ℕ) (origin : FoundOrigin) → IsSound stack → origin_at stack device ≡ Some origin → IsOriginOf stack device origin
+origin_sound stack device origin sound at =
+    let first = first_origin stack device origin (found_at stack device 0) refl at in
+    let of = line_sound stack device 0 first.0 sound first.1 in
+    let it : IsOriginSound stack device first.0.start first.0.len origin = subst (λ (t : FoundTarget). IsTargetSound stack device first.0.start first.0.len t) first.2 of.soundly.target in
+    let whole = it.whole in
+    record { there = of.there; some = of.inside; soundly = record { from = refl; whole = refl; same = it.same ∙ whole; over = it.over } }

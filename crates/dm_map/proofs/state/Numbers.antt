@@ -1,0 +1,158 @@
+-- The numbers of chunks in a list, and their places in a store.
+use Rattle.std.proofs.Common.{◌≡◌, inl, inr, ℕ, zero, suc, ◌+◌, ◌-◌, ◌*◌, ◌/◌, ◌%◌, ◌<◌, ◌≤◌, Bool, true, false, cond, List, [], ◌∷◌, ◌++◌, Option, Some, None, length, get_or, take, nat_eq, refl, sym, ap, subst, ◌∙◌, arith}
+use Rattle.std.specs.List.{AllByRecursion, IsDistinct}
+use Rattle.std.specs.Prelude.{◌==◌, option_map}
+use Rattle.std.proofs.lemmas.Bool.{cases_order, eq-eqb, eqb-true, ne_eqb}
+use Rattle.std.proofs.Math.Nat.{mul-le-mul_right}
+use Rattle.std.proofs.lemmas.Nat.{div-add-mod'}
+use Rattle.dm_stack.specs.StoreLayout.{place}
+use Rattle.dm_stack.specs.declared.found_line.FoundSnapshot.{FoundSnapshot}
+use Rattle.dm_stack.proofs.StoreLayoutLemmas.{place_one}
+use Rattle.dm_map.specs.state.Snapshots.{store_sector, number_in}
+
+none_parts : (b : Bool) (o : Option ℕ) → cond b (Some 0) (option_map suc o) ≡ None → (b ≡ false) × (o ≡ None)
+none_parts true o e = absurd cc
+none_parts false None e = (refl, refl)
+none_parts false (Some j) e = absurd cc
+
+-- a chunk that isn't among the chunks before this number has this number, or none
+pub number_here : (c : ℕ) (xs : List ℕ) (i d : ℕ) → number_in c (take i xs) ≡ None → i < length xs → get_or xs i d ≡ c → number_in c xs ≡ Some i
+number_here c [] i d none below is = absurd (omega arith)
+number_here c (x ∷ xs) zero d none below is = rw (eq-eqb x c is) refl
+number_here c (x ∷ xs) (suc i) d none below is =
+    let parts = none_parts (x == c) (number_in c (take i xs)) none in
+    rw (parts.0, number_here c xs i d parts.1 (omega arith) is) refl
+
+pub number_later : (c : ℕ) (xs : List ℕ) (i d : ℕ) → number_in c (take i xs) ≡ None → i < length xs → (get_or xs i d ≡ c → ⊥) → number_in c (take (i + 1) xs) ≡ None
+number_later c [] i d none below other = absurd (omega arith)
+number_later c (x ∷ xs) zero d none below other = rw (ne_eqb x c other) refl
+number_later c (x ∷ xs) (suc i) d none below other =
+    let parts = none_parts (x == c) (number_in c (take i xs)) none in
+    let e : suc i + 1 ≡ suc (i + 1) = omega arith in
+    rw (e, parts.0, number_later c xs i d parts.1 (omega arith) other) refl
+
+all_more : (P : ℕ → Type 0) (xs : List ℕ) (c : ℕ) → AllByRecursion P xs → P c → AllByRecursion P (xs ++ c ∷ [])
+all_more P [] c all p = (p, tt)
+all_more P (x ∷ xs) c all p = (all.0, all_more P xs c all.1 p)
+
+-- a chunk that isn't there makes no double
+pub distinct_more : (c : ℕ) (xs : List ℕ) → IsDistinct nat_eq xs → number_in c xs ≡ None → IsDistinct nat_eq (xs ++ c ∷ [])
+unfolding IsDistinct
+distinct_more c [] distinct none = (tt, tt)
+distinct_more c (x ∷ xs) distinct none =
+    let parts = none_parts (x == c) (number_in c xs) none in
+    (all_more (λ y. nat_eq x y ≡ false) xs c distinct.0 parts.0, distinct_more c xs distinct.1 parts.1)
+
+-- a list that a push succeeded or failed at
+pub distinct_pushed : (pushed : Bool) (c : ℕ) (xs ys : List ℕ) → ys ≡ cond pushed (xs ++ c ∷ []) xs → IsDistinct nat_eq xs → number_in c xs ≡ None → IsDistinct nat_eq ys
+distinct_pushed true c xs ys is distinct none = subst (IsDistinct nat_eq) (sym is) (distinct_more c xs distinct none)
+distinct_pushed false c xs ys is distinct none = subst (IsDistinct nat_eq) (sym is) distinct
+
+-- a list that grows: what was there keeps its number, and what comes last has the next one
+some_cons : (b : Bool) (o p : Option ℕ) (i : ℕ) → ((j : ℕ) → o ≡ Some j → p ≡ Some j) → cond b (Some 0) (option_map suc o) ≡ Some i → cond b (Some 0) (option_map suc p) ≡ Some i
+some_cons true o p i later e = e
+some_cons false None p i later e = absurd cc
+some_cons false (Some j) p i later e = rw (later j refl) e
+
+pub number_kept : (c : ℕ) (xs ys : List ℕ) (i : ℕ) → number_in c xs ≡ Some i → number_in c (xs ++ ys) ≡ Some i
+number_kept c [] ys i e = absurd cc
+number_kept c (x ∷ xs) ys i e = some_cons (x == c) (number_in c xs) (number_in c (xs ++ ys)) i (λ j is. number_kept c xs ys j is) e
+
+pub number_new : (c : ℕ) (xs : List ℕ) → number_in c xs ≡ None → number_in c (xs ++ c ∷ []) ≡ Some (length xs)
+number_new c [] e = rw (eq-eqb c c refl) refl
+number_new c (x ∷ xs) e = let parts = none_parts (x == c) (number_in c xs) e in let k : suc (length xs) ≡ length (x ∷ xs) = omega arith in rw (parts.0, number_new c xs parts.1) (ap Some k)
+
+-- a chunk that isn't the new one and isn't there is still not there
+pub number_other : (c d : ℕ) (xs : List ℕ) → number_in c xs ≡ None → (d ≡ c → ⊥) → number_in c (xs ++ d ∷ []) ≡ None
+number_other c d [] e differ = rw (ne_eqb d c differ) refl
+number_other c d (x ∷ xs) e differ = let parts = none_parts (x == c) (number_in c xs) e in rw (parts.0, number_other c d xs parts.1 differ) refl
+
+-- a number is that of one chunk
+inject_cons : (b p : Bool) (c e x i : ℕ) (o q : Option ℕ) → (b ≡ true → x ≡ c) → (p ≡ true → x ≡ e) → ((j : ℕ) → o ≡ Some j → q ≡ Some j → c ≡ e) → cond b (Some 0) (option_map suc o) ≡ Some i → cond p (Some 0) (option_map suc q) ≡ Some i → c ≡ e
+inject_cons true true c e x i o q is_c is_e later f g = sym (is_c refl) ∙ is_e refl
+inject_cons true false c e x i o None is_c is_e later f g = absurd cc
+inject_cons true false c e x i o (Some j) is_c is_e later f g = let first : 0 ≡ i = cc in let next : suc j ≡ i = cc in absurd (omega (arith, first, next))
+inject_cons false true c e x i None q is_c is_e later f g = absurd cc
+inject_cons false true c e x i (Some j) q is_c is_e later f g = let first : 0 ≡ i = cc in let next : suc j ≡ i = cc in absurd (omega (arith, first, next))
+inject_cons false false c e x i None q is_c is_e later f g = absurd cc
+inject_cons false false c e x i (Some j) None is_c is_e later f g = absurd cc
+inject_cons false false c e x i (Some j) (Some k) is_c is_e later f g =
+    let first : suc j ≡ i = cc in let second : suc k ≡ i = cc in
+    let same : k ≡ j = omega (arith, first, second) in
+    later j refl (ap Some same)
+
+pub number_one : (c e : ℕ) (xs : List ℕ) (i : ℕ) → number_in c xs ≡ Some i → number_in e xs ≡ Some i → c ≡ e
+number_one c e [] i f g = absurd cc
+number_one c e (x ∷ xs) i f g = inject_cons (x == c) (x == e) c e x i (number_in c xs) (number_in e xs) (λ t. eqb-true x c t) (λ t. eqb-true x e t) (λ j a b. number_one c e xs j a b) f g
+
+-- Whole parts and a rest
+
+less_parts : (q r p t m : ℕ) → q * m + r ≡ p * m + t → r < m → q < p → ⊥
+less_parts q r p t m e small less =
+    let most : (q + 1) * m ≤ p * m = mul-le-mul_right m (let l : q + 1 ≤ p = omega (arith, less) in l) in
+    let one : (q + 1) * m ≡ q * m + m = grind arith in
+    omega (arith, e, small, most, one)
+
+-- a number is so in one way
+pub same_parts : (q r p t m : ℕ) → q * m + r ≡ p * m + t → r < m → t < m → (q ≡ p) × (r ≡ t)
+same_parts q r p t m e r_in t_in = elim (cases_order q p) [
+  | inl same ↦ (same, (let k : q * m ≡ p * m = ap (λ (x : ℕ). x * m) same in omega (arith, e, k)))
+  | inr (inl less) ↦ absurd (less_parts q r p t m e r_in less)
+  | inr (inr more) ↦ absurd (less_parts p t q r m (sym e) t_in more)
+]
+
+-- the sectors of a chunk
+pub chunk_rest : (c m u : ℕ) → c * m ≤ u → u < c * m + m → u % m ≡ u - c * m
+chunk_rest c m u low high =
+    let whole : u / m * m + u % m ≡ u = div-add-mod' u m in
+    let some : 0 < m = omega (arith, low, high) in
+    let rest : u % m < m = omega (arith, some) in
+    let k : c * m + (u - c * m) ≡ u = omega (arith, low) in
+    (same_parts (u / m) (u % m) c (u - c * m) m (whole ∙ sym k) rest (omega (arith, low, high))).1
+
+pub of_chunk : (c m u : ℕ) → 0 < m → u / m ≡ c → (c * m ≤ u) × (u < c * m + m)
+of_chunk c m u some is =
+    let whole : u / m * m + u % m ≡ u = div-add-mod' u m in
+    let same : u / m * m ≡ c * m = ap (λ (x : ℕ). x * m) is in
+    let rest : u % m < m = omega (arith, some) in
+    (omega (arith, whole, same, rest), omega (arith, whole, same, rest))
+
+-- one column and one sector of that column are one sector of the striped line
+pub stripe_back : (chunk n o : ℕ) → 0 < chunk → ((o / chunk / n * chunk + o % chunk) / chunk * n + o / chunk % n) * chunk + (o / chunk / n * chunk + o % chunk) % chunk ≡ o
+stripe_back chunk n o some =
+    let q = o / chunk / n in
+    let r = o % chunk in
+    let w = q * chunk + r in
+    let r_in : r < chunk = omega (arith, some) in
+    let w_in : w % chunk < chunk = omega (arith, some) in
+    let whole_w : w / chunk * chunk + w % chunk ≡ w = div-add-mod' w chunk in
+    let parts = same_parts (w / chunk) (w % chunk) q r chunk whole_w w_in r_in in
+    let whole_c : q * n + o / chunk % n ≡ o / chunk = div-add-mod' (o / chunk) n in
+    let whole_o : o / chunk * chunk + o % chunk ≡ o = div-add-mod' o chunk in
+    ap (λ (x : ℕ). (x * n + o / chunk % n) * chunk + w % chunk) parts.0
+    ∙ ap (λ (x : ℕ). (q * n + o / chunk % n) * chunk + x) parts.1
+    ∙ ap (λ (x : ℕ). x * chunk + r) whole_c
+    ∙ whole_o
+
+-- The sectors of a store
+
+pub kept_parts : (snapshot : FoundSnapshot) (i j s t : ℕ) → 0 < snapshot.chunk → store_sector snapshot i s ≡ store_sector snapshot j t → (i ≡ j) × (s % snapshot.chunk ≡ t % snapshot.chunk)
+kept_parts snapshot i j s t some e =
+    let parts = same_parts (place snapshot.kind snapshot.chunk i) (s % snapshot.chunk) (place snapshot.kind snapshot.chunk j) (t % snapshot.chunk) snapshot.chunk e (omega (arith, some)) (omega (arith, some)) in
+    (place_one snapshot.kind snapshot.chunk i j parts.0, parts.1)
+
+-- one number and one distance into the chunk are one sector
+pub same_sector : (snapshot : FoundSnapshot) (chunks : List ℕ) (i j s u : ℕ) → 0 < snapshot.chunk → number_in (s / snapshot.chunk) chunks ≡ Some i → number_in (u / snapshot.chunk) chunks ≡ Some j → store_sector snapshot i s ≡ store_sector snapshot j u → u ≡ s
+same_sector snapshot chunks i j s u some a b e =
+    let parts = kept_parts snapshot i j s u some e in
+    let whole_s : s / snapshot.chunk * snapshot.chunk + s % snapshot.chunk ≡ s = div-add-mod' s snapshot.chunk in
+    let whole_u : u / snapshot.chunk * snapshot.chunk + u % snapshot.chunk ≡ u = div-add-mod' u snapshot.chunk in
+    let one = number_one (s / snapshot.chunk) (u / snapshot.chunk) chunks i a (b ∙ ap Some (sym parts.0)) in
+    let products : s / snapshot.chunk * snapshot.chunk ≡ u / snapshot.chunk * snapshot.chunk = ap (λ (c : ℕ). c * snapshot.chunk) one in
+    omega (arith, whole_s, whole_u, products, parts.1)
+
+rest_below : (len m q r : ℕ) → r < m → (q + 1) * m ≤ len → q * m + r < len
+rest_below len m q r less most = let one : (q + 1) * m ≡ q * m + m = grind arith in omega (arith, less, most, one)
+
+pub store_sector_inside : (snapshot : FoundSnapshot) (i s len : ℕ) → 0 < snapshot.chunk → (place snapshot.kind snapshot.chunk i + 1) * snapshot.chunk ≤ len → store_sector snapshot i s < len
+store_sector_inside snapshot i s len some most = rest_below len snapshot.chunk (place snapshot.kind snapshot.chunk i) (s % snapshot.chunk) (omega (arith, some)) most

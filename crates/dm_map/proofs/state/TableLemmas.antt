@@ -1,0 +1,277 @@
+-- The state of tables, and the places that are left in them.
+use Rattle.std.proofs.Common.{◌≡◌, ◌↔◌, ℕ, zero, suc, ◌+◌, ◌*◌, ◌<◌, ◌≤◌, Bool, true, false, cond, not, List, [], ◌∷◌, ◌++◌, Option, Some, None, length, get_or, set, drop, drop-cons, replicate, nat_eq, nat_lt, refl, sym, ap, subst, ◌∙◌, inl, inr, arith}
+use Rattle.std.specs.Prelude.{◌==◌, filter, find, is_none, option_map, slice_get, IfSome}
+use Rattle.std.specs.List.{AllByRecursion, list_any, position_or_len, range_with_len}
+use Rattle.std.proofs.lemmas.Bool.{cases_eq, eq-eqb, leb-true, le-leb, ne_eqb, lt-ltb, le-ltb, ltb-true, ltb_from_iff, or_left, or_parts, or_right}
+use Rattle.std.proofs.lemmas.List.Folds.{find_at}
+use Rattle.std.proofs.lemmas.List.{get_or-replicate, length-set, replicate-append-replicate, set-get_or}
+use Rattle.std.proofs.lemmas.Option.{slice_get_read, slice_get_within}
+use Rattle.dm_table.specs.declared.load_fault.LoadKind.TheVariants.{Unknown}
+use Rattle.dm_table.specs.declared.table.DevRef.{DevRef}
+use Rattle.dm_table.specs.declared.table.DevRef.TheVariants as refs
+use Rattle.dm_table.specs.declared.table.DeviceSpec.{DeviceSpec}
+use Rattle.dm_table.specs.declared.table.Line.{Line}
+use Rattle.dm_table.specs.declared.table.Target.{Target}
+use Rattle.dm_table.specs.declared.table.Target.TheVariants as targets
+use Rattle.dm_table.specs.declared.table.Use.TheVariants.{Reading}
+use Rattle.dm_stack.specs.declared.found_line.FoundLine.{FoundLine}
+use Rattle.dm_stack.specs.declared.found_line.FoundSnapshot.{FoundSnapshot}
+use Rattle.dm_stack.specs.declared.found_line.FoundTarget.{FoundTarget}
+use Rattle.dm_stack.specs.declared.found_line.FoundTarget.TheVariants as founds
+use Rattle.dm_stack.specs.Below.{found_at, found_line, found_target, holds, line_of}
+use Rattle.dm_stack.specs.Description.{Description, device_id, disk_id, is_same, lines_at, lines_or_none, lower_len, lower_of}
+use Rattle.dm_stack.specs.Loaded.{has_snapshot, is_snapshot, snapshots}
+use Rattle.dm_stack.specs.StoreLayout.{place}
+use Rattle.dm_stack.specs.Over.{found_snapshot}
+use Rattle.dm_stack.specs.Soundness.{IsSound, all_lines, is_unknown, is_unknown_ref}
+use Rattle.dm_table.specs.Span.{target_spans, whole_span}
+use Rattle.dm_stack.proofs.Passes.{faults_by_none, passes_all}
+use Rattle.dm_stack.proofs.SoundLines.{device_some, disk_some, found, of_device, there}
+use Rattle.dm_map.specs.state.Snapshots.{number_in}
+use Rattle.dm_map.specs.state.State.{lost, put, with_chunk, State, Taken, none_taken, taken_at}
+use Rattle.dm_map.specs.state.Tables.{AreTables, has_room, snapshot_of_line, snapshot_of, state_of}
+
+-- One table
+
+pub state_set : {T : Type 0} (chunks : T → List ℕ) (valid : T → Bool) (tables : List T) (device : ℕ) (table : T) → state_of chunks valid (set tables device table) ≡ put (state_of chunks valid tables) device (record { chunks = chunks table; valid = valid table })
+state_set chunks valid [] device table = refl
+state_set chunks valid (first ∷ rest) zero table = refl
+state_set chunks valid (first ∷ rest) (suc device) table = ap (λ (state : State). record { chunks = chunks first; valid = valid first } ∷ state) (state_set chunks valid rest device table)
+
+pub state_at : {T : Type 0} (chunks : T → List ℕ) (valid : T → Bool) (tables : List T) (device : ℕ) (table : T) → slice_get tables device ≡ Some table → taken_at (state_of chunks valid tables) device ≡ record { chunks = chunks table; valid = valid table }
+state_at chunks valid [] device table is = absurd cc
+state_at chunks valid (first ∷ rest) zero table is = let same : first ≡ table = cc in rw same refl
+state_at chunks valid (first ∷ rest) (suc device) table is = state_at chunks valid rest device table is
+
+-- The places of a number among those of a list that fits
+
+pub number_within : (chunk : ℕ) (chunks : List ℕ) (number : ℕ) → number_in chunk chunks ≡ Some number → number < length chunks
+number_within chunk [] number is = absurd cc
+number_within chunk (first ∷ rest) number is = number_after (first == chunk) (number_in chunk rest) (length rest) number (λ later found. number_within chunk rest later found) is
+  where
+    number_after : (here : Bool) (later : Option ℕ) (len number : ℕ) → ((n : ℕ) → later ≡ Some n → n < len) → cond here (Some 0) (option_map suc later) ≡ Some number → number < suc len
+    number_after true later len number within is = let first : 0 ≡ number = cc in omega (arith, first)
+    number_after false None len number within is = absurd cc
+    number_after false (Some n) len number within is = let next : suc n ≡ number = cc in omega (arith, within n refl, next)
+
+pub each_set : {T : Type 0} (P : ℕ → T → Type 0) (tables : List T) (device : ℕ) (new : T) → ((other : ℕ) (table : T) → (other ≡ device → ⊥) → slice_get tables other ≡ Some table → P other table) → P device new
+    → (other : ℕ) (table : T) → slice_get (set tables device new) other ≡ Some table → P other table
+each_set P [] device new each last other table is = absurd cc
+each_set P (first ∷ rest) zero new each last zero table is = let same : new ≡ table = cc in subst (P 0) same last
+each_set P (first ∷ rest) zero new each last (suc other) table is = each (suc other) table (λ e. absurd (omega (arith, e))) is
+each_set P (first ∷ rest) (suc device) new each last zero table is = each zero table (λ e. absurd (omega (arith, e))) is
+each_set P (first ∷ rest) (suc device) new each last (suc other) table is =
+    each_set (λ d t. P (suc d) t) rest device new (λ o t differ found. each (suc o) t (λ e. differ (omega (arith, e))) found) last other table is
+
+pub took_put : {T : Type 0} (chunks : T → List ℕ) (valid : T → Bool) (tables : List T) (device index chunk : ℕ) (table new : T) → index ≡ device → slice_get tables device ≡ Some table → (taken_at (state_of chunks valid tables) device).valid ≡ true → chunks new ≡ chunks table ++ chunk ∷ [] → valid new ≡ true
+    → state_of chunks valid (set tables index new) ≡ put (state_of chunks valid tables) device (with_chunk (taken_at (state_of chunks valid tables) device) chunk)
+took_put chunks valid tables device index chunk table new same got good more on =
+    let kept = state_at chunks valid tables device table got in
+    let before : valid table ≡ true = ap (λ (taken : Taken). taken.valid) (sym kept) ∙ good in
+    rw same (state_set chunks valid tables device new ∙ rw (kept, more, on, before) refl)
+
+pub take_room : {T : Type 0} (chunks : T → List ℕ) (valid : T → Bool) (places : T → ℕ) (stack : Description) (tables : List T) (device : ℕ) (table : T) → AreTables places stack tables → slice_get tables device ≡ Some table
+    → has_room stack device (length (taken_at (state_of chunks valid tables) device).chunks) ≡ true → length (chunks table) < places table
+take_room chunks valid places stack tables device table are got room =
+    let kept = state_at chunks valid tables device table got in
+    ltb-true _ _ (are.room device (length (chunks table)) table got ∙ ap (λ (taken : Taken). has_room stack device (length taken.chunks)) (sym kept) ∙ room)
+
+pub tables_set : {T : Type 0} (places : T → ℕ) (stack : Description) (tables : List T) (device index : ℕ) (table new : T) → AreTables places stack tables → index ≡ device → slice_get tables device ≡ Some table → places new ≡ places table → AreTables places stack (set tables index new)
+tables_set places stack tables device index table new are same got kept = record {
+  count = length-set tables index new ∙ are.count;
+  room = λ other number t at.
+      each_set (λ o u. nat_lt number (places u) ≡ has_room stack o number) tables index new (λ o u differ found. are.room o number u found)
+      (rw same (ap (λ (n : ℕ). nat_lt number n) kept ∙ are.room device number table got)) other t at;
+}
+
+-- A list of tables that grows
+
+pub state_push : {T : Type 0} (chunks : T → List ℕ) (valid : T → Bool) (tables : List T) (table : T) → chunks table ≡ [] → valid table ≡ true → state_of chunks valid (tables ++ table ∷ []) ≡ state_of chunks valid tables ++ none_taken ∷ []
+state_push chunks valid [] table nothing good = rw (nothing, good) refl
+state_push chunks valid (first ∷ rest) table nothing good = ap (λ (state : State). record { chunks = chunks first; valid = valid first } ∷ state) (state_push chunks valid rest table nothing good)
+
+pub nothing_more : (count : ℕ) → replicate count none_taken ++ none_taken ∷ [] ≡ replicate (count + 1) none_taken
+nothing_more count = replicate-append-replicate count 1 none_taken
+
+pub each_push : {T : Type 0} (P : ℕ → T → Type 0) (tables : List T) (table : T) → ((device : ℕ) (other : T) → slice_get tables device ≡ Some other → P device other) → P (length tables) table
+    → (device : ℕ) (other : T) → slice_get (tables ++ table ∷ []) device ≡ Some other → P device other
+each_push P [] table each last zero other is = let same : table ≡ other = cc in subst (P 0) same last
+each_push P [] table each last (suc device) other is = absurd cc
+each_push P (first ∷ rest) table each last zero other is = each 0 other is
+each_push P (first ∷ rest) table each last (suc device) other is = each_push (λ d t. P (suc d) t) rest table (λ d t found. each (suc d) t found) last device other is
+
+-- A table among those of a stack
+
+pub table_got : {T : Type 0} (places : T → ℕ) (stack : Description) (tables : List T) (device index : ℕ) (table : T) → AreTables places stack tables → device < length stack.devices → index ≡ device → table ≡ get_or tables index table → slice_get tables device ≡ Some table
+table_got places stack tables device index table are there same is =
+    slice_get_read tables (length tables) device table refl (omega (arith, are.count, there)) (subst (λ (i : ℕ). table ≡ get_or tables i table) same is)
+
+pub found_room : {T : Type 0} (chunks : T → List ℕ) (places : T → ℕ) (stack : Description) (tables : List T) (device chunk : ℕ) (table : T) (number : Option ℕ) → AreTables places stack tables → length (chunks table) ≤ places table → slice_get tables device ≡ Some table
+    → number_in chunk (chunks table) ≡ number → IfSome number (λ n. has_room stack device n ≡ true)
+found_room chunks places stack tables device chunk table None are fits got is = tt
+found_room chunks places stack tables device chunk table (Some n) are fits got is =
+    sym (are.room device n table got) ∙ lt-ltb n (places table) (omega (arith, fits, number_within chunk (chunks table) n is))
+
+full_at : (count most : ℕ) → count ≤ most → (count == most) ≡ not (nat_lt count most)
+full_at count most le = elim (cases_eq count most) [
+  | inl same ↦ rw (eq-eqb count most same, le-ltb count most (omega (arith, same))) refl
+  | inr differ ↦ rw (ne_eqb count most differ, lt-ltb count most (omega (arith, le, differ))) refl
+]
+
+pub full_room : {T : Type 0} (chunks : T → List ℕ) (places : T → ℕ) (stack : Description) (tables : List T) (device : ℕ) (table : T) → AreTables places stack tables → length (chunks table) ≤ places table → slice_get tables device ≡ Some table
+    → (length (chunks table) == places table) ≡ not (has_room stack device (length (chunks table)))
+full_room chunks places stack tables device table are fits got =
+    full_at (length (chunks table)) (places table) fits ∙ ap not (are.room device (length (chunks table)) table got)
+
+pub lost_put : {T : Type 0} (chunks : T → List ℕ) (valid : T → Bool) (tables : List T) (device index : ℕ) (table new : T) → index ≡ device → slice_get tables device ≡ Some table → chunks new ≡ chunks table → valid new ≡ false
+    → state_of chunks valid (set tables index new) ≡ put (state_of chunks valid tables) device (lost (taken_at (state_of chunks valid tables) device))
+lost_put chunks valid tables device index table new same got kept off =
+    rw same (state_set chunks valid tables device new ∙ rw (state_at chunks valid tables device table got, kept, off) refl)
+
+-- nothing is taken in a new table
+pub state_new : {T : Type 0} (chunks : T → List ℕ) (valid : T → Bool) (tables : List T) (device count : ℕ) (new : T) → device < count → state_of chunks valid tables ≡ replicate count none_taken → chunks new ≡ [] → valid new ≡ true → state_of chunks valid (set tables device new) ≡ replicate count none_taken
+state_new chunks valid tables device count new there before nothing good =
+    state_set chunks valid tables device new ∙ rw (before, nothing, good) (ap (λ (taken : Taken). put (replicate count none_taken) device taken) (sym (get_or-replicate count device none_taken none_taken there)) ∙ set-get_or (replicate count none_taken) device none_taken)
+
+-- A device that has no snapshot's line
+
+plain_target : (stack : Description) (target : Target) → is_snapshot target ≡ false → snapshot_of (found_target stack target) ≡ None
+plain_target stack (targets.Linear to offset) e = refl
+plain_target stack (targets.Striped chunk columns) e = refl
+plain_target stack targets.Zero e = refl
+plain_target stack targets.Error e = refl
+plain_target stack (targets.Snapshot origin store kind chunk) e = absurd cc
+plain_target stack (targets.Origin origin) e = refl
+
+each_plain : (lines : List Line) → has_snapshot lines ≡ false → AllByRecursion (λ line. is_snapshot line.target ≡ false) lines
+each_plain [] e = tt
+each_plain (line ∷ lines) e = let parts = or_parts (is_snapshot line.target) (has_snapshot lines) e in (parts.0, each_plain lines parts.1)
+
+plain_line : (stack : Description) (lines : List Line) (sector : ℕ) (line : Option Line) → has_snapshot lines ≡ false → line_of lines sector ≡ line → snapshot_of_line (option_map (found_line stack) line) ≡ None
+plain_line stack lines sector None e is = refl
+plain_line stack lines sector (Some line) e is = plain_target stack line.target (found (λ l. is_snapshot l.target ≡ false) (holds sector) lines line (each_plain lines e) is).1
+
+pub plain_room : (stack : Description) (device number : ℕ) → has_snapshot (lines_at stack device) ≡ false → has_room stack device number ≡ false
+plain_room stack device number e = rw (plain_line stack (lines_at stack device) 0 (line_of (lines_at stack device) 0) e refl) refl
+
+-- The snapshots of a stack
+
+picked : (f : ℕ → Bool) (a n x : ℕ) → a ≤ x → x < a + n → f x ≡ true → list_any (nat_eq x) (filter f (range_with_len a n)) ≡ true
+picked f a zero x from to good = absurd (omega (arith, from, to))
+picked f a (suc n) x from to good = elim (cases_eq x a) [
+  | inl same ↦ let here : f a ≡ true = subst (λ (y : ℕ). f y ≡ true) same good in rw here (or_left (nat_eq x a) _ (eq-eqb x a same))
+  | inr differ ↦ picked_later (f a) x a (filter f (range_with_len (a + 1) n)) (picked f (a + 1) n x (omega (arith, from, differ)) (omega (arith, to)) good)
+]
+  where
+    picked_later : (first : Bool) (x a : ℕ) (rest : List ℕ) → list_any (nat_eq x) rest ≡ true → list_any (nat_eq x) (cond first (a ∷ rest) rest) ≡ true
+    picked_later true x a rest later = or_right (nat_eq x a) _ later
+    picked_later false x a rest later = later
+
+not_picked : (f : ℕ → Bool) (n x : ℕ) (b : Bool) → x < n → f x ≡ b → list_any (nat_eq x) (filter f (range_with_len 0 n)) ≡ false → b ≡ false
+not_picked f n x true there is none = absurd (let some = picked f 0 n x (omega arith) (omega (arith, there)) is in cc)
+not_picked f n x false there is none = refl
+
+-- a device that is not among them has no place
+pub unlisted_room : (stack : Description) (device number : ℕ) → device < length stack.devices → list_any (nat_eq device) (snapshots stack) ≡ false → has_room stack device number ≡ false
+unlisted_room stack device number there none =
+    plain_room stack device number (not_picked (λ d. has_snapshot (lines_at stack d)) (length stack.devices) device (has_snapshot (lines_at stack device)) there refl none)
+
+-- they are devices of the stack
+picked_within : (f : ℕ → Bool) (a n i d : ℕ) → i < length (filter f (range_with_len a n)) → get_or (filter f (range_with_len a n)) i d < a + n
+picked_within f a zero i d within = absurd (omega (arith, within))
+picked_within f a (suc n) i d within = within_by (f a) a (a + suc n) (filter f (range_with_len (a + 1) n)) i d (omega arith) (λ j inside. let e : a + 1 + n ≡ a + suc n = omega arith in subst (λ (most : ℕ). get_or (filter f (range_with_len (a + 1) n)) j d < most) e (picked_within f (a + 1) n j d inside)) within
+  where
+    within_by : (first : Bool) (a most : ℕ) (rest : List ℕ) (i d : ℕ) → a < most → ((j : ℕ) → j < length rest → get_or rest j d < most) → i < length (cond first (a ∷ rest) rest) → get_or (cond first (a ∷ rest) rest) i d < most
+    within_by true a most rest zero d here later within = here
+    within_by true a most rest (suc i) d here later within = later i (omega (arith, within))
+    within_by false a most rest i d here later within = later i within
+
+pub snapshot_there : (stack : Description) (next d : ℕ) → next < length (snapshots stack) → get_or (snapshots stack) next d < length stack.devices
+snapshot_there stack next d within = let low = picked_within (λ device. has_snapshot (lines_at stack device)) 0 (length stack.devices) next d within in omega (arith, low)
+
+-- one that is none of the later ones, and not this one, is none of these
+pub not_yet : (ids : List ℕ) (next d device : ℕ) → next < length ids → (device ≡ get_or ids next d → ⊥) → list_any (nat_eq device) (drop (next + 1) ids) ≡ false → list_any (nat_eq device) (drop next ids) ≡ false
+not_yet ids next d device within differ later =
+    let e : suc next ≡ next + 1 = omega arith in
+    let rest : drop next ids ≡ get_or ids next d ∷ drop (next + 1) ids = drop-cons ids next d within ∙ ap (λ (k : ℕ). get_or ids next d ∷ drop k ids) e in
+    let both : list_any (nat_eq device) (get_or ids next d ∷ drop (next + 1) ids) ≡ false = rw (ne_eqb device (get_or ids next d) differ) later in
+    subst (λ (xs : List ℕ). list_any (nat_eq device) xs ≡ false) (sym rest) both
+
+-- The tables before the first snapshot is looked up, and after the next one
+
+pub first_rooms : {T : Type 0} (places : T → ℕ) (stack : Description) (tables : List T) → length tables ≡ length stack.devices → ((index : ℕ) (table : T) → slice_get tables index ≡ Some table → places table ≡ 0)
+    → (device number : ℕ) (table : T) → slice_get tables device ≡ Some table → list_any (nat_eq device) (snapshots stack) ≡ false → nat_lt number (places table) ≡ has_room stack device number
+first_rooms places stack tables count none device number table got unlisted =
+    let within = slice_get_within tables device table got in
+    let inside : device < length stack.devices = omega (arith, within, count) in
+    rw (none device table got) (le-ltb number 0 (omega arith) ∙ sym (unlisted_room stack device number inside unlisted))
+
+pub next_rooms : {T : Type 0} (places : T → ℕ) (stack : Description) (tables : List T) (next d index : ℕ) (new : T) → next < length (snapshots stack) → d ≡ get_or (snapshots stack) next d → index ≡ d → ((number : ℕ) → nat_lt number (places new) ≡ has_room stack d number)
+    → ((device number : ℕ) (table : T) → slice_get tables device ≡ Some table → list_any (nat_eq device) (drop next (snapshots stack)) ≡ false → nat_lt number (places table) ≡ has_room stack device number)
+    → (device number : ℕ) (table : T) → slice_get (set tables index new) device ≡ Some table → list_any (nat_eq device) (drop (next + 1) (snapshots stack)) ≡ false → nat_lt number (places table) ≡ has_room stack device number
+next_rooms places stack tables next d index new within is same room before device number table got later =
+    each_set (λ other t. list_any (nat_eq other) (drop (next + 1) (snapshots stack)) ≡ false → nat_lt number (places t) ≡ has_room stack other number) tables index new
+    (λ other t differ at unlisted. before other number t at (not_yet (snapshots stack) next d other within (λ e. differ (e ∙ sym is ∙ sym same)) unlisted))
+    (λ unlisted. subst (λ (x : ℕ). nat_lt number (places new) ≡ has_room stack x number) (sym same) (room number))
+    device table got later
+
+-- The places of a snapshot
+
+pub snapshot_room : (stack : Description) (device number count : ℕ) (line : FoundLine) (snapshot : FoundSnapshot) → found_at stack device 0 ≡ Some line → line.target ≡ founds.Snapshot snapshot → ((number < count) ↔ ((place snapshot.kind snapshot.chunk number + 1) * snapshot.chunk ≤ lower_len stack snapshot.store)) → nat_lt number count ≡ has_room stack device number
+snapshot_room stack device number count line snapshot is kind law =
+    rw (is, kind) (sym (ltb_from_iff ((λ e. law.1 (leb-true _ _ e)), (λ less. le-leb _ _ (law.0 less)))))
+
+pub other_room : (stack : Description) (device number : ℕ) (line : FoundLine) → found_at stack device 0 ≡ Some line → ((snapshot : FoundSnapshot) → line.target ≡ founds.Snapshot snapshot → ⊥) → has_room stack device number ≡ false
+other_room stack device number line is other = rw (is, none_of line.target other) refl
+  where
+    none_of : (target : FoundTarget) → ((snapshot : FoundSnapshot) → target ≡ founds.Snapshot snapshot → ⊥) → snapshot_of target ≡ None
+    none_of (founds.Linear to offset) other = refl
+    none_of (founds.Striped chunk columns) other = refl
+    none_of founds.Zero other = refl
+    none_of founds.Error other = refl
+    none_of (founds.Snapshot snapshot) other = absurd (other snapshot refl)
+    none_of (founds.Origin origin) other = refl
+
+-- Its store is there
+
+known_at : (stack : Description) (device : ℕ) (spec : DeviceSpec) → IsSound stack → slice_get stack.devices device ≡ Some spec → AllByRecursion (λ line. is_unknown stack line ≡ false) spec.lines
+known_at stack device spec sound at =
+    of_device (λ line. is_unknown stack line ≡ false) stack.devices device spec (faults_by_none Unknown (λ line. line.at) (is_unknown stack) (all_lines stack.devices) (passes_all stack sound).known) at
+
+place_before : {X : Type 0} (test : X → Bool) (xs : List X) → is_none (find test xs) ≡ false → position_or_len test xs < length xs
+place_before {X = X} test xs some = by_found (find test xs) refl some
+  where
+    by_found : (found : Option X) → find test xs ≡ found → is_none found ≡ false → position_or_len test xs < length xs
+    by_found None is e = absurd cc
+    by_found (Some x) is e = slice_get_within xs (position_or_len test xs) x (sym (find_at test xs) ∙ is)
+
+lower_some : (stack : Description) (to : DevRef) → IsSound stack → is_unknown_ref stack to ≡ false → 0 < lower_len stack (lower_of stack to)
+lower_some stack (refs.Device name) sound known = device_some stack (device_id stack name) sound (place_before (λ device. is_same device.name name) stack.devices known)
+lower_some stack (refs.Disk name) sound known =
+    let it = there stack.disks (disk_id stack name) (place_before (λ disk. is_same disk.name name) stack.disks known) in
+    rw it.at (disk_some stack (disk_id stack name) it.it sound it.at)
+
+store_at : (stack : Description) (target : Target) (len : ℕ) (snapshot : FoundSnapshot) → IsSound stack → list_any (λ span. is_unknown_ref stack span.to) (target_spans len target) ≡ false → found_target stack target ≡ founds.Snapshot snapshot → 0 < lower_len stack snapshot.store
+store_at stack (targets.Linear to offset) len snapshot sound known is = absurd cc
+store_at stack (targets.Striped chunk columns) len snapshot sound known is = absurd cc
+store_at stack targets.Zero len snapshot sound known is = absurd cc
+store_at stack targets.Error len snapshot sound known is = absurd cc
+store_at stack (targets.Snapshot origin store kind chunk) len snapshot sound known is =
+    let same : found_snapshot stack origin store kind chunk ≡ snapshot = cc in
+    let parts = or_parts (is_unknown_ref stack store) (list_any (λ span. is_unknown_ref stack span.to) (whole_span origin Reading ∷ [])) known in
+    subst (λ (s : FoundSnapshot). 0 < lower_len stack s.store) same (lower_some stack store sound parts.0)
+store_at stack (targets.Origin origin) len snapshot sound known is = absurd cc
+
+store_in : (stack : Description) (lines : List Line) (sector : ℕ) (line : Option Line) (found_line_is : FoundLine) (snapshot : FoundSnapshot) → IsSound stack → AllByRecursion (λ l. is_unknown stack l ≡ false) lines → line_of lines sector ≡ line → option_map (found_line stack) line ≡ Some found_line_is
+    → found_line_is.target ≡ founds.Snapshot snapshot → 0 < lower_len stack snapshot.store
+store_in stack lines sector None it snapshot sound known is found_is kind = absurd cc
+store_in stack lines sector (Some line) it snapshot sound known is found_is kind =
+    let same : found_line stack line ≡ it = cc in
+    store_at stack line.target line.len snapshot sound (found (λ l. is_unknown stack l ≡ false) (holds sector) lines line known is).1 (ap (λ (l : FoundLine). l.target) same ∙ kind)
+
+store_of : (stack : Description) (device sector : ℕ) (spec : Option DeviceSpec) (line : FoundLine) (snapshot : FoundSnapshot) → IsSound stack → slice_get stack.devices device ≡ spec → option_map (found_line stack) (line_of (lines_or_none spec) sector) ≡ Some line → line.target ≡ founds.Snapshot snapshot → 0 < lower_len stack snapshot.store
+store_of stack device sector None line snapshot sound at is kind = absurd cc
+store_of stack device sector (Some spec) line snapshot sound at is kind = store_in stack spec.lines sector (line_of spec.lines sector) line snapshot sound (known_at stack device spec sound at) refl is kind
+
+pub store_some : (stack : Description) (device sector : ℕ) (line : FoundLine) (snapshot : FoundSnapshot) → IsSound stack → found_at stack device sector ≡ Some line → line.target ≡ founds.Snapshot snapshot → 0 < lower_len stack snapshot.store
+store_some stack device sector line snapshot sound is kind = store_of stack device sector (slice_get stack.devices device) line snapshot sound refl is kind

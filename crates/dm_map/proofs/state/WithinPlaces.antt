@@ -1,0 +1,39 @@
+-- Tables take no more chunks than the stores of their snapshots have places.
+use Rattle.std.proofs.Common.{◌≡◌, ℕ, zero, suc, ◌<◌, ◌≤◌, Bool, List, Some, length, subst, sym, ◌∙◌, arith}
+use Rattle.std.specs.Prelude.{slice_get}
+use Rattle.std.proofs.lemmas.Bool.{lt-ltb}
+use Rattle.dm_stack.specs.declared.found_line.FoundSnapshot.{FoundSnapshot}
+use Rattle.dm_stack.specs.Description.{Description, lower_len}
+use Rattle.dm_stack.specs.StoreLayout.{places}
+use Rattle.dm_stack.specs.Soundness.{IsSound}
+use Rattle.dm_stack.proofs.StoreLayoutLemmas.{has_place}
+use Rattle.dm_stack.proofs.SoundLines.{there}
+use Rattle.dm_map.specs.state.Fitting.{IsWithinPlaces}
+use Rattle.dm_map.specs.state.State.{Taken}
+use Rattle.dm_map.specs.state.Tables.{AreTables, snapshot_at, state_of}
+use Rattle.dm_map.proofs.walk.Chunks.{room_place}
+use Rattle.dm_map.proofs.state.FoundLines.{snapshot_sound}
+use Rattle.dm_map.proofs.state.TableLemmas.{state_at}
+
+-- a count is within another where each number below it is
+most_within : (count most : ℕ) → ((number : ℕ) → number < count → number < most) → count ≤ most
+most_within zero most each = omega arith
+most_within (suc count) most each = let last = each count (omega arith) in omega (arith, last)
+
+-- a table has as many places as its store
+within_store : {T : Type 0} (places_of : T → ℕ) (stack : Description) (tables : List T) (device number : ℕ) (table : T) (snapshot : FoundSnapshot) → IsSound stack → AreTables places_of stack tables → snapshot_at stack device ≡ Some snapshot
+    → slice_get tables device ≡ Some table → number < places_of table → number < places snapshot.kind snapshot.chunk (lower_len stack snapshot.store)
+within_store places_of stack tables device number table snapshot sound are is got less =
+    let over = snapshot_sound stack device snapshot sound is in
+    let room = sym (are.room device number table got) ∙ lt-ltb number (places_of table) less in
+    (has_place snapshot.kind snapshot.chunk (lower_len stack snapshot.store) number over.soundly.chunk_some).1 (room_place stack device number snapshot is room)
+
+pub within_places : {T : Type 0} (chunks : T → List ℕ) (valid : T → Bool) (places_of : T → ℕ) (stack : Description) (tables : List T) → IsSound stack → AreTables places_of stack tables → ((table : T) → length (chunks table) ≤ places_of table)
+    → IsWithinPlaces stack (state_of chunks valid tables)
+within_places chunks valid places_of stack tables sound are fits device snapshot is =
+    let over = snapshot_sound stack device snapshot sound is in
+    let table = there tables device (omega (arith, are.count, over.there)) in
+    let kept = state_at chunks valid tables device table.it table.at in
+    let few = most_within (length (chunks table.it)) (places snapshot.kind snapshot.chunk (lower_len stack snapshot.store)) (λ number less.
+    within_store places_of stack tables device number table.it snapshot sound are is table.at (let fit = fits table.it in omega (arith, less, fit))) in
+    subst (λ (taken : Taken). length taken.chunks ≤ places snapshot.kind snapshot.chunk (lower_len stack snapshot.store)) (sym kept) few

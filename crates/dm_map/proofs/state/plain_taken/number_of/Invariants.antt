@@ -1,0 +1,12 @@
+use Rattle.std.proofs.Common.{length, ◌-◌, ◌≡◌, ◌≤◌, None, take}
+use Rattle.dm_map.specs.state.Snapshots.{number_in}
+use Rattle.dm_map.proofs.state.plain_taken.number_of.Given as goal
+
+abbrev pub invariant-loop-number : goal.invariant-loop-number
+invariant-loop-number l = record {
+  passed : number_in l.chunk (take l.number l.chunks) ≡ None;
+  within : l.number ≤ length l.chunks;
+}
+
+abbrev pub decreases-loop-number : goal.decreases-loop-number
+decreases-loop-number l = length l.chunks - l.number

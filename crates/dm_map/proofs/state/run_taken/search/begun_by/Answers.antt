@@ -1,0 +1,49 @@
+use Rattle.std.proofs.Common.{◌≡◌, ℕ, ◌+◌, ◌-◌, ◌*◌, ◌^◌, ◌≤◌, sym, arith}
+use Rattle.std.proofs.Math.Nat.{mul-le-mul_left}
+use Rattle.dm_stack.proofs.LineSearchLemmas.{few_digits, more-halved}
+use Rattle.dm_stack.specs.LineSearch.{binary_digits}
+use Rattle.dm_map.proofs.state.run_taken.search.begun_by.Goals as goal
+
+-- each comparison leaves at most half of the runs to compare, and the next one is one digit more
+halved : (k half all total : ℕ) → 2 * half ≤ all → 2 ^ k * all ≤ total → 2 ^ (k + 1) * half ≤ total
+halved k half all total halves within = let less = more-halved k half all (total + 1) halves (omega (arith, within)) in omega (arith, less)
+
+few : (k all total : ℕ) → 1 ≤ all → 2 ^ k * all ≤ total → k + 1 ≤ binary_digits total
+few k all total some within =
+    let one : 2 ^ k * 1 ≤ 2 ^ k * all = mul-le-mul_left (2 ^ k) some in
+    let less = more-halved k 1 2 (2 * total + 1) (omega arith) (omega (arith, one, within)) in
+    few_digits total (k + 1) (omega (arith, less))
+
+back : (n : ℕ) → n + 1 - 1 ≡ n
+back n = omega arith
+
+pub loop-low-preserved-then-runs-at : goal.loop-low-preserved-then-runs-at
+loop-low-preserved-then-runs-at c =
+    let l = c.loop-low in
+    let i = l.invariant in
+    let more = c.loop-low-test.true in
+    let first = rw c.at.ensures at c.if-runs-at.true in
+    record {
+      within = omega (arith, more);
+      end = i.end;
+      from = λ _. rw back first;
+      next = i.next;
+      small = omega (arith, i.small, more);
+      halved = halved l.comparisons _ (l.high - l.low) _ (omega (arith, more)) i.halved;
+      few = few l.comparisons (l.high - l.low) _ (omega (arith, more)) i.halved;
+    }
+
+pub loop-low-preserved : goal.loop-low-preserved
+loop-low-preserved c =
+    let l = c.loop-low in
+    let i = l.invariant in
+    let more = c.loop-low-test.true in
+    record {
+      within = omega (arith, more);
+      end = omega (arith, i.end, more);
+      from = i.from;
+      next = λ _. rw (sym c.at.ensures) c.if-runs-at.false;
+      small = omega (arith, i.small, more);
+      halved = halved l.comparisons _ (l.high - l.low) _ (omega (arith, more)) i.halved;
+      few = few l.comparisons (l.high - l.low) _ (omega (arith, more)) i.halved;
+    }

@@ -1,0 +1,59 @@
+use Rattle.std.proofs.Common.{◌≡◌, ℕ, ◌<◌, List, get_or, length, replicate, refl, sym, ap, subst, ◌∙◌, arith}
+use Rattle.std.proofs.lemmas.List.{length-set}
+use Rattle.dm_stack.specs.Description.{Description}
+use Rattle.dm_stack.specs.Loaded.{snapshots}
+use Rattle.std.specs.Prelude.{nat_lt}
+use Rattle.dm_map.specs.state.State.{none_taken}
+use Rattle.dm_map.specs.state.Tables.{has_room}
+use Rattle.dm_map.proofs.state.TableLemmas.{first_rooms, next_rooms, snapshot_there, state_new}
+use Rattle.dm_map.proofs.state.tables.empty_tables.Goals as goal
+
+pub loop-next-init : goal.loop-next-init
+loop-next-init g c =
+    let stack = c.args.looker.now.stack in let made = c.in_ok-tables.ensures in
+    let count : length c.in_ok-tables.tables.items ≡ length stack.devices = made.count ∙ c.device_count.ensures in
+    record {
+      count = count;
+      room = first_rooms g.T.Taken.places stack c.in_ok-tables.tables.items count made.places;
+      state = made.state ∙ ap (λ (n : ℕ). replicate n none_taken) c.device_count.ensures;
+      same = refl;
+      looked = omega arith;
+    }
+
+-- the snapshot that is looked up next
+record IsNext (stack : Description) (next device : ℕ) : Type 0 where
+  within : next < length (snapshots stack)
+  is : device ≡ get_or (snapshots stack) next device
+  there : device < length stack.devices
+
+next_snapshot : (stack seen : Description) (ids counted : List ℕ) (next device : ℕ) → seen ≡ stack → ids ≡ snapshots seen → counted ≡ snapshots stack → next < length counted → device ≡ get_or ids next device → IsNext stack next device
+next_snapshot stack seen ids counted next device same ids_are counted_are before is_in =
+    let within : next < length (snapshots stack) = subst (λ (xs : List ℕ). next < length xs) counted_are before in
+    let is : device ≡ get_or (snapshots stack) next device = is_in ∙ ap (λ (xs : List ℕ). get_or xs next device) (ids_are ∙ ap snapshots same) in
+    record { within = within; is = is; there = subst (λ (x : ℕ). x < length stack.devices) (sym is) (snapshot_there stack next device within) }
+
+pub places_of-requires : goal.places_of-requires
+places_of-requires g c =
+    let l = c.loop-next in
+    let it = next_snapshot c.args.looker.now.stack l.looker.stack c.snapshots.result.now c.snapshots-count.result.now l.next c.index-snapshots-next.result l.invariant.same c.snapshots.ensures.ids c.snapshots-count.ensures.ids c.loop-next-test.true c.index-snapshots-next.is in
+    subst (λ (s : Description). c.index-snapshots-next.result < length s.devices) (sym l.invariant.same) it.there
+
+pub index_mut-requires : goal.index_mut-requires
+index_mut-requires g c =
+    let l = c.loop-next in
+    let it = next_snapshot c.args.looker.now.stack l.looker.stack c.snapshots.result.now c.snapshots-count.result.now l.next c.index-snapshots-next.result l.invariant.same c.snapshots.ensures.ids c.snapshots-count.ensures.ids c.loop-next-test.true c.index-snapshots-next.is in
+    omega (arith, it.there, l.invariant.count, c.index.ensures)
+
+pub loop-next-preserved : goal.loop-next-preserved
+loop-next-preserved g c =
+    let stack = c.args.looker.now.stack in let l = c.loop-next in let d = c.index-snapshots-next.result in let table = c.in_ok-table.table in let made = c.in_ok-table.ensures in
+    let it = next_snapshot stack l.looker.stack c.snapshots.result.now c.snapshots-count.result.now l.next d l.invariant.same c.snapshots.ensures.ids c.snapshots-count.ensures.ids c.loop-next-test.true c.index-snapshots-next.is in
+    let room : (number : ℕ) → nat_lt number (g.T.Taken.places table) ≡ has_room stack d number = λ number.
+    ap (λ (n : ℕ). nat_lt number n) made.places ∙ c.places_of.ensures.places number ∙ ap (λ (s : Description). has_room s d number) l.invariant.same in
+    record {
+      count = length-set l.tables.items c.index.result table ∙ l.invariant.count;
+      room = next_rooms g.T.Taken.places stack l.tables.items l.next d c.index.result table it.within it.is c.index.ensures room l.invariant.room;
+      state = state_new g.T.Taken.chunks g.T.Taken.valid l.tables.items c.index.result (length stack.devices) table (omega (arith, it.there, c.index.ensures)) l.invariant.state made.chunks made.valid;
+      same = c.places_of.ensures.stack ∙ l.invariant.same;
+      looked = omega (arith, c.places_of.ensures.one, l.invariant.looked);
+    }

@@ -1,0 +1,16 @@
+use Rattle.std.proofs.Common.{◌≡◌, ℕ, ◌+◌, ◌≤◌, Some, false, drop, length, nat_eq}
+use Rattle.std.specs.List.{list_any}
+use Rattle.std.specs.Prelude.{nat_lt, slice_get}
+use Rattle.dm_stack.specs.Loaded.{snapshots}
+use Rattle.dm_map.specs.state.State.{start_state}
+use Rattle.dm_map.specs.state.Tables.{has_room, state_of}
+use Rattle.dm_map.proofs.state.tables.empty_tables.Given as goal
+
+abbrev pub invariant-loop-next : goal.invariant-loop-next
+invariant-loop-next g l = record {
+  count : length l.tables.items ≡ length l.fn.looker.stack.devices;
+  room : (device number : ℕ) (table : g.row.T.Denot) → slice_get l.tables.items device ≡ Some table → list_any (nat_eq device) (drop l.next (snapshots l.fn.looker.stack)) ≡ false → nat_lt number (g.T.Taken.places table) ≡ has_room l.fn.looker.stack device number;
+  state : state_of g.T.Taken.chunks g.T.Taken.valid l.tables.items ≡ start_state l.fn.looker.stack;
+  same : l.looker.stack ≡ l.fn.looker.stack;
+  looked : l.looker.searches ≤ l.fn.looker.searches + l.next;
+}

@@ -1,8 +1,0 @@
-use Rattle.std.proofs.Common.{◌+◌, ◌*◌}
-use Rattle.dm_map.proofs.stretch.+stretch.Given as goal
-
-abbrev pub decreases-first_stretch : goal.decreases-first_stretch
-decreases-first_stretch g l = 2 * l.levels
-
-abbrev pub decreases-line_stretch : goal.decreases-line_stretch
-decreases-line_stretch g l = 2 * l.levels + 1

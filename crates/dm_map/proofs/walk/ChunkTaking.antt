@@ -1,0 +1,109 @@
+-- A chunk that was to be taken is settled, and stays so: the sectors of a chunk are written as one step, or all of them fail.
+use Rattle.std.proofs.Common.{◌≡◌, ℕ, zero, suc, ◌+◌, ◌/◌, ◌<◌, Bool, true, false, cond, not, List, [], ◌∷◌, Option, Some, None, length, refl, ap, ◌∙◌, arith}
+use Rattle.std.specs.Prelude.{◌&&◌, is_some}
+use Rattle.std.proofs.lemmas.Bool.{or_parts, or_right, not-false}
+use Rattle.std.proofs.lemmas.List.{get_or-set_same, get_or-set_other}
+use Rattle.dm_stack.specs.declared.found_line.FoundSnapshot.{FoundSnapshot}
+use Rattle.dm_stack.specs.Description.{Description}
+use Rattle.dm_map.specs.state.Snapshots.{number_in, has_place}
+use Rattle.dm_map.specs.state.State.{put, with_chunk, lost, Taken, State, none_taken, taken_at}
+use Rattle.dm_map.specs.walk.SnapshotWrites.{is_keeping, is_refused, is_settled, take_chunk, row, unit_in_store, write_snapshot, copies, first_of, count_of, can_take}
+use Rattle.dm_map.specs.walk.Steps.{Step, keep, and_then, steps}
+use Rattle.dm_map.specs.pieces.Units.{BlockUnit, Fails, units_in}
+use Rattle.dm_map.proofs.state.Numbers.{number_new}
+use Rattle.dm_map.proofs.walk.Rows.{and_then_at, step_assoc, steps_still}
+
+pub taken_same : (state : State) (device : ℕ) (taken : Taken) → device < length state → taken_at (put state device taken) device ≡ taken
+taken_same state device taken there = get_or-set_same state device taken none_taken there
+
+pub taken_other : (state : State) (device other : ℕ) (taken : Taken) → (other ≡ device → ⊥) → taken_at (put state device taken) other ≡ taken_at state other
+taken_other state device other taken differ = get_or-set_other state device other taken none_taken differ
+
+-- What becomes of a chunk that is to be taken: nothing if it is settled, else it is taken, or its snapshot is lost
+
+pub data ChunkOutcome (state : State) (device chunk : ℕ) (step : Step) : Type 0 where
+  Settled : is_settled (taken_at state device) chunk ≡ true → step ≡ keep [] state → ChunkOutcome state device chunk step
+  Took : (taken_at state device).valid ≡ true → number_in chunk (taken_at state device).chunks ≡ None → (units : List BlockUnit) → step ≡ keep units (put state device (with_chunk (taken_at state device) chunk)) → ChunkOutcome state device chunk step
+  Lost : step ≡ keep [] (put state device (lost (taken_at state device))) → ChunkOutcome state device chunk step
+
+pub none_of : (o : Option ℕ) → is_some o ≡ false → o ≡ None
+none_of None e = refl
+none_of (Some i) e = absurd cc
+
+chunk_outcome_by : (state : State) (device chunk : ℕ) (settled can : Bool) (units : List BlockUnit) → is_settled (taken_at state device) chunk ≡ settled
+    → ChunkOutcome state device chunk (cond settled (keep [] state) (cond can (keep units (put state device (with_chunk (taken_at state device) chunk))) (keep [] (put state device (lost (taken_at state device))))))
+chunk_outcome_by state device chunk true can units is = Settled is refl
+chunk_outcome_by state device chunk false true units is =
+    let parts = or_parts (not (taken_at state device).valid) (is_some (number_in chunk (taken_at state device).chunks)) is in
+    Took (not-false (taken_at state device).valid parts.0) (none_of _ parts.1) units refl
+chunk_outcome_by state device chunk false false units is = Lost refl
+
+pub chunk_outcome : (stack : Description) (snapshot : FoundSnapshot) (device chunk : ℕ) (state : State) → ChunkOutcome state device chunk (take_chunk stack snapshot device chunk state)
+chunk_outcome stack snapshot device chunk state =
+    let number = length (taken_at state device).chunks in let first = first_of snapshot chunk in let count = count_of stack snapshot device chunk in
+    chunk_outcome_by state device chunk (is_settled (taken_at state device) chunk) (can_take stack state snapshot device first count) (copies stack state snapshot number first count) refl
+
+pub take_chunk_again : (stack : Description) (snapshot : FoundSnapshot) (device chunk : ℕ) (state : State) → is_settled (taken_at state device) chunk ≡ true → take_chunk stack snapshot device chunk state ≡ keep [] state
+take_chunk_again stack snapshot device chunk state settled = rw settled refl
+
+-- After that it is settled
+
+new_settled : (taken : Taken) (chunk : ℕ) → number_in chunk taken.chunks ≡ None → is_settled (with_chunk taken chunk) chunk ≡ true
+new_settled taken chunk fresh = or_right (not taken.valid) _ (rw (number_new chunk taken.chunks fresh) refl)
+
+pub take_chunk_settles : (state : State) (device chunk : ℕ) (step : Step) → device < length state → ChunkOutcome state device chunk step → is_settled (taken_at step.state device) chunk ≡ true
+take_chunk_settles state device chunk step there (Settled done is) = rw is done
+take_chunk_settles state device chunk step there (Took valid fresh units is) = rw (is, taken_same state device (with_chunk (taken_at state device) chunk) there) (new_settled (taken_at state device) chunk fresh)
+take_chunk_settles state device chunk step there (Lost is) = rw (is, taken_same state device (lost (taken_at state device)) there) refl
+
+-- The write of a sector
+
+-- by its chunk, and whether that is refused
+abbrev write_by : Bool → Description → FoundSnapshot → (device chunk : ℕ) → State → (sector : ℕ) → Step
+write_by refused stack snapshot device chunk state sector = cond refused (keep (Fails ∷ []) state) (and_then (take_chunk stack snapshot device chunk state) (λ after. keep (unit_in_store stack snapshot device after sector ∷ []) after))
+
+pub write_is : (refused : Bool) (stack : Description) (snapshot : FoundSnapshot) (device chunk : ℕ) (state : State) (sector : ℕ) → sector / snapshot.chunk ≡ chunk → is_refused stack snapshot (taken_at state device) chunk ≡ refused
+    → write_snapshot stack snapshot device state sector ≡ write_by refused stack snapshot device chunk state sector
+write_is refused stack snapshot device chunk state sector here is =
+    ap (λ (c : ℕ). write_by (is_refused stack snapshot (taken_at state device) c) stack snapshot device c state sector) here ∙ ap (λ (b : Bool). write_by b stack snapshot device chunk state sector) is
+
+passes : (keeping placed settled : Bool) → settled ≡ true → (keeping && (not placed && not settled)) ≡ false
+passes true true settled is = refl
+passes true false settled is = rw is refl
+passes false placed settled is = refl
+
+-- a chunk for which nothing is left to do is not refused
+pub settled_passes : (stack : Description) (snapshot : FoundSnapshot) (taken : Taken) (chunk : ℕ) → is_settled taken chunk ≡ true → is_refused stack snapshot taken chunk ≡ false
+settled_passes stack snapshot taken chunk settled = passes (is_keeping snapshot.kind) (has_place stack snapshot (length taken.chunks)) (is_settled taken chunk) settled
+
+-- The sectors of a chunk: it is taken once, or each of them fails
+
+settled_part : (stack : Description) (snapshot : FoundSnapshot) (device chunk sector n : ℕ) (state : State) → is_settled (taken_at state device) chunk ≡ true → ((i : ℕ) → i < n → (sector + i) / snapshot.chunk ≡ chunk)
+    → steps (write_snapshot stack snapshot device) state sector n ≡ keep (row (unit_in_store stack snapshot device state) sector n) state
+settled_part stack snapshot device chunk sector zero state settled each = refl
+settled_part stack snapshot device chunk sector (suc n) state settled each =
+    let here : sector / snapshot.chunk ≡ chunk = ap (λ (s : ℕ). s / snapshot.chunk) (let e : sector ≡ sector + 0 = omega arith in e) ∙ each 0 (omega arith) in
+    let first : write_snapshot stack snapshot device state sector ≡ keep (unit_in_store stack snapshot device state sector ∷ []) state =
+    write_is false stack snapshot device chunk state sector here (settled_passes stack snapshot (taken_at state device) chunk settled)
+    ∙ ap (λ (step : Step). and_then step (λ after. keep (unit_in_store stack snapshot device after sector ∷ []) after)) (take_chunk_again stack snapshot device chunk state settled) in
+    ap (λ (step : Step). and_then step (λ after. steps (write_snapshot stack snapshot device) after (suc sector) n)) first
+    ∙ ap (λ (rest : Step). record { units = unit_in_store stack snapshot device state sector ∷ rest.units; state = rest.state })
+    (settled_part stack snapshot device chunk (suc sector) n state settled (λ i within. ap (λ (s : ℕ). s / snapshot.chunk) (let e : suc sector + i ≡ sector + suc i = omega arith in e) ∙ each (suc i) (omega (arith, within))))
+
+pub chunk_part : (stack : Description) (snapshot : FoundSnapshot) (device chunk sector n : ℕ) (state : State) → is_refused stack snapshot (taken_at state device) chunk ≡ false → device < length state → ((i : ℕ) → i < suc n → (sector + i) / snapshot.chunk ≡ chunk)
+    → steps (write_snapshot stack snapshot device) state sector (suc n) ≡ and_then (take_chunk stack snapshot device chunk state) (λ after. keep (row (unit_in_store stack snapshot device after) sector (suc n)) after)
+chunk_part stack snapshot device chunk sector n state passes there each =
+    let here : sector / snapshot.chunk ≡ chunk = ap (λ (s : ℕ). s / snapshot.chunk) (let e : sector ≡ sector + 0 = omega arith in e) ∙ each 0 (omega arith) in
+    let made = take_chunk stack snapshot device chunk state in
+    let settled = take_chunk_settles state device chunk made there (chunk_outcome stack snapshot device chunk state) in
+    ap (λ (step : Step). and_then step (λ after. steps (write_snapshot stack snapshot device) after (suc sector) n)) (write_is false stack snapshot device chunk state sector here passes)
+    ∙ step_assoc made (λ after. keep (unit_in_store stack snapshot device after sector ∷ []) after) (λ after. steps (write_snapshot stack snapshot device) after (suc sector) n)
+    ∙ and_then_at made (λ after. and_then (keep (unit_in_store stack snapshot device after sector ∷ []) after) (λ later. steps (write_snapshot stack snapshot device) later (suc sector) n)) (λ after. keep (row (unit_in_store stack snapshot device after) sector (suc n)) after)
+    (ap (λ (rest : Step). record { units = unit_in_store stack snapshot device made.state sector ∷ rest.units; state = rest.state })
+    (settled_part stack snapshot device chunk (suc sector) n made.state settled (λ i within. ap (λ (s : ℕ). s / snapshot.chunk) (let e : suc sector + i ≡ sector + suc i = omega arith in e) ∙ each (suc i) (omega (arith, within)))))
+
+-- what is refused changes nothing, so that the next sector is refused too
+pub refused_part : (stack : Description) (snapshot : FoundSnapshot) (device chunk sector n : ℕ) (state : State) → is_refused stack snapshot (taken_at state device) chunk ≡ true → ((i : ℕ) → i < n → (sector + i) / snapshot.chunk ≡ chunk)
+    → steps (write_snapshot stack snapshot device) state sector n ≡ keep (units_in Fails n) state
+refused_part stack snapshot device chunk sector n state refused each =
+    steps_still (write_snapshot stack snapshot device) state sector n Fails refl (λ i within. write_is true stack snapshot device chunk state (sector + i) (each i within) refused)

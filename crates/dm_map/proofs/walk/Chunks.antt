@@ -1,0 +1,178 @@
+-- The sectors of one chunk of a snapshot: where they are read, and that they are written there once the chunk is settled.
+use Rattle.std.proofs.Common.{◌≡◌, ℕ, zero, suc, ◌+◌, ◌-◌, ◌*◌, ◌/◌, ◌%◌, ◌<◌, ◌≤◌, Bool, true, false, cond, not, List, [], ◌∷◌, ◌++◌, Option, Some, None, length, append_assoc, refl, sym, ap, subst, ◌∙◌, arith}
+use Rattle.std.specs.Prelude.{◌||◌, is_some, min}
+use Rattle.std.proofs.lemmas.Bool.{leb-true}
+use Rattle.std.proofs.lemmas.List.{length-set}
+use Rattle.std.proofs.lemmas.Nat.{div-add-mod'}
+use Rattle.dm_table.specs.declared.request.Op.TheVariants as ops
+use Rattle.dm_stack.specs.declared.id.Lower.{Lower}
+use Rattle.dm_stack.specs.declared.found_line.FoundSnapshot.{FoundSnapshot}
+use Rattle.dm_stack.specs.declared.found_line.FoundLine.{FoundLine}
+use Rattle.dm_stack.specs.declared.found_line.FoundTarget.{FoundTarget}
+use Rattle.dm_stack.specs.declared.found_line.FoundTarget.TheVariants.{Snapshot}
+use Rattle.dm_stack.specs.Below.{Below, Lies, IsError, found_at, IsSnapshotSound, IsTargetSound}
+use Rattle.dm_stack.specs.Description.{Description, device_len, lower_len}
+use Rattle.dm_stack.specs.StoreLayout.{place}
+use Rattle.dm_map.specs.declared.walk.chunk.ReadAt.{ReadAt}
+use Rattle.dm_map.specs.walk.Homes.{home}
+use Rattle.dm_map.specs.walk.Reads.{by_below, read_unit}
+use Rattle.dm_map.specs.state.Snapshots.{number_in, store_sector, read_numbered, read_over}
+use Rattle.dm_map.specs.walk.SnapshotWrites.{is_refused, is_settled, take_chunk, row, store_writes, unit_in_store, write_numbered, write_snapshot, write_to}
+use Rattle.dm_map.specs.state.State.{State, Taken, taken_at}
+use Rattle.dm_map.specs.walk.Steps.{Step, keep, and_then, steps}
+use Rattle.dm_map.specs.state.Tables.{has_room, room_of, snapshot_at}
+use Rattle.dm_map.specs.pieces.Units.{BlockUnit, Zeros, Fails, units_in}
+use Rattle.dm_map.specs.walk.Mapping.{sector_step}
+use Rattle.dm_map.specs.pieces.Sink.{OfBeginning}
+use Rattle.dm_map.specs.walk.Range.{line_step, range_step, target_step}
+use Rattle.dm_map.specs.walk.Chunk.{AreInChunk, AreInSnapshot, AreReadAt}
+use Rattle.dm_map.proofs.walk.ChunkTaking.{ChunkOutcome, chunk_outcome, Settled, Took, Lost, chunk_part, refused_part, write_is}
+use Rattle.dm_map.proofs.walk.Rows.{left_more, steps_read, steps_same, steps_still}
+use Rattle.dm_map.proofs.walk.Stripes.{in_chunk}
+use Rattle.dm_map.proofs.walk.UnitRows.{row_same}
+
+-- A line's sectors as those of a snapshot, and of one chunk
+
+pub in_snapshot : (stack : Description) (device distance len : ℕ) (line : FoundLine) (snapshot : FoundSnapshot) → found_at stack device line.start ≡ Some line → line.target ≡ Snapshot snapshot → IsTargetSound stack device line.start line.len line.target → distance + len ≤ line.len → AreInSnapshot stack device snapshot distance len
+in_snapshot stack device distance len line snapshot found kind target inside =
+    let sound : IsSnapshotSound stack device line.start line.len snapshot = subst (λ (t : FoundTarget). IsTargetSound stack device line.start line.len t) kind target in
+    let first : found_at stack device 0 ≡ Some line = subst (λ (s : ℕ). found_at stack device s ≡ Some line) sound.from found in
+    record {
+      is = rw (first, kind) refl;
+      sound = record { chunk_some = sound.chunk_some; chunk_small = sound.chunk_small; from = refl; whole = refl; origin = sound.origin ∙ sound.whole; store = sound.store };
+      inside = omega (arith, inside, sound.whole);
+    }
+
+pub in_one_chunk : (stack before : Description) (device sector len at left part : ℕ) (snapshot : FoundSnapshot) → AreInSnapshot stack device snapshot sector len → before ≡ stack → at + left ≡ sector + len → part ≡ min left (snapshot.chunk - at % snapshot.chunk) → AreInChunk before device snapshot at part
+in_one_chunk stack before device sector len at left part snapshot lies same position part_is =
+    let some = lies.sound.chunk_some in
+    rw same (record {
+      whole = record { is = lies.is; sound = lies.sound; inside = omega (arith, lies.inside, position, part_is) };
+      part = omega (arith, part_is, some);
+    })
+
+pub chunk_same : (stack before : Description) (device sector len : ℕ) (snapshot : FoundSnapshot) → before ≡ stack → AreInChunk stack device snapshot sector len → AreInChunk before device snapshot sector len
+chunk_same stack before device sector len snapshot same chunk = subst (λ (s : Description). AreInChunk s device snapshot sector len) (sym same) chunk
+
+pub first_inside : (stack : Description) (device sector len : ℕ) (snapshot : FoundSnapshot) → AreInChunk stack device snapshot sector len → 1 ≤ len → sector / snapshot.chunk * snapshot.chunk < device_len stack device
+first_inside stack device sector len snapshot chunk some =
+    let whole : sector / snapshot.chunk * snapshot.chunk + sector % snapshot.chunk ≡ sector = div-add-mod' sector snapshot.chunk in
+    omega (arith, whole, chunk.whole.inside, some)
+
+-- Sectors of one chunk
+
+-- the sectors of a chunk that was taken lie one after the other in its place in the store
+pub kept_on : (snapshot : FoundSnapshot) (number sector i : ℕ) → 0 < snapshot.chunk → sector % snapshot.chunk + i < snapshot.chunk → store_sector snapshot number (sector + i) ≡ store_sector snapshot number sector + i
+kept_on snapshot number sector i some within =
+    let at = (in_chunk snapshot.chunk sector i some (omega (arith, within))).position in omega (arith, at)
+
+pub same_chunk : (snapshot : FoundSnapshot) (sector i : ℕ) → 0 < snapshot.chunk → sector % snapshot.chunk + i < snapshot.chunk → (sector + i) / snapshot.chunk ≡ sector / snapshot.chunk
+same_chunk snapshot sector i some within = (in_chunk snapshot.chunk sector i some (omega (arith, within))).number
+
+-- a place that the store has
+pub room_place : (stack : Description) (device number : ℕ) (snapshot : FoundSnapshot) → snapshot_at stack device ≡ Some snapshot → has_room stack device number ≡ true → (place snapshot.kind snapshot.chunk number + 1) * snapshot.chunk ≤ lower_len stack snapshot.store
+room_place stack device number snapshot is room =
+    leb-true _ _ (subst (λ (o : Option FoundSnapshot). room_of stack o number ≡ true) is room)
+
+-- Reads
+
+over_at : (taken : Taken) (snapshot : FoundSnapshot) (sector chunk : ℕ) (number : Option ℕ) → taken.valid ≡ true → sector / snapshot.chunk ≡ chunk → number_in chunk taken.chunks ≡ number → read_over taken snapshot sector ≡ read_numbered snapshot number sector
+over_at taken snapshot sector chunk number valid same is = rw (valid, same, is) refl
+
+pub read_kept : (stack : Description) (state : State) (device sector len number : ℕ) (snapshot : FoundSnapshot) → AreInChunk stack device snapshot sector len → (taken_at state device).valid ≡ true → number_in (sector / snapshot.chunk) (taken_at state device).chunks ≡ Some number → has_room stack device number ≡ true
+    → AreReadAt stack state device snapshot sector len (record { to = snapshot.store; sector = store_sector snapshot number sector })
+read_kept stack state device sector len number snapshot chunk valid is room =
+    let some = chunk.whole.sound.chunk_some in let fits = room_place stack device number snapshot chunk.whole.is room in
+    let split : (place snapshot.kind snapshot.chunk number + 1) * snapshot.chunk ≡ place snapshot.kind snapshot.chunk number * snapshot.chunk + snapshot.chunk = grind arith in
+    record {
+      lies = λ i within.
+          over_at (taken_at state device) snapshot (sector + i) (sector / snapshot.chunk) (Some number) valid (same_chunk snapshot sector i some (omega (arith, chunk.part, within))) is
+          ∙ ap (Lies snapshot.store) (kept_on snapshot number sector i some (omega (arith, chunk.part, within)));
+      inside = omega (arith, fits, split, chunk.part);
+    }
+
+pub read_origin : (stack : Description) (state : State) (device sector len : ℕ) (snapshot : FoundSnapshot) → AreInChunk stack device snapshot sector len → (taken_at state device).valid ≡ true → number_in (sector / snapshot.chunk) (taken_at state device).chunks ≡ None
+    → AreReadAt stack state device snapshot sector len (record { to = snapshot.origin; sector = sector })
+read_origin stack state device sector len snapshot chunk valid is =
+    record {
+      lies = λ i within. over_at (taken_at state device) snapshot (sector + i) (sector / snapshot.chunk) None valid (same_chunk snapshot sector i chunk.whole.sound.chunk_some (omega (arith, chunk.part, within))) is;
+      inside = omega (arith, chunk.whole.inside, chunk.whole.sound.origin);
+    }
+
+pub chunk_read : (stack : Description) (levels device sector n len : ℕ) (snapshot : FoundSnapshot) (state : State) (source : ReadAt) → AreReadAt stack state device snapshot sector len source → n ≤ len → line_step stack ops.Read levels device (Snapshot snapshot) state sector n ≡ range_step stack ops.Read levels source.to state source.sector n
+chunk_read stack levels device sector n len snapshot state source at few =
+    steps_read (target_step stack ops.Read levels device (Snapshot snapshot)) (sector_step stack ops.Read levels source.to) state sector source.sector n
+    (λ i within. ap (λ (b : Below). keep (by_below b Zeros Fails (λ to s. read_unit stack state levels to s) ∷ []) state) (at.lies i (omega (arith, within, few)))) (λ i within. refl)
+
+pub lost_read : (stack : Description) (levels device sector n : ℕ) (snapshot : FoundSnapshot) (state : State) → (taken_at state device).valid ≡ false → line_step stack ops.Read levels device (Snapshot snapshot) state sector n ≡ keep (units_in Fails n) state
+lost_read stack levels device sector n snapshot state off =
+    steps_still (target_step stack ops.Read levels device (Snapshot snapshot)) state sector n Fails refl (λ i within. rw off refl)
+
+-- Writes
+
+pub write_line_step : (stack : Description) (levels device sector n : ℕ) (snapshot : FoundSnapshot) (state : State) → steps (write_snapshot stack snapshot device) state sector n ≡ line_step stack ops.Write levels device (Snapshot snapshot) state sector n
+write_line_step stack levels device sector n snapshot state = steps_same (write_snapshot stack snapshot device) (target_step stack ops.Write levels device (Snapshot snapshot)) state sector sector n (λ after i within. refl)
+
+-- once a chunk is settled, what reads a sector somewhere keeps it there
+pub record IsKept (stack : Description) (snapshot : FoundSnapshot) (unit : BlockUnit) (to : Lower) (at : ℕ) : Type 0 where
+  pub store : to ≡ snapshot.store
+  pub written : unit ≡ write_to (home stack to at)
+
+kept_by : (stack : Description) (snapshot : FoundSnapshot) (sector : ℕ) (valid : Bool) (number : Option ℕ) (to : Lower) (at : ℕ) → (not valid || is_some number) ≡ true → cond valid (read_numbered snapshot number sector) IsError ≡ Lies to at
+    → IsKept stack snapshot (cond valid (write_numbered stack snapshot number sector) Fails) to at
+kept_by stack snapshot sector false number to at settled lies = absurd cc
+kept_by stack snapshot sector true None to at settled lies = absurd cc
+kept_by stack snapshot sector true (Some number) to at settled lies =
+    let store : snapshot.store ≡ to = cc in let position : store_sector snapshot number sector ≡ at = cc in
+    record { store = sym store; written = rw (sym store, sym position) refl }
+
+pub kept : (stack : Description) (snapshot : FoundSnapshot) (device sector : ℕ) (state : State) (to : Lower) (at : ℕ) → is_settled (taken_at state device) (sector / snapshot.chunk) ≡ true → read_over (taken_at state device) snapshot sector ≡ Lies to at → IsKept stack snapshot (unit_in_store stack snapshot device state sector) to at
+kept stack snapshot device sector state to at settled lies =
+    kept_by stack snapshot sector (taken_at state device).valid (number_in (sector / snapshot.chunk) (taken_at state device).chunks) to at settled lies
+
+-- all sectors of the chunk
+pub row_kept : (stack : Description) (snapshot : FoundSnapshot) (device sector len : ℕ) (state : State) (source : ReadAt) → AreInChunk stack device snapshot sector len → is_settled (taken_at state device) (sector / snapshot.chunk) ≡ true → AreReadAt stack state device snapshot sector len source
+    → row (unit_in_store stack snapshot device state) sector len ≡ store_writes stack source.to source.sector len
+row_kept stack snapshot device sector len state source chunk settled at =
+    row_same (unit_in_store stack snapshot device state) (λ s. write_to (home stack source.to s)) sector source.sector len
+    (λ i within. (kept stack snapshot device (sector + i) state source.to (source.sector + i)
+    (subst (λ (c : ℕ). is_settled (taken_at state device) c ≡ true) (sym (same_chunk snapshot sector i chunk.whole.sound.chunk_some (omega (arith, chunk.part, within)))) settled) (at.lies i within)).written)
+
+pub row_lost : (stack : Description) (snapshot : FoundSnapshot) (device sector len : ℕ) (state : State) → (taken_at state device).valid ≡ false → row (unit_in_store stack snapshot device state) sector len ≡ units_in Fails len
+row_lost stack snapshot device sector zero state off = refl
+row_lost stack snapshot device sector (suc len) state off =
+    let here : unit_in_store stack snapshot device state sector ≡ Fails = rw off refl in
+    ap (λ (unit : BlockUnit). unit ∷ row (unit_in_store stack snapshot device state) (suc sector) len) here ∙ ap (λ (rest : List BlockUnit). Fails ∷ rest) (row_lost stack snapshot device (suc sector) len state off)
+
+-- taking a chunk leaves as many tables
+len_readied : (state : State) (device chunk : ℕ) (step : Step) → ChunkOutcome state device chunk step → length step.state ≡ length state
+len_readied state device chunk step (Settled settled is) = rw is refl
+len_readied state device chunk step (Took valid fresh units is) = rw is (length-set state device _)
+len_readied state device chunk step (Lost is) = rw is (length-set state device _)
+
+pub take_chunk_there : (stack : Description) (snapshot : FoundSnapshot) (device chunk : ℕ) (state : State) → device < length (take_chunk stack snapshot device chunk state).state → device < length state
+take_chunk_there stack snapshot device chunk state there =
+    let same = len_readied state device chunk (take_chunk stack snapshot device chunk state) (chunk_outcome stack snapshot device chunk state) in omega (arith, there, same)
+
+-- the write of sectors of a chunk that is not refused: it is taken, and they are written
+pub chunk_written : (stack : Description) (snapshot : FoundSnapshot) (device sector len : ℕ) (state : State) → AreInChunk stack device snapshot sector len → 1 ≤ len → device < length state → is_refused stack snapshot (taken_at state device) (sector / snapshot.chunk) ≡ false
+    → and_then (take_chunk stack snapshot device (sector / snapshot.chunk) state) (λ after. keep (row (unit_in_store stack snapshot device after) sector len) after) ≡ steps (write_snapshot stack snapshot device) state sector len
+chunk_written stack snapshot device sector zero state chunk some there passes = absurd (omega (arith, some))
+chunk_written stack snapshot device sector (suc n) state chunk some there passes =
+    sym (chunk_part stack snapshot device (sector / snapshot.chunk) sector n state passes there (λ i within. same_chunk snapshot sector i chunk.whole.sound.chunk_some (omega (arith, chunk.part, within))))
+
+-- its units begin with those of taking the chunk
+pub left_taking : {S : Type 0} (left : S → List BlockUnit → S → Type 0) (old new : S) (stack : Description) (snapshot : FoundSnapshot) (device sector len : ℕ) (state : State) → 1 ≤ len → is_refused stack snapshot (taken_at state device) (sector / snapshot.chunk) ≡ false
+    → OfBeginning left old (take_chunk stack snapshot device (sector / snapshot.chunk) state).units new → OfBeginning left old (steps (write_snapshot stack snapshot device) state sector len).units new
+left_taking left old new stack snapshot device sector zero state some passes cut = absurd (omega (arith, some))
+left_taking left old new stack snapshot device sector (suc n) state some passes cut =
+    let made = take_chunk stack snapshot device (sector / snapshot.chunk) state in
+    let unit = unit_in_store stack snapshot device made.state sector ∷ [] in
+    left_more left old new made.units (unit ++ (steps (write_snapshot stack snapshot device) made.state (suc sector) n).units) _
+    (sym (append_assoc made.units unit _) ∙ ap (λ (step : Step). (and_then step (λ after. steps (write_snapshot stack snapshot device) after (suc sector) n)).units) (sym (write_is false stack snapshot device (sector / snapshot.chunk) state sector refl passes))) cut
+
+-- and where it is refused, they fail
+pub chunk_refused : (stack : Description) (snapshot : FoundSnapshot) (device sector len : ℕ) (state : State) → AreInChunk stack device snapshot sector len → is_refused stack snapshot (taken_at state device) (sector / snapshot.chunk) ≡ true
+    → keep (units_in Fails len) state ≡ steps (write_snapshot stack snapshot device) state sector len
+chunk_refused stack snapshot device sector len state chunk refused =
+    sym (refused_part stack snapshot device (sector / snapshot.chunk) sector len state refused (λ i within. same_chunk snapshot sector i chunk.whole.sound.chunk_some (omega (arith, chunk.part, within))))

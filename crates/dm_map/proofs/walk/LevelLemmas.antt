@@ -1,0 +1,248 @@
+-- Where the levels are at least a device's depth, their number plays no part.
+use Rattle.std.proofs.Common.{◌≡◌, ℕ, zero, suc, ◌+◌, ◌-◌, ◌/◌, ◌<◌, ◌≤◌, Bool, true, false, cond, List, [], ◌∷◌, Option, Some, None, length, map, refl, ap, subst, ◌∙◌, arith}
+use Rattle.std.specs.Prelude.{option_map, slice_get, nat_lt}
+use Rattle.std.specs.List.{AllByRecursion, flat_map}
+use Rattle.std.proofs.lemmas.Bool.{ltb-false}
+use Rattle.std.proofs.lemmas.Option.{get_or_from_slice_get, slice_get-map}
+use Rattle.dm_table.specs.declared.table.DevRef.{DevRef}
+use Rattle.dm_table.specs.declared.table.DevRef.TheVariants as refs
+use Rattle.dm_table.specs.declared.table.Column.{Column}
+use Rattle.dm_table.specs.declared.table.Target.{Target}
+use Rattle.dm_table.specs.declared.table.Target.TheVariants as targets
+use Rattle.dm_table.specs.declared.table.Use.TheVariants.{Reading}
+use Rattle.dm_table.specs.declared.table.Line.{Line}
+use Rattle.dm_table.specs.declared.table.DeviceSpec.{DeviceSpec}
+use Rattle.dm_table.specs.declared.load_fault.LoadKind.{LoadKind}
+use Rattle.dm_table.specs.declared.load_fault.LoadFault.{LoadFault}
+use Rattle.dm_table.specs.declared.request.Op.TheVariants as ops
+use Rattle.dm_stack.specs.declared.id.Lower.{Lower}
+use Rattle.dm_stack.specs.declared.id.Lower.TheVariants.{Device, Disk}
+use Rattle.dm_stack.specs.declared.graph.TheConstants.{MOST_DEPTH}
+use Rattle.dm_stack.specs.declared.found_line.FoundColumn.{FoundColumn}
+use Rattle.dm_stack.specs.declared.found_line.FoundLine.{FoundLine}
+use Rattle.dm_stack.specs.declared.found_line.FoundTarget.{FoundTarget}
+use Rattle.dm_stack.specs.declared.found_line.FoundTarget.TheVariants as founds
+use Rattle.dm_stack.specs.Description.{Description, is_ro_at, lower_of, ref_link, line_links, device_links, links, lines_or_none}
+use Rattle.dm_table.specs.Span.{Span, column_span, target_spans, whole_span}
+use Rattle.dm_stack.specs.Graph.{links_of, greatest, depth_to}
+use Rattle.dm_stack.specs.declared.found_line.FoundSnapshot.{FoundSnapshot}
+use Rattle.dm_stack.specs.Below.{Below, Lies, IsZero, IsError, below, below_line, below_stripes, below_target, below_column, column_of, in_column, found_line, found_target, found_columns, found_at, holds, line_of}
+use Rattle.dm_stack.specs.Over.{found_snapshot}
+use Rattle.dm_stack.specs.Soundness.{IsSound, faults_by_id, depth_of}
+use Rattle.dm_stack.proofs.Passes.{all_parts, passes_all}
+use Rattle.dm_stack.proofs.SoundLines.{found}
+use Rattle.dm_map.specs.pieces.Units.{BlockUnit, Zeros, Drops, Fails}
+use Rattle.dm_map.specs.walk.Serving.{serve}
+use Rattle.dm_map.specs.state.Snapshots.{number_in, read_numbered, read_over}
+use Rattle.dm_map.specs.state.State.{State, Taken, taken_at}
+use Rattle.dm_map.specs.walk.Steps.{Step, keep}
+use Rattle.dm_map.specs.walk.Reads.{by_below, read_below, read_unit}
+use Rattle.dm_map.specs.walk.Homes.{AreHomesFreeOfLevels, home_to, nowhere}
+use Rattle.dm_map.specs.walk.Mapping.{write_line, write_target, write_step, IsFreeOfLevels}
+use Rattle.dm_map.proofs.walk.Rows.{and_then_at}
+use Rattle.dm_map.proofs.walk.Stripes.{at_index}
+
+-- What lies below a device is among what it names
+
+unfoldable pub OnLower : (ℕ → Type 0) → Lower → Type 0
+OnLower P (Device device) = P device
+OnLower P (Disk disk) = Unit {0}
+
+unfoldable pub OnBelow : (ℕ → Type 0) → Below → Type 0
+OnBelow P (Lies to sector) = OnLower P to
+OnBelow P IsZero = Unit {0}
+OnBelow P IsError = Unit {0}
+
+on_ref : (stack : Description) (P : ℕ → Type 0) (to : DevRef) → AllByRecursion P (ref_link stack to) → OnLower P (lower_of stack to)
+unfolding OnLower
+on_ref stack P (refs.Device name) each = each.0
+on_ref stack P (refs.Disk name) each = tt
+
+abbrev span_links : Description → List Span → List ℕ
+span_links stack spans = flat_map (λ span. ref_link stack span.to) spans
+
+on_columns : (stack : Description) (P : ℕ → Type 0) (share : ℕ) (columns : List Column) → AllByRecursion P (span_links stack (map (column_span share) columns)) → AllByRecursion (λ column. OnLower P column.to) (found_columns stack columns)
+on_columns stack P share [] each = tt
+on_columns stack P share (column ∷ columns) each =
+    let parts = all_parts P (ref_link stack column.to) (span_links stack (map (column_span share) columns)) each in
+    (on_ref stack P column.to parts.0, on_columns stack P share columns parts.1)
+
+on_column : (P : ℕ → Type 0) (columns : List FoundColumn) (i sector : ℕ) (found : Option FoundColumn) → AllByRecursion (λ column. OnLower P column.to) columns → slice_get columns i ≡ found → OnBelow P (below_column found sector)
+unfolding OnBelow
+on_column P columns i sector None each e = tt
+on_column P columns i sector (Some column) each e = at_index (λ c. OnLower P c.to) columns i column each e
+
+-- a snapshot goes on in its store or its origin, where it goes on
+unfoldable pub GoesOn : (over : FoundSnapshot → ℕ → Below) (P : ℕ → Type 0) → Type 0
+GoesOn over P = (snapshot : FoundSnapshot) (sector : ℕ) → OnLower P snapshot.store → OnLower P snapshot.origin → OnBelow P (over snapshot sector)
+
+over_by : (P : ℕ → Type 0) (snapshot : FoundSnapshot) (sector : ℕ) (valid : Bool) (number : Option ℕ) → OnLower P snapshot.store → OnLower P snapshot.origin → OnBelow P (cond valid (read_numbered snapshot number sector) IsError)
+unfolding OnBelow
+over_by P snapshot sector false number store origin = tt
+over_by P snapshot sector true None store origin = origin
+over_by P snapshot sector true (Some number) store origin = store
+
+pub over_read : (P : ℕ → Type 0) (taken : Taken) → GoesOn (read_over taken) P
+unfolding GoesOn
+over_read P taken snapshot sector store origin = over_by P snapshot sector taken.valid (number_in (sector / snapshot.chunk) taken.chunks) store origin
+
+pub on_target : (over : FoundSnapshot → ℕ → Below) (stack : Description) (P : ℕ → Type 0) (len : ℕ) (target : Target) (distance : ℕ) → GoesOn over P → AllByRecursion P (span_links stack (target_spans len target)) → OnBelow P (below_target over (found_target stack target) distance)
+unfolding OnBelow GoesOn
+on_target over stack P len (targets.Linear to offset) distance on each = on_ref stack P to (all_parts P (ref_link stack to) [] each).0
+on_target over stack P len (targets.Striped chunk columns) distance on each =
+    on_column P (found_columns stack columns) (column_of chunk (length (found_columns stack columns)) distance) (in_column chunk (length (found_columns stack columns)) distance) _ (on_columns stack P (len / length columns) columns each) refl
+on_target over stack P len targets.Zero distance on each = tt
+on_target over stack P len targets.Error distance on each = tt
+on_target over stack P len (targets.Snapshot origin store kind chunk) distance on each =
+    let store_first = all_parts P (ref_link stack store) (span_links stack (whole_span origin Reading ∷ [])) each in
+    on (found_snapshot stack origin store kind chunk) distance (on_ref stack P store store_first.0) (on_ref stack P origin (all_parts P (ref_link stack origin) [] store_first.1).0)
+on_target over stack P len (targets.Origin to) distance on each = on_ref stack P to (all_parts P (ref_link stack to) [] each).0
+
+pub on_lines : (stack : Description) (P : ℕ → Type 0) (lines : List Line) → AllByRecursion P (flat_map (line_links stack) lines) → AllByRecursion (λ line. AllByRecursion P (line_links stack line)) lines
+on_lines stack P [] each = tt
+on_lines stack P (line ∷ lines) each =
+    let parts = all_parts P (line_links stack line) (flat_map (line_links stack) lines) each in
+    (parts.0, on_lines stack P lines parts.1)
+
+on_line : (over : FoundSnapshot → ℕ → Below) (stack : Description) (P : ℕ → Type 0) (lines : List Line) (sector : ℕ) (line : Option Line) → GoesOn over P → AllByRecursion (λ l. AllByRecursion P (line_links stack l)) lines → line_of lines sector ≡ line → OnBelow P (below_line over (option_map (found_line stack) line) sector)
+unfolding OnBelow
+on_line over stack P lines sector None on each e = tt
+on_line over stack P lines sector (Some line) on each e =
+    on_target over stack P line.len line.target (sector - line.start) on (found (λ l. AllByRecursion P (line_links stack l)) (holds sector) lines line each e).1
+
+on_device : (over : FoundSnapshot → ℕ → Below) (stack : Description) (P : ℕ → Type 0) (device sector : ℕ) (spec : Option DeviceSpec) → GoesOn over P → slice_get stack.devices device ≡ spec → AllByRecursion P (links_of (links stack) device) → OnBelow P (below_line over (option_map (found_line stack) (line_of (lines_or_none spec) sector)) sector)
+unfolding OnBelow
+on_device over stack P device sector None on e each = tt
+on_device over stack P device sector (Some spec) on e each =
+    let is : slice_get (links stack) device ≡ Some (device_links stack spec) = slice_get-map (device_links stack) stack.devices device ∙ ap (option_map (device_links stack)) e in
+    let named : links_of (links stack) device ≡ device_links stack spec = get_or_from_slice_get (links stack) device (device_links stack spec) [] is in
+    on_line over stack P spec.lines sector (line_of spec.lines sector) on (on_lines stack P spec.lines (subst (AllByRecursion P) named each)) refl
+
+pub on_below : (over : FoundSnapshot → ℕ → Below) (stack : Description) (P : ℕ → Type 0) (device sector : ℕ) → GoesOn over P → AllByRecursion P (links_of (links stack) device) → OnBelow P (below over stack device sector)
+on_below over stack P device sector on each = on_device over stack P device sector (slice_get stack.devices device) on refl each
+
+-- What a device names is less deep
+
+-- a depth that n levels are enough to see, and that is at most j and k
+pub record IsShallow (g : List (List ℕ)) (n j k device : ℕ) : Type 0 where
+  pub seen : depth_to g n device < n
+  pub first : depth_to g n device ≤ j
+  pub second : depth_to g n device ≤ k
+
+each_shallow : (g : List (List ℕ)) (n j k : ℕ) (xs : List ℕ) → greatest (map (λ e. depth_to g n e) xs) < n → greatest (map (λ e. depth_to g n e) xs) ≤ j → greatest (map (λ e. depth_to g n e) xs) ≤ k → AllByRecursion (IsShallow g n j k) xs
+each_shallow g n j k [] seen first second = tt
+each_shallow g n j k (x ∷ xs) seen first second =
+    (record { seen = omega arith; first = omega arith; second = omega arith }, each_shallow g n j k xs (omega arith) (omega arith) (omega arith))
+
+pub named_shallow : (g : List (List ℕ)) (n j k device : ℕ) → IsShallow g (suc n) (suc j) (suc k) device → AllByRecursion (IsShallow g n j k) (links_of g device)
+unfolding depth_to
+named_shallow g n j k device h =
+    each_shallow g n j k (links_of g device) (omega (arith, h.seen)) (omega (arith, h.first)) (omega (arith, h.second))
+
+some_level : (g : List (List ℕ)) (n k device : ℕ) → depth_to g (suc n) device ≤ zero → ⊥
+unfolding depth_to
+some_level g n k device h = omega (arith, h)
+
+-- The units at two numbers of levels
+
+pub same_below : {X : Type 0} (P : ℕ → Type 0) (b : Below) (zeros fails : X) (f h : Lower → ℕ → X) → OnBelow P b → ((to : Lower) (sector : ℕ) → OnLower P to → f to sector ≡ h to sector) → by_below b zeros fails f ≡ by_below b zeros fails h
+unfolding OnBelow
+same_below P (Lies to sector) zeros fails f h on same = same to sector on
+same_below P IsZero zeros fails f h on same = refl
+same_below P IsError zeros fails f h on same = refl
+
+pub same_read : (stack : Description) (state : State) (n j k : ℕ) (lower : Lower) (sector : ℕ) → OnLower (IsShallow (links stack) n j k) lower → read_unit stack state j lower sector ≡ read_unit stack state k lower sector
+unfolding OnLower read_unit
+same_read stack state n j k (Disk disk) sector h = refl
+same_read stack state zero j k (Device device) sector h = absurd (omega (arith, h.seen))
+same_read stack state (suc n) zero k (Device device) sector h = absurd (some_level (links stack) n k device h.first)
+same_read stack state (suc n) (suc j) zero (Device device) sector h = absurd (some_level (links stack) n j device h.second)
+same_read stack state (suc n) (suc j) (suc k) (Device device) sector h =
+    same_below (IsShallow (links stack) n j k) (read_below stack state device sector) Zeros Fails (λ to s. read_unit stack state j to s) (λ to s. read_unit stack state k to s)
+    (on_below (read_over (taken_at state device)) stack (IsShallow (links stack) n j k) device sector (over_read (IsShallow (links stack) n j k) (taken_at state device)) (named_shallow (links stack) n j k device h)) (λ to s on. same_read stack state n j k to s on)
+
+same_target : (P : ℕ → Type 0) (stack : Description) (state : State) (device : ℕ) (target : FoundTarget) (distance : ℕ) (f h : Lower → State → ℕ → Step) → OnBelow P (below_target (read_over (taken_at state device)) target distance) → ((after : State) (to : Lower) (s : ℕ) → OnLower P to → f to after s ≡ h to after s)
+    → write_target stack state device target distance f ≡ write_target stack state device target distance h
+unfolding OnBelow
+same_target P stack state device (founds.Linear to offset) distance f h on same = same state to (offset + distance) on
+same_target P stack state device (founds.Striped chunk columns) distance f h on same = same_below P (below_stripes chunk columns distance) (keep (Drops ∷ []) state) (keep (Fails ∷ []) state) (λ to s. f to state s) (λ to s. h to state s) on (same state)
+same_target P stack state device founds.Zero distance f h on same = refl
+same_target P stack state device founds.Error distance f h on same = refl
+same_target P stack state device (founds.Snapshot snapshot) distance f h on same = refl
+same_target P stack state device (founds.Origin origin) distance f h on same =
+    let served = serve stack origin.over distance state in
+    and_then_at served (λ after. f origin.to after distance) (λ after. h origin.to after distance) (same served.state origin.to distance on)
+
+pub same_line : (P : ℕ → Type 0) (stack : Description) (state : State) (device : ℕ) (line : Option FoundLine) (sector : ℕ) (f h : Lower → State → ℕ → Step) → OnBelow P (below_line (read_over (taken_at state device)) line sector) → ((after : State) (to : Lower) (s : ℕ) → OnLower P to → f to after s ≡ h to after s)
+    → write_line stack state device line sector f ≡ write_line stack state device line sector h
+unfolding OnBelow
+same_line P stack state device None sector f h on same = refl
+same_line P stack state device (Some line) sector f h on same = same_target P stack state device line.target (sector - line.start) f h on same
+
+pub same_write : (stack : Description) (n j k : ℕ) (lower : Lower) (state : State) (sector : ℕ) → OnLower (IsShallow (links stack) n j k) lower → write_step stack j lower state sector ≡ write_step stack k lower state sector
+unfolding OnLower write_step
+same_write stack n j k (Disk disk) state sector h = refl
+same_write stack zero j k (Device device) state sector h = absurd (omega (arith, h.seen))
+same_write stack (suc n) zero k (Device device) state sector h = absurd (some_level (links stack) n k device h.first)
+same_write stack (suc n) (suc j) zero (Device device) state sector h = absurd (some_level (links stack) n j device h.second)
+same_write stack (suc n) (suc j) (suc k) (Device device) state sector h =
+    ap (λ (step : Step). cond (is_ro_at stack device) (keep (Fails ∷ []) state) step)
+    (same_line (IsShallow (links stack) n j k) stack state device (found_at stack device sector) sector (λ to after s. write_step stack j to after s) (λ to after s. write_step stack k to after s)
+    (on_below (read_over (taken_at state device)) stack (IsShallow (links stack) n j k) device sector (over_read (IsShallow (links stack) n j k) (taken_at state device)) (named_shallow (links stack) n j k device h)) (λ after to s on. same_write stack n j k to after s on))
+
+-- A sound stack is nowhere too deep
+
+cond_none : (fault : LoadFault) (later : List LoadFault) (b : Bool) → cond b (fault ∷ later) later ≡ [] → (b ≡ false) × (later ≡ [])
+cond_none fault later true e = absurd cc
+cond_none fault later false e = (refl, e)
+
+none_at : (kind : LoadKind) (bad : ℕ → Bool) (id i : ℕ) (devices : List DeviceSpec) → faults_by_id kind bad id devices ≡ [] → i < length devices → bad (id + i) ≡ false
+none_at kind bad id i [] e below = absurd (omega arith)
+none_at kind bad id zero (device ∷ devices) e below =
+    let same : id + 0 ≡ id = omega arith in rw same (cond_none _ _ (bad id) e).0
+none_at kind bad id (suc i) (device ∷ devices) e below =
+    let same : id + suc i ≡ suc id + i = omega arith in rw same (none_at kind bad (suc id) i devices (cond_none _ _ (bad id) e).1 (omega arith))
+
+pub shallow : (stack : Description) (device : ℕ) → IsSound stack → device < length stack.devices → depth_of stack device ≤ MOST_DEPTH
+shallow stack device sound there =
+    let position : 0 + device ≡ device = omega arith in
+    let passes = none_at _ (λ id. nat_lt MOST_DEPTH (depth_of stack id)) 0 device stack.devices (passes_all stack sound).shallow there in
+    ltb-false MOST_DEPTH (depth_of stack device) (subst (λ (id : ℕ). nat_lt MOST_DEPTH (depth_of stack id) ≡ false) position passes)
+
+shallow_at : (stack : Description) (device levels : ℕ) → IsSound stack → device < length stack.devices → depth_of stack device ≤ levels → IsShallow (links stack) (suc MOST_DEPTH) levels MOST_DEPTH device
+shallow_at stack device levels sound there enough =
+    let most = shallow stack device sound there in record { seen = omega (arith, most); first = enough; second = most }
+
+pub reads_free : (stack : Description) → IsSound stack → IsFreeOfLevels stack ops.Read
+unfolding OnLower
+reads_free stack sound = record {
+  same = λ device levels sector state there enough. ap (λ (unit : BlockUnit). keep (unit ∷ []) state) (same_read stack state (suc MOST_DEPTH) levels MOST_DEPTH (Device device) sector (shallow_at stack device levels sound there enough));
+}
+
+pub writes_free : (stack : Description) → IsSound stack → IsFreeOfLevels stack ops.Write
+unfolding OnLower
+writes_free stack sound = record {
+  same = λ device levels sector state there enough. same_write stack (suc MOST_DEPTH) levels MOST_DEPTH (Device device) state sector (shallow_at stack device levels sound there enough);
+}
+
+-- The homes at two numbers of levels
+
+over_none : (P : ℕ → Type 0) → GoesOn (λ snapshot sector. IsError) P
+unfolding GoesOn OnBelow
+over_none P snapshot sector store origin = tt
+
+same_home : (stack : Description) (n j k : ℕ) (lower : Lower) (sector : ℕ) → OnLower (IsShallow (links stack) n j k) lower → home_to stack j lower sector ≡ home_to stack k lower sector
+unfolding OnLower home_to
+same_home stack n j k (Disk disk) sector h = refl
+same_home stack zero j k (Device device) sector h = absurd (omega (arith, h.seen))
+same_home stack (suc n) zero k (Device device) sector h = absurd (some_level (links stack) n k device h.first)
+same_home stack (suc n) (suc j) zero (Device device) sector h = absurd (some_level (links stack) n j device h.second)
+same_home stack (suc n) (suc j) (suc k) (Device device) sector h =
+    same_below (IsShallow (links stack) n j k) (below (λ snapshot sector. IsError) stack device sector) nowhere nowhere (λ to s. home_to stack j to s) (λ to s. home_to stack k to s)
+    (on_below (λ snapshot sector. IsError) stack (IsShallow (links stack) n j k) device sector (over_none (IsShallow (links stack) n j k)) (named_shallow (links stack) n j k device h)) (λ to s on. same_home stack n j k to s on)
+
+pub homes_free : (stack : Description) → IsSound stack → AreHomesFreeOfLevels stack
+unfolding OnLower
+homes_free stack sound = record {
+  same = λ device levels sector there enough. same_home stack (suc MOST_DEPTH) levels MOST_DEPTH (Device device) sector (shallow_at stack device levels sound there enough);
+}

@@ -1,0 +1,175 @@
+-- The steps of sectors in a row, and what a sink took and left of their units.
+use Rattle.std.proofs.Common.{◌≡◌, ℕ, zero, suc, ◌+◌, ◌<◌, List, [], ◌∷◌, ◌++◌, append_assoc, refl, sym, ap, subst, ◌∙◌, arith}
+use Rattle.std.proofs.lemmas.List.{append-nil}
+use Rattle.std.specs.Result.{IsErr}
+use Rattle.std.specs.Prelude.{nat_lt, true, ◌≤◌, replicate, Result, Ok, Err, OnOk, OnErr}
+use Rattle.dm_table.specs.declared.request.Op.{Op}
+use Rattle.dm_table.specs.DeviceIo.{fault_of}
+use Rattle.dm_stack.specs.Description.{Description, device_len}
+use Rattle.dm_map.specs.state.Counts.{AreAdded, Counts}
+use Rattle.dm_map.specs.pieces.Units.{BlockUnit, Fails, next_unit, units_in}
+use Rattle.dm_map.specs.pieces.Sink.{OfBeginning}
+use Rattle.dm_map.specs.state.State.{State}
+use Rattle.dm_map.specs.walk.Steps.{Step, keep, and_then, steps}
+use Rattle.dm_map.specs.walk.Mapping.{request_step}
+use Rattle.dm_map.specs.state.Walker.{WalkerView}
+use Rattle.dm_map.specs.walk.Range.{IsWalked}
+
+-- Counts that only searches were added to
+
+pub none_added : (counts : Counts) → AreAdded counts counts
+none_added counts = record { searches = omega arith; comparisons = omega arith; few = omega arith }
+
+pub added_then : (first second third : Counts) → AreAdded first second → AreAdded second third → AreAdded first third
+added_then first second third one two = record {
+  searches = omega (arith, one.searches, two.searches);
+  comparisons = omega (arith, one.comparisons, two.comparisons);
+  few = omega (arith, one.searches, two.searches, one.few, two.few);
+}
+
+-- What a sink took and left
+
+-- what holds, holds where there is a fault
+pub on_err : {T E : Type 0} (r : Result T E) (P : Type 0) → P → OnErr r P
+on_err (Ok x) P p = tt
+on_err (Err e) P p = p
+
+on_err_then : {T E : Type 0} (r : Result T E) (P Q : Type 0) → (P → Q) → OnErr r P → OnErr r Q
+on_err_then (Ok x) P Q f p = tt
+on_err_then (Err e) P Q f p = f p
+
+-- what holds, holds where there is none
+on_ok : {T E : Type 0} (r : Result T E) (P : Type 0) → P → OnOk r P
+on_ok (Ok x) P p = p
+on_ok (Err e) P p = tt
+
+on_ok_then : {T E : Type 0} (r : Result T E) (P Q : Type 0) → (P → Q) → OnOk r P → OnOk r Q
+on_ok_then (Ok x) P Q f p = f p
+on_ok_then (Err e) P Q f p = tt
+
+-- a walk whose step is said in another way
+pub walked_as : {S F : Type 0} (took left : S → List BlockUnit → S → Type 0) (stack : S → Description) (room faults : S → ℕ) (result : Result (Unit {0}) F) (old new : S) (before after : WalkerView) (step other : Step) (len : ℕ) → step ≡ other
+    → IsWalked took left stack room faults result old new before after step len → IsWalked took left stack room faults result old new before after other len
+walked_as took left stack room faults result old new before after step other len same walked = subst (λ (x : Step). IsWalked took left stack room faults result old new before after x len) same walked
+
+-- one piece as a walk
+pub walked_piece : {S F : Type 0} (took left : S → List BlockUnit → S → Type 0) (stack : S → Description) (room faults : S → ℕ) (result : Result (Unit {0}) F) (old new : S) (walk : WalkerView) (units : List BlockUnit) (step : Step) (diskless len : ℕ)
+    → keep units walk.state ≡ step → diskless ≤ len → OnOk result (took old units new) → OnErr result (left old units new) → faults new ≡ faults old + fault_of result → OnOk result (stack new ≡ stack old) → OnOk result (room old ≤ room new + diskless)
+    → IsWalked took left stack room faults result old new walk walk step len
+walked_piece took left stack room faults result old new walk units step diskless len same few took_is left_is faults_is kept_is room_is =
+    walked_as took left stack room faults result old new walk walk (keep units walk.state) step len same (record {
+      took = took_is;
+      state = on_ok result (walk.state ≡ walk.state) refl;
+      kept = kept_is;
+      room = on_ok_then result (room old ≤ room new + diskless) (room old ≤ room new + len) (λ low. omega (arith, low, few)) room_is;
+      left = on_err_then result (left old units new) (OfBeginning left old units new) (λ failed. record { front = units; rest = []; whole = append-nil units; holds = failed }) left_is;
+      faults = faults_is;
+      stack = refl;
+      looked = none_added walk.looked;
+    })
+
+-- a walk that the sink cut short
+pub walked_cut : {S F : Type 0} (took left : S → List BlockUnit → S → Type 0) (stack : S → Description) (room faults : S → ℕ) (result : Result (Unit {0}) F) (old new : S) (before after : WalkerView) (step : Step) (len : ℕ)
+    → IsErr result → OfBeginning left old step.units new → faults new ≡ faults old + 1 → after.stack ≡ before.stack → AreAdded before.looked after.looked → IsWalked took left stack room faults result old new before after step len
+walked_cut took left stack room faults (Ok done) old new before after step len is_err cut one same looked = absurd cc
+walked_cut took left stack room faults (Err fault) old new before after step len is_err cut one same looked = record { took = tt; state = tt; kept = tt; room = tt; left = cut; faults = one; stack = same; looked = looked }
+
+-- a walk after another one, which took its units
+pub walked_then : {S F : Type 0} (took left : S → List BlockUnit → S → Type 0) (stack : S → Description) (room faults : S → ℕ) (result : Result (Unit {0}) F) (old middle new : S) (before between after : WalkerView) (first second : Step) (next : State → Step) (m n : ℕ)
+    → ((a b c : S) (us vs : List BlockUnit) → took a us b → took b vs c → took a (us ++ vs) c) → ((a b c : S) (us vs : List BlockUnit) → took a us b → left b vs c → left a (us ++ vs) c)
+    → took old first.units middle → next first.state ≡ second → m ≤ n → stack middle ≡ stack old → room old ≤ room middle → faults middle ≡ faults old → between.stack ≡ before.stack → AreAdded before.looked between.looked
+    → IsWalked took left stack room faults result middle new between after second m → IsWalked took left stack room faults result old new before after (and_then first next) n
+walked_then took left stack room faults (Ok done) old middle new before between after first second next m n took_took took_left taken same few kept_is room_is faults_is stack_is looked_is walk =
+    rw same (record {
+      took = took_took old middle new first.units second.units taken walk.took;
+      state = walk.state;
+      kept = walk.kept ∙ kept_is;
+      room = omega (arith, room_is, walk.room, few);
+      left = tt;
+      faults = omega (arith, walk.faults, faults_is);
+      stack = walk.stack ∙ stack_is;
+      looked = added_then before.looked between.looked after.looked looked_is walk.looked;
+    })
+walked_then took left stack room faults (Err fault) old middle new before between after first second next m n took_took took_left taken same few kept_is room_is faults_is stack_is looked_is walk =
+    rw same (record {
+      took = tt;
+      state = tt;
+      kept = tt;
+      room = tt;
+      left = record {
+        front = first.units ++ walk.left.front;
+        rest = walk.left.rest;
+        whole = append_assoc first.units walk.left.front walk.left.rest ∙ ap (λ (us : List BlockUnit). first.units ++ us) walk.left.whole;
+        holds = took_left old middle new first.units walk.left.front taken walk.left.holds;
+      };
+      faults = omega (arith, walk.faults, faults_is);
+      stack = walk.stack ∙ stack_is;
+      looked = added_then before.looked between.looked after.looked looked_is walk.looked;
+    })
+
+-- what is a beginning of the units is one of more units
+pub left_more : {S : Type 0} (left : S → List BlockUnit → S → Type 0) (old new : S) (units more all : List BlockUnit) → units ++ more ≡ all → OfBeginning left old units new → OfBeginning left old all new
+left_more left old new units more all whole cut = record {
+  front = cut.front;
+  rest = cut.rest ++ more;
+  whole = sym (append_assoc cut.front cut.rest more) ∙ ap (λ (us : List BlockUnit). us ++ more) cut.whole ∙ whole;
+  holds = cut.holds;
+}
+
+-- a piece of errors
+pub units_in_fails : (len : ℕ) → units_in Fails len ≡ replicate len Fails
+units_in_fails zero = refl
+units_in_fails (suc len) = ap (λ (units : List BlockUnit). Fails ∷ units) (units_in_fails len)
+
+-- a request that passes the device's end
+pub step_past_end : (stack : Description) (op : Op) (device start len : ℕ) (state : State) → nat_lt (device_len stack device) (start + len) ≡ true → keep (units_in Fails len) state ≡ request_step stack op device start len state
+step_past_end stack op device start len state past = rw past (ap (λ (units : List BlockUnit). keep units state) (units_in_fails len))
+
+-- steps one after the other
+pub and_then_at : (step : Step) (f h : State → Step) → f step.state ≡ h step.state → and_then step f ≡ and_then step h
+and_then_at step f h same = ap (λ (next : Step). record { units = step.units ++ next.units; state = next.state }) same
+
+pub step_assoc : (step : Step) (f h : State → Step) → and_then (and_then step f) h ≡ and_then step (λ state. and_then (f state) h)
+step_assoc step f h = ap (λ (units : List BlockUnit). record { units = units; state = (h (f step.state).state).state }) (append_assoc step.units (f step.state).units (h (f step.state).state).units)
+
+-- a row in two parts
+pub steps-append : (step : State → ℕ → Step) (state : State) (sector m n : ℕ) → steps step state sector (m + n) ≡ and_then (steps step state sector m) (λ after. steps step after (sector + m) n)
+steps-append step state sector zero n = let e : 0 + n ≡ n = omega arith in let k : sector + 0 ≡ sector = omega arith in rw (e, k) refl
+steps-append step state sector (suc m) n =
+    let e : suc m + n ≡ suc (m + n) = omega arith in let k : sector + suc m ≡ suc sector + m = omega arith in
+    rw (e, k) (and_then_at (step state sector) (λ after. steps step after (suc sector) (m + n)) (λ after. and_then (steps step after (suc sector) m) (λ later. steps step later (suc sector + m) n)) (steps-append step (step state sector).state (suc sector) m n)
+    ∙ sym (step_assoc (step state sector) (λ after. steps step after (suc sector) m) (λ later. steps step later (suc sector + m) n)))
+
+-- two rows whose steps are the same from any state
+pub steps_same : (step other : State → ℕ → Step) (state : State) (s t n : ℕ) → ((after : State) (i : ℕ) → i < n → step after (s + i) ≡ other after (t + i)) → steps step state s n ≡ steps other state t n
+steps_same step other state s t zero each = refl
+steps_same step other state s t (suc n) each =
+    let here : step state s ≡ other state t = ap (step state) (let e : s ≡ s + 0 = omega arith in e) ∙ each state 0 (omega arith) ∙ ap (other state) (let e : t + 0 ≡ t = omega arith in e) in
+    ap (λ (first : Step). and_then first (λ after. steps step after (suc s) n)) here
+    ∙ and_then_at (other state t) (λ after. steps step after (suc s) n) (λ after. steps other after (suc t) n)
+    (steps_same step other (other state t).state (suc s) (suc t) n (λ after i within.
+    ap (step after) (let e : suc s + i ≡ s + suc i = omega arith in e) ∙ each after (suc i) (omega (arith, within)) ∙ ap (other after) (let e : t + suc i ≡ suc t + i = omega arith in e)))
+
+-- two rows whose steps are the same in one state, which they keep
+pub steps_read : (step other : State → ℕ → Step) (state : State) (s t n : ℕ) → ((i : ℕ) → i < n → step state (s + i) ≡ other state (t + i)) → ((i : ℕ) → i < n → (other state (t + i)).state ≡ state) → steps step state s n ≡ steps other state t n
+steps_read step other state s t zero each kept = refl
+steps_read step other state s t (suc n) each kept =
+    let here : step state s ≡ other state t = ap (step state) (let e : s ≡ s + 0 = omega arith in e) ∙ each 0 (omega arith) ∙ ap (other state) (let e : t + 0 ≡ t = omega arith in e) in
+    let same : (other state t).state ≡ state = ap (λ (p : ℕ). (other state p).state) (let e : t ≡ t + 0 = omega arith in e) ∙ kept 0 (omega arith) in
+    let later : steps step state (suc s) n ≡ steps other state (suc t) n = steps_read step other state (suc s) (suc t) n
+    (λ i within. ap (step state) (let e : suc s + i ≡ s + suc i = omega arith in e) ∙ each (suc i) (omega (arith, within)) ∙ ap (other state) (let e : t + suc i ≡ suc t + i = omega arith in e))
+    (λ i within. ap (λ (p : ℕ). (other state p).state) (let e : suc t + i ≡ t + suc i = omega arith in e) ∙ kept (suc i) (omega (arith, within))) in
+    ap (λ (first : Step). and_then first (λ after. steps step after (suc s) n)) here
+    ∙ and_then_at (other state t) (λ after. steps step after (suc s) n) (λ after. steps other after (suc t) n)
+    (subst (λ (after : State). steps step after (suc s) n ≡ steps other after (suc t) n) (sym same) later)
+
+-- a row of one unit, which changes nothing
+pub steps_still : (step : State → ℕ → Step) (state : State) (sector n : ℕ) (unit : BlockUnit) → next_unit unit ≡ unit → ((i : ℕ) → i < n → step state (sector + i) ≡ keep (unit ∷ []) state) → steps step state sector n ≡ keep (units_in unit n) state
+steps_still step state sector zero unit still each = refl
+steps_still step state sector (suc n) unit still each =
+    let here : step state sector ≡ keep (unit ∷ []) state = ap (step state) (let e : sector ≡ sector + 0 = omega arith in e) ∙ each 0 (omega arith) in
+    let later : (i : ℕ) → i < n → step state (suc sector + i) ≡ keep (unit ∷ []) state = λ i within.
+    ap (step state) (let e : suc sector + i ≡ sector + suc i = omega arith in e) ∙ each (suc i) (omega (arith, within)) in
+    ap (λ (first : Step). and_then first (λ after. steps step after (suc sector) n)) here
+    ∙ ap (λ (rest : Step). record { units = unit ∷ rest.units; state = rest.state }) (steps_still step state (suc sector) n unit still later)
+    ∙ ap (λ (next : BlockUnit). keep (unit ∷ units_in next n) state) (sym still)

@@ -1,0 +1,167 @@
+-- The snapshots of an origin, served: what that settles, and how far a range of the origin's sectors needs no more of it. No claim plays a part here.
+use Rattle.std.proofs.Common.{◌≡◌, inl, inr, ℕ, zero, suc, ◌+◌, ◌-◌, ◌/◌, ◌%◌, ◌<◌, true, List, [], ◌∷◌, ◌++◌, ◌≤◌, length, get_or, take, drop, refl, sym, ap, subst, ◌∙◌, arith}
+use Rattle.std.specs.List.{All, AllByRecursion}
+use Rattle.std.specs.Prelude.{Result, Err}
+use Rattle.std.specs.Result.{IsErr}
+use Rattle.std.proofs.lemmas.Bool.{cases_lt}
+use Rattle.std.proofs.lemmas.List.{append-nil, take-append-drop, take_more}
+use Rattle.std.proofs.lemmas.List.Elements.{All-get_or}
+use Rattle.dm_stack.specs.Below.{IsSnapshotSound}
+use Rattle.dm_stack.specs.Description.{Description, device_len}
+use Rattle.dm_stack.specs.Soundness.{IsSound}
+use Rattle.dm_stack.specs.declared.found_line.FoundSnapshot.{FoundSnapshot}
+use Rattle.dm_stack.specs.declared.found_line.FoundOver.{FoundOver}
+use Rattle.dm_map.specs.walk.Serving.{AreSettled, IsOver, serve, served_step}
+use Rattle.dm_map.specs.walk.SnapshotWrites.{is_settled, take_chunk}
+use Rattle.dm_map.specs.state.State.{State, Taken, taken_at}
+use Rattle.dm_map.specs.walk.Steps.{Step, keep, and_then, steps}
+use Rattle.dm_map.specs.pieces.Units.{BlockUnit}
+use Rattle.dm_map.specs.state.Walker.{WalkerView}
+use Rattle.dm_map.specs.walk.Range.{IsWalked}
+use Rattle.dm_map.proofs.walk.Chunks.{same_chunk}
+use Rattle.dm_map.proofs.state.FoundLines.{snapshot_sound}
+use Rattle.dm_map.proofs.walk.ChunkTaking.{chunk_outcome, take_chunk_again, take_chunk_settles}
+use Rattle.dm_map.proofs.walk.Rows.{and_then_at, left_more, step_assoc, walked_as, walked_cut, walked_then}
+use Rattle.dm_map.proofs.walk.Settled.{KeepsSettled, take_chunk_keeps, serve_keeps}
+use Rattle.dm_map.proofs.walk.InStack.{device_there}
+use Rattle.dm_map.proofs.walk.WalkedOn.{going_on}
+
+abbrev take_chunk_one : Description → FoundOver → (sector : ℕ) → State → Step
+take_chunk_one stack one sector state = take_chunk stack one.snapshot one.device (sector / one.snapshot.chunk) state
+
+-- One after another
+
+pub serve_append : (stack : Description) (over more : List FoundOver) (sector : ℕ) (state : State) → serve stack (over ++ more) sector state ≡ and_then (serve stack over sector state) (λ after. serve stack more sector after)
+unfolding serve
+serve_append stack [] more sector state = refl
+serve_append stack (one ∷ over) more sector state =
+    let first = take_chunk_one stack one sector state in
+    and_then_at first (λ after. serve stack (over ++ more) sector after) (λ after. and_then (serve stack over sector after) (λ later. serve stack more sector later)) (serve_append stack over more sector first.state)
+    ∙ sym (step_assoc first (λ after. serve stack over sector after) (λ after. serve stack more sector after))
+
+then_nothing : (step : Step) → and_then step (λ after. keep [] after) ≡ step
+then_nothing step = ap (λ (units : List BlockUnit). record { units = units; state = step.state }) (append-nil step.units)
+
+-- with one more
+pub serve_more : (stack : Description) (over : List FoundOver) (one : FoundOver) (sector : ℕ) (state : State) → serve stack (over ++ one ∷ []) sector state ≡ and_then (serve stack over sector state) (λ after. take_chunk_one stack one sector after)
+unfolding serve
+serve_more stack over one sector state =
+    let first = serve stack over sector state in
+    serve_append stack over (one ∷ []) sector state
+    ∙ and_then_at first (λ after. serve stack (one ∷ []) sector after) (λ after. take_chunk_one stack one sector after) (then_nothing (take_chunk_one stack one sector first.state))
+
+-- What is settled
+
+pub settled_on : (old new : State) (over : List FoundOver) (sector : ℕ) → KeepsSettled old new → AreSettled old over sector → AreSettled new over sector
+settled_on old new [] sector keeps settled = tt
+settled_on old new (one ∷ over) sector keeps settled = (keeps.settled one.device (sector / one.snapshot.chunk) settled.0, settled_on old new over sector keeps settled.1)
+
+pub settled_more : (state : State) (over : List FoundOver) (one : FoundOver) (sector : ℕ) → AreSettled state over sector → is_settled (taken_at state one.device) (sector / one.snapshot.chunk) ≡ true → AreSettled state (over ++ one ∷ []) sector
+settled_more state [] one sector settled last = (last, tt)
+settled_more state (first ∷ over) one sector settled last = (settled.0, settled_more state over one sector settled.1 last)
+
+-- once all are served
+pub serve_settled : (stack : Description) (over : List FoundOver) (sector : ℕ) (state : State) → AllByRecursion (λ one. one.device < length state) over → AreSettled (serve stack over sector state).state over sector
+unfolding serve
+serve_settled stack [] sector state there = tt
+serve_settled stack (one ∷ over) sector state there =
+    let first = take_chunk_one stack one sector state in
+    let chunk = sector / one.snapshot.chunk in
+    let settled = take_chunk_settles state one.device chunk first there.0 (chunk_outcome stack one.snapshot one.device chunk state) in
+    let count = (take_chunk_keeps stack one.snapshot one.device chunk state).count in (
+      (serve_keeps stack over sector first.state).settled one.device chunk settled,
+      serve_settled stack over sector first.state (subst (λ (n : ℕ). AllByRecursion (λ one. one.device < n) over) (sym count) there.1),
+    )
+
+-- nothing is left to do
+pub served_done : (stack : Description) (over : List FoundOver) (sector : ℕ) (state : State) → AreSettled state over sector → serve stack over sector state ≡ keep [] state
+unfolding serve
+served_done stack [] sector state settled = refl
+served_done stack (one ∷ over) sector state settled =
+    ap (λ (step : Step). and_then step (λ after. serve stack over sector after)) (take_chunk_again stack one.snapshot one.device (sector / one.snapshot.chunk) state settled.0)
+    ∙ served_done stack over sector state settled.1
+
+-- A range
+
+-- a step of a sector that leaves settled what was
+abbrev pub StepsKeep : (State → ℕ → Step) → Type 0
+StepsKeep plain = (state : State) (sector : ℕ) → KeepsSettled state (plain state sector).state
+
+-- where all are settled, the sectors of an origin's device are those of the origin
+pub quiet : (stack : Description) (over : List FoundOver) (plain : State → ℕ → Step) (state : State) (sector n : ℕ) → StepsKeep plain → ((i : ℕ) → i < n → AreSettled state over (sector + i)) → steps (served_step stack over plain) state sector n ≡ steps plain state sector n
+quiet stack over plain state sector zero keeps each = refl
+quiet stack over plain state sector (suc n) keeps each =
+    let here : served_step stack over plain state sector ≡ plain state sector =
+    ap (λ (step : Step). and_then step (λ after. plain after sector)) (served_done stack over sector state (subst (λ (s : ℕ). AreSettled state over s) (let e : sector + 0 ≡ sector = omega arith in e) (each 0 (omega arith)))) in
+    let first = plain state sector in
+    ap (λ (step : Step). and_then step (λ after. steps (served_step stack over plain) after (suc sector) n)) here
+    ∙ and_then_at first (λ after. steps (served_step stack over plain) after (suc sector) n) (λ after. steps plain after (suc sector) n)
+    (quiet stack over plain first.state (suc sector) n keeps (λ i within.
+    settled_on state first.state over (suc sector + i) (keeps state sector) (subst (λ (s : ℕ). AreSettled state over s) (let e : sector + suc i ≡ suc sector + i = omega arith in e) (each (suc i) (omega (arith, within))))))
+
+-- as many sectors as are settled once the first one is served
+pub part : (stack : Description) (over : List FoundOver) (plain : State → ℕ → Step) (state : State) (sector n : ℕ) → StepsKeep plain → ((i : ℕ) → i < suc n → AreSettled (serve stack over sector state).state over (sector + i))
+    → steps (served_step stack over plain) state sector (suc n) ≡ and_then (serve stack over sector state) (λ after. steps plain after sector (suc n))
+part stack over plain state sector n keeps each =
+    let served = serve stack over sector state in let first = plain served.state sector in
+    step_assoc served (λ after. plain after sector) (λ after. steps (served_step stack over plain) after (suc sector) n)
+    ∙ and_then_at served (λ after. and_then (plain after sector) (λ later. steps (served_step stack over plain) later (suc sector) n)) (λ after. steps plain after sector (suc n))
+    (and_then_at first (λ later. steps (served_step stack over plain) later (suc sector) n) (λ later. steps plain later (suc sector) n)
+    (quiet stack over plain first.state (suc sector) n keeps (λ i within.
+    settled_on served.state first.state over (suc sector + i) (keeps served.state sector) (subst (λ (s : ℕ). AreSettled served.state over s) (let e : sector + suc i ≡ suc sector + i = omega arith in e) (each (suc i) (omega (arith, within)))))))
+
+-- The sectors of one chunk are settled as its first one is
+
+pub chunk_settled : (taken : Taken) (snapshot : FoundSnapshot) (sector n i : ℕ) → 0 < snapshot.chunk → n ≤ snapshot.chunk - sector % snapshot.chunk → i < n → is_settled taken (sector / snapshot.chunk) ≡ true → is_settled taken ((sector + i) / snapshot.chunk) ≡ true
+chunk_settled taken snapshot sector n i some most within settled =
+    subst (λ (chunk : ℕ). is_settled taken chunk ≡ true) (sym (same_chunk snapshot sector i some (omega (arith, most, within, some)))) settled
+
+pub chunk_more : (taken : Taken) (snapshot : FoundSnapshot) (sector part n : ℕ) → 0 < snapshot.chunk → n ≤ snapshot.chunk - (sector + part) % snapshot.chunk → is_settled taken ((sector + part) / snapshot.chunk) ≡ true
+    → ((i : ℕ) → i < part → is_settled taken ((sector + i) / snapshot.chunk) ≡ true) → (i : ℕ) → i < part + n → is_settled taken ((sector + i) / snapshot.chunk) ≡ true
+chunk_more taken snapshot sector part n some most next each i within = elim (cases_lt i part) [
+  | inl before ↦ each i before
+  | inr after ↦
+      let on : sector + part + (i - part) ≡ sector + i = omega (arith, after) in
+      subst (λ (s : ℕ). is_settled taken (s / snapshot.chunk) ≡ true) on (chunk_settled taken snapshot (sector + part) n (i - part) some most (omega (arith, after, within)) next)
+]
+
+-- Snapshots of the stack
+
+pub over_at : (stack : Description) (len : ℕ) (over : List FoundOver) (i : ℕ) (one : FoundOver) → All (IsOver stack len) over → i < length over → one ≡ get_or over i one → IsOver stack len one
+over_at stack len over i one all within is = subst (λ (x : FoundOver). IsOver stack len x) (sym is) (All-get_or (IsOver stack len) over i one within all)
+
+pub over_sound : (stack : Description) (len : ℕ) (one : FoundOver) → IsSound stack → IsOver stack len one → IsSnapshotSound stack one.device 0 (device_len stack one.device) one.snapshot
+over_sound stack len one sound it = (snapshot_sound stack one.device one.snapshot sound it.is).soundly
+
+-- a state that fits has a table for each
+pub over_there : (stack : Description) (state : State) (len : ℕ) (over : List FoundOver) → length state ≡ length stack.devices → 0 < len → AllByRecursion (IsOver stack len) over → AllByRecursion (λ one. one.device < length state) over
+over_there stack state len [] count some all = tt
+over_there stack state len (one ∷ over) count some all =
+    let long = all.0.long in
+    let there = device_there stack one.device 0 (omega (arith, long, some)) in
+    (omega (arith, there, count), over_there stack state len over count some all.1)
+
+-- A walk over the list
+
+-- those before were served, and then one more
+pub served_on : {S F : Type 0} (took left : S → List BlockUnit → S → Type 0) (stack : S → Description) (room faults : S → ℕ) (both : (a b c : S) (us vs : List BlockUnit) → took a us b → took b vs c → took a (us ++ vs) c)
+    (cut : (a b c : S) (us vs : List BlockUnit) → took a us b → left b vs c → left a (us ++ vs) c) (result : Result (Unit {0}) F) (old middle new : S) (before between after : WalkerView) (over : List FoundOver) (i sector : ℕ) (one : FoundOver) → i < length over → one ≡ get_or over i one
+    → IsWalked took left stack room faults going_on old middle before between (serve before.stack (take i over) sector before.state) 0 → IsWalked took left stack room faults result middle new between after (take_chunk_one between.stack one sector between.state) 0
+    → IsWalked took left stack room faults result old new before after (serve before.stack (take (i + 1) over) sector before.state) 0
+served_on took left stack room faults both cut result old middle new before between after over i sector one within is so_far next =
+    let first = serve before.stack (take i over) sector before.state in
+    let second = take_chunk_one between.stack one sector between.state in
+    let list : take (i + 1) over ≡ take i over ++ one ∷ [] = take_more over i one within ∙ ap (λ (x : FoundOver). take i over ++ x ∷ []) (sym is) in
+    let here : take_chunk_one before.stack one sector first.state ≡ second = ap (λ (s : Description). take_chunk_one s one sector first.state) (sym so_far.stack) ∙ ap (λ (state : State). take_chunk_one between.stack one sector state) (sym so_far.state) in
+    walked_as took left stack room faults result old new before after _ _ 0 (sym (ap (λ (xs : List FoundOver). serve before.stack xs sector before.state) list ∙ serve_more before.stack (take i over) one sector before.state))
+    (walked_then took left stack room faults result old middle new before between after first second (λ later. take_chunk_one before.stack one sector later) 0 0 both cut so_far.took here (omega arith) so_far.kept (omega (arith, so_far.room)) (omega (arith, so_far.faults)) so_far.stack so_far.looked next)
+
+-- or the sink failed at it
+pub served_cut : {S F : Type 0} (took left : S → List BlockUnit → S → Type 0) (stack : S → Description) (room faults : S → ℕ) (fault : F) (result : Result (Unit {0}) F) (old new : S) (before after : WalkerView) (over : List FoundOver) (i sector : ℕ) → IsErr result
+    → IsWalked took left stack room faults (Err fault) old new before after (serve before.stack (take i over) sector before.state) 0 → IsWalked took left stack room faults result old new before after (serve before.stack over sector before.state) 0
+served_cut took left stack room faults fault result old new before after over i sector is_err walk =
+    let first = serve before.stack (take i over) sector before.state in
+    walked_cut took left stack room faults result old new before after (serve before.stack over sector before.state) 0 is_err
+    (left_more left old new first.units (serve before.stack (drop i over) sector first.state).units (serve before.stack over sector before.state).units
+    (ap (λ (step : Step). step.units) (sym (serve_append before.stack (take i over) (drop i over) sector before.state)) ∙ ap (λ (xs : List FoundOver). (serve before.stack xs sector before.state).units) (take-append-drop i over)) walk.left)
+    walk.faults walk.stack walk.looked

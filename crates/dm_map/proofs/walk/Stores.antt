@@ -1,0 +1,167 @@
+-- A store: each sector of it is read at its home, whatever the state.
+use Rattle.std.proofs.Common.{◌≡◌, ℕ, zero, suc, ◌+◌, ◌-◌, ◌/◌, ◌<◌, ◌≤◌, Bool, true, List, [], ◌∷◌, Option, Some, None, length, map, refl, sym, ap, subst, ◌∙◌, arith}
+use Rattle.std.specs.Prelude.{◌&&◌, not, option_map, slice_get}
+use Rattle.std.specs.List.{AllByRecursion, list_all}
+use Rattle.std.proofs.lemmas.Bool.{and_parts}
+use Rattle.dm_table.specs.declared.table.Column.{Column}
+use Rattle.dm_table.specs.declared.table.Line.{Line}
+use Rattle.dm_table.specs.declared.table.Target.{Target}
+use Rattle.dm_table.specs.declared.table.Target.TheVariants as targets
+use Rattle.dm_stack.specs.declared.found_line.FoundLine.{FoundLine}
+use Rattle.dm_stack.specs.declared.found_line.FoundColumn.{FoundColumn}
+use Rattle.dm_stack.specs.declared.found_line.FoundSnapshot.{FoundSnapshot}
+use Rattle.dm_stack.specs.declared.graph.TheConstants.{MOST_DEPTH}
+use Rattle.dm_stack.specs.declared.id.Lower.{Lower}
+use Rattle.dm_stack.specs.declared.id.Lower.TheVariants.{Device, Disk}
+use Rattle.dm_stack.specs.Below.{Below, Lies, IsError, below, below_line, below_target, below_column, column_of, in_column, found_at, found_columns, found_line, found_target, holds, line_of, AreStripes, HoldsSoundly, IsTargetSound}
+use Rattle.dm_stack.specs.Description.{Description, device_len, is_ro_at, lines_at, lower_len, lower_of}
+use Rattle.dm_stack.specs.Soundness.{IsSound}
+use Rattle.dm_table.specs.Span.{column_span, spans, target_spans}
+use Rattle.dm_stack.specs.Store.{is_plain, is_store_to, IsStore}
+use Rattle.dm_stack.proofs.SoundLines.{found, sector_found, there}
+use Rattle.dm_map.specs.declared.walk.stretch.Ground.{Ground}
+use Rattle.dm_map.specs.declared.walk.stretch.Ground.TheVariants as grounds
+use Rattle.dm_map.specs.walk.Homes.{Home, home, home_to, nowhere}
+use Rattle.dm_map.specs.walk.Reads.{by_below, read_unit}
+use Rattle.dm_map.specs.walk.SnapshotWrites.{read, row}
+use Rattle.dm_map.specs.state.Snapshots.{read_over}
+use Rattle.dm_map.specs.state.State.{State, taken_at}
+use Rattle.dm_map.specs.walk.Stretch.{ground_unit}
+use Rattle.dm_map.specs.pieces.Units.{BlockUnit, ReadOf, Zeros, Fails, units_in}
+use Rattle.dm_map.proofs.walk.ReadSteps.{has_columns}
+use Rattle.dm_map.proofs.walk.Stripes.{at_index, in_column_room}
+use Rattle.dm_map.proofs.walk.InStack.{device_there}
+use Rattle.dm_map.proofs.walk.UnitRows.{row_same}
+
+-- What lies below a sector of a store
+
+-- a sector of one that is a level less deep, whatever is said of snapshots
+pub record LiesInStore (stack : Description) (levels : ℕ) (below : (FoundSnapshot → ℕ → Below) → Below) : Type 0 where
+  pub to : Lower
+  pub at : ℕ
+  pub is : (over : FoundSnapshot → ℕ → Below) → below over ≡ Lies to at
+  pub store : is_store_to stack levels to ≡ true
+  pub inside : at < lower_len stack to
+
+each_true : {X : Type 0} (test : X → Bool) (xs : List X) → list_all test xs ≡ true → AllByRecursion (λ x. test x ≡ true) xs
+each_true test [] all = tt
+each_true test (x ∷ xs) all = let parts = and_parts (test x) (list_all test xs) all in (parts.0, each_true test xs parts.1)
+
+-- each column of a striped line is one
+store_columns : (stack : Description) (levels share : ℕ) (columns : List Column) → list_all (λ span. is_store_to stack levels (lower_of stack span.to)) (map (column_span share) columns) ≡ true
+    → AllByRecursion (λ column. is_store_to stack levels column.to ≡ true) (found_columns stack columns)
+store_columns stack levels share [] all = tt
+store_columns stack levels share (column ∷ columns) all =
+    let parts = and_parts (is_store_to stack levels (lower_of stack column.to)) (list_all (λ span. is_store_to stack levels (lower_of stack span.to)) (map (column_span share) columns)) all in
+    (parts.0, store_columns stack levels share columns parts.1)
+
+below_striped : (stack : Description) (levels len chunk : ℕ) (columns : List FoundColumn) (distance : ℕ) → AreStripes stack len chunk columns → AllByRecursion (λ column. is_store_to stack levels column.to ≡ true) columns → distance < len
+    → LiesInStore stack levels (λ over. below_column (slice_get columns (column_of chunk (length columns) distance)) (in_column chunk (length columns) distance))
+below_striped stack levels len chunk columns distance stripes stores inside =
+    let count = length columns in let index = column_of chunk count distance in let some = stripes.some in
+    let column = there columns index (omega (arith, some)) in
+    let share = at_index (λ c. c.offset + stripes.column_len ≤ lower_len stack c.to) columns index column.it stripes.inside column.at in
+    let room = in_column_room chunk count stripes.column_len stripes.chunks len distance stripes.chunk_some stripes.some stripes.shares stripes.whole inside in
+    let chunk_some = stripes.chunk_some in
+    record {
+      to = column.it.to;
+      at = column.it.offset + in_column chunk count distance;
+      is = λ over. ap (λ (c : Option FoundColumn). below_column c (in_column chunk count distance)) column.at;
+      store = at_index (λ c. is_store_to stack levels c.to ≡ true) columns index column.it stores column.at;
+      inside = omega (arith, share, room, chunk_some);
+    }
+
+below_plain : (stack : Description) (levels device start len : ℕ) (target : Target) (distance : ℕ) → is_plain target ≡ true → list_all (λ span. is_store_to stack levels (lower_of stack span.to)) (target_spans len target) ≡ true
+    → IsTargetSound stack device start len (found_target stack target) → distance < len → LiesInStore stack levels (λ over. below_target over (found_target stack target) distance)
+below_plain stack levels device start len (targets.Linear to offset) distance plain stores sound inside = record {
+  to = lower_of stack to;
+  at = offset + distance;
+  is = λ over. refl;
+  store = (and_parts (is_store_to stack levels (lower_of stack to)) true stores).0;
+  inside = omega (arith, sound, inside);
+}
+below_plain stack levels device start len (targets.Striped chunk columns) distance plain stores sound inside =
+    below_striped stack levels len chunk (found_columns stack columns) distance sound (store_columns stack levels (len / length columns) columns stores) inside
+below_plain stack levels device start len _ distance plain stores sound inside = absurd cc
+
+OnFound : Option FoundLine → (FoundLine → Type 0) → Type 0
+OnFound (Some line) P = P line
+OnFound None P = ⊥
+
+below_held : (stack : Description) (levels device sector : ℕ) (line : Option Line) → AllByRecursion (λ l. (is_plain l.target && list_all (λ span. is_store_to stack levels (lower_of stack span.to)) (spans l)) ≡ true) (lines_at stack device)
+    → line_of (lines_at stack device) sector ≡ line → OnFound (option_map (found_line stack) line) (λ l. HoldsSoundly stack device l sector) → LiesInStore stack levels (λ over. below_line over (option_map (found_line stack) line) sector)
+unfolding OnFound
+below_held stack levels device sector None each is soundly = absurd soundly
+below_held stack levels device sector (Some line) each is soundly =
+    let both = (found (λ l. (is_plain l.target && list_all (λ span. is_store_to stack levels (lower_of stack span.to)) (spans l)) ≡ true) (holds sector) (lines_at stack device) line each is).1 in
+    let parts = and_parts (is_plain line.target) (list_all (λ span. is_store_to stack levels (lower_of stack span.to)) (spans line)) both in
+    let from = soundly.from in let before = soundly.before in
+    below_plain stack levels device line.start line.len line.target (sector - line.start) parts.0 parts.1 soundly.target (omega (arith, from, before))
+
+found_on : (stack : Description) (device sector : ℕ) (line : Option FoundLine) → found_at stack device sector ≡ line → IsSound stack → sector < device_len stack device → OnFound line (λ l. HoldsSoundly stack device l sector)
+unfolding OnFound
+found_on stack device sector line is sound inside =
+    let f = sector_found stack device sector sound (device_there stack device sector inside) inside in
+    subst (λ (o : Option FoundLine). OnFound o (λ l. HoldsSoundly stack device l sector)) (sym f.is ∙ is) f.soundly
+
+pub below_store : (stack : Description) (levels device sector : ℕ) → IsSound stack → is_store_to stack (suc levels) (Device device) ≡ true → sector < device_len stack device → LiesInStore stack levels (λ over. below over stack device sector)
+unfolding is_store_to
+below_store stack levels device sector sound store inside =
+    let parts = and_parts (not (is_ro_at stack device)) (list_all (λ l. is_plain l.target && list_all (λ span. is_store_to stack levels (lower_of stack span.to)) (spans l)) (lines_at stack device)) store in
+    below_held stack levels device sector (line_of (lines_at stack device) sector) (each_true (λ l. is_plain l.target && list_all (λ span. is_store_to stack levels (lower_of stack span.to)) (spans l)) (lines_at stack device) parts.1) refl
+    (found_on stack device sector (found_at stack device sector) refl sound inside)
+
+-- its lines are linear or striped
+
+plain_columns : (stack : Description) (target : Target) → is_plain target ≡ true → has_columns (found_target stack target) ≡ true
+plain_columns stack (targets.Linear to offset) plain = refl
+plain_columns stack (targets.Striped chunk columns) plain = refl
+plain_columns stack _ plain = absurd cc
+
+columns_held : (stack : Description) (levels device sector : ℕ) (line : Option Line) (held : FoundLine) → AllByRecursion (λ l. (is_plain l.target && list_all (λ span. is_store_to stack levels (lower_of stack span.to)) (spans l)) ≡ true) (lines_at stack device)
+    → line_of (lines_at stack device) sector ≡ line → option_map (found_line stack) line ≡ Some held → has_columns held.target ≡ true
+columns_held stack levels device sector None held each is e = absurd cc
+columns_held stack levels device sector (Some line) held each is e =
+    let both = (found (λ l. (is_plain l.target && list_all (λ span. is_store_to stack levels (lower_of stack span.to)) (spans l)) ≡ true) (holds sector) (lines_at stack device) line each is).1 in
+    let parts = and_parts (is_plain line.target) (list_all (λ span. is_store_to stack levels (lower_of stack span.to)) (spans line)) both in
+    let same : found_line stack line ≡ held = cc in
+    subst (λ (l : FoundLine). has_columns l.target ≡ true) same (plain_columns stack line.target parts.0)
+
+pub store_line : (stack : Description) (levels device sector : ℕ) (held : FoundLine) → is_store_to stack (suc levels) (Device device) ≡ true → found_at stack device sector ≡ Some held → has_columns held.target ≡ true
+unfolding is_store_to
+store_line stack levels device sector held store is =
+    let parts = and_parts (not (is_ro_at stack device)) (list_all (λ l. is_plain l.target && list_all (λ span. is_store_to stack levels (lower_of stack span.to)) (spans l)) (lines_at stack device)) store in
+    columns_held stack levels device sector (line_of (lines_at stack device) sector) held (each_true (λ l. is_plain l.target && list_all (λ span. is_store_to stack levels (lower_of stack span.to)) (spans l)) (lines_at stack device) parts.1) refl is
+
+-- The reads of a store
+
+abbrev read_home : Home → BlockUnit
+read_home home = ReadOf home.disk home.sector
+
+pub store_read : (stack : Description) (state : State) (levels : ℕ) (lower : Lower) (sector : ℕ) → IsSound stack → is_store_to stack levels lower ≡ true → sector < lower_len stack lower
+    → read_unit stack state levels lower sector ≡ ReadOf (home_to stack levels lower sector).disk (home_to stack levels lower sector).sector
+unfolding read_unit home_to is_store_to
+store_read stack state levels (Disk disk) sector sound store inside = refl
+store_read stack state zero (Device device) sector sound store inside = absurd cc
+store_read stack state (suc levels) (Device device) sector sound store inside =
+    let b = below_store stack levels device sector sound store inside in
+    ap (λ (low : Below). by_below low Zeros Fails (λ to s. read_unit stack state levels to s)) (b.is (read_over (taken_at state device)))
+    ∙ store_read stack state levels b.to b.at sound b.store b.inside
+    ∙ sym (ap (λ (low : Below). read_home (by_below low nowhere nowhere (λ to s. home_to stack levels to s))) (b.is (λ snapshot sector. IsError)))
+
+-- so the reads of sectors in a row are those of their homes
+pub store_row : (stack : Description) (state : State) (store : Lower) (sector n : ℕ) → IsSound stack → IsStore stack store → sector + n ≤ lower_len stack store
+    → row (λ s. ReadOf (home stack store s).disk (home stack store s).sector) sector n ≡ row (read stack state store) sector n
+store_row stack state store sector n sound is inside =
+    row_same (λ s. ReadOf (home stack store s).disk (home stack store s).sector) (read stack state store) sector sector n
+    (λ i within. sym (store_read stack state MOST_DEPTH store (sector + i) sound is (omega (arith, inside, within))))
+
+-- a row of reads of a store goes on from a sector of a disk
+pub not_on_disk : (stack : Description) (state : State) (store : Lower) (sector n : ℕ) (ground : Ground) → IsSound stack → IsStore stack store → sector + n ≤ lower_len stack store → 1 ≤ n → row (read stack state store) sector n ≡ units_in (ground_unit ground) n
+    → ((disk start : ℕ) → ground ≡ grounds.Disk disk start → ⊥) → ⊥
+not_on_disk stack state store sector zero ground sound is inside some reads other = omega (arith, some)
+not_on_disk stack state store sector (suc n) (grounds.Disk disk start) sound is inside some reads other = other disk start refl
+not_on_disk stack state store sector (suc n) grounds.Zeros sound is inside some reads other =
+    let at = store_read stack state MOST_DEPTH store sector sound is (omega (arith, inside)) in absurd cc
+not_on_disk stack state store sector (suc n) grounds.Fails sound is inside some reads other =
+    let at = store_read stack state MOST_DEPTH store sector sound is (omega (arith, inside)) in absurd cc

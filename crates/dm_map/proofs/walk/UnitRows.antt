@@ -1,0 +1,162 @@
+-- Units in a row, and the stretches on which they go on.
+use Rattle.std.proofs.Common.{◌≡◌, ℕ, zero, suc, ◌+◌, ◌-◌, ◌<◌, ◌≤◌, Bool, true, false, List, [], ◌∷◌, ◌++◌, refl, sym, ap, subst, ◌∙◌, arith}
+use Rattle.std.specs.Prelude.{◌||◌}
+use Rattle.std.proofs.lemmas.Bool.{or_from, or_left, or_right}
+use Rattle.dm_table.specs.declared.request.Op.TheVariants as ops
+use Rattle.dm_stack.specs.declared.graph.TheConstants.{MOST_DEPTH}
+use Rattle.dm_stack.specs.declared.id.Lower.{Lower}
+use Rattle.dm_stack.specs.Description.{Description}
+use Rattle.dm_map.specs.walk.Homes.{Home, GoOn}
+use Rattle.dm_map.specs.walk.Reads.{read_unit}
+use Rattle.dm_map.specs.pieces.Sink.{OfBeginning}
+use Rattle.dm_map.specs.walk.SnapshotWrites.{row, read, is_error, any_error, copy_to, write_to}
+use Rattle.dm_map.specs.state.State.{State}
+use Rattle.dm_map.specs.walk.Steps.{Step, keep}
+use Rattle.dm_map.specs.pieces.Units.{BlockUnit, ReadOf, WriteOf, Fails, next_unit, units_in}
+use Rattle.dm_map.specs.walk.Range.{range_step}
+
+-- Rows
+
+-- a row in two parts
+pub row-append : {X : Type 0} (f : ℕ → X) (sector m n : ℕ) → row f sector (m + n) ≡ row f sector m ++ row f (sector + m) n
+row-append f sector zero n = let e : 0 + n ≡ n = omega arith in let k : sector + 0 ≡ sector = omega arith in rw (e, k) refl
+row-append {X} f sector (suc m) n =
+    let e : suc m + n ≡ suc (m + n) = omega arith in let k : sector + suc m ≡ suc sector + m = omega arith in
+    rw (e, k) (ap (λ (rest : List X). f sector ∷ rest) (row-append f (suc sector) m n))
+
+-- two rows that are the same sector by sector
+pub row_same : {X : Type 0} (f h : ℕ → X) (s t n : ℕ) → ((i : ℕ) → i < n → f (s + i) ≡ h (t + i)) → row f s n ≡ row h t n
+row_same f h s t zero each = refl
+row_same {X} f h s t (suc n) each =
+    let here : f s ≡ h t = ap f (let e : s ≡ s + 0 = omega arith in e) ∙ each 0 (omega arith) ∙ ap h (let e : t + 0 ≡ t = omega arith in e) in
+    let later : row f (suc s) n ≡ row h (suc t) n = row_same f h (suc s) (suc t) n (λ i within.
+    ap f (let e : suc s + i ≡ s + suc i = omega arith in e) ∙ each (suc i) (omega (arith, within)) ∙ ap h (let e : t + suc i ≡ suc t + i = omega arith in e)) in
+    ap (λ (x : X). x ∷ row f (suc s) n) here ∙ ap (λ (rest : List X). h t ∷ rest) later
+
+-- the read of a range is the row of its reads
+pub read_row : (stack : Description) (levels : ℕ) (lower : Lower) (state : State) (sector n : ℕ) → range_step stack ops.Read levels lower state sector n ≡ keep (row (read_unit stack state levels lower) sector n) state
+read_row stack levels lower state sector zero = refl
+read_row stack levels lower state sector (suc n) =
+    ap (λ (rest : Step). record { units = read_unit stack state levels lower sector ∷ rest.units; state = rest.state }) (read_row stack levels lower state (suc sector) n)
+
+-- of a first stretch, the reads go on from the ground
+pub first_reads : (stack : Description) (state : State) (lower : Lower) (sector n : ℕ) (unit : BlockUnit) → range_step stack ops.Read MOST_DEPTH lower state sector n ≡ keep (units_in unit n) state → row (read stack state lower) sector n ≡ units_in unit n
+first_reads stack state lower sector n unit is = ap (λ (step : Step). step.units) (sym (read_row stack MOST_DEPTH lower state sector n) ∙ is)
+
+first_of_units : (us : List BlockUnit) (u v : BlockUnit) (vs : List BlockUnit) → u ∷ us ≡ v ∷ vs → (u ≡ v) × (us ≡ vs)
+first_of_units us u v vs same = (cc, cc)
+
+-- and so do fewer of them
+pub row_front : (f : ℕ → BlockUnit) (sector m n : ℕ) (unit : BlockUnit) → row f sector m ≡ units_in unit m → n ≤ m → row f sector n ≡ units_in unit n
+row_front f sector m zero unit same few = refl
+row_front f sector zero (suc n) unit same few = absurd (omega (arith, few))
+row_front f sector (suc m) (suc n) unit same few =
+    let parts = first_of_units (row f (suc sector) m) (f sector) unit (units_in (next_unit unit) m) same in
+    ap (λ (u : BlockUnit). u ∷ row f (suc sector) n) parts.0 ∙ ap (λ (rest : List BlockUnit). unit ∷ rest) (row_front f (suc sector) m n (next_unit unit) parts.1 (omega (arith, few)))
+
+-- What a sink took and left of a row
+
+pub took_row : {S : Type 0} (took : S → List BlockUnit → S → Type 0) (both : (a b c : S) (us vs : List BlockUnit) → took a us b → took b vs c → took a (us ++ vs) c)
+    (a b c : S) (f : ℕ → BlockUnit) (sector m n : ℕ) (units : List BlockUnit) → row f (sector + m) n ≡ units → took a (row f sector m) b → took b units c → took a (row f sector (m + n)) c
+took_row took both a b c f sector m n units is first second =
+    subst (λ (us : List BlockUnit). took a us c) (sym (row-append f sector m n ∙ ap (λ (us : List BlockUnit). row f sector m ++ us) is)) (both a b c (row f sector m) units first second)
+
+pub left_row : {S : Type 0} (took left : S → List BlockUnit → S → Type 0) (both : (a b c : S) (us vs : List BlockUnit) → took a us b → left b vs c → left a (us ++ vs) c)
+    (a b c : S) (f : ℕ → BlockUnit) (sector m n len : ℕ) (units : List BlockUnit) → m + n ≤ len → row f (sector + m) n ≡ units → took a (row f sector m) b → left b units c → OfBeginning left a (row f sector len) c
+left_row took left both a b c f sector m n len units within is first second =
+    let tail = row f (sector + (m + n)) (len - (m + n)) in
+    record {
+      front = row f sector m ++ units;
+      rest = tail;
+      whole = ap (λ (us : List BlockUnit). us ++ tail) (ap (λ (us : List BlockUnit). row f sector m ++ us) (sym is) ∙ sym (row-append f sector m n))
+          ∙ sym (row-append f sector (m + n) (len - (m + n)))
+          ∙ ap (λ (k : ℕ). row f sector k) (let e : m + n + (len - (m + n)) ≡ len = omega arith in e);
+      holds = both a b c (row f sector m) units first second;
+    }
+
+-- Errors
+
+pub any_error-append : (us vs : List BlockUnit) → any_error (us ++ vs) ≡ (any_error us || any_error vs)
+any_error-append [] vs = refl
+any_error-append (u ∷ us) vs = rw (any_error-append us vs) (or_assoc (is_error u) (any_error us) (any_error vs))
+  where
+    or_assoc : (a b c : Bool) → (a || (b || c)) ≡ ((a || b) || c)
+    or_assoc true b c = refl
+    or_assoc false b c = refl
+
+-- units that go on are errors where the first is one
+pub errors_go_on : (unit : BlockUnit) (n : ℕ) → is_error unit ≡ false → any_error (units_in unit n) ≡ false
+errors_go_on unit zero good = refl
+errors_go_on unit (suc n) good = or_from (is_error unit) _ good (errors_go_on (next_unit unit) n (next_good unit good))
+  where
+    next_good : (unit : BlockUnit) → is_error unit ≡ false → is_error (next_unit unit) ≡ false
+    next_good Fails good = good
+    next_good unit good = refl
+
+-- a row without an error goes on without one
+pub good_on : (f : ℕ → BlockUnit) (sector m n : ℕ) (unit : BlockUnit) → any_error (row f sector m) ≡ false → row f (sector + m) n ≡ units_in unit n → is_error unit ≡ false → any_error (row f sector (m + n)) ≡ false
+good_on f sector m n unit first is good =
+    ap any_error (row-append f sector m n) ∙ any_error-append (row f sector m) (row f (sector + m) n)
+    ∙ or_from (any_error (row f sector m)) (any_error (row f (sector + m) n)) first (ap any_error is ∙ errors_go_on unit n good)
+
+-- or it has one
+pub bad_on : (f : ℕ → BlockUnit) (sector m n len : ℕ) (unit : BlockUnit) → m + n ≤ len → 1 ≤ n → row f (sector + m) n ≡ units_in unit n → is_error unit ≡ true → any_error (row f sector len) ≡ true
+bad_on f sector m zero len unit within some is bad = absurd (omega (arith, some))
+bad_on f sector m (suc n) len unit within some is bad =
+    let rest = len - (m + suc n) in
+    let at : len ≡ m + (suc n + rest) = omega (arith, within) in
+    let part : any_error (row f (sector + m) (suc n)) ≡ true = ap any_error is ∙ or_left (is_error unit) (any_error (units_in (next_unit unit) n)) bad in
+    ap (λ (k : ℕ). any_error (row f sector k)) at ∙ ap any_error (row-append f sector m (suc n + rest)) ∙ any_error-append (row f sector m) (row f (sector + m) (suc n + rest))
+    ∙ or_right (any_error (row f sector m)) (any_error (row f (sector + m) (suc n + rest)))
+    (ap any_error (row-append f (sector + m) (suc n) rest) ∙ any_error-append (row f (sector + m) (suc n)) (row f (sector + m + suc n) rest)
+    ∙ or_left (any_error (row f (sector + m) (suc n))) (any_error (row f (sector + m + suc n) rest)) part)
+
+-- Copies and writes, by where their units go on
+
+go_on_here : (homes : ℕ → Home) (sector disk start n : ℕ) → GoOn homes sector disk start (suc n) → homes sector ≡ record { disk = disk; sector = start }
+go_on_here homes sector disk start n each =
+    ap homes (let e : sector ≡ sector + 0 = omega arith in e) ∙ each 0 (omega arith) ∙ ap (λ (s : ℕ). record { disk = disk; sector = s }) (let e : start + 0 ≡ start = omega arith in e)
+
+go_on_later : (homes : ℕ → Home) (sector disk start n : ℕ) → GoOn homes sector disk start (suc n) → GoOn homes (suc sector) disk (suc start) n
+go_on_later homes sector disk start n each i within =
+    ap homes (let e : suc sector + i ≡ sector + suc i = omega arith in e) ∙ each (suc i) (omega (arith, within)) ∙ ap (λ (s : ℕ). record { disk = disk; sector = s }) (let e : start + suc i ≡ suc start + i = omega arith in e)
+
+pub write_row : (homes : ℕ → Home) (sector disk start n : ℕ) → GoOn homes sector disk start n → row (λ s. write_to (homes s)) sector n ≡ units_in (WriteOf disk start) n
+write_row homes sector disk start zero each = refl
+write_row homes sector disk start (suc n) each =
+    ap (λ (home : Home). write_to home ∷ row (λ s. write_to (homes s)) (suc sector) n) (go_on_here homes sector disk start n each)
+    ∙ ap (λ (rest : List BlockUnit). WriteOf disk start ∷ rest) (write_row homes (suc sector) disk (suc start) n (go_on_later homes sector disk start n each))
+
+-- a copy goes on where both sides do
+copy_goes_on : (unit : BlockUnit) (disk sector : ℕ) → copy_to (next_unit unit) (record { disk = disk; sector = suc sector }) ≡ next_unit (copy_to unit (record { disk = disk; sector = sector }))
+copy_goes_on (ReadOf from at) disk sector = refl
+copy_goes_on unit disk sector = refl
+
+pub copy_row : (reads : ℕ → BlockUnit) (homes : ℕ → Home) (sector n : ℕ) (unit : BlockUnit) (disk start : ℕ) → row reads sector n ≡ units_in unit n → GoOn homes sector disk start n
+    → row (λ s. copy_to (reads s) (homes s)) sector n ≡ units_in (copy_to unit (record { disk = disk; sector = start })) n
+copy_row reads homes sector zero unit disk start same each = refl
+copy_row reads homes sector (suc n) unit disk start same each =
+    let parts = first_of_units (row reads (suc sector) n) (reads sector) unit (units_in (next_unit unit) n) same in
+    ap (λ (u : BlockUnit). copy_to u (homes sector) ∷ row (λ s. copy_to (reads s) (homes s)) (suc sector) n) parts.0
+    ∙ ap (λ (home : Home). copy_to unit home ∷ row (λ s. copy_to (reads s) (homes s)) (suc sector) n) (go_on_here homes sector disk start n each)
+    ∙ ap (λ (rest : List BlockUnit). copy_to unit (record { disk = disk; sector = start }) ∷ rest)
+    (copy_row reads homes (suc sector) n (next_unit unit) disk (suc start) parts.1 (go_on_later homes sector disk start n each)
+    ∙ ap (λ (u : BlockUnit). units_in u n) (copy_goes_on unit disk start))
+
+-- a row of reads of homes that goes on from one of a disk: so do the homes
+pub homes_go_on : (homes : ℕ → Home) (sector disk start n : ℕ) → row (λ s. ReadOf (homes s).disk (homes s).sector) sector n ≡ units_in (ReadOf disk start) n → GoOn homes sector disk start n
+homes_go_on homes sector disk start zero same i within = absurd (omega (arith, within))
+homes_go_on homes sector disk start (suc n) same zero within =
+    let parts = first_of_units (row (λ s. ReadOf (homes s).disk (homes s).sector) (suc sector) n) (ReadOf (homes sector).disk (homes sector).sector) (ReadOf disk start) (units_in (ReadOf disk (suc start)) n) same in
+    let on : (homes sector).disk ≡ disk = read_disk _ _ _ _ parts.0 in let at : (homes sector).sector ≡ start = read_sector _ _ _ _ parts.0 in
+    ap homes (let e : sector + 0 ≡ sector = omega arith in e) ∙ ap (λ (d : ℕ). record { disk = d; sector = (homes sector).sector }) on ∙ ap (λ (s : ℕ). record { disk = disk; sector = s }) (at ∙ (let e : start ≡ start + 0 = omega arith in e))
+  where
+    read_disk : (d s e t : ℕ) → ReadOf d s ≡ ReadOf e t → d ≡ e
+    read_disk d s e t same = cc
+
+    read_sector : (d s e t : ℕ) → ReadOf d s ≡ ReadOf e t → s ≡ t
+    read_sector d s e t same = cc
+homes_go_on homes sector disk start (suc n) same (suc i) within =
+    let parts = first_of_units (row (λ s. ReadOf (homes s).disk (homes s).sector) (suc sector) n) (ReadOf (homes sector).disk (homes sector).sector) (ReadOf disk start) (units_in (ReadOf disk (suc start)) n) same in
+    ap homes (let e : sector + suc i ≡ suc sector + i = omega arith in e) ∙ homes_go_on homes (suc sector) disk (suc start) n parts.1 i (omega (arith, within))
+    ∙ ap (λ (s : ℕ). record { disk = disk; sector = s }) (let e : suc start + i ≡ start + suc i = omega arith in e)

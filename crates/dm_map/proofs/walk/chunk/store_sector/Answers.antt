@@ -1,0 +1,11 @@
+use Rattle.std.proofs.Common.{◌≡◌, ◌+◌, ◌*◌, arith}
+use Rattle.dm_stack.specs.StoreLayout.{place}
+use Rattle.dm_stack.proofs.StoreLayoutLemmas.{place_within}
+use Rattle.dm_map.proofs.walk.chunk.store_sector.Goals as goal
+
+pub place-requires-clause-fits : goal.place-requires-clause-fits
+place-requires-clause-fits c =
+    let snapshot = c.args.snapshot.now in let at = place snapshot.kind snapshot.chunk c.args.number in
+    let within = place_within snapshot.kind snapshot.chunk c.args.number c.requires.chunk in
+    let sum : (at + 1) * snapshot.chunk ≡ at * snapshot.chunk + snapshot.chunk = grind arith in
+    omega (arith, within, sum, c.requires.small)

@@ -1,0 +1,46 @@
+use Rattle.std.proofs.Common.{◌≡◌, ◌+◌, List, take, sym, ap, subst, ◌∙◌, arith}
+use Rattle.std.proofs.lemmas.List.{take_all}
+use Rattle.std.proofs.lemmas.List.Elements.{recursion_from_All}
+use Rattle.dm_stack.specs.Below.{IsSnapshotSound}
+use Rattle.dm_stack.specs.Description.{Description, device_len}
+use Rattle.dm_stack.specs.declared.found_line.FoundOver.{FoundOver}
+use Rattle.dm_map.specs.walk.Serving.{AreSettled, IsOver, serve}
+use Rattle.dm_map.specs.state.State.{State}
+use Rattle.dm_map.proofs.walk.Served.{over_at, over_sound, over_there, serve_settled, served_cut, served_on}
+use Rattle.dm_map.proofs.walk.WalkedOn.{walked_none}
+use Rattle.dm_map.proofs.walk.serving.serve.Goals as goal
+
+pub loop-one-init : goal.loop-one-init
+unfolding serve
+loop-one-init g c = walked_none g.S.Sink.took g.S.Sink.left g.S.Sink.stack g.S.Sink.room g.S.Sink.faults c.args.sink.now c.args.walker.now (g.met.S.Sink.took_nothing c.args.sink.now)
+
+pub nonzero_div-chunk : goal.nonzero_div-chunk
+nonzero_div-chunk g c =
+    let a = c.args in let w = a.walker.now in let l = c.loop-one in
+    (over_sound w.stack (a.sector + 1) c.one-item.result c.is_sound.ensures (over_at w.stack (a.sector + 1) a.over.now l.one-index c.one-item.result c.requires.over c.loop-one-test.true c.one-item.is)).chunk_some
+
+pub take_chunk-requires-clause-sound : goal.take_chunk-requires-clause-sound
+take_chunk-requires-clause-sound g c =
+    let a = c.args in let w = a.walker.now in let l = c.loop-one in let one = c.one-item.result in
+    let it = over_at w.stack (a.sector + 1) a.over.now l.one-index one c.requires.over c.loop-one-test.true c.one-item.is in
+    subst (λ (s : Description). IsSnapshotSound s one.device 0 (device_len s one.device) one.snapshot) (sym l.invariant.stack) (over_sound w.stack (a.sector + 1) one c.is_sound.ensures it)
+
+pub returns-in_err-take_chunk-clause-walked : goal.returns-in_err-take_chunk-clause-walked
+returns-in_err-take_chunk-clause-walked g c =
+    let a = c.args in let w = a.walker.now in let l = c.loop-one in let one = c.one-item.result in
+    served_cut g.S.Sink.took g.S.Sink.left g.S.Sink.stack g.S.Sink.room g.S.Sink.faults _ c.from_residual.result a.sink.now c.take_chunk.new.sink w c.take_chunk.new.walker a.over.now (l.one-index + 1) a.sector c.from_residual.ensures.0
+    (served_on g.S.Sink.took g.S.Sink.left g.S.Sink.stack g.S.Sink.room g.S.Sink.faults g.met.S.Sink.took_then_took g.met.S.Sink.took_then_left _ a.sink.now l.sink c.take_chunk.new.sink w l.walker c.take_chunk.new.walker a.over.now l.one-index a.sector one c.loop-one-test.true c.one-item.is l.invariant c.in_err-take_chunk.ensures)
+
+pub loop-one-preserved : goal.loop-one-preserved
+loop-one-preserved g c =
+    let a = c.args in let w = a.walker.now in let l = c.loop-one in let one = c.one-item.result in
+    let on = served_on g.S.Sink.took g.S.Sink.left g.S.Sink.stack g.S.Sink.room g.S.Sink.faults g.met.S.Sink.took_then_took g.met.S.Sink.took_then_left _ a.sink.now l.sink c.take_chunk.new.sink w l.walker c.take_chunk.new.walker a.over.now l.one-index a.sector one c.loop-one-test.true c.one-item.is l.invariant c.in_ok-take_chunk.ensures in
+    record { took = on.took; state = on.state; kept = on.kept; room = on.room; left = tt; faults = on.faults; stack = on.stack; looked = on.looked }
+
+pub returns-clause-settled : goal.returns-clause-settled
+returns-clause-settled g c =
+    let a = c.args in let w = a.walker.now in let l = c.loop-one in let over = a.over.now in
+    let all : take l.one-index over ≡ over = take_all l.one-index over (omega (arith, c.loop-one-test.false)) in
+    let there = over_there w.stack w.state (a.sector + 1) over c.has_tables.ensures (omega arith) (recursion_from_All (IsOver w.stack (a.sector + 1)) over c.requires.over) in
+    let settled = serve_settled w.stack over a.sector w.state there in
+    subst (λ (s : State). AreSettled s over a.sector) (sym (l.invariant.state ∙ ap (λ (xs : List FoundOver). (serve w.stack xs a.sector w.state).state) all)) settled

@@ -1,0 +1,9 @@
+-- those so far are served
+use Rattle.std.proofs.Common.{take}
+use Rattle.dm_map.specs.walk.Serving.{serve}
+use Rattle.dm_map.specs.walk.Range.{IsWalked}
+use Rattle.dm_map.proofs.walk.WalkedOn.{going_on}
+use Rattle.dm_map.proofs.walk.serving.serve.Given as goal
+
+abbrev pub invariant-loop-one : goal.invariant-loop-one
+invariant-loop-one g l = IsWalked g.S.Sink.took g.S.Sink.left g.S.Sink.stack g.S.Sink.room g.S.Sink.faults going_on l.fn.sink l.sink l.fn.walker l.walker (serve l.fn.walker.stack (take l.one-index l.over) l.sector l.fn.walker.state) 0

@@ -1,0 +1,35 @@
+use Rattle.std.proofs.Common.{◌≡◌, ℕ, ◌+◌, ◌*◌, ◌%◌, ◌<◌, length, sym, ap, subst, ◌∙◌, arith}
+use Rattle.std.proofs.lemmas.Nat.{mod-mul-add}
+use Rattle.dm_stack.specs.Description.{Description}
+use Rattle.dm_map.specs.state.Walker.{StackState}
+use Rattle.dm_map.proofs.walk.InStack.{device_there}
+use Rattle.dm_map.proofs.walk.take_chunk.take_chunk.Goals as goal
+
+pub len-end-requires : goal.len-end-requires
+len-end-requires g c = device_there c.args.walker.now.stack c.args.device _ c.requires.inside
+
+pub overflow_mul-first : goal.overflow_mul-first
+overflow_mul-first g c = omega (arith, c.requires.inside, c.len-end.ensures.len, c.len-end.ensures.small)
+
+pub can_take-requires-clause-device : goal.can_take-requires-clause-device
+can_take-requires-clause-device g c = device_there c.args.walker.now.stack c.args.device _ c.requires.inside
+
+pub invalidate-requires : goal.invalidate-requires
+invalidate-requires g c =
+    record { device = subst (λ (w : StackState). c.args.device < length w.stack.devices) (sym c.can_take.ensures.same) (device_there c.args.walker.now.stack c.args.device _ c.requires.inside) }
+
+pub count-number-requires : goal.count-number-requires
+count-number-requires g c =
+    subst (λ (w : StackState). c.args.device < length w.stack.devices) (sym c.can_take.ensures.same) (device_there c.args.walker.now.stack c.args.device _ c.requires.inside)
+
+pub copy_chunk-requires-clause-part : goal.copy_chunk-requires-clause-part
+copy_chunk-requires-clause-part g c =
+    let chunk = c.args.snapshot.now.chunk in
+    let first : (c.args.chunk * chunk + 0) % chunk ≡ 0 = mod-mul-add c.args.chunk chunk 0 c.requires.sound.chunk_some in
+    let whole : c.args.chunk * chunk ≡ c.args.chunk * chunk + 0 = omega arith in
+    let none : (c.args.chunk * chunk) % chunk ≡ 0 = ap (λ (n : ℕ). n % chunk) whole ∙ first in
+    omega (arith, none, c.min-count.ensures)
+
+pub take-requires-clause-device : goal.take-requires-clause-device
+take-requires-clause-device g c =
+    subst (λ (s : Description). c.args.device < length s.devices) (sym (c.in_ok-copy_chunk.ensures.stack ∙ ap (λ (w : StackState). w.stack) c.can_take.ensures.same)) (device_there c.args.walker.now.stack c.args.device _ c.requires.inside)

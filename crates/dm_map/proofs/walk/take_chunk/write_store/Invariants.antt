@@ -1,0 +1,15 @@
+use Rattle.std.proofs.Common.{◌≡◌, ◌+◌, ◌-◌, ◌≤◌}
+use Rattle.dm_map.specs.walk.SnapshotWrites.{store_writes}
+use Rattle.dm_map.proofs.walk.ChunkCopies.{IsGoingOn}
+use Rattle.dm_map.proofs.walk.take_chunk.write_store.Given as goal
+
+abbrev pub invariant-loop-left : goal.invariant-loop-left
+invariant-loop-left g l = record {
+  taken : g.S.Sink.took l.fn.sink (store_writes l.fn.walker.stack l.store l.sector (l.len - l.left)) l.sink;
+  within : l.left ≤ l.len;
+  position : l.at + l.left ≡ l.sector + l.len;
+  going_on : IsGoingOn g.S.Sink.stack g.S.Sink.room g.S.Sink.faults l.fn.sink l.sink l.fn.walker l.walker;
+}
+
+abbrev pub decreases-loop-left : goal.decreases-loop-left
+decreases-loop-left g l = l.left

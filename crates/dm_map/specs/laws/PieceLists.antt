@@ -1,0 +1,22 @@
+-- The laws of a sink, for a list of pieces. They are among the specs since its impl cites them.
+use Rattle.std.proofs.Common.{List, [], ◌++◌, append_assoc, sym, ap, ◌∙◌}
+use Rattle.std.proofs.lemmas.List.{append-nil}
+use Rattle.dm_map.specs.pieces.Units.{BlockUnit}
+use Rattle.dm_map.specs.pieces.Sink.{OfBeginning}
+use Rattle.dm_map.specs.pieces.PieceList.{PieceListView, Appends, units_of_all}
+
+pub appends_nothing : (a : PieceListView) → Appends a [] a
+appends_nothing a = record { appended = sym (append-nil (units_of_all a.pieces)) }
+
+pub appends_both : (a b c : PieceListView) (us vs : List BlockUnit) → Appends a us b → Appends b vs c → Appends a (us ++ vs) c
+appends_both a b c us vs first second = record {
+  appended = second.appended ∙ ap (λ (units : List BlockUnit). units ++ vs) first.appended ∙ append_assoc (units_of_all a.pieces) us vs;
+}
+
+pub appends_beginning : (a b c : PieceListView) (us vs : List BlockUnit) → Appends a us b → OfBeginning Appends b vs c → OfBeginning Appends a (us ++ vs) c
+appends_beginning a b c us vs first second = record {
+  front = us ++ second.front;
+  rest = second.rest;
+  whole = append_assoc us second.front second.rest ∙ ap (λ (units : List BlockUnit). us ++ units) second.whole;
+  holds = appends_both a b c us second.front first second.holds;
+}

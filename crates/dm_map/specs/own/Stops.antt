@@ -1,0 +1,25 @@
+-- A request of which only the first units are played: those, and the state that it leaves.
+use Rattle.std.specs.Prelude.{ℕ, ◌+◌, List, nat_lt, take, if◌then◌else◌}
+use Rattle.dm_table.specs.declared.request.Op.{Op}
+use Rattle.dm_stack.specs.declared.graph.TheConstants.{MOST_DEPTH}
+use Rattle.dm_stack.specs.declared.id.Lower.TheVariants.{Device}
+use Rattle.dm_stack.specs.Description.{Description, device_len}
+use Rattle.dm_map.specs.own.Contents.{sector_past}
+use Rattle.dm_map.specs.walk.Mapping.{request_step, sector_step}
+use Rattle.dm_map.specs.state.State.{State}
+use Rattle.dm_map.specs.walk.Steps.{steps}
+use Rattle.dm_map.specs.pieces.Units.{BlockUnit}
+
+-- the state after the first sectors of a request: one that passes the device's end changes nothing
+abbrev pub state_past : Description → Op → (device start len sectors : ℕ) → State → State
+state_past stack op device start len sectors state =
+    if nat_lt (device_len stack device) (start + len) then state
+    else (steps (sector_step stack op MOST_DEPTH (Device device)) state start sectors).state
+
+abbrev pub stopped_units : Description → Op → (device start len count : ℕ) → State → List BlockUnit
+stopped_units stack op device start len count state = take count (request_step stack op device start len state).units
+
+-- the state after the sectors whose units were all played: each has one unit that answers
+abbrev pub stopped_state : Description → Op → (device start len count : ℕ) → State → State
+stopped_state stack op device start len count state =
+    state_past stack op device start len (sector_past (stopped_units stack op device start len count state) 0) state

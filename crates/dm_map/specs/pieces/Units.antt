@@ -1,0 +1,79 @@
+-- What becomes of one sector of a request, the units of a piece, and where a piece lies.
+use Rattle.std.specs.Prelude.{ℕ, zero, suc, ◌+◌, ◌<◌, ◌≤◌, List, [], ◌∷◌, length}
+use Rattle.dm_stack.specs.Description.{Description, disk_len}
+use Rattle.dm_map.specs.declared.pieces.piece.Piece.{Piece}
+use Rattle.dm_map.specs.declared.pieces.piece.Piece.TheVariants as pieces
+
+-- the unit of one sector: a read or a write of a sector of a disk, zeros, a write thrown away, an error, a copy of a disk's sector to another, or zeros written to a disk's sector
+pub data BlockUnit : Type 0 where
+  ReadOf : (disk sector : ℕ) → BlockUnit
+  WriteOf : (disk sector : ℕ) → BlockUnit
+  Zeros : BlockUnit
+  Drops : BlockUnit
+  Fails : BlockUnit
+  CopyOf : (disk sector to to_sector : ℕ) → BlockUnit
+  FillOf : (disk sector : ℕ) → BlockUnit
+
+-- the unit that continues another: of the same kind, on the same disks, at the next sectors
+abbrev pub next_unit : BlockUnit → BlockUnit
+next_unit (ReadOf disk sector) = ReadOf disk (suc sector)
+next_unit (WriteOf disk sector) = WriteOf disk (suc sector)
+next_unit Zeros = Zeros
+next_unit Drops = Drops
+next_unit Fails = Fails
+next_unit (CopyOf disk sector to to_sector) = CopyOf disk (suc sector) to (suc to_sector)
+next_unit (FillOf disk sector) = FillOf disk (suc sector)
+
+-- len units, each continuing the one before
+abbrev pub units_in : BlockUnit → ℕ → List BlockUnit
+units_in unit zero = []
+units_in unit (suc len) = unit ∷ units_in (next_unit unit) len
+
+-- the unit of a piece's first sector
+abbrev pub first_unit : Piece → BlockUnit
+first_unit (pieces.Read disk start len) = ReadOf disk start
+first_unit (pieces.Write disk start len) = WriteOf disk start
+first_unit (pieces.Zero len) = Zeros
+first_unit (pieces.Drop len) = Drops
+first_unit (pieces.Error len) = Fails
+first_unit (pieces.Copy disk start len to to_start) = CopyOf disk start to to_start
+first_unit (pieces.Fill len disk start) = FillOf disk start
+
+-- the sectors of a piece
+abbrev pub piece_len : Piece → ℕ
+piece_len (pieces.Read disk start len) = len
+piece_len (pieces.Write disk start len) = len
+piece_len (pieces.Zero len) = len
+piece_len (pieces.Drop len) = len
+piece_len (pieces.Error len) = len
+piece_len (pieces.Copy disk start len to to_start) = len
+piece_len (pieces.Fill len disk start) = len
+
+-- the units of a piece
+abbrev pub units_of : Piece → List BlockUnit
+units_of piece = units_in (first_unit piece) (piece_len piece)
+
+-- the sectors of a piece that has no disk, and 0 for any other
+abbrev pub diskless_len : Piece → ℕ
+diskless_len (pieces.Read disk start len) = 0
+diskless_len (pieces.Write disk start len) = 0
+diskless_len (pieces.Zero len) = len
+diskless_len (pieces.Drop len) = len
+diskless_len (pieces.Error len) = len
+diskless_len (pieces.Copy disk start len to to_start) = 0
+diskless_len (pieces.Fill len disk start) = 0
+
+-- len sectors of a disk of the stack, from a start on, are there
+pub record IsOnDisk (stack : Description) (disk start len : ℕ) : Type 0 where
+  pub there : disk < length stack.disks
+  pub inside : start + len ≤ disk_len stack disk
+
+-- the sectors of a piece are there, on each disk that it has
+abbrev pub IsOnDisks : Description → Piece → Type 0
+IsOnDisks stack (pieces.Read disk start len) = IsOnDisk stack disk start len
+IsOnDisks stack (pieces.Write disk start len) = IsOnDisk stack disk start len
+IsOnDisks stack (pieces.Zero len) = Unit {0}
+IsOnDisks stack (pieces.Drop len) = Unit {0}
+IsOnDisks stack (pieces.Error len) = Unit {0}
+IsOnDisks stack (pieces.Copy disk start len to to_start) = IsOnDisk stack disk start len × IsOnDisk stack to to_start len
+IsOnDisks stack (pieces.Fill len disk start) = IsOnDisk stack disk start len

@@ -1,0 +1,18 @@
+-- States that a stack can be in.
+use Rattle.std.specs.Prelude.{ℕ, ◌≡◌, ◌<◌, ◌≤◌, true, Some, length}
+use Rattle.dm_stack.specs.declared.found_line.FoundSnapshot.{FoundSnapshot}
+use Rattle.dm_stack.specs.Description.{Description, lower_len}
+use Rattle.dm_stack.specs.StoreLayout.{places}
+use Rattle.dm_map.specs.state.Snapshots.{has_place}
+use Rattle.dm_map.specs.state.State.{State, taken_at}
+use Rattle.dm_map.specs.state.Tables.{snapshot_at}
+
+-- a list of taken chunks for each device, no longer than the store of a snapshot has places
+pub record IsFitting (stack : Description) (state : State) : Type 0 where
+  pub count : length state ≡ length stack.devices
+  pub places : (device number : ℕ) (snapshot : FoundSnapshot) → snapshot_at stack device ≡ Some snapshot → number < length (taken_at state device).chunks → has_place stack snapshot number ≡ true
+
+-- no snapshot took more chunks than its store has places
+abbrev pub IsWithinPlaces : Description → State → Type 0
+IsWithinPlaces stack state =
+    (device : ℕ) (snapshot : FoundSnapshot) → snapshot_at stack device ≡ Some snapshot → length (taken_at state device).chunks ≤ places snapshot.kind snapshot.chunk (lower_len stack snapshot.store)

@@ -1,0 +1,52 @@
+-- Tables of taken chunks, one for each device of a stack, as a state.
+use Rattle.std.specs.Prelude.{ℕ, ◌≡◌, Bool, false, List, Option, Some, None, length, map, nat_lt, slice_get}
+use Rattle.dm_stack.specs.declared.found_line.FoundLine.{FoundLine}
+use Rattle.dm_stack.specs.declared.found_line.FoundOrigin.{FoundOrigin}
+use Rattle.dm_stack.specs.declared.found_line.FoundSnapshot.{FoundSnapshot}
+use Rattle.dm_stack.specs.declared.found_line.FoundTarget.{FoundTarget}
+use Rattle.dm_stack.specs.declared.found_line.FoundTarget.TheVariants as found
+use Rattle.dm_stack.specs.Description.{Description}
+use Rattle.dm_stack.specs.Below.{found_at}
+use Rattle.dm_map.specs.state.Snapshots.{has_place}
+use Rattle.dm_map.specs.state.State.{State}
+
+-- the state that tables have
+abbrev pub state_of : {T : Type 0} → (T → List ℕ) → (T → Bool) → List T → State
+state_of chunks valid tables = map (λ table. record { chunks = chunks table; valid = valid table }) tables
+
+-- the snapshot that a device is, by its line at sector 0
+abbrev pub snapshot_of : FoundTarget → Option FoundSnapshot
+snapshot_of (found.Snapshot snapshot) = Some snapshot
+snapshot_of _ = None
+
+abbrev pub snapshot_of_line : Option FoundLine → Option FoundSnapshot
+snapshot_of_line (Some line) = snapshot_of line.target
+snapshot_of_line None = None
+
+abbrev pub snapshot_at : Description → (device : ℕ) → Option FoundSnapshot
+snapshot_at stack device = snapshot_of_line (found_at stack device 0)
+
+-- the origin that a device is the device of, by its line at sector 0
+abbrev pub origin_of : FoundTarget → Option FoundOrigin
+origin_of (found.Origin origin) = Some origin
+origin_of _ = None
+
+abbrev pub origin_of_line : Option FoundLine → Option FoundOrigin
+origin_of_line (Some line) = origin_of line.target
+origin_of_line None = None
+
+abbrev pub origin_at : Description → (device : ℕ) → Option FoundOrigin
+origin_at stack device = origin_of_line (found_at stack device 0)
+
+-- its store has a place for the taken chunk of this number; a device that is no snapshot has none
+abbrev pub room_of : Description → Option FoundSnapshot → (number : ℕ) → Bool
+room_of stack (Some snapshot) number = has_place stack snapshot number
+room_of stack None number = false
+
+abbrev pub has_room : Description → (device number : ℕ) → Bool
+has_room stack device number = room_of stack (snapshot_at stack device) number
+
+-- the tables of a stack: one for each device, with the places that its store has
+pub record AreTables {T : Type 0} (places : T → ℕ) (stack : Description) (tables : List T) : Type 0 where
+  pub count : length tables ≡ length stack.devices
+  pub room : (device number : ℕ) (table : T) → slice_get tables device ≡ Some table → nat_lt number (places table) ≡ has_room stack device number

@@ -1,0 +1,45 @@
+-- Where a sector of a store lies on a disk.
+use Rattle.std.specs.Prelude.{◌≡◌, ℕ, zero, suc, ◌+◌, ◌<◌, ◌≤◌, length}
+use Rattle.dm_stack.specs.declared.graph.TheConstants.{MOST_DEPTH}
+use Rattle.dm_stack.specs.declared.id.Lower.{Lower}
+use Rattle.dm_stack.specs.declared.id.Lower.TheVariants.{Device, Disk}
+use Rattle.dm_stack.specs.Below.{IsError, below}
+use Rattle.dm_stack.specs.Description.{Description}
+use Rattle.dm_stack.specs.Soundness.{depth_of}
+use Rattle.dm_map.specs.declared.walk.take_chunk.HomeStretch.{HomeStretch}
+use Rattle.dm_map.specs.walk.Reads.{by_below}
+use Rattle.dm_map.specs.pieces.Units.{IsOnDisk}
+
+-- a sector of a disk
+pub record Home : Type 0 where
+  pub disk : ℕ
+  pub sector : ℕ
+
+-- what has no home: a store has linear and striped lines alone, down to disks
+abbrev pub nowhere : Home
+nowhere = record { disk = 0; sector = 0 }
+
+unfoldable pub home_to : Description → ℕ → Lower → ℕ → Home
+home_to stack levels (Disk disk) sector = record { disk = disk; sector = sector }
+home_to stack zero (Device device) sector = nowhere
+home_to stack (suc levels) (Device device) sector =
+    by_below (below (λ snapshot sector. IsError) stack device sector) nowhere nowhere (λ to lower. home_to stack levels to lower)
+
+-- no stack has more levels
+abbrev pub home : Description → Lower → ℕ → Home
+home stack lower sector = home_to stack MOST_DEPTH lower sector
+
+-- any number of levels that is at least a device's depth gives the homes that the greatest does
+pub record AreHomesFreeOfLevels (stack : Description) : Type 0 where
+  pub same : (device levels sector : ℕ) → device < length stack.devices → depth_of stack device ≤ levels → home_to stack levels (Device device) sector ≡ home stack (Device device) sector
+
+-- the homes of len sectors go on from one
+abbrev pub GoOn : (homes : ℕ → Home) → (sector disk start len : ℕ) → Type 0
+GoOn homes sector disk start len = (i : ℕ) → i < len → homes (sector + i) ≡ record { disk = disk; sector = start + i }
+
+-- the first sectors of a range of len of a store lie in a row on a disk, which has them
+pub record IsFirstHomes (stack : Description) (store : Lower) (sector len : ℕ) (first : HomeStretch) : Type 0 where
+  pub some : 1 ≤ first.len
+  pub most : first.len ≤ len
+  pub homes : GoOn (home stack store) sector first.disk first.start first.len
+  pub lies : IsOnDisk stack first.disk first.start first.len

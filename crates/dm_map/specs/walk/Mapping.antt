@@ -1,0 +1,56 @@
+-- What becomes of each sector of a request (the kernel's admin guide, device-mapper/linear, striped, zero and snapshot).
+use Rattle.std.specs.Prelude.{ℕ, zero, suc, ◌+◌, ◌-◌, ◌≡◌, ◌≤◌, ◌<◌, [], ◌∷◌, Option, Some, None, length, nat_lt, replicate, if◌then◌else◌}
+use Rattle.dm_table.specs.declared.request.Op.{Op}
+use Rattle.dm_table.specs.declared.request.Op.TheVariants as ops
+use Rattle.dm_stack.specs.declared.id.Lower.{Lower}
+use Rattle.dm_stack.specs.declared.id.Lower.TheVariants.{Device, Disk}
+use Rattle.dm_stack.specs.declared.found_line.FoundLine.{FoundLine}
+use Rattle.dm_stack.specs.declared.found_line.FoundTarget.{FoundTarget}
+use Rattle.dm_stack.specs.declared.found_line.FoundTarget.TheVariants as found
+use Rattle.dm_stack.specs.declared.graph.TheConstants.{MOST_DEPTH}
+use Rattle.dm_stack.specs.Description.{Description, device_len, is_ro_at}
+use Rattle.dm_stack.specs.Below.{below_stripes, found_at}
+use Rattle.dm_stack.specs.Soundness.{depth_of}
+use Rattle.dm_map.specs.walk.Reads.{by_below, read_unit}
+use Rattle.dm_map.specs.walk.Serving.{served_step}
+use Rattle.dm_map.specs.walk.SnapshotWrites.{write_snapshot}
+use Rattle.dm_map.specs.state.State.{State}
+use Rattle.dm_map.specs.walk.Steps.{Step, keep, steps}
+use Rattle.dm_map.specs.pieces.Units.{WriteOf, Drops, Fails}
+
+-- the write of a sector at a distance from the start of a line of this target, by that of a lower one: zeros throw it away, and the snapshots of an origin are served first
+abbrev pub write_target : Description → State → (device : ℕ) → FoundTarget → (distance : ℕ) → (Lower → State → ℕ → Step) → Step
+write_target stack state device (found.Linear to offset) distance next = next to state (offset + distance)
+write_target stack state device (found.Striped chunk columns) distance next = by_below (below_stripes chunk columns distance) (keep (Drops ∷ []) state) (keep (Fails ∷ []) state) (λ to sector. next to state sector)
+write_target stack state device found.Zero distance next = keep (Drops ∷ []) state
+write_target stack state device found.Error distance next = keep (Fails ∷ []) state
+write_target stack state device (found.Snapshot snapshot) distance next = write_snapshot stack snapshot device state distance
+write_target stack state device (found.Origin origin) distance next = served_step stack origin.over (next origin.to) state distance
+
+abbrev pub write_line : Description → State → (device : ℕ) → Option FoundLine → (sector : ℕ) → (Lower → State → ℕ → Step) → Step
+write_line stack state device (Some line) sector next = write_target stack state device line.target (sector - line.start) next
+write_line stack state device None sector next = keep (Fails ∷ []) state
+
+-- the write of a sector, through at most this many levels of devices: a read-only device fails it, whatever its line says
+unfoldable pub write_step : Description → ℕ → Lower → State → ℕ → Step
+write_step stack levels (Disk disk) state sector = keep (WriteOf disk sector ∷ []) state
+write_step stack zero (Device device) state sector = keep (Fails ∷ []) state
+write_step stack (suc levels) (Device device) state sector =
+    if is_ro_at stack device then keep (Fails ∷ []) state
+    else write_line stack state device (found_at stack device sector) sector (λ to after lower. write_step stack levels to after lower)
+
+-- the step of a sector, for either operation: a read changes nothing
+abbrev pub sector_step : Description → Op → ℕ → Lower → State → ℕ → Step
+sector_step stack ops.Read levels lower state sector = keep (read_unit stack state levels lower sector ∷ []) state
+sector_step stack ops.Write levels lower state sector = write_step stack levels lower state sector
+
+-- the step of a request of a device: its sectors in rising order; one that passes the device's end fails as a whole. No stack has more levels
+abbrev pub request_step : Description → Op → (device start len : ℕ) → State → Step
+request_step stack op device start len state =
+    if nat_lt (device_len stack device) (start + len) then keep (replicate len Fails) state
+    else steps (sector_step stack op MOST_DEPTH (Device device)) state start len
+
+-- any number of levels that is at least a device's depth gives the step that the greatest does, in any state
+pub record IsFreeOfLevels (stack : Description) (op : Op) : Type 0 where
+  pub same : (device levels sector : ℕ) (state : State) → device < length stack.devices → depth_of stack device ≤ levels
+      → sector_step stack op levels (Device device) state sector ≡ sector_step stack op MOST_DEPTH (Device device) state sector

@@ -1,0 +1,74 @@
+-- The path of a sector that is read, and the stretches of a read: its sectors in runs of one path.
+use Rattle.std.specs.Prelude.{ℕ, zero, suc, ◌+◌, ◌-◌, ◌/◌, ◌==◌, ◌&&◌, Bool, true, false, List, [], ◌∷◌, Option, Some, None, nat_lt, if◌then◌else◌}
+use Rattle.std.specs.Cmp.Lexicographic.{pointwise}
+use Rattle.dm_stack.specs.declared.graph.TheConstants.{MOST_DEPTH}
+use Rattle.dm_stack.specs.declared.id.Lower.{Lower}
+use Rattle.dm_stack.specs.declared.id.Lower.TheVariants.{Device, Disk}
+use Rattle.dm_stack.specs.declared.found_line.FoundLine.{FoundLine}
+use Rattle.dm_stack.specs.declared.found_line.FoundTarget.{FoundTarget}
+use Rattle.dm_stack.specs.declared.found_line.FoundTarget.TheVariants as found
+use Rattle.dm_stack.specs.Description.{Description, device_len}
+use Rattle.dm_stack.specs.Below.{below_target, found_at}
+use Rattle.dm_map.specs.walk.Reads.{by_below}
+use Rattle.dm_map.specs.state.Snapshots.{read_over}
+use Rattle.dm_map.specs.state.State.{State, taken_at}
+
+-- The path of a sector
+
+-- a step of it: a device, the start of the line that has the sector there, and the chunk of a striped line or of a snapshot
+pub record PathStep : Type 0 where
+  pub device : ℕ
+  pub start : ℕ
+  pub chunk : Option ℕ
+
+-- the chunk that has a sector at a distance from the line's start
+abbrev pub chunk_at : FoundTarget → (distance : ℕ) → Option ℕ
+chunk_at (found.Striped chunk columns) distance = Some (distance / chunk)
+chunk_at (found.Snapshot snapshot) distance = Some (distance / snapshot.chunk)
+chunk_at _ distance = None
+
+-- the step of a line, and the path of what lies below: none below zeros, errors and a snapshot that isn't valid
+abbrev pub line_path : State → (device : ℕ) → FoundLine → (distance : ℕ) → (next : Lower → ℕ → List PathStep) → List PathStep
+line_path state device line distance next =
+    record { device = device; start = line.start; chunk = chunk_at line.target distance }
+    ∷ by_below (below_target (read_over (taken_at state device)) line.target distance) [] [] next
+
+abbrev pub found_path : State → (device : ℕ) → Option FoundLine → (sector : ℕ) → (next : Lower → ℕ → List PathStep) → List PathStep
+found_path state device (Some line) sector next = line_path state device line (sector - line.start) next
+found_path state device None sector next = []
+
+-- from the device down to a disk, through at most this many levels of devices
+unfoldable pub path : Description → State → ℕ → Lower → ℕ → List PathStep
+path stack state levels (Disk disk) sector = []
+path stack state zero (Device device) sector = []
+path stack state (suc levels) (Device device) sector =
+    found_path state device (found_at stack device sector) sector (λ to lower. path stack state levels to lower)
+
+-- Stretches
+
+abbrev pub is_same_chunk : Option ℕ → Option ℕ → Bool
+is_same_chunk None None = true
+is_same_chunk None (Some other) = false
+is_same_chunk (Some chunk) None = false
+is_same_chunk (Some chunk) (Some other) = chunk == other
+
+abbrev pub is_same_step : PathStep → PathStep → Bool
+is_same_step step other = step.device == other.device && (step.start == other.start && is_same_chunk step.chunk other.chunk)
+
+abbrev pub is_same_path : List PathStep → List PathStep → Bool
+is_same_path = pointwise is_same_step
+
+-- how often the path changes from one sector to the next, len times on from a sector
+abbrev pub changes : (ℕ → List PathStep) → (sector len : ℕ) → ℕ
+changes paths sector zero = 0
+changes paths sector (suc len) = (if is_same_path (paths sector) (paths (suc sector)) then 0 else 1) + changes paths (suc sector) len
+
+-- the longest runs of neighbouring sectors with one path, of len sectors: one more than there are changes
+abbrev pub stretches : (ℕ → List PathStep) → (sector len : ℕ) → ℕ
+stretches paths sector zero = 0
+stretches paths sector (suc len) = suc (changes paths sector len)
+
+-- those of a read of a device's sectors: none if it passes the device's end. No stack has more levels
+abbrev pub read_stretches : Description → State → (device start len : ℕ) → ℕ
+read_stretches stack state device start len =
+    if nat_lt (device_len stack device) (start + len) then 0 else stretches (path stack state MOST_DEPTH (Device device)) start len

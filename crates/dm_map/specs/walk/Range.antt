@@ -1,0 +1,96 @@
+-- What a walk down a stack hands over: the steps of ranges and of lines.
+use Rattle.std.specs.Prelude.{ℕ, ◌≡◌, ◌+◌, ◌≤◌, Bool, false, List, [], ◌∷◌, Result, OnOk, OnErr}
+use Rattle.dm_table.specs.declared.request.Op.{Op}
+use Rattle.dm_table.specs.declared.request.Op.TheVariants as ops
+use Rattle.dm_table.specs.DeviceIo.{fault_of}
+use Rattle.dm_stack.specs.declared.id.Lower.{Lower}
+use Rattle.dm_stack.specs.declared.found_line.FoundColumn.{FoundColumn}
+use Rattle.dm_stack.specs.declared.found_line.FoundOrigin.{FoundOrigin}
+use Rattle.dm_stack.specs.declared.found_line.FoundTarget.{FoundTarget}
+use Rattle.dm_stack.specs.Description.{Description, is_ro_at, lower_len}
+use Rattle.dm_stack.specs.Below.{Below, below_stripes, below_target}
+use Rattle.dm_stack.specs.Over.{snapshots_over}
+use Rattle.dm_map.specs.state.Counts.{AreAdded}
+use Rattle.dm_map.specs.pieces.Sink.{OfBeginning}
+use Rattle.dm_map.specs.walk.Reads.{by_below, read_unit}
+use Rattle.dm_map.specs.walk.Serving.{served_step}
+use Rattle.dm_map.specs.state.Snapshots.{read_over}
+use Rattle.dm_map.specs.state.State.{State, taken_at}
+use Rattle.dm_map.specs.walk.Steps.{Step, keep, steps}
+use Rattle.dm_map.specs.state.Walker.{WalkerView}
+use Rattle.dm_map.specs.pieces.Units.{BlockUnit, ReadOf, WriteOf, Zeros, Drops, Fails}
+use Rattle.dm_map.specs.walk.Mapping.{write_step, write_target, sector_step}
+
+-- the unit of a sector of a disk, and that of one in zeros
+abbrev pub disk_unit : Op → (disk sector : ℕ) → BlockUnit
+disk_unit ops.Read disk sector = ReadOf disk sector
+disk_unit ops.Write disk sector = WriteOf disk sector
+
+abbrev pub zero_unit : Op → BlockUnit
+zero_unit ops.Read = Zeros
+zero_unit ops.Write = Drops
+
+-- the step of len sectors of a device or a disk from a sector on, in rising order
+abbrev pub range_step : Description → Op → ℕ → Lower → State → (sector len : ℕ) → Step
+range_step stack op levels lower state sector len = steps (sector_step stack op levels lower) state sector len
+
+-- the step of a sector at a distance from the start of a line of this target, of a device, through at most this many levels of devices below it
+abbrev pub target_step : Description → Op → ℕ → (device : ℕ) → FoundTarget → State → (distance : ℕ) → Step
+target_step stack ops.Read levels device target state distance =
+    keep (by_below (below_target (read_over (taken_at state device)) target distance) Zeros Fails (λ to sector. read_unit stack state levels to sector) ∷ []) state
+target_step stack ops.Write levels device target state distance = write_target stack state device target distance (λ to after sector. write_step stack levels to after sector)
+
+-- the step of len sectors of such a line
+abbrev pub line_step : Description → Op → ℕ → (device : ℕ) → FoundTarget → State → (distance len : ℕ) → Step
+line_step stack op levels device target state distance len = steps (target_step stack op levels device target) state distance len
+
+-- the step of a sector that is one of the device or disk that lies below it
+abbrev pub below_step : Description → Op → ℕ → Below → State → Step
+below_step stack op levels b state = by_below b (keep (zero_unit op ∷ []) state) (keep (Fails ∷ []) state) (λ to sector. sector_step stack op levels to state sector)
+
+-- the step of len sectors of a striped line
+abbrev pub stripes_step : Description → Op → ℕ → (chunk_size : ℕ) → List FoundColumn → State → (distance len : ℕ) → Step
+stripes_step stack op levels chunk_size columns state distance len =
+    steps (λ after at. below_step stack op levels (below_stripes chunk_size columns at) after) state distance len
+
+-- the step of a sector of the line of an origin's device, through at most this many levels of devices below it, and of len of them
+abbrev pub served_sector : Description → Op → ℕ → FoundOrigin → State → (sector : ℕ) → Step
+served_sector stack ops.Read levels origin state sector = sector_step stack ops.Read levels origin.to state sector
+served_sector stack ops.Write levels origin state sector = served_step stack origin.over (sector_step stack ops.Write levels origin.to) state sector
+
+abbrev pub origin_step : Description → Op → ℕ → FoundOrigin → State → (sector len : ℕ) → Step
+origin_step stack op levels origin state sector len = steps (served_sector stack op levels origin) state sector len
+
+-- a device fails a request as a whole: one for a write, where it is read-only
+abbrev pub refuses : Description → Op → ℕ → Bool
+refuses stack ops.Read device = false
+refuses stack ops.Write device = is_ro_at stack device
+
+-- a sink is one of this stack, and has room for len sectors
+pub record HasRoomFor {S : Type 0} (stack_of : S → Description) (room_of : S → ℕ) (sink : S) (of : Description) (len : ℕ) : Type 0 where
+  pub stack : stack_of sink ≡ of
+  pub room : len ≤ room_of sink
+
+-- a sink took the units of a step of len sectors, and the walk is in the state after it; or the sink failed at a beginning of them
+pub record IsWalked {S F : Type 0} (takes leaves : S → List BlockUnit → S → Type 0) (stack_of : S → Description) (room_of faults_of : S → ℕ) (result : Result (Unit {0}) F) (old new : S) (before after : WalkerView) (step : Step) (len : ℕ) : Type 0 where
+  pub took : OnOk result (takes old step.units new)
+  pub state : OnOk result (after.state ≡ step.state)
+  pub kept : OnOk result (stack_of new ≡ stack_of old)
+  pub room : OnOk result (room_of old ≤ room_of new + len)
+  pub left : OnErr result (OfBeginning leaves old step.units new)
+  pub faults : faults_of new ≡ faults_of old + fault_of result
+  pub stack : after.stack ≡ before.stack
+  pub looked : AreAdded before.looked after.looked
+
+-- a sink took these units of a piece of len sectors without a disk, or failed at them
+pub record IsHanded {S F : Type 0} (takes leaves : S → List BlockUnit → S → Type 0) (stack_of : S → Description) (room_of faults_of : S → ℕ) (result : Result (Unit {0}) F) (old new : S) (units : List BlockUnit) (len : ℕ) : Type 0 where
+  pub took : OnOk result (takes old units new)
+  pub left : OnErr result (leaves old units new)
+  pub faults : faults_of new ≡ faults_of old + fault_of result
+  pub stack : OnOk result (stack_of new ≡ stack_of old)
+  pub room : OnOk result (room_of old ≤ room_of new + len)
+
+-- len sectors from a sector on are of what an origin's line names, which has the snapshots of that
+pub record AreInOrigin (stack : Description) (origin : FoundOrigin) (sector len : ℕ) : Type 0 where
+  pub over : origin.over ≡ snapshots_over stack origin.to
+  pub inside : sector + len ≤ lower_len stack origin.to

@@ -1,0 +1,26 @@
+-- The read of a sector (the kernel's admin guide, device-mapper/linear, striped, zero and snapshot).
+use Rattle.std.specs.Prelude.{ℕ, zero, suc}
+use Rattle.dm_stack.specs.declared.id.Lower.{Lower}
+use Rattle.dm_stack.specs.declared.id.Lower.TheVariants.{Device, Disk}
+use Rattle.dm_stack.specs.Description.{Description}
+use Rattle.dm_stack.specs.Below.{Below, Lies, IsZero, IsError, below}
+use Rattle.dm_map.specs.state.Snapshots.{read_over}
+use Rattle.dm_map.specs.state.State.{State, taken_at}
+use Rattle.dm_map.specs.pieces.Units.{BlockUnit, ReadOf, Zeros, Fails}
+
+-- what a sector becomes by what lies below it: that of the lower sector, or something of its own
+abbrev pub by_below : {X : Type 0} → Below → (zeros fails : X) → (Lower → ℕ → X) → X
+by_below (Lies to sector) zeros fails next = next to sector
+by_below IsZero zeros fails next = zeros
+by_below IsError zeros fails next = fails
+
+-- what lies below a sector of a device, where it is read in this state
+abbrev pub read_below : Description → State → (device sector : ℕ) → Below
+read_below stack state device sector = below (read_over (taken_at state device)) stack device sector
+
+-- the read of a sector, through at most this many levels of devices
+unfoldable pub read_unit : Description → State → ℕ → Lower → ℕ → BlockUnit
+read_unit stack state levels (Disk disk) sector = ReadOf disk sector
+read_unit stack state zero (Device device) sector = Fails
+read_unit stack state (suc levels) (Device device) sector =
+    by_below (read_below stack state device sector) Zeros Fails (λ to lower. read_unit stack state levels to lower)

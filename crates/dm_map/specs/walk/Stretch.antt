@@ -1,0 +1,31 @@
+-- What a stretch is read from.
+use Rattle.std.specs.Prelude.{ℕ, ◌≡◌, ◌≤◌}
+use Rattle.dm_stack.specs.Description.{Description}
+use Rattle.dm_map.specs.declared.walk.stretch.Ground.{Ground}
+use Rattle.dm_map.specs.declared.walk.stretch.Ground.TheVariants as grounds
+use Rattle.dm_map.specs.declared.walk.stretch.Stretch.{Stretch}
+use Rattle.dm_map.specs.state.Counts.{AreAdded}
+use Rattle.dm_map.specs.walk.Steps.{Step, keep}
+use Rattle.dm_map.specs.pieces.Units.{BlockUnit, ReadOf, Zeros, Fails, IsOnDisk, units_in}
+use Rattle.dm_map.specs.state.Walker.{WalkerView, stack_state}
+
+-- the read of the first sector
+abbrev pub ground_unit : Ground → BlockUnit
+ground_unit (grounds.Disk disk start) = ReadOf disk start
+ground_unit grounds.Zeros = Zeros
+ground_unit grounds.Fails = Fails
+
+-- len sectors are there, if they lie on a disk
+abbrev pub IsGroundInStack : Description → Ground → (len : ℕ) → Type 0
+IsGroundInStack stack (grounds.Disk disk start) len = IsOnDisk stack disk start len
+IsGroundInStack stack grounds.Zeros len = Unit {0}
+IsGroundInStack stack grounds.Fails len = Unit {0}
+
+-- the first sectors of a range of len are read from its ground, which is there; reads gives the step of the first ones
+pub record IsFirst (before after : WalkerView) (reads : ℕ → Step) (len : ℕ) (stretch : Stretch) : Type 0 where
+  pub some : 1 ≤ stretch.len
+  pub most : stretch.len ≤ len
+  pub read : reads stretch.len ≡ keep (units_in (ground_unit stretch.ground) stretch.len) before.state
+  pub lies : IsGroundInStack before.stack stretch.ground stretch.len
+  pub same : stack_state after ≡ stack_state before
+  pub looked : AreAdded before.looked after.looked

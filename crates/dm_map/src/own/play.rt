@@ -1,0 +1,16 @@
+//! Laws of what units make of disks, for values of any type.
+
+ghost use Rattle.std.specs.Prelude.{ℕ, ◌≡◌, ◌++◌, List, false};
+ghost use Rattle.std.specs.List.{AllByRecursion};
+ghost use Rattle.dm_map.specs.own.Contents.{Values, answers, played};
+ghost use Rattle.dm_map.specs.pieces.Units.{BlockUnit};
+
+/// Copies and fills before other units are played first, from values that count sector by sector
+/// alone. It does nothing: its contract is the law.
+#[tactic(auto, using(crate::proofs::own::Plays::played_on, crate::proofs::own::Plays::played_cong))]
+pub fn play_goes_on<V>()
+    ensures after { (zeros : V) (written : ℕ → V) (sector : ℕ) (front rest : List BlockUnit) (values : Values V) → AllByRecursion (λ unit. answers unit ≡ false) front
+        → played zeros written sector (front ++ rest) values ≡ played zeros written sector rest (played zeros written sector front values) }
+    ensures same { (zeros : V) (written : ℕ → V) (sector : ℕ) (units : List BlockUnit) (values others : Values V) → ((disk place : ℕ) → values disk place ≡ others disk place)
+        → (disk place : ℕ) → played zeros written sector units values disk place ≡ played zeros written sector units others disk place }
+{}

@@ -1,0 +1,102 @@
+//! Pieces: what becomes of consecutive sectors.
+//!
+//! A piece is short for a list of units, one for each sector; clauses speak of the units alone. A new
+//! kind of piece is a variant here, with arms of `len` and `with_len`, and an arm of each function in
+//! `specs/pieces/Units.antt`.
+
+ghost use Rattle.std.specs.Prelude.{◌≡◌};
+ghost use Rattle.dm_map.specs.pieces.Units.{first_unit, piece_len};
+
+use dm_stack::DiskId;
+
+/// What becomes of `len` consecutive sectors of a request. Starts and lengths are in sectors of 512
+/// bytes.
+#[derive(Clone, Copy, Debug, PartialEq, Eq, Drop)]
+pub enum Piece {
+    /// They are read from a disk, from `start` on.
+    Read {
+        disk: DiskId,
+        start: u64,
+        len: u64,
+    },
+    /// They are written to a disk, from `start` on.
+    Write {
+        disk: DiskId,
+        start: u64,
+        len: u64,
+    },
+    /// They read as zeros.
+    Zero {
+        len: u64,
+    },
+    /// What is written to them is thrown away.
+    Drop {
+        len: u64,
+    },
+    /// They fail.
+    Error {
+        len: u64,
+    },
+    /// Before a write, sectors of a disk from `start` on are copied to the disk `to`, from
+    /// `to_start` on.
+    Copy {
+        disk: DiskId,
+        start: u64,
+        len: u64,
+        to: DiskId,
+        to_start: u64,
+    },
+    /// Before a write, zeros are written to a disk, from `start` on.
+    Fill {
+        len: u64,
+        disk: DiskId,
+        start: u64,
+    },
+}
+
+impl Piece {
+    /// How many sectors it has.
+    #[inline(always)]
+    pub fn len(&self) -> u64
+        ensures { result ≡ piece_len self.now }
+    {
+        match *self {
+            Piece::Read { len, .. }
+            | Piece::Write { len, .. }
+            | Piece::Zero { len }
+            | Piece::Drop { len }
+            | Piece::Error { len }
+            | Piece::Copy { len, .. }
+            | Piece::Fill { len, .. } => len,
+        }
+    }
+
+    /// The piece of `len` sectors that begins as this one does.
+    #[inline(always)]
+    pub fn with_len(&self, len: u64) -> Piece
+        ensures first { first_unit result ≡ first_unit self.now }
+        ensures len { piece_len result ≡ len }
+    {
+        match *self {
+            Piece::Read { disk, start, .. } => Piece::Read { disk, start, len },
+            Piece::Write { disk, start, .. } => Piece::Write { disk, start, len },
+            Piece::Zero { .. } => Piece::Zero { len },
+            Piece::Drop { .. } => Piece::Drop { len },
+            Piece::Error { .. } => Piece::Error { len },
+            Piece::Copy {
+                disk,
+                start,
+                to,
+                to_start,
+                ..
+            } => Piece::Copy {
+                disk,
+                start,
+                len,
+                to,
+                to_start,
+            },
+            Piece::Fill { disk, start, .. } => Piece::Fill { len, disk, start },
+        }
+    }
+}

@@ -1,0 +1,87 @@
+//! Lists of pieces: a sink that keeps what it takes.
+//!
+//! For callers that want all pieces at once, as tests do. It joins nothing, so its pieces are
+//! exactly those that it was given; its relations are the plainest that a sink can have.
+
+ghost use Rattle.std.specs.Prelude.{◌≡◌, []};
+
+use crate::pieces::piece::Piece;
+use crate::pieces::sink::Sink;
+use dm_stack::Stack;
+use dm_table::Tally;
+use std::alloc::{AllocError, Global};
+use std::marker::Model;
+
+/// The pieces that it was given, in order.
+#[derive(Drop)]
+pub struct PieceList<'s> {
+    stack: &'s Stack,
+    pieces: Vec<Piece>,
+    faults: Tally,
+}
+
+impl<'s> Model for PieceList<'s> {
+    ghost use Rattle.dm_map.specs.pieces.PieceList.{PieceListView};
+
+    ghost Value = { PieceListView };
+
+    ghost view = { λ list. record { stack = list.stack.now; pieces = list.pieces.items; faults = list.faults } };
+}
+
+impl<'s> PieceList<'s> {
+    /// An empty list, for a mapper of this stack. No memory is taken.
+    pub fn new(alloc: Global, stack: &'s Stack) -> PieceList<'s>
+        ensures stack { result.stack ≡ stack.now }
+        ensures pieces { result.pieces ≡ [] }
+        ensures faults { result.faults ≡ 0 }
+    {
+        PieceList {
+            stack,
+            pieces: Vec::new(alloc),
+            faults: Tally::new(),
+        }
+    }
+
+    /// The pieces in the order in which they were taken.
+    pub fn as_slice(&self) -> &[Piece]
+        ensures { result.now ≡ self.now.pieces }
+    {
+        self.pieces.as_slice()
+    }
+}
+
+impl Sink for PieceList<'_> {
+    ghost use Rattle.std.specs.Prelude.{◌^◌};
+    ghost use Rattle.dm_map.specs.pieces.PieceList.{Appends};
+    ghost use Rattle.dm_map.specs.pieces.Sink.{OfBeginning};
+    ghost use Rattle.dm_map.specs.laws.PieceLists.{appends_nothing, appends_both, appends_beginning};
+
+    type Fault = AllocError;
+
+    ghost stack = { λ list. list.stack };
+
+    ghost room = { λ list. 2 ^ 64 };
+
+    ghost faults = { λ list. list.faults };
+
+    ghost took = { λ old units new. Appends old units new };
+
+    ghost left = { λ old units new. OfBeginning Appends old units new };
+
+    /// Keeps the piece, or none of it if an allocation is refused.
+    fn piece(&mut self, piece: Piece) -> Result<(), AllocError> {
+        match self.pieces.push(piece) {
+            Ok(()) => Ok(()),
+            Err(_) => {
+                self.faults.raise();
+                Err(AllocError)
+            }
+        }
+    }
+
+    ghost took_nothing = { λ s. appends_nothing s };
+
+    ghost took_then_took = { λ a b c us vs first second. appends_both a b c us vs first second };
+
+    ghost took_then_left = { λ a b c us vs first second. appends_beginning a b c us vs first second };
+}

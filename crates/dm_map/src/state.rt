@@ -1,0 +1,9 @@
+//! What requests leave for later ones: the chunks that each snapshot took, how they are kept, and
+//! what they say of its store.
+
+pub(crate) mod plain_taken;
+pub(crate) mod run_taken;
+pub(crate) mod tables;
+pub(crate) mod taken;
+pub(crate) mod usage;
+pub(crate) mod walker;

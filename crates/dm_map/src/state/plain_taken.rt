@@ -1,0 +1,87 @@
+//! Taken chunks as a list: the plainest way to keep them.
+//!
+//! A chunk is found by a walk over those that were taken, so it suits snapshots with few of them.
+//! All memory is reserved when the list is made.
+
+ghost use Rattle.std.specs.Prelude.{◌≡◌, ◌≤◌, length, nat_eq, vec_capacity};
+ghost use Rattle.dm_map.specs.state.Snapshots.{number_in};
+ghost use Rattle.std.specs.List.{IsDistinct};
+ghost use Rattle.std.proofs.lemmas.Map.Keys.{IsDistinct-prop};
+
+use crate::state::taken::Taken;
+use std::alloc::{AllocError, Global};
+
+#[cfg(test)]
+mod tests;
+
+/// The chunks in the order in which they were taken.
+#[derive(Drop)]
+pub struct PlainTaken {
+    chunks: Vec<u64>,
+    places: usize,
+    valid: bool,
+    ghost reserved: { places ≤ vec_capacity chunks },
+    ghost fits: { length chunks.items ≤ places },
+    ghost once: { IsDistinct nat_eq chunks.items } by { IsDistinct-prop nat_eq chunks.items },
+}
+
+impl Taken for PlainTaken {
+    ghost chunks = { λ taken. taken.chunks.items };
+
+    ghost places = { λ taken. taken.places };
+
+    ghost valid = { λ taken. taken.valid };
+
+    fn with_places(alloc: Global, count: usize) -> Result<PlainTaken, AllocError> {
+        Ok(PlainTaken {
+            chunks: Vec::with_capacity(alloc, count)?,
+            places: count,
+            valid: true,
+        })
+    }
+
+    fn find(&self, chunk: u64) -> Option<usize> {
+        number_of(self.chunks.as_slice(), chunk)
+    }
+
+    fn count(&self) -> usize {
+        self.chunks.len()
+    }
+
+    fn is_full(&self) -> bool {
+        self.chunks.len() == self.places
+    }
+
+    fn is_valid(&self) -> bool {
+        self.valid
+    }
+
+    fn take(&mut self, chunk: u64) {
+        // The memory was reserved when the list was made.
+        let Ok(()) = self.chunks.push(chunk) else {
+            unreachable!()
+        };
+    }
+
+    fn invalidate(&mut self) {
+        self.valid = false;
+    }
+
+    ghost fits = { λ taken. taken.fits };
+
+    ghost once = { λ taken. taken.once };
+}
+
+/// The index of a chunk in a list.
+fn number_of(chunks: &[u64], chunk: u64) -> Option<usize>
+    ensures { result ≡ number_in chunk chunks.now }
+{
+    let mut number = 0;
+    while number < chunks.len() {
+        if chunks[number] == chunk {
+            return Some(number);
+        }
+        number += 1;
+    }
+    None
+}

@@ -1,0 +1,69 @@
+//! The tables of a stack: what a mapper keeps of its snapshots.
+//!
+//! All memory for taken chunks is reserved here, before the first request.
+
+ghost use Rattle.std.specs.Prelude.{◌≡◌, ℕ, ◌+◌, ◌<◌, ◌≤◌, Some, length, nat_lt, replicate, slice_get, IfOk};
+ghost use Rattle.dm_stack.specs.Loaded.{snapshots};
+ghost use Rattle.dm_map.specs.state.State.{none_taken, start_state};
+ghost use Rattle.dm_map.specs.state.Tables.{AreTables, has_room, state_of};
+
+use crate::state::taken::Taken;
+use crate::state::walker::lower_len;
+use dm_stack::{DeviceId, FoundTarget, Looker, places};
+use std::alloc::{AllocError, Global};
+
+/// A table for each device of the looker's stack, with nothing taken: for a snapshot with the places
+/// that its store has, for any other device with none. Each snapshot is looked up once.
+///
+/// # Errors
+///
+/// `AllocError` where it is out of memory.
+pub(crate) fn empty_tables<T: Taken>(
+    alloc: Global,
+    looker: &mut Looker<'_>,
+) -> Result<Vec<T>, AllocError>
+    ensures tables { IfOk result (λ tables. AreTables T.places looker.old.stack tables.items) }
+    ensures state { IfOk result (λ tables. state_of T.chunks T.valid tables.items ≡ start_state looker.old.stack) }
+    ensures stack { looker.new.stack ≡ looker.old.stack }
+    ensures looked { looker.new.searches ≤ looker.old.searches + length (snapshots looker.old.stack) }
+{
+    let mut tables = tables_without_places(alloc, looker.device_count())?;
+    let count = looker.snapshots().len();
+    for next in 0..count {
+        let device = looker.snapshots()[next];
+        let table = T::with_places(alloc, places_of(looker, device))?;
+        tables[device.index()] = table;
+    }
+    Ok(tables)
+}
+
+/// `count` tables, each without a place.
+fn tables_without_places<T: Taken>(alloc: Global, count: usize) -> Result<Vec<T>, AllocError>
+    ensures count { IfOk result (λ tables. length tables.items ≡ count) }
+    ensures places { IfOk result (λ tables. (index : ℕ) (table : T) → slice_get tables.items index ≡ Some table → T.places table ≡ 0) }
+    ensures state { IfOk result (λ tables. state_of T.chunks T.valid tables.items ≡ replicate count none_taken) }
+{
+    let mut tables = Vec::with_capacity(alloc, count)?;
+    for _device in 0..count {
+        tables.push(T::with_places(alloc, 0)?)?;
+    }
+    Ok(tables)
+}
+
+/// For how many chunks the store of a device has places, if the device is a snapshot; else none.
+fn places_of(looker: &mut Looker<'_>, device: DeviceId) -> usize
+    requires { device < length looker.old.stack.devices }
+    ensures places { (number : ℕ) → nat_lt number result ≡ has_room looker.old.stack device number }
+    ensures stack { looker.new.stack ≡ looker.old.stack }
+    ensures one { looker.new.searches ≤ looker.old.searches + 1 }
+{
+    // Called because its contract says that the stack is sound.
+    looker.depth();
+    match &looker.look(device, 0).target {
+        FoundTarget::Snapshot(snapshot) => {
+            let len = lower_len(looker, snapshot.store);
+            places(snapshot.kind, snapshot.chunk as u64, len) as usize
+        }
+        _ => 0,
+    }
+}

@@ -1,0 +1,215 @@
+//! Walkers: what a walk down a stack goes by.
+//!
+//! A walk looks up lines, lengths and read-only flags of the stack, and reads and changes the state
+//! that earlier requests left. The state is a table of taken chunks for each device, by its id; the
+//! table of a device that is no snapshot has no place and stays empty.
+
+ghost use Rattle.std.specs.Prelude.{◌≡◌, ℕ, ◌+◌, ◌<◌, ◌≤◌, ◌^◌, true, not, None, Some, IfSome, length};
+ghost use Rattle.dm_stack.specs.Below.{HoldsSoundly, found_at};
+ghost use Rattle.dm_stack.specs.Description.{device_len, is_ro_at, lower_len};
+ghost use Rattle.dm_stack.specs.Soundness.{IsSound};
+ghost use Rattle.dm_map.specs.state.Counts.{counts_of, AreAdded};
+ghost use Rattle.dm_map.specs.state.Fitting.{IsWithinPlaces};
+ghost use Rattle.dm_map.specs.state.State.{lost, put, with_chunk, taken_at};
+ghost use Rattle.dm_map.specs.state.Snapshots.{number_in};
+ghost use Rattle.dm_map.specs.state.Tables.{AreTables, has_room, state_of};
+ghost use Rattle.dm_map.specs.state.Walker.{stack_state};
+
+use crate::state::taken::Taken;
+use dm_stack::{DeviceId, Found, Looker, Lower};
+use std::marker::Model;
+
+/// A stack, seen through its looker, and the state of its devices.
+#[derive(Drop)]
+pub(crate) struct Walker<'s, T: Taken> {
+    looker: Looker<'s>,
+    tables: Vec<T>,
+}
+
+impl<'s, T: Taken> Model for Walker<'s, T> {
+    ghost use Rattle.dm_map.specs.state.Tables.{AreTables, state_of};
+    ghost use Rattle.dm_map.specs.state.Counts.{counts_of};
+    ghost use Rattle.dm_map.specs.state.Walker.{WalkerView};
+
+    ghost Value = { WalkerView };
+
+    ghost view = { λ walker. record { stack = walker.looker.stack; state = state_of T.chunks T.valid walker.tables.items; looked = counts_of walker.looker } };
+
+    ghost invariant = { λ walker. AreTables T.places walker.looker.stack walker.tables.items };
+}
+
+/// The length of a device or a disk of the looker's stack in sectors, from 1 to 2^50.
+#[inline(always)]
+pub(crate) fn lower_len(looker: &Looker<'_>, lower: Lower) -> u64
+    requires { 0 < lower_len looker.now.stack lower }
+    ensures len { result ≡ lower_len looker.now.stack lower }
+    ensures small { result ≤ 2 ^ 50 }
+{
+    match lower {
+        Lower::Device(device) => looker.len(device),
+        Lower::Disk(disk) => looker.disk_len(disk),
+    }
+}
+
+impl<'s, T: Taken> Walker<'s, T> {
+    /// A walker of the looker's stack, in the state of these tables.
+    pub(crate) fn new(looker: Looker<'s>, tables: Vec<T>) -> Walker<'s, T>
+        requires { AreTables T.places looker.stack tables.items }
+        ensures stack { result.stack ≡ looker.entry.stack }
+        ensures state { result.state ≡ state_of T.chunks T.valid tables.items }
+        ensures looked { result.looked ≡ counts_of looker.entry }
+    {
+        Walker { looker, tables }
+    }
+
+    /// The searches so far; they stay at the greatest number once there.
+    #[inline(always)]
+    pub(crate) fn searches(&self) -> u64
+        ensures { result ≡ self.now.looked.searches }
+    {
+        self.looker.searches()
+    }
+
+    /// How often the searches compared a line's start with a sector.
+    #[inline(always)]
+    pub(crate) fn comparisons(&self) -> u64
+        ensures { result ≡ self.now.looked.comparisons }
+    {
+        self.looker.comparisons()
+    }
+
+    /// The line that holds a sector of a device, at one search.
+    #[inline(always)]
+    pub(crate) fn look(&mut self, device: DeviceId, sector: u64) -> Found<'s>
+        requires device { device < length self.old.stack.devices }
+        requires sector { sector < device_len self.old.stack device }
+        ensures line { found_at self.old.stack device sector ≡ Some result.now }
+        ensures holds { HoldsSoundly self.old.stack device result.now sector }
+        ensures all { (other : ℕ) → result.now.start ≤ other → other < result.now.start + result.now.len → found_at self.old.stack device other ≡ Some result.now }
+        ensures same { stack_state self.new ≡ stack_state self.old }
+        ensures looked { AreAdded self.old.looked self.new.looked }
+        ensures one { self.new.looked.searches ≤ self.old.looked.searches + 1 }
+    {
+        self.looker.look(device, sector)
+    }
+
+    /// The length of a device of the stack in sectors, from 1 to 2^50.
+    #[inline(always)]
+    pub(crate) fn len(&self, device: DeviceId) -> u64
+        requires { device < length self.now.stack.devices }
+        ensures len { result ≡ device_len self.now.stack device }
+        ensures some { 1 ≤ result }
+        ensures small { result ≤ 2 ^ 50 }
+    {
+        self.looker.len(device)
+    }
+
+    /// The length of a device or a disk of the stack in sectors, from 1 to 2^50.
+    #[inline(always)]
+    pub(crate) fn lower_len(&self, lower: Lower) -> u64
+        requires { 0 < lower_len self.now.stack lower }
+        ensures len { result ≡ lower_len self.now.stack lower }
+        ensures small { result ≤ 2 ^ 50 }
+    {
+        lower_len(&self.looker, lower)
+    }
+
+    /// Whether a device of the stack is read-only.
+    #[inline(always)]
+    pub(crate) fn is_ro(&self, device: DeviceId) -> bool
+        requires { device < length self.now.stack.devices }
+        ensures { result ≡ is_ro_at self.now.stack device }
+    {
+        self.looker.is_ro(device)
+    }
+
+    /// A walker's state has a table for each device of its stack. It does nothing: its contract is what
+    /// is asked of it.
+    #[inline(always)]
+    pub(crate) fn has_tables(&self)
+        ensures { length self.now.state ≡ length self.now.stack.devices }
+    {
+        self.looker.depth();
+    }
+
+    /// A walker's stack is sound. It does nothing: its contract is what is asked of it.
+    #[inline(always)]
+    pub(crate) fn is_sound(&self)
+        ensures { IsSound self.now.stack }
+    {
+        self.looker.depth();
+    }
+
+    /// No snapshot took more chunks than its store has places. It does nothing: its contract is what is
+    /// asked of it.
+    #[inline(always)]
+    pub(crate) fn is_within_places(&self)
+        ensures { IsWithinPlaces self.now.stack self.now.state }
+    {
+        self.looker.depth();
+    }
+
+    /// Whether a snapshot is still valid.
+    pub(crate) fn is_valid(&self, device: DeviceId) -> bool
+        requires { device < length self.now.stack.devices }
+        ensures valid { result ≡ (taken_at self.now.state device).valid }
+        ensures there { device < length self.now.state }
+    {
+        let table = &self.tables[device.index()];
+        table.is_valid()
+    }
+
+    /// The number of a chunk among those that a snapshot took, from 0; its store has a place for it.
+    pub(crate) fn find(&self, device: DeviceId, chunk: u64) -> Option<usize>
+        requires { device < length self.now.stack.devices }
+        ensures number { result ≡ number_in chunk (taken_at self.now.state device).chunks }
+        ensures room { IfSome result (λ number. has_room self.now.stack device number ≡ true) }
+    {
+        let table = &self.tables[device.index()];
+        table.find(chunk)
+    }
+
+    /// How many chunks a snapshot took; its store has a place for each.
+    pub(crate) fn count(&self, device: DeviceId) -> usize
+        requires { device < length self.now.stack.devices }
+        ensures count { result ≡ length (taken_at self.now.state device).chunks }
+        ensures room { (number : ℕ) → number < result → has_room self.now.stack device number ≡ true }
+    {
+        let table = &self.tables[device.index()];
+        table.count()
+    }
+
+    /// Whether the store of a snapshot has no place for one more chunk.
+    pub(crate) fn is_full(&self, device: DeviceId) -> bool
+        requires { device < length self.now.stack.devices }
+        ensures { result ≡ not (has_room self.now.stack device (length (taken_at self.now.state device).chunks)) }
+    {
+        let table = &self.tables[device.index()];
+        table.is_full()
+    }
+
+    /// Takes a chunk of a valid snapshot, which it did not take, where its store has a place for it.
+    pub(crate) fn take(&mut self, device: DeviceId, chunk: u64)
+        requires device { device < length self.old.stack.devices }
+        requires valid { (taken_at self.old.state device).valid ≡ true }
+        requires room { has_room self.old.stack device (length (taken_at self.old.state device).chunks) ≡ true }
+        requires fresh { number_in chunk (taken_at self.old.state device).chunks ≡ None }
+        ensures stack { self.new.stack ≡ self.old.stack }
+        ensures state { self.new.state ≡ put self.old.state device (with_chunk (taken_at self.old.state device) chunk) }
+        ensures looked { self.new.looked ≡ self.old.looked }
+    {
+        let table = &mut self.tables[device.index()];
+        table.take(chunk);
+    }
+
+    /// Makes a snapshot invalid, for good.
+    pub(crate) fn invalidate(&mut self, device: DeviceId)
+        requires device { device < length self.old.stack.devices }
+        ensures stack { self.new.stack ≡ self.old.stack }
+        ensures state { self.new.state ≡ put self.old.state device (lost (taken_at self.old.state device)) }
+        ensures looked { self.new.looked ≡ self.old.looked }
+    {
+        let table = &mut self.tables[device.index()];
+        table.invalidate();
+    }
+}

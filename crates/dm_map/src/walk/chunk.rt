@@ -1,0 +1,70 @@
+//! Chunks of a snapshot: how a range is cut at them, and where their sectors are read.
+
+ghost use Rattle.std.specs.Prelude.{◌≡◌, ◌+◌, ◌-◌, ◌*◌, ◌%◌, ◌<◌, ◌≤◌, ◌^◌, false, length, min, IfNone, IfSome};
+ghost use Rattle.dm_stack.specs.StoreLayout.{place};
+ghost use Rattle.dm_map.specs.state.Snapshots.{store_sector};
+ghost use Rattle.dm_map.specs.state.State.{taken_at};
+ghost use Rattle.dm_map.specs.walk.Chunk.{AreInChunk, AreReadAt};
+
+use crate::state::taken::Taken;
+use crate::state::walker::Walker;
+use dm_stack::{DeviceId, FoundSnapshot, Lower, place};
+
+/// Where sectors are read: from a sector of a device or a disk on.
+#[derive(Clone, Copy, Drop)]
+pub(crate) struct ReadAt {
+    pub(crate) to: Lower,
+    pub(crate) sector: u64,
+}
+
+/// How many of at most `most` sectors, from a sector of a snapshot on, are in one chunk of this size.
+pub(crate) fn part_of_chunk(chunk_size: u64, sector: u64, most: u64) -> u64
+    requires { 0 < chunk_size }
+    ensures { result ≡ min most (chunk_size - sector % chunk_size) }
+{
+    most.min(chunk_size - sector % chunk_size)
+}
+
+/// The sector of a store that has a sector of a taken chunk, which was the `number`th to be taken,
+/// from 0.
+pub(crate) fn store_sector(snapshot: &FoundSnapshot, number: usize, sector: u64) -> u64
+    requires chunk { 0 < snapshot.now.chunk }
+    requires chunk_small { snapshot.now.chunk ≤ 1024 }
+    requires small { (place snapshot.now.kind snapshot.now.chunk number + 1) * snapshot.now.chunk ≤ 2 ^ 50 }
+    ensures { result ≡ store_sector snapshot.now number sector }
+{
+    let chunk_size = snapshot.chunk as u64;
+    place(snapshot.kind, chunk_size, number as u64) * chunk_size + sector % chunk_size
+}
+
+/// Where the sectors of a chunk of a snapshot are read, from one of them on: in the store if the chunk
+/// was taken, and else in the origin. Nowhere once the snapshot is lost.
+pub(crate) fn read_at<T: Taken>(
+    walker: &Walker<'_, T>,
+    device: DeviceId,
+    snapshot: &FoundSnapshot,
+    sector: u64,
+    len: u64,
+) -> Option<ReadAt>
+    requires some { 1 ≤ len }
+    requires chunk { AreInChunk walker.now.stack device snapshot.now sector len }
+    ensures source { IfSome result (λ source.
+        AreReadAt walker.now.stack walker.now.state device snapshot.now sector len source) }
+    ensures there { device < length walker.now.state }
+    ensures lost { IfNone result ((taken_at walker.now.state device).valid ≡ false) }
+{
+    if !walker.is_valid(device) {
+        return None;
+    }
+    walker.is_sound();
+    match walker.find(device, sector / snapshot.chunk as u64) {
+        Some(number) => Some(ReadAt {
+            to: snapshot.store,
+            sector: store_sector(snapshot, number, sector),
+        }),
+        None => Some(ReadAt {
+            to: snapshot.origin,
+            sector,
+        }),
+    }
+}

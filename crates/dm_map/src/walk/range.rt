@@ -1,0 +1,393 @@
+//! The walk down a stack: hands the units of consecutive sectors to a sink.
+//!
+//! A range goes down as one step: it is cut where a line or a chunk ends, of stripes or of a
+//! snapshot, or, of a write to an origin, where one of its snapshots still needs something, and
+//! nowhere else, and each line that it passes is looked up once. A new target is an arm
+//! of `map_line`, with a loop of its own where it cuts, and one of `line_stretch`, `below_target` and
+//! `write_target`. Each function says which units it hands over, which state it leaves, and, of a
+//! read, how often it searches: at most once a level for each stretch of sectors with one path
+//! (`specs/walk/Path`).
+
+ghost use Rattle.std.specs.Prelude.{◌≡◌, ℕ, ◌+◌, ◌-◌, ◌<◌, ◌≤◌, ◌^◌, Some, length};
+ghost use Rattle.dm_table.specs.declared.request.Op.TheVariants.{Write};
+ghost use Rattle.dm_stack.specs.Below.{found_at, IsTargetSound};
+ghost use Rattle.dm_stack.specs.Description.{Description, device_len, lower_len};
+ghost use Rattle.dm_stack.specs.Loaded.{lower_depth};
+ghost use Rattle.dm_stack.specs.Soundness.{depth_of};
+ghost use Rattle.dm_stack.specs.declared.found_line.FoundTarget.TheVariants.{Origin, Snapshot, Striped};
+ghost use Rattle.dm_stack.specs.declared.id.Lower.TheVariants.{Device};
+ghost use Rattle.dm_map.specs.walk.Bound.{IsBounded, IsLineBounded, IsTargetBounded};
+ghost use Rattle.dm_map.specs.walk.Path.{path};
+ghost use Rattle.dm_map.specs.walk.SnapshotWrites.{write_snapshot};
+ghost use Rattle.dm_map.specs.walk.Steps.{steps};
+ghost use Rattle.dm_map.specs.pieces.Units.{Fails, diskless_len, piece_len, units_in, units_of, IsOnDisk, IsOnDisks};
+ghost use Rattle.dm_map.specs.walk.Range.{disk_unit, zero_unit, refuses, range_step, line_step, origin_step, stripes_step, AreInOrigin, IsHanded, HasRoomFor, IsWalked};
+ghost use Rattle.dm_map.specs.walk.Chunk.{AreInChunk, AreInSnapshot};
+ghost use Rattle.dm_map.specs.walk.Stripe.{AreInStripes};
+
+use crate::walk::chunk::{part_of_chunk, read_at};
+use crate::pieces::piece::Piece;
+use crate::walk::serving::{serve, settled_part};
+use crate::pieces::sink::Sink;
+use crate::walk::step::{part_in, sector_at};
+use crate::walk::stripe::{next_chunk, position_at};
+use crate::walk::take_chunk::{is_refused, take_chunk, write_store};
+use crate::state::taken::Taken;
+use crate::state::walker::Walker;
+use dm_stack::{
+    DeviceId, DiskId, Divisor, FoundColumn, FoundLine, FoundOrigin, FoundSnapshot, FoundTarget,
+    Lower,
+};
+use dm_table::Op;
+
+/// Hands over the units of sectors of a device or a disk, through at most this many levels of
+/// devices.
+///
+/// Each piece is a stretch of sectors whose path down is in one line, and one chunk, of each device.
+/// A sink that fails ends the walk. It is inlined, so that a part that lies on a disk, as most parts
+/// of stripes do, costs no call.
+#[cycle(walk)]
+#[inline(always)]
+pub(crate) fn map_range<S: Sink, T: Taken>(
+    walker: &mut Walker<'_, T>,
+    op: Op,
+    levels: u32,
+    lower: Lower,
+    sector: u64,
+    len: u64,
+    sink: &mut S,
+) -> Result<(), S::Fault>
+    requires some { 1 ≤ len }
+    requires inside { sector + len ≤ lower_len walker.old.stack lower }
+    requires sink { HasRoomFor S.stack S.room sink.old walker.old.stack len }
+    ensures walked { IsWalked S.took S.left S.stack S.room S.faults result sink.old sink.new walker.old walker.new (range_step walker.old.stack op levels lower walker.old.state sector len) len }
+    ensures bounded { IsBounded walker.old walker.new op (lower_depth walker.old.stack lower) (path walker.old.stack walker.old.state levels lower) sector len }
+{
+    match lower {
+        Lower::Disk(disk) => sink.piece(disk_piece(op, disk, sector, len)),
+        Lower::Device(device) => map_device(walker, op, levels, device, sector, len, sink),
+    }
+}
+
+/// Hands over the units of sectors of a device, line by line. A read-only device fails a write of
+/// all of them.
+#[cycle(walk)]
+fn map_device<S: Sink, T: Taken>(
+    walker: &mut Walker<'_, T>,
+    op: Op,
+    levels: u32,
+    device: DeviceId,
+    sector: u64,
+    len: u64,
+    sink: &mut S,
+) -> Result<(), S::Fault>
+    requires some { 1 ≤ len }
+    requires inside { sector + len ≤ device_len walker.old.stack device }
+    requires sink { HasRoomFor S.stack S.room sink.old walker.old.stack len }
+    ensures walked { IsWalked S.took S.left S.stack S.room S.faults result sink.old sink.new walker.old walker.new (range_step walker.old.stack op levels (Device device) walker.old.state sector len) len }
+    ensures bounded { IsBounded walker.old walker.new op (depth_of walker.old.stack device) (path walker.old.stack walker.old.state levels (Device device)) sector len }
+{
+    if levels == 0 || refuses(walker, op, device) {
+        return fail(len, sink);
+    }
+    let mut at = sector;
+    let mut left = len;
+    while left > 0 {
+        let line = walker.look(device, at);
+        let distance = at - line.start;
+        let part = part_in(line, distance, left);
+        map_line(walker, op, levels - 1, device, line, distance, part, sink)?;
+        at += part;
+        left -= part;
+    }
+    Ok(())
+}
+
+/// Hands over the units of sectors of a line of this device at a distance from its start, through at
+/// most this many levels of devices below it.
+#[cycle(walk)]
+fn map_line<S: Sink, T: Taken>(
+    walker: &mut Walker<'_, T>,
+    op: Op,
+    levels: u32,
+    device: DeviceId,
+    line: &FoundLine,
+    distance: u64,
+    len: u64,
+    sink: &mut S,
+) -> Result<(), S::Fault>
+    requires some { 1 ≤ len }
+    requires inside { distance + len ≤ line.now.len }
+    requires small { line.now.len ≤ 2 ^ 50 }
+    requires found { found_at walker.old.stack device line.now.start ≡ Some line.now }
+    requires sound { IsTargetSound walker.old.stack device line.now.start line.now.len line.now.target }
+    requires sink { HasRoomFor S.stack S.room sink.old walker.old.stack len }
+    ensures walked { IsWalked S.took S.left S.stack S.room S.faults result sink.old sink.new walker.old walker.new (line_step walker.old.stack op levels device line.now.target walker.old.state distance len) len }
+    ensures bounded { IsLineBounded walker.old walker.new op levels device line.now distance len }
+{
+    match &line.target {
+        FoundTarget::Linear { to, offset } => {
+            let sector = sector_at(walker, *to, *offset, distance);
+            map_range(walker, op, levels, *to, sector, len, sink)
+        }
+        FoundTarget::Striped {
+            chunk: chunk_size,
+            columns,
+        } => {
+            let count = columns.count();
+            let columns = columns.as_slice();
+            map_stripes(
+                walker, op, levels, chunk_size, columns, count, distance, len, sink,
+            )
+        }
+        FoundTarget::Zero => hand_zeros(op, len, sink),
+        FoundTarget::Error => fail(len, sink),
+        FoundTarget::Snapshot(snapshot) => {
+            map_snapshot(walker, op, levels, device, snapshot, distance, len, sink)
+        }
+        FoundTarget::Origin(origin) => {
+            map_origin(walker, op, levels, origin, distance, len, sink)
+        }
+    }
+}
+
+/// Hands over the units of sectors of a striped line at a distance from its start, chunk by chunk.
+#[cycle(walk)]
+fn map_stripes<S: Sink, T: Taken>(
+    walker: &mut Walker<'_, T>,
+    op: Op,
+    levels: u32,
+    chunk_size: &Divisor,
+    columns: &[FoundColumn],
+    count: &Divisor,
+    distance: u64,
+    len: u64,
+    sink: &mut S,
+) -> Result<(), S::Fault>
+    requires some { 1 ≤ len }
+    requires inside { AreInStripes walker.old.stack chunk_size.now columns.now distance len }
+    requires count { count.now ≡ length columns.now }
+    requires sink { HasRoomFor S.stack S.room sink.old walker.old.stack len }
+    ensures walked { IsWalked S.took S.left S.stack S.room S.faults result sink.old sink.new walker.old walker.new (stripes_step walker.old.stack op levels chunk_size.now columns.now walker.old.state distance len) len }
+    ensures bounded { (device : ℕ) → IsTargetBounded walker.old walker.new op levels device (Striped chunk_size.now columns.now) distance len }
+{
+    let size = chunk_size.value();
+    let mut position = position_at(chunk_size, count, distance);
+    let mut left = len;
+    while left > 0 {
+        let part = left.min(size - position.past);
+        let column = columns[position.column];
+        let sector = sector_at(walker, column.to, column.offset, position.in_column());
+        map_range(walker, op, levels, column.to, sector, part, sink)?;
+        left -= part;
+        position = next_chunk(size, columns.len(), position);
+    }
+    Ok(())
+}
+
+/// Hands over the units of sectors of a snapshot, chunk by chunk, through at most this many levels of
+/// devices below it.
+///
+/// It is never inlined: the walk through lines and stripes is the faster for it.
+#[cycle(walk)]
+#[inline(never)]
+fn map_snapshot<S: Sink, T: Taken>(
+    walker: &mut Walker<'_, T>,
+    op: Op,
+    levels: u32,
+    device: DeviceId,
+    snapshot: &FoundSnapshot,
+    sector: u64,
+    len: u64,
+    sink: &mut S,
+) -> Result<(), S::Fault>
+    requires inside { AreInSnapshot walker.old.stack device snapshot.now sector len }
+    requires small { sector + len ≤ 2 ^ 50 }
+    requires sink { HasRoomFor S.stack S.room sink.old walker.old.stack len }
+    ensures walked { IsWalked S.took S.left S.stack S.room S.faults result sink.old sink.new walker.old walker.new (line_step walker.old.stack op levels device (Snapshot snapshot.now) walker.old.state sector len) len }
+    ensures bounded { IsTargetBounded walker.old walker.new op levels device (Snapshot snapshot.now) sector len }
+{
+    let mut from = sector;
+    let mut left = len;
+    while left > 0 {
+        let part = part_of_chunk(snapshot.chunk as u64, from, left);
+        map_chunk(walker, op, levels, device, snapshot, from, part, sink)?;
+        from += part;
+        left -= part;
+    }
+    Ok(())
+}
+
+/// Hands over the units of sectors of one chunk of a snapshot. All of them are errors if the snapshot
+/// is lost.
+#[cycle(walk)]
+fn map_chunk<S: Sink, T: Taken>(
+    walker: &mut Walker<'_, T>,
+    op: Op,
+    levels: u32,
+    device: DeviceId,
+    snapshot: &FoundSnapshot,
+    sector: u64,
+    len: u64,
+    sink: &mut S,
+) -> Result<(), S::Fault>
+    requires some { 1 ≤ len }
+    requires chunk { AreInChunk walker.old.stack device snapshot.now sector len }
+    requires sink { HasRoomFor S.stack S.room sink.old walker.old.stack len }
+    ensures walked { IsWalked S.took S.left S.stack S.room S.faults result sink.old sink.new walker.old walker.new (line_step walker.old.stack op levels device (Snapshot snapshot.now) walker.old.state sector len) len }
+    ensures bounded { IsTargetBounded walker.old walker.new op levels device (Snapshot snapshot.now) sector len }
+{
+    match op {
+        Op::Write => write_chunk(walker, device, snapshot, sector, len, sink),
+        Op::Read => match read_at(walker, device, snapshot, sector, len) {
+            Some(source) => map_range(walker, op, levels, source.to, source.sector, len, sink),
+            None => sink.piece(Piece::Error { len }),
+        },
+    }
+}
+
+/// Hands over the units of writes to sectors of one chunk of a snapshot: the chunk is taken, and
+/// then they are written where they are read from then on. Where it is refused, all of them fail, and
+/// nothing changes.
+fn write_chunk<S: Sink, T: Taken>(
+    walker: &mut Walker<'_, T>,
+    device: DeviceId,
+    snapshot: &FoundSnapshot,
+    sector: u64,
+    len: u64,
+    sink: &mut S,
+) -> Result<(), S::Fault>
+    requires some { 1 ≤ len }
+    requires chunk { AreInChunk walker.old.stack device snapshot.now sector len }
+    requires sink { HasRoomFor S.stack S.room sink.old walker.old.stack len }
+    ensures { IsWalked S.took S.left S.stack S.room S.faults result sink.old sink.new walker.old walker.new (steps (write_snapshot walker.old.stack snapshot.now device) walker.old.state sector len) len }
+{
+    let chunk = sector / snapshot.chunk as u64;
+    if is_refused(walker, device, snapshot, chunk) {
+        return sink.piece(Piece::Error { len });
+    }
+    take_chunk(walker, device, snapshot, chunk, sink)?;
+    match read_at(walker, device, snapshot, sector, len) {
+        Some(source) => write_store(walker, &source.to, source.sector, len, sink),
+        None => sink.piece(Piece::Error { len }),
+    }
+}
+
+/// Hands over the units of sectors of an origin's device, through at most this many levels of devices
+/// below it: those of the origin, and of a write first what its snapshots still need.
+///
+/// It is never inlined, as `map_snapshot` is not.
+#[cycle(walk)]
+#[inline(never)]
+fn map_origin<S: Sink, T: Taken>(
+    walker: &mut Walker<'_, T>,
+    op: Op,
+    levels: u32,
+    origin: &FoundOrigin,
+    sector: u64,
+    len: u64,
+    sink: &mut S,
+) -> Result<(), S::Fault>
+    requires some { 1 ≤ len }
+    requires inside { AreInOrigin walker.old.stack origin.now sector len }
+    requires sink { HasRoomFor S.stack S.room sink.old walker.old.stack len }
+    ensures walked { IsWalked S.took S.left S.stack S.room S.faults result sink.old sink.new walker.old walker.new (origin_step walker.old.stack op levels origin.now walker.old.state sector len) len }
+    ensures bounded { (device : ℕ) → IsTargetBounded walker.old walker.new op levels device (Origin origin.now) sector len }
+{
+    match op {
+        Op::Read => map_range(walker, op, levels, origin.to, sector, len, sink),
+        Op::Write => write_origin(walker, levels, origin, sector, len, sink),
+    }
+}
+
+/// Hands over the units of writes to sectors of an origin: the chunk of the first of them is
+/// taken in its snapshots, and then as many are written as need nothing more.
+///
+/// A part that was cut short lets the next one look no further than twice as far, so that no part
+/// looks again at all that lies behind it.
+#[cycle(walk)]
+fn write_origin<S: Sink, T: Taken>(
+    walker: &mut Walker<'_, T>,
+    levels: u32,
+    origin: &FoundOrigin,
+    sector: u64,
+    len: u64,
+    sink: &mut S,
+) -> Result<(), S::Fault>
+    requires some { 1 ≤ len }
+    requires inside { AreInOrigin walker.old.stack origin.now sector len }
+    requires sink { HasRoomFor S.stack S.room sink.old walker.old.stack len }
+    ensures { IsWalked S.took S.left S.stack S.room S.faults result sink.old sink.new walker.old walker.new (origin_step walker.old.stack Write levels origin.now walker.old.state sector len) len }
+{
+    walker.is_sound();
+    let over = origin.over.as_slice();
+    let mut from = sector;
+    let mut left = len;
+    let mut most = len;
+    while left > 0 {
+        serve(walker, over, from, sink)?;
+        let part = settled_part(walker, over, from, left.min(most));
+        map_range(walker, Op::Write, levels, origin.to, from, part, sink)?;
+        from += part;
+        left -= part;
+        most = 2 * part;
+    }
+    Ok(())
+}
+
+/// Fails sectors. This is rare, and a sink's call in line would take registers from all others, so it
+/// is never inlined.
+#[inline(never)]
+pub(crate) fn fail<S: Sink>(len: u64, sink: &mut S) -> Result<(), S::Fault>
+    requires some { 1 ≤ len }
+    requires room { len ≤ S.room sink.old }
+    ensures { IsHanded S.took S.left S.stack S.room S.faults result sink.old sink.new (units_in Fails len) len }
+{
+    sink.piece(Piece::Error { len })
+}
+
+/// Hands over sectors in zeros. It is never inlined, as `fail` is not.
+#[inline(never)]
+fn hand_zeros<S: Sink>(op: Op, len: u64, sink: &mut S) -> Result<(), S::Fault>
+    requires some { 1 ≤ len }
+    requires room { len ≤ S.room sink.old }
+    ensures { IsHanded S.took S.left S.stack S.room S.faults result sink.old sink.new (units_in (zero_unit op) len) len }
+{
+    sink.piece(zero_piece(op, len))
+}
+
+/// Whether a device refuses the operation as a whole: a write, where it is read-only.
+fn refuses<T: Taken>(walker: &Walker<'_, T>, op: Op, device: DeviceId) -> bool
+    requires { device < length walker.now.stack.devices }
+    ensures { result ≡ refuses walker.now.stack op device }
+{
+    walker.is_ro(device) && matches!(op, Op::Write)
+}
+
+/// What is done at sectors of a disk. The sink's code is put in line after this, and where the two kinds
+/// come from an `if`, it has no jump by a table of all kinds.
+fn disk_piece(op: Op, disk: DiskId, start: u64, len: u64) -> Piece
+    ensures units { units_of result ≡ units_in (disk_unit op disk start) len }
+    ensures len { piece_len result ≡ len }
+    ensures diskless { diskless_len result ≡ 0 }
+    ensures lies { (stack : Description) → IsOnDisk stack disk start len → IsOnDisks stack result }
+{
+    if matches!(op, Op::Write) {
+        Piece::Write { disk, start, len }
+    } else {
+        Piece::Read { disk, start, len }
+    }
+}
+
+/// What is done at sectors in zeros.
+fn zero_piece(op: Op, len: u64) -> Piece
+    ensures units { units_of result ≡ units_in (zero_unit op) len }
+    ensures len { piece_len result ≡ len }
+    ensures diskless { diskless_len result ≡ len }
+    ensures lies { (stack : Description) → IsOnDisks stack result }
+{
+    match op {
+        Op::Read => Piece::Zero { len },
+        Op::Write => Piece::Drop { len },
+    }
+}

@@ -1,0 +1,89 @@
+//! The snapshots of an origin: what a write to the origin's device does before it writes.
+//!
+//! In each of them the chunk of a sector is taken, so that the snapshot still has what the origin had.
+//! Then as many sectors are written as need no more of it: a range is cut where a snapshot has
+//! something left to do, and not wherever a chunk ends.
+
+ghost use Rattle.std.specs.Prelude.{◌≡◌, ℕ, ◌+◌, ◌/◌, ◌<◌, ◌≤◌, ◌^◌, OnOk, true};
+ghost use Rattle.std.specs.List.{All};
+ghost use Rattle.dm_map.specs.walk.Serving.{serve, AreSettled, IsOver};
+ghost use Rattle.dm_map.specs.walk.SnapshotWrites.{is_settled};
+ghost use Rattle.dm_map.specs.state.State.{taken_at};
+ghost use Rattle.dm_map.specs.walk.Range.{HasRoomFor, IsWalked};
+
+use crate::walk::chunk::part_of_chunk;
+use crate::pieces::sink::Sink;
+use crate::walk::take_chunk::{is_settled, take_chunk};
+use crate::state::taken::Taken;
+use crate::state::walker::Walker;
+use dm_stack::FoundOver;
+
+/// Takes the chunk of a sector of an origin in each of its snapshots, in their order.
+pub(crate) fn serve<S: Sink, T: Taken>(
+    walker: &mut Walker<'_, T>,
+    over: &[FoundOver],
+    sector: u64,
+    sink: &mut S,
+) -> Result<(), S::Fault>
+    requires over { All (IsOver walker.old.stack (sector + 1)) over.now }
+    requires sink { HasRoomFor S.stack S.room sink.old walker.old.stack 0 }
+    ensures walked { IsWalked S.took S.left S.stack S.room S.faults result sink.old sink.new walker.old walker.new (serve walker.old.stack over.now sector walker.old.state) 0 }
+    ensures settled { OnOk result (AreSettled walker.new.state over.now sector) }
+{
+    walker.is_sound();
+    walker.has_tables();
+    for one in over {
+        let chunk = sector / one.snapshot.chunk as u64;
+        take_chunk(walker, one.device, &one.snapshot, chunk, sink)?;
+    }
+    Ok(())
+}
+
+/// How many of at most `most` sectors of an origin, from `sector` on, lie in chunks for which nothing
+/// is left to do, in all of its snapshots. Those of `sector` itself do.
+///
+/// It only looks, at each chunk at most once, and at none of a snapshot that is lost. A lesser answer
+/// would be right too, and only cost time: the rest is served and written in further steps.
+pub(crate) fn settled_part<T: Taken>(
+    walker: &Walker<'_, T>,
+    over: &[FoundOver],
+    sector: u64,
+    most: u64,
+) -> u64
+    requires over { All (IsOver walker.now.stack (sector + most)) over.now }
+    requires some { 1 ≤ most }
+    requires small { sector + most ≤ 2 ^ 50 }
+    requires here { AreSettled walker.now.state over.now sector }
+    ensures some { 1 ≤ result }
+    ensures most { result ≤ most }
+    ensures settled { (i : ℕ) → i < result → AreSettled walker.now.state over.now (sector + i) }
+{
+    let mut part = most;
+    for one in over {
+        part = settled_in(walker, one, sector, part);
+    }
+    part
+}
+
+/// How many of at most `most` sectors of a snapshot, from `sector` on, lie in chunks for which nothing
+/// is left to do, as nothing is for that of `sector`.
+fn settled_in<T: Taken>(walker: &Walker<'_, T>, one: &FoundOver, sector: u64, most: u64) -> u64
+    requires over { IsOver walker.now.stack (sector + most) one.now }
+    requires some { 1 ≤ most }
+    requires small { sector + most ≤ 2 ^ 50 }
+    requires here { is_settled (taken_at walker.now.state one.now.device) (sector / one.now.snapshot.chunk) ≡ true }
+    ensures some { 1 ≤ result }
+    ensures most { result ≤ most }
+    ensures settled { (i : ℕ) → i < result → is_settled (taken_at walker.now.state one.now.device) ((sector + i) / one.now.snapshot.chunk) ≡ true }
+{
+    walker.is_sound();
+    if !walker.is_valid(one.device) {
+        return most;
+    }
+    let chunk_size = one.snapshot.chunk as u64;
+    let mut part = part_of_chunk(chunk_size, sector, most);
+    while part < most && is_settled(walker, one.device, (sector + part) / chunk_size) {
+        part += part_of_chunk(chunk_size, sector + part, most - part);
+    }
+    part
+}

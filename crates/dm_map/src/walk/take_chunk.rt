@@ -1,0 +1,253 @@
+//! Taking a chunk: what a write to a snapshot does before it writes.
+//!
+//! A chunk that is not taken is tested once, copied from the origin to its place in the store, and
+//! then taken. The copies are handed over before that, so that all of them read what was there
+//! before. A test and a copy go by stretches, and a copy ends where either side no longer goes on; no
+//! work is done for each sector. What is read and where a store's sectors lie do not depend on
+//! the depth at which the snapshot was reached, so each is looked up through all levels.
+
+ghost use Rattle.std.specs.Prelude.{◌≡◌, ◌+◌, ◌*◌, ◌%◌, ◌<◌, ◌≤◌, Some, length, true};
+ghost use Rattle.dm_stack.specs.Below.{IsSnapshotSound};
+ghost use Rattle.dm_stack.specs.Description.{Description, device_len, lower_len};
+ghost use Rattle.dm_stack.specs.Store.{IsStore};
+ghost use Rattle.dm_map.specs.state.Counts.{AreAdded};
+ghost use Rattle.dm_map.specs.walk.Homes.{IsFirstHomes};
+ghost use Rattle.dm_map.specs.walk.SnapshotWrites.{can_take, copies, copy_to, first_of, is_refused, is_settled, reads_all, take_chunk, store_writes};
+ghost use Rattle.dm_map.specs.state.Snapshots.{has_place};
+ghost use Rattle.dm_map.specs.state.State.{taken_at};
+ghost use Rattle.dm_map.specs.walk.Steps.{keep};
+ghost use Rattle.dm_map.specs.walk.Stretch.{ground_unit, IsGroundInStack};
+ghost use Rattle.dm_map.specs.state.Tables.{snapshot_at};
+ghost use Rattle.dm_map.specs.pieces.Units.{diskless_len, piece_len, units_in, units_of, IsOnDisk, IsOnDisks};
+ghost use Rattle.dm_map.specs.state.Walker.{stack_state};
+ghost use Rattle.dm_map.specs.walk.Range.{HasRoomFor, IsWalked};
+
+use crate::walk::chunk::store_sector;
+use crate::pieces::piece::Piece;
+use crate::pieces::sink::Sink;
+use crate::walk::stretch::{Ground, Stretch, first_stretch};
+use crate::state::taken::Taken;
+use crate::state::walker::Walker;
+use dm_stack::{DeviceId, DiskId, FoundSnapshot, Lower, MOST_DEPTH};
+use dm_table::StoreKind;
+
+/// Sectors of a store that lie in a row on a disk: `len` of them, from `start` on.
+#[derive(Clone, Copy, Drop)]
+pub(crate) struct HomeStretch {
+    disk: DiskId,
+    start: u64,
+    len: u64,
+}
+
+/// Takes a chunk of a snapshot, before its sectors are written: copies it to the store, and notes that
+/// the store has it.
+///
+/// There is nothing to do for a chunk that was taken, nor once the snapshot is lost. Where the store is
+/// full, or the origin can't be read without an error, it loses the snapshot in place of taking the
+/// chunk.
+pub(crate) fn take_chunk<S: Sink, T: Taken>(
+    walker: &mut Walker<'_, T>,
+    device: DeviceId,
+    snapshot: &FoundSnapshot,
+    chunk: u64,
+    sink: &mut S,
+) -> Result<(), S::Fault>
+    requires is { snapshot_at walker.old.stack device ≡ Some snapshot.now }
+    requires sound { IsSnapshotSound walker.old.stack device 0 (device_len walker.old.stack device) snapshot.now }
+    requires inside { first_of snapshot.now chunk < device_len walker.old.stack device }
+    requires sink { HasRoomFor S.stack S.room sink.old walker.old.stack 0 }
+    ensures { IsWalked S.took S.left S.stack S.room S.faults result sink.old sink.new walker.old walker.new (take_chunk walker.old.stack snapshot.now device chunk walker.old.state) 0 }
+{
+    if is_settled(walker, device, chunk) {
+        return Ok(());
+    }
+    let end = walker.len(device);
+    let chunk_size = snapshot.chunk as u64;
+    let first = chunk * chunk_size;
+    let count = chunk_size.min(end - first);
+    if !can_take(walker, device, snapshot, first, count) {
+        walker.invalidate(device);
+        return Ok(());
+    }
+    let number = walker.count(device);
+    copy_chunk(walker, snapshot, number, first, count, sink)?;
+    walker.take(device, chunk);
+    Ok(())
+}
+
+/// Whether there is nothing left to do for a chunk: it was taken, or the snapshot is lost.
+pub(crate) fn is_settled<T: Taken>(walker: &Walker<'_, T>, device: DeviceId, chunk: u64) -> bool
+    requires { device < length walker.now.stack.devices }
+    ensures { result ≡ is_settled (taken_at walker.now.state device) chunk }
+{
+    !walker.is_valid(device) || walker.find(device, chunk).is_some()
+}
+
+/// Whether a write of a chunk is refused: its store keeps what it has, and there is no place for a
+/// chunk that still has to be taken.
+pub(crate) fn is_refused<T: Taken>(
+    walker: &Walker<'_, T>,
+    device: DeviceId,
+    snapshot: &FoundSnapshot,
+    chunk: u64,
+) -> bool
+    requires device { device < length walker.now.stack.devices }
+    requires is { snapshot_at walker.now.stack device ≡ Some snapshot.now }
+    ensures { result ≡ is_refused walker.now.stack snapshot.now (taken_at walker.now.state device) chunk }
+{
+    matches!(snapshot.kind, StoreKind::Keeping)
+        && walker.is_full(device)
+        && !is_settled(walker, device, chunk)
+}
+
+/// Whether a chunk can be taken: the store has a place for one more, and the origin reads all of its
+/// sectors, `len` of them from `sector` on.
+fn can_take<T: Taken>(
+    walker: &mut Walker<'_, T>,
+    device: DeviceId,
+    snapshot: &FoundSnapshot,
+    sector: u64,
+    len: u64,
+) -> bool
+    requires device { device < length walker.old.stack.devices }
+    requires is { snapshot_at walker.old.stack device ≡ Some snapshot.now }
+    requires inside { sector + len ≤ lower_len walker.old.stack snapshot.now.origin }
+    ensures is { result ≡ can_take walker.old.stack walker.old.state snapshot.now device sector len }
+    ensures same { stack_state walker.new ≡ stack_state walker.old }
+    ensures looked { AreAdded walker.old.looked walker.new.looked }
+{
+    !walker.is_full(device) && reads_all(walker, &snapshot.origin, sector, len)
+}
+
+/// Whether sectors of a device or a disk all read without an error.
+fn reads_all<T: Taken>(walker: &mut Walker<'_, T>, lower: &Lower, sector: u64, len: u64) -> bool
+    requires { sector + len ≤ lower_len walker.old.stack lower.now }
+    ensures is { result ≡ reads_all walker.old.stack walker.old.state lower.now sector len }
+    ensures same { stack_state walker.new ≡ stack_state walker.old }
+    ensures looked { AreAdded walker.old.looked walker.new.looked }
+{
+    walker.is_sound();
+    let mut at = sector;
+    let mut left = len;
+    while left > 0 {
+        let stretch = first_stretch(walker, MOST_DEPTH, *lower, at, left);
+        if let Ground::Fails = stretch.ground {
+            return false;
+        }
+        at += stretch.len;
+        left -= stretch.len;
+    }
+    true
+}
+
+/// Copies sectors of a chunk from the origin to the place that the store has for this number.
+fn copy_chunk<S: Sink, T: Taken>(
+    walker: &mut Walker<'_, T>,
+    snapshot: &FoundSnapshot,
+    number: usize,
+    sector: u64,
+    len: u64,
+    sink: &mut S,
+) -> Result<(), S::Fault>
+    requires origin { sector + len ≤ lower_len walker.old.stack snapshot.now.origin }
+    requires store { IsStore walker.old.stack snapshot.now.store }
+    requires chunk { 0 < snapshot.now.chunk }
+    requires chunk_small { snapshot.now.chunk ≤ 1024 }
+    requires place { has_place walker.old.stack snapshot.now number ≡ true }
+    requires part { sector % snapshot.now.chunk + len ≤ snapshot.now.chunk }
+    requires sink { HasRoomFor S.stack S.room sink.old walker.old.stack 0 }
+    ensures { IsWalked S.took S.left S.stack S.room S.faults result sink.old sink.new walker.old walker.new (keep (copies walker.old.stack walker.old.state snapshot.now number sector len) walker.old.state) 0 }
+{
+    walker.is_sound();
+    let mut from = sector;
+    let mut to = store_sector(snapshot, number, sector);
+    let mut left = len;
+    while left > 0 {
+        let source = first_stretch(walker, MOST_DEPTH, snapshot.origin, from, left);
+        let target = first_homes(walker, snapshot.store, to, source.len);
+        sink.piece(copy_piece(&source, &target))?;
+        from += target.len;
+        to += target.len;
+        left -= target.len;
+    }
+    Ok(())
+}
+
+/// The copy of as many sectors as the target has. What can't be read is not copied, so it plays no
+/// part.
+fn copy_piece(from: &Stretch, to: &HomeStretch) -> Piece
+    ensures units { units_of result ≡ units_in (copy_to (ground_unit from.now.ground) (record { disk = to.now.disk; sector = to.now.start })) to.now.len }
+    ensures len { piece_len result ≡ to.now.len }
+    ensures diskless { diskless_len result ≡ 0 }
+    ensures lies { (stack : Description) → IsGroundInStack stack from.now.ground to.now.len → IsOnDisk stack to.now.disk to.now.start to.now.len → IsOnDisks stack result }
+{
+    match &from.ground {
+        Ground::Disk { disk, start } => Piece::Copy {
+            disk: *disk,
+            start: *start,
+            len: to.len,
+            to: to.disk,
+            to_start: to.start,
+        },
+        Ground::Zeros | Ground::Fails => Piece::Fill {
+            len: to.len,
+            disk: to.disk,
+            start: to.start,
+        },
+    }
+}
+
+/// Writes sectors of a store, stretch by stretch.
+pub(crate) fn write_store<S: Sink, T: Taken>(
+    walker: &mut Walker<'_, T>,
+    store: &Lower,
+    sector: u64,
+    len: u64,
+    sink: &mut S,
+) -> Result<(), S::Fault>
+    requires inside { sector + len ≤ lower_len walker.old.stack store.now }
+    requires store { IsStore walker.old.stack store.now }
+    requires sink { HasRoomFor S.stack S.room sink.old walker.old.stack 0 }
+    ensures { IsWalked S.took S.left S.stack S.room S.faults result sink.old sink.new walker.old walker.new (keep (store_writes walker.old.stack store.now sector len) walker.old.state) 0 }
+{
+    walker.is_sound();
+    let mut at = sector;
+    let mut left = len;
+    while left > 0 {
+        let home = first_homes(walker, *store, at, left);
+        sink.piece(Piece::Write {
+            disk: home.disk,
+            start: home.start,
+            len: home.len,
+        })?;
+        at += home.len;
+        left -= home.len;
+    }
+    Ok(())
+}
+
+/// Where the first sectors of a range of a store lie.
+fn first_homes<T: Taken>(
+    walker: &mut Walker<'_, T>,
+    store: Lower,
+    sector: u64,
+    len: u64,
+) -> HomeStretch
+    requires some { 1 ≤ len }
+    requires inside { sector + len ≤ lower_len walker.old.stack store }
+    requires store { IsStore walker.old.stack store }
+    ensures is { IsFirstHomes walker.old.stack store sector len result }
+    ensures same { stack_state walker.new ≡ stack_state walker.old }
+    ensures looked { AreAdded walker.old.looked walker.new.looked }
+{
+    walker.is_sound();
+    let stretch = first_stretch(walker, MOST_DEPTH, store, sector, len);
+    let Ground::Disk { disk, start } = &stretch.ground else {
+        unreachable!()
+    };
+    HomeStretch {
+        disk: *disk,
+        start: *start,
+        len: stretch.len,
+    }
+}
