@@ -1,2 +1,3 @@
 -- Laws with their proofs, for what can cite nothing but specs.
+pub mod Contents
 pub mod PieceLists

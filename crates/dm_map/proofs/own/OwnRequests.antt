@@ -22,7 +22,8 @@ use Rattle.dm_map.specs.pieces.Units.{BlockUnit, ReadOf, WriteOf, Fails, CopyOf,
 use Rattle.dm_map.proofs.own.Losses.{stays_as, stays_on}
 use Rattle.dm_map.proofs.own.ChunkOutcomes.{IsRead, Sector, Nothing, Fault, is_read}
 use Rattle.dm_map.proofs.own.OwnWrites.{own_write, start_fits}
-use Rattle.dm_map.proofs.own.Plays.{past-append, played_on, stored_other, stored_same}
+use Rattle.dm_map.specs.laws.Contents.{past-append}
+use Rattle.dm_map.proofs.own.Plays.{played_on, stored_other, stored_same}
 use Rattle.dm_map.proofs.own.TakenInARow.{all_front}
 
 -- Units before the one that answers

@@ -7,7 +7,7 @@ ghost use Rattle.dm_map.specs.pieces.Units.{BlockUnit};
 
 /// Copies and fills before other units are played first, from values that count sector by sector
 /// alone. It does nothing: its contract is the law.
-#[tactic(auto, using(crate::proofs::own::Plays::played_on, crate::proofs::own::Plays::played_cong))]
+#[tactic(auto, using(crate::proofs::own::Plays::played_on, crate::specs::laws::Contents::played_cong))]
 pub fn play_goes_on<V>()
     ensures after { (zeros : V) (written : ℕ → V) (sector : ℕ) (front rest : List BlockUnit) (values : Values V) → AllByRecursion (λ unit. answers unit ≡ false) front
         → played zeros written sector (front ++ rest) values ≡ played zeros written sector rest (played zeros written sector front values) }
