@@ -22,8 +22,8 @@ use crate::pieces::sink::Sink;
 use crate::state::tables::empty_tables;
 use crate::state::taken::Taken;
 use crate::state::usage::{Usage, usage_of};
-use crate::walk::range::{fail, map_range};
 use crate::state::walker::Walker;
+use crate::walk::range::{fail, map_range};
 use dm_stack::{DeviceId, Looker, Lower, MOST_DEPTH};
 use dm_table::{Op, Request};
 use std::alloc::{AllocError, Global};
@@ -61,7 +61,13 @@ impl<'s, T: Taken> Model for Mapper<'s, T> {
 
     ghost Value = { MapperView };
 
-    ghost view = { λ mapper. record { stack = mapper.walker.stack; state = mapper.walker.state; stopped = mapper.stopped; looked = mapper.walker.looked; last = record { searches = mapper.searches; comparisons = mapper.probes } } };
+    ghost view = { λ mapper. record {
+      stack = mapper.walker.stack;
+      state = mapper.walker.state;
+      stopped = mapper.stopped;
+      looked = mapper.walker.looked;
+      last = record { searches = mapper.searches; comparisons = mapper.probes };
+    } };
 }
 
 impl<'s, T: Taken> Mapper<'s, T> {
@@ -75,7 +81,8 @@ impl<'s, T: Taken> Mapper<'s, T> {
         ensures stack { IfOk result (λ mapper. mapper.stack ≡ looker.entry.stack) }
         ensures state { IfOk result (λ mapper. mapper.state ≡ start_state looker.entry.stack) }
         ensures going { IfOk result (λ mapper. mapper.stopped ≡ false) }
-        ensures looked { IfOk result (λ mapper. mapper.looked.searches ≤ looker.entry.searches + length (snapshots looker.entry.stack)) }
+        ensures looked { IfOk result (λ mapper. mapper.looked.searches ≤ looker.entry.searches
+            + length (snapshots looker.entry.stack)) }
         ensures last { IfOk result (λ mapper. mapper.last ≡ no_counts) }
         ensures within { IfOk result (λ mapper. IsWithinPlaces mapper.stack mapper.state) }
     {
@@ -115,17 +122,30 @@ impl<'s, T: Taken> Mapper<'s, T> {
         requires stack { S.stack sink.old ≡ self.old.stack }
         requires room { request.now.len ≤ S.room sink.old }
         ensures stack { self.new.stack ≡ self.old.stack }
-        ensures took { OnOk result (S.took sink.old (request_step self.old.stack request.now.op device request.now.start request.now.len self.old.state).units sink.new) }
-        ensures state { OnOk result (self.new.state ≡ (request_step self.old.stack request.now.op device request.now.start request.now.len self.old.state).state) }
-        ensures kept { OnOk result ((S.stack sink.new ≡ S.stack sink.old) × (S.faults sink.new ≡ S.faults sink.old)) }
+        ensures took { OnOk result (S.took sink.old
+            (request_step self.old.stack request.now.op device request.now.start request.now.len
+            self.old.state).units sink.new) }
+        ensures state { OnOk result (self.new.state
+            ≡ (request_step self.old.stack request.now.op device request.now.start request.now.len
+            self.old.state).state) }
+        ensures kept { OnOk result ((S.stack sink.new ≡ S.stack sink.old)
+            × (S.faults sink.new ≡ S.faults sink.old)) }
         ensures going { OnOk result ((self.old.stopped ≡ false) × (self.new.stopped ≡ false)) }
-        ensures left { OnSinkFault result (OfBeginning S.left sink.old (request_step self.old.stack request.now.op device request.now.start request.now.len self.old.state).units sink.new) }
+        ensures left { OnSinkFault result
+            (OfBeginning S.left sink.old
+            (request_step self.old.stack request.now.op device request.now.start request.now.len
+            self.old.state).units sink.new) }
         ensures failed { OnSinkFault result (S.faults sink.new ≡ S.faults sink.old + 1) }
         ensures stops { OnSinkFault result ((self.old.stopped ≡ false) × (self.new.stopped ≡ true)) }
-        ensures stopped { OnStopped result ((self.old.stopped ≡ true) × (self.new ≡ self.old) × (sink.new ≡ sink.old)) }
+        ensures stopped { OnStopped result
+            ((self.old.stopped ≡ true) × (self.new ≡ self.old) × (sink.new ≡ sink.old)) }
         ensures counted { OnTried result (self.new.looked ≡ grown_by self.old.looked self.new.last) }
         ensures few { OnTried result (self.new.last.comparisons ≤ 17 * self.new.last.searches) }
-        ensures bounded { OnTried result (request.now.op ≡ Read → self.new.last.searches ≤ stack_depth self.old.stack * read_stretches self.old.stack self.old.state device request.now.start request.now.len) }
+        ensures bounded { OnTried result
+            (request.now.op ≡ Read
+            → self.new.last.searches
+            ≤ stack_depth self.old.stack * read_stretches self.old.stack self.old.state device
+            request.now.start request.now.len) }
         ensures within { IsWithinPlaces self.new.stack self.new.state }
     {
         if self.stopped {
@@ -154,7 +174,8 @@ impl<'s, T: Taken> Mapper<'s, T> {
     /// is taken.
     pub fn usage(&mut self, device: DeviceId) -> Usage
         requires { IsSnapshot self.old.stack device }
-        ensures usage { IfSome (snapshot_at self.old.stack device) (λ snapshot. result ≡ usage_of self.old.stack snapshot (taken_at self.old.state device)) }
+        ensures usage { IfSome (snapshot_at self.old.stack device)
+            (λ snapshot. result ≡ usage_of self.old.stack snapshot (taken_at self.old.state device)) }
         ensures same { self.new ≡ with_looked self.old self.new.looked }
         ensures looked { AreAdded self.old.looked self.new.looked }
         ensures one { self.new.looked.searches ≤ self.old.looked.searches + 1 }
@@ -194,8 +215,11 @@ impl<'s, T: Taken> Mapper<'s, T> {
         requires some { 1 ≤ len }
         requires device { device < length self.old.stack.devices }
         requires sink { HasRoomFor S.stack S.room sink.old self.old.stack len }
-        ensures walked { IsWalked S.took S.left S.stack S.room S.faults result sink.old sink.new (walker_of self.old) (walker_of self.new) (request_step self.old.stack op device start len self.old.state) len }
-        ensures bounded { op ≡ Read → self.new.looked.searches ≤ self.old.looked.searches + stack_depth self.old.stack * read_stretches self.old.stack self.old.state device start len }
+        ensures walked { IsWalked S.took S.left S.stack S.room S.faults
+            result sink.old sink.new (walker_of self.old) (walker_of self.new)
+            (request_step self.old.stack op device start len self.old.state) len }
+        ensures bounded { op ≡ Read → self.new.looked.searches ≤ self.old.looked.searches
+            + stack_depth self.old.stack * read_stretches self.old.stack self.old.state device start len }
         ensures stopped { self.new.stopped ≡ self.old.stopped }
     {
         self.walker.is_sound();

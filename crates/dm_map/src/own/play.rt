@@ -9,8 +9,14 @@ ghost use Rattle.dm_map.specs.pieces.Units.{BlockUnit};
 /// alone. It does nothing: its contract is the law.
 #[tactic(auto, using(crate::proofs::own::Plays::played_on, crate::specs::laws::Contents::played_cong))]
 pub fn play_goes_on<V>()
-    ensures after { (zeros : V) (written : ℕ → V) (sector : ℕ) (front rest : List BlockUnit) (values : Values V) → AllByRecursion (λ unit. answers unit ≡ false) front
-        → played zeros written sector (front ++ rest) values ≡ played zeros written sector rest (played zeros written sector front values) }
-    ensures same { (zeros : V) (written : ℕ → V) (sector : ℕ) (units : List BlockUnit) (values others : Values V) → ((disk place : ℕ) → values disk place ≡ others disk place)
-        → (disk place : ℕ) → played zeros written sector units values disk place ≡ played zeros written sector units others disk place }
+    ensures after { (zeros : V) (written : ℕ → V) (sector : ℕ) (front rest : List BlockUnit)
+        (values : Values V)
+        → AllByRecursion (λ unit. answers unit ≡ false) front
+        → played zeros written sector (front ++ rest) values
+        ≡ played zeros written sector rest (played zeros written sector front values) }
+    ensures same { (zeros : V) (written : ℕ → V) (sector : ℕ) (units : List BlockUnit)
+        (values others : Values V)
+        → ((disk at : ℕ) → values disk at ≡ others disk at)
+        → (disk at : ℕ) → played zeros written sector units values disk at
+        ≡ played zeros written sector units others disk at }
 {}

@@ -18,16 +18,23 @@ use dm_stack::Stack;
 /// nothing and returns nothing: its contract is the law.
 #[tactic(auto, using(crate::proofs::own::OwnRequests::first_own))]
 pub fn requests_are_alone<V>(stack: &Stack)
-    ensures start { (zeros : V) (values : Values V) → AreOwn zeros stack.now (start_state stack.now) values (first_rows zeros stack.now values) }
-    ensures request { (zeros : V) (written : ℕ → V) (op : Op) (state : State) (top start len : ℕ) (values : Values V) (rows : Rows V) → IsTidy stack.now → IsTop stack.now top → AreOwn zeros stack.now state values rows
+    ensures start { (zeros : V) (values : Values V)
+        → AreOwn zeros stack.now (start_state stack.now) values (first_rows zeros stack.now values) }
+    ensures request { (zeros : V) (written : ℕ → V) (op : Op) (state : State) (top start len : ℕ)
+        (values : Values V) (rows : Rows V)
+        → IsTidy stack.now → IsTop stack.now top → AreOwn zeros stack.now state values rows
         → AreOwn zeros stack.now (request_step stack.now op top start len state).state
         (played zeros written start (request_step stack.now op top start len state).units values)
         (rows_played written top start (request_step stack.now op top start len state).units rows) }
-    ensures stopped { (zeros : V) (written : ℕ → V) (op : Op) (state : State) (top start len count : ℕ) (values : Values V) (rows : Rows V) → IsTidy stack.now → IsTop stack.now top → AreOwn zeros stack.now state values rows
+    ensures stopped { (zeros : V) (written : ℕ → V) (op : Op) (state : State) (top start len count : ℕ)
+        (values : Values V) (rows : Rows V)
+        → IsTidy stack.now → IsTop stack.now top → AreOwn zeros stack.now state values rows
         → AreOwn zeros stack.now (stopped_state stack.now op top start len count state)
         (played zeros written start (stopped_units stack.now op top start len count state) values)
         (rows_played written top start (stopped_units stack.now op top start len count state) rows) }
-    ensures few { (zeros : V) (op : Op) (state : State) (top start len count : ℕ) (values : Values V) (rows : Rows V) → IsTidy stack.now → IsTop stack.now top → AreOwn zeros stack.now state values rows
+    ensures few { (zeros : V) (op : Op) (state : State) (top start len count : ℕ)
+        (values : Values V) (rows : Rows V)
+        → IsTidy stack.now → IsTop stack.now top → AreOwn zeros stack.now state values rows
         → sector_past (stopped_units stack.now op top start len count state) 0 ≤ len }
 {
     // Called because its contract says that the stack is sound.

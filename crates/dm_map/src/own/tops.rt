@@ -21,8 +21,10 @@ use dm_stack::Stack;
 #[tactic(auto, using(crate::proofs::own::OwnWrites::own_write, crate::proofs::own::OwnWrites::start_fits))]
 pub fn tops_are_alone<V>(stack: &Stack)
     ensures start { IsFitting stack.now (start_state stack.now) }
-    ensures own { (zeros : V) (written : ℕ → V) (state : State) (top sector : ℕ) → IsTidy stack.now → IsFitting stack.now state → IsTop stack.now top
-        → IsOwnWrite zeros written stack.now state top sector (write stack.now state (Device top) sector) }
+    ensures own { (zeros : V) (written : ℕ → V) (state : State) (top sector : ℕ)
+        → IsTidy stack.now → IsFitting stack.now state → IsTop stack.now top
+        → IsOwnWrite zeros written stack.now state top sector
+        (write stack.now state (Device top) sector) }
 {
     // Called because its contract says that the stack is sound.
     stack.depth();

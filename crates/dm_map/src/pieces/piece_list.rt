@@ -25,7 +25,8 @@ impl<'s> Model for PieceList<'s> {
 
     ghost Value = { PieceListView };
 
-    ghost view = { λ list. record { stack = list.stack.now; pieces = list.pieces.items; faults = list.faults } };
+    ghost view = { λ list. record
+        { stack = list.stack.now; pieces = list.pieces.items; faults = list.faults } };
 }
 
 impl<'s> PieceList<'s> {

@@ -47,8 +47,10 @@ pub trait Sink {
     ghost took_nothing: { (s : Self) → took s [] s };
 
     /// If it took some units and then others, it took them all in that order.
-    ghost took_then_took: { (a b c : Self) (us vs : List BlockUnit) → took a us b → took b vs c → took a (us ++ vs) c };
+    ghost took_then_took: { (a b c : Self) (us vs : List BlockUnit) → took a us b → took b vs c
+        → took a (us ++ vs) c };
 
     /// If it took some units and then failed at others, it failed at them all.
-    ghost took_then_left: { (a b c : Self) (us vs : List BlockUnit) → took a us b → left b vs c → left a (us ++ vs) c };
+    ghost took_then_left: { (a b c : Self) (us vs : List BlockUnit) → took a us b → left b vs c
+        → left a (us ++ vs) c };
 }

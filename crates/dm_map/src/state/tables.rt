@@ -23,7 +23,8 @@ pub(crate) fn empty_tables<T: Taken>(
     looker: &mut Looker<'_>,
 ) -> Result<Vec<T>, AllocError>
     ensures tables { IfOk result (λ tables. AreTables T.places looker.old.stack tables.items) }
-    ensures state { IfOk result (λ tables. state_of T.chunks T.valid tables.items ≡ start_state looker.old.stack) }
+    ensures state { IfOk result (λ tables. state_of T.chunks T.valid tables.items
+        ≡ start_state looker.old.stack) }
     ensures stack { looker.new.stack ≡ looker.old.stack }
     ensures looked { looker.new.searches ≤ looker.old.searches + length (snapshots looker.old.stack) }
 {
@@ -40,8 +41,10 @@ pub(crate) fn empty_tables<T: Taken>(
 /// `count` tables, each without a place.
 fn tables_without_places<T: Taken>(alloc: Global, count: usize) -> Result<Vec<T>, AllocError>
     ensures count { IfOk result (λ tables. length tables.items ≡ count) }
-    ensures places { IfOk result (λ tables. (index : ℕ) (table : T) → slice_get tables.items index ≡ Some table → T.places table ≡ 0) }
-    ensures state { IfOk result (λ tables. state_of T.chunks T.valid tables.items ≡ replicate count none_taken) }
+    ensures places { IfOk result (λ tables. (index : ℕ) (table : T)
+        → slice_get tables.items index ≡ Some table → T.places table ≡ 0) }
+    ensures state { IfOk result (λ tables. state_of T.chunks T.valid tables.items
+        ≡ replicate count none_taken) }
 {
     let mut tables = Vec::with_capacity(alloc, count)?;
     for _device in 0..count {

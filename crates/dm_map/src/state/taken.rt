@@ -5,7 +5,8 @@
 //! whether the snapshot is still valid. A way to keep them is an implementation; `PlainTaken` is the
 //! plainest. A chunk's number, its index in that list, says where in the store it is.
 
-ghost use Rattle.std.specs.Prelude.{◌≡◌, ℕ, ◌<◌, ◌≤◌, ◌==◌, Bool, true, false, List, [], ◌∷◌, ◌++◌, None, length, nat_eq, IfOk};
+ghost use Rattle.std.specs.Prelude.{◌≡◌, ℕ, ◌<◌, ◌≤◌, ◌==◌, [], ◌∷◌, ◌++◌};
+ghost use Rattle.std.specs.Prelude.{Bool, true, false, List, None, length, nat_eq, IfOk};
 ghost use Rattle.dm_map.specs.state.Snapshots.{number_in};
 ghost use Rattle.std.specs.List.{IsDistinct};
 

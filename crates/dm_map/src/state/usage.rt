@@ -35,7 +35,8 @@ pub struct Usage {
 /// The usage of a snapshot in this state, at the cost of one look-up.
 pub(crate) fn usage_of<T: Taken>(walker: &mut Walker<'_, T>, device: DeviceId) -> Usage
     requires { IsSnapshot walker.old.stack device }
-    ensures usage { IfSome (snapshot_at walker.old.stack device) (λ snapshot. result ≡ usage_of walker.old.stack snapshot (taken_at walker.old.state device)) }
+    ensures usage { IfSome (snapshot_at walker.old.stack device)
+        (λ snapshot. result ≡ usage_of walker.old.stack snapshot (taken_at walker.old.state device)) }
     ensures same { stack_state walker.new ≡ stack_state walker.old }
     ensures looked { AreAdded walker.old.looked walker.new.looked }
     ensures one { walker.new.looked.searches ≤ walker.old.looked.searches + 1 }

@@ -33,7 +33,11 @@ impl<'s, T: Taken> Model for Walker<'s, T> {
 
     ghost Value = { WalkerView };
 
-    ghost view = { λ walker. record { stack = walker.looker.stack; state = state_of T.chunks T.valid walker.tables.items; looked = counts_of walker.looker } };
+    ghost view = { λ walker. record {
+      stack = walker.looker.stack;
+      state = state_of T.chunks T.valid walker.tables.items;
+      looked = counts_of walker.looker;
+    } };
 
     ghost invariant = { λ walker. AreTables T.places walker.looker.stack walker.tables.items };
 }
@@ -85,7 +89,8 @@ impl<'s, T: Taken> Walker<'s, T> {
         requires sector { sector < device_len self.old.stack device }
         ensures line { found_at self.old.stack device sector ≡ Some result.now }
         ensures holds { HoldsSoundly self.old.stack device result.now sector }
-        ensures all { (other : ℕ) → result.now.start ≤ other → other < result.now.start + result.now.len → found_at self.old.stack device other ≡ Some result.now }
+        ensures all { (other : ℕ) → result.now.start ≤ other → other < result.now.start + result.now.len
+            → found_at self.old.stack device other ≡ Some result.now }
         ensures same { stack_state self.new ≡ stack_state self.old }
         ensures looked { AreAdded self.old.looked self.new.looked }
         ensures one { self.new.looked.searches ≤ self.old.looked.searches + 1 }
@@ -182,7 +187,8 @@ impl<'s, T: Taken> Walker<'s, T> {
     /// Whether the store of a snapshot has no place for one more chunk.
     pub(crate) fn is_full(&self, device: DeviceId) -> bool
         requires { device < length self.now.stack.devices }
-        ensures { result ≡ not (has_room self.now.stack device (length (taken_at self.now.state device).chunks)) }
+        ensures { result ≡ not (has_room self.now.stack device
+            (length (taken_at self.now.state device).chunks)) }
     {
         let table = &self.tables[device.index()];
         table.is_full()
@@ -192,10 +198,12 @@ impl<'s, T: Taken> Walker<'s, T> {
     pub(crate) fn take(&mut self, device: DeviceId, chunk: u64)
         requires device { device < length self.old.stack.devices }
         requires valid { (taken_at self.old.state device).valid ≡ true }
-        requires room { has_room self.old.stack device (length (taken_at self.old.state device).chunks) ≡ true }
+        requires room { has_room self.old.stack device (length (taken_at self.old.state device).chunks)
+            ≡ true }
         requires fresh { number_in chunk (taken_at self.old.state device).chunks ≡ None }
         ensures stack { self.new.stack ≡ self.old.stack }
-        ensures state { self.new.state ≡ put self.old.state device (with_chunk (taken_at self.old.state device) chunk) }
+        ensures state { self.new.state
+            ≡ put self.old.state device (with_chunk (taken_at self.old.state device) chunk) }
         ensures looked { self.new.looked ≡ self.old.looked }
     {
         let table = &mut self.tables[device.index()];

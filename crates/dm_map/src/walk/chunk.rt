@@ -1,6 +1,7 @@
 //! Chunks of a snapshot: how a range is cut at them, and where their sectors are read.
 
-ghost use Rattle.std.specs.Prelude.{◌≡◌, ◌+◌, ◌-◌, ◌*◌, ◌%◌, ◌<◌, ◌≤◌, ◌^◌, false, length, min, IfNone, IfSome};
+ghost use Rattle.std.specs.Prelude.{◌≡◌, ◌+◌, ◌-◌, ◌*◌, ◌%◌, ◌<◌, ◌≤◌, ◌^◌};
+ghost use Rattle.std.specs.Prelude.{false, length, min, IfNone, IfSome};
 ghost use Rattle.dm_stack.specs.StoreLayout.{place};
 ghost use Rattle.dm_map.specs.state.Snapshots.{store_sector};
 ghost use Rattle.dm_map.specs.state.State.{taken_at};

@@ -20,20 +20,23 @@ ghost use Rattle.dm_map.specs.walk.Bound.{IsBounded, IsLineBounded, IsTargetBoun
 ghost use Rattle.dm_map.specs.walk.Path.{path};
 ghost use Rattle.dm_map.specs.walk.SnapshotWrites.{write_snapshot};
 ghost use Rattle.dm_map.specs.walk.Steps.{steps};
-ghost use Rattle.dm_map.specs.pieces.Units.{Fails, diskless_len, piece_len, units_in, units_of, IsOnDisk, IsOnDisks};
-ghost use Rattle.dm_map.specs.walk.Range.{disk_unit, zero_unit, refuses, range_step, line_step, origin_step, stripes_step, AreInOrigin, IsHanded, HasRoomFor, IsWalked};
+ghost use Rattle.dm_map.specs.pieces.Units.{diskless_len, piece_len, units_in, units_of};
+ghost use Rattle.dm_map.specs.pieces.Units.{Fails, IsOnDisk, IsOnDisks};
+ghost use Rattle.dm_map.specs.walk.Range.{disk_unit, zero_unit, refuses};
+ghost use Rattle.dm_map.specs.walk.Range.{range_step, line_step, origin_step, stripes_step};
+ghost use Rattle.dm_map.specs.walk.Range.{AreInOrigin, IsHanded, HasRoomFor, IsWalked};
 ghost use Rattle.dm_map.specs.walk.Chunk.{AreInChunk, AreInSnapshot};
 ghost use Rattle.dm_map.specs.walk.Stripe.{AreInStripes};
 
-use crate::walk::chunk::{part_of_chunk, read_at};
 use crate::pieces::piece::Piece;
-use crate::walk::serving::{serve, settled_part};
 use crate::pieces::sink::Sink;
+use crate::state::taken::Taken;
+use crate::state::walker::Walker;
+use crate::walk::chunk::{part_of_chunk, read_at};
+use crate::walk::serving::{serve, settled_part};
 use crate::walk::step::{part_in, sector_at};
 use crate::walk::stripe::{next_chunk, position_at};
 use crate::walk::take_chunk::{is_refused, take_chunk, write_store};
-use crate::state::taken::Taken;
-use crate::state::walker::Walker;
 use dm_stack::{
     DeviceId, DiskId, Divisor, FoundColumn, FoundLine, FoundOrigin, FoundSnapshot, FoundTarget,
     Lower,
@@ -60,8 +63,11 @@ pub(crate) fn map_range<S: Sink, T: Taken>(
     requires some { 1 ≤ len }
     requires inside { sector + len ≤ lower_len walker.old.stack lower }
     requires sink { HasRoomFor S.stack S.room sink.old walker.old.stack len }
-    ensures walked { IsWalked S.took S.left S.stack S.room S.faults result sink.old sink.new walker.old walker.new (range_step walker.old.stack op levels lower walker.old.state sector len) len }
-    ensures bounded { IsBounded walker.old walker.new op (lower_depth walker.old.stack lower) (path walker.old.stack walker.old.state levels lower) sector len }
+    ensures walked { IsWalked S.took S.left S.stack S.room S.faults
+        result sink.old sink.new walker.old walker.new
+        (range_step walker.old.stack op levels lower walker.old.state sector len) len }
+    ensures bounded { IsBounded walker.old walker.new op (lower_depth walker.old.stack lower)
+        (path walker.old.stack walker.old.state levels lower) sector len }
 {
     match lower {
         Lower::Disk(disk) => sink.piece(disk_piece(op, disk, sector, len)),
@@ -84,8 +90,11 @@ fn map_device<S: Sink, T: Taken>(
     requires some { 1 ≤ len }
     requires inside { sector + len ≤ device_len walker.old.stack device }
     requires sink { HasRoomFor S.stack S.room sink.old walker.old.stack len }
-    ensures walked { IsWalked S.took S.left S.stack S.room S.faults result sink.old sink.new walker.old walker.new (range_step walker.old.stack op levels (Device device) walker.old.state sector len) len }
-    ensures bounded { IsBounded walker.old walker.new op (depth_of walker.old.stack device) (path walker.old.stack walker.old.state levels (Device device)) sector len }
+    ensures walked { IsWalked S.took S.left S.stack S.room S.faults
+        result sink.old sink.new walker.old walker.new
+        (range_step walker.old.stack op levels (Device device) walker.old.state sector len) len }
+    ensures bounded { IsBounded walker.old walker.new op (depth_of walker.old.stack device)
+        (path walker.old.stack walker.old.state levels (Device device)) sector len }
 {
     if levels == 0 || refuses(walker, op, device) {
         return fail(len, sink);
@@ -122,7 +131,9 @@ fn map_line<S: Sink, T: Taken>(
     requires found { found_at walker.old.stack device line.now.start ≡ Some line.now }
     requires sound { IsTargetSound walker.old.stack device line.now.start line.now.len line.now.target }
     requires sink { HasRoomFor S.stack S.room sink.old walker.old.stack len }
-    ensures walked { IsWalked S.took S.left S.stack S.room S.faults result sink.old sink.new walker.old walker.new (line_step walker.old.stack op levels device line.now.target walker.old.state distance len) len }
+    ensures walked { IsWalked S.took S.left S.stack S.room S.faults
+        result sink.old sink.new walker.old walker.new
+        (line_step walker.old.stack op levels device line.now.target walker.old.state distance len) len }
     ensures bounded { IsLineBounded walker.old walker.new op levels device line.now distance len }
 {
     match &line.target {
@@ -168,8 +179,12 @@ fn map_stripes<S: Sink, T: Taken>(
     requires inside { AreInStripes walker.old.stack chunk_size.now columns.now distance len }
     requires count { count.now ≡ length columns.now }
     requires sink { HasRoomFor S.stack S.room sink.old walker.old.stack len }
-    ensures walked { IsWalked S.took S.left S.stack S.room S.faults result sink.old sink.new walker.old walker.new (stripes_step walker.old.stack op levels chunk_size.now columns.now walker.old.state distance len) len }
-    ensures bounded { (device : ℕ) → IsTargetBounded walker.old walker.new op levels device (Striped chunk_size.now columns.now) distance len }
+    ensures walked { IsWalked S.took S.left S.stack S.room S.faults
+        result sink.old sink.new walker.old walker.new
+        (stripes_step walker.old.stack op levels chunk_size.now columns.now walker.old.state distance
+        len) len }
+    ensures bounded { (device : ℕ) → IsTargetBounded walker.old walker.new op levels device
+        (Striped chunk_size.now columns.now) distance len }
 {
     let size = chunk_size.value();
     let mut position = position_at(chunk_size, count, distance);
@@ -204,8 +219,12 @@ fn map_snapshot<S: Sink, T: Taken>(
     requires inside { AreInSnapshot walker.old.stack device snapshot.now sector len }
     requires small { sector + len ≤ 2 ^ 50 }
     requires sink { HasRoomFor S.stack S.room sink.old walker.old.stack len }
-    ensures walked { IsWalked S.took S.left S.stack S.room S.faults result sink.old sink.new walker.old walker.new (line_step walker.old.stack op levels device (Snapshot snapshot.now) walker.old.state sector len) len }
-    ensures bounded { IsTargetBounded walker.old walker.new op levels device (Snapshot snapshot.now) sector len }
+    ensures walked { IsWalked S.took S.left S.stack S.room S.faults
+        result sink.old sink.new walker.old walker.new
+        (line_step walker.old.stack op levels device (Snapshot snapshot.now) walker.old.state sector
+        len) len }
+    ensures bounded { IsTargetBounded walker.old walker.new op levels device (Snapshot snapshot.now)
+        sector len }
 {
     let mut from = sector;
     let mut left = len;
@@ -234,8 +253,12 @@ fn map_chunk<S: Sink, T: Taken>(
     requires some { 1 ≤ len }
     requires chunk { AreInChunk walker.old.stack device snapshot.now sector len }
     requires sink { HasRoomFor S.stack S.room sink.old walker.old.stack len }
-    ensures walked { IsWalked S.took S.left S.stack S.room S.faults result sink.old sink.new walker.old walker.new (line_step walker.old.stack op levels device (Snapshot snapshot.now) walker.old.state sector len) len }
-    ensures bounded { IsTargetBounded walker.old walker.new op levels device (Snapshot snapshot.now) sector len }
+    ensures walked { IsWalked S.took S.left S.stack S.room S.faults
+        result sink.old sink.new walker.old walker.new
+        (line_step walker.old.stack op levels device (Snapshot snapshot.now) walker.old.state sector
+        len) len }
+    ensures bounded { IsTargetBounded walker.old walker.new op levels device (Snapshot snapshot.now)
+        sector len }
 {
     match op {
         Op::Write => write_chunk(walker, device, snapshot, sector, len, sink),
@@ -260,7 +283,9 @@ fn write_chunk<S: Sink, T: Taken>(
     requires some { 1 ≤ len }
     requires chunk { AreInChunk walker.old.stack device snapshot.now sector len }
     requires sink { HasRoomFor S.stack S.room sink.old walker.old.stack len }
-    ensures { IsWalked S.took S.left S.stack S.room S.faults result sink.old sink.new walker.old walker.new (steps (write_snapshot walker.old.stack snapshot.now device) walker.old.state sector len) len }
+    ensures { IsWalked S.took S.left S.stack S.room S.faults
+        result sink.old sink.new walker.old walker.new
+        (steps (write_snapshot walker.old.stack snapshot.now device) walker.old.state sector len) len }
 {
     let chunk = sector / snapshot.chunk as u64;
     if is_refused(walker, device, snapshot, chunk) {
@@ -291,8 +316,11 @@ fn map_origin<S: Sink, T: Taken>(
     requires some { 1 ≤ len }
     requires inside { AreInOrigin walker.old.stack origin.now sector len }
     requires sink { HasRoomFor S.stack S.room sink.old walker.old.stack len }
-    ensures walked { IsWalked S.took S.left S.stack S.room S.faults result sink.old sink.new walker.old walker.new (origin_step walker.old.stack op levels origin.now walker.old.state sector len) len }
-    ensures bounded { (device : ℕ) → IsTargetBounded walker.old walker.new op levels device (Origin origin.now) sector len }
+    ensures walked { IsWalked S.took S.left S.stack S.room S.faults
+        result sink.old sink.new walker.old walker.new
+        (origin_step walker.old.stack op levels origin.now walker.old.state sector len) len }
+    ensures bounded { (device : ℕ) → IsTargetBounded walker.old walker.new op levels device
+        (Origin origin.now) sector len }
 {
     match op {
         Op::Read => map_range(walker, op, levels, origin.to, sector, len, sink),
@@ -317,7 +345,9 @@ fn write_origin<S: Sink, T: Taken>(
     requires some { 1 ≤ len }
     requires inside { AreInOrigin walker.old.stack origin.now sector len }
     requires sink { HasRoomFor S.stack S.room sink.old walker.old.stack len }
-    ensures { IsWalked S.took S.left S.stack S.room S.faults result sink.old sink.new walker.old walker.new (origin_step walker.old.stack Write levels origin.now walker.old.state sector len) len }
+    ensures { IsWalked S.took S.left S.stack S.room S.faults
+        result sink.old sink.new walker.old walker.new
+        (origin_step walker.old.stack Write levels origin.now walker.old.state sector len) len }
 {
     walker.is_sound();
     let over = origin.over.as_slice();
@@ -341,7 +371,8 @@ fn write_origin<S: Sink, T: Taken>(
 pub(crate) fn fail<S: Sink>(len: u64, sink: &mut S) -> Result<(), S::Fault>
     requires some { 1 ≤ len }
     requires room { len ≤ S.room sink.old }
-    ensures { IsHanded S.took S.left S.stack S.room S.faults result sink.old sink.new (units_in Fails len) len }
+    ensures { IsHanded S.took S.left S.stack S.room S.faults
+        result sink.old sink.new (units_in Fails len) len }
 {
     sink.piece(Piece::Error { len })
 }
@@ -351,7 +382,8 @@ pub(crate) fn fail<S: Sink>(len: u64, sink: &mut S) -> Result<(), S::Fault>
 fn hand_zeros<S: Sink>(op: Op, len: u64, sink: &mut S) -> Result<(), S::Fault>
     requires some { 1 ≤ len }
     requires room { len ≤ S.room sink.old }
-    ensures { IsHanded S.took S.left S.stack S.room S.faults result sink.old sink.new (units_in (zero_unit op) len) len }
+    ensures { IsHanded S.took S.left S.stack S.room S.faults
+        result sink.old sink.new (units_in (zero_unit op) len) len }
 {
     sink.piece(zero_piece(op, len))
 }

@@ -11,11 +11,11 @@ ghost use Rattle.dm_map.specs.walk.SnapshotWrites.{is_settled};
 ghost use Rattle.dm_map.specs.state.State.{taken_at};
 ghost use Rattle.dm_map.specs.walk.Range.{HasRoomFor, IsWalked};
 
-use crate::walk::chunk::part_of_chunk;
 use crate::pieces::sink::Sink;
-use crate::walk::take_chunk::{is_settled, take_chunk};
 use crate::state::taken::Taken;
 use crate::state::walker::Walker;
+use crate::walk::chunk::part_of_chunk;
+use crate::walk::take_chunk::{is_settled, take_chunk};
 use dm_stack::FoundOver;
 
 /// Takes the chunk of a sector of an origin in each of its snapshots, in their order.
@@ -27,7 +27,9 @@ pub(crate) fn serve<S: Sink, T: Taken>(
 ) -> Result<(), S::Fault>
     requires over { All (IsOver walker.old.stack (sector + 1)) over.now }
     requires sink { HasRoomFor S.stack S.room sink.old walker.old.stack 0 }
-    ensures walked { IsWalked S.took S.left S.stack S.room S.faults result sink.old sink.new walker.old walker.new (serve walker.old.stack over.now sector walker.old.state) 0 }
+    ensures walked { IsWalked S.took S.left S.stack S.room S.faults
+        result sink.old sink.new walker.old walker.new
+        (serve walker.old.stack over.now sector walker.old.state) 0 }
     ensures settled { OnOk result (AreSettled walker.new.state over.now sector) }
 {
     walker.is_sound();
@@ -71,10 +73,13 @@ fn settled_in<T: Taken>(walker: &Walker<'_, T>, one: &FoundOver, sector: u64, mo
     requires over { IsOver walker.now.stack (sector + most) one.now }
     requires some { 1 ≤ most }
     requires small { sector + most ≤ 2 ^ 50 }
-    requires here { is_settled (taken_at walker.now.state one.now.device) (sector / one.now.snapshot.chunk) ≡ true }
+    requires here { is_settled (taken_at walker.now.state one.now.device)
+        (sector / one.now.snapshot.chunk) ≡ true }
     ensures some { 1 ≤ result }
     ensures most { result ≤ most }
-    ensures settled { (i : ℕ) → i < result → is_settled (taken_at walker.now.state one.now.device) ((sector + i) / one.now.snapshot.chunk) ≡ true }
+    ensures settled { (i : ℕ) → i < result
+        → is_settled (taken_at walker.now.state one.now.device) ((sector + i) / one.now.snapshot.chunk)
+        ≡ true }
 {
     walker.is_sound();
     if !walker.is_valid(one.device) {

@@ -12,11 +12,11 @@ ghost use Rattle.dm_stack.specs.Description.{lower_len};
 ghost use Rattle.dm_map.specs.walk.Stretch.{IsFirst};
 ghost use Rattle.dm_map.specs.walk.Range.{line_step, range_step};
 
+use crate::state::taken::Taken;
+use crate::state::walker::Walker;
 use crate::walk::chunk::{part_of_chunk, read_at};
 use crate::walk::step::{part_in, sector_at};
 use crate::walk::stripe::position_at;
-use crate::state::taken::Taken;
-use crate::state::walker::Walker;
 use dm_stack::{DeviceId, DiskId, FoundLine, FoundTarget, Lower};
 
 #[cfg(test)]
@@ -54,7 +54,8 @@ pub(crate) fn first_stretch<T: Taken>(
 ) -> Stretch
     requires some { 1 ≤ len }
     requires inside { sector + len ≤ lower_len walker.old.stack lower }
-    ensures { IsFirst walker.old walker.new (range_step walker.old.stack Read levels lower walker.old.state sector) len result }
+    ensures { IsFirst walker.old walker.new
+        (range_step walker.old.stack Read levels lower walker.old.state sector) len result }
 {
     match lower {
         Lower::Disk(disk) => Stretch {
@@ -95,7 +96,9 @@ fn line_stretch<T: Taken>(
     requires small { line.now.len ≤ 2 ^ 50 }
     requires found { found_at walker.old.stack device line.now.start ≡ Some line.now }
     requires sound { IsTargetSound walker.old.stack device line.now.start line.now.len line.now.target }
-    ensures { IsFirst walker.old walker.new (line_step walker.old.stack Read levels device line.now.target walker.old.state distance) len result }
+    ensures { IsFirst walker.old walker.new
+        (line_step walker.old.stack Read levels device line.now.target walker.old.state distance) len
+        result }
 {
     match &line.target {
         FoundTarget::Linear { to, offset } => {

@@ -12,7 +12,8 @@ ghost use Rattle.dm_stack.specs.Description.{Description, device_len, lower_len}
 ghost use Rattle.dm_stack.specs.Store.{IsStore};
 ghost use Rattle.dm_map.specs.state.Counts.{AreAdded};
 ghost use Rattle.dm_map.specs.walk.Homes.{IsFirstHomes};
-ghost use Rattle.dm_map.specs.walk.SnapshotWrites.{can_take, copies, copy_to, first_of, is_refused, is_settled, reads_all, take_chunk, store_writes};
+ghost use Rattle.dm_map.specs.walk.SnapshotWrites.{can_take, copies, copy_to, first_of, is_refused};
+ghost use Rattle.dm_map.specs.walk.SnapshotWrites.{is_settled, reads_all, store_writes, take_chunk};
 ghost use Rattle.dm_map.specs.state.Snapshots.{has_place};
 ghost use Rattle.dm_map.specs.state.State.{taken_at};
 ghost use Rattle.dm_map.specs.walk.Steps.{keep};
@@ -22,12 +23,12 @@ ghost use Rattle.dm_map.specs.pieces.Units.{diskless_len, piece_len, units_in, u
 ghost use Rattle.dm_map.specs.state.Walker.{stack_state};
 ghost use Rattle.dm_map.specs.walk.Range.{HasRoomFor, IsWalked};
 
-use crate::walk::chunk::store_sector;
 use crate::pieces::piece::Piece;
 use crate::pieces::sink::Sink;
-use crate::walk::stretch::{Ground, Stretch, first_stretch};
 use crate::state::taken::Taken;
 use crate::state::walker::Walker;
+use crate::walk::chunk::store_sector;
+use crate::walk::stretch::{Ground, Stretch, first_stretch};
 use dm_stack::{DeviceId, DiskId, FoundSnapshot, Lower, MOST_DEPTH};
 use dm_table::StoreKind;
 
@@ -53,10 +54,13 @@ pub(crate) fn take_chunk<S: Sink, T: Taken>(
     sink: &mut S,
 ) -> Result<(), S::Fault>
     requires is { snapshot_at walker.old.stack device ≡ Some snapshot.now }
-    requires sound { IsSnapshotSound walker.old.stack device 0 (device_len walker.old.stack device) snapshot.now }
+    requires sound { IsSnapshotSound walker.old.stack device 0 (device_len walker.old.stack device)
+        snapshot.now }
     requires inside { first_of snapshot.now chunk < device_len walker.old.stack device }
     requires sink { HasRoomFor S.stack S.room sink.old walker.old.stack 0 }
-    ensures { IsWalked S.took S.left S.stack S.room S.faults result sink.old sink.new walker.old walker.new (take_chunk walker.old.stack snapshot.now device chunk walker.old.state) 0 }
+    ensures { IsWalked S.took S.left S.stack S.room S.faults
+        result sink.old sink.new walker.old walker.new
+        (take_chunk walker.old.stack snapshot.now device chunk walker.old.state) 0 }
 {
     if is_settled(walker, device, chunk) {
         return Ok(());
@@ -156,7 +160,10 @@ fn copy_chunk<S: Sink, T: Taken>(
     requires place { has_place walker.old.stack snapshot.now number ≡ true }
     requires part { sector % snapshot.now.chunk + len ≤ snapshot.now.chunk }
     requires sink { HasRoomFor S.stack S.room sink.old walker.old.stack 0 }
-    ensures { IsWalked S.took S.left S.stack S.room S.faults result sink.old sink.new walker.old walker.new (keep (copies walker.old.stack walker.old.state snapshot.now number sector len) walker.old.state) 0 }
+    ensures { IsWalked S.took S.left S.stack S.room S.faults
+        result sink.old sink.new walker.old walker.new
+        (keep (copies walker.old.stack walker.old.state snapshot.now number sector len)
+        walker.old.state) 0 }
 {
     walker.is_sound();
     let mut from = sector;
@@ -176,10 +183,13 @@ fn copy_chunk<S: Sink, T: Taken>(
 /// The copy of as many sectors as the target has. What can't be read is not copied, so it plays no
 /// part.
 fn copy_piece(from: &Stretch, to: &HomeStretch) -> Piece
-    ensures units { units_of result ≡ units_in (copy_to (ground_unit from.now.ground) (record { disk = to.now.disk; sector = to.now.start })) to.now.len }
+    ensures units { units_of result
+        ≡ units_in (copy_to (ground_unit from.now.ground)
+        (record { disk = to.now.disk; sector = to.now.start })) to.now.len }
     ensures len { piece_len result ≡ to.now.len }
     ensures diskless { diskless_len result ≡ 0 }
-    ensures lies { (stack : Description) → IsGroundInStack stack from.now.ground to.now.len → IsOnDisk stack to.now.disk to.now.start to.now.len → IsOnDisks stack result }
+    ensures lies { (stack : Description) → IsGroundInStack stack from.now.ground to.now.len
+        → IsOnDisk stack to.now.disk to.now.start to.now.len → IsOnDisks stack result }
 {
     match &from.ground {
         Ground::Disk { disk, start } => Piece::Copy {
@@ -208,7 +218,9 @@ pub(crate) fn write_store<S: Sink, T: Taken>(
     requires inside { sector + len ≤ lower_len walker.old.stack store.now }
     requires store { IsStore walker.old.stack store.now }
     requires sink { HasRoomFor S.stack S.room sink.old walker.old.stack 0 }
-    ensures { IsWalked S.took S.left S.stack S.room S.faults result sink.old sink.new walker.old walker.new (keep (store_writes walker.old.stack store.now sector len) walker.old.state) 0 }
+    ensures { IsWalked S.took S.left S.stack S.room S.faults
+        result sink.old sink.new walker.old walker.new
+        (keep (store_writes walker.old.stack store.now sector len) walker.old.state) 0 }
 {
     walker.is_sound();
     let mut at = sector;
