@@ -29,16 +29,12 @@ added_then first second third one two = record {
 
 -- What a sink took and left
 
--- what holds, holds where there is a fault
-pub on_err : {T E : Type 0} (r : Result T E) (P : Type 0) → P → OnErr r P
-on_err (Ok x) P p = tt
-on_err (Err e) P p = p
-
+-- what follows from what holds where there is a fault
 on_err_then : {T E : Type 0} (r : Result T E) (P Q : Type 0) → (P → Q) → OnErr r P → OnErr r Q
 on_err_then (Ok x) P Q f p = tt
 on_err_then (Err e) P Q f p = f p
 
--- what holds, holds where there is none
+-- what holds, holds where there is none, and so does what follows from it
 on_ok : {T E : Type 0} (r : Result T E) (P : Type 0) → P → OnOk r P
 on_ok (Ok x) P p = p
 on_ok (Err e) P p = tt

@@ -60,6 +60,10 @@ pub settled_more : (state : State) (over : List FoundOver) (one : FoundOver) (se
 settled_more state [] one sector settled last = (last, tt)
 settled_more state (first ∷ over) one sector settled last = (settled.0, settled_more state over one sector settled.1 last)
 
+pub settled_parts : (state : State) (over : List FoundOver) (one : FoundOver) (sector : ℕ) → AreSettled state (over ++ one ∷ []) sector → AreSettled state over sector × (is_settled (taken_at state one.device) (sector / one.snapshot.chunk) ≡ true)
+settled_parts state [] one sector settled = (tt, settled.0)
+settled_parts state (first ∷ over) one sector settled = let rest = settled_parts state over one sector settled.1 in ((settled.0, rest.0), rest.1)
+
 -- once all are served
 pub serve_settled : (stack : Description) (over : List FoundOver) (sector : ℕ) (state : State) → AllByRecursion (λ one. one.device < length state) over → AreSettled (serve stack over sector state).state over sector
 unfolding serve

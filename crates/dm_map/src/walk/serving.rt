@@ -4,7 +4,7 @@
 //! Then as many sectors are written as need no more of it: a range is cut where a snapshot has
 //! something left to do, and not wherever a chunk ends.
 
-ghost use Rattle.std.specs.Prelude.{◌≡◌, ℕ, ◌+◌, ◌/◌, ◌<◌, ◌≤◌, ◌^◌, OnOk, true};
+ghost use Rattle.std.specs.Prelude.{◌≡◌, ℕ, ◌+◌, ◌/◌, ◌<◌, ◌≤◌, ◌^◌, OnOk, false, true};
 ghost use Rattle.std.specs.List.{All};
 ghost use Rattle.dm_map.specs.walk.Serving.{serve, AreSettled, IsOver};
 ghost use Rattle.dm_map.specs.walk.SnapshotWrites.{is_settled};
@@ -42,10 +42,10 @@ pub(crate) fn serve<S: Sink, T: Taken>(
 }
 
 /// How many of at most `most` sectors of an origin, from `sector` on, lie in chunks for which nothing
-/// is left to do, in all of its snapshots. Those of `sector` itself do.
+/// is left to do, in all of its snapshots. Those of `sector` itself do, and the answer goes as far as
+/// it can.
 ///
-/// It only looks, at each chunk at most once, and at none of a snapshot that is lost. A lesser answer
-/// would be right too, and only cost time: the rest is served and written in further steps.
+/// It only looks, at each chunk at most once, and at none of a snapshot that is lost.
 pub(crate) fn settled_part<T: Taken>(
     walker: &Walker<'_, T>,
     over: &[FoundOver],
@@ -59,6 +59,7 @@ pub(crate) fn settled_part<T: Taken>(
     ensures some { 1 ≤ result }
     ensures most { result ≤ most }
     ensures settled { (i : ℕ) → i < result → AreSettled walker.now.state over.now (sector + i) }
+    ensures whole { result < most → ¬ AreSettled walker.now.state over.now (sector + result) }
 {
     let mut part = most;
     for one in over {
@@ -68,7 +69,7 @@ pub(crate) fn settled_part<T: Taken>(
 }
 
 /// How many of at most `most` sectors of a snapshot, from `sector` on, lie in chunks for which nothing
-/// is left to do, as nothing is for that of `sector`.
+/// is left to do, as nothing is for that of `sector`: as far as it goes.
 fn settled_in<T: Taken>(walker: &Walker<'_, T>, one: &FoundOver, sector: u64, most: u64) -> u64
     requires over { IsOver walker.now.stack (sector + most) one.now }
     requires some { 1 ≤ most }
@@ -80,6 +81,9 @@ fn settled_in<T: Taken>(walker: &Walker<'_, T>, one: &FoundOver, sector: u64, mo
     ensures settled { (i : ℕ) → i < result
         → is_settled (taken_at walker.now.state one.now.device) ((sector + i) / one.now.snapshot.chunk)
         ≡ true }
+    ensures whole { result < most
+        → is_settled (taken_at walker.now.state one.now.device)
+        ((sector + result) / one.now.snapshot.chunk) ≡ false }
 {
     walker.is_sound();
     if !walker.is_valid(one.device) {

@@ -46,3 +46,11 @@ loop-part-preserved g c =
       most = omega (arith, n_is, c.loop-part-test.true);
       settled = chunk_more (taken_at a.walker.now.state one.device) one.snapshot a.sector l.part n some (omega (arith, n_is)) (sym c.is_settled.ensures ∙ c.if-is_settled.true) l.invariant.settled;
     }
+
+-- the loop ends at a chunk that is not settled, or where there is no further sector
+
+pub returns-else-is_settled-clause-whole : goal.returns-else-is_settled-clause-whole
+returns-else-is_settled-clause-whole g c less = sym c.is_settled.ensures ∙ c.if-is_settled.false
+
+pub returns-after-loop-part-clause-whole : goal.returns-after-loop-part-clause-whole
+returns-after-loop-part-clause-whole g c less = absurd (omega (arith, less, c.loop-part-test.false))

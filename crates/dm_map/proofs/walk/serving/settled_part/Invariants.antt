@@ -7,5 +7,6 @@ abbrev pub invariant-loop-one : goal.invariant-loop-one
 invariant-loop-one g l = record {
   some : 1 ≤ l.part;
   most : l.part ≤ l.most;
+  whole : l.part < l.most → AreSettled l.walker.state (take l.one-index l.over) (l.sector + l.part) → ⊥;
   settled : (i : ℕ) → i < l.part → AreSettled l.walker.state (take l.one-index l.over) (l.sector + i);
 }
