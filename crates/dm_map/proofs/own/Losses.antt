@@ -33,7 +33,7 @@ stays_as a b c d p q (inr gone) = inr (q ∙ gone)
 
 lost_target : (old taken : Taken) (target : FoundTarget) (distance : ℕ) → taken.valid ≡ false → (below_target (read_over taken) target distance ≡ below_target (read_over old) target distance) ⊎ (below_target (read_over taken) target distance ≡ IsError)
 lost_target old taken (founds.Linear to offset) distance off = inl refl
-lost_target old taken (founds.Striped chunk columns) distance off = inl refl
+lost_target old taken (founds.Striped chunk_size columns) distance off = inl refl
 lost_target old taken founds.Zero distance off = inl refl
 lost_target old taken founds.Error distance off = inl refl
 lost_target old taken (founds.Snapshot snapshot) distance off = inr (rw off refl)

@@ -36,10 +36,10 @@ use Rattle.dm_map.proofs.walk.Stripes.{at_index, in_column_room}
 -- the sectors that each column of a line of this length has
 abbrev pub share_of : (len : ℕ) → Target → ℕ
 share_of len (targets.Linear to offset) = len
-share_of len (targets.Striped chunk columns) = len / length columns
+share_of len (targets.Striped chunk_size columns) = len / length columns
 share_of len targets.Zero = 0
 share_of len targets.Error = 0
-share_of len (targets.Snapshot origin store kind chunk) = 0
+share_of len (targets.Snapshot origin store kind chunk_size) = 0
 share_of len (targets.Origin origin) = 0
 
 record IsColumnSpan (stack : Description) (len : ℕ) (target : Target) (i : ℕ) (column : FoundColumn) : Type 0 where
@@ -69,7 +69,7 @@ column_span_at stack len (targets.Linear to offset) zero column is =
     let same = column_is _ column is in
     record { span = record { to = to; offset = offset; len = Some len; kind = Own }; at = refl; to = ap (λ (c : FoundColumn). c.to) same; offset = ap (λ (c : FoundColumn). c.offset) same; share = refl; own = refl }
 column_span_at stack len (targets.Linear to offset) (suc i) column is = absurd cc
-column_span_at stack len (targets.Striped chunk columns) i column is =
+column_span_at stack len (targets.Striped chunk_size columns) i column is =
     let raw = raw_column stack (slice_get columns i) column (sym (slice_get-map (λ c. record { to = lower_of stack c.to; offset = c.offset }) columns i) ∙ is) in
     record {
       span = column_span (len / length columns) raw.0;
@@ -81,24 +81,24 @@ column_span_at stack len (targets.Striped chunk columns) i column is =
     }
 column_span_at stack len targets.Zero i column is = absurd cc
 column_span_at stack len targets.Error i column is = absurd cc
-column_span_at stack len (targets.Snapshot origin store kind chunk) i column is = absurd cc
+column_span_at stack len (targets.Snapshot origin store kind chunk_size) i column is = absurd cc
 column_span_at stack len (targets.Origin origin) i column is = absurd cc
 
 within_share : (stack : Description) (device start len : ℕ) (target : Target) (distance : ℕ) (column : FoundColumn) → IsTargetSound stack device start len (found_target stack target) → slice_get (columns_of (found_target stack target)) (column_at (found_target stack target) distance) ≡ Some column → distance < len
     → within_at (found_target stack target) distance < share_of len target
 within_share stack device start len (targets.Linear to offset) distance column sound is inside = inside
-within_share stack device start len (targets.Striped chunk columns) distance column sound is inside =
-    let stripes : AreStripes stack len chunk (found_columns stack columns) = sound in
+within_share stack device start len (targets.Striped chunk_size columns) distance column sound is inside =
+    let stripes : AreStripes stack len chunk_size (found_columns stack columns) = sound in
     let count = length (found_columns stack columns) in
     let some = stripes.chunk_some in
-    let room = in_column_room chunk count stripes.column_len stripes.chunks len distance stripes.chunk_some stripes.some stripes.shares stripes.whole inside in
+    let room = in_column_room chunk_size count stripes.column_len stripes.chunks len distance stripes.chunk_some stripes.some stripes.shares stripes.whole inside in
     let same : count ≡ length columns = length-map columns _ in
     let share : len / length columns ≡ stripes.column_len = ap (λ (n : ℕ). len / n) (sym same) ∙ ap (λ (n : ℕ). n / count) stripes.shares ∙ mul-div_cancel_left stripes.column_len stripes.some in
-    let rest : distance % chunk < chunk = omega (arith, some) in
+    let rest : distance % chunk_size < chunk_size = omega (arith, some) in
     omega (arith, room, share, rest)
 within_share stack device start len targets.Zero distance column sound is inside = absurd cc
 within_share stack device start len targets.Error distance column sound is inside = absurd cc
-within_share stack device start len (targets.Snapshot origin store kind chunk) distance column sound is inside = absurd cc
+within_share stack device start len (targets.Snapshot origin store kind chunk_size) distance column sound is inside = absurd cc
 within_share stack device start len (targets.Origin origin) distance column sound is inside = absurd cc
 
 -- Through a column of a line
@@ -168,11 +168,11 @@ pub record IsSnapshotVia (stack : Description) (device : ℕ) (snapshot : FoundS
 snapshot_spans : (stack : Description) (len : ℕ) (target : Target) (snapshot : FoundSnapshot) → found_target stack target ≡ founds.Snapshot snapshot
     → (store : DevRef) × (origin : DevRef) × (target_spans len target ≡ whole_span store Own ∷ whole_span origin Reading ∷ []) × (lower_of stack store ≡ snapshot.store) × (lower_of stack origin ≡ snapshot.origin)
 snapshot_spans stack len (targets.Linear to offset) snapshot is = absurd cc
-snapshot_spans stack len (targets.Striped chunk columns) snapshot is = absurd cc
+snapshot_spans stack len (targets.Striped chunk_size columns) snapshot is = absurd cc
 snapshot_spans stack len targets.Zero snapshot is = absurd cc
 snapshot_spans stack len targets.Error snapshot is = absurd cc
-snapshot_spans stack len (targets.Snapshot origin store kind chunk) snapshot is =
-    let same = snapshot_is (found_snapshot stack origin store kind chunk) snapshot is in
+snapshot_spans stack len (targets.Snapshot origin store kind chunk_size) snapshot is =
+    let same = snapshot_is (found_snapshot stack origin store kind chunk_size) snapshot is in
     (store, origin, refl, ap (λ (s : FoundSnapshot). s.store) same, ap (λ (s : FoundSnapshot). s.origin) same)
   where
     snapshot_is : (a b : FoundSnapshot) → founds.Snapshot a ≡ founds.Snapshot b → a ≡ b
@@ -232,10 +232,10 @@ pub record IsOriginVia (stack : Description) (device : ℕ) (origin : FoundOrigi
 
 origin_spans : (stack : Description) (len : ℕ) (target : Target) (origin : FoundOrigin) → found_target stack target ≡ founds.Origin origin → (to : DevRef) × (target_spans len target ≡ whole_span to Serving ∷ []) × (lower_of stack to ≡ origin.to)
 origin_spans stack len (targets.Linear to offset) origin is = absurd cc
-origin_spans stack len (targets.Striped chunk columns) origin is = absurd cc
+origin_spans stack len (targets.Striped chunk_size columns) origin is = absurd cc
 origin_spans stack len targets.Zero origin is = absurd cc
 origin_spans stack len targets.Error origin is = absurd cc
-origin_spans stack len (targets.Snapshot of store kind chunk) origin is = absurd cc
+origin_spans stack len (targets.Snapshot of store kind chunk_size) origin is = absurd cc
 origin_spans stack len (targets.Origin to) origin is = (to, refl, ap (λ (o : FoundOrigin). o.to) (origin_is (record { to = lower_of stack to; over = snapshots_over stack (lower_of stack to) }) origin is))
   where
     origin_is : (a b : FoundOrigin) → founds.Origin a ≡ founds.Origin b → a ≡ b
@@ -260,12 +260,12 @@ column_inside stack device start len (founds.Linear to offset) distance lower at
     let offsets : offset ≡ step.column.offset = ap (λ (c : FoundColumn). c.offset) column in
     let at_is = step.sector in
     subst (λ (x : Lower). at < lower_len stack x) same (omega (arith, sound, inside, offsets, at_is))
-column_inside stack device start len (founds.Striped chunk columns) distance lower at sound step inside =
-    let stripes : AreStripes stack len chunk columns = sound in
+column_inside stack device start len (founds.Striped chunk_size columns) distance lower at sound step inside =
+    let stripes : AreStripes stack len chunk_size columns = sound in
     let some = stripes.chunk_some in
-    let share = at_index (λ c. c.offset + stripes.column_len ≤ lower_len stack c.to) columns (column_of chunk (length columns) distance) step.column stripes.inside step.is in
-    let room = in_column_room chunk (length columns) stripes.column_len stripes.chunks len distance stripes.chunk_some stripes.some stripes.shares stripes.whole inside in
-    let rest : distance % chunk < chunk = omega (arith, some) in
+    let share = at_index (λ c. c.offset + stripes.column_len ≤ lower_len stack c.to) columns (column_of chunk_size (length columns) distance) step.column stripes.inside step.is in
+    let room = in_column_room chunk_size (length columns) stripes.column_len stripes.chunks len distance stripes.chunk_some stripes.some stripes.shares stripes.whole inside in
+    let rest : distance % chunk_size < chunk_size = omega (arith, some) in
     let at_is = step.sector in
     subst (λ (x : Lower). at < lower_len stack x) step.to (omega (arith, share, room, rest, at_is))
 column_inside stack device start len founds.Zero distance lower at sound step inside = absurd (no_columns step.column step.is)

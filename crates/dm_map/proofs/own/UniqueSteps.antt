@@ -39,13 +39,13 @@ use Rattle.dm_map.proofs.own.StepClaims.{IsLineVia, IsSnapshotVia, column_inside
 distance_one : (stack : Description) (device start len : ℕ) (target : FoundTarget) (d e : ℕ) (column : FoundColumn) → IsTargetSound stack device start len target → slice_get (columns_of target) (column_at target d) ≡ Some column
     → column_at target d ≡ column_at target e → within_at target d ≡ within_at target e → d ≡ e
 distance_one stack device start len (founds.Linear to offset) d e column sound is columns within = within
-distance_one stack device start len (founds.Striped chunk columns) d e column sound is same within =
-    let stripes : AreStripes stack len chunk columns = sound in
+distance_one stack device start len (founds.Striped chunk_size columns) d e column sound is same within =
+    let stripes : AreStripes stack len chunk_size columns = sound in
     let n = length columns in
-    sym (stripe_back chunk n d stripes.chunk_some)
-    ∙ ap (λ (w : ℕ). (w / chunk * n + column_of chunk n d) * chunk + w % chunk) within
-    ∙ ap (λ (i : ℕ). (in_column chunk n e / chunk * n + i) * chunk + in_column chunk n e % chunk) same
-    ∙ stripe_back chunk n e stripes.chunk_some
+    sym (stripe_back chunk_size n d stripes.chunk_some)
+    ∙ ap (λ (w : ℕ). (w / chunk_size * n + column_of chunk_size n d) * chunk_size + w % chunk_size) within
+    ∙ ap (λ (i : ℕ). (in_column chunk_size n e / chunk_size * n + i) * chunk_size + in_column chunk_size n e % chunk_size) same
+    ∙ stripe_back chunk_size n e stripes.chunk_some
 distance_one stack device start len founds.Zero d e column sound is columns within = absurd cc
 distance_one stack device start len founds.Error d e column sound is columns within = absurd cc
 distance_one stack device start len (founds.Snapshot snapshot) d e column sound is columns within = absurd cc

@@ -244,14 +244,14 @@ held_is stack device sector line held target is t has held_at = subst (λ (l : F
     some_is : (a b : FoundLine) → Some a ≡ Some b → a ≡ b
     some_is a b e = cc
 
-stripes_written : (stack : Description) (state : State) (device sector : ℕ) (line : FoundLine) (chunk : ℕ) (columns : List FoundColumn) (b : Below) (step : Step) → IsSound stack → IsFitting stack state → IsTidy stack → found_at stack device sector ≡ Some line → line.target ≡ founds.Striped chunk columns
-    → below_stripes chunk columns (sector - line.start) ≡ b → ((to : Lower) → lower_depth stack to < lower_depth stack (Device device) → Writes stack to)
+stripes_written : (stack : Description) (state : State) (device sector : ℕ) (line : FoundLine) (chunk_size : ℕ) (columns : List FoundColumn) (b : Below) (step : Step) → IsSound stack → IsFitting stack state → IsTidy stack → found_at stack device sector ≡ Some line → line.target ≡ founds.Striped chunk_size columns
+    → below_stripes chunk_size columns (sector - line.start) ≡ b → ((to : Lower) → lower_depth stack to < lower_depth stack (Device device) → Writes stack to)
     → step ≡ by_below b (keep (Drops ∷ []) state) (keep (Fails ∷ []) state) (λ to at. write_step stack MOST_DEPTH to state at) → Written stack state (Device device) sector step
-stripes_written stack state device sector line chunk columns (Lies to at) step sound fitting tidy is target b_is each step_is =
+stripes_written stack state device sector line chunk_size columns (Lies to at) step sound fitting tidy is target b_is each step_is =
     let goes : (over : FoundSnapshot → ℕ → Below) → below over stack device sector ≡ Lies to at = λ over. rw (is, target) b_is in
-    line_written stack state device sector to at step sound fitting tidy (λ held held_at. held_is stack device sector line held (founds.Striped chunk columns) is target refl held_at) goes (each to (next_depth stack state device sector to at sound (goes (read_over (taken_at state device))))) step_is
-stripes_written stack state device sector line chunk columns IsZero step sound fitting tidy is target b_is each step_is = written_none stack state (Device device) sector step Drops (inr refl) step_is
-stripes_written stack state device sector line chunk columns IsError step sound fitting tidy is target b_is each step_is = written_none stack state (Device device) sector step Fails (inl refl) step_is
+    line_written stack state device sector to at step sound fitting tidy (λ held held_at. held_is stack device sector line held (founds.Striped chunk_size columns) is target refl held_at) goes (each to (next_depth stack state device sector to at sound (goes (read_over (taken_at state device))))) step_is
+stripes_written stack state device sector line chunk_size columns IsZero step sound fitting tidy is target b_is each step_is = written_none stack state (Device device) sector step Drops (inr refl) step_is
+stripes_written stack state device sector line chunk_size columns IsError step sound fitting tidy is target b_is each step_is = written_none stack state (Device device) sector step Fails (inl refl) step_is
 
 target_written : (stack : Description) (state : State) (device sector : ℕ) (line : FoundLine) (target : FoundTarget) (step : Step) → IsSound stack → IsFitting stack state → IsTidy stack → found_at stack device sector ≡ Some line → line.target ≡ target
     → ((to : Lower) → lower_depth stack to < lower_depth stack (Device device) → Writes stack to) → step ≡ write_target stack state device target (sector - line.start) (λ to after at. write_step stack MOST_DEPTH to after at) → Written stack state (Device device) sector step
@@ -259,8 +259,8 @@ target_written stack state device sector line (founds.Linear to offset) step sou
     let at = offset + (sector - line.start) in
     let goes : (over : FoundSnapshot → ℕ → Below) → below over stack device sector ≡ Lies to at = λ over. rw (is, target) refl in
     line_written stack state device sector to at step sound fitting tidy (λ held held_at. held_is stack device sector line held (founds.Linear to offset) is target refl held_at) goes (each to (next_depth stack state device sector to at sound (goes (read_over (taken_at state device))))) step_is
-target_written stack state device sector line (founds.Striped chunk columns) step sound fitting tidy is target each step_is =
-    stripes_written stack state device sector line chunk columns (below_stripes chunk columns (sector - line.start)) step sound fitting tidy is target refl each step_is
+target_written stack state device sector line (founds.Striped chunk_size columns) step sound fitting tidy is target each step_is =
+    stripes_written stack state device sector line chunk_size columns (below_stripes chunk_size columns (sector - line.start)) step sound fitting tidy is target refl each step_is
 target_written stack state device sector line founds.Zero step sound fitting tidy is target each step_is = written_none stack state (Device device) sector step Drops (inr refl) step_is
 target_written stack state device sector line founds.Error step sound fitting tidy is target each step_is = written_none stack state (Device device) sector step Fails (inl refl) step_is
 target_written stack state device sector line (founds.Snapshot snapshot) step sound fitting tidy is target each step_is =

@@ -91,7 +91,7 @@ line_snapshot stack device sector line snapshot sound is target =
 
 target_snapshot : (line : FoundLine) (target : FoundTarget) (snapshot : FoundSnapshot) → line.target ≡ target → snapshot_of target ≡ Some snapshot → line.target ≡ founds.Snapshot snapshot
 target_snapshot line (founds.Linear to offset) snapshot is e = absurd cc
-target_snapshot line (founds.Striped chunk columns) snapshot is e = absurd cc
+target_snapshot line (founds.Striped chunk_size columns) snapshot is e = absurd cc
 target_snapshot line founds.Zero snapshot is e = absurd cc
 target_snapshot line founds.Error snapshot is e = absurd cc
 target_snapshot line (founds.Snapshot other) snapshot is e = is ∙ ap founds.Snapshot (some_is other snapshot e)
@@ -141,7 +141,7 @@ line_origin stack device sector line origin sound is target =
 
 target_origin : (line : FoundLine) (target : FoundTarget) (origin : FoundOrigin) → line.target ≡ target → origin_of target ≡ Some origin → line.target ≡ founds.Origin origin
 target_origin line (founds.Linear to offset) origin is e = absurd cc
-target_origin line (founds.Striped chunk columns) origin is e = absurd cc
+target_origin line (founds.Striped chunk_size columns) origin is e = absurd cc
 target_origin line founds.Zero origin is e = absurd cc
 target_origin line founds.Error origin is e = absurd cc
 target_origin line (founds.Snapshot snapshot) origin is e = absurd cc

@@ -118,20 +118,20 @@ of_chunk c m u some is =
     (omega (arith, whole, same, rest), omega (arith, whole, same, rest))
 
 -- one column and one sector of that column are one sector of the striped line
-pub stripe_back : (chunk n o : ℕ) → 0 < chunk → ((o / chunk / n * chunk + o % chunk) / chunk * n + o / chunk % n) * chunk + (o / chunk / n * chunk + o % chunk) % chunk ≡ o
-stripe_back chunk n o some =
-    let q = o / chunk / n in
-    let r = o % chunk in
-    let w = q * chunk + r in
-    let r_in : r < chunk = omega (arith, some) in
-    let w_in : w % chunk < chunk = omega (arith, some) in
-    let whole_w : w / chunk * chunk + w % chunk ≡ w = div-add-mod' w chunk in
-    let parts = same_parts (w / chunk) (w % chunk) q r chunk whole_w w_in r_in in
-    let whole_c : q * n + o / chunk % n ≡ o / chunk = div-add-mod' (o / chunk) n in
-    let whole_o : o / chunk * chunk + o % chunk ≡ o = div-add-mod' o chunk in
-    ap (λ (x : ℕ). (x * n + o / chunk % n) * chunk + w % chunk) parts.0
-    ∙ ap (λ (x : ℕ). (q * n + o / chunk % n) * chunk + x) parts.1
-    ∙ ap (λ (x : ℕ). x * chunk + r) whole_c
+pub stripe_back : (chunk_size n o : ℕ) → 0 < chunk_size → ((o / chunk_size / n * chunk_size + o % chunk_size) / chunk_size * n + o / chunk_size % n) * chunk_size + (o / chunk_size / n * chunk_size + o % chunk_size) % chunk_size ≡ o
+stripe_back chunk_size n o some =
+    let q = o / chunk_size / n in
+    let r = o % chunk_size in
+    let w = q * chunk_size + r in
+    let r_in : r < chunk_size = omega (arith, some) in
+    let w_in : w % chunk_size < chunk_size = omega (arith, some) in
+    let whole_w : w / chunk_size * chunk_size + w % chunk_size ≡ w = div-add-mod' w chunk_size in
+    let parts = same_parts (w / chunk_size) (w % chunk_size) q r chunk_size whole_w w_in r_in in
+    let whole_c : q * n + o / chunk_size % n ≡ o / chunk_size = div-add-mod' (o / chunk_size) n in
+    let whole_o : o / chunk_size * chunk_size + o % chunk_size ≡ o = div-add-mod' o chunk_size in
+    ap (λ (x : ℕ). (x * n + o / chunk_size % n) * chunk_size + w % chunk_size) parts.0
+    ∙ ap (λ (x : ℕ). (q * n + o / chunk_size % n) * chunk_size + x) parts.1
+    ∙ ap (λ (x : ℕ). x * chunk_size + r) whole_c
     ∙ whole_o
 
 -- The sectors of a store

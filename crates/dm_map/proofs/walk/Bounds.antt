@@ -53,9 +53,9 @@ below_kept stack levels (Lies to sector) state = refl
 below_kept stack levels IsZero state = refl
 below_kept stack levels IsError state = refl
 
-pub stripes_kept : (stack : Description) (op : Op) (levels chunk : ℕ) (columns : List FoundColumn) (state : State) (distance n : ℕ) → op ≡ Read → (stripes_step stack op levels chunk columns state distance n).state ≡ state
-stripes_kept stack op levels chunk columns state distance n is =
-    rw is (steps_kept (λ after position. below_step stack Read levels (below_stripes chunk columns position) after) state distance n (λ after i. below_kept stack levels (below_stripes chunk columns i) after))
+pub stripes_kept : (stack : Description) (op : Op) (levels chunk_size : ℕ) (columns : List FoundColumn) (state : State) (distance n : ℕ) → op ≡ Read → (stripes_step stack op levels chunk_size columns state distance n).state ≡ state
+stripes_kept stack op levels chunk_size columns state distance n is =
+    rw is (steps_kept (λ after position. below_step stack Read levels (below_stripes chunk_size columns position) after) state distance n (λ after i. below_kept stack levels (below_stripes chunk_size columns i) after))
 
 pub same_stack_state : (walk other : WalkerView) → walk.stack ≡ other.stack → walk.state ≡ other.state → stack_state walk ≡ stack_state other
 same_stack_state walk other stack state = ap (λ (s : Description). record { stack = s; state = walk.state }) stack ∙ ap (λ (s : State). record { stack = other.stack; state = s }) state
@@ -90,20 +90,20 @@ origin_bound before after op levels device line origin distance len found kind b
     (bounded is sound)
 
 -- what is left of a chunk of stripes
-pub stripe_bound : (before after : WalkerView) (op : Op) (levels device chunk : ℕ) (columns : List FoundColumn) (line : FoundLine) (column : FoundColumn) (position : StripePosition) (distance sector n : ℕ) → found_at before.stack device line.start ≡ Some line
-    → line.target ≡ Striped chunk columns → 0 < length columns → 0 < chunk → IsStripePosition chunk (length columns) distance position → 1 ≤ n → n ≤ chunk - position.past → column ≡ get_or columns position.column column → sector ≡ column.offset + (position.chunk_start + position.past)
+pub stripe_bound : (before after : WalkerView) (op : Op) (levels device chunk_size : ℕ) (columns : List FoundColumn) (line : FoundLine) (column : FoundColumn) (position : StripePosition) (distance sector n : ℕ) → found_at before.stack device line.start ≡ Some line
+    → line.target ≡ Striped chunk_size columns → 0 < length columns → 0 < chunk_size → IsStripePosition chunk_size (length columns) distance position → 1 ≤ n → n ≤ chunk_size - position.past → column ≡ get_or columns position.column column → sector ≡ column.offset + (position.chunk_start + position.past)
     → IsBounded before after op (lower_depth before.stack column.to) (path before.stack before.state levels column.to) sector n → IsLineBounded before after op levels device line distance n
-stripe_bound before after op levels device chunk columns line column position distance sector n found kind some chunk_some at more most column_is sector_is bounded is sound =
+stripe_bound before after op levels device chunk_size columns line column position distance sector n found kind some chunk_some at more most column_is sector_is bounded is sound =
     let stack = before.stack in let state = before.state in
-    let lies : (i : ℕ) → i < n → below_stripes chunk columns (distance + i) ≡ Lies column.to (column.offset + (position.chunk_start + position.past) + i) = λ i within. below_chunk chunk distance i columns column position some chunk_some at (omega (arith, within, most)) column_is in
-    let step : PathStep = record { device = device; start = line.start; chunk = Some (distance / chunk) } in
+    let lies : (i : ℕ) → i < n → below_stripes chunk_size columns (distance + i) ≡ Lies column.to (column.offset + (position.chunk_start + position.past) + i) = λ i within. below_chunk chunk_size distance i columns column position some chunk_some at (omega (arith, within, most)) column_is in
+    let step : PathStep = record { device = device; start = line.start; chunk = Some (distance / chunk_size) } in
     let less = below_less stack state device line.start (distance + 0) line column.to (column.offset + (position.chunk_start + position.past) + 0) sound found
     (ap (λ (t : FoundTarget). below_target (read_over (taken_at state device)) t (distance + 0)) kind ∙ lies 0 (omega (arith, more))) in
     searches_below (line_paths stack state levels device line) (path stack state levels column.to) (lower_depth stack column.to) (depth_of stack device - 1) distance sector n before.looked.searches after.looked.searches less
     (stretches_after (line_paths stack state levels device line) (path stack state levels column.to) step distance sector n (λ i within.
     ap (λ (t : FoundTarget). target_path stack state levels device line.start t (distance + i)) kind
-    ∙ ap (λ (b : Below). record { device = device; start = line.start; chunk = Some ((distance + i) / chunk) } ∷ by_below b [] [] (λ to lower. path stack state levels to lower)) (lies i within)
-    ∙ ap (λ (c : ℕ). record { device = device; start = line.start; chunk = Some c } ∷ path stack state levels column.to (column.offset + (position.chunk_start + position.past) + i)) (in_chunk chunk distance i chunk_some (omega (arith, within, most, at.past))).number
+    ∙ ap (λ (b : Below). record { device = device; start = line.start; chunk = Some ((distance + i) / chunk_size) } ∷ by_below b [] [] (λ to lower. path stack state levels to lower)) (lies i within)
+    ∙ ap (λ (c : ℕ). record { device = device; start = line.start; chunk = Some c } ∷ path stack state levels column.to (column.offset + (position.chunk_start + position.past) + i)) (in_chunk chunk_size distance i chunk_some (omega (arith, within, most, at.past))).number
     ∙ ap (λ (p : ℕ). step ∷ path stack state levels column.to (p + i)) (sym sector_is)))
     (bounded is sound)
 
@@ -126,34 +126,34 @@ chunk_bound before after op levels device snapshot line position sector n found 
 -- A line in chunks, one after the other
 
 -- a walk came to the first sector of a chunk
-pub FirstOfChunk : (chunk at : ℕ) → Type 0
-FirstOfChunk chunk at = (at - 1) / chunk < at / chunk
+pub FirstOfChunk : (chunk_size at : ℕ) → Type 0
+FirstOfChunk chunk_size at = (at - 1) / chunk_size < at / chunk_size
 
-pub first_next : (chunk at n : ℕ) → 0 < chunk → n ≡ chunk - at % chunk → FirstOfChunk chunk (at + n)
+pub first_next : (chunk_size at n : ℕ) → 0 < chunk_size → n ≡ chunk_size - at % chunk_size → FirstOfChunk chunk_size (at + n)
 unfolding FirstOfChunk
-first_next chunk at n some is =
-    let next = (after_chunk chunk at some).number in
-    let last = (in_chunk chunk at (n - 1) some (omega (arith, is))).number in
+first_next chunk_size at n some is =
+    let next = (after_chunk chunk_size at some).number in
+    let last = (in_chunk chunk_size at (n - 1) some (omega (arith, is))).number in
     let e : at + n - 1 ≡ at + (n - 1) = omega (arith, is) in
-    let here : (at + n) / chunk ≡ at / chunk + 1 = ap (λ (k : ℕ). (at + k) / chunk) is ∙ next in
-    let before : (at + n - 1) / chunk ≡ at / chunk = ap (λ (k : ℕ). k / chunk) e ∙ last in
+    let here : (at + n) / chunk_size ≡ at / chunk_size + 1 = ap (λ (k : ℕ). (at + k) / chunk_size) is ∙ next in
+    let before : (at + n - 1) / chunk_size ≡ at / chunk_size = ap (λ (k : ℕ). k / chunk_size) e ∙ last in
     omega (arith, here, before)
 
-chunks_apart : (stack : Description) (state : State) (levels device chunk at : ℕ) (line : FoundLine) → ((distance : ℕ) → chunk_at line.target distance ≡ Some (distance / chunk)) → FirstOfChunk chunk at
+chunks_apart : (stack : Description) (state : State) (levels device chunk_size at : ℕ) (line : FoundLine) → ((distance : ℕ) → chunk_at line.target distance ≡ Some (distance / chunk_size)) → FirstOfChunk chunk_size at
     → is_same_path (line_paths stack state levels device line (at - 1)) (line_paths stack state levels device line at) ≡ false
 unfolding FirstOfChunk
-chunks_apart stack state levels device chunk at line number first =
-    let differs : ((at - 1) / chunk == at / chunk) ≡ false = ne_eqb ((at - 1) / chunk) (at / chunk) (λ same. omega (arith, first, same)) in
-    rw (number (at - 1), number at) (other_chunk device line.start ((at - 1) / chunk) (at / chunk) (lower_path stack state levels device line.target (at - 1)) (lower_path stack state levels device line.target at) differs)
+chunks_apart stack state levels device chunk_size at line number first =
+    let differs : ((at - 1) / chunk_size == at / chunk_size) ≡ false = ne_eqb ((at - 1) / chunk_size) (at / chunk_size) (λ same. omega (arith, first, same)) in
+    rw (number (at - 1), number at) (other_chunk device line.start ((at - 1) / chunk_size) (at / chunk_size) (lower_path stack state levels device line.target (at - 1)) (lower_path stack state levels device line.target at) differs)
 
-pub chunks_on : (before now after : WalkerView) (op : Op) (levels device chunk distance done n : ℕ) (line : FoundLine) → ((d : ℕ) → chunk_at line.target d ≡ Some (d / chunk)) → now.stack ≡ before.stack → (op ≡ Read → now.state ≡ before.state)
-    → (0 < done → FirstOfChunk chunk (distance + done)) → 1 ≤ n → IsLineBounded before now op levels device line distance done → IsLineBounded now after op levels device line (distance + done) n
+pub chunks_on : (before now after : WalkerView) (op : Op) (levels device chunk_size distance done n : ℕ) (line : FoundLine) → ((d : ℕ) → chunk_at line.target d ≡ Some (d / chunk_size)) → now.stack ≡ before.stack → (op ≡ Read → now.state ≡ before.state)
+    → (0 < done → FirstOfChunk chunk_size (distance + done)) → 1 ≤ n → IsLineBounded before now op levels device line distance done → IsLineBounded now after op levels device line (distance + done) n
     → IsLineBounded before after op levels device line distance (done + n)
-chunks_on before now after op levels device chunk distance done n line number stack_is state_is first some one two is sound =
+chunks_on before now after op levels device chunk_size distance done n line number stack_is state_is first some one two is sound =
     let same = same_stack_state now before stack_is (state_is is) in
     let more = subst (λ (s : StackState). after.looked.searches ≤ now.looked.searches + (depth_of s.stack device - 1) * stretches (line_paths s.stack s.state levels device line) (distance + done) n) same (two is (subst IsSound (sym stack_is) sound)) in
     searches_on (line_paths before.stack before.state levels device line) (depth_of before.stack device - 1) distance done n before.looked.searches now.looked.searches after.looked.searches
-    (λ later. chunks_apart before.stack before.state levels device chunk (distance + done) line number (first later)) some (one is sound) more
+    (λ later. chunks_apart before.stack before.state levels device chunk_size (distance + done) line number (first later)) some (one is sound) more
 
 -- A device line by line
 

@@ -89,13 +89,13 @@ over_read P taken snapshot sector store origin = over_by P snapshot sector taken
 pub on_target : (over : FoundSnapshot → ℕ → Below) (stack : Description) (P : ℕ → Type 0) (len : ℕ) (target : Target) (distance : ℕ) → GoesOn over P → AllByRecursion P (span_links stack (target_spans len target)) → OnBelow P (below_target over (found_target stack target) distance)
 unfolding OnBelow GoesOn
 on_target over stack P len (targets.Linear to offset) distance on each = on_ref stack P to (all_parts P (ref_link stack to) [] each).0
-on_target over stack P len (targets.Striped chunk columns) distance on each =
-    on_column P (found_columns stack columns) (column_of chunk (length (found_columns stack columns)) distance) (in_column chunk (length (found_columns stack columns)) distance) _ (on_columns stack P (len / length columns) columns each) refl
+on_target over stack P len (targets.Striped chunk_size columns) distance on each =
+    on_column P (found_columns stack columns) (column_of chunk_size (length (found_columns stack columns)) distance) (in_column chunk_size (length (found_columns stack columns)) distance) _ (on_columns stack P (len / length columns) columns each) refl
 on_target over stack P len targets.Zero distance on each = tt
 on_target over stack P len targets.Error distance on each = tt
-on_target over stack P len (targets.Snapshot origin store kind chunk) distance on each =
+on_target over stack P len (targets.Snapshot origin store kind chunk_size) distance on each =
     let store_first = all_parts P (ref_link stack store) (span_links stack (whole_span origin Reading ∷ [])) each in
-    on (found_snapshot stack origin store kind chunk) distance (on_ref stack P store store_first.0) (on_ref stack P origin (all_parts P (ref_link stack origin) [] store_first.1).0)
+    on (found_snapshot stack origin store kind chunk_size) distance (on_ref stack P store store_first.0) (on_ref stack P origin (all_parts P (ref_link stack origin) [] store_first.1).0)
 on_target over stack P len (targets.Origin to) distance on each = on_ref stack P to (all_parts P (ref_link stack to) [] each).0
 
 pub on_lines : (stack : Description) (P : ℕ → Type 0) (lines : List Line) → AllByRecursion P (flat_map (line_links stack) lines) → AllByRecursion (λ line. AllByRecursion P (line_links stack line)) lines
@@ -165,7 +165,7 @@ same_target : (P : ℕ → Type 0) (stack : Description) (state : State) (device
     → write_target stack state device target distance f ≡ write_target stack state device target distance h
 unfolding OnBelow
 same_target P stack state device (founds.Linear to offset) distance f h on same = same state to (offset + distance) on
-same_target P stack state device (founds.Striped chunk columns) distance f h on same = same_below P (below_stripes chunk columns distance) (keep (Drops ∷ []) state) (keep (Fails ∷ []) state) (λ to s. f to state s) (λ to s. h to state s) on (same state)
+same_target P stack state device (founds.Striped chunk_size columns) distance f h on same = same_below P (below_stripes chunk_size columns distance) (keep (Drops ∷ []) state) (keep (Fails ∷ []) state) (λ to s. f to state s) (λ to s. h to state s) on (same state)
 same_target P stack state device founds.Zero distance f h on same = refl
 same_target P stack state device founds.Error distance f h on same = refl
 same_target P stack state device (founds.Snapshot snapshot) distance f h on same = refl

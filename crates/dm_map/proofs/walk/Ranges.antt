@@ -86,14 +86,14 @@ read_step stack levels (Lies to sector) state = refl
 read_step stack levels IsZero state = refl
 read_step stack levels IsError state = refl
 
-stripes_sector : (stack : Description) (op : Op) (levels device chunk : ℕ) (columns : List FoundColumn) (distance : ℕ) (state : State) → target_step stack op levels device (found.Striped chunk columns) state distance ≡ below_step stack op levels (below_stripes chunk columns distance) state
-stripes_sector stack ops.Read levels device chunk columns distance state = read_step stack levels (below_stripes chunk columns distance) state
-stripes_sector stack ops.Write levels device chunk columns distance state = refl
+stripes_sector : (stack : Description) (op : Op) (levels device chunk_size : ℕ) (columns : List FoundColumn) (distance : ℕ) (state : State) → target_step stack op levels device (found.Striped chunk_size columns) state distance ≡ below_step stack op levels (below_stripes chunk_size columns distance) state
+stripes_sector stack ops.Read levels device chunk_size columns distance state = read_step stack levels (below_stripes chunk_size columns distance) state
+stripes_sector stack ops.Write levels device chunk_size columns distance state = refl
 
-pub line_striped : (stack : Description) (op : Op) (levels device chunk : ℕ) (columns : List FoundColumn) (distance n : ℕ) (state : State) → line_step stack op levels device (found.Striped chunk columns) state distance n ≡ stripes_step stack op levels chunk columns state distance n
-line_striped stack op levels device chunk columns distance n state =
-    steps_same (target_step stack op levels device (found.Striped chunk columns)) (λ after position. below_step stack op levels (below_stripes chunk columns position) after) state distance distance n
-    (λ after i within. stripes_sector stack op levels device chunk columns (distance + i) after)
+pub line_striped : (stack : Description) (op : Op) (levels device chunk_size : ℕ) (columns : List FoundColumn) (distance n : ℕ) (state : State) → line_step stack op levels device (found.Striped chunk_size columns) state distance n ≡ stripes_step stack op levels chunk_size columns state distance n
+line_striped stack op levels device chunk_size columns distance n state =
+    steps_same (target_step stack op levels device (found.Striped chunk_size columns)) (λ after position. below_step stack op levels (below_stripes chunk_size columns position) after) state distance distance n
+    (λ after i within. stripes_sector stack op levels device chunk_size columns (distance + i) after)
 
 zeros_sector : (stack : Description) (op : Op) (levels device distance : ℕ) (state : State) → target_step stack op levels device found.Zero state distance ≡ keep (zero_unit op ∷ []) state
 zeros_sector stack ops.Read levels device distance state = refl
@@ -123,9 +123,9 @@ pub origin_read : (stack : Description) (levels : ℕ) (origin : FoundOrigin) (s
 origin_read stack levels origin sector n state = steps_same (served_sector stack ops.Read levels origin) (sector_step stack ops.Read levels origin.to) state sector sector n (λ after i within. refl)
 
 -- what is left of a chunk is a range of its column
-pub stripes_chunk : (stack : Description) (op : Op) (levels chunk distance n : ℕ) (columns : List FoundColumn) (state : State) (column : FoundColumn) (position : StripePosition) → 0 < length columns → 0 < chunk → IsStripePosition chunk (length columns) distance position
-    → n ≤ chunk - position.past → column ≡ get_or columns position.column column
-    → stripes_step stack op levels chunk columns state distance n ≡ range_step stack op levels column.to state (column.offset + (position.chunk_start + position.past)) n
-stripes_chunk stack op levels chunk distance n columns state column position some chunk_some at most is =
-    steps_same (λ after d. below_step stack op levels (below_stripes chunk columns d) after) (sector_step stack op levels column.to) state distance (column.offset + (position.chunk_start + position.past)) n
-    (λ after i within. ap (λ (b : Below). below_step stack op levels b after) (below_chunk chunk distance i columns column position some chunk_some at (omega (arith, within, most)) is))
+pub stripes_chunk : (stack : Description) (op : Op) (levels chunk_size distance n : ℕ) (columns : List FoundColumn) (state : State) (column : FoundColumn) (position : StripePosition) → 0 < length columns → 0 < chunk_size → IsStripePosition chunk_size (length columns) distance position
+    → n ≤ chunk_size - position.past → column ≡ get_or columns position.column column
+    → stripes_step stack op levels chunk_size columns state distance n ≡ range_step stack op levels column.to state (column.offset + (position.chunk_start + position.past)) n
+stripes_chunk stack op levels chunk_size distance n columns state column position some chunk_some at most is =
+    steps_same (λ after d. below_step stack op levels (below_stripes chunk_size columns d) after) (sector_step stack op levels column.to) state distance (column.offset + (position.chunk_start + position.past)) n
+    (λ after i within. ap (λ (b : Below). below_step stack op levels b after) (below_chunk chunk_size distance i columns column position some chunk_some at (omega (arith, within, most)) is))

@@ -21,7 +21,7 @@ use Rattle.dm_map.proofs.state.FoundLines.{line_origin, line_snapshot}
 
 abbrev pub columns_of : FoundTarget → List FoundColumn
 columns_of (founds.Linear to offset) = record { to = to; offset = offset } ∷ []
-columns_of (founds.Striped chunk columns) = columns
+columns_of (founds.Striped chunk_size columns) = columns
 columns_of founds.Zero = []
 columns_of founds.Error = []
 columns_of (founds.Snapshot snapshot) = []
@@ -30,7 +30,7 @@ columns_of (founds.Origin origin) = []
 -- the column that has the sector at a distance from the line's start, and which of the column's it is
 abbrev pub column_at : FoundTarget → (distance : ℕ) → ℕ
 column_at (founds.Linear to offset) distance = 0
-column_at (founds.Striped chunk columns) distance = column_of chunk (length columns) distance
+column_at (founds.Striped chunk_size columns) distance = column_of chunk_size (length columns) distance
 column_at founds.Zero distance = 0
 column_at founds.Error distance = 0
 column_at (founds.Snapshot snapshot) distance = 0
@@ -38,7 +38,7 @@ column_at (founds.Origin origin) distance = 0
 
 abbrev pub within_at : FoundTarget → (distance : ℕ) → ℕ
 within_at (founds.Linear to offset) distance = distance
-within_at (founds.Striped chunk columns) distance = in_column chunk (length columns) distance
+within_at (founds.Striped chunk_size columns) distance = in_column chunk_size (length columns) distance
 within_at founds.Zero distance = 0
 within_at founds.Error distance = 0
 within_at (founds.Snapshot snapshot) distance = 0
@@ -79,9 +79,9 @@ read_step_target : (stack : Description) (state : State) (device sector : ℕ) (
     → below_target (read_over (taken_at state device)) target (sector - line.start) ≡ Lies lower at → ReadStep stack state device sector lower at
 read_step_target stack state device sector lower at line (founds.Linear to offset) sound is t e =
     ByLine line is (subst (λ (x : FoundTarget). IsColumnStep x (sector - line.start) lower at) (sym t) (column_step (founds.Linear to offset) (sector - line.start) (Some (record { to = to; offset = offset })) lower at refl e))
-read_step_target stack state device sector lower at line (founds.Striped chunk columns) sound is t e =
+read_step_target stack state device sector lower at line (founds.Striped chunk_size columns) sound is t e =
     ByLine line is (subst (λ (x : FoundTarget). IsColumnStep x (sector - line.start) lower at) (sym t)
-    (column_step (founds.Striped chunk columns) (sector - line.start) (slice_get columns (column_of chunk (length columns) (sector - line.start))) lower at refl e))
+    (column_step (founds.Striped chunk_size columns) (sector - line.start) (slice_get columns (column_of chunk_size (length columns) (sector - line.start))) lower at refl e))
 read_step_target stack state device sector lower at line founds.Zero sound is t e = absurd cc
 read_step_target stack state device sector lower at line founds.Error sound is t e = absurd cc
 read_step_target stack state device sector lower at line (founds.Snapshot snapshot) sound is t e =
@@ -104,7 +104,7 @@ read_step stack state device sector lower at sound e = read_step_line stack stat
 -- a linear or striped line
 abbrev pub has_columns : FoundTarget → Bool
 has_columns (founds.Linear to offset) = true
-has_columns (founds.Striped chunk columns) = true
+has_columns (founds.Striped chunk_size columns) = true
 has_columns _ = false
 
 -- a step that no snapshot has a part in, nor an origin
@@ -120,11 +120,11 @@ plain_target stack device sector lower at line (founds.Linear to offset) has is 
   is = is;
   step = subst (λ (x : FoundTarget). IsColumnStep x (sector - line.start) lower at) (sym t) (column_step (founds.Linear to offset) (sector - line.start) (Some (record { to = to; offset = offset })) lower at refl e);
 }
-plain_target stack device sector lower at line (founds.Striped chunk columns) has is t e = record {
+plain_target stack device sector lower at line (founds.Striped chunk_size columns) has is t e = record {
   line = line;
   is = is;
   step = subst (λ (x : FoundTarget). IsColumnStep x (sector - line.start) lower at) (sym t)
-      (column_step (founds.Striped chunk columns) (sector - line.start) (slice_get columns (column_of chunk (length columns) (sector - line.start))) lower at refl e);
+      (column_step (founds.Striped chunk_size columns) (sector - line.start) (slice_get columns (column_of chunk_size (length columns) (sector - line.start))) lower at refl e);
 }
 plain_target stack device sector lower at line founds.Zero has is t e = absurd cc
 plain_target stack device sector lower at line founds.Error has is t e = absurd cc

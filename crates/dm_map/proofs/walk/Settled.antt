@@ -92,7 +92,7 @@ fails_or_keeps false state step keeps = keeps
 target_keeps : (stack : Description) (state : State) (device : ℕ) (target : FoundTarget) (distance : ℕ) (next : Lower → State → ℕ → Step) → Appends next → KeepsSettled state (write_target stack state device target distance next).state
 unfolding Appends
 target_keeps stack state device (founds.Linear to offset) distance next keeps = keeps to state (offset + distance)
-target_keeps stack state device (founds.Striped chunk columns) distance next keeps = below_keeps (below_stripes chunk columns distance) state next keeps
+target_keeps stack state device (founds.Striped chunk_size columns) distance next keeps = below_keeps (below_stripes chunk_size columns distance) state next keeps
 target_keeps stack state device founds.Zero distance next keeps = keeps_same state
 target_keeps stack state device founds.Error distance next keeps = keeps_same state
 target_keeps stack state device (founds.Snapshot snapshot) distance next keeps =

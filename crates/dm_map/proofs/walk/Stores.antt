@@ -55,18 +55,18 @@ store_columns stack levels share (column ∷ columns) all =
     let parts = and_parts (is_store_to stack levels (lower_of stack column.to)) (list_all (λ span. is_store_to stack levels (lower_of stack span.to)) (map (column_span share) columns)) all in
     (parts.0, store_columns stack levels share columns parts.1)
 
-below_striped : (stack : Description) (levels len chunk : ℕ) (columns : List FoundColumn) (distance : ℕ) → AreStripes stack len chunk columns → AllByRecursion (λ column. is_store_to stack levels column.to ≡ true) columns → distance < len
-    → LiesInStore stack levels (λ over. below_column (slice_get columns (column_of chunk (length columns) distance)) (in_column chunk (length columns) distance))
-below_striped stack levels len chunk columns distance stripes stores inside =
-    let count = length columns in let index = column_of chunk count distance in let some = stripes.some in
+below_striped : (stack : Description) (levels len chunk_size : ℕ) (columns : List FoundColumn) (distance : ℕ) → AreStripes stack len chunk_size columns → AllByRecursion (λ column. is_store_to stack levels column.to ≡ true) columns → distance < len
+    → LiesInStore stack levels (λ over. below_column (slice_get columns (column_of chunk_size (length columns) distance)) (in_column chunk_size (length columns) distance))
+below_striped stack levels len chunk_size columns distance stripes stores inside =
+    let count = length columns in let index = column_of chunk_size count distance in let some = stripes.some in
     let column = there columns index (omega (arith, some)) in
     let share = at_index (λ c. c.offset + stripes.column_len ≤ lower_len stack c.to) columns index column.it stripes.inside column.at in
-    let room = in_column_room chunk count stripes.column_len stripes.chunks len distance stripes.chunk_some stripes.some stripes.shares stripes.whole inside in
+    let room = in_column_room chunk_size count stripes.column_len stripes.chunks len distance stripes.chunk_some stripes.some stripes.shares stripes.whole inside in
     let chunk_some = stripes.chunk_some in
     record {
       to = column.it.to;
-      at = column.it.offset + in_column chunk count distance;
-      is = λ over. ap (λ (c : Option FoundColumn). below_column c (in_column chunk count distance)) column.at;
+      at = column.it.offset + in_column chunk_size count distance;
+      is = λ over. ap (λ (c : Option FoundColumn). below_column c (in_column chunk_size count distance)) column.at;
       store = at_index (λ c. is_store_to stack levels c.to ≡ true) columns index column.it stores column.at;
       inside = omega (arith, share, room, chunk_some);
     }
@@ -80,8 +80,8 @@ below_plain stack levels device start len (targets.Linear to offset) distance pl
   store = (and_parts (is_store_to stack levels (lower_of stack to)) true stores).0;
   inside = omega (arith, sound, inside);
 }
-below_plain stack levels device start len (targets.Striped chunk columns) distance plain stores sound inside =
-    below_striped stack levels len chunk (found_columns stack columns) distance sound (store_columns stack levels (len / length columns) columns stores) inside
+below_plain stack levels device start len (targets.Striped chunk_size columns) distance plain stores sound inside =
+    below_striped stack levels len chunk_size (found_columns stack columns) distance sound (store_columns stack levels (len / length columns) columns stores) inside
 below_plain stack levels device start len _ distance plain stores sound inside = absurd cc
 
 OnFound : Option FoundLine → (FoundLine → Type 0) → Type 0
@@ -115,7 +115,7 @@ below_store stack levels device sector sound store inside =
 
 plain_columns : (stack : Description) (target : Target) → is_plain target ≡ true → has_columns (found_target stack target) ≡ true
 plain_columns stack (targets.Linear to offset) plain = refl
-plain_columns stack (targets.Striped chunk columns) plain = refl
+plain_columns stack (targets.Striped chunk_size columns) plain = refl
 plain_columns stack _ plain = absurd cc
 
 columns_held : (stack : Description) (levels device sector : ℕ) (line : Option Line) (held : FoundLine) → AllByRecursion (λ l. (is_plain l.target && list_all (λ span. is_store_to stack levels (lower_of stack span.to)) (spans l)) ≡ true) (lines_at stack device)

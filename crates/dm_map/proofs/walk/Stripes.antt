@@ -14,28 +14,28 @@ use Rattle.dm_map.specs.declared.walk.stripe.StripePosition.{StripePosition}
 use Rattle.dm_map.specs.walk.Stripe.{AreInStripes, IsStripePosition}
 
 -- what is left of a chunk lies in its column's share of the line
-pub in_column_room : (chunk count column_len chunks len distance : ℕ) → 0 < chunk → 0 < count → len ≡ count * column_len → column_len ≡ chunks * chunk → distance < len
-    → in_column chunk count distance + (chunk - distance % chunk) ≤ column_len
-in_column_room chunk count column_len chunks len distance chunk_some count_some shares whole inside =
-    let product : len ≡ chunks * count * chunk = rw (shares, whole) (omega arith) in
-    let few : distance / chunk / count < chunks = (div-lt_iff_lt-mul count_some).1 ((div-lt_iff_lt-mul chunk_some).1 (omega arith)) in
-    let room = row_fits (distance / chunk / count) chunk chunks chunk few (omega arith) in
-    let left : distance % chunk < chunk = omega arith in
+pub in_column_room : (chunk_size count column_len chunks len distance : ℕ) → 0 < chunk_size → 0 < count → len ≡ count * column_len → column_len ≡ chunks * chunk_size → distance < len
+    → in_column chunk_size count distance + (chunk_size - distance % chunk_size) ≤ column_len
+in_column_room chunk_size count column_len chunks len distance chunk_some count_some shares whole inside =
+    let product : len ≡ chunks * count * chunk_size = rw (shares, whole) (omega arith) in
+    let few : distance / chunk_size / count < chunks = (div-lt_iff_lt-mul count_some).1 ((div-lt_iff_lt-mul chunk_some).1 (omega arith)) in
+    let room = row_fits (distance / chunk_size / count) chunk_size chunks chunk_size few (omega arith) in
+    let left : distance % chunk_size < chunk_size = omega arith in
     rw whole (omega (arith, room, left))
 
 -- the sectors of a chunk go on in one column
-pub record IsInChunk (chunk distance i : ℕ) : Type 0 where
-  pub number : (distance + i) / chunk ≡ distance / chunk
-  pub position : (distance + i) % chunk ≡ distance % chunk + i
+pub record IsInChunk (chunk_size distance i : ℕ) : Type 0 where
+  pub number : (distance + i) / chunk_size ≡ distance / chunk_size
+  pub position : (distance + i) % chunk_size ≡ distance % chunk_size + i
 
-pub in_chunk : (chunk distance i : ℕ) → 0 < chunk → i < chunk - distance % chunk → IsInChunk chunk distance i
-in_chunk chunk distance i some within =
-    let whole : distance / chunk * chunk + distance % chunk ≡ distance = div-add-mod' distance chunk in
-    let at : distance + i ≡ distance / chunk * chunk + (distance % chunk + i) = omega (arith, whole) in
-    let small : distance % chunk + i < chunk = omega (arith, within) in
+pub in_chunk : (chunk_size distance i : ℕ) → 0 < chunk_size → i < chunk_size - distance % chunk_size → IsInChunk chunk_size distance i
+in_chunk chunk_size distance i some within =
+    let whole : distance / chunk_size * chunk_size + distance % chunk_size ≡ distance = div-add-mod' distance chunk_size in
+    let at : distance + i ≡ distance / chunk_size * chunk_size + (distance % chunk_size + i) = omega (arith, whole) in
+    let small : distance % chunk_size + i < chunk_size = omega (arith, within) in
     record {
-      number = ap (λ n. n / chunk) at ∙ div-mul-add (distance / chunk) chunk (distance % chunk + i) small;
-      position = ap (λ n. n % chunk) at ∙ mod-mul-add (distance / chunk) chunk (distance % chunk + i) small;
+      number = ap (λ n. n / chunk_size) at ∙ div-mul-add (distance / chunk_size) chunk_size (distance % chunk_size + i) small;
+      position = ap (λ n. n % chunk_size) at ∙ mod-mul-add (distance / chunk_size) chunk_size (distance % chunk_size + i) small;
     }
 
 -- what holds of each element holds of one
@@ -45,64 +45,64 @@ at_index P (y ∷ ys) zero x each e = let same : y ≡ x = cc in subst (λ z. P 
 at_index P (y ∷ ys) (suc i) x each e = at_index P ys i x each.1 e
 
 -- the column of a sector, as one of the columns
-column_got : (chunk distance : ℕ) (columns : List FoundColumn) (column : FoundColumn) → 0 < length columns → column ≡ get_or columns (column_of chunk (length columns) distance) column → slice_get columns (column_of chunk (length columns) distance) ≡ Some column
-column_got chunk distance columns column some e =
-    let position : column_of chunk (length columns) distance < length columns = omega arith in
+column_got : (chunk_size distance : ℕ) (columns : List FoundColumn) (column : FoundColumn) → 0 < length columns → column ≡ get_or columns (column_of chunk_size (length columns) distance) column → slice_get columns (column_of chunk_size (length columns) distance) ≡ Some column
+column_got chunk_size distance columns column some e =
+    let position : column_of chunk_size (length columns) distance < length columns = omega arith in
     slice_get_read columns (length columns) _ column refl position e
 
 -- sectors of a line whose target is stripes
-pub in_stripes : (stack : Description) (device start line_len distance len chunk : ℕ) (columns : List FoundColumn) (target : FoundTarget) → target ≡ Striped chunk columns → IsTargetSound stack device start line_len target → distance + len ≤ line_len → line_len ≤ 2 ^ 50
-    → AreInStripes stack chunk columns distance len
-in_stripes stack device start line_len distance len chunk columns target is sound inside small = record { line_len = line_len; stripes = subst (λ (t : FoundTarget). IsTargetSound stack device start line_len t) is sound; inside = inside; small = small }
+pub in_stripes : (stack : Description) (device start line_len distance len chunk_size : ℕ) (columns : List FoundColumn) (target : FoundTarget) → target ≡ Striped chunk_size columns → IsTargetSound stack device start line_len target → distance + len ≤ line_len → line_len ≤ 2 ^ 50
+    → AreInStripes stack chunk_size columns distance len
+in_stripes stack device start line_len distance len chunk_size columns target is sound inside small = record { line_len = line_len; stripes = subst (λ (t : FoundTarget). IsTargetSound stack device start line_len t) is sound; inside = inside; small = small }
 
 -- n sectors of what is left of a chunk lie in what their column names
-pub column_inside : (stack : Description) (chunk distance len done n : ℕ) (columns : List FoundColumn) (column : FoundColumn) (position : StripePosition) → AreInStripes stack chunk columns distance len → done < len
-    → IsStripePosition chunk (length columns) (distance + done) position → n ≤ chunk - position.past → column ≡ get_or columns position.column column → column.offset + (position.chunk_start + position.past) + n ≤ lower_len stack column.to
-column_inside stack chunk distance len done n columns column position lies some at most is =
+pub column_inside : (stack : Description) (chunk_size distance len done n : ℕ) (columns : List FoundColumn) (column : FoundColumn) (position : StripePosition) → AreInStripes stack chunk_size columns distance len → done < len
+    → IsStripePosition chunk_size (length columns) (distance + done) position → n ≤ chunk_size - position.past → column ≡ get_or columns position.column column → column.offset + (position.chunk_start + position.past) + n ≤ lower_len stack column.to
+column_inside stack chunk_size distance len done n columns column position lies some at most is =
     let stripes = lies.stripes in
-    let got = column_got chunk (distance + done) columns column stripes.some (subst (λ (i : ℕ). column ≡ get_or columns i column) at.column is) in
+    let got = column_got chunk_size (distance + done) columns column stripes.some (subst (λ (i : ℕ). column ≡ get_or columns i column) at.column is) in
     let share = at_index (λ c. c.offset + stripes.column_len ≤ lower_len stack c.to) columns _ column stripes.inside got in
-    let low = in_column_room chunk (length columns) stripes.column_len stripes.chunks lies.line_len (distance + done) stripes.chunk_some stripes.some stripes.shares stripes.whole (omega (arith, lies.inside, some)) in
+    let low = in_column_room chunk_size (length columns) stripes.column_len stripes.chunks lies.line_len (distance + done) stripes.chunk_some stripes.some stripes.shares stripes.whole (omega (arith, lies.inside, some)) in
     omega (arith, share, low, most, at.chunk_start, at.past)
 
 -- what lies below a sector of what is left of a chunk
-pub below_chunk : (chunk distance i : ℕ) (columns : List FoundColumn) (column : FoundColumn) (position : StripePosition) → 0 < length columns → 0 < chunk → IsStripePosition chunk (length columns) distance position
-    → i < chunk - position.past → column ≡ get_or columns position.column column → below_stripes chunk columns (distance + i) ≡ Lies column.to (column.offset + (position.chunk_start + position.past) + i)
-below_chunk chunk distance i columns column position some chunk_some at within is =
-    let left : i < chunk - distance % chunk = omega (arith, within, at.past) in
-    let same = in_chunk chunk distance i chunk_some left in
-    let there : column ≡ get_or columns (column_of chunk (length columns) (distance + i)) column = rw same.number (subst (λ (k : ℕ). column ≡ get_or columns k column) at.column is) in
-    let sum : in_column chunk (length columns) (distance + i) ≡ position.chunk_start + position.past + i = rw (same.number, same.position) (omega (arith, at.chunk_start, at.past)) in
-    ap (λ (c : Option FoundColumn). below_column c (in_column chunk (length columns) (distance + i))) (column_got chunk (distance + i) columns column some there)
+pub below_chunk : (chunk_size distance i : ℕ) (columns : List FoundColumn) (column : FoundColumn) (position : StripePosition) → 0 < length columns → 0 < chunk_size → IsStripePosition chunk_size (length columns) distance position
+    → i < chunk_size - position.past → column ≡ get_or columns position.column column → below_stripes chunk_size columns (distance + i) ≡ Lies column.to (column.offset + (position.chunk_start + position.past) + i)
+below_chunk chunk_size distance i columns column position some chunk_some at within is =
+    let left : i < chunk_size - distance % chunk_size = omega (arith, within, at.past) in
+    let same = in_chunk chunk_size distance i chunk_some left in
+    let there : column ≡ get_or columns (column_of chunk_size (length columns) (distance + i)) column = rw same.number (subst (λ (k : ℕ). column ≡ get_or columns k column) at.column is) in
+    let sum : in_column chunk_size (length columns) (distance + i) ≡ position.chunk_start + position.past + i = rw (same.number, same.position) (omega (arith, at.chunk_start, at.past)) in
+    ap (λ (c : Option FoundColumn). below_column c (in_column chunk_size (length columns) (distance + i))) (column_got chunk_size (distance + i) columns column some there)
     ∙ ap (Lies column.to) (rw sum (omega arith))
 
 -- The position of the next chunk
 
 -- the first sector after a chunk
-pub record IsAfter (chunk distance : ℕ) : Type 0 where
-  pub number : (distance + (chunk - distance % chunk)) / chunk ≡ distance / chunk + 1
-  pub past : (distance + (chunk - distance % chunk)) % chunk ≡ 0
+pub record IsAfter (chunk_size distance : ℕ) : Type 0 where
+  pub number : (distance + (chunk_size - distance % chunk_size)) / chunk_size ≡ distance / chunk_size + 1
+  pub past : (distance + (chunk_size - distance % chunk_size)) % chunk_size ≡ 0
 
-pub after_chunk : (chunk distance : ℕ) → 0 < chunk → IsAfter chunk distance
-after_chunk chunk distance some =
-    let whole : distance / chunk * chunk + distance % chunk ≡ distance = div-add-mod' distance chunk in
-    let small : distance % chunk < chunk = omega arith in
-    let at : distance + (chunk - distance % chunk) ≡ (distance / chunk + 1) * chunk + 0 = omega (arith, whole, small) in
+pub after_chunk : (chunk_size distance : ℕ) → 0 < chunk_size → IsAfter chunk_size distance
+after_chunk chunk_size distance some =
+    let whole : distance / chunk_size * chunk_size + distance % chunk_size ≡ distance = div-add-mod' distance chunk_size in
+    let small : distance % chunk_size < chunk_size = omega arith in
+    let at : distance + (chunk_size - distance % chunk_size) ≡ (distance / chunk_size + 1) * chunk_size + 0 = omega (arith, whole, small) in
     record {
-      number = ap (λ n. n / chunk) at ∙ div-mul-add (distance / chunk + 1) chunk 0 some;
-      past = ap (λ n. n % chunk) at ∙ mod-mul-add (distance / chunk + 1) chunk 0 some;
+      number = ap (λ n. n / chunk_size) at ∙ div-mul-add (distance / chunk_size + 1) chunk_size 0 some;
+      past = ap (λ n. n % chunk_size) at ∙ mod-mul-add (distance / chunk_size + 1) chunk_size 0 some;
     }
 
 -- on the next column
-pub position_within : (chunk count distance : ℕ) (position : StripePosition) → 0 < chunk → IsStripePosition chunk count distance position → position.column + 1 < count
-    → IsStripePosition chunk count (distance + (chunk - position.past)) (record { column = position.column + 1; chunk_start = position.chunk_start; past = 0 })
-position_within chunk count distance position some at within =
-    let next = after_chunk chunk distance some in
-    let whole : distance / chunk / count * count + distance / chunk % count ≡ distance / chunk = div-add-mod' (distance / chunk) count in
-    let on : distance / chunk + 1 ≡ distance / chunk / count * count + (distance / chunk % count + 1) = omega (arith, whole) in
-    let small : distance / chunk % count + 1 < count = omega (arith, within, at.column) in
-    let quotient : (distance / chunk + 1) / count ≡ distance / chunk / count = ap (λ n. n / count) on ∙ div-mul-add (distance / chunk / count) count _ small in
-    let rest : (distance / chunk + 1) % count ≡ distance / chunk % count + 1 = ap (λ n. n % count) on ∙ mod-mul-add (distance / chunk / count) count _ small in
+pub position_within : (chunk_size count distance : ℕ) (position : StripePosition) → 0 < chunk_size → IsStripePosition chunk_size count distance position → position.column + 1 < count
+    → IsStripePosition chunk_size count (distance + (chunk_size - position.past)) (record { column = position.column + 1; chunk_start = position.chunk_start; past = 0 })
+position_within chunk_size count distance position some at within =
+    let next = after_chunk chunk_size distance some in
+    let whole : distance / chunk_size / count * count + distance / chunk_size % count ≡ distance / chunk_size = div-add-mod' (distance / chunk_size) count in
+    let on : distance / chunk_size + 1 ≡ distance / chunk_size / count * count + (distance / chunk_size % count + 1) = omega (arith, whole) in
+    let small : distance / chunk_size % count + 1 < count = omega (arith, within, at.column) in
+    let quotient : (distance / chunk_size + 1) / count ≡ distance / chunk_size / count = ap (λ n. n / count) on ∙ div-mul-add (distance / chunk_size / count) count _ small in
+    let rest : (distance / chunk_size + 1) % count ≡ distance / chunk_size % count + 1 = ap (λ n. n % count) on ∙ mod-mul-add (distance / chunk_size / count) count _ small in
     rw at.past (record {
       column = rw (next.number, rest) (ap (λ (n : ℕ). n + 1) at.column);
       chunk_start = rw (next.number, quotient) at.chunk_start;
@@ -110,15 +110,15 @@ position_within chunk count distance position some at within =
     })
 
 -- after the last column, on the first one
-pub position_after : (chunk count distance : ℕ) (position : StripePosition) → 0 < chunk → IsStripePosition chunk count distance position → position.column + 1 ≡ count
-    → IsStripePosition chunk count (distance + (chunk - position.past)) (record { column = 0; chunk_start = position.chunk_start + chunk; past = 0 })
-position_after chunk count distance position some at last =
-    let next = after_chunk chunk distance some in
-    let whole : distance / chunk / count * count + distance / chunk % count ≡ distance / chunk = div-add-mod' (distance / chunk) count in
-    let on : distance / chunk + 1 ≡ (distance / chunk / count + 1) * count + 0 = omega (arith, whole, last, at.column) in
+pub position_after : (chunk_size count distance : ℕ) (position : StripePosition) → 0 < chunk_size → IsStripePosition chunk_size count distance position → position.column + 1 ≡ count
+    → IsStripePosition chunk_size count (distance + (chunk_size - position.past)) (record { column = 0; chunk_start = position.chunk_start + chunk_size; past = 0 })
+position_after chunk_size count distance position some at last =
+    let next = after_chunk chunk_size distance some in
+    let whole : distance / chunk_size / count * count + distance / chunk_size % count ≡ distance / chunk_size = div-add-mod' (distance / chunk_size) count in
+    let on : distance / chunk_size + 1 ≡ (distance / chunk_size / count + 1) * count + 0 = omega (arith, whole, last, at.column) in
     let some_columns : 0 < count = omega (arith, last) in
-    let quotient : (distance / chunk + 1) / count ≡ distance / chunk / count + 1 = ap (λ n. n / count) on ∙ div-mul-add (distance / chunk / count + 1) count 0 some_columns in
-    let rest : (distance / chunk + 1) % count ≡ 0 = ap (λ n. n % count) on ∙ mod-mul-add (distance / chunk / count + 1) count 0 some_columns in
+    let quotient : (distance / chunk_size + 1) / count ≡ distance / chunk_size / count + 1 = ap (λ n. n / count) on ∙ div-mul-add (distance / chunk_size / count + 1) count 0 some_columns in
+    let rest : (distance / chunk_size + 1) % count ≡ 0 = ap (λ n. n % count) on ∙ mod-mul-add (distance / chunk_size / count + 1) count 0 some_columns in
     rw at.past (record {
       column = rw (next.number, rest) refl;
       chunk_start = rw (next.number, quotient) (omega (arith, at.chunk_start));
@@ -126,8 +126,8 @@ position_after chunk count distance position some at last =
     })
 
 -- a position is no further into its column than the sector is into the line
-pub position_small : (chunk count distance : ℕ) (position : StripePosition) → 0 < count → IsStripePosition chunk count distance position → position.chunk_start + position.past ≤ distance
-position_small chunk count distance position some at =
-    let whole : distance / chunk * chunk + distance % chunk ≡ distance = div-add-mod' distance chunk in
-    let rows : distance / chunk / count ≤ distance / chunk = div-le_self (distance / chunk) count in
-    omega (arith, whole, mul-le-mul_right chunk rows, at.chunk_start, at.past)
+pub position_small : (chunk_size count distance : ℕ) (position : StripePosition) → 0 < count → IsStripePosition chunk_size count distance position → position.chunk_start + position.past ≤ distance
+position_small chunk_size count distance position some at =
+    let whole : distance / chunk_size * chunk_size + distance % chunk_size ≡ distance = div-add-mod' distance chunk_size in
+    let rows : distance / chunk_size / count ≤ distance / chunk_size = div-le_self (distance / chunk_size) count in
+    omega (arith, whole, mul-le-mul_right chunk_size rows, at.chunk_start, at.past)

@@ -21,7 +21,7 @@ use Rattle.dm_map.specs.pieces.Units.{WriteOf, Drops, Fails}
 -- the write of a sector at a distance from the start of a line of this target, by that of a lower one: zeros throw it away, and the snapshots of an origin are served first
 abbrev pub write_target : Description → State → (device : ℕ) → FoundTarget → (distance : ℕ) → (Lower → State → ℕ → Step) → Step
 write_target stack state device (found.Linear to offset) distance next = next to state (offset + distance)
-write_target stack state device (found.Striped chunk columns) distance next = by_below (below_stripes chunk columns distance) (keep (Drops ∷ []) state) (keep (Fails ∷ []) state) (λ to sector. next to state sector)
+write_target stack state device (found.Striped chunk_size columns) distance next = by_below (below_stripes chunk_size columns distance) (keep (Drops ∷ []) state) (keep (Fails ∷ []) state) (λ to sector. next to state sector)
 write_target stack state device found.Zero distance next = keep (Drops ∷ []) state
 write_target stack state device found.Error distance next = keep (Fails ∷ []) state
 write_target stack state device (found.Snapshot snapshot) distance next = write_snapshot stack snapshot device state distance

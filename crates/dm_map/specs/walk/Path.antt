@@ -23,7 +23,7 @@ pub record PathStep : Type 0 where
 
 -- the chunk that has a sector at a distance from the line's start
 abbrev pub chunk_at : FoundTarget → (distance : ℕ) → Option ℕ
-chunk_at (found.Striped chunk columns) distance = Some (distance / chunk)
+chunk_at (found.Striped chunk_size columns) distance = Some (distance / chunk_size)
 chunk_at (found.Snapshot snapshot) distance = Some (distance / snapshot.chunk)
 chunk_at _ distance = None
 

@@ -183,23 +183,23 @@ map_stripes-map_range-requires g t c κs within =
 
 -- what a column hands over is the next part of the stripes
 column_walked : {S F : Type 0} (took left : S → List BlockUnit → S → Type 0) (stack_of : S → Description) (room faults : S → ℕ) (result : Result (Unit {0}) F) (old new : S)
-    (stack : Description) (before after : WalkerView) (op : Op) (levels chunk at n sector : ℕ) (columns : List FoundColumn) (column : FoundColumn) (position : StripePosition) → before.stack ≡ stack → 0 < length columns → 0 < chunk
-    → IsStripePosition chunk (length columns) at position → n ≤ chunk - position.past → column ≡ get_or columns position.column column → sector ≡ column.offset + (position.chunk_start + position.past)
-    → IsWalked took left stack_of room faults result old new before after (range_step before.stack op levels column.to before.state sector n) n → IsWalked took left stack_of room faults result old new before after (stripes_step stack op levels chunk columns before.state at n) n
-column_walked took left stack_of room faults result old new stack before after op levels chunk at n sector columns column position same some chunk_some is_at most is sector_is walk =
+    (stack : Description) (before after : WalkerView) (op : Op) (levels chunk_size at n sector : ℕ) (columns : List FoundColumn) (column : FoundColumn) (position : StripePosition) → before.stack ≡ stack → 0 < length columns → 0 < chunk_size
+    → IsStripePosition chunk_size (length columns) at position → n ≤ chunk_size - position.past → column ≡ get_or columns position.column column → sector ≡ column.offset + (position.chunk_start + position.past)
+    → IsWalked took left stack_of room faults result old new before after (range_step before.stack op levels column.to before.state sector n) n → IsWalked took left stack_of room faults result old new before after (stripes_step stack op levels chunk_size columns before.state at n) n
+column_walked took left stack_of room faults result old new stack before after op levels chunk_size at n sector columns column position same some chunk_some is_at most is sector_is walk =
     walked_as took left stack_of room faults result old new before after _ _ n
     (ap (λ (s : Description). range_step s op levels column.to before.state sector n) same ∙ ap (λ (p : ℕ). range_step stack op levels column.to before.state p n) sector_is
-    ∙ sym (stripes_chunk stack op levels chunk at n columns before.state column position some chunk_some is_at most is)) walk
+    ∙ sym (stripes_chunk stack op levels chunk_size at n columns before.state column position some chunk_some is_at most is)) walk
 
 -- and its searches are as few as those of the stripes may be
-column_bounded : (first before after : WalkerView) (op : Op) (levels device chunk distance done n sector : ℕ) (columns : List FoundColumn) (column : FoundColumn) (position : StripePosition) (line : FoundLine) → before.stack ≡ first.stack
-    → before.state ≡ (stripes_step first.stack op levels chunk columns first.state distance done).state → (0 < done → FirstOfChunk chunk (distance + done)) → 0 < length columns → 0 < chunk → IsStripePosition chunk (length columns) (distance + done) position → 1 ≤ n → n ≤ chunk - position.past
-    → column ≡ get_or columns position.column column → sector ≡ column.offset + (position.chunk_start + position.past) → found_at first.stack device line.start ≡ Some line → line.target ≡ Striped chunk columns
+column_bounded : (first before after : WalkerView) (op : Op) (levels device chunk_size distance done n sector : ℕ) (columns : List FoundColumn) (column : FoundColumn) (position : StripePosition) (line : FoundLine) → before.stack ≡ first.stack
+    → before.state ≡ (stripes_step first.stack op levels chunk_size columns first.state distance done).state → (0 < done → FirstOfChunk chunk_size (distance + done)) → 0 < length columns → 0 < chunk_size → IsStripePosition chunk_size (length columns) (distance + done) position → 1 ≤ n → n ≤ chunk_size - position.past
+    → column ≡ get_or columns position.column column → sector ≡ column.offset + (position.chunk_start + position.past) → found_at first.stack device line.start ≡ Some line → line.target ≡ Striped chunk_size columns
     → IsBounded before after op (lower_depth before.stack column.to) (path before.stack before.state levels column.to) sector n → IsLineBounded first before op levels device line distance done → IsLineBounded first after op levels device line distance (done + n)
-column_bounded first before after op levels device chunk distance done n sector columns column position line same state_is edge some chunk_some at n_some most is sector_is found kind next so_far =
-    chunks_on first before after op levels device chunk distance done n line (λ d. ap (λ (t : FoundTarget). chunk_at t d) kind) same
-    (λ read. state_is ∙ stripes_kept first.stack op levels chunk columns first.state distance done read) edge n_some so_far
-    (stripe_bound before after op levels device chunk columns line column position (distance + done) sector n (subst (λ (s : Description). found_at s device line.start ≡ Some line) (sym same) found) kind some chunk_some at n_some most is sector_is next)
+column_bounded first before after op levels device chunk_size distance done n sector columns column position line same state_is edge some chunk_some at n_some most is sector_is found kind next so_far =
+    chunks_on first before after op levels device chunk_size distance done n line (λ d. ap (λ (t : FoundTarget). chunk_at t d) kind) same
+    (λ read. state_is ∙ stripes_kept first.stack op levels chunk_size columns first.state distance done read) edge n_some so_far
+    (stripe_bound before after op levels device chunk_size columns line column position (distance + done) sector n (subst (λ (s : Description). found_at s device line.start ≡ Some line) (sym same) found) kind some chunk_some at n_some most is sector_is next)
 
 pub map_stripes-returns-in_err-map_range-clause-walked : goal.map_stripes-returns-in_err-map_range-clause-walked
 map_stripes-returns-in_err-map_range-clause-walked g t c =

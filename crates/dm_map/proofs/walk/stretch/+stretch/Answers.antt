@@ -110,14 +110,14 @@ line_stretch-returns-in-Origin g t c =
 -- Stripes
 
 -- what is left of the first chunk is there
-part_inside : (stack : Description) (device start line_len chunk distance len n : ℕ) (columns : List FoundColumn) (column : FoundColumn) (position : StripePosition) (target : FoundTarget) → target ≡ Striped chunk columns → IsTargetSound stack device start line_len target
-    → distance + len ≤ line_len → line_len ≤ 2 ^ 50 → 1 ≤ len → IsStripePosition chunk (length columns) distance position → n ≡ min len (chunk - position.past) → column ≡ get_or columns position.column column
+part_inside : (stack : Description) (device start line_len chunk_size distance len n : ℕ) (columns : List FoundColumn) (column : FoundColumn) (position : StripePosition) (target : FoundTarget) → target ≡ Striped chunk_size columns → IsTargetSound stack device start line_len target
+    → distance + len ≤ line_len → line_len ≤ 2 ^ 50 → 1 ≤ len → IsStripePosition chunk_size (length columns) distance position → n ≡ min len (chunk_size - position.past) → column ≡ get_or columns position.column column
     → (1 ≤ n) × (column.offset + (position.chunk_start + position.past) + n ≤ lower_len stack column.to)
-part_inside stack device start line_len chunk distance len n columns column position target kind sound inside small some at part is =
-    let lies = in_stripes stack device start line_len distance len chunk columns target kind sound inside small in
+part_inside stack device start line_len chunk_size distance len n columns column position target kind sound inside small some at part is =
+    let lies = in_stripes stack device start line_len distance len chunk_size columns target kind sound inside small in
     let here : distance ≡ distance + 0 = omega arith in (
       omega (arith, part, some, at.past, lies.stripes.chunk_some),
-      column_inside stack chunk distance len 0 n columns column position lies (omega (arith, some)) (subst (λ (d : ℕ). IsStripePosition chunk (length columns) d position) here at) (omega (arith, part)) is,
+      column_inside stack chunk_size distance len 0 n columns column position lies (omega (arith, some)) (subst (λ (d : ℕ). IsStripePosition chunk_size (length columns) d position) here at) (omega (arith, part)) is,
     )
 
 pub line_stretch-in_column-requires : goal.line_stretch-in_column-requires

@@ -24,10 +24,10 @@ count-number-requires g c =
 
 pub copy_chunk-requires-clause-part : goal.copy_chunk-requires-clause-part
 copy_chunk-requires-clause-part g c =
-    let chunk = c.args.snapshot.now.chunk in
-    let first : (c.args.chunk * chunk + 0) % chunk ≡ 0 = mod-mul-add c.args.chunk chunk 0 c.requires.sound.chunk_some in
-    let whole : c.args.chunk * chunk ≡ c.args.chunk * chunk + 0 = omega arith in
-    let none : (c.args.chunk * chunk) % chunk ≡ 0 = ap (λ (n : ℕ). n % chunk) whole ∙ first in
+    let chunk_size = c.args.snapshot.now.chunk in
+    let first : (c.args.chunk * chunk_size + 0) % chunk_size ≡ 0 = mod-mul-add c.args.chunk chunk_size 0 c.requires.sound.chunk_some in
+    let whole : c.args.chunk * chunk_size ≡ c.args.chunk * chunk_size + 0 = omega arith in
+    let none : (c.args.chunk * chunk_size) % chunk_size ≡ 0 = ap (λ (n : ℕ). n % chunk_size) whole ∙ first in
     omega (arith, none, c.min-count.ensures)
 
 pub take-requires-clause-device : goal.take-requires-clause-device
