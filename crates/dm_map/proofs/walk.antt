@@ -3,7 +3,6 @@ pub mod ChunkCopies
 pub mod ChunkTaking
 pub mod Chunks
 pub mod Depths
-pub mod InStack
 pub mod LevelLemmas
 pub mod OneLevel
 pub mod OriginParts

@@ -1,7 +1,10 @@
 //! Mapping requests through a checked stack.
 //!
-//! `specs/walk/Mapping.antt` defines what becomes of a request, sector by sector; the code hands it to a
-//! `Sink` in pieces.
+//! `specs/walk/Mapping.antt` defines what becomes of a request, sector by sector; the code hands it to
+//! a `Sink` in pieces.
+//!
+//! `mapper` is what callers use. It walks down a stack (`walk`), in the state that earlier requests
+//! left (`state`), and hands over pieces (`pieces`). `own` has laws of what disks hold after that.
 #![tactic(auto)]
 
 #[cfg(test)]

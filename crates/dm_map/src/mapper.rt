@@ -8,7 +8,7 @@ ghost use Rattle.std.specs.Prelude.{◌≡◌, ◌+◌, ◌*◌, ◌<◌, ◌≤
 ghost use Rattle.dm_table.specs.declared.request.Op.TheVariants.{Read};
 ghost use Rattle.dm_stack.specs.Loaded.{snapshots, stack_depth, IsSnapshot};
 ghost use Rattle.dm_map.specs.walk.Mapping.{request_step};
-ghost use Rattle.dm_map.specs.state.Counts.{grown_by, no_counts, AreAdded};
+ghost use Rattle.dm_map.specs.state.Counts.{grown_by, most_comparisons, no_counts, AreAdded};
 ghost use Rattle.dm_map.specs.state.Fitting.{IsWithinPlaces};
 ghost use Rattle.dm_map.specs.Mapper.{walker_of, with_looked, OnSinkFault, OnStopped, OnTried};
 ghost use Rattle.dm_map.specs.walk.Path.{read_stretches};
@@ -103,9 +103,9 @@ impl<'s, T: Taken> Mapper<'s, T> {
     /// The id belongs to the mapper's stack, which is also the sink's, and the sink has room for the
     /// request. Each piece is a stretch of sectors whose path down stays in one line, and one chunk,
     /// of each device. Cost of a read: at most as many line searches as the stack is deep for each run
-    /// of sectors with one path (`specs/walk/Path`), however long, and at most 17 comparisons each; they are
-    /// counted (`searches`, `probes`). No memory is taken. Whatever comes of the request, no snapshot has
-    /// taken more chunks than its store has places.
+    /// of sectors with one path (`specs/walk/Path`), however long, and at most 17 comparisons each;
+    /// they are counted (`searches`, `probes`). No memory is taken. Whatever comes of the request, no
+    /// snapshot has taken more chunks than its store has places.
     ///
     /// # Errors
     ///
@@ -140,7 +140,7 @@ impl<'s, T: Taken> Mapper<'s, T> {
         ensures stopped { OnStopped result
             ((self.old.stopped ≡ true) × (self.new ≡ self.old) × (sink.new ≡ sink.old)) }
         ensures counted { OnTried result (self.new.looked ≡ grown_by self.old.looked self.new.last) }
-        ensures few { OnTried result (self.new.last.comparisons ≤ 17 * self.new.last.searches) }
+        ensures few { OnTried result (self.new.last.comparisons ≤ most_comparisons * self.new.last.searches) }
         ensures bounded { OnTried result
             (request.now.op ≡ Read
             → self.new.last.searches

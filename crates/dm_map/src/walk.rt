@@ -9,3 +9,5 @@ pub(crate) mod step;
 pub(crate) mod stretch;
 pub(crate) mod stripe;
 pub(crate) mod take_chunk;
+#[cfg(test)]
+mod tests;

@@ -23,7 +23,7 @@ use Rattle.dm_map.proofs.own.Losses.{stays_as, stays_on}
 use Rattle.dm_map.proofs.own.ChunkOutcomes.{IsRead, Sector, Nothing, Fault, is_read}
 use Rattle.dm_map.proofs.own.OwnWrites.{own_write, start_fits}
 use Rattle.dm_map.specs.laws.Contents.{past-append}
-use Rattle.dm_map.proofs.own.Plays.{played_on, stored_other, stored_same}
+use Rattle.dm_map.proofs.own.Plays.{after_false, played_on, stored_other, stored_same}
 use Rattle.dm_map.proofs.own.TakenInARow.{all_front}
 
 -- Units before the one that answers
@@ -31,9 +31,6 @@ use Rattle.dm_map.proofs.own.TakenInARow.{all_front}
 row_still : {V : Type 0} (written : V) (device sector : ℕ) (unit : BlockUnit) (rows : Rows V) → answers unit ≡ false → row_unit written device sector unit rows ≡ rows
 row_still written device sector (WriteOf disk at) rows moves = absurd cc
 row_still written device sector unit rows moves = refl
-
-after_false : (unit : BlockUnit) (sector : ℕ) → answers unit ≡ false → sector_after unit sector ≡ sector
-after_false unit sector moves = rw moves refl
 
 after_true : (unit : BlockUnit) (sector : ℕ) → answers unit ≡ true → sector_after unit sector ≡ suc sector
 after_true unit sector answered = rw answered refl

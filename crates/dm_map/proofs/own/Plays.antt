@@ -101,13 +101,13 @@ copies_move {V = V} zeros written at from to s (suc n) values u fresh low high =
 
 -- Units after others
 
-stays_at : (unit : BlockUnit) (sector : ℕ) → answers unit ≡ false → sector_after unit sector ≡ sector
-stays_at unit sector moves = rw moves refl
+pub after_false : (unit : BlockUnit) (sector : ℕ) → answers unit ≡ false → sector_after unit sector ≡ sector
+after_false unit sector moves = rw moves refl
 
 pub played_on : {V : Type 0} (zeros : V) (written : ℕ → V) (at : ℕ) (us vs : List BlockUnit) (values : Values V) → AllByRecursion (λ unit. answers unit ≡ false) us → played zeros written at (us ++ vs) values ≡ played zeros written at vs (played zeros written at us values)
 unfolding played
 played_on zeros written at [] vs values each = refl
 played_on zeros written at (u ∷ us) vs values each =
-    ap (λ (s : ℕ). played zeros written s (us ++ vs) (played_unit zeros (written at) u values)) (stays_at u at each.0)
+    ap (λ (s : ℕ). played zeros written s (us ++ vs) (played_unit zeros (written at) u values)) (after_false u at each.0)
     ∙ played_on zeros written at us vs (played_unit zeros (written at) u values) each.1
-    ∙ sym (ap (λ (s : ℕ). played zeros written at vs (played zeros written s us (played_unit zeros (written at) u values))) (stays_at u at each.0))
+    ∙ sym (ap (λ (s : ℕ). played zeros written at vs (played zeros written s us (played_unit zeros (written at) u values))) (after_false u at each.0))

@@ -79,10 +79,7 @@ column_span_at stack len (targets.Striped chunk_size columns) i column is =
       share = refl;
       own = refl;
     }
-column_span_at stack len targets.Zero i column is = absurd cc
-column_span_at stack len targets.Error i column is = absurd cc
-column_span_at stack len (targets.Snapshot origin store kind chunk_size) i column is = absurd cc
-column_span_at stack len (targets.Origin origin) i column is = absurd cc
+column_span_at stack len target i column is = absurd cc
 
 within_share : (stack : Description) (device start len : ℕ) (target : Target) (distance : ℕ) (column : FoundColumn) → IsTargetSound stack device start len (found_target stack target) → slice_get (columns_of (found_target stack target)) (column_at (found_target stack target) distance) ≡ Some column → distance < len
     → within_at (found_target stack target) distance < share_of len target
@@ -96,10 +93,7 @@ within_share stack device start len (targets.Striped chunk_size columns) distanc
     let share : len / length columns ≡ stripes.column_len = ap (λ (n : ℕ). len / n) (sym same) ∙ ap (λ (n : ℕ). n / count) stripes.shares ∙ mul-div_cancel_left stripes.column_len stripes.some in
     let rest : distance % chunk_size < chunk_size = omega (arith, some) in
     omega (arith, room, share, rest)
-within_share stack device start len targets.Zero distance column sound is inside = absurd cc
-within_share stack device start len targets.Error distance column sound is inside = absurd cc
-within_share stack device start len (targets.Snapshot origin store kind chunk_size) distance column sound is inside = absurd cc
-within_share stack device start len (targets.Origin origin) distance column sound is inside = absurd cc
+within_share stack device start len target distance column sound is inside = absurd cc
 
 -- Through a column of a line
 
@@ -167,17 +161,13 @@ pub record IsSnapshotVia (stack : Description) (device : ℕ) (snapshot : FoundS
 
 snapshot_spans : (stack : Description) (len : ℕ) (target : Target) (snapshot : FoundSnapshot) → found_target stack target ≡ founds.Snapshot snapshot
     → (store : DevRef) × (origin : DevRef) × (target_spans len target ≡ whole_span store Own ∷ whole_span origin Reading ∷ []) × (lower_of stack store ≡ snapshot.store) × (lower_of stack origin ≡ snapshot.origin)
-snapshot_spans stack len (targets.Linear to offset) snapshot is = absurd cc
-snapshot_spans stack len (targets.Striped chunk_size columns) snapshot is = absurd cc
-snapshot_spans stack len targets.Zero snapshot is = absurd cc
-snapshot_spans stack len targets.Error snapshot is = absurd cc
 snapshot_spans stack len (targets.Snapshot origin store kind chunk_size) snapshot is =
     let same = snapshot_is (found_snapshot stack origin store kind chunk_size) snapshot is in
     (store, origin, refl, ap (λ (s : FoundSnapshot). s.store) same, ap (λ (s : FoundSnapshot). s.origin) same)
   where
     snapshot_is : (a b : FoundSnapshot) → founds.Snapshot a ≡ founds.Snapshot b → a ≡ b
     snapshot_is a b e = cc
-snapshot_spans stack len (targets.Origin origin) snapshot is = absurd cc
+snapshot_spans stack len target snapshot is = absurd cc
 
 -- what a line names as a whole: each sector of it is one that the line leads to
 record IsWholeVia (stack : Description) (device index column : ℕ) (it : Line) (lower : Lower) (kind : Use) : Type 0 where
@@ -231,15 +221,11 @@ pub record IsOriginVia (stack : Description) (device : ℕ) (origin : FoundOrigi
   pub via : (at : ℕ) → at < lower_len stack origin.to → IsVia stack device index 0 it origin.to at Serving
 
 origin_spans : (stack : Description) (len : ℕ) (target : Target) (origin : FoundOrigin) → found_target stack target ≡ founds.Origin origin → (to : DevRef) × (target_spans len target ≡ whole_span to Serving ∷ []) × (lower_of stack to ≡ origin.to)
-origin_spans stack len (targets.Linear to offset) origin is = absurd cc
-origin_spans stack len (targets.Striped chunk_size columns) origin is = absurd cc
-origin_spans stack len targets.Zero origin is = absurd cc
-origin_spans stack len targets.Error origin is = absurd cc
-origin_spans stack len (targets.Snapshot of store kind chunk_size) origin is = absurd cc
 origin_spans stack len (targets.Origin to) origin is = (to, refl, ap (λ (o : FoundOrigin). o.to) (origin_is (record { to = lower_of stack to; over = snapshots_over stack (lower_of stack to) }) origin is))
   where
     origin_is : (a b : FoundOrigin) → founds.Origin a ≡ founds.Origin b → a ≡ b
     origin_is a b e = cc
+origin_spans stack len target origin is = absurd cc
 
 pub via_origin : (stack : Description) (device : ℕ) (origin : FoundOrigin) → IsSound stack → origin_at stack device ≡ Some origin → IsOriginVia stack device origin
 via_origin stack device origin sound at =
@@ -268,7 +254,4 @@ column_inside stack device start len (founds.Striped chunk_size columns) distanc
     let rest : distance % chunk_size < chunk_size = omega (arith, some) in
     let at_is = step.sector in
     subst (λ (x : Lower). at < lower_len stack x) step.to (omega (arith, share, room, rest, at_is))
-column_inside stack device start len founds.Zero distance lower at sound step inside = absurd (no_columns step.column step.is)
-column_inside stack device start len founds.Error distance lower at sound step inside = absurd (no_columns step.column step.is)
-column_inside stack device start len (founds.Snapshot snapshot) distance lower at sound step inside = absurd (no_columns step.column step.is)
-column_inside stack device start len (founds.Origin origin) distance lower at sound step inside = absurd (no_columns step.column step.is)
+column_inside stack device start len target distance lower at sound step inside = absurd (no_columns step.column step.is)

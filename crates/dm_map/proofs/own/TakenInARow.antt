@@ -23,7 +23,7 @@ use Rattle.dm_map.proofs.state.FoundLines.{snapshot_sound}
 use Rattle.dm_map.proofs.own.HomeLemmas.{fresh_apart, home_node}
 use Rattle.dm_map.proofs.own.Losses.{lost_stays, stays_as, stays_on}
 use Rattle.dm_map.proofs.own.ChunkOutcomes.{FullOutcome, Done, Taking, Losing, full_outcome, full_outcome_fits}
-use Rattle.dm_map.proofs.state.Numbers.{store_sector_inside, kept_parts}
+use Rattle.dm_map.proofs.state.Numbers.{store_sector_inside, store_sector_parts}
 use Rattle.dm_map.proofs.own.Plays.{home_at, played_on, stored_other}
 use Rattle.dm_map.proofs.walk.ChunkTaking.{taken_other, taken_same}
 use Rattle.dm_map.proofs.state.TableLemmas.{number_within}
@@ -140,7 +140,7 @@ copies_fresh stack old state device chunk snapshot sound fitting tidy grown take
       is = refl;
       apart = λ a root touches. fresh_apart stack old a device snapshot (store_sector snapshot n u) sound fitting tidy take.over root (store_sector_inside snapshot n u (lower_len stack snapshot.store) some take.place_there)
           (λ t i is e.
-          let below = number_within (t / snapshot.chunk) (taken_at old device).chunks i is in let more = grown.lists device in let parts = kept_parts snapshot n i u t some e in
+          let below = number_within (t / snapshot.chunk) (taken_at old device).chunks i is in let more = grown.lists device in let parts = store_sector_parts snapshot n i u t some e in
           omega (arith, below, more, parts.0)) touches;
     })
 

@@ -25,7 +25,7 @@ use Rattle.dm_map.specs.own.Ways.{Node, node, Touches}
 use Rattle.dm_map.proofs.own.UniqueSteps.{IsRoot, origin_root}
 use Rattle.dm_map.proofs.state.FoundLines.{line_sound, snapshot_sound}
 use Rattle.dm_map.proofs.own.HomeLemmas.{fresh_apart, home_node, homes_apart}
-use Rattle.dm_map.proofs.state.Numbers.{chunk_rest, store_sector_inside, kept_parts, number_kept, number_new, number_other, of_chunk}
+use Rattle.dm_map.proofs.state.Numbers.{chunk_rest, store_sector_inside, store_sector_parts, number_kept, number_new, number_other, of_chunk}
 use Rattle.dm_map.proofs.walk.OneLevel.{by_depth, next_depth, read_disk, read_down}
 use Rattle.dm_map.proofs.own.Plays.{AreFreshTargets, IsReadable, copies_keep, copies_move, home_at, some_value}
 use Rattle.dm_map.proofs.walk.ChunkTaking.{taken_other, taken_same}
@@ -67,7 +67,7 @@ chunk_copies stack state device chunk snapshot = copies stack state snapshot (ne
 -- no taken chunk lies in the place of the new number
 new_is_fresh : (state : State) (device : ℕ) (snapshot : FoundSnapshot) (v t i : ℕ) → 0 < snapshot.chunk → number_in (t / snapshot.chunk) (taken_at state device).chunks ≡ Some i → store_sector snapshot (new_number state device) v ≡ store_sector snapshot i t → ⊥
 new_is_fresh state device snapshot v t i some is e =
-    let parts = kept_parts snapshot (new_number state device) i v t some e in
+    let parts = store_sector_parts snapshot (new_number state device) i v t some e in
     let below = number_within (t / snapshot.chunk) (taken_at state device).chunks i is in
     omega (arith, below, parts.0)
 
@@ -84,7 +84,7 @@ take_fresh stack state device chunk snapshot sound fitting tidy take =
     record {
       targets = λ u v ul uh vl vh e.
           let same = homes_apart stack state device snapshot (store_sector snapshot n u) (store_sector snapshot n v) sound fitting tidy take.over (inside u) (inside v) e in
-          same_in_chunk snapshot.chunk chunk u v (count_of stack snapshot device chunk) (omega arith) ul uh vl vh (kept_parts snapshot n n u v some same).1;
+          same_in_chunk snapshot.chunk chunk u v (count_of stack snapshot device chunk) (omega arith) ul uh vl vh (store_sector_parts snapshot n n u v some same).1;
       sources = λ u v k x ul uh vl vh reads e.
           fresh_apart stack state (node snapshot.origin u) device snapshot (store_sector snapshot n v) sound fitting tidy take.over (origin_root stack device snapshot sound tidy take.over)
           (inside v) (λ t i is same. new_is_fresh state device snapshot v t i some is same) (subst (λ (h : Home). Touches stack state (node snapshot.origin u) (home_node h)) (sym e) (read_touches stack state snapshot.origin u k x sound reads));

@@ -46,10 +46,7 @@ distance_one stack device start len (founds.Striped chunk_size columns) d e colu
     ∙ ap (λ (w : ℕ). (w / chunk_size * n + column_of chunk_size n d) * chunk_size + w % chunk_size) within
     ∙ ap (λ (i : ℕ). (in_column chunk_size n e / chunk_size * n + i) * chunk_size + in_column chunk_size n e % chunk_size) same
     ∙ stripe_back chunk_size n e stripes.chunk_some
-distance_one stack device start len founds.Zero d e column sound is columns within = absurd cc
-distance_one stack device start len founds.Error d e column sound is columns within = absurd cc
-distance_one stack device start len (founds.Snapshot snapshot) d e column sound is columns within = absurd cc
-distance_one stack device start len (founds.Origin origin) d e column sound is columns within = absurd cc
+distance_one stack device start len target d e column sound is columns within = absurd cc
 
 column_is : (a b : FoundColumn) → Some a ≡ Some b → a ≡ b
 column_is a b e = cc
@@ -152,7 +149,7 @@ only_by_line stack state d s e t lower at line sound fitting tidy inside is step
     absurd (line_no_origin stack d s line lower at a.it b.it origin a.is step one.lines b.target)
 
 -- to one of a store: its snapshot, by a taken chunk
-pub record IsKept (state : State) (device : ℕ) (snapshot : FoundSnapshot) (at e t : ℕ) : Type 0 where
+pub record IsInStore (state : State) (device : ℕ) (snapshot : FoundSnapshot) (at e t : ℕ) : Type 0 where
   pub same : e ≡ device
   pub number : ℕ
   pub is : number_in (t / snapshot.chunk) (taken_at state device).chunks ≡ Some number
@@ -162,7 +159,7 @@ snapshot_is : (a b : FoundSnapshot) → founds.Snapshot a ≡ founds.Snapshot b 
 snapshot_is a b e = cc
 
 pub only_by_store : (stack : Description) (state : State) (d e t at : ℕ) (snapshot : FoundSnapshot) → IsSound stack → IsFitting stack state → IsTidy stack → t < device_len stack e
-    → snapshot_at stack d ≡ Some snapshot → at < lower_len stack snapshot.store → ReadStep stack state e t snapshot.store at → IsKept state d snapshot at e t
+    → snapshot_at stack d ≡ Some snapshot → at < lower_len stack snapshot.store → ReadStep stack state e t snapshot.store at → IsInStore state d snapshot at e t
 only_by_store stack state d e t at snapshot sound fitting tidy inside over below (ByLine line is step) =
     let a = via_line stack e t line snapshot.store at sound is step in let b = via_snapshot stack d snapshot sound over in
     let one = one_via stack e d a.index b.index (column_at line.target (t - line.start)) 0 a.it b.it snapshot.store at Own Own tidy a.via (b.store at below) refl in

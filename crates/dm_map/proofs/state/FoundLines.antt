@@ -46,7 +46,8 @@ pub record IsLineOf (stack : Description) (device sector : ℕ) (line : FoundLin
   pub inside : sector < device_len stack device
   pub soundly : HoldsSoundly stack device line sector
 
-line_there : (stack : Description) (device sector : ℕ) (line : FoundLine) → found_at stack device sector ≡ Some line → device < length stack.devices
+-- a device that has a line is one of the stack
+pub line_there : (stack : Description) (device sector : ℕ) (line : FoundLine) → found_at stack device sector ≡ Some line → device < length stack.devices
 line_there stack device sector line is =
     elim (cases_lt device (length stack.devices)) [
       | inl there ↦ there
@@ -90,15 +91,11 @@ line_snapshot stack device sector line snapshot sound is target =
     (from, rw (first, target) refl)
 
 target_snapshot : (line : FoundLine) (target : FoundTarget) (snapshot : FoundSnapshot) → line.target ≡ target → snapshot_of target ≡ Some snapshot → line.target ≡ founds.Snapshot snapshot
-target_snapshot line (founds.Linear to offset) snapshot is e = absurd cc
-target_snapshot line (founds.Striped chunk_size columns) snapshot is e = absurd cc
-target_snapshot line founds.Zero snapshot is e = absurd cc
-target_snapshot line founds.Error snapshot is e = absurd cc
 target_snapshot line (founds.Snapshot other) snapshot is e = is ∙ ap founds.Snapshot (some_is other snapshot e)
   where
     some_is : (a b : FoundSnapshot) → Some a ≡ Some b → a ≡ b
     some_is a b same = cc
-target_snapshot line (founds.Origin origin) snapshot is e = absurd cc
+target_snapshot line target snapshot is e = absurd cc
 
 pub first_line : (stack : Description) (device : ℕ) (snapshot : FoundSnapshot) (found : Option FoundLine) → found_at stack device 0 ≡ found → snapshot_of_line found ≡ Some snapshot → (line : FoundLine) × (found_at stack device 0 ≡ Some line) × (line.target ≡ founds.Snapshot snapshot)
 first_line stack device snapshot None is e = absurd cc
@@ -140,15 +137,11 @@ line_origin stack device sector line origin sound is target =
     (from, rw (first, target) refl)
 
 target_origin : (line : FoundLine) (target : FoundTarget) (origin : FoundOrigin) → line.target ≡ target → origin_of target ≡ Some origin → line.target ≡ founds.Origin origin
-target_origin line (founds.Linear to offset) origin is e = absurd cc
-target_origin line (founds.Striped chunk_size columns) origin is e = absurd cc
-target_origin line founds.Zero origin is e = absurd cc
-target_origin line founds.Error origin is e = absurd cc
-target_origin line (founds.Snapshot snapshot) origin is e = absurd cc
 target_origin line (founds.Origin other) origin is e = is ∙ ap founds.Origin (some_is other origin e)
   where
     some_is : (a b : FoundOrigin) → Some a ≡ Some b → a ≡ b
     some_is a b same = cc
+target_origin line target origin is e = absurd cc
 
 pub first_origin : (stack : Description) (device : ℕ) (origin : FoundOrigin) (found : Option FoundLine) → found_at stack device 0 ≡ found → origin_of_line found ≡ Some origin → (line : FoundLine) × (found_at stack device 0 ≡ Some line) × (line.target ≡ founds.Origin origin)
 first_origin stack device origin None is e = absurd cc

@@ -136,15 +136,15 @@ stripe_back chunk_size n o some =
 
 -- The sectors of a store
 
-pub kept_parts : (snapshot : FoundSnapshot) (i j s t : ℕ) → 0 < snapshot.chunk → store_sector snapshot i s ≡ store_sector snapshot j t → (i ≡ j) × (s % snapshot.chunk ≡ t % snapshot.chunk)
-kept_parts snapshot i j s t some e =
+pub store_sector_parts : (snapshot : FoundSnapshot) (i j s t : ℕ) → 0 < snapshot.chunk → store_sector snapshot i s ≡ store_sector snapshot j t → (i ≡ j) × (s % snapshot.chunk ≡ t % snapshot.chunk)
+store_sector_parts snapshot i j s t some e =
     let parts = same_parts (place snapshot.kind snapshot.chunk i) (s % snapshot.chunk) (place snapshot.kind snapshot.chunk j) (t % snapshot.chunk) snapshot.chunk e (omega (arith, some)) (omega (arith, some)) in
     (place_one snapshot.kind snapshot.chunk i j parts.0, parts.1)
 
 -- one number and one distance into the chunk are one sector
 pub same_sector : (snapshot : FoundSnapshot) (chunks : List ℕ) (i j s u : ℕ) → 0 < snapshot.chunk → number_in (s / snapshot.chunk) chunks ≡ Some i → number_in (u / snapshot.chunk) chunks ≡ Some j → store_sector snapshot i s ≡ store_sector snapshot j u → u ≡ s
 same_sector snapshot chunks i j s u some a b e =
-    let parts = kept_parts snapshot i j s u some e in
+    let parts = store_sector_parts snapshot i j s u some e in
     let whole_s : s / snapshot.chunk * snapshot.chunk + s % snapshot.chunk ≡ s = div-add-mod' s snapshot.chunk in
     let whole_u : u / snapshot.chunk * snapshot.chunk + u % snapshot.chunk ≡ u = div-add-mod' u snapshot.chunk in
     let one = number_one (s / snapshot.chunk) (u / snapshot.chunk) chunks i a (b ∙ ap Some (sym parts.0)) in

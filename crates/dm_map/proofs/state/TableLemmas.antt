@@ -29,7 +29,7 @@ use Rattle.dm_stack.proofs.Passes.{faults_by_none, passes_all}
 use Rattle.dm_stack.proofs.SoundLines.{device_some, disk_some, found, of_device, there}
 use Rattle.dm_map.specs.state.Snapshots.{number_in}
 use Rattle.dm_map.specs.state.State.{lost, put, with_chunk, State, Taken, none_taken, taken_at}
-use Rattle.dm_map.specs.state.Tables.{AreTables, has_room, snapshot_of_line, snapshot_of, state_of}
+use Rattle.dm_map.specs.state.Tables.{AreTables, has_room, room_of, snapshot_at, snapshot_of_line, snapshot_of, state_of}
 
 -- One table
 
@@ -216,6 +216,11 @@ next_rooms places stack tables next d index new within is same room before devic
     device table got later
 
 -- The places of a snapshot
+
+-- a place that the store has
+pub room_place : (stack : Description) (device number : ℕ) (snapshot : FoundSnapshot) → snapshot_at stack device ≡ Some snapshot → has_room stack device number ≡ true → (place snapshot.kind snapshot.chunk number + 1) * snapshot.chunk ≤ lower_len stack snapshot.store
+room_place stack device number snapshot is room =
+    leb-true _ _ (subst (λ (o : Option FoundSnapshot). room_of stack o number ≡ true) is room)
 
 pub snapshot_room : (stack : Description) (device number count : ℕ) (line : FoundLine) (snapshot : FoundSnapshot) → found_at stack device 0 ≡ Some line → line.target ≡ founds.Snapshot snapshot → ((number < count) ↔ ((place snapshot.kind snapshot.chunk number + 1) * snapshot.chunk ≤ lower_len stack snapshot.store)) → nat_lt number count ≡ has_room stack device number
 snapshot_room stack device number count line snapshot is kind law =

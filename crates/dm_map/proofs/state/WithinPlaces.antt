@@ -11,9 +11,8 @@ use Rattle.dm_stack.proofs.SoundLines.{there}
 use Rattle.dm_map.specs.state.Fitting.{IsWithinPlaces}
 use Rattle.dm_map.specs.state.State.{Taken}
 use Rattle.dm_map.specs.state.Tables.{AreTables, snapshot_at, state_of}
-use Rattle.dm_map.proofs.walk.Chunks.{room_place}
+use Rattle.dm_map.proofs.state.TableLemmas.{room_place, state_at}
 use Rattle.dm_map.proofs.state.FoundLines.{snapshot_sound}
-use Rattle.dm_map.proofs.state.TableLemmas.{state_at}
 
 -- a count is within another where each number below it is
 most_within : (count most : ℕ) → ((number : ℕ) → number < count → number < most) → count ≤ most

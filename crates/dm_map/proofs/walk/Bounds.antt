@@ -108,19 +108,19 @@ stripe_bound before after op levels device chunk_size columns line column positi
     (bounded is sound)
 
 -- a chunk of a snapshot
-pub chunk_bound : (before after : WalkerView) (op : Op) (levels device : ℕ) (snapshot : FoundSnapshot) (line : FoundLine) (position : ReadAt) (sector n : ℕ) → found_at before.stack device line.start ≡ Some line → line.target ≡ Snapshot snapshot
-    → AreInChunk before.stack device snapshot sector n → 1 ≤ n → AreReadAt before.stack before.state device snapshot sector n position
-    → IsBounded before after op (lower_depth before.stack position.to) (path before.stack before.state levels position.to) position.sector n → IsLineBounded before after op levels device line sector n
-chunk_bound before after op levels device snapshot line position sector n found kind chunk some at bounded is sound =
+pub chunk_bound : (before after : WalkerView) (op : Op) (levels device : ℕ) (snapshot : FoundSnapshot) (line : FoundLine) (source : ReadAt) (sector n : ℕ) → found_at before.stack device line.start ≡ Some line → line.target ≡ Snapshot snapshot
+    → AreInChunk before.stack device snapshot sector n → 1 ≤ n → AreReadAt before.stack before.state device snapshot sector n source
+    → IsBounded before after op (lower_depth before.stack source.to) (path before.stack before.state levels source.to) source.sector n → IsLineBounded before after op levels device line sector n
+chunk_bound before after op levels device snapshot line source sector n found kind chunk some at bounded is sound =
     let stack = before.stack in let state = before.state in
     let step : PathStep = record { device = device; start = line.start; chunk = Some (sector / snapshot.chunk) } in
-    let less = below_less stack state device line.start (sector + 0) line position.to (position.sector + 0) sound found
+    let less = below_less stack state device line.start (sector + 0) line source.to (source.sector + 0) sound found
     (ap (λ (t : FoundTarget). below_target (read_over (taken_at state device)) t (sector + 0)) kind ∙ at.lies 0 (omega (arith, some))) in
-    searches_below (line_paths stack state levels device line) (path stack state levels position.to) (lower_depth stack position.to) (depth_of stack device - 1) sector position.sector n before.looked.searches after.looked.searches less
-    (stretches_after (line_paths stack state levels device line) (path stack state levels position.to) step sector position.sector n (λ i within.
+    searches_below (line_paths stack state levels device line) (path stack state levels source.to) (lower_depth stack source.to) (depth_of stack device - 1) sector source.sector n before.looked.searches after.looked.searches less
+    (stretches_after (line_paths stack state levels device line) (path stack state levels source.to) step sector source.sector n (λ i within.
     ap (λ (t : FoundTarget). target_path stack state levels device line.start t (sector + i)) kind
     ∙ ap (λ (b : Below). record { device = device; start = line.start; chunk = Some ((sector + i) / snapshot.chunk) } ∷ by_below b [] [] (λ to lower. path stack state levels to lower)) (at.lies i within)
-    ∙ ap (λ (c : ℕ). record { device = device; start = line.start; chunk = Some c } ∷ path stack state levels position.to (position.sector + i)) (same_chunk snapshot sector i chunk.whole.sound.chunk_some (omega (arith, chunk.part, within)))))
+    ∙ ap (λ (c : ℕ). record { device = device; start = line.start; chunk = Some c } ∷ path stack state levels source.to (source.sector + i)) (same_chunk snapshot sector i chunk.whole.sound.chunk_some (omega (arith, chunk.part, within)))))
     (bounded is sound)
 
 -- A line in chunks, one after the other

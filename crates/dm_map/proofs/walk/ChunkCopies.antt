@@ -1,11 +1,10 @@
 -- The sectors of a chunk in a store, their copies and their writes.
-use Rattle.std.proofs.Common.{◌≡◌, ℕ, ◌+◌, ◌-◌, ◌*◌, ◌%◌, ◌<◌, ◌≤◌, sym, ap, ◌∙◌, arith}
+use Rattle.std.proofs.Common.{◌≡◌, ℕ, ◌+◌, ◌-◌, ◌%◌, ◌<◌, ◌≤◌, sym, ap, ◌∙◌, arith}
 use Rattle.dm_table.specs.declared.request.Op.TheVariants.{Read}
 use Rattle.dm_stack.specs.declared.found_line.FoundSnapshot.{FoundSnapshot}
 use Rattle.dm_stack.specs.declared.graph.TheConstants.{MOST_DEPTH}
 use Rattle.dm_stack.specs.declared.id.Lower.{Lower}
 use Rattle.dm_stack.specs.Description.{Description}
-use Rattle.dm_stack.specs.StoreLayout.{place}
 use Rattle.dm_map.specs.declared.walk.take_chunk.HomeStretch.{HomeStretch}
 use Rattle.dm_map.specs.declared.walk.stretch.Ground.{Ground}
 use Rattle.dm_map.specs.state.Counts.{AreAdded}
@@ -17,7 +16,7 @@ use Rattle.dm_map.specs.walk.Stretch.{ground_unit}
 use Rattle.dm_map.specs.pieces.Units.{WriteOf, units_in}
 use Rattle.dm_map.specs.state.Walker.{StackState, WalkerView, stack_state}
 use Rattle.dm_map.specs.walk.Range.{range_step}
-use Rattle.dm_map.proofs.walk.Stripes.{in_chunk}
+use Rattle.dm_map.proofs.walk.Chunks.{store_sector_on}
 use Rattle.dm_map.proofs.walk.UnitRows.{copy_row, first_reads, row_front, write_row}
 
 -- between pieces, a sink and a walk are where they were, but for the units that the sink took and what was looked up
@@ -27,15 +26,6 @@ pub record IsGoingOn {S : Type 0} (stack_of : S → Description) (room_of faults
   pub stack : stack_of new ≡ stack_of old
   pub room : room_of old ≤ room_of new
   pub faults : faults_of new ≡ faults_of old
-
--- the sectors of a chunk lie one after the other in its place in the store
-pub kept_on : (snapshot : FoundSnapshot) (number sector i : ℕ) → 0 < snapshot.chunk → sector % snapshot.chunk + i < snapshot.chunk → store_sector snapshot number (sector + i) ≡ store_sector snapshot number sector + i
-kept_on snapshot number sector i some within =
-    let same = in_chunk snapshot.chunk sector i some (omega (arith, within)) in
-    ap (λ (rest : ℕ). place snapshot.kind snapshot.chunk number * snapshot.chunk + rest) same.position ∙ assoc (place snapshot.kind snapshot.chunk number * snapshot.chunk) (sector % snapshot.chunk) i
-  where
-    assoc : (p r i : ℕ) → p + (r + i) ≡ p + r + i
-    assoc p r i = omega arith
 
 -- a first stretch of what is left of a range is the next part of the row of its reads
 pub next_reads : (before now : WalkerView) (lower : Lower) (sector done at n : ℕ) (ground : Ground) → stack_state now ≡ stack_state before → at ≡ sector + done → range_step now.stack Read MOST_DEPTH lower now.state at n ≡ keep (units_in (ground_unit ground) n) now.state
@@ -55,7 +45,7 @@ copy_part before now snapshot number sector done from to m ground first some par
     row_front origin (sector + done) m first.len (ground_unit ground) (next_reads before now snapshot.origin sector done from m ground same from_is reads) few in
     let home_part : GoOn (home_in_store before.stack snapshot number) (sector + done) first.disk first.start first.len = λ i within.
     ap (λ (s : ℕ). home before.stack snapshot.store s)
-    (ap (store_sector snapshot number) (let e : sector + done + i ≡ sector + (done + i) = omega arith in e) ∙ kept_on snapshot number sector (done + i) some (omega (arith, part, within))
+    (ap (store_sector snapshot number) (let e : sector + done + i ≡ sector + (done + i) = omega arith in e) ∙ store_sector_on snapshot number sector (done + i) some (omega (arith, part, within))
     ∙ (let e : store_sector snapshot number sector + (done + i) ≡ to + i = omega (arith, to_is) in e))
     ∙ homes i within in
     copy_row origin (home_in_store before.stack snapshot number) (sector + done) first.len (ground_unit ground) first.disk first.start read_part home_part

@@ -1,7 +1,6 @@
 -- The sectors of one chunk of a snapshot: where they are read, and that they are written there once the chunk is settled.
 use Rattle.std.proofs.Common.{◌≡◌, ℕ, zero, suc, ◌+◌, ◌-◌, ◌*◌, ◌/◌, ◌%◌, ◌<◌, ◌≤◌, Bool, true, false, cond, not, List, [], ◌∷◌, ◌++◌, Option, Some, None, length, append_assoc, refl, sym, ap, subst, ◌∙◌, arith}
 use Rattle.std.specs.Prelude.{◌||◌, is_some, min}
-use Rattle.std.proofs.lemmas.Bool.{leb-true}
 use Rattle.std.proofs.lemmas.List.{length-set}
 use Rattle.std.proofs.lemmas.Nat.{div-add-mod'}
 use Rattle.dm_table.specs.declared.request.Op.TheVariants as ops
@@ -11,7 +10,7 @@ use Rattle.dm_stack.specs.declared.found_line.FoundLine.{FoundLine}
 use Rattle.dm_stack.specs.declared.found_line.FoundTarget.{FoundTarget}
 use Rattle.dm_stack.specs.declared.found_line.FoundTarget.TheVariants.{Snapshot}
 use Rattle.dm_stack.specs.Below.{Below, Lies, IsError, found_at, IsSnapshotSound, IsTargetSound}
-use Rattle.dm_stack.specs.Description.{Description, device_len, lower_len}
+use Rattle.dm_stack.specs.Description.{Description, device_len}
 use Rattle.dm_stack.specs.StoreLayout.{place}
 use Rattle.dm_map.specs.declared.walk.chunk.ReadAt.{ReadAt}
 use Rattle.dm_map.specs.walk.Homes.{home}
@@ -20,12 +19,13 @@ use Rattle.dm_map.specs.state.Snapshots.{number_in, store_sector, read_numbered,
 use Rattle.dm_map.specs.walk.SnapshotWrites.{is_refused, is_settled, take_chunk, row, store_writes, unit_in_store, write_numbered, write_snapshot, write_to}
 use Rattle.dm_map.specs.state.State.{State, Taken, taken_at}
 use Rattle.dm_map.specs.walk.Steps.{Step, keep, and_then, steps}
-use Rattle.dm_map.specs.state.Tables.{has_room, room_of, snapshot_at}
+use Rattle.dm_map.specs.state.Tables.{has_room}
 use Rattle.dm_map.specs.pieces.Units.{BlockUnit, Zeros, Fails, units_in}
 use Rattle.dm_map.specs.walk.Mapping.{sector_step}
 use Rattle.dm_map.specs.pieces.Sink.{OfBeginning}
 use Rattle.dm_map.specs.walk.Range.{line_step, range_step, target_step}
 use Rattle.dm_map.specs.walk.Chunk.{AreInChunk, AreInSnapshot, AreReadAt}
+use Rattle.dm_map.proofs.state.TableLemmas.{room_place}
 use Rattle.dm_map.proofs.walk.ChunkTaking.{ChunkOutcome, chunk_outcome, Settled, Took, Lost, chunk_part, refused_part, write_is}
 use Rattle.dm_map.proofs.walk.Rows.{left_more, steps_read, steps_same, steps_still}
 use Rattle.dm_map.proofs.walk.Stripes.{in_chunk}
@@ -62,32 +62,27 @@ first_inside stack device sector len snapshot chunk some =
 -- Sectors of one chunk
 
 -- the sectors of a chunk that was taken lie one after the other in its place in the store
-pub kept_on : (snapshot : FoundSnapshot) (number sector i : ℕ) → 0 < snapshot.chunk → sector % snapshot.chunk + i < snapshot.chunk → store_sector snapshot number (sector + i) ≡ store_sector snapshot number sector + i
-kept_on snapshot number sector i some within =
+pub store_sector_on : (snapshot : FoundSnapshot) (number sector i : ℕ) → 0 < snapshot.chunk → sector % snapshot.chunk + i < snapshot.chunk → store_sector snapshot number (sector + i) ≡ store_sector snapshot number sector + i
+store_sector_on snapshot number sector i some within =
     let at = (in_chunk snapshot.chunk sector i some (omega (arith, within))).position in omega (arith, at)
 
 pub same_chunk : (snapshot : FoundSnapshot) (sector i : ℕ) → 0 < snapshot.chunk → sector % snapshot.chunk + i < snapshot.chunk → (sector + i) / snapshot.chunk ≡ sector / snapshot.chunk
 same_chunk snapshot sector i some within = (in_chunk snapshot.chunk sector i some (omega (arith, within))).number
-
--- a place that the store has
-pub room_place : (stack : Description) (device number : ℕ) (snapshot : FoundSnapshot) → snapshot_at stack device ≡ Some snapshot → has_room stack device number ≡ true → (place snapshot.kind snapshot.chunk number + 1) * snapshot.chunk ≤ lower_len stack snapshot.store
-room_place stack device number snapshot is room =
-    leb-true _ _ (subst (λ (o : Option FoundSnapshot). room_of stack o number ≡ true) is room)
 
 -- Reads
 
 over_at : (taken : Taken) (snapshot : FoundSnapshot) (sector chunk : ℕ) (number : Option ℕ) → taken.valid ≡ true → sector / snapshot.chunk ≡ chunk → number_in chunk taken.chunks ≡ number → read_over taken snapshot sector ≡ read_numbered snapshot number sector
 over_at taken snapshot sector chunk number valid same is = rw (valid, same, is) refl
 
-pub read_kept : (stack : Description) (state : State) (device sector len number : ℕ) (snapshot : FoundSnapshot) → AreInChunk stack device snapshot sector len → (taken_at state device).valid ≡ true → number_in (sector / snapshot.chunk) (taken_at state device).chunks ≡ Some number → has_room stack device number ≡ true
+pub read_store : (stack : Description) (state : State) (device sector len number : ℕ) (snapshot : FoundSnapshot) → AreInChunk stack device snapshot sector len → (taken_at state device).valid ≡ true → number_in (sector / snapshot.chunk) (taken_at state device).chunks ≡ Some number → has_room stack device number ≡ true
     → AreReadAt stack state device snapshot sector len (record { to = snapshot.store; sector = store_sector snapshot number sector })
-read_kept stack state device sector len number snapshot chunk valid is room =
+read_store stack state device sector len number snapshot chunk valid is room =
     let some = chunk.whole.sound.chunk_some in let fits = room_place stack device number snapshot chunk.whole.is room in
     let split : (place snapshot.kind snapshot.chunk number + 1) * snapshot.chunk ≡ place snapshot.kind snapshot.chunk number * snapshot.chunk + snapshot.chunk = grind arith in
     record {
       lies = λ i within.
           over_at (taken_at state device) snapshot (sector + i) (sector / snapshot.chunk) (Some number) valid (same_chunk snapshot sector i some (omega (arith, chunk.part, within))) is
-          ∙ ap (Lies snapshot.store) (kept_on snapshot number sector i some (omega (arith, chunk.part, within)));
+          ∙ ap (Lies snapshot.store) (store_sector_on snapshot number sector i some (omega (arith, chunk.part, within)));
       inside = omega (arith, fits, split, chunk.part);
     }
 
@@ -114,28 +109,28 @@ pub write_line_step : (stack : Description) (levels device sector n : ℕ) (snap
 write_line_step stack levels device sector n snapshot state = steps_same (write_snapshot stack snapshot device) (target_step stack ops.Write levels device (Snapshot snapshot)) state sector sector n (λ after i within. refl)
 
 -- once a chunk is settled, what reads a sector somewhere keeps it there
-pub record IsKept (stack : Description) (snapshot : FoundSnapshot) (unit : BlockUnit) (to : Lower) (at : ℕ) : Type 0 where
+pub record IsInStore (stack : Description) (snapshot : FoundSnapshot) (unit : BlockUnit) (to : Lower) (at : ℕ) : Type 0 where
   pub store : to ≡ snapshot.store
   pub written : unit ≡ write_to (home stack to at)
 
-kept_by : (stack : Description) (snapshot : FoundSnapshot) (sector : ℕ) (valid : Bool) (number : Option ℕ) (to : Lower) (at : ℕ) → (not valid || is_some number) ≡ true → cond valid (read_numbered snapshot number sector) IsError ≡ Lies to at
-    → IsKept stack snapshot (cond valid (write_numbered stack snapshot number sector) Fails) to at
-kept_by stack snapshot sector false number to at settled lies = absurd cc
-kept_by stack snapshot sector true None to at settled lies = absurd cc
-kept_by stack snapshot sector true (Some number) to at settled lies =
+in_store_by : (stack : Description) (snapshot : FoundSnapshot) (sector : ℕ) (valid : Bool) (number : Option ℕ) (to : Lower) (at : ℕ) → (not valid || is_some number) ≡ true → cond valid (read_numbered snapshot number sector) IsError ≡ Lies to at
+    → IsInStore stack snapshot (cond valid (write_numbered stack snapshot number sector) Fails) to at
+in_store_by stack snapshot sector false number to at settled lies = absurd cc
+in_store_by stack snapshot sector true None to at settled lies = absurd cc
+in_store_by stack snapshot sector true (Some number) to at settled lies =
     let store : snapshot.store ≡ to = cc in let position : store_sector snapshot number sector ≡ at = cc in
     record { store = sym store; written = rw (sym store, sym position) refl }
 
-pub kept : (stack : Description) (snapshot : FoundSnapshot) (device sector : ℕ) (state : State) (to : Lower) (at : ℕ) → is_settled (taken_at state device) (sector / snapshot.chunk) ≡ true → read_over (taken_at state device) snapshot sector ≡ Lies to at → IsKept stack snapshot (unit_in_store stack snapshot device state sector) to at
-kept stack snapshot device sector state to at settled lies =
-    kept_by stack snapshot sector (taken_at state device).valid (number_in (sector / snapshot.chunk) (taken_at state device).chunks) to at settled lies
+pub in_store : (stack : Description) (snapshot : FoundSnapshot) (device sector : ℕ) (state : State) (to : Lower) (at : ℕ) → is_settled (taken_at state device) (sector / snapshot.chunk) ≡ true → read_over (taken_at state device) snapshot sector ≡ Lies to at → IsInStore stack snapshot (unit_in_store stack snapshot device state sector) to at
+in_store stack snapshot device sector state to at settled lies =
+    in_store_by stack snapshot sector (taken_at state device).valid (number_in (sector / snapshot.chunk) (taken_at state device).chunks) to at settled lies
 
 -- all sectors of the chunk
-pub row_kept : (stack : Description) (snapshot : FoundSnapshot) (device sector len : ℕ) (state : State) (source : ReadAt) → AreInChunk stack device snapshot sector len → is_settled (taken_at state device) (sector / snapshot.chunk) ≡ true → AreReadAt stack state device snapshot sector len source
+pub row_in_store : (stack : Description) (snapshot : FoundSnapshot) (device sector len : ℕ) (state : State) (source : ReadAt) → AreInChunk stack device snapshot sector len → is_settled (taken_at state device) (sector / snapshot.chunk) ≡ true → AreReadAt stack state device snapshot sector len source
     → row (unit_in_store stack snapshot device state) sector len ≡ store_writes stack source.to source.sector len
-row_kept stack snapshot device sector len state source chunk settled at =
+row_in_store stack snapshot device sector len state source chunk settled at =
     row_same (unit_in_store stack snapshot device state) (λ s. write_to (home stack source.to s)) sector source.sector len
-    (λ i within. (kept stack snapshot device (sector + i) state source.to (source.sector + i)
+    (λ i within. (in_store stack snapshot device (sector + i) state source.to (source.sector + i)
     (subst (λ (c : ℕ). is_settled (taken_at state device) c ≡ true) (sym (same_chunk snapshot sector i chunk.whole.sound.chunk_some (omega (arith, chunk.part, within)))) settled) (at.lies i within)).written)
 
 pub row_lost : (stack : Description) (snapshot : FoundSnapshot) (device sector len : ℕ) (state : State) → (taken_at state device).valid ≡ false → row (unit_in_store stack snapshot device state) sector len ≡ units_in Fails len

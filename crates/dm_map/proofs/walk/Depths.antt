@@ -1,17 +1,15 @@
 -- What lies below a line is less deep than its device.
-use Rattle.std.proofs.Common.{◌≡◌, ℕ, zero, suc, ◌+◌, ◌-◌, ◌<◌, ◌≤◌, List, [], ◌∷◌, Option, Some, None, inl, inr, length, map, refl, sym, ap, subst, ◌∙◌, arith}
+use Rattle.std.proofs.Common.{◌≡◌, ℕ, zero, suc, ◌+◌, ◌-◌, ◌<◌, ◌≤◌, List, [], ◌∷◌, Option, Some, None, length, map, refl, sym, ap, subst, ◌∙◌, arith}
 use Rattle.std.specs.Prelude.{option_map, slice_get}
 use Rattle.std.specs.List.{AllByRecursion, range_with_len}
-use Rattle.std.proofs.lemmas.Bool.{cases_lt}
-use Rattle.std.proofs.lemmas.Option.{get_or_from_slice_get, slice_get-map, slice_get_past}
-use Rattle.dm_table.specs.declared.table.DeviceSpec.{DeviceSpec}
+use Rattle.std.proofs.lemmas.Option.{get_or_from_slice_get, slice_get-map}
 use Rattle.dm_table.specs.declared.table.Line.{Line}
 use Rattle.dm_stack.specs.declared.found_line.FoundLine.{FoundLine}
 use Rattle.dm_stack.specs.declared.found_line.FoundSnapshot.{FoundSnapshot}
 use Rattle.dm_stack.specs.declared.id.Lower.{Lower}
 use Rattle.dm_stack.specs.declared.id.Lower.TheVariants.{Device, Disk}
 use Rattle.dm_stack.specs.Below.{Below, Lies, below_target, found_at, found_line, holds, line_of}
-use Rattle.dm_stack.specs.Description.{Description, device_links, line_links, lines_at, lines_or_none, links}
+use Rattle.dm_stack.specs.Description.{Description, device_links, line_links, lines_at, links}
 use Rattle.dm_stack.specs.Graph.{depth_to, greatest, links_of}
 use Rattle.dm_stack.specs.Loaded.{lower_depth, stack_depth}
 use Rattle.dm_stack.specs.Soundness.{IsSound, depth_of}
@@ -20,6 +18,7 @@ use Rattle.dm_stack.proofs.DepthRule.{shallow_device}
 use Rattle.dm_stack.proofs.SoundLines.{found, lines_there, there}
 use Rattle.dm_map.specs.state.Snapshots.{read_over}
 use Rattle.dm_map.specs.state.State.{State, taken_at}
+use Rattle.dm_map.proofs.state.FoundLines.{line_there}
 use Rattle.dm_map.proofs.walk.LevelLemmas.{GoesOn, OnBelow, OnLower, on_lines, on_target, over_read}
 
 -- what one of some lines, found by a sector, has below it
@@ -38,13 +37,6 @@ device_lines stack P device within each =
     let named : links_of (links stack) device ≡ device_links stack d.it = get_or_from_slice_get (links stack) device (device_links stack d.it) [] is in
     subst (λ (ls : List Line). AllByRecursion (λ l. AllByRecursion P (line_links stack l)) ls) (sym (lines_there stack device d.it d.at)) (on_lines stack P d.it.lines (subst (AllByRecursion P) named each))
 
--- a device that has a line is there
-has_line : (stack : Description) (device sector : ℕ) (line : FoundLine) → found_at stack device sector ≡ Some line → device < length stack.devices
-has_line stack device sector line is = elim (cases_lt device (length stack.devices)) [
-  | inl there ↦ there
-  | inr past ↦ absurd (let none : found_at stack device sector ≡ None = ap (λ (spec : Option DeviceSpec). option_map (found_line stack) (line_of (lines_or_none spec) sector)) (slice_get_past stack.devices device past) in cc)
-]
-
 all_less : (depth : ℕ → ℕ) (most : ℕ) (ids : List ℕ) → greatest (map depth ids) < most → AllByRecursion (λ id. depth id < most) ids
 all_less depth most [] less = tt
 all_less depth most (id ∷ ids) less = (omega (arith, less), all_less depth most ids (omega (arith, less)))
@@ -61,7 +53,7 @@ at_below P b to sector on is = subst (λ (x : Below). OnBelow P x) is on
 pub below_less : (stack : Description) (state : State) (device sector distance : ℕ) (line : FoundLine) (to : Lower) (lower : ℕ) → IsSound stack → found_at stack device sector ≡ Some line
     → below_target (read_over (taken_at state device)) line.target distance ≡ Lies to lower → lower_depth stack to ≤ depth_of stack device - 1
 below_less stack state device sector distance line to lower sound is lies =
-    let within = has_line stack device sector line is in
+    let within = line_there stack device sector line is in
     let deeper = depth_to-deeper (links stack) 32 device (shallow_device stack device sound within) in
     let each = all_less (depth_of stack) (depth_of stack device) (links_of (links stack) device) (omega (arith, deeper)) in
     let P : ℕ → Type 0 = λ id. depth_of stack id < depth_of stack device in

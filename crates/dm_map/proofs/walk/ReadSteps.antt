@@ -82,8 +82,6 @@ read_step_target stack state device sector lower at line (founds.Linear to offse
 read_step_target stack state device sector lower at line (founds.Striped chunk_size columns) sound is t e =
     ByLine line is (subst (λ (x : FoundTarget). IsColumnStep x (sector - line.start) lower at) (sym t)
     (column_step (founds.Striped chunk_size columns) (sector - line.start) (slice_get columns (column_of chunk_size (length columns) (sector - line.start))) lower at refl e))
-read_step_target stack state device sector lower at line founds.Zero sound is t e = absurd cc
-read_step_target stack state device sector lower at line founds.Error sound is t e = absurd cc
 read_step_target stack state device sector lower at line (founds.Snapshot snapshot) sound is t e =
     let over = line_snapshot stack device sector line snapshot sound is t in
     let same : sector - line.start ≡ sector = omega (arith, over.0) in
@@ -92,6 +90,7 @@ read_step_target stack state device sector lower at line (founds.Snapshot snapsh
 read_step_target stack state device sector lower at line (founds.Origin origin) sound is t e =
     let over = line_origin stack device sector line origin sound is t in
     ByServe origin over.1 (sym (lower_is _ _ _ _ e)) (let there = sector_is _ _ _ _ e in omega (arith, there, over.0))
+read_step_target stack state device sector lower at line target sound is t e = absurd cc
 
 read_step_line : (stack : Description) (state : State) (device sector : ℕ) (lower : Lower) (at : ℕ) (line : Option FoundLine) → IsSound stack → found_at stack device sector ≡ line
     → below_line (read_over (taken_at state device)) line sector ≡ Lies lower at → ReadStep stack state device sector lower at
@@ -126,10 +125,7 @@ plain_target stack device sector lower at line (founds.Striped chunk_size column
   step = subst (λ (x : FoundTarget). IsColumnStep x (sector - line.start) lower at) (sym t)
       (column_step (founds.Striped chunk_size columns) (sector - line.start) (slice_get columns (column_of chunk_size (length columns) (sector - line.start))) lower at refl e);
 }
-plain_target stack device sector lower at line founds.Zero has is t e = absurd cc
-plain_target stack device sector lower at line founds.Error has is t e = absurd cc
-plain_target stack device sector lower at line (founds.Snapshot snapshot) has is t e = absurd cc
-plain_target stack device sector lower at line (founds.Origin origin) has is t e = absurd cc
+plain_target stack device sector lower at line target has is t e = absurd cc
 
 plain_line : (stack : Description) (device sector : ℕ) (lower : Lower) (at : ℕ) (line : Option FoundLine) → ((held : FoundLine) → found_at stack device sector ≡ Some held → has_columns held.target ≡ true) → found_at stack device sector ≡ line → below_line (λ snapshot sector. IsError) line sector ≡ Lies lower at → IsLineStep stack device sector lower at
 plain_line stack device sector lower at None has is e = absurd cc

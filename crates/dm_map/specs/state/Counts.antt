@@ -7,11 +7,15 @@ pub record Counts : Type 0 where
   pub searches : ℕ
   pub comparisons : ℕ
 
--- only searches were added, each with at most 17 comparisons: a device has at most 65,536 lines, a number of 17 binary digits
+-- a search makes at most this many: a device has at most 65,536 lines, a number of 17 binary digits
+abbrev pub most_comparisons : ℕ
+most_comparisons = 17
+
+-- only searches were added, and their comparisons
 pub record AreAdded (before after : Counts) : Type 0 where
   pub searches : before.searches ≤ after.searches
   pub comparisons : before.comparisons ≤ after.comparisons
-  pub few : after.comparisons ≤ before.comparisons + 17 * (after.searches - before.searches)
+  pub few : after.comparisons ≤ before.comparisons + most_comparisons * (after.searches - before.searches)
 
 abbrev pub counts_of : Looking → Counts
 counts_of looker = record { searches = looker.searches; comparisons = looker.comparisons }

@@ -19,9 +19,6 @@ use crate::walk::step::{part_in, sector_at};
 use crate::walk::stripe::position_at;
 use dm_stack::{DeviceId, DiskId, FoundLine, FoundTarget, Lower};
 
-#[cfg(test)]
-mod tests;
-
 /// What consecutive sectors are read from.
 #[derive(Clone, Copy, PartialEq, Eq, Drop)]
 pub(crate) enum Ground {

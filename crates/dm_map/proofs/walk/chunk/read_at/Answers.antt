@@ -1,6 +1,7 @@
 use Rattle.std.proofs.Common.{sym, ◌∙◌, arith}
-use Rattle.dm_map.proofs.walk.Chunks.{read_kept, read_origin, room_place}
-use Rattle.dm_map.proofs.walk.InStack.{lower_small}
+use Rattle.dm_map.proofs.walk.Chunks.{read_store, read_origin}
+use Rattle.dm_map.proofs.state.TableLemmas.{room_place}
+use Rattle.dm_map.proofs.state.InStack.{lower_small}
 use Rattle.dm_map.proofs.walk.chunk.read_at.Goals as goal
 
 pub store_sector-requires-clause-small : goal.store_sector-requires-clause-small
@@ -13,7 +14,7 @@ store_sector-requires-clause-small g c =
 pub returns-in-Some-clause-source : goal.returns-in-Some-clause-source
 returns-in-Some-clause-source g c =
     let w = c.args.walker.now in let snapshot = c.args.snapshot.now in
-    rw c.store_sector.ensures (read_kept w.stack w.state c.args.device c.args.sector c.args.len c.in-Some.number snapshot c.requires.chunk (sym c.is_valid.ensures.valid ∙ c.if-not-is_valid.false)
+    rw c.store_sector.ensures (read_store w.stack w.state c.args.device c.args.sector c.args.len c.in-Some.number snapshot c.requires.chunk (sym c.is_valid.ensures.valid ∙ c.if-not-is_valid.false)
     (sym c.find.ensures.number ∙ c.in-Some.is) c.in-Some.ensures.room)
 
 pub returns-in-None-clause-source : goal.returns-in-None-clause-source

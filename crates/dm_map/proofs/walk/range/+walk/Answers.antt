@@ -26,7 +26,7 @@ use Rattle.dm_map.specs.walk.Range.{below_step, disk_unit, zero_unit, refuses, o
 use Rattle.dm_map.specs.walk.Stripe.{IsStripePosition}
 use Rattle.dm_map.proofs.walk.Bounds.{FirstOfChunk, bound_more, chunk_bound, chunks_on, first_next, line_before, line_kept, linear_bound, lines_on, origin_bound, range_kept, stripe_bound, stripes_kept}
 use Rattle.dm_map.proofs.walk.Chunks.{chunk_read, in_one_chunk, in_snapshot, lost_read, write_line_step}
-use Rattle.dm_map.proofs.walk.InStack.{device_there, lower_small}
+use Rattle.dm_map.proofs.state.InStack.{device_there, lower_small}
 use Rattle.dm_map.proofs.walk.Ranges.{range_deepest, range_disk, range_refused, range_line, stripes_chunk, line_errors, line_linear, line_served, line_striped, line_zeros, origin_read}
 use Rattle.dm_map.proofs.walk.OriginParts.{line_overs, part_walked, serve_failed}
 use Rattle.dm_map.proofs.walk.Rows.{walked_as, walked_piece}

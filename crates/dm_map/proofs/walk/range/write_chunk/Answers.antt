@@ -9,10 +9,10 @@ use Rattle.dm_map.specs.walk.SnapshotWrites.{is_settled, take_chunk, row, store_
 use Rattle.dm_map.specs.state.State.{State, taken_at}
 use Rattle.dm_map.specs.walk.Steps.{keep, steps}
 use Rattle.dm_map.specs.pieces.Units.{BlockUnit, Fails, units_in}
-use Rattle.dm_map.proofs.walk.Chunks.{chunk_refused, chunk_same, chunk_written, first_inside, kept, left_taking, take_chunk_there, row_kept, row_lost}
+use Rattle.dm_map.proofs.walk.Chunks.{chunk_refused, chunk_same, chunk_written, first_inside, in_store, left_taking, take_chunk_there, row_in_store, row_lost}
 use Rattle.dm_map.proofs.walk.ChunkTaking.{chunk_outcome, take_chunk_settles}
 use Rattle.dm_map.proofs.walk.Rows.{walked_as, walked_cut, walked_piece, walked_then}
-use Rattle.dm_map.proofs.walk.InStack.{device_there}
+use Rattle.dm_map.proofs.state.InStack.{device_there}
 use Rattle.dm_map.proofs.walk.range.write_chunk.Goals as goal
 
 pub is_refused-requires : goal.is_refused-requires
@@ -60,7 +60,7 @@ write_store-requires g c =
     let first : a.sector ≡ a.sector + 0 = omega arith in
     let settled = settled_by_taking a.walker.now.stack a.snapshot.now a.device (a.sector / a.snapshot.now.chunk) a.walker.now.state after.state made.state c.read_at.ensures.there in
     let lies = subst (λ (s : ℕ). read_over (taken_at after.state a.device) a.snapshot.now s ≡ Lies source.to (source.sector + 0)) (sym first) (at.lies 0 (omega (arith, c.requires.some))) in
-    let store = (kept a.walker.now.stack a.snapshot.now a.device a.sector after.state source.to (source.sector + 0) settled lies).store in
+    let store = (in_store a.walker.now.stack a.snapshot.now a.device a.sector after.state source.to (source.sector + 0) settled lies).store in
     let keeps : IsStore a.walker.now.stack source.to = subst (λ (l : Lower). IsStore a.walker.now.stack l) (sym store) chunk.whole.sound.store in
     record {
       inside = at.inside;
@@ -76,7 +76,7 @@ returns-in-Some g c =
     let settled = settled_by_taking w.stack snapshot a.device number w.state after.state made.state c.read_at.ensures.there in
     let units : row (unit_in_store w.stack snapshot a.device after.state) a.sector a.len ≡ store_writes after.stack source.to source.sector a.len =
     ap (λ (s : Description). row (unit_in_store s snapshot a.device after.state) a.sector a.len) (sym made.stack)
-    ∙ row_kept after.stack snapshot a.device a.sector a.len after.state source (chunk_same w.stack after.stack a.device a.sector a.len snapshot made.stack c.requires.chunk) settled c.in-Some.ensures.source in
+    ∙ row_in_store after.stack snapshot a.device a.sector a.len after.state source (chunk_same w.stack after.stack a.device a.sector a.len snapshot made.stack c.requires.chunk) settled c.in-Some.ensures.source in
     walked_as g.S.Sink.took g.S.Sink.left g.S.Sink.stack g.S.Sink.room g.S.Sink.faults walk.result a.sink.now walk.new.sink w walk.new.walker _ _ a.len
     (chunk_written w.stack snapshot a.device a.sector a.len w.state c.requires.chunk c.requires.some (take_chunk_there w.stack snapshot a.device number w.state there) (sym c.is_refused.ensures ∙ c.if-is_refused.false))
     (walked_then g.S.Sink.took g.S.Sink.left g.S.Sink.stack g.S.Sink.room g.S.Sink.faults walk.result a.sink.now c.take_chunk.new.sink walk.new.sink w after walk.new.walker (take_chunk w.stack snapshot a.device number w.state)

@@ -21,7 +21,7 @@ use Rattle.dm_map.proofs.walk.Ranges.{range_deepest, range_disk, range_line, lin
 use Rattle.dm_map.proofs.walk.Chunks.{chunk_read, in_one_chunk, in_snapshot, lost_read}
 use Rattle.dm_map.proofs.walk.Stripes.{column_inside, in_stripes, position_small}
 use Rattle.dm_map.proofs.walk.Rows.{added_then, none_added}
-use Rattle.dm_map.proofs.walk.InStack.{device_there, disk_there}
+use Rattle.dm_map.proofs.state.InStack.{device_there, disk_there}
 use Rattle.dm_map.proofs.walk.stretch.+stretch.Goals as goal
 
 -- A first stretch that is known without a look-up, and one that goes on from a stretch below

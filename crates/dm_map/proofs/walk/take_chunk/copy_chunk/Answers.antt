@@ -16,7 +16,7 @@ use Rattle.dm_map.specs.state.Walker.{StackState, WalkerView, stack_state}
 use Rattle.dm_map.specs.walk.Range.{range_step}
 use Rattle.dm_map.proofs.walk.ChunkCopies.{copy_part}
 use Rattle.dm_map.proofs.walk.Rows.{added_then, none_added, walked_cut}
-use Rattle.dm_map.proofs.walk.InStack.{lower_small}
+use Rattle.dm_map.proofs.state.InStack.{lower_small}
 use Rattle.dm_map.proofs.walk.UnitRows.{left_row, took_row}
 use Rattle.dm_map.proofs.walk.take_chunk.copy_chunk.Goals as goal
 

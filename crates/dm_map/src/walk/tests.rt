@@ -6,15 +6,16 @@
 ghost use Rattle.std.specs.Prelude.{◌≡◌, ◌+◌, ◌≤◌};
 ghost use Rattle.dm_stack.specs.Description.{lower_len};
 
-use super::*;
 use crate::fixtures::stack_of;
 use crate::mapper::Mapper;
 use crate::pieces::piece::Piece;
 use crate::pieces::piece_list::PieceList;
 use crate::state::plain_taken::PlainTaken;
 use crate::state::tables::empty_tables;
+use crate::state::walker::Walker;
 use crate::walk::range::map_range;
-use dm_stack::{MOST_DEPTH, Stack};
+use crate::walk::stretch::{Ground, Stretch, first_stretch};
+use dm_stack::{Lower, MOST_DEPTH, Stack};
 use dm_table::{Op, parse_request};
 use std::alloc::Global;
 use std::process::Abort;
