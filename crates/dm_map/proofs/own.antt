@@ -1,3 +1,5 @@
+-- Lemmas of what disks hold: where no claims meet, each top device has what it would have alone, or
+-- errors.
 pub mod ChunkOutcomes
 pub mod HomeLemmas
 pub mod Losses

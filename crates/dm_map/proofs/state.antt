@@ -1,3 +1,5 @@
+-- Lemmas of states: numbers and runs of taken chunks, tables, and what a sound stack says of the
+-- devices that have them.
 pub mod BlockLemmas
 pub mod FoundLines
 pub mod GrowLemmas

@@ -1,3 +1,5 @@
+-- Lemmas of the way down: steps of sectors, lines, chunks and ranges, what a sink took of them, how
+-- often lines were searched, and that the number of levels plays no part.
 pub mod Bounds
 pub mod ChunkCopies
 pub mod ChunkTaking

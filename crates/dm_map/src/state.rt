@@ -1,5 +1,5 @@
-//! What requests leave for later ones: the chunks that each snapshot took, how they are kept, and
-//! what they say of its store.
+//! What requests leave for later ones: the chunks that each snapshot took, how these are kept, and
+//! how much of its store they use.
 
 pub(crate) mod plain_taken;
 pub(crate) mod run_taken;

@@ -1,5 +1,5 @@
-//! The way down a stack: what the requests of a sector, a line and a range do, and the code that
-//! does it.
+//! The way down a stack: what a read or a write of sectors does, from device to device, and the code
+//! that does it.
 
 pub(crate) mod chunk;
 pub(crate) mod levels;

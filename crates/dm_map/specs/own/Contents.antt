@@ -10,7 +10,7 @@ use Rattle.dm_map.specs.pieces.Units.{BlockUnit, ReadOf, WriteOf, Zeros, Drops, 
 abbrev pub Values : Type 0 → Type 0
 Values V = ℕ → ℕ → V
 
--- they, after one sector of a disk was given a value
+-- the values after one sector of a disk was given another
 abbrev pub stored : {V : Type 0} → Values V → (to to_sector : ℕ) → V → Values V
 stored values to to_sector value disk sector = if disk == to && sector == to_sector then value else values disk sector
 
@@ -31,7 +31,7 @@ played_unit zeros written unit values = values
 abbrev pub sector_after : BlockUnit → (sector : ℕ) → ℕ
 sector_after unit sector = if answers unit then suc sector else sector
 
--- what units make of the values, one after the other, from the one for a sector of a request on: its write of each sector has a value
+-- what units make of the values, one after the other. The first is for this sector of a request, and written gives what each sector is written with
 unfoldable pub played : {V : Type 0} → (zeros : V) → (written : ℕ → V) → (sector : ℕ) → List BlockUnit → Values V → Values V
 played zeros written sector [] values = values
 played zeros written sector (unit ∷ units) values = played zeros written (sector_after unit sector) units (played_unit zeros (written sector) unit values)

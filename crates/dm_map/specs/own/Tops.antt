@@ -18,7 +18,7 @@ use Rattle.dm_map.specs.pieces.Units.{BlockUnit, ReadOf, WriteOf}
 abbrev pub write : Description → State → Lower → (sector : ℕ) → Step
 write stack state lower sector = write_step stack MOST_DEPTH lower state sector
 
--- what it does to what top devices have, for values of any type: one is that of zeros, and written gives what a sector is written with
+-- what it does to what top devices have, for values of any type: zeros is the value of a sector of zeros, and written gives what each sector is written with
 pub record IsOwnWrite {V : Type 0} (zeros : V) (written : ℕ → V) (stack : Description) (state : State) (top sector : ℕ) (step : Step) : Type 0 where
   -- its units copy or fill, and the last one answers
   pub front : List BlockUnit

@@ -63,12 +63,12 @@ diskless_len (pieces.Error len) = len
 diskless_len (pieces.Copy disk start len to to_start) = 0
 diskless_len (pieces.Fill len disk start) = 0
 
--- len sectors of a disk of the stack, from a start on, are there
+-- the disk is one of the stack, and has len sectors from start on
 pub record IsOnDisk (stack : Description) (disk start len : ℕ) : Type 0 where
   pub there : disk < length stack.disks
   pub inside : start + len ≤ disk_len stack disk
 
--- the sectors of a piece are there, on each disk that it has
+-- each disk of a piece is one of the stack, and has its sectors
 abbrev pub IsOnDisks : Description → Piece → Type 0
 IsOnDisks stack (pieces.Read disk start len) = IsOnDisk stack disk start len
 IsOnDisks stack (pieces.Write disk start len) = IsOnDisk stack disk start len

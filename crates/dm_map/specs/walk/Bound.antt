@@ -19,12 +19,12 @@ IsBounded before after op levels paths sector len = op ≡ Read → IsSound befo
 abbrev pub line_paths : Description → State → (levels device : ℕ) → FoundLine → ℕ → List PathStep
 line_paths stack state levels device line distance = line_path state device line distance (λ to lower. path stack state levels to lower)
 
--- the device of a line is no level that is searched below it
+-- the same below a line, where its device is no level any more
 abbrev pub IsLineBounded : (before after : WalkerView) → Op → (levels device : ℕ) → FoundLine → (distance len : ℕ) → Type 0
 IsLineBounded before after op levels device line distance len =
     IsBounded before after op (depth_of before.stack device - 1) (line_paths before.stack before.state levels device line) distance len
 
--- so for each line of a device that has this target
+-- and that for each line of a device that has this target
 abbrev pub IsTargetBounded : (before after : WalkerView) → Op → (levels device : ℕ) → FoundTarget → (distance len : ℕ) → Type 0
 IsTargetBounded before after op levels device target distance len =
     (line : FoundLine) → found_at before.stack device line.start ≡ Some line → line.target ≡ target → IsLineBounded before after op levels device line distance len

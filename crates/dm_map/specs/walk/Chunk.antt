@@ -8,18 +8,18 @@ use Rattle.dm_map.specs.state.Snapshots.{read_over}
 use Rattle.dm_map.specs.state.State.{State, taken_at}
 use Rattle.dm_map.specs.state.Tables.{snapshot_at}
 
--- len sectors from a sector on are of a snapshot
+-- a device is this snapshot, and has len sectors from this one on
 pub record AreInSnapshot (stack : Description) (device : ℕ) (snapshot : FoundSnapshot) (sector len : ℕ) : Type 0 where
   pub is : snapshot_at stack device ≡ Some snapshot
   pub sound : IsSnapshotSound stack device 0 (device_len stack device) snapshot
   pub inside : sector + len ≤ device_len stack device
 
--- and of one chunk of it
+-- and they are all in one chunk
 pub record AreInChunk (stack : Description) (device : ℕ) (snapshot : FoundSnapshot) (sector len : ℕ) : Type 0 where
   pub whole : AreInSnapshot stack device snapshot sector len
   pub part : sector % snapshot.chunk + len ≤ snapshot.chunk
 
--- where len sectors of one chunk are read: in a row on a device or a disk, which has them
+-- len sectors of one chunk are read one after the other from this sector of a device or a disk on, which has them
 pub record AreReadAt (stack : Description) (state : State) (device : ℕ) (snapshot : FoundSnapshot) (sector len : ℕ) (source : ReadAt) : Type 0 where
   pub lies : (i : ℕ) → i < len → read_over (taken_at state device) snapshot (sector + i) ≡ Lies source.to (source.sector + i)
   pub inside : source.sector + len ≤ lower_len stack source.to

@@ -25,7 +25,7 @@ home_to stack zero (Device device) sector = nowhere
 home_to stack (suc levels) (Device device) sector =
     by_below (below (λ snapshot sector. IsError) stack device sector) nowhere nowhere (λ to lower. home_to stack levels to lower)
 
--- no stack has more levels
+-- the home of a sector of a device or a disk; no stack has more levels
 abbrev pub home : Description → Lower → ℕ → Home
 home stack lower sector = home_to stack MOST_DEPTH lower sector
 
@@ -33,7 +33,7 @@ home stack lower sector = home_to stack MOST_DEPTH lower sector
 pub record AreHomesFreeOfLevels (stack : Description) : Type 0 where
   pub same : (device levels sector : ℕ) → device < length stack.devices → depth_of stack device ≤ levels → home_to stack levels (Device device) sector ≡ home stack (Device device) sector
 
--- the homes of len sectors go on from one
+-- len sectors lie one after the other on a disk, from start on
 abbrev pub GoOn : (homes : ℕ → Home) → (sector disk start len : ℕ) → Type 0
 GoOn homes sector disk start len = (i : ℕ) → i < len → homes (sector + i) ≡ record { disk = disk; sector = start + i }
 

@@ -44,7 +44,7 @@ target_step stack ops.Write levels device target state distance = write_target s
 abbrev pub line_step : Description → Op → ℕ → (device : ℕ) → FoundTarget → State → (distance len : ℕ) → Step
 line_step stack op levels device target state distance len = steps (target_step stack op levels device target) state distance len
 
--- the step of a sector that is one of the device or disk that lies below it
+-- the step of a sector by what lies below it: it is that of the lower sector
 abbrev pub below_step : Description → Op → ℕ → Below → State → Step
 below_step stack op levels b state = by_below b (keep (zero_unit op ∷ []) state) (keep (Fails ∷ []) state) (λ to sector. sector_step stack op levels to state sector)
 
@@ -53,7 +53,7 @@ abbrev pub stripes_step : Description → Op → ℕ → (chunk_size : ℕ) → 
 stripes_step stack op levels chunk_size columns state distance len =
     steps (λ after at. below_step stack op levels (below_stripes chunk_size columns at) after) state distance len
 
--- the step of a sector of the line of an origin's device, through at most this many levels of devices below it, and of len of them
+-- the step of a sector of an origin's device, through at most this many levels of devices below it, and that of len sectors
 abbrev pub served_sector : Description → Op → ℕ → FoundOrigin → State → (sector : ℕ) → Step
 served_sector stack ops.Read levels origin state sector = sector_step stack ops.Read levels origin.to state sector
 served_sector stack ops.Write levels origin state sector = served_step stack origin.over (sector_step stack ops.Write levels origin.to) state sector
@@ -90,7 +90,7 @@ pub record IsHanded {S F : Type 0} (takes leaves : S → List BlockUnit → S �
   pub stack : OnOk result (stack_of new ≡ stack_of old)
   pub room : OnOk result (room_of old ≤ room_of new + len)
 
--- len sectors from a sector on are of what an origin's line names, which has the snapshots of that
+-- what an origin's line names has len sectors from this one on, and the line lists the snapshots of it
 pub record AreInOrigin (stack : Description) (origin : FoundOrigin) (sector len : ℕ) : Type 0 where
   pub over : origin.over ≡ snapshots_over stack origin.to
   pub inside : sector + len ≤ lower_len stack origin.to

@@ -46,7 +46,7 @@ reads_all stack state lower sector len = not (any_error (row (read stack state l
 
 -- The copies of a chunk
 
--- what is read of the origin, put to its home: where it reads zeros, they are filled in; other units are not read
+-- the copy of a sector to a home, by what it reads: zeros are filled in, and no other unit is read
 abbrev pub copy_to : BlockUnit → Home → BlockUnit
 copy_to (ReadOf disk sector) to = CopyOf disk sector to.disk to.sector
 copy_to unit to = FillOf to.disk to.sector

@@ -9,19 +9,19 @@ use Rattle.dm_map.specs.walk.Steps.{Step, keep}
 use Rattle.dm_map.specs.pieces.Units.{BlockUnit, ReadOf, Zeros, Fails, IsOnDisk, units_in}
 use Rattle.dm_map.specs.state.Walker.{WalkerView, stack_state}
 
--- the read of the first sector
+-- what the first sector of a stretch reads
 abbrev pub ground_unit : Ground → BlockUnit
 ground_unit (grounds.Disk disk start) = ReadOf disk start
 ground_unit grounds.Zeros = Zeros
 ground_unit grounds.Fails = Fails
 
--- len sectors are there, if they lie on a disk
+-- where it is a disk, that is one of the stack, and has len sectors from there on
 abbrev pub IsGroundInStack : Description → Ground → (len : ℕ) → Type 0
 IsGroundInStack stack (grounds.Disk disk start) len = IsOnDisk stack disk start len
 IsGroundInStack stack grounds.Zeros len = Unit {0}
 IsGroundInStack stack grounds.Fails len = Unit {0}
 
--- the first sectors of a range of len are read from its ground, which is there; reads gives the step of the first ones
+-- a stretch is a beginning of a range of len sectors, all read from its ground, and finding it changed nothing but the counts; reads gives the step of so many first sectors of the range
 pub record IsFirst (before after : WalkerView) (reads : ℕ → Step) (len : ℕ) (stretch : Stretch) : Type 0 where
   pub some : 1 ≤ stretch.len
   pub most : stretch.len ≤ len

@@ -1,4 +1,4 @@
--- Positions in stripes.
+-- Where the sectors of a striped line lie in its columns.
 use Rattle.std.specs.Prelude.{ℕ, ◌≡◌, ◌+◌, ◌*◌, ◌/◌, ◌%◌, ◌^◌, ◌≤◌, List}
 use Rattle.dm_stack.specs.declared.found_line.FoundColumn.{FoundColumn}
 use Rattle.dm_stack.specs.Description.{Description}
@@ -11,7 +11,7 @@ pub record IsStripePosition (chunk_size count distance : ℕ) (position : Stripe
   pub chunk_start : position.chunk_start ≡ distance / chunk_size / count * chunk_size
   pub past : position.past ≡ distance % chunk_size
 
--- len sectors from a distance on are of a striped line
+-- a striped line has len sectors from this distance from its start on
 pub record AreInStripes (stack : Description) (chunk_size : ℕ) (columns : List FoundColumn) (distance len : ℕ) : Type 0 where
   pub line_len : ℕ
   pub stripes : AreStripes stack line_len chunk_size columns
