@@ -17,6 +17,7 @@ use Rattle.dm_map.specs.state.State.{lost, put, with_chunk, State, Taken, taken_
 use Rattle.dm_map.specs.walk.Steps.{Step, keep}
 use Rattle.dm_map.specs.state.Tables.{snapshot_at}
 use Rattle.dm_map.specs.pieces.Units.{BlockUnit, ReadOf, Zeros, Fails}
+use Rattle.dm_map.proofs.state.FoundLines.{some_is}
 use Rattle.dm_map.proofs.own.Plays.{IsReadable, Reads, AreZeros}
 use Rattle.dm_map.proofs.walk.ChunkTaking.{none_of, taken_other, taken_same}
 use Rattle.dm_map.proofs.own.Takes.{IsTake, chunk_copies, new_number, taken_state}
@@ -93,9 +94,6 @@ length_push xs x i below = elim (cases_lt i (length xs)) [
   | inr more ↦ inr (let e : length (xs ++ x ∷ []) ≡ length xs + 1 = length-append xs (x ∷ []) in omega (arith, below, more, e))
 ]
 
-snapshot_is : (a b : FoundSnapshot) → Some a ≡ Some b → a ≡ b
-snapshot_is a b e = cc
-
 fits_put : (stack : Description) (state : State) (device : ℕ) (taken : Taken) → IsFitting stack state → device < length state
     → ((number : ℕ) (snapshot : FoundSnapshot) → snapshot_at stack device ≡ Some snapshot → number < length taken.chunks → has_place stack snapshot number ≡ true) → IsFitting stack (put state device taken)
 fits_put stack state device taken fitting there each = record {
@@ -115,7 +113,7 @@ full_outcome_fits stack state device chunk snapshot step fitting there (Taking t
     elim (length_push (taken_at state device).chunks chunk number below) [
       | inl old ↦ fitting.places device number other over old
       | inr new ↦
-          let same = snapshot_is snapshot other (sym take.over ∙ over) in
+          let same = some_is snapshot other (sym take.over ∙ over) in
           let room : has_place stack snapshot (new_number state device) ≡ true = le-leb _ _ take.place_there in
           subst (λ (n : ℕ). has_place stack other n ≡ true) (sym new) (subst (λ (s : FoundSnapshot). has_place stack s (new_number state device) ≡ true) same room)
     ]))

@@ -27,7 +27,7 @@ use Rattle.dm_table.specs.Span.{Span, column_span, target_spans, whole_span}
 use Rattle.dm_stack.proofs.Apart.{IsNamed, IsVia}
 use Rattle.dm_stack.proofs.Parts.{found_place}
 use Rattle.dm_map.specs.state.Tables.{origin_at, snapshot_at}
-use Rattle.dm_map.proofs.state.FoundLines.{first_line, first_origin, line_sound, origin_sound, snapshot_sound}
+use Rattle.dm_map.proofs.state.FoundLines.{first_line, first_origin, line_sound, origin_sound, snapshot_sound, some_is}
 use Rattle.dm_map.proofs.walk.ReadSteps.{IsColumnStep, column_at, columns_of, within_at}
 use Rattle.dm_map.proofs.walk.Stripes.{at_index, in_column_room}
 
@@ -54,19 +54,13 @@ raw_column : (stack : Description) (o : Option Column) (column : FoundColumn) �
     → (raw : Column) × (o ≡ Some raw) × (lower_of stack raw.to ≡ column.to) × (raw.offset ≡ column.offset)
 raw_column stack None column is = absurd cc
 raw_column stack (Some raw) column is = (raw, refl, ap (λ (c : FoundColumn). c.to) (some_is _ column is), ap (λ (c : FoundColumn). c.offset) (some_is _ column is))
-  where
-    some_is : (a b : FoundColumn) → Some a ≡ Some b → a ≡ b
-    some_is a b e = cc
 
 no_columns : (column : FoundColumn) → None ≡ Some column → ⊥
 no_columns column e = cc
 
-column_is : (a b : FoundColumn) → Some a ≡ Some b → a ≡ b
-column_is a b e = cc
-
 column_span_at : (stack : Description) (len : ℕ) (target : Target) (i : ℕ) (column : FoundColumn) → slice_get (columns_of (found_target stack target)) i ≡ Some column → IsColumnSpan stack len target i column
 column_span_at stack len (targets.Linear to offset) zero column is =
-    let same = column_is _ column is in
+    let same = some_is _ column is in
     record { span = record { to = to; offset = offset; len = Some len; kind = Own }; at = refl; to = ap (λ (c : FoundColumn). c.to) same; offset = ap (λ (c : FoundColumn). c.offset) same; share = refl; own = refl }
 column_span_at stack len (targets.Linear to offset) (suc i) column is = absurd cc
 column_span_at stack len (targets.Striped chunk_size columns) i column is =
@@ -106,9 +100,6 @@ pub record IsLineVia (stack : Description) (device sector : ℕ) (line : FoundLi
 raw_line : (stack : Description) (o : Option Line) (line : FoundLine) → option_map (found_line stack) o ≡ Some line → (it : Line) × (o ≡ Some it) × (found_line stack it ≡ line)
 raw_line stack None line is = absurd cc
 raw_line stack (Some it) line is = (it, refl, some_is (found_line stack it) line is)
-  where
-    some_is : (a b : FoundLine) → Some a ≡ Some b → a ≡ b
-    some_is a b e = cc
 
 end_some : (stack : Description) (whole offset share : ℕ) (len : Option ℕ) → len ≡ Some share → span_end whole offset len ≡ offset + share
 end_some stack whole offset share len is = ap (span_end whole offset) is
@@ -241,7 +232,7 @@ via_origin stack device origin sound at =
 -- a step by a column of a sound line goes to a sector that is there
 pub column_inside : (stack : Description) (device start len : ℕ) (target : FoundTarget) (distance : ℕ) (lower : Lower) (at : ℕ) → IsTargetSound stack device start len target → IsColumnStep target distance lower at → distance < len → at < lower_len stack lower
 column_inside stack device start len (founds.Linear to offset) distance lower at sound step inside =
-    let column = column_is (record { to = to; offset = offset }) step.column step.is in
+    let column = some_is (record { to = to; offset = offset }) step.column step.is in
     let same : to ≡ lower = ap (λ (c : FoundColumn). c.to) column ∙ step.to in
     let offsets : offset ≡ step.column.offset = ap (λ (c : FoundColumn). c.offset) column in
     let at_is = step.sector in

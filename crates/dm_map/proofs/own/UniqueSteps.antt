@@ -27,7 +27,7 @@ use Rattle.dm_map.specs.walk.SnapshotWrites.{is_settled}
 use Rattle.dm_map.specs.state.Snapshots.{store_sector, number_in, read_over}
 use Rattle.dm_map.specs.state.State.{State, Taken, taken_at}
 use Rattle.dm_map.specs.state.Tables.{origin_at, snapshot_at}
-use Rattle.dm_map.proofs.state.FoundLines.{line_sound, origin_sound, snapshot_sound}
+use Rattle.dm_map.proofs.state.FoundLines.{line_sound, origin_sound, snapshot_sound, some_is}
 use Rattle.dm_map.proofs.walk.ReadSteps.{ReadStep, ByLine, ByStore, ByRead, ByServe, IsColumnStep, column_at, columns_of, within_at}
 use Rattle.dm_map.proofs.state.Numbers.{store_sector_inside, stripe_back}
 use Rattle.dm_map.proofs.walk.Overs.{settled_over}
@@ -48,13 +48,10 @@ distance_one stack device start len (founds.Striped chunk_size columns) d e colu
     ∙ stripe_back chunk_size n e stripes.chunk_some
 distance_one stack device start len target d e column sound is columns within = absurd cc
 
-column_is : (a b : FoundColumn) → Some a ≡ Some b → a ≡ b
-column_is a b e = cc
-
 -- one column and one sector below are one distance
 step_one : (stack : Description) (device start len : ℕ) (target : FoundTarget) (d e : ℕ) (lower : Lower) (at : ℕ) → IsTargetSound stack device start len target → IsColumnStep target d lower at → IsColumnStep target e lower at → column_at target d ≡ column_at target e → d ≡ e
 step_one stack device start len target d e lower at sound a b same =
-    let columns = column_is a.column b.column (sym a.is ∙ ap (slice_get (columns_of target)) same ∙ b.is) in
+    let columns = some_is a.column b.column (sym a.is ∙ ap (slice_get (columns_of target)) same ∙ b.is) in
     let offsets : a.column.offset ≡ b.column.offset = ap (λ (c : FoundColumn). c.offset) columns in
     let on_a = a.sector in let on_b = b.sector in
     distance_one stack device start len target d e a.column sound a.is same (omega (arith, offsets, on_a, on_b))

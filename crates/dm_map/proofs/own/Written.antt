@@ -30,7 +30,7 @@ use Rattle.dm_map.specs.state.Tables.{origin_at, snapshot_at}
 use Rattle.dm_map.specs.pieces.Units.{BlockUnit, ReadOf, WriteOf, Zeros, Drops, Fails}
 use Rattle.dm_map.specs.own.Ways.{Node, node, Touches}
 use Rattle.dm_map.proofs.own.UniqueSteps.{IsRoot, IsUnserved, only_by_origin, only_by_store, fits, goes_on_inside}
-use Rattle.dm_map.proofs.state.FoundLines.{line_origin, line_snapshot, line_sound, origin_sound, snapshot_sound}
+use Rattle.dm_map.proofs.state.FoundLines.{line_origin, line_snapshot, line_sound, origin_sound, snapshot_sound, some_is}
 use Rattle.dm_map.proofs.own.HomeLemmas.{home_node, home_touched, node_is, touch_up}
 use Rattle.dm_map.proofs.walk.ReadSteps.{has_columns, read_step, line_step}
 use Rattle.dm_map.proofs.own.ChunkOutcomes.{full_outcome, full_outcome_fits}
@@ -240,9 +240,6 @@ origin_written stack state device sector line origin step sound fitting tidy ser
 
 held_is : (stack : Description) (device sector : ℕ) (line held : FoundLine) (target : FoundTarget) → found_at stack device sector ≡ Some line → line.target ≡ target → has_columns target ≡ true → found_at stack device sector ≡ Some held → has_columns held.target ≡ true
 held_is stack device sector line held target is t has held_at = subst (λ (l : FoundLine). has_columns l.target ≡ true) (some_is line held (sym is ∙ held_at)) (rw t has)
-  where
-    some_is : (a b : FoundLine) → Some a ≡ Some b → a ≡ b
-    some_is a b e = cc
 
 stripes_written : (stack : Description) (state : State) (device sector : ℕ) (line : FoundLine) (chunk_size : ℕ) (columns : List FoundColumn) (b : Below) (step : Step) → IsSound stack → IsFitting stack state → IsTidy stack → found_at stack device sector ≡ Some line → line.target ≡ founds.Striped chunk_size columns
     → below_stripes chunk_size columns (sector - line.start) ≡ b → ((to : Lower) → lower_depth stack to < lower_depth stack (Device device) → Writes stack to)

@@ -17,6 +17,10 @@ use Rattle.dm_stack.proofs.SameLine.{same_found}
 use Rattle.dm_stack.proofs.SoundLines.{device_sound, lines_there, sector_found, there}
 use Rattle.dm_map.specs.state.Tables.{origin_at, origin_of, origin_of_line, snapshot_at, snapshot_of_line, snapshot_of}
 
+-- what an option has is one value
+pub some_is : {X : Type 0} (a b : X) → Some a ≡ Some b → a ≡ b
+some_is a b e = cc
+
 -- A sector that has a line is before its device's end
 
 end_after : (end : ℕ) (line : Line) (lines : List Line) → AreInRow end (line ∷ lines) → end + line.len ≤ end_of (line ∷ lines)
@@ -68,9 +72,6 @@ line_sound stack device sector line sound is =
     let f = sector_found stack device sector sound within inside in
     let same : f.line ≡ line = some_is f.line line (sym f.is ∙ is) in
     record { there = within; inside = inside; soundly = subst (λ (l : FoundLine). HoldsSoundly stack device l sector) same f.soundly }
-  where
-    some_is : (a b : FoundLine) → Some a ≡ Some b → a ≡ b
-    some_is a b e = cc
 
 -- A snapshot is all of its device
 
@@ -92,9 +93,6 @@ line_snapshot stack device sector line snapshot sound is target =
 
 target_snapshot : (line : FoundLine) (target : FoundTarget) (snapshot : FoundSnapshot) → line.target ≡ target → snapshot_of target ≡ Some snapshot → line.target ≡ founds.Snapshot snapshot
 target_snapshot line (founds.Snapshot other) snapshot is e = is ∙ ap founds.Snapshot (some_is other snapshot e)
-  where
-    some_is : (a b : FoundSnapshot) → Some a ≡ Some b → a ≡ b
-    some_is a b same = cc
 target_snapshot line target snapshot is e = absurd cc
 
 pub first_line : (stack : Description) (device : ℕ) (snapshot : FoundSnapshot) (found : Option FoundLine) → found_at stack device 0 ≡ found → snapshot_of_line found ≡ Some snapshot → (line : FoundLine) × (found_at stack device 0 ≡ Some line) × (line.target ≡ founds.Snapshot snapshot)
@@ -113,12 +111,9 @@ snapshot_sound stack device snapshot sound at =
       soundly = record { chunk_some = over.chunk_some; chunk_small = over.chunk_small; from = refl; whole = refl; origin = over.origin ∙ whole; store = over.store };
       each = λ sector line is.
           let inside = (line_sound stack device sector line sound is).inside in
-          let same = line_is line first.0 (sym is ∙ same_found stack device 0 sector first.0 sound of.there first.1 (omega (arith, from)) (omega (arith, from, whole, inside))) in
+          let same = some_is line first.0 (sym is ∙ same_found stack device 0 sector first.0 sound of.there first.1 (omega (arith, from)) (omega (arith, from, whole, inside))) in
           (ap (λ (l : FoundLine). l.start) same ∙ from, ap (λ (l : FoundLine). l.target) same ∙ first.2);
     }
-  where
-    line_is : (a b : FoundLine) → Some a ≡ Some b → a ≡ b
-    line_is a b e = cc
 
 -- An origin's line is all of its device
 
@@ -138,9 +133,6 @@ line_origin stack device sector line origin sound is target =
 
 target_origin : (line : FoundLine) (target : FoundTarget) (origin : FoundOrigin) → line.target ≡ target → origin_of target ≡ Some origin → line.target ≡ founds.Origin origin
 target_origin line (founds.Origin other) origin is e = is ∙ ap founds.Origin (some_is other origin e)
-  where
-    some_is : (a b : FoundOrigin) → Some a ≡ Some b → a ≡ b
-    some_is a b same = cc
 target_origin line target origin is e = absurd cc
 
 pub first_origin : (stack : Description) (device : ℕ) (origin : FoundOrigin) (found : Option FoundLine) → found_at stack device 0 ≡ found → origin_of_line found ≡ Some origin → (line : FoundLine) × (found_at stack device 0 ≡ Some line) × (line.target ≡ founds.Origin origin)
