@@ -1,8 +1,9 @@
 -- Where the sectors of a striped line lie in its columns.
-use Rattle.std.specs.Prelude.{ℕ, ◌≡◌, ◌+◌, ◌*◌, ◌/◌, ◌%◌, ◌^◌, ◌≤◌, List}
+use Rattle.std.specs.Prelude.{ℕ, ◌≡◌, ◌+◌, ◌*◌, ◌/◌, ◌%◌, ◌≤◌, List}
 use Rattle.dm_stack.specs.declared.found_line.FoundColumn.{FoundColumn}
 use Rattle.dm_stack.specs.Description.{Description}
 use Rattle.dm_stack.specs.Below.{column_of, AreStripes}
+use Rattle.dm_stack.specs.declared.limits.TheConstants.{MOST_LENGTH}
 use Rattle.dm_map.specs.declared.walk.stripe.StripePosition.{StripePosition}
 
 -- the position in stripes of a sector at a distance from the line's start
@@ -16,4 +17,4 @@ pub record AreInStripes (stack : Description) (chunk_size : ℕ) (columns : List
   pub line_len : ℕ
   pub stripes : AreStripes stack line_len chunk_size columns
   pub inside : distance + len ≤ line_len
-  pub small : line_len ≤ 2 ^ 50
+  pub small : line_len ≤ MOST_LENGTH

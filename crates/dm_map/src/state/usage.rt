@@ -1,8 +1,9 @@
 //! Usage: how much of a snapshot's store is used.
 
-ghost use Rattle.std.specs.Prelude.{◌≡◌, ◌+◌, ◌*◌, ◌<◌, ◌≤◌, ◌^◌, IfSome};
+ghost use Rattle.std.specs.Prelude.{◌≡◌, ◌+◌, ◌<◌, ◌≤◌, ◌^◌, IfSome};
 ghost use Rattle.dm_stack.specs.Loaded.{IsSnapshot};
 ghost use Rattle.dm_stack.specs.StoreLayout.{allocated, metadata};
+ghost use Rattle.dm_stack.specs.declared.limits.TheConstants.{MOST_SNAPSHOT_CHUNK};
 ghost use Rattle.dm_map.specs.state.Counts.{AreAdded};
 ghost use Rattle.dm_map.specs.state.State.{taken_at};
 ghost use Rattle.dm_map.specs.state.Tables.{snapshot_at};
@@ -61,7 +62,7 @@ pub(crate) fn usage_of<T: Taken>(walker: &mut Walker<'_, T>, device: DeviceId) -
 /// The usage of a store of a kind and a length that has this many taken chunks, of this size.
 fn usage_with(kind: StoreKind, chunk_size: u64, taken: usize, total: u64, valid: bool) -> Usage
     requires some { 0 < chunk_size }
-    requires small { chunk_size ≤ 1024 }
+    requires small { chunk_size ≤ MOST_SNAPSHOT_CHUNK }
     requires fits { allocated kind chunk_size taken < 2 ^ 63 }
     ensures { result ≡ record {
       allocated = allocated kind chunk_size taken;

@@ -4,10 +4,11 @@
 //! that earlier requests left. The state is a table of taken chunks for each device, by its id; the
 //! table of a device that is no snapshot has no place and stays empty.
 
-ghost use Rattle.std.specs.Prelude.{◌≡◌, ℕ, ◌+◌, ◌<◌, ◌≤◌, ◌^◌, true, not, None, Some, IfSome, length};
+ghost use Rattle.std.specs.Prelude.{◌≡◌, ℕ, ◌+◌, ◌<◌, ◌≤◌, true, not, None, Some, IfSome, length};
 ghost use Rattle.dm_stack.specs.Below.{HoldsSoundly, found_at};
 ghost use Rattle.dm_stack.specs.Description.{device_len, is_ro_at, lower_len};
 ghost use Rattle.dm_stack.specs.Soundness.{IsSound};
+ghost use Rattle.dm_stack.specs.declared.limits.TheConstants.{MOST_LENGTH};
 ghost use Rattle.dm_map.specs.state.Counts.{counts_of, AreAdded};
 ghost use Rattle.dm_map.specs.state.Fitting.{IsWithinPlaces};
 ghost use Rattle.dm_map.specs.state.State.{lost, put, with_chunk, taken_at};
@@ -47,7 +48,7 @@ impl<'s, T: Taken> Model for Walker<'s, T> {
 pub(crate) fn lower_len(looker: &Looker<'_>, lower: Lower) -> u64
     requires { 0 < lower_len looker.now.stack lower }
     ensures len { result ≡ lower_len looker.now.stack lower }
-    ensures small { result ≤ 2 ^ 50 }
+    ensures small { result ≤ MOST_LENGTH }
 {
     match lower {
         Lower::Device(device) => looker.len(device),
@@ -104,7 +105,7 @@ impl<'s, T: Taken> Walker<'s, T> {
         requires { device < length self.now.stack.devices }
         ensures len { result ≡ device_len self.now.stack device }
         ensures some { 1 ≤ result }
-        ensures small { result ≤ 2 ^ 50 }
+        ensures small { result ≤ MOST_LENGTH }
     {
         self.looker.len(device)
     }
@@ -114,7 +115,7 @@ impl<'s, T: Taken> Walker<'s, T> {
     pub(crate) fn lower_len(&self, lower: Lower) -> u64
         requires { 0 < lower_len self.now.stack lower }
         ensures len { result ≡ lower_len self.now.stack lower }
-        ensures small { result ≤ 2 ^ 50 }
+        ensures small { result ≤ MOST_LENGTH }
     {
         lower_len(&self.looker, lower)
     }

@@ -1,8 +1,9 @@
 //! Chunks of a snapshot: how a range is cut at them, and where their sectors are read.
 
-ghost use Rattle.std.specs.Prelude.{◌≡◌, ◌+◌, ◌-◌, ◌*◌, ◌%◌, ◌<◌, ◌≤◌, ◌^◌};
+ghost use Rattle.std.specs.Prelude.{◌≡◌, ◌+◌, ◌-◌, ◌*◌, ◌%◌, ◌<◌, ◌≤◌};
 ghost use Rattle.std.specs.Prelude.{false, length, min, IfNone, IfSome};
 ghost use Rattle.dm_stack.specs.StoreLayout.{place};
+ghost use Rattle.dm_stack.specs.declared.limits.TheConstants.{MOST_LENGTH, MOST_SNAPSHOT_CHUNK};
 ghost use Rattle.dm_map.specs.state.Snapshots.{store_sector};
 ghost use Rattle.dm_map.specs.state.State.{taken_at};
 ghost use Rattle.dm_map.specs.walk.Chunk.{AreInChunk, AreReadAt};
@@ -30,8 +31,9 @@ pub(crate) fn part_of_chunk(chunk_size: u64, sector: u64, most: u64) -> u64
 /// from 0.
 pub(crate) fn store_sector(snapshot: &FoundSnapshot, number: usize, sector: u64) -> u64
     requires chunk { 0 < snapshot.now.chunk }
-    requires chunk_small { snapshot.now.chunk ≤ 1024 }
-    requires small { (place snapshot.now.kind snapshot.now.chunk number + 1) * snapshot.now.chunk ≤ 2 ^ 50 }
+    requires chunk_small { snapshot.now.chunk ≤ MOST_SNAPSHOT_CHUNK }
+    requires small { (place snapshot.now.kind snapshot.now.chunk number + 1) * snapshot.now.chunk
+        ≤ MOST_LENGTH }
     ensures { result ≡ store_sector snapshot.now number sector }
 {
     let chunk_size = snapshot.chunk as u64;

@@ -8,7 +8,7 @@
 //! read, how often it searches: at most once a level for each stretch of sectors with one path
 //! (`specs/walk/Path`).
 
-ghost use Rattle.std.specs.Prelude.{◌≡◌, ℕ, ◌+◌, ◌-◌, ◌<◌, ◌≤◌, ◌^◌, Some, length};
+ghost use Rattle.std.specs.Prelude.{◌≡◌, ℕ, ◌+◌, ◌-◌, ◌<◌, ◌≤◌, Some, length};
 ghost use Rattle.dm_table.specs.declared.request.Op.TheVariants.{Write};
 ghost use Rattle.dm_stack.specs.Below.{found_at, IsTargetSound};
 ghost use Rattle.dm_stack.specs.Description.{Description, device_len, lower_len};
@@ -16,6 +16,7 @@ ghost use Rattle.dm_stack.specs.Loaded.{lower_depth};
 ghost use Rattle.dm_stack.specs.Soundness.{depth_of};
 ghost use Rattle.dm_stack.specs.declared.found_line.FoundTarget.TheVariants.{Origin, Snapshot, Striped};
 ghost use Rattle.dm_stack.specs.declared.id.Lower.TheVariants.{Device};
+ghost use Rattle.dm_stack.specs.declared.limits.TheConstants.{MOST_LENGTH};
 ghost use Rattle.dm_map.specs.walk.Bound.{IsBounded, IsLineBounded, IsTargetBounded};
 ghost use Rattle.dm_map.specs.walk.Path.{path};
 ghost use Rattle.dm_map.specs.walk.SnapshotWrites.{write_snapshot};
@@ -127,7 +128,7 @@ fn map_line<S: Sink, T: Taken>(
 ) -> Result<(), S::Fault>
     requires some { 1 ≤ len }
     requires inside { distance + len ≤ line.now.len }
-    requires small { line.now.len ≤ 2 ^ 50 }
+    requires small { line.now.len ≤ MOST_LENGTH }
     requires found { found_at walker.old.stack device line.now.start ≡ Some line.now }
     requires sound { IsTargetSound walker.old.stack device line.now.start line.now.len line.now.target }
     requires sink { HasRoomFor S.stack S.room sink.old walker.old.stack len }
@@ -217,7 +218,7 @@ fn map_snapshot<S: Sink, T: Taken>(
     sink: &mut S,
 ) -> Result<(), S::Fault>
     requires inside { AreInSnapshot walker.old.stack device snapshot.now sector len }
-    requires small { sector + len ≤ 2 ^ 50 }
+    requires small { sector + len ≤ MOST_LENGTH }
     requires sink { HasRoomFor S.stack S.room sink.old walker.old.stack len }
     ensures walked { IsWalked S.took S.left S.stack S.room S.faults
         result sink.old sink.new walker.old walker.new

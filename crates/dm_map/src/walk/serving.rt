@@ -4,8 +4,9 @@
 //! Then as many sectors are written as need no more of it: a range is cut where a snapshot has
 //! something left to do, and not wherever a chunk ends.
 
-ghost use Rattle.std.specs.Prelude.{◌≡◌, ℕ, ◌+◌, ◌/◌, ◌<◌, ◌≤◌, ◌^◌, OnOk, false, true};
+ghost use Rattle.std.specs.Prelude.{◌≡◌, ℕ, ◌+◌, ◌/◌, ◌<◌, ◌≤◌, OnOk, false, true};
 ghost use Rattle.std.specs.List.{All};
+ghost use Rattle.dm_stack.specs.declared.limits.TheConstants.{MOST_LENGTH};
 ghost use Rattle.dm_map.specs.walk.Serving.{serve, AreSettled, IsOver};
 ghost use Rattle.dm_map.specs.walk.SnapshotWrites.{is_settled};
 ghost use Rattle.dm_map.specs.state.State.{taken_at};
@@ -54,7 +55,7 @@ pub(crate) fn settled_part<T: Taken>(
 ) -> u64
     requires over { All (IsOver walker.now.stack (sector + most)) over.now }
     requires some { 1 ≤ most }
-    requires small { sector + most ≤ 2 ^ 50 }
+    requires small { sector + most ≤ MOST_LENGTH }
     requires here { AreSettled walker.now.state over.now sector }
     ensures some { 1 ≤ result }
     ensures most { result ≤ most }
@@ -73,7 +74,7 @@ pub(crate) fn settled_part<T: Taken>(
 fn settled_in<T: Taken>(walker: &Walker<'_, T>, one: &FoundOver, sector: u64, most: u64) -> u64
     requires over { IsOver walker.now.stack (sector + most) one.now }
     requires some { 1 ≤ most }
-    requires small { sector + most ≤ 2 ^ 50 }
+    requires small { sector + most ≤ MOST_LENGTH }
     requires here { is_settled (taken_at walker.now.state one.now.device)
         (sector / one.now.snapshot.chunk) ≡ true }
     ensures some { 1 ≤ result }

@@ -5,10 +5,11 @@
 //! need the origin's side and the store's side at once. A new target is an arm of
 //! `line_stretch`, as it is one of `map_line`.
 
-ghost use Rattle.std.specs.Prelude.{◌≡◌, ◌+◌, ◌≤◌, ◌^◌, Some};
+ghost use Rattle.std.specs.Prelude.{◌≡◌, ◌+◌, ◌≤◌, Some};
 ghost use Rattle.dm_table.specs.declared.request.Op.TheVariants.{Read};
 ghost use Rattle.dm_stack.specs.Below.{found_at, IsTargetSound};
 ghost use Rattle.dm_stack.specs.Description.{lower_len};
+ghost use Rattle.dm_stack.specs.declared.limits.TheConstants.{MOST_LENGTH};
 ghost use Rattle.dm_map.specs.walk.Stretch.{IsFirst};
 ghost use Rattle.dm_map.specs.walk.Range.{line_step, range_step};
 
@@ -90,7 +91,7 @@ fn line_stretch<T: Taken>(
 ) -> Stretch
     requires some { 1 ≤ len }
     requires inside { distance + len ≤ line.now.len }
-    requires small { line.now.len ≤ 2 ^ 50 }
+    requires small { line.now.len ≤ MOST_LENGTH }
     requires found { found_at walker.old.stack device line.now.start ≡ Some line.now }
     requires sound { IsTargetSound walker.old.stack device line.now.start line.now.len line.now.target }
     ensures { IsFirst walker.old walker.new

@@ -10,6 +10,7 @@ ghost use Rattle.std.specs.Prelude.{◌≡◌, ◌+◌, ◌*◌, ◌%◌, ◌<�
 ghost use Rattle.dm_stack.specs.Below.{IsSnapshotSound};
 ghost use Rattle.dm_stack.specs.Description.{Description, device_len, lower_len};
 ghost use Rattle.dm_stack.specs.Store.{IsStore};
+ghost use Rattle.dm_stack.specs.declared.limits.TheConstants.{MOST_SNAPSHOT_CHUNK};
 ghost use Rattle.dm_map.specs.state.Counts.{AreAdded};
 ghost use Rattle.dm_map.specs.walk.Homes.{IsFirstHomes};
 ghost use Rattle.dm_map.specs.walk.SnapshotWrites.{can_take, copies, copy_to, first_of, is_refused};
@@ -156,7 +157,7 @@ fn copy_chunk<S: Sink, T: Taken>(
     requires origin { sector + len ≤ lower_len walker.old.stack snapshot.now.origin }
     requires store { IsStore walker.old.stack snapshot.now.store }
     requires chunk { 0 < snapshot.now.chunk }
-    requires chunk_small { snapshot.now.chunk ≤ 1024 }
+    requires chunk_small { snapshot.now.chunk ≤ MOST_SNAPSHOT_CHUNK }
     requires place { has_place walker.old.stack snapshot.now number ≡ true }
     requires part { sector % snapshot.now.chunk + len ≤ snapshot.now.chunk }
     requires sink { HasRoomFor S.stack S.room sink.old walker.old.stack 0 }
