@@ -3,7 +3,7 @@ use Rattle.std.specs.Prelude.{ℕ, List, drop}
 use Rattle.lvm_text.specs.Tree.{Tree}
 use Rattle.lvm_text.specs.View.{sections_in}
 use Rattle.lvm_text.specs.declared.tree.Section.{Section}
-use Rattle.lvm_text.specs.declared.tree.Sections.{Sections}
+use Rattle.lvm_text.specs.declared.lookup.Sections.{Sections}
 use denote.Ref.{Bor}
 
 -- a key and its section, as an item shows them

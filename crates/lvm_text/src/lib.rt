@@ -14,6 +14,8 @@ mod check;
 mod element;
 mod fault;
 mod index;
+mod lexer;
+mod lookup;
 mod number;
 mod reading;
 mod scan;
@@ -24,9 +26,10 @@ mod token;
 mod tree;
 
 pub use fault::TextFault;
+pub use lookup::Sections;
 pub use reading::end_line;
 use std::alloc::Global;
-pub use tree::{Node, Scalar, Section, Sections, Value};
+pub use tree::{Node, Scalar, Section, Value};
 
 /// The tree that a text describes, or its fault.
 ///

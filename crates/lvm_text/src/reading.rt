@@ -13,8 +13,9 @@ ghost use Rattle.lvm_text.specs.declared.fault.TextFault.TheVariants.{Memory};
 use crate::build::Builder;
 use crate::check::{deep_line, number_line};
 use crate::fault::TextFault;
+use crate::lexer::tokens_of;
 use crate::syntax::syntax_line;
-use crate::token::{TokenAtLine, tokens_of};
+use crate::token::TokenAtLine;
 use crate::tree::Section;
 use std::alloc::Global;
 

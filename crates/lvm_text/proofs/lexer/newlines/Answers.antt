@@ -3,7 +3,7 @@ use Rattle.lvm_text.specs.Spelling.{newlines, spelling, SomeElement}
 use Rattle.lvm_text.specs.TokenView.{element_view, token_view}
 use Rattle.lvm_text.specs.declared.element.Element.{Element}
 use Rattle.lvm_text.proofs.Elements.{comment_newlines, token_newlines}
-use Rattle.lvm_text.proofs.token.newlines.Goals as goal
+use Rattle.lvm_text.proofs.lexer.newlines.Goals as goal
 
 pub returns-in-Comment : goal.returns-in-Comment
 returns-in-Comment c =

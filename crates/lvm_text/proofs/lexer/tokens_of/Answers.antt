@@ -4,7 +4,7 @@ use Rattle.lvm_text.specs.Spelling.{is_end, newlines, spelling}
 use Rattle.lvm_text.specs.TokenView.{views, element_view}
 use Rattle.lvm_text.proofs.Cuts.{Before, before_more, bad_here}
 use Rattle.lvm_text.proofs.Elements.{begins, shorter}
-use Rattle.lvm_text.proofs.token.tokens_of.Goals as goal
+use Rattle.lvm_text.proofs.lexer.tokens_of.Goals as goal
 
 pub returns-in_default : goal.returns-in_default
 returns-in_default c =

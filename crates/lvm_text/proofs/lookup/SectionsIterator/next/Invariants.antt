@@ -1,6 +1,6 @@
 use Rattle.std.proofs.Common.{◌≡◌, ◌-◌, drop, length}
 use Rattle.lvm_text.specs.View.{sections_in}
-use Rattle.lvm_text.proofs.tree.SectionsIterator.next.Given as goal
+use Rattle.lvm_text.proofs.lookup.SectionsIterator.next.Given as goal
 
 abbrev pub invariant-loop-self : goal.invariant-loop-self
 invariant-loop-self l = sections_in (drop l.self.at l.self.entries.now) ≡ sections_in (drop l.initial.self.at l.initial.self.entries.now)

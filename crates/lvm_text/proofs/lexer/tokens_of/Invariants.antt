@@ -3,7 +3,7 @@ use denote.Shadow.{shadow}
 use Rattle.std.proofs.Common.{◌+◌, ◌≤◌, length}
 use Rattle.lvm_text.specs.TokenView.{views}
 use Rattle.lvm_text.proofs.Cuts.{Before}
-use Rattle.lvm_text.proofs.token.tokens_of.Given as goal
+use Rattle.lvm_text.proofs.lexer.tokens_of.Given as goal
 
 -- says that each `&str` the loop changes is text: keep it, and add clauses with ×
 abbrev pub invariant-loop-rest : goal.invariant-loop-rest

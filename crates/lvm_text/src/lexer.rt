@@ -1,0 +1,57 @@
+//! How a text is cut into tokens: element by element, from its front to its end.
+//! White bytes and comments are dropped here; their newlines say on which line the next token begins.
+
+ghost use Rattle.std.specs.Prelude.{◌≡◌, ◌++◌, [], MatchResult, OnOk};
+ghost use Rattle.lvm_text.specs.Spelling.{Spells, SomeElement, newlines, spelling, put_token};
+ghost use Rattle.lvm_text.specs.Reading.{IsTokenFault};
+ghost use Rattle.lvm_text.specs.TokenView.{views, element_view};
+
+use crate::element::{Element, element_at};
+use crate::fault::TextFault;
+use crate::scan::is_end;
+use crate::token::TokenAtLine;
+use std::alloc::{AllocFailed, Global};
+
+/// How many newlines an element has.
+fn newlines(element: Element<'_>) -> u64
+    requires { SomeElement (element_view element) }
+    ensures { result ≡ newlines (spelling (element_view element.entry)) }
+{
+    match element {
+        Element::White(byte) => { if byte == b'\n' { 1 } else { 0 } }
+        Element::Comment(_) => 1,
+        Element::Lexeme(_) => 0,
+    }
+}
+
+/// Keeps an element's token, if it has one.
+fn keep<'a>(
+    tokens: &mut Vec<TokenAtLine<'a>>,
+    element: Element<'a>,
+    line: u64,
+) -> Result<(), AllocFailed<TokenAtLine<'a>>>
+    ensures { OnOk result (views tokens.new.items ≡ views tokens.old.items ++ put_token (element_view element.entry) line []) }
+{
+    match element {
+        Element::Lexeme(token) => tokens.push(TokenAtLine { token, line }),
+        _ => Ok(()),
+    }
+}
+
+/// The tokens of a text, or the line where something begins that is none.
+pub(crate) fn tokens_of(alloc: Global, text: &str) -> Result<Vec<TokenAtLine<'_>>, TextFault>
+    ensures { MatchResult result (λ v. Spells text.now (views v.items)) (IsTokenFault text.now) }
+{
+    let mut tokens = Vec::new(alloc);
+    let mut line = 1;
+    let mut rest = text;
+    while !is_end(rest.as_bytes()) {
+        let Some((element, after)) = element_at(rest) else {
+            return Err(TextFault::Token(line));
+        };
+        keep(&mut tokens, element, line)?;
+        line += newlines(element);
+        rest = after;
+    }
+    Ok(tokens)
+}
