@@ -1,8 +1,7 @@
 pub mod Tree
-pub mod TreeCode
 pub mod View
 pub mod Places
-pub mod TreeFalls
+pub mod laws
 pub mod Token
 pub mod Spelling
 pub mod Grammar

@@ -50,7 +50,7 @@ pub struct Section<'a> {
 
 impl<'a> Model for Section<'a> {
     ghost use Rattle.lvm_text.specs.Tree.{Tree, size_of};
-    ghost use Rattle.lvm_text.specs.TreeCode.{tree_code};
+    ghost use Rattle.lvm_text.specs.laws.TreeCode.{tree_code};
 
     ghost Value = { Tree };
 
@@ -66,7 +66,7 @@ impl<'a> Model for Section<'a> {
 
     ghost size = { λ t. size_of t.values };
 
-    ghost use Rattle.lvm_text.specs.TreeFalls.{most_le-size_of};
+    ghost use Rattle.lvm_text.specs.laws.TreeFalls.{most_le-size_of};
 
     ghost size_decreases = { λ a h. most_le-size_of a.entries.items };
 }
