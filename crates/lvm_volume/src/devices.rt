@@ -13,11 +13,11 @@ ghost use Rattle.lvm_volume.specs.Roles.{extents_of, name_at, segments_at};
 ghost use Rattle.lvm_volume.specs.Tables.{IsMadeIn, IsSegmentIn, device_parts, devices_in, length_of, origin_line, over_device, own_device, snapshot_line};
 
 use crate::device_names::{Layer, name_of};
+use crate::lines::lines_of;
 use crate::physical::Physical;
 use crate::roles::{Record, Role, extents_of, name_at, segments_at};
 use crate::segment::Segment;
 use crate::source_line::source_line;
-use crate::tables::lines_of;
 use crate::volume::Volume;
 use dm_table::{DevRef, DeviceSpec, Line, StoreKind, Table, Target};
 use std::alloc::{AllocError, Global};

@@ -7,6 +7,7 @@
 mod check;
 mod device_names;
 mod devices;
+mod disks;
 mod extents;
 mod fault;
 mod field;
@@ -14,6 +15,7 @@ mod fits;
 #[cfg(test)]
 mod group_tests;
 mod key;
+mod lines;
 mod metadata;
 mod names;
 mod physical;

@@ -1,7 +1,7 @@
 use Rattle.std.proofs.Common.{◌≡◌, ◌++◌, drop, map}
 use Rattle.std.specs.List.{AllByRecursion}
 use Rattle.lvm_volume.specs.Tables.{IsSegmentIn, line_of}
-use Rattle.lvm_volume.proofs.tables.lines_of.Given as goal
+use Rattle.lvm_volume.proofs.lines.lines_of.Given as goal
 
 abbrev pub invariant-loop-segment : goal.invariant-loop-segment
 invariant-loop-segment l = record {

@@ -1,7 +1,7 @@
 use Rattle.std.proofs.Common.{◌≡◌, ◌++◌, drop, map}
 use Rattle.std.specs.List.{AllByRecursion}
 use Rattle.lvm_volume.specs.Tables.{IsStripeIn, column_of}
-use Rattle.lvm_volume.proofs.tables.columns_of.Given as goal
+use Rattle.lvm_volume.proofs.lines.columns_of.Given as goal
 
 abbrev pub invariant-loop-stripe : goal.invariant-loop-stripe
 invariant-loop-stripe l = record {
