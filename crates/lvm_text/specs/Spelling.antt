@@ -1,21 +1,23 @@
 -- How a text spells its tokens, with white space and comments between them.
-use Rattle.std.specs.Prelude.{◌≡◌, ◌≢◌, ℕ, ◌+◌, Bool, true, false, ◌&&◌, ◌||◌, not, ◌==◌, nat_le, List, [], ◌∷◌, ◌++◌, suc, if◌then◌else◌}
+use Rattle.std.specs.Prelude.{◌≡◌, ◌≢◌, ℕ, ◌+◌, Bool, true, false, ◌&&◌, ◌||◌, not, ◌==◌, List, [], ◌∷◌, ◌++◌, suc, if◌then◌else◌}
 use Rattle.std.specs.List.{list_all}
+use Rattle.std.specs.Char.{is_ascii_alphanumeric}
+use Rattle.lvm_text.specs.Bytes.{backslash, close_brace, close_bracket, comma, equals, full_stop, hash, hyphen, newline, open_brace, open_bracket, plus, quote, space, tab, underscore}
 use Rattle.lvm_text.specs.Token.{Token, Word, Text, Open, Close, ListOpen, ListClose, Equals, Comma, TokenAtLine}
 
 -- The bytes
 
 -- a space, a tab or a newline
 abbrev pub is_white : ℕ → Bool
-is_white b = b == 32 || (b == 9 || b == 10)
+is_white b = b == space || (b == tab || b == newline)
 
 -- a letter, a digit or one of _ + . -
 abbrev pub is_word_byte : ℕ → Bool
-is_word_byte b = (nat_le 97 b && nat_le b 122) || ((nat_le 65 b && nat_le b 90) || ((nat_le 48 b && nat_le b 57) || (b == 95 || (b == 43 || (b == 46 || b == 45)))))
+is_word_byte b = is_ascii_alphanumeric b || (b == underscore || (b == plus || (b == full_stop || b == hyphen)))
 
 -- a newline
 abbrev pub is_newline : ℕ → Bool
-is_newline b = b == 10
+is_newline b = b == newline
 
 -- how many newlines there are
 abbrev pub newlines : List ℕ → ℕ
@@ -24,17 +26,17 @@ newlines (b ∷ bs) = if is_newline b then suc (newlines bs) else newlines bs
 
 -- a quote or a backslash, which a string has only after a backslash
 abbrev pub is_escapable : ℕ → Bool
-is_escapable b = b == 34 || b == 92
+is_escapable b = b == quote || b == backslash
 
 -- any other byte of a string
 abbrev pub is_plain : ℕ → Bool
-is_plain b = not (b == 34 || (b == 92 || b == 10))
+is_plain b = not (b == quote || (b == backslash || b == newline))
 
 -- the raw text of a string
 abbrev pub is_raw : List ℕ → Bool
 is_raw [] = true
 is_raw (b ∷ []) = is_plain b
-is_raw (b ∷ c ∷ bs) = (is_plain b && is_raw (c ∷ bs)) || (b == 92 && (is_escapable c && is_raw bs))
+is_raw (b ∷ c ∷ bs) = (is_plain b && is_raw (c ∷ bs)) || (b == backslash && (is_escapable c && is_raw bs))
 
 -- no newline
 abbrev pub is_line : List ℕ → Bool
@@ -56,18 +58,18 @@ pub data Element : Type 0 where
 -- the bytes of a token
 abbrev pub token_spelling : Token → List ℕ
 token_spelling (Word w) = w
-token_spelling (Text t) = 34 ∷ (t ++ 34 ∷ [])
-token_spelling Open = 123 ∷ []
-token_spelling Close = 125 ∷ []
-token_spelling ListOpen = 91 ∷ []
-token_spelling ListClose = 93 ∷ []
-token_spelling Equals = 61 ∷ []
-token_spelling Comma = 44 ∷ []
+token_spelling (Text t) = quote ∷ (t ++ quote ∷ [])
+token_spelling Open = open_brace ∷ []
+token_spelling Close = close_brace ∷ []
+token_spelling ListOpen = open_bracket ∷ []
+token_spelling ListClose = close_bracket ∷ []
+token_spelling Equals = equals ∷ []
+token_spelling Comma = comma ∷ []
 
 -- the bytes of an element
 abbrev pub spelling : Element → List ℕ
 spelling (White b) = b ∷ []
-spelling (Comment c) = 35 ∷ (c ++ 10 ∷ [])
+spelling (Comment c) = hash ∷ (c ++ newline ∷ [])
 spelling (Lexeme t) = token_spelling t
 
 -- a longest run of word bytes, before what comes after
@@ -104,7 +106,7 @@ Cut text (p ∷ ps) rest = (after : List ℕ) × Begins text p after × Cut afte
 -- nothing is left but a comment that the end of the text ends
 abbrev pub is_end : List ℕ → Bool
 is_end [] = true
-is_end (b ∷ bs) = b == 35 && is_line bs
+is_end (b ∷ bs) = b == hash && is_line bs
 
 -- the line after the elements, from line n on
 abbrev pub line_after : ℕ → List Element → ℕ

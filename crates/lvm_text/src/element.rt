@@ -2,7 +2,8 @@
 //! A text is cut at its front, element by element, so an element is found by its first byte. A new form of token
 //! is a case of `element_at`.
 
-ghost use Rattle.std.specs.Prelude.{◌≡◌, ◌<◌, ◌∷◌, suc, None, Some, length, take, drop, slice_index, option_map};
+ghost use Rattle.std.specs.Prelude.{◌≡◌, ◌<◌, ◌∷◌, suc, None, Some, length, take, drop, slice_index, option_map, IsTrue};
+ghost use Rattle.std.specs.Char.{is_ascii};
 ghost use Rattle.lvm_text.specs.Spelling.{White, Comment, Lexeme, is_word_byte};
 ghost use Rattle.lvm_text.specs.Token as spec;
 ghost use Rattle.lvm_text.specs.Scan.{line_length, word_length, raw_length, sign_of, element_from, element_at};
@@ -22,7 +23,7 @@ pub(crate) enum Element<'a> {
 /// What comes before an ASCII byte, and what comes after it.
 fn around(text: &str, at: usize) -> (&str, &str)
     requires within { at < length text.now }
-    requires ascii { slice_index text.now at < 128 }
+    requires ascii { IsTrue (is_ascii (slice_index text.now at)) }
     ensures before { result.0.now ≡ take at text.now }
     ensures after { result.1.now ≡ drop (suc at) text.now }
 {

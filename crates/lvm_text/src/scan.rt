@@ -19,13 +19,7 @@ pub(crate) fn is_white(byte: u8) -> bool
 pub(crate) fn is_word_byte(byte: u8) -> bool
     ensures { result ≡ is_word_byte byte }
 {
-    (b'a' <= byte && byte <= b'z')
-        || (b'A' <= byte && byte <= b'Z')
-        || (b'0' <= byte && byte <= b'9')
-        || byte == b'_'
-        || byte == b'+'
-        || byte == b'.'
-        || byte == b'-'
+    byte.is_ascii_alphanumeric() || matches!(byte, b'_' | b'+' | b'.' | b'-')
 }
 
 /// How many bytes stand before the first newline.

@@ -1,4 +1,5 @@
 use Rattle.std.proofs.Common.{sym, ap, ◌∙◌, arith}
+use Rattle.std.proofs.lemmas.Bool.Decides.{nat_tests}
 use Rattle.lvm_text.specs.Scan.{raw_length}
 use Rattle.lvm_text.proofs.Boundaries.{raw_at}
 use Rattle.lvm_text.proofs.element.string.Goals as goal
@@ -7,4 +8,4 @@ pub around-requires-clause-within : goal.around-requires-clause-within
 around-requires-clause-within c = (raw_at c.args.rest.now c.in_ok-end.end (ap raw_length (sym c.as_bytes.ensures.value) ∙ sym c.in_ok-end.ensures)).within
 
 pub around-requires-clause-ascii : goal.around-requires-clause-ascii
-around-requires-clause-ascii c = omega (arith, (raw_at c.args.rest.now c.in_ok-end.end (ap raw_length (sym c.as_bytes.ensures.value) ∙ sym c.in_ok-end.ensures)).is)
+around-requires-clause-ascii c = grind (arith, nat_tests, (raw_at c.args.rest.now c.in_ok-end.end (ap raw_length (sym c.as_bytes.ensures.value) ∙ sym c.in_ok-end.ensures)).is)
