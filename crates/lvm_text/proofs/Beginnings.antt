@@ -1,4 +1,4 @@
--- The parser's positions say which tokens can still become a text.
+-- The parser's stages say which tokens can still become a text.
 use Rattle.std.proofs.Common.{◌≡◌, ◌≢◌, ℕ, zero, suc, ◌-◌, ◌≤◌, Bool, true, false, cond, nat_lt, List, [], ◌∷◌, ◌++◌, Option, Some, None, refl, sym, ap, ◌∙◌, arith}
 use Rattle.std.specs.Prelude.{is_some, option_and_then}
 use Rattle.std.proofs.lemmas.Bool.{lt-ltb, eqb-true, eq-eqb}
@@ -8,8 +8,8 @@ use Rattle.lvm_text.specs.Token.{Token, Word, Text, Open, Close, ListOpen, ListC
 use Rattle.lvm_text.specs.Tree.{Scalar, Values, Nothing, Section, Single, Several}
 use Rattle.lvm_text.specs.Grammar.{scalar_of, is_key, ReadsMore, ReadsList, Reads, IsText, BeginsText, IsBreak, IsUnfinished}
 use Rattle.lvm_text.specs.Machine.{State, scalar_then, step, run, is_over}
-use Rattle.lvm_text.specs.declared.syntax.Position.{Position}
-use Rattle.lvm_text.specs.declared.syntax.Position.TheVariants as at
+use Rattle.lvm_text.specs.declared.syntax.Stage.{Stage}
+use Rattle.lvm_text.specs.declared.syntax.Stage.TheVariants as at
 
 -- Runs
 
@@ -17,7 +17,7 @@ chain : (o : Option State) (f g h : State → Option State) → ((s : State) →
 chain None f g h e = refl
 chain (Some s) f g h e = e s
 
-pub run-append : (d : ℕ) (p : Position) (a b : List TokenAtLine) → run d p (a ++ b) ≡ option_and_then (λ s. run s.0 s.1 b) (run d p a)
+pub run-append : (d : ℕ) (p : Stage) (a b : List TokenAtLine) → run d p (a ++ b) ≡ option_and_then (λ s. run s.0 s.1 b) (run d p a)
 run-append d p [] b = refl
 run-append d p (t ∷ a) b = chain (step d p t.0) (λ s. run s.0 s.1 a) (λ s. run s.0 s.1 b) (λ s. run s.0 s.1 (a ++ b)) (λ s. run-append s.0 s.1 a b)
 
@@ -29,8 +29,8 @@ done = (0, at.Key)
 scalar_next : (t : Token) (s : Scalar) (next : State) → scalar_of t ≡ Some s → scalar_then t next ≡ Some next
 scalar_next t s next e = ap (λ (o : Option Scalar). cond (is_some o) (Some next) None) e
 
--- a position where a word or a text stands is left as a scalar leaves it
-scalar_step : (p : Position) (d : ℕ) (next : State) → ((w : List ℕ) → step d p (Word w) ≡ scalar_then (Word w) next) → ((w : List ℕ) → step d p (Text w) ≡ Some next) → (t : Token) (s : Scalar) → scalar_of t ≡ Some s → step d p t ≡ Some next
+-- a stage where a word or a text stands is left as a scalar leaves it
+scalar_step : (p : Stage) (d : ℕ) (next : State) → ((w : List ℕ) → step d p (Word w) ≡ scalar_then (Word w) next) → ((w : List ℕ) → step d p (Text w) ≡ Some next) → (t : Token) (s : Scalar) → scalar_of t ≡ Some s → step d p t ≡ Some next
 scalar_step p d next word text (Word w) s e = word w ∙ scalar_next (Word w) s next e
 scalar_step p d next word text (Text w) s e = text w
 scalar_step p d next word text Open s e = absurd cc
@@ -46,7 +46,7 @@ content_step d = scalar_step at.Content d (d, at.Key) (λ w. refl) (λ w. refl)
 first_step : (d : ℕ) (t : Token) (s : Scalar) → scalar_of t ≡ Some s → step d at.First t ≡ Some (d, at.After)
 first_step d = scalar_step at.First d (d, at.After) (λ w. refl) (λ w. refl)
 
-then_run : (d : ℕ) (p : Position) (t : TokenAtLine) (a : List TokenAtLine) (s : State) → step d p t.0 ≡ Some s → run d p (t ∷ a) ≡ run s.0 s.1 a
+then_run : (d : ℕ) (p : Stage) (t : TokenAtLine) (a : List TokenAtLine) (s : State) → step d p t.0 ≡ Some s → run d p (t ∷ a) ≡ run s.0 s.1 a
 then_run d p t a s e = ap (option_and_then (λ x. run x.0 x.1 a)) e
 
 close_run : (d n : ℕ) (b : List TokenAtLine) → run (suc d) at.Key ((Close, n) ∷ b) ≡ run d at.Key b
@@ -96,8 +96,8 @@ before_list : (d : ℕ) (k : List ℕ) (n e o : ℕ) (ss : List Scalar) (a b : L
 before_list zero k n e o ss a b i x h = (Several k n ss h.0, (i, e, o, a, b, refl, x, h.1))
 before_list (suc d) k n e o ss a b i x h = (Several k n ss h.0, h.1, h.2, (i, e, o, a, b, refl, x, h.3), h.4)
 
--- what the tokens after a position are, if they end a text
-abbrev pub Holds : ℕ → Position → List TokenAtLine → Type 0
+-- what the tokens after a stage are, if they end a text
+abbrev pub Holds : ℕ → Stage → List TokenAtLine → Type 0
 Holds d at.Key ts = Stacked d ts
 Holds d at.AfterKey ts = (k : List ℕ) (n : ℕ) → is_key k ≡ true → Stacked d ((Word k, n) ∷ ts)
 Holds d at.Content ts = (k : List ℕ) (n e : ℕ) → is_key k ≡ true → Stacked d ((Word k, n) ∷ (Equals, e) ∷ ts)
@@ -114,10 +114,10 @@ there : (o : Option Scalar) → is_some o ≡ true → (s : Scalar) × (o ≡ So
 there None e = absurd cc
 there (Some s) e = (s, refl)
 
-same_state : (d : ℕ) (p : Position) → ◌≡◌ {A = Option State} (Some (d, p)) (Some done) → (d ≡ 0) × (p ≡ at.Key)
+same_state : (d : ℕ) (p : Stage) → ◌≡◌ {A = Option State} (Some (d, p)) (Some done) → (d ≡ 0) × (p ≡ at.Key)
 same_state d p e = some_pair_parts d 0 p at.Key e
 
-end : (d : ℕ) (p : Position) → run d p [] ≡ Some done → Holds d p []
+end : (d : ℕ) (p : Stage) → run d p [] ≡ Some done → Holds d p []
 end zero at.Key e = (Nothing, refl)
 end (suc d) at.Key e = let wrong : suc d ≡ 0 = (same_state (suc d) at.Key e).0 in absurd (omega arith)
 end d at.AfterKey e = let wrong : at.AfterKey ≡ at.Key = (same_state d at.AfterKey e).1 in absurd cc
@@ -127,7 +127,7 @@ end d at.Next e = let wrong : at.Next ≡ at.Key = (same_state d at.Next e).1 in
 end d at.After e = let wrong : at.After ≡ at.Key = (same_state d at.After e).1 in absurd cc
 
 abbrev After : List TokenAtLine → Type 0
-After ts = (d : ℕ) (p : Position) → run d p ts ≡ Some done → Holds d p ts
+After ts = (d : ℕ) (p : Stage) → run d p ts ≡ Some done → Holds d p ts
 
 content_word : (t : Token) (n : ℕ) (ts : List TokenAtLine) (d : ℕ) → After ts → option_and_then (λ s. run s.0 s.1 ts) (scalar_then t (d, at.Key)) ≡ Some done → Holds d at.Content ((t, n) ∷ ts)
 content_word t n ts d ih e =
@@ -153,7 +153,7 @@ close_key : (d n : ℕ) (ts : List TokenAtLine) → After ts → run d at.Key ((
 close_key zero n ts ih e = absurd cc
 close_key (suc d) n ts ih e = (Nothing, n, ts, refl, ih d at.Key (sym (close_run d n ts) ∙ e))
 
-one : (p : Position) (t : Token) (n : ℕ) (ts : List TokenAtLine) (d : ℕ) → After ts → run d p ((t, n) ∷ ts) ≡ Some done → Holds d p ((t, n) ∷ ts)
+one : (p : Stage) (t : Token) (n : ℕ) (ts : List TokenAtLine) (d : ℕ) → After ts → run d p ((t, n) ∷ ts) ≡ Some done → Holds d p ((t, n) ∷ ts)
 one at.Key (Word w) n ts d ih e = let a = taken (is_key w) (d, at.AfterKey) (λ s. run s.0 s.1 ts) e in ih d at.AfterKey a.1 w n a.0
 one at.Key Close n ts d ih e = close_key d n ts ih e
 one at.AfterKey Open n ts d ih e = λ k m i. before_section d k m n ts i (ih (suc d) at.Key e)
@@ -169,7 +169,7 @@ one at.After Comma n ts d ih e = let h = ih d at.Next e in (h.3 ∷ h.4, h.5, (n
 one at.Next t n ts d ih e = next_word t n ts d ih e
 one p t n ts d ih e = absurd cc
 
-pub holds : (ts : List TokenAtLine) (d : ℕ) (p : Position) → run d p ts ≡ Some done → Holds d p ts
+pub holds : (ts : List TokenAtLine) (d : ℕ) (p : Stage) → run d p ts ≡ Some done → Holds d p ts
 holds [] d p e = end d p e
 holds (t ∷ ts) d p e = one p t.0 t.1 ts d (λ x q. holds ts x q) e
 
@@ -179,7 +179,7 @@ text_from ts e = holds ts 0 at.Key e
 pub text_run : (ts : List TokenAtLine) (v : Values) → IsText ts v → run 0 at.Key ts ≡ Some done
 text_run ts v h = reads_run v 0 ts [] h
 
--- Every position that is reached can be completed
+-- Every stage that is reached can be completed
 
 abbrev closes : ℕ → List TokenAtLine
 closes zero = []
@@ -189,7 +189,7 @@ closes_run : (d : ℕ) → run d at.Key (closes d) ≡ Some done
 closes_run zero = refl
 closes_run (suc d) = close_run d 1 (closes d) ∙ closes_run d
 
-abbrev closing : ℕ → Position → List TokenAtLine
+abbrev closing : ℕ → Stage → List TokenAtLine
 closing d at.Key = closes d
 closing d at.AfterKey = (Equals, 1) ∷ (Text [], 1) ∷ closes d
 closing d at.Content = (Text [], 1) ∷ closes d
@@ -197,7 +197,7 @@ closing d at.First = (ListClose, 1) ∷ closes d
 closing d at.Next = (Text [], 1) ∷ (ListClose, 1) ∷ closes d
 closing d at.After = (ListClose, 1) ∷ closes d
 
-closing_run : (d : ℕ) (p : Position) → run d p (closing d p) ≡ Some done
+closing_run : (d : ℕ) (p : Stage) → run d p (closing d p) ≡ Some done
 closing_run d at.Key = closes_run d
 closing_run d at.AfterKey = closes_run d
 closing_run d at.Content = closes_run d
@@ -247,7 +247,7 @@ if_shallow : (b : Bool) (next : State) (d : ℕ) → next.0 ≤ suc d → MatchO
 if_shallow true next d h = h
 if_shallow false next d h = tt
 
-pub shallow : (d : ℕ) (p : Position) (t : Token) → MatchOption (step d p t) (Unit {0}) (λ s. s.0 ≤ suc d)
+pub shallow : (d : ℕ) (p : Stage) (t : Token) → MatchOption (step d p t) (Unit {0}) (λ s. s.0 ≤ suc d)
 shallow d at.Key (Word w) = if_shallow (is_key w) (d, at.AfterKey) d (omega arith)
 shallow d at.Key Close = if_shallow (nat_lt 0 d) (d - 1, at.Key) d (omega arith)
 shallow d at.AfterKey Open = omega arith
@@ -262,11 +262,11 @@ shallow d at.Next t = if_shallow (is_some (scalar_of t)) (d, at.After) d (omega 
 shallow d p t = tt
 
 -- the end of a text
-pub over : (d : ℕ) (p : Position) → is_over d p ≡ true → ◌≡◌ {A = State} (d, p) done
+pub over : (d : ℕ) (p : Stage) → is_over d p ≡ true → ◌≡◌ {A = State} (d, p) done
 over d at.Key h = ap (λ (n : ℕ). (n, at.Key)) (eqb-true d 0 h)
 over d p h = absurd cc
 
-pub not_over : (d : ℕ) (p : Position) → is_over d p ≡ false → ◌≢◌ {A = State} (d, p) done
+pub not_over : (d : ℕ) (p : Stage) → is_over d p ≡ false → ◌≢◌ {A = State} (d, p) done
 not_over d at.Key h e = let wrong : true ≡ false = sym (eq-eqb d 0 (ap (λ (s : State). s.0) e)) ∙ h in absurd cc
 not_over d at.AfterKey h e = let wrong : at.AfterKey ≡ at.Key = ap (λ (s : State). s.1) e in absurd cc
 not_over d at.Content h e = let wrong : at.Content ≡ at.Key = ap (λ (s : State). s.1) e in absurd cc

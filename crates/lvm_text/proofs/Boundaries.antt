@@ -22,7 +22,7 @@ first_of_drop [] (suc k) = refl
 first_of_drop (b ∷ bs) zero = refl
 first_of_drop (b ∷ bs) (suc k) = first_of_drop bs k
 
--- this byte stands at this place
+-- this byte stands at this position
 pub record Here (byte : ℕ) (bs : List ℕ) (n : ℕ) : Type 0 where
   pub within : n < length bs
   pub is : get_or bs n 0 ≡ byte

@@ -6,7 +6,7 @@ pub mod Beginnings
 pub mod Trees
 pub mod Unique
 pub mod Looks
-pub mod Placings
+pub mod KeyPositions
 pub mod Building
 pub mod Twice
 pub mod Keys

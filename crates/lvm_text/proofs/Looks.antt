@@ -1,5 +1,5 @@
 -- Looking a key up, and going over the sections.
-use Rattle.std.proofs.Common.{◌≡◌, ℕ, ◌+◌, ◌<◌, true, cond, List, [], ◌∷◌, length, get_or, drop, Some, refl, sym, ap, ◌∙◌, add-one, drop-cons}
+use Rattle.std.proofs.Common.{◌≡◌, ℕ, true, cond, List, [], ◌∷◌, Some, refl, sym, ap, ◌∙◌}
 use Rattle.std.specs.Prelude.{bytes_eq}
 use Rattle.std.proofs.lemmas.Bool.{and_parts, eqb-true}
 use Rattle.lvm_text.specs.Tree.{Values, Tree, Shown, Inner, node_of, sections_of}
@@ -7,9 +7,6 @@ use Rattle.lvm_text.specs.View.{put, values_of, has_line, lines_agree, content_v
 use Rattle.lvm_text.specs.declared.tree.Value.{Value}
 use Rattle.lvm_text.specs.declared.tree.Value.TheVariants as variants
 use Rattle.lvm_text.specs.declared.tree.Entry.{Entry}
-
-pub entries_at : (es : List Entry) (i : ℕ) (d : Entry) → i < length es → drop i es ≡ get_or es i d ∷ drop (i + 1) es
-entries_at es i d lt = rw add-one (drop-cons es i d lt)
 
 same_line : (s : Tree) (n : ℕ) → (s.line ≡ n) → ◌≡◌ {A = Tree} (record { line = n; values = s.values }) s
 same_line s n e = ap (λ (m : ℕ). let t : Tree = record { line = m; values = s.values } in t) (sym e)

@@ -1,4 +1,4 @@
--- The first place of a byte, as a length of what stands before it.
+-- The first position of a byte, as a length of what stands before it.
 use Rattle.std.proofs.Common.{◌≡◌, ◌≢◌, ℕ, zero, suc, ◌+◌, ◌-◌, ◌<◌, ◌≤◌, Bool, true, false, cond, not, ◌&&◌, ◌||◌, eqb, List, [], ◌∷◌, length, get_or, take, drop, Option, Some, None, refl, sym, ap, subst, ◌∙◌, arith, length-drop}
 use Rattle.std.specs.Prelude.{option_map, is_some, is_none}
 use Rattle.std.proofs.lemmas.Bool.{and_parts, false_from_ne_true, eqb-true, ne_eqb}
@@ -118,7 +118,7 @@ pub is_end_comment : (bs : List ℕ) (o : Option ℕ) (r : Bool) → false ≡ e
 is_end_comment [] o r e b h n = absurd cc
 is_end_comment (x ∷ bs) o r e b h n = none_is o r n ∙ ap is_none (h ∙ ap line_length (take_rest (x ∷ bs) 1)) ∙ is_line-line_length bs ∙ rw b refl
 
--- The search of a string's end, at place i of all its bytes
+-- The search of a string's end, at position i of all its bytes
 
 abbrev pub Stop : List ℕ → ℕ → Option ℕ → Type 0
 Stop bs i r = IsFirstByte (is_byte3 quote backslash newline) (take (length bs - i) (drop i bs)) r

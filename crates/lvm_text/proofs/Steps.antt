@@ -1,4 +1,4 @@
--- The tokens before a place, at it and after it.
+-- The tokens before a position, at it and after it.
 use Rattle.std.proofs.Common.{◌≡◌, ℕ, zero, suc, ◌+◌, ◌<◌, ◌≤◌, true, false, List, [], ◌∷◌, ◌++◌, length, get_or, take, drop, Some, None, refl, sym, ap, subst, ◌∙◌, arith, inl, inr, add-one}
 use Rattle.std.specs.Prelude.{option_and_then}
 use Rattle.std.proofs.lemmas.Option.{MatchOption-at_some}
@@ -7,9 +7,9 @@ use Rattle.lvm_text.specs.Grammar.{IsBreak, IsSyntaxLine}
 use Rattle.lvm_text.specs.Machine.{State, step, run, is_over}
 use Rattle.lvm_text.specs.TokenView.{token_view, view, views}
 use Rattle.lvm_text.specs.declared.token.TokenAtLine.{TokenAtLine}
-use Rattle.lvm_text.specs.declared.syntax.Position.{Position}
-use Rattle.lvm_text.specs.declared.syntax.Position.TheVariants as at
-use Rattle.lvm_text.proofs.Beginnings.{broken, unfinished, last_run, shallow, over, not_over}
+use Rattle.lvm_text.specs.declared.syntax.Stage.{Stage}
+use Rattle.lvm_text.specs.declared.syntax.Stage.TheVariants as at
+use Rattle.lvm_text.proofs.Beginnings.{broken, unfinished, last_run, shallow, not_over}
 
 pub views_at : (ts : List TokenAtLine) (i : ℕ) (d : TokenAtLine) → i < length ts → views ts ≡ views (take i ts) ++ view (get_or ts i d) ∷ views (drop (suc i) ts)
 views_at [] i d lt = absurd (omega arith)
@@ -24,16 +24,16 @@ views_suc (t ∷ ts) (suc i) d lt = ap (λ (xs : List spec.TokenAtLine). view t 
 pub views_more : (ts : List TokenAtLine) (i : ℕ) (d : TokenAtLine) → i < length ts → views (take (i + 1) ts) ≡ views (take i ts) ++ view (get_or ts i d) ∷ []
 views_more ts i d lt = ap (λ (n : ℕ). views (take n ts)) (add-one i) ∙ views_suc ts i d lt
 
-pub refused : (ts : List TokenAtLine) (i : ℕ) (x : TokenAtLine) (depth : ℕ) (position : Position) (end : ℕ) → i < length ts → run 0 at.Key (views (take i ts)) ≡ Some (depth, position)
-    → None ≡ step depth position (token_view (get_or ts i x).token) → IsSyntaxLine (views ts) end (get_or ts i x).line
-refused ts i x depth position end lt e none =
-    inl (subst (λ (xs : List spec.TokenAtLine). IsBreak xs (get_or ts i x).line) (sym (views_at ts i x lt)) (broken (views (take i ts)) (views (drop (suc i) ts)) (token_view (get_or ts i x).token) (get_or ts i x).line (depth, position) e (sym none)))
+pub refused : (ts : List TokenAtLine) (i : ℕ) (x : TokenAtLine) (depth : ℕ) (stage : Stage) (end : ℕ) → i < length ts → run 0 at.Key (views (take i ts)) ≡ Some (depth, stage)
+    → None ≡ step depth stage (token_view (get_or ts i x).token) → IsSyntaxLine (views ts) end (get_or ts i x).line
+refused ts i x depth stage end lt e none =
+    inl (subst (λ (xs : List spec.TokenAtLine). IsBreak xs (get_or ts i x).line) (sym (views_at ts i x lt)) (broken (views (take i ts)) (views (drop (suc i) ts)) (token_view (get_or ts i x).token) (get_or ts i x).line (depth, stage) e (sym none)))
 
-pub stepped : (ts : List TokenAtLine) (i : ℕ) (x : TokenAtLine) (depth : ℕ) (position : Position) (next : State) → i < length ts → run 0 at.Key (views (take i ts)) ≡ Some (depth, position)
-    → Some next ≡ step depth position (token_view (get_or ts i x).token) → (run 0 at.Key (views (take (i + 1) ts)) ≡ Some next) × (next.0 ≤ suc depth)
-stepped ts i x depth position next lt e s = (
-  ap (run 0 at.Key) (views_more ts i x lt) ∙ last_run (views (take i ts)) (view (get_or ts i x)) (depth, position) e ∙ ap (option_and_then (λ (y : State). Some y)) (sym s),
-  MatchOption-at_some (Unit {0}) (λ y. y.0 ≤ suc depth) next (sym s) (shallow depth position (token_view (get_or ts i x).token)),
+pub stepped : (ts : List TokenAtLine) (i : ℕ) (x : TokenAtLine) (depth : ℕ) (stage : Stage) (next : State) → i < length ts → run 0 at.Key (views (take i ts)) ≡ Some (depth, stage)
+    → Some next ≡ step depth stage (token_view (get_or ts i x).token) → (run 0 at.Key (views (take (i + 1) ts)) ≡ Some next) × (next.0 ≤ suc depth)
+stepped ts i x depth stage next lt e s = (
+  ap (run 0 at.Key) (views_more ts i x lt) ∙ last_run (views (take i ts)) (view (get_or ts i x)) (depth, stage) e ∙ ap (option_and_then (λ (y : State). Some y)) (sym s),
+  MatchOption-at_some (Unit {0}) (λ y. y.0 ≤ suc depth) next (sym s) (shallow depth stage (token_view (get_or ts i x).token)),
 )
 
 take_whole : (ts : List TokenAtLine) (n : ℕ) → length ts ≤ n → take n ts ≡ ts
@@ -45,8 +45,5 @@ take_whole (t ∷ ts) (suc n) h = ap (λ (xs : List TokenAtLine). t ∷ xs) (tak
 whole_run : (ts : List TokenAtLine) (n : ℕ) (s : State) → length ts ≤ n → run 0 at.Key (views (take n ts)) ≡ Some s → run 0 at.Key (views ts) ≡ Some s
 whole_run ts n s h e = sym (ap (λ (xs : List TokenAtLine). run 0 at.Key (views xs)) (take_whole ts n h)) ∙ e
 
-pub finished : (ts : List TokenAtLine) (n depth : ℕ) (position : Position) → length ts ≤ n → run 0 at.Key (views (take n ts)) ≡ Some (depth, position) → is_over depth position ≡ true → run 0 at.Key (views ts) ≡ Some (0, at.Key)
-finished ts n depth position h e o = whole_run ts n (depth, position) h e ∙ ap (λ (s : State). Some s) (over depth position o)
-
-pub unended : (ts : List TokenAtLine) (n depth : ℕ) (position : Position) (end : ℕ) → length ts ≤ n → run 0 at.Key (views (take n ts)) ≡ Some (depth, position) → is_over depth position ≡ false → IsSyntaxLine (views ts) end end
-unended ts n depth position end h e o = inr (unfinished (views ts) (depth, position) (whole_run ts n (depth, position) h e) (not_over depth position o), refl)
+pub unended : (ts : List TokenAtLine) (n depth : ℕ) (stage : Stage) (end : ℕ) → length ts ≤ n → run 0 at.Key (views (take n ts)) ≡ Some (depth, stage) → is_over depth stage ≡ false → IsSyntaxLine (views ts) end end
+unended ts n depth stage end h e o = inr (unfinished (views ts) (depth, stage) (whole_run ts n (depth, stage) h e) (not_over depth stage o), refl)

@@ -9,7 +9,7 @@ use Rattle.lvm_text.specs.Machine.{run}
 use Rattle.lvm_text.specs.Checks.{head_line, first_line, deep_lines, number_lines, twice_lines, fault_of}
 use Rattle.lvm_text.specs.Build.{ReadsValues, IsTwice}
 use Rattle.lvm_text.specs.Reading.{Describes, HasFault, TreeOf}
-use Rattle.lvm_text.specs.declared.syntax.Position.TheVariants as at
+use Rattle.lvm_text.specs.declared.syntax.Stage.TheVariants as at
 use Rattle.lvm_text.specs.declared.fault.TextFault.{TextFault}
 use Rattle.lvm_text.specs.declared.fault.TextFault.TheVariants as fault
 use Rattle.lvm_text.proofs.Bounds.{bounded_text}

@@ -8,7 +8,7 @@ use Rattle.lvm_text.specs.Checks.{head_line, hit, has_key, twice_lines}
 use Rattle.lvm_text.specs.Repeat.{inner_lines}
 use Rattle.lvm_text.specs.Build.{bounded_of, begins_key, is_open, before, IsTwice, IsTwiceInside}
 use Rattle.lvm_text.specs.View.{put, values_of}
-use Rattle.lvm_text.specs.Places.{place_of}
+use Rattle.lvm_text.specs.Positions.{position_of}
 use Rattle.lvm_text.specs.declared.tree.Value.{Value}
 use Rattle.lvm_text.specs.declared.tree.Value.TheVariants as variants
 use Rattle.lvm_text.specs.declared.tree.Entry.{Entry}
@@ -50,21 +50,21 @@ or_true : (b : Bool) → (b || true) ≡ true
 or_true true = refl
 or_true false = refl
 
--- a key is among those of entries where it has a place
-has_step : (b : Bool) (first : ℕ) (place : Option ℕ) (old : Bool) → (is_some place || (b || old)) ≡ (is_some (cond b (Some first) place) || old)
-has_step true first place old = or_true (is_some place)
-has_step false first place old = refl
+-- a key is among those of entries where it has a position
+has_step : (b : Bool) (first : ℕ) (position : Option ℕ) (old : Bool) → (is_some position || (b || old)) ≡ (is_some (cond b (Some first) position) || old)
+has_step true first position old = or_true (is_some position)
+has_step false first position old = refl
 
-has_after : (es : List Entry) (ks : List (List ℕ)) (key : List ℕ) (first : ℕ) → has_key key (keys_after es ks) ≡ (is_some (place_of key first es) || has_key key ks)
+has_after : (es : List Entry) (ks : List (List ℕ)) (key : List ℕ) (first : ℕ) → has_key key (keys_after es ks) ≡ (is_some (position_of key first es) || has_key key ks)
 has_after [] ks key first = refl
-has_after (e ∷ es) ks key first = has_after es (e.key.now ∷ ks) key (first + 1) ∙ has_step (bytes_eq e.key.now key) first (place_of key (first + 1) es) (has_key key ks)
+has_after (e ∷ es) ks key first = has_after es (e.key.now ∷ ks) key (first + 1) ∙ has_step (bytes_eq e.key.now key) first (position_of key (first + 1) es) (has_key key ks)
 
 or_nothing : (b : Bool) → (b || false) ≡ b
 or_nothing true = refl
 or_nothing false = refl
 
-has_placed : (es : List Entry) (key : List ℕ) (b : Bool) → b ≡ is_some (place_of key 0 es) → has_key key (keys_after es []) ≡ b
-has_placed es key b e = has_after es [] key 0 ∙ or_nothing (is_some (place_of key 0 es)) ∙ sym e
+has_position : (es : List Entry) (key : List ℕ) (b : Bool) → b ≡ is_some (position_of key 0 es) → has_key key (keys_after es []) ≡ b
+has_position es key b e = has_after es [] key 0 ∙ or_nothing (is_some (position_of key 0 es)) ∙ sym e
 
 -- the values read so far
 twice_left : (es : List Entry) (left : Values) → twice_lines [] (values_of es) ≡ [] → twice_lines [] (before es left) ≡ twice_lines (keys_after es []) left
@@ -73,12 +73,12 @@ twice_left es left h = twice_before es [] left ∙ ap (λ (xs : List ℕ). xs ++
 hit_nothing : (b : Bool) (n : ℕ) (inside : List ℕ) → b ≡ false → inside ≡ [] → hit b n (inside ++ []) ≡ []
 hit_nothing b n inside e i = rw (e, i) refl
 
-pub differ_push : (es : List Entry) (e : Entry) → twice_lines [] (values_of es) ≡ [] → false ≡ is_some (place_of e.key.now 0 es) → inner_lines e.node.value ≡ [] → twice_lines [] (values_of (es ++ e ∷ [])) ≡ []
+pub differ_push : (es : List Entry) (e : Entry) → twice_lines [] (values_of es) ≡ [] → false ≡ is_some (position_of e.key.now 0 es) → inner_lines e.node.value ≡ [] → twice_lines [] (values_of (es ++ e ∷ [])) ≡ []
 differ_push es e h new inside =
     ap (twice_lines []) (sym (before_all (es ++ e ∷ [])) ∙ before_push es e Nothing)
     ∙ twice_left es (put e.key.now e.node.line e.node.value Nothing) h
     ∙ twice_put (keys_after es []) e.key.now e.node.line e.node.value Nothing
-    ∙ hit_nothing (has_key e.key.now (keys_after es [])) e.node.line (inner_lines e.node.value) (has_placed es e.key.now false new) inside
+    ∙ hit_nothing (has_key e.key.now (keys_after es [])) e.node.line (inner_lines e.node.value) (has_position es e.key.now false new) inside
 
 -- a key of entries that stands here again
 head_hit : (k key : List ℕ) (n line : ℕ) (ks : List (List ℕ)) (later : List ℕ) → k ≡ key → line ≡ n → has_key key ks ≡ true → head_line (hit (has_key k ks) n later) ≡ Some line
@@ -96,13 +96,13 @@ key_here key line tokens ks (Several q n xs later) more has r stop =
     let s = same_key key q line n tokens ((Equals, r.1) ∷ (ListOpen, r.2) ∷ r.3) r.5 in
     head_hit q key n line ks (twice_lines (q ∷ ks) later) (sym s.key) s.at has
 
-pub key_twice : (start : List TokenAtLine) (es : List Entry) (rest tokens : List TokenAtLine) (key : List ℕ) (line : ℕ) → ValuesSoFar start es rest → rest ≡ (Word key, line) ∷ tokens → twice_lines [] (values_of es) ≡ [] → true ≡ is_some (place_of key 0 es)
+pub key_twice : (start : List TokenAtLine) (es : List Entry) (rest tokens : List TokenAtLine) (key : List ℕ) (line : ℕ) → ValuesSoFar start es rest → rest ≡ (Word key, line) ∷ tokens → twice_lines [] (values_of es) ≡ [] → true ≡ is_some (position_of key 0 es)
     → IsTwice start (fault.KeyTwice line)
 key_twice start es rest tokens key line so_far same differ has = λ v more r stop.
     let x = so_far v more r stop in
     ap (λ (w : Values). head_line (twice_lines [] w)) x.1
     ∙ ap head_line (twice_left es x.0 differ)
-    ∙ key_here key line tokens (keys_after es []) x.0 more (has_placed es key true has) (subst (λ (ts : List TokenAtLine). ReadsBy bounded_of ts x.0 more) same x.2) stop
+    ∙ key_here key line tokens (keys_after es []) x.0 more (has_position es key true has) (subst (λ (ts : List TokenAtLine). ReadsBy bounded_of ts x.0 more) same x.2) stop
 
 head_first : (xs ys : List ℕ) (n : ℕ) → head_line xs ≡ Some n → head_line (xs ++ ys) ≡ Some n
 head_first [] ys n e = absurd cc
@@ -112,7 +112,7 @@ hit_later : (b : Bool) (n line : ℕ) (inside later : List ℕ) → b ≡ false 
 hit_later b n line inside later new e = rw new (head_first inside later n e)
 
 -- a key that stands twice inside the section read last
-pub twice_inside : (start : List TokenAtLine) (es : List Entry) (rest tokens : List TokenAtLine) (key : List ℕ) (line : ℕ) (f : TextFault) → ValuesSoFar start es rest → rest ≡ (Word key, line) ∷ tokens → twice_lines [] (values_of es) ≡ [] → false ≡ is_some (place_of key 0 es)
+pub twice_inside : (start : List TokenAtLine) (es : List Entry) (rest tokens : List TokenAtLine) (key : List ℕ) (line : ℕ) (f : TextFault) → ValuesSoFar start es rest → rest ≡ (Word key, line) ∷ tokens → twice_lines [] (values_of es) ≡ [] → false ≡ is_some (position_of key 0 es)
     → IsTwiceInside line tokens f → IsTwice start f
 twice_inside start es rest tokens key line (fault.KeyTwice n) so_far same differ new inside = λ v more r stop.
     let x = so_far v more r stop in
@@ -120,7 +120,7 @@ twice_inside start es rest tokens key line (fault.KeyTwice n) so_far same differ
     ap (λ (w : Values). head_line (twice_lines [] w)) x.1
     ∙ ap head_line (twice_left es x.0 differ)
     ∙ ap (λ (w : Values). head_line (twice_lines (keys_after es []) w)) y.2
-    ∙ hit_later (has_key key (keys_after es [])) n line (twice_lines [] y.0) (twice_lines (key ∷ keys_after es []) y.1) (has_placed es key false new) y.3
+    ∙ hit_later (has_key key (keys_after es [])) n line (twice_lines [] y.0) (twice_lines (key ∷ keys_after es []) y.1) (has_position es key false new) y.3
 twice_inside start es rest tokens key line fault.Memory so_far same differ new inside = tt
 twice_inside start es rest tokens key line (fault.Token n) so_far same differ new inside = absurd inside
 twice_inside start es rest tokens key line (fault.Syntax n) so_far same differ new inside = absurd inside

@@ -121,28 +121,28 @@ pub no_syntax : (ts : List TokenAtLine) (v : Values) (end n : ℕ) → IsText ts
 no_syntax ts v end n h (inl b) = no_break b.before (b.token, n) b.after ts b.whole b.broken (text_front ts v h)
 no_syntax ts v end n h (inr u) = u.0.unfinished v h
 
--- two places in a list: one, or one before the other
-abbrev Places : List TokenAtLine → TokenAtLine → List TokenAtLine → TokenAtLine → Type 0
-Places b x c y = (x ≡ y) ⊎ (((d : List TokenAtLine) × (c ≡ b ++ x ∷ d)) ⊎ ((d : List TokenAtLine) × (b ≡ c ++ y ∷ d)))
+-- two positions in a list: one, or one before the other
+abbrev Positions : List TokenAtLine → TokenAtLine → List TokenAtLine → TokenAtLine → Type 0
+Positions b x c y = (x ≡ y) ⊎ (((d : List TokenAtLine) × (c ≡ b ++ x ∷ d)) ⊎ ((d : List TokenAtLine) × (b ≡ c ++ y ∷ d)))
 
-later : (z w : TokenAtLine) (b c : List TokenAtLine) (x y : TokenAtLine) → z ≡ w → Places b x c y → Places (z ∷ b) x (w ∷ c) y
+later : (z w : TokenAtLine) (b c : List TokenAtLine) (x y : TokenAtLine) → z ≡ w → Positions b x c y → Positions (z ∷ b) x (w ∷ c) y
 later z w b c x y e (inl h) = inl h
 later z w b c x y e (inr (inl h)) = inr (inl (h.0, ap (λ (p : TokenAtLine). p ∷ c) (sym e) ∙ ap (λ (ps : List TokenAtLine). z ∷ ps) h.1))
 later z w b c x y e (inr (inr h)) = inr (inr (h.0, ap (λ (p : TokenAtLine). p ∷ b) e ∙ ap (λ (ps : List TokenAtLine). w ∷ ps) h.1))
 
-places : (b c a d : List TokenAtLine) (x y : TokenAtLine) → b ++ x ∷ a ≡ c ++ y ∷ d → Places b x c y
-places [] [] a d x y e = inl (list_same x y a d e).0
-places [] (w ∷ c) a d x y e = inr (inl (c, ap (λ (p : TokenAtLine). p ∷ c) (sym (list_same x w a (c ++ y ∷ d) e).0)))
-places (z ∷ b) [] a d x y e = inr (inr (b, ap (λ (p : TokenAtLine). p ∷ b) (list_same z y (b ++ x ∷ a) d e).0))
-places (z ∷ b) (w ∷ c) a d x y e = let s = list_same z w (b ++ x ∷ a) (c ++ y ∷ d) e in later z w b c x y s.0 (places b c a d x y s.1)
+positions : (b c a d : List TokenAtLine) (x y : TokenAtLine) → b ++ x ∷ a ≡ c ++ y ∷ d → Positions b x c y
+positions [] [] a d x y e = inl (list_same x y a d e).0
+positions [] (w ∷ c) a d x y e = inr (inl (c, ap (λ (p : TokenAtLine). p ∷ c) (sym (list_same x w a (c ++ y ∷ d) e).0)))
+positions (z ∷ b) [] a d x y e = inr (inr (b, ap (λ (p : TokenAtLine). p ∷ b) (list_same z y (b ++ x ∷ a) d e).0))
+positions (z ∷ b) (w ∷ c) a d x y e = let s = list_same z w (b ++ x ∷ a) (c ++ y ∷ d) e in later z w b c x y s.0 (positions b c a d x y s.1)
 
-two_breaks : (ts : List TokenAtLine) (m n : ℕ) (h : IsBreak ts m) (k : IsBreak ts n) → Places h.before (h.token, m) k.before (k.token, n) → m ≡ n
+two_breaks : (ts : List TokenAtLine) (m n : ℕ) (h : IsBreak ts m) (k : IsBreak ts n) → Positions h.before (h.token, m) k.before (k.token, n) → m ≡ n
 two_breaks ts m n h k (inl e) = ap (λ (p : TokenAtLine). p.1) e
 two_breaks ts m n h k (inr (inl p)) = absurd (no_break h.before (h.token, m) p.0 k.before p.1 h.broken k.begun)
 two_breaks ts m n h k (inr (inr p)) = absurd (no_break k.before (k.token, n) p.0 h.before p.1 k.broken h.begun)
 
 pub one_line : (ts : List TokenAtLine) (end m n : ℕ) → IsSyntaxLine ts end m → IsSyntaxLine ts end n → m ≡ n
-one_line ts end m n (inl h) (inl k) = two_breaks ts m n h k (places h.before k.before h.after k.after (h.token, m) (k.token, n) (sym h.whole ∙ k.whole))
+one_line ts end m n (inl h) (inl k) = two_breaks ts m n h k (positions h.before k.before h.after k.after (h.token, m) (k.token, n) (sym h.whole ∙ k.whole))
 one_line ts end m n (inl h) (inr u) = absurd (no_break h.before (h.token, m) h.after ts h.whole h.broken u.0.begun)
 one_line ts end m n (inr u) (inl k) = absurd (no_break k.before (k.token, n) k.after ts k.whole k.broken u.0.begun)
 one_line ts end m n (inr u) (inr w) = u.1 ∙ sym w.1
@@ -174,7 +174,7 @@ one_tree text t u h k = tree_same t u (h.top ∙ sym k.top) (values_one text h.t
 -- a text that is no text of the grammar
 syntax_read : (text : List ℕ) (n : ℕ) (ts : List TokenAtLine) (v : Values) → IsBadSyntax text n → Read text ts v → ⊥
 syntax_read text n ts v h k =
-    no_syntax ts v (1 + newlines text) n k.grammar (subst (λ (xs : List TokenAtLine). IsSyntaxLine xs (1 + newlines text) n) (one_spelling text h.tokens ts h.spelled k.spelled) h.place)
+    no_syntax ts v (1 + newlines text) n k.grammar (subst (λ (xs : List TokenAtLine). IsSyntaxLine xs (1 + newlines text) n) (one_spelling text h.tokens ts h.spelled k.spelled) h.found)
 
 sound_unsound : (text : List ℕ) (t : Tree) (f : TextFault) → Describes text t → IsUnsound text f → ⊥
 sound_unsound text t f h k =
@@ -189,7 +189,7 @@ unsound_one text f g h k =
 
 syntax_one : (text : List ℕ) (m n : ℕ) → IsBadSyntax text m → IsBadSyntax text n → m ≡ n
 syntax_one text m n h k =
-    one_line k.tokens (1 + newlines text) m n (subst (λ (xs : List TokenAtLine). IsSyntaxLine xs (1 + newlines text) m) (one_spelling text h.tokens k.tokens h.spelled k.spelled) h.place) k.place
+    one_line k.tokens (1 + newlines text) m n (subst (λ (xs : List TokenAtLine). IsSyntaxLine xs (1 + newlines text) m) (one_spelling text h.tokens k.tokens h.spelled k.spelled) h.found) k.found
 
 pub no_fault : (text : List ℕ) (t : Tree) (f : TextFault) → Describes text t → HasFault text f → ⊥
 no_fault text t (fault.Token n) h k = spelled_no_bad text h.tokens n h.spelled k

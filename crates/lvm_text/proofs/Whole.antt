@@ -9,7 +9,7 @@ use Rattle.lvm_text.specs.Grammar.{IsText, IsSyntaxLine}
 use Rattle.lvm_text.specs.Machine.{State, step, run, is_over}
 use Rattle.lvm_text.specs.Checks.{fault_of}
 use Rattle.lvm_text.specs.Reading.{Describes, HasFault}
-use Rattle.lvm_text.specs.declared.syntax.Position.TheVariants as at
+use Rattle.lvm_text.specs.declared.syntax.Stage.TheVariants as at
 use Rattle.lvm_text.specs.declared.fault.TextFault.{TextFault}
 use Rattle.lvm_text.specs.declared.fault.TextFault.TheVariants as fault
 use Rattle.lvm_text.proofs.Cases.{bool_is}
@@ -75,7 +75,7 @@ spelled : (text : List ℕ) (ts : List TokenAtLine) → Spells text ts → Answe
 spelled text ts s =
     elim (syntax_from ts [] (1 + newlines text) (0, at.Key) refl) [
       | inl e ↦ let t = text_from ts e in checked text ts t.0 (fault_of ts t.0) s t.1 refl
-      | inr b ↦ inr (fault.Syntax b.0, record { tokens = ts; spelled = s; place = b.1 })
+      | inr b ↦ inr (fault.Syntax b.0, record { tokens = ts; spelled = s; found = b.1 })
     ]
 
 pub every_text : (text : List ℕ) → ((t : Tree) × Describes text t) ⊎ ((f : TextFault) × HasFault text f)

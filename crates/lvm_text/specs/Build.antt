@@ -1,5 +1,5 @@
 -- What the tree's builder reads, from the tokens that are left.
-use Rattle.std.specs.Prelude.{◌≡◌, ℕ, Bool, true, false, List, [], ◌∷◌, Option, Some, None, unwrap_or, option_map, if◌then◌else◌}
+use Rattle.std.specs.Prelude.{◌≡◌, ℕ, Bool, true, false, List, [], ◌∷◌, Option, Some, None, drop, unwrap_or, option_map, if◌then◌else◌}
 use Rattle.lvm_text.specs.Token.{Token, Word, Text, Open, Comma, ListOpen, TokenAtLine}
 use Rattle.lvm_text.specs.Tree as tree
 use Rattle.lvm_text.specs.Tree.{Values, Section, Single, Several}
@@ -8,6 +8,8 @@ use Rattle.lvm_text.specs.Checks.{head_line, twice_lines}
 use Rattle.lvm_text.specs.View.{scalar_view, put}
 use Rattle.lvm_text.specs.declared.fault.TextFault.{TextFault}
 use Rattle.lvm_text.specs.declared.fault.TextFault.TheVariants.{KeyTwice, Memory}
+use Rattle.lvm_text.specs.TokenView.{views}
+use Rattle.lvm_text.specs.declared.build.Builder.{Builder}
 use Rattle.lvm_text.specs.declared.tree.Scalar.{Scalar}
 use Rattle.lvm_text.specs.declared.tree.Value.{Value}
 use Rattle.lvm_text.specs.declared.tree.Entry.{Entry}
@@ -52,6 +54,10 @@ scalar_first (t ∷ ts) = option_map (λ s. (s, ts)) (bounded_of t.0)
 abbrev pub item_of : List TokenAtLine → Option (tree.Scalar × List TokenAtLine)
 item_of [] = None
 item_of (t ∷ ts) = if is_comma t.0 then scalar_first ts else scalar_first (t ∷ ts)
+
+-- the tokens that a builder has from a position on
+abbrev pub left : Builder → ℕ → List TokenAtLine
+left b at = views (drop at b.tokens.now)
 
 -- after an opening bracket, the tokens are these scalars, and after the closing one the rest
 abbrev pub ReadsScalars : List TokenAtLine → List tree.Scalar → List TokenAtLine → Type 0

@@ -1,7 +1,7 @@
 pub mod Bytes
 pub mod Tree
 pub mod View
-pub mod Places
+pub mod Positions
 pub mod laws
 pub mod Token
 pub mod Spelling

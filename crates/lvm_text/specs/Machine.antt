@@ -1,20 +1,20 @@
--- The parser's positions. That they say which tokens can still become a text is proved, not assumed.
+-- The stages of a parser. That they say which tokens can still become a text is proved, not assumed.
 use Rattle.std.specs.Prelude.{ℕ, suc, ◌-◌, Bool, false, ◌==◌, List, [], ◌∷◌, Option, Some, None, is_some, option_and_then, if◌then◌else◌, nat_lt}
 use Rattle.lvm_text.specs.Token.{Token, Word, Open, Close, ListOpen, ListClose, Equals, Comma, TokenAtLine}
 use Rattle.lvm_text.specs.Grammar.{scalar_of, is_key}
-use Rattle.lvm_text.specs.declared.syntax.Position.{Position}
-use Rattle.lvm_text.specs.declared.syntax.Position.TheVariants as at
+use Rattle.lvm_text.specs.declared.syntax.Stage.{Stage}
+use Rattle.lvm_text.specs.declared.syntax.Stage.TheVariants as at
 
--- the open sections, and the position in a value
+-- the open sections, and how far a value was read
 abbrev pub State : Type 0
-State = ℕ × Position
+State = ℕ × Stage
 
 -- the next state, if a token is a scalar
 abbrev pub scalar_then : Token → State → Option State
 scalar_then t next = if is_some (scalar_of t) then Some next else None
 
 -- the state after a token, if it may stand here
-abbrev pub step : ℕ → Position → Token → Option State
+abbrev pub step : ℕ → Stage → Token → Option State
 step d at.Key (Word w) = if is_key w then Some (d, at.AfterKey) else None
 step d at.Key Close = if nat_lt 0 d then Some (d - 1, at.Key) else None
 step d at.Key _ = None
@@ -31,11 +31,11 @@ step d at.After _ = None
 step d at.Next t = scalar_then t (d, at.After)
 
 -- the state after the tokens, if none of them is refused
-abbrev pub run : ℕ → Position → List TokenAtLine → Option State
+abbrev pub run : ℕ → Stage → List TokenAtLine → Option State
 run d p [] = Some (d, p)
 run d p (t ∷ ts) = option_and_then (λ s. run s.0 s.1 ts) (step d p t.0)
 
--- a position where a text may end
-abbrev pub is_over : ℕ → Position → Bool
+-- a stage where a text may end
+abbrev pub is_over : ℕ → Stage → Bool
 is_over d at.Key = d == 0
 is_over d _ = false

@@ -20,7 +20,7 @@ pub record Describes (text : List ℕ) (t : Tree) : Type 0 where
 pub record IsBadSyntax (text : List ℕ) (line : ℕ) : Type 0 where
   pub tokens : List TokenAtLine
   pub spelled : Spells text tokens
-  pub place : IsSyntaxLine tokens (1 + newlines text) line
+  pub found : IsSyntaxLine tokens (1 + newlines text) line
 
 -- a text of the grammar, with this fault
 pub record IsUnsound (text : List ℕ) (fault : TextFault) : Type 0 where

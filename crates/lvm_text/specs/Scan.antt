@@ -36,13 +36,25 @@ sign_of b =
     if b == open_brace then Some Open else if b == close_brace then Some Close else if b == open_bracket then Some ListOpen
     else if b == close_bracket then Some ListClose else if b == equals then Some Equals else if b == comma then Some Comma else None
 
+-- a comment, from after its hash, and what comes after it
+abbrev pub comment_from : List ℕ → Option (Element × List ℕ)
+comment_from bs = option_map (λ n. (Comment (take n bs), drop (suc n) bs)) (line_length bs)
+
+-- a string, from after its opening quote, and what comes after it
+abbrev pub string_from : List ℕ → Option (Element × List ℕ)
+string_from bs = option_map (λ n. (Lexeme (Text (take n bs)), drop (suc n) bs)) (raw_length bs)
+
+-- a word, and what comes after it
+abbrev pub word_from : List ℕ → Element × List ℕ
+word_from bs = (Lexeme (Word (take (word_length bs) bs)), drop (word_length bs) bs)
+
 -- the element that begins with this byte before these, and what comes after it
 abbrev pub element_from : ℕ → List ℕ → Option (Element × List ℕ)
 element_from b bs =
     if is_white b then Some (White b, bs)
-    else if b == hash then option_map (λ n. (Comment (take n bs), drop (suc n) bs)) (line_length bs)
-    else if b == quote then option_map (λ n. (Lexeme (Text (take n bs)), drop (suc n) bs)) (raw_length bs)
-    else if is_word_byte b then Some (Lexeme (Word (take (word_length (b ∷ bs)) (b ∷ bs))), drop (word_length (b ∷ bs)) (b ∷ bs))
+    else if b == hash then comment_from bs
+    else if b == quote then string_from bs
+    else if is_word_byte b then Some (word_from (b ∷ bs))
     else option_map (λ t. (Lexeme t, bs)) (sign_of b)
 
 -- the element at the front, and what comes after it

@@ -3,7 +3,7 @@ use Rattle.std.specs.Prelude.{◌≡◌, ℕ, true, List, []}
 use Rattle.std.specs.BTreeMap.{BTreeMap}
 use Rattle.lvm_text.specs.Checks.{twice_lines}
 use Rattle.lvm_text.specs.View.{values_of, lines_agree}
-use Rattle.lvm_text.specs.Places.{Finds}
+use Rattle.lvm_text.specs.Positions.{Finds}
 use Rattle.lvm_text.specs.declared.tree.Entry.{Entry}
 use denote.Ref.{Bor}
 

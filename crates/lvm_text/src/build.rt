@@ -1,27 +1,31 @@
 //! The tree of tokens that are a text.
-//! Syntax, depth and integers were checked before, so a key that stands twice is all that is refused here: it is
-//! looked for before what it holds is read, which is the order of the source. Sections inside sections are calls
-//! inside calls, at most 16 deep, since depth was checked.
+//! Syntax, depth and integers were checked before, so a key that stands twice is all that is refused here: it
+//! is looked for before what it holds is read, which is the order of the source. Sections inside sections are
+//! calls inside calls, at most 16 deep, since depth was checked.
 
-ghost use Rattle.std.specs.Prelude.{◌≡◌, ◌≤◌, ◌<◌, ◌+◌, ◌∷◌, [], drop, length, option_map, IfOk, IfErr, IfSome, MatchOption, ℕ, true, false};
+ghost use Rattle.std.specs.Prelude.{◌≡◌, ◌≤◌, ◌<◌, ◌+◌, ◌∷◌, [], drop, length, option_map, IfOk, IfErr};
+ghost use Rattle.std.specs.Prelude.{IfSome, MatchOption, ℕ, true, false};
 ghost use Rattle.lvm_text.specs.Token as spec;
 ghost use Rattle.lvm_text.specs.TokenView.{token_view, views};
 ghost use Rattle.lvm_text.specs.View.{scalar_view, scalar_views, has_line};
-ghost use Rattle.lvm_text.specs.Build.{bounded_of, is_comma, is_open, is_list_open, begins_key, scalar_first, item_of, ReadsScalars, ShowsScalar, ReadsLeaf, ReadsValue, ReadsValues, IsTwice, IsTwiceInside};
+ghost use Rattle.lvm_text.specs.Build.{bounded_of, is_comma, is_open, is_list_open, begins_key, scalar_first};
+ghost use Rattle.lvm_text.specs.Build.{item_of, left, ReadsScalars, ShowsScalar, ReadsLeaf, ReadsValue};
+ghost use Rattle.lvm_text.specs.Build.{ReadsValues, IsTwice, IsTwiceInside};
 ghost use Rattle.lvm_text.specs.Checks.{twice_lines};
 ghost use Rattle.lvm_text.specs.Repeat.{inner_lines};
 
 use crate::fault::TextFault;
-use crate::index::{place_of, put_entry};
+use crate::index::{position_of, put_entry};
 use crate::number::{are_digits, number_of};
 use crate::token::{Token, TokenAtLine};
 use crate::tree::{Entry, Node, Scalar, Section, Value};
 use std::alloc::{AllocError, Global};
 use std::collections::BTreeMap;
 
-/// The token at a place.
+/// The token at a position.
 fn token_at<'a>(tokens: &[TokenAtLine<'a>], at: usize) -> Option<TokenAtLine<'a>>
-    ensures { MatchOption result (drop at tokens.now ≡ []) (λ t. (drop at tokens.now ≡ t ∷ drop (at + 1) tokens.now) × (at < length tokens.now)) }
+    ensures { MatchOption result (drop at tokens.now ≡ [])
+        (λ t. (drop at tokens.now ≡ t ∷ drop (at + 1) tokens.now) × (at < length tokens.now)) }
 {
     if at < tokens.len() {
         Some(tokens[at])
@@ -30,8 +34,8 @@ fn token_at<'a>(tokens: &[TokenAtLine<'a>], at: usize) -> Option<TokenAtLine<'a>
     }
 }
 
-/// The place after a token, or the end.
-fn place_after(tokens: &[TokenAtLine<'_>], at: usize) -> usize
+/// The position after a token, or the end.
+fn position_after(tokens: &[TokenAtLine<'_>], at: usize) -> usize
     requires { at ≤ length tokens.now }
     ensures rest { drop result tokens.now ≡ drop 1 (drop at tokens.now) }
     ensures within { result ≤ length tokens.now }
@@ -40,9 +44,11 @@ fn place_after(tokens: &[TokenAtLine<'_>], at: usize) -> usize
     if at < tokens.len() { at + 1 } else { at }
 }
 
-/// The key at a place, and its line.
+/// The key at a position, and its line.
 fn key_at<'a>(tokens: &[TokenAtLine<'a>], at: usize) -> Option<(&'a str, u64)>
-    ensures { MatchOption result (begins_key (views (drop at tokens.now)) ≡ false) (λ r. (views (drop at tokens.now) ≡ (spec.Word r.0.now, r.1) ∷ views (drop (at + 1) tokens.now)) × (at < length tokens.now)) }
+    ensures { MatchOption result (begins_key (views (drop at tokens.now)) ≡ false)
+        (λ r. (views (drop at tokens.now) ≡ (spec.Word r.0.now, r.1) ∷ views (drop (at + 1) tokens.now))
+        × (at < length tokens.now)) }
 {
     let first = token_at(tokens, at)?;
     match first.token {
@@ -82,8 +88,8 @@ fn is_list_open(token: Token<'_>) -> bool
     matches!(token, Token::ListOpen)
 }
 
-/// The place after a comma, if there is one here.
-fn place_after_comma(tokens: &[TokenAtLine<'_>], at: usize) -> usize
+/// The position after a comma, if there is one here.
+fn position_after_comma(tokens: &[TokenAtLine<'_>], at: usize) -> usize
     ensures same { item_of (views (drop at tokens.now)) ≡ scalar_first (views (drop result tokens.now)) }
     ensures later { at ≤ result }
 {
@@ -93,15 +99,16 @@ fn place_after_comma(tokens: &[TokenAtLine<'_>], at: usize) -> usize
     if is_comma(first.token) { at + 1 } else { at }
 }
 
-/// A scalar of a list, after a comma if there is one, and the place after it.
+/// A scalar of a list, after a comma if there is one, and the position after it.
 fn item_at<'a>(tokens: &[TokenAtLine<'a>], at: usize) -> Option<(Scalar<'a>, usize)>
-    ensures item { option_map (λ r. (scalar_view r.0, views (drop r.1 tokens.now))) result ≡ item_of (views (drop at tokens.now)) }
+    ensures item { option_map (λ r. (scalar_view r.0, views (drop r.1 tokens.now))) result
+        ≡ item_of (views (drop at tokens.now)) }
     ensures later { IfSome result (λ r. (at < r.1) × (r.1 ≤ length tokens.now)) }
 {
-    let place = place_after_comma(tokens, at);
-    let first = token_at(tokens, place)?;
+    let position = position_after_comma(tokens, at);
+    let first = token_at(tokens, position)?;
     match scalar_of(first.token) {
-        Some(scalar) => Some((scalar, place + 1)),
+        Some(scalar) => Some((scalar, position + 1)),
         None => None,
     }
 }
@@ -126,10 +133,11 @@ pub(crate) struct Builder<'t, 'a> {
 }
 
 impl<'t, 'a> Builder<'t, 'a> {
-    /// The scalars of a list, from after its opening bracket, and the place after the closing one.
+    /// The scalars of a list, from after its opening bracket, and the position after the closing one.
     fn scalars_at(&self, start: usize) -> Result<(Vec<Scalar<'a>>, usize), AllocError>
         requires { start ≤ length self.now.tokens.now }
-        ensures read { IfOk result (λ r. ReadsScalars (views (drop start self.now.tokens.now)) (scalar_views r.0.items) (views (drop r.1 self.now.tokens.now))) }
+        ensures read { IfOk result
+            (λ r. ReadsScalars (left self.now start) (scalar_views r.0.items) (left self.now r.1)) }
         ensures later { IfOk result (λ r. (start ≤ r.1) × (r.1 ≤ length self.now.tokens.now)) }
     {
         let mut scalars = Vec::new(self.alloc);
@@ -138,13 +146,13 @@ impl<'t, 'a> Builder<'t, 'a> {
             scalars.push(scalar)?;
             at = after;
         }
-        Ok((scalars, place_after(self.tokens, at)))
+        Ok((scalars, position_after(self.tokens, at)))
     }
 
-    /// A scalar or a list, from after the equals sign, and the place after it.
+    /// A scalar or a list, from after the equals sign, and the position after it.
     fn leaf_at(&self, start: usize) -> Result<(Value<'a>, usize), AllocError>
         requires { start ≤ length self.now.tokens.now }
-        ensures read { IfOk result (λ r. ReadsLeaf (views (drop start self.now.tokens.now)) r.0 (views (drop r.1 self.now.tokens.now))) }
+        ensures read { IfOk result (λ r. ReadsLeaf (left self.now start) r.0 (left self.now r.1)) }
         ensures no_section { IfOk result (λ r. (n : ℕ) → has_line n r.0 ≡ true) }
         ensures later { IfOk result (λ r. (start ≤ r.1) × (r.1 ≤ length self.now.tokens.now)) }
     {
@@ -158,28 +166,28 @@ impl<'t, 'a> Builder<'t, 'a> {
         Ok((value_of_scalar(scalar_of(first.token)), start + 1))
     }
 
-    /// What a key on this line holds, from after the key, and the place after it.
+    /// What a key on this line holds, from after the key, and the position after it.
     #[cycle(build)]
     fn value_at(&self, line: u64, start: usize) -> Result<(Value<'a>, usize), TextFault>
         requires { start ≤ length self.now.tokens.now }
         ensures agrees { IfOk result (λ r. has_line line r.0 ≡ true) }
         ensures differ { IfOk result (λ r. inner_lines r.0 ≡ []) }
-        ensures read { IfOk result (λ r. ReadsValue line (views (drop start self.now.tokens.now)) r.0 (views (drop r.1 self.now.tokens.now))) }
+        ensures read { IfOk result (λ r. ReadsValue line (left self.now start) r.0 (left self.now r.1)) }
         ensures later { IfOk result (λ r. (start ≤ r.1) × (r.1 ≤ length self.now.tokens.now)) }
-        ensures twice { IfErr result (IsTwiceInside line (views (drop start self.now.tokens.now))) }
+        ensures twice { IfErr result (IsTwiceInside line (left self.now start)) }
     {
         let Some(first) = token_at(self.tokens, start) else {
             return Ok((Value::Int(0), start));
         };
         if is_open(first.token) {
             let (section, after) = self.section_at(line, start + 1)?;
-            return Ok((Value::Section(section), place_after(self.tokens, after)));
+            return Ok((Value::Section(section), position_after(self.tokens, after)));
         }
         Ok(self.leaf_at(start + 1)?)
     }
 
-    /// The section whose key is on this line and whose values begin at a place, and the place after them; or the
-    /// first key in it that equals an earlier key of the same section.
+    /// The section whose key is on this line and whose values begin at a position, and the position after
+    /// them; or the first key in it that equals an earlier key of the same section.
     #[cycle(build)]
     pub(crate) fn section_at(
         &self,
@@ -189,15 +197,15 @@ impl<'t, 'a> Builder<'t, 'a> {
         requires { start ≤ length self.now.tokens.now }
         ensures line { IfOk result (λ r. r.0.line ≡ line) }
         ensures differ { IfOk result (λ r. twice_lines [] r.0.values ≡ []) }
-        ensures read { IfOk result (λ r. ReadsValues (views (drop start self.now.tokens.now)) r.0.values (views (drop r.1 self.now.tokens.now))) }
+        ensures read { IfOk result (λ r. ReadsValues (left self.now start) r.0.values (left self.now r.1)) }
         ensures later { IfOk result (λ r. (start ≤ r.1) × (r.1 ≤ length self.now.tokens.now)) }
-        ensures twice { IfErr result (IsTwice (views (drop start self.now.tokens.now))) }
+        ensures twice { IfErr result (IsTwice (left self.now start)) }
     {
         let mut entries = Vec::new(self.alloc);
         let mut index = BTreeMap::new(self.alloc);
         let mut at = start;
         while let Some((key, key_line)) = key_at(self.tokens, at) {
-            if place_of(entries.as_slice(), &index, key).is_some() {
+            if position_of(entries.as_slice(), &index, key).is_some() {
                 return Err(TextFault::KeyTwice(key_line));
             }
             let (value, after) = self.value_at(key_line, at + 1)?;

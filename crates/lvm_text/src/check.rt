@@ -4,7 +4,8 @@
 ghost use Rattle.std.specs.Prelude.{◌≡◌, ◌<◌, ◌^◌};
 ghost use Rattle.lvm_text.specs.Token as spec;
 ghost use Rattle.lvm_text.specs.TokenView.{token_view, views};
-ghost use Rattle.lvm_text.specs.Checks.{head_line, level_after, opens_deep, deep_lines, leads_scalar, is_refused, number_lines};
+ghost use Rattle.lvm_text.specs.Checks.{head_line, level_after, opens_deep, deep_lines, leads_scalar};
+ghost use Rattle.lvm_text.specs.Checks.{is_refused, number_lines};
 
 use crate::number::number_of;
 use crate::token::{Token, TokenAtLine};

@@ -1,12 +1,14 @@
 //! The elements of a text: white bytes, comments and tokens.
-//! A text is cut at its front, element by element, so an element is found by its first byte. A new form of token
-//! is a case of `element_at`.
+//! A text is cut at its front, element by element, so an element is found by its first byte. A new form of
+//! token is a case of `element_at`.
 
-ghost use Rattle.std.specs.Prelude.{◌≡◌, ◌<◌, ◌∷◌, suc, None, Some, length, take, drop, slice_index, option_map, IsTrue};
+ghost use Rattle.std.specs.Prelude.{◌≡◌, ◌<◌, ◌∷◌, suc, None, Some, length, take, drop, slice_index};
+ghost use Rattle.std.specs.Prelude.{option_map, IsTrue};
 ghost use Rattle.std.specs.Char.{is_ascii};
-ghost use Rattle.lvm_text.specs.Spelling.{White, Comment, Lexeme, is_word_byte};
+ghost use Rattle.lvm_text.specs.Spelling.{Lexeme};
 ghost use Rattle.lvm_text.specs.Token as spec;
-ghost use Rattle.lvm_text.specs.Scan.{line_length, word_length, raw_length, sign_of, element_from, element_at};
+ghost use Rattle.lvm_text.specs.Scan.{comment_from, string_from, word_length};
+ghost use Rattle.lvm_text.specs.Scan.{sign_of, element_from, element_at};
 ghost use Rattle.lvm_text.specs.TokenView.{element_view, found_view, token_view};
 
 use crate::scan::{is_white, is_word_byte, line_length, raw_length, word_length};
@@ -34,7 +36,7 @@ fn around(text: &str, at: usize) -> (&str, &str)
 
 /// A comment, from after its `#`.
 fn comment(rest: &str) -> Option<(Element<'_>, &str)>
-    ensures { found_view result ≡ option_map (λ n. (Comment (take n rest.now), drop (suc n) rest.now)) (line_length rest.now) }
+    ensures { found_view result ≡ comment_from rest.now }
 {
     let end = line_length(rest.as_bytes())?;
     let (text, after) = around(rest, end);
@@ -43,7 +45,7 @@ fn comment(rest: &str) -> Option<(Element<'_>, &str)>
 
 /// A string, from after its opening quote.
 fn string(rest: &str) -> Option<(Element<'_>, &str)>
-    ensures { found_view result ≡ option_map (λ n. (Lexeme (spec.Text (take n rest.now)), drop (suc n) rest.now)) (raw_length rest.now) }
+    ensures { found_view result ≡ string_from rest.now }
 {
     let end = raw_length(rest.as_bytes())?;
     let (text, after) = around(rest, end);

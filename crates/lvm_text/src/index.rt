@@ -1,10 +1,10 @@
-//! The places of a section's keys.
-//! The first few entries are looked at one by one, and an index has the places of the later ones in about `log n`
-//! steps: metadata is mostly small sections, and an index for each of them would take most of its memory.
-//! What an index has is `Finds` in `specs/Places`; change that first.
+//! The positions of a section's keys.
+//! The first few entries are looked at one by one, and an index has the positions of the later ones in about
+//! `log n` steps: metadata is mostly small sections, and an index for each of them would take most of its
+//! memory. What an index has is `Finds` in `specs/Positions`; change that first.
 
 ghost use Rattle.std.specs.Prelude.{◌≡◌, None, ◌∷◌, ◌++◌, [], OnOk};
-ghost use Rattle.lvm_text.specs.Places.{Finds, place_of};
+ghost use Rattle.lvm_text.specs.Positions.{Finds, position_of};
 
 use crate::tree::Entry;
 use std::alloc::AllocError;
@@ -13,9 +13,9 @@ use std::collections::BTreeMap;
 /// How many entries of a section are not in its index.
 pub(crate) const FEW: usize = 8;
 
-/// The place of the first of these entries with a key.
-fn place_among(entries: &[Entry<'_>], key: &str) -> Option<usize>
-    ensures { result ≡ place_of key.now 0 entries.now }
+/// The position of the first of these entries with a key.
+fn position_among(entries: &[Entry<'_>], key: &str) -> Option<usize>
+    ensures { result ≡ position_of key.now 0 entries.now }
 {
     for (at, entry) in entries.iter().enumerate() {
         if entry.key == key {
@@ -25,16 +25,16 @@ fn place_among(entries: &[Entry<'_>], key: &str) -> Option<usize>
     None
 }
 
-/// The place of a key in a section.
-pub(crate) fn place_of(
+/// The position of a key in a section.
+pub(crate) fn position_of(
     entries: &[Entry<'_>],
     index: &BTreeMap<&str, usize>,
     key: &str,
 ) -> Option<usize>
     requires { Finds index.now entries.now }
-    ensures { result ≡ place_of key.now 0 entries.now }
+    ensures { result ≡ position_of key.now 0 entries.now }
 {
-    match place_among(&entries[..entries.len().min(FEW)], key) {
+    match position_among(&entries[..entries.len().min(FEW)], key) {
         Some(at) => Some(at),
         None => index.get(key).copied(),
     }
@@ -47,7 +47,7 @@ pub(crate) fn put_entry<'a>(
     entry: Entry<'a>,
 ) -> Result<(), AllocError>
     requires finds { Finds index.old entries.old.items }
-    requires fresh { place_of entry.key.now 0 entries.old.items ≡ None }
+    requires fresh { position_of entry.key.now 0 entries.old.items ≡ None }
     ensures added { OnOk result (entries.new.items ≡ entries.old.items ++ entry.entry ∷ []) }
     ensures finds { OnOk result (Finds index.new entries.new.items) }
 {

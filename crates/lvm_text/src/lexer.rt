@@ -30,7 +30,8 @@ fn keep<'a>(
     element: Element<'a>,
     line: u64,
 ) -> Result<(), AllocFailed<TokenAtLine<'a>>>
-    ensures { OnOk result (views tokens.new.items ≡ views tokens.old.items ++ put_token (element_view element.entry) line []) }
+    ensures { OnOk result
+        (views tokens.new.items ≡ views tokens.old.items ++ put_token (element_view element.entry) line []) }
 {
     match element {
         Element::Lexeme(token) => tokens.push(TokenAtLine { token, line }),

@@ -1,6 +1,6 @@
 //! LVM2 configuration text, as vgcfgbackup(8) writes it (lvm.conf(5)).
-//! The entry point is `parse`, whose clauses are what the crate promises of a text; the modules are the steps from
-//! bytes to a tree. To change what a text may say, change `specs/` first.
+//! The entry point is `parse`, whose clauses are what the crate promises of a text; the modules are the steps
+//! from bytes to a tree. To change what a text may say, change `specs/` first.
 #![tactic(auto)]
 
 ghost use Rattle.std.specs.Prelude.{◌≡◌, ◌≢◌, ◌⊎◌, ℕ, List, Ok, Err, IfOk, IfErr};
@@ -37,8 +37,9 @@ pub use tree::{Node, Scalar, Section, Value};
 /// text, and the first that finds something returns the first line where it does. `Memory` is returned only
 /// where an allocation was refused. Keys and strings are slices of the text; a string keeps its backslashes.
 ///
-/// Cost: each byte is looked at a bounded number of times; a key costs at most 8 comparisons with the first keys of
-/// its section and about `log n` with the `n` others. Source of the language: lvm.conf(5), vgcfgbackup(8).
+/// Cost: each byte is looked at a bounded number of times; a key costs at most 8 comparisons with the first
+/// keys of its section and about `log n` with the `n` others. Source of the language: lvm.conf(5),
+/// vgcfgbackup(8).
 pub fn parse(alloc: Global, text: &str) -> Result<Section<'_>, TextFault>
     // An accepted text says this tree, and a text that says a tree is accepted, unless memory runs out.
     ensures accepted { IfOk result (Describes text.now) }

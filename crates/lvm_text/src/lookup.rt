@@ -3,7 +3,7 @@
 
 ghost use Rattle.std.specs.Prelude.{◌≡◌, option_map};
 
-use crate::index::place_of;
+use crate::index::position_of;
 use crate::tree::{Entry, Node, Section, Value};
 
 impl<'a> Section<'a> {
@@ -25,14 +25,16 @@ impl<'a> Section<'a> {
     pub fn get(&self, key: &str) -> Option<&Node<'a>>
         ensures { option_map (λ n. node_view n.now) result ≡ node_of key.now self.now.values }
     {
-        let at = place_of(self.entries.as_slice(), &self.index, key)?;
+        let at = position_of(self.entries.as_slice(), &self.index, key)?;
         Some(&self.entries[at].node)
     }
 
-    /// The keys that hold sections, each with its section, in source order. Each step looks at the keys up to the next.
+    /// The keys that hold sections, each with its section, in source order. Each step looks at the keys up to
+    /// the next.
     pub fn sections(&self) -> Sections<'_, 'a>
         ensures sections { sections_left result ≡ sections_of self.now.values }
-        // By its type, a section's keys differ, so the section that comes with a key is the one that `get` finds.
+        // By its type, a section's keys differ, so the section that comes with a key is the one that `get`
+        // finds.
         ensures differ { AllPairs (λ j k. j ≢ k) (keys_of self.now.values) }
         ensures found { All (IsFound self.now.values) (sections_of self.now.values) }
     {

@@ -1,6 +1,6 @@
 //! Integers of a text.
-//! Leading zeros are allowed. 19 digits bound the work, and a `u64` holds their value, which then has to be below
-//! 2^63. A sign or a decimal point would be a change of `scalar_of` in `specs/Grammar`.
+//! Leading zeros are allowed. 19 digits bound the work, and a `u64` holds their value, which then has to be
+//! below 2^63. A sign or a decimal point would be a change of `scalar_of` in `specs/Grammar`.
 
 ghost use Rattle.std.specs.Prelude.{◌≡◌, ◌≤◌, length, IsTrue};
 ghost use Rattle.std.specs.Str.Parse.{digits_value};

@@ -1,6 +1,6 @@
 //! The reading of a whole text: tokens, then their checks, then the tree.
-//! Each check goes over the whole text before the next begins, since the order of the checks, and not that of the
-//! lines, decides which fault is returned. A new check goes between two of these.
+//! Each check goes over the whole text before the next begins, since the order of the checks, and not that of
+//! the lines, decides which fault is returned. A new check goes between two of these.
 
 ghost use Rattle.std.specs.Prelude.{◌≡◌, ◌≢◌, ◌+◌, Ok, Err, IfOk, IfErr};
 ghost use Rattle.lvm_text.specs.Tree.{Values};

@@ -1,6 +1,6 @@
 //! The tree of a text: sections of keys, and what each key holds, as slices of the text.
-//! A section is a list of entries in source order and an index of their keys; contracts see its line and its values
-//! alone. What is true of every section is `IsSection` in `specs/Sound`: change that first.
+//! A section is a list of entries in source order and an index of their keys; contracts see its line and its
+//! values alone. What is true of every section is `IsSection` in `specs/Sound`: change that first.
 
 ghost use Rattle.std.specs.Prelude.{◌≡◌};
 

@@ -4,5 +4,5 @@ use Rattle.lvm_text.proofs.build.item_at.Goals as goal
 
 pub returns-in-None-clause-item : goal.returns-in-None-clause-item
 returns-in-None-clause-item c =
-    item_none (drop c.place_after_comma-place.result c.args.tokens.now) c.in_ok-first.first (drop (c.place_after_comma-place.result + 1) c.args.tokens.now) c.in_ok-first.ensures.0 c.in-None.ensures
-    ∙ sym c.place_after_comma-place.ensures.same
+    item_none (drop c.position_after_comma-position.result c.args.tokens.now) c.in_ok-first.first (drop (c.position_after_comma-position.result + 1) c.args.tokens.now) c.in_ok-first.ensures.0 c.in-None.ensures
+    ∙ sym c.position_after_comma-position.ensures.same

@@ -1,5 +1,5 @@
 use Rattle.std.proofs.Common.{◌∙◌, arith}
-use Rattle.lvm_text.proofs.Placings.{finds_few, finds_put}
+use Rattle.lvm_text.proofs.KeyPositions.{finds_few, finds_put}
 use Rattle.lvm_text.proofs.index.put_entry.Goals as goal
 use Rattle.lvm_text.proofs.index.put_entry.Goals.{then-len-ge-FEW+in_ok-insert, else-len-ge-FEW}
 

@@ -3,7 +3,7 @@ use Rattle.lvm_text.specs.Spelling.{Spells}
 use Rattle.lvm_text.specs.Machine.{run}
 use Rattle.lvm_text.specs.TokenView.{views}
 use Rattle.lvm_text.specs.declared.token.TokenAtLine.{TokenAtLine}
-use Rattle.lvm_text.specs.declared.syntax.Position.TheVariants.{Key}
+use Rattle.lvm_text.specs.declared.syntax.Stage.TheVariants.{Key}
 use Rattle.lvm_text.proofs.Trees.{tree_accepted, tree_fault}
 use Rattle.lvm_text.proofs.reading.read.Goals as goal
 

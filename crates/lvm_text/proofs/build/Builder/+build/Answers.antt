@@ -1,7 +1,7 @@
 use Rattle.std.proofs.Common.{◌≡◌, sym, ◌∙◌, ap, subst, ◌+◌, List, [], ◌∷◌, ◌++◌, drop, arith}
 use Rattle.std.specs.Prelude.{is_some}
 use Rattle.std.proofs.lemmas.Result.{err_from_is_err_and}
-use Rattle.lvm_text.specs.Places.{place_of}
+use Rattle.lvm_text.specs.Positions.{position_of}
 use Rattle.lvm_text.specs.Build.{ReadsValues}
 use Rattle.lvm_text.specs.TokenView.{view, views}
 use Rattle.lvm_text.specs.View.{values_of, lines_agree}
@@ -25,7 +25,7 @@ section_at-loop-key-preserved t c =
       agree = ap lines_agree added ∙ lines_agree-push c.loop-key.entries.items entry c.loop-key.invariant.agree c.in_ok-value.ensures.agrees;
       finds = c.in_ok-put_entry.ensures.finds;
       differ = ap (λ (es : List Entry). twice_lines [] (values_of es)) added
-          ∙ differ_push c.loop-key.entries.items entry c.loop-key.invariant.differ (sym c.if-is_some.false ∙ c.is_some.ensures ∙ ap is_some c.place_of.ensures ∙ ap (λ (es : List Entry). is_some (place_of c.in-Some.key.now 0 es)) c.as_slice.ensures.value) c.in_ok-value.ensures.differ;
+          ∙ differ_push c.loop-key.entries.items entry c.loop-key.invariant.differ (sym c.if-is_some.false ∙ c.is_some.ensures ∙ ap is_some c.position_of.ensures ∙ ap (λ (es : List Entry). is_some (position_of c.in-Some.key.now 0 es)) c.as_slice.ensures.value) c.in_ok-value.ensures.differ;
       begun = omega (arith, c.in_ok-value.ensures.later, c.loop-key.invariant.begun);
       within = c.in_ok-value.ensures.later.1;
     }
@@ -33,13 +33,13 @@ section_at-loop-key-preserved t c =
 pub section_at-returns-then-is_some-clause-twice : goal.section_at-returns-then-is_some-clause-twice
 section_at-returns-then-is_some-clause-twice t c =
     key_twice (views (drop c.args.start c.args.self.now.tokens.now)) c.loop-key.entries.items (views (drop c.loop-key.at c.args.self.now.tokens.now)) (views (drop (c.loop-key.at + 1) c.args.self.now.tokens.now)) c.in-Some.key.now c.in-Some.key_line
-    c.loop-key.invariant.so_far c.in-Some.ensures.0 c.loop-key.invariant.differ (sym c.if-is_some.true ∙ c.is_some.ensures ∙ ap is_some c.place_of.ensures ∙ ap (λ (es : List Entry). is_some (place_of c.in-Some.key.now 0 es)) c.as_slice.ensures.value)
+    c.loop-key.invariant.so_far c.in-Some.ensures.0 c.loop-key.invariant.differ (sym c.if-is_some.true ∙ c.is_some.ensures ∙ ap is_some c.position_of.ensures ∙ ap (λ (es : List Entry). is_some (position_of c.in-Some.key.now 0 es)) c.as_slice.ensures.value)
 
 pub section_at-returns-in_err-value-clause-twice : goal.section_at-returns-in_err-value-clause-twice
 section_at-returns-in_err-value-clause-twice t c =
     let p = err_from_is_err_and c.from_residual.result c.from_residual.ensures.1 in
     rw p.1 (rw p.2 (twice_inside (views (drop c.args.start c.args.self.now.tokens.now)) c.loop-key.entries.items (views (drop c.loop-key.at c.args.self.now.tokens.now)) (views (drop (c.loop-key.at + 1) c.args.self.now.tokens.now)) c.in-Some.key.now c.in-Some.key_line
-    c.in_err-value.field-0.0 c.loop-key.invariant.so_far c.in-Some.ensures.0 c.loop-key.invariant.differ (sym c.if-is_some.false ∙ c.is_some.ensures ∙ ap is_some c.place_of.ensures ∙ ap (λ (es : List Entry). is_some (place_of c.in-Some.key.now 0 es)) c.as_slice.ensures.value) c.in_err-value.ensures.twice))
+    c.in_err-value.field-0.0 c.loop-key.invariant.so_far c.in-Some.ensures.0 c.loop-key.invariant.differ (sym c.if-is_some.false ∙ c.is_some.ensures ∙ ap is_some c.position_of.ensures ∙ ap (λ (es : List Entry). is_some (position_of c.in-Some.key.now 0 es)) c.as_slice.ensures.value) c.in_err-value.ensures.twice))
 
 pub value_at-returns-in_err-section-clause-twice : goal.value_at-returns-in_err-section-clause-twice
 value_at-returns-in_err-section-clause-twice t c =
@@ -59,9 +59,9 @@ value_at-returns-in_default-clause-read t c = value_nothing c.args.line (views (
 pub value_at-returns-then-is_open-clause-read : goal.value_at-returns-then-is_open-clause-read
 value_at-returns-then-is_open-clause-read t c =
     value_section c.args.line (views (drop c.args.start c.args.self.now.tokens.now)) (view c.in-Some.first) (views (drop (c.args.start + 1) c.args.self.now.tokens.now)) c.in_ok-section.section.values
-    (views (drop c.in_ok-section.after c.args.self.now.tokens.now)) (views (drop c.place_after.result c.args.self.now.tokens.now))
+    (views (drop c.in_ok-section.after c.args.self.now.tokens.now)) (views (drop c.position_after.result c.args.self.now.tokens.now))
     (ap views c.in-Some.ensures.0) (sym c.if-is_open.ensures) c.in_ok-section.ensures.read
-    (views_after (drop c.in_ok-section.after c.args.self.now.tokens.now) (drop c.place_after.result c.args.self.now.tokens.now) c.place_after.ensures.rest)
+    (views_after (drop c.in_ok-section.after c.args.self.now.tokens.now) (drop c.position_after.result c.args.self.now.tokens.now) c.position_after.ensures.rest)
 
 pub value_at-returns-clause-read : goal.value_at-returns-clause-read
 value_at-returns-clause-read t c =

@@ -21,5 +21,5 @@ loop-scalar-preserved c =
 
 pub returns-clause-read : goal.returns-clause-read
 returns-clause-read c =
-    list_ends (views (drop c.args.start c.args.self.now.tokens.now)) (scalar_views c.loop-scalar.scalars.items) (views (drop c.loop-scalar.at c.args.self.now.tokens.now)) (views (drop c.place_after.result c.args.self.now.tokens.now))
-    c.loop-scalar.invariant.so_far c.in_default.ensures.item (views_after (drop c.loop-scalar.at c.args.self.now.tokens.now) (drop c.place_after.result c.args.self.now.tokens.now) c.place_after.ensures.rest)
+    list_ends (views (drop c.args.start c.args.self.now.tokens.now)) (scalar_views c.loop-scalar.scalars.items) (views (drop c.loop-scalar.at c.args.self.now.tokens.now)) (views (drop c.position_after.result c.args.self.now.tokens.now))
+    c.loop-scalar.invariant.so_far c.in_default.ensures.item (views_after (drop c.loop-scalar.at c.args.self.now.tokens.now) (drop c.position_after.result c.args.self.now.tokens.now) c.position_after.ensures.rest)

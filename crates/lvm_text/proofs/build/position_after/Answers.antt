@@ -1,6 +1,6 @@
 use Rattle.std.proofs.Common.{sym}
 use Rattle.std.proofs.lemmas.List.{drop-drop}
-use Rattle.lvm_text.proofs.build.place_after.Goals as goal
+use Rattle.lvm_text.proofs.build.position_after.Goals as goal
 
 pub returns-then-at-tokens-clause-rest : goal.returns-then-at-tokens-clause-rest
 returns-then-at-tokens-clause-rest c = sym (drop-drop 1 c.args.at c.args.tokens.now)

@@ -1,0 +1,135 @@
+-- The positions of keys: among the first entries and after them, as entries are added, and the node at a position.
+use Rattle.std.proofs.Common.{◌≡◌, ℕ, zero, suc, min, ◌+◌, ◌<◌, ◌≤◌, true, false, cond, List, [], ◌∷◌, ◌++◌, length, get_or, take, drop, Option, Some, None, refl, sym, ap, subst, ◌∙◌, inl, inr, arith, add-one, add-zero, zero-add, length-append, length-drop}
+use Rattle.std.specs.Prelude.{bytes_eq}
+use Rattle.std.specs.Ordering.{nat_cmp}
+use Rattle.std.specs.Cmp.Lexicographic.{slice_cmp}
+use Rattle.std.specs.BTreeMap.{BTreeMap, Updates, get_by}
+use Rattle.std.proofs.lemmas.Bool.{and_parts, cases_lt}
+use Rattle.std.proofs.lemmas.List.{drop_all, drop-append-le}
+use Rattle.std.proofs.lemmas.Slice.Eq.{bytes_eq-Decides}
+use Rattle.std.proofs.lemmas.Map.Text.{btree_map_updates_str}
+use Rattle.lvm_text.specs.Tree.{node_of}
+use Rattle.lvm_text.specs.View.{values_of, has_line, lines_agree, node_view}
+use Rattle.lvm_text.specs.Positions.{position_of, Finds}
+use Rattle.lvm_text.specs.declared.index.TheConstants.{FEW}
+use Rattle.lvm_text.specs.declared.tree.Entry.{Entry}
+use Rattle.lvm_text.proofs.Cases.{cond_elim}
+use Rattle.lvm_text.proofs.Looks.{node_put}
+use denote.Ref.{Bor}
+
+-- a position among the first entries, else one after them
+abbrev either_position : Option ℕ → Option ℕ → Option ℕ
+either_position None later = later
+either_position (Some at) later = Some at
+
+position_split : (n : ℕ) (es : List Entry) (key : List ℕ) (first : ℕ) → position_of key first es ≡ either_position (position_of key first (take n es)) (position_of key (first + n) (drop n es))
+position_split zero es key first = ap (λ m. position_of key m es) (sym (add-zero first))
+position_split (suc n) [] key first = refl
+position_split (suc n) (e ∷ es) key first =
+    cond_elim (bytes_eq e.key.now key) (λ o. o ≡ either_position (cond (bytes_eq e.key.now key) (Some first) (position_of key (first + 1) (take n es))) (position_of key (first + suc n) (drop n es))) (Some first) (position_of key (first + 1) es)
+    (λ same. rw same refl)
+    (λ other. rw other (position_split n es key (first + 1) ∙ ap (λ m. either_position (position_of key (first + 1) (take n es)) (position_of key m (drop n es))) (omega arith)))
+
+split_here : (m : ℕ) (es : List Entry) (key : List ℕ) → position_of key 0 es ≡ either_position (position_of key 0 (take m es)) (position_of key m (drop m es))
+split_here m es key = position_split m es key 0 ∙ ap (λ n. either_position (position_of key 0 (take m es)) (position_of key n (drop m es))) (zero-add m)
+
+-- a key that none of the first entries has
+pub position_many : (es : List Entry) (key : List ℕ) (m : ℕ) → m ≡ min (length es) FEW → None ≡ position_of key 0 (take m es) → position_of key 0 es ≡ position_of key FEW (drop FEW es)
+position_many es key m is e =
+    let all : position_of key 0 es ≡ position_of key m (drop m es) = split_here m es key ∙ ap (λ o. either_position o (position_of key m (drop m es))) (sym e) in
+    elim (cases_lt (length es) FEW) [
+      | inl lt ↦ all ∙ ap (position_of key m) (drop_all m es (omega (arith, is, lt))) ∙ sym (ap (position_of key FEW) (drop_all FEW es (omega (arith, lt))))
+      | inr le ↦ let same : m ≡ FEW = omega (arith, is, le) in all ∙ ap (λ n. position_of key n (drop n es)) same
+    ]
+
+either_none : (a b : Option ℕ) → either_position a b ≡ None → b ≡ None
+either_none None b e = e
+either_none (Some n) b e = absurd cc
+
+either_same : (a : Option ℕ) → either_position a None ≡ a
+either_same None = refl
+either_same (Some n) = refl
+
+-- a position among entries, with one more at their end
+position_push : (es : List Entry) (e : Entry) (key : List ℕ) (first : ℕ) → position_of key first (es ++ e ∷ []) ≡ either_position (position_of key first es) (cond (bytes_eq e.key.now key) (Some (first + length es)) None)
+position_push [] e key first = ap (λ m. cond (bytes_eq e.key.now key) (Some m) None) (sym (add-zero first))
+position_push (x ∷ es) e key first =
+    cond_elim (bytes_eq x.key.now key)
+    (λ o. cond (bytes_eq x.key.now key) (Some first) (position_of key (first + 1) (es ++ e ∷ [])) ≡ either_position o (cond (bytes_eq e.key.now key) (Some (first + length (x ∷ es))) None)) (Some first) (position_of key (first + 1) es)
+    (λ same. rw same refl)
+    (λ other. rw other (position_push es e key (first + 1) ∙ ap (λ m. either_position (position_of key (first + 1) es) (cond (bytes_eq e.key.now key) (Some m) None)) (omega arith)))
+
+-- the index of entries of which one more is added: the first few are not in it
+pub finds_few : (es : List Entry) (e : Entry) (index : BTreeMap (Bor (List ℕ)) ℕ) → length es < FEW → Finds index es → Finds index (es ++ e ∷ [])
+finds_few es e index few finds = λ key.
+    finds key ∙ ap (position_of key FEW) (drop_all FEW es (omega (arith, few)) ∙ sym (drop_all FEW (es ++ e ∷ []) (omega (arith, length-append es (e ∷ [])))))
+
+pub finds_put : (es : List Entry) (e : Entry) (old new : BTreeMap (Bor (List ℕ)) ℕ) (m : ℕ) → m ≡ length es → FEW ≤ length es → position_of e.key.now 0 es ≡ None → Finds old es
+    → Updates (λ x y. slice_cmp nat_cmp x.now y.now) old new e.key (Some m) → Finds new (es ++ e ∷ [])
+finds_put es e old new m is many fresh finds updates = λ key.
+    btree_map_updates_str e.key.now old new (Some m) updates key
+    ∙ ap (λ n. cond (bytes_eq e.key.now key) (Some n) (get_by (λ k. slice_cmp nat_cmp key k.now) old)) is
+    ∙ ap (cond (bytes_eq e.key.now key) (Some (length es))) (finds key)
+    ∙ cond_elim (bytes_eq e.key.now key) (λ o. o ≡ position_of key FEW (drop FEW (es ++ e ∷ []))) (Some (length es)) (position_of key FEW (drop FEW es))
+    (λ same. sym (after key ∙ ap (λ o. either_position o (cond (bytes_eq e.key.now key) (Some (length es)) None)) (none_at key same) ∙ rw same refl))
+    (λ other. sym (after key ∙ rw other (either_same (position_of key FEW (drop FEW es)))))
+  where
+    after : (key : List ℕ) → position_of key FEW (drop FEW (es ++ e ∷ [])) ≡ either_position (position_of key FEW (drop FEW es)) (cond (bytes_eq e.key.now key) (Some (length es)) None)
+    after key =
+        ap (position_of key FEW) (drop-append-le FEW es (e ∷ []) many)
+        ∙ position_push (drop FEW es) e key FEW
+        ∙ ap (λ n. either_position (position_of key FEW (drop FEW es)) (cond (bytes_eq e.key.now key) (Some n) None)) (omega (arith, many, length-drop FEW es))
+
+    none_at : (key : List ℕ) → bytes_eq e.key.now key ≡ true → position_of key FEW (drop FEW es) ≡ None
+    none_at key same =
+        let alike : e.key.now ≡ key = (bytes_eq-Decides e.key.now key).0 same in
+        subst (λ (k : List ℕ). position_of k FEW (drop FEW es) ≡ None) alike
+        (either_none (position_of e.key.now 0 (take FEW es)) (position_of e.key.now FEW (drop FEW es)) (sym (split_here FEW es e.key.now) ∙ fresh))
+
+-- a position is that of an entry, and the node of the key stands there
+pub record Stands (es : List Entry) (key : List ℕ) (first at : ℕ) : Type 0 where
+  pub after : ℕ
+  pub is : at ≡ first + after
+  pub within : after < length es
+  pub node : (d : Entry) → node_of key (values_of es) ≡ Some (node_view (get_or es after d).node)
+
+stands_later : (e : Entry) (es : List Entry) (key : List ℕ) (first at : ℕ) → has_line e.node.line e.node.value ≡ true → bytes_eq e.key.now key ≡ false → Stands es key (first + 1) at → Stands (e ∷ es) key first at
+stands_later e es key first at line other s = record {
+  after = s.after + 1;
+  is = omega (arith, s.is);
+  within = omega (arith, s.within);
+  node = λ d. node_put key e.key.now e.node.line e.node.value (values_of es) line ∙ rw (other, add-one) (s.node d);
+}
+
+stands_here : (e : Entry) (es : List Entry) (key : List ℕ) (first at : ℕ) → has_line e.node.line e.node.value ≡ true → bytes_eq e.key.now key ≡ true → first ≡ at → Stands (e ∷ es) key first at
+stands_here e es key first at line same is = record {
+  after = 0;
+  is = omega (arith, is);
+  within = omega arith;
+  node = λ d. node_put key e.key.now e.node.line e.node.value (values_of es) line ∙ rw same refl;
+}
+
+-- a key that has a position from an entry on stands there
+stands : (es : List Entry) (key : List ℕ) (first at : ℕ) → lines_agree es ≡ true → position_of key first es ≡ Some at → Stands es key first at
+stands [] key first at agree is = absurd cc
+stands (e ∷ es) key first at agree is =
+    let a = and_parts (has_line e.node.line e.node.value) (lines_agree es) agree in
+    cond_elim (bytes_eq e.key.now key) (λ o. o ≡ Some at → Stands (e ∷ es) key first at) (Some first) (position_of key (first + 1) es)
+    (λ same here. stands_here e es key first at a.0 same cc)
+    (λ other later. stands_later e es key first at a.0 other (stands es key (first + 1) at a.1 later)) is
+
+-- a key that has a position stands there
+pub stands_at : (es : List Entry) (key : List ℕ) (at : ℕ) → lines_agree es ≡ true → position_of key 0 es ≡ Some at → (at < length es) × ((d : Entry) → node_of key (values_of es) ≡ Some (node_view (get_or es at d).node))
+stands_at es key at agree is =
+    let s = stands es key 0 at agree is in
+    let same : s.after ≡ at = omega (arith, s.is) in
+    (omega (arith, same, s.within), λ d. s.node d ∙ ap (λ (n : ℕ). Some (node_view (get_or es n d).node)) same)
+
+-- a key with no position has no node
+pub absent : (es : List Entry) (key : List ℕ) (first : ℕ) → lines_agree es ≡ true → position_of key first es ≡ None → node_of key (values_of es) ≡ None
+absent [] key first agree is = refl
+absent (e ∷ es) key first agree is =
+    let a = and_parts (has_line e.node.line e.node.value) (lines_agree es) agree in
+    cond_elim (bytes_eq e.key.now key) (λ o. o ≡ None → node_of key (values_of (e ∷ es)) ≡ None) (Some first) (position_of key (first + 1) es)
+    (λ same here. absurd cc)
+    (λ other later. node_put key e.key.now e.node.line e.node.value (values_of es) a.0 ∙ rw other (absent es key (first + 1) a.1 later)) is

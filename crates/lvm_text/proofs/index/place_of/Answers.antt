@@ -1,8 +1,0 @@
-use Rattle.std.proofs.Common.{◌∙◌, sym}
-use Rattle.lvm_text.proofs.Placings.{place_many}
-use Rattle.lvm_text.proofs.index.place_of.Goals as goal
-
-pub returns-in-None : goal.returns-in-None
-returns-in-None c =
-    c.copied.ensures ∙ c.get.ensures.value ∙ c.requires c.args.key.now
-    ∙ sym (place_many c.args.entries.now c.args.key.now c.min.result c.min.ensures (sym c.in-None.is ∙ c.place_among.ensures))

@@ -1,0 +1,17 @@
+-- Where the keys of a section stand.
+use Rattle.std.specs.Prelude.{◌≡◌, ℕ, ◌+◌, List, [], ◌∷◌, drop, Option, Some, None, bytes_eq, if◌then◌else◌}
+use Rattle.std.specs.Ordering.{nat_cmp}
+use Rattle.std.specs.Cmp.Lexicographic.{slice_cmp}
+use Rattle.std.specs.BTreeMap.{BTreeMap, get_by}
+use Rattle.lvm_text.specs.declared.index.TheConstants.{FEW}
+use Rattle.lvm_text.specs.declared.tree.Entry.{Entry}
+use denote.Ref.{Bor}
+
+-- the position of the first entry with a key, where the first entry of all has the position `first`
+abbrev pub position_of : List ℕ → ℕ → List Entry → Option ℕ
+position_of key first [] = None
+position_of key first (e ∷ es) = if bytes_eq e.key.now key then Some first else position_of key (first + 1) es
+
+-- the index has the positions of the keys after the first few entries, and no other key
+abbrev pub Finds : BTreeMap (Bor (List ℕ)) ℕ → List Entry → Type 0
+Finds index es = (key : List ℕ) → get_by (λ k. slice_cmp nat_cmp key k.now) index ≡ position_of key FEW (drop FEW es)
