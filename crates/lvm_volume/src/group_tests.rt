@@ -1,4 +1,4 @@
-//! The tables and disks of groups, with the places in the text that each is from, as no command prints them.
+//! The tables and disks of groups, with the line of the text that each is from, as no command prints them.
 //!
 //! Why a text is refused is tested on the built program (`tests/outside`).
 
@@ -9,16 +9,126 @@ use std::alloc::{AllocError, Global};
 use std::process::Abort;
 
 /// One volume on one physical volume.
-const ONE: &str =
-    "contents = \"Text Format Volume Group\"\nversion = 1\nvg0 {\n  extent_size = 8192\n  physical_volumes {\n    pv0 {\n      device = \"/dev/sda1\"\n      dev_size = 1050624\n      pe_start = 2048\n      pe_count = 128\n    }\n  }\n  logical_volumes {\n    lv0 {\n      status = [\"READ\", \"WRITE\", \"VISIBLE\"]\n      segment_count = 1\n      segment1 {\n        start_extent = 0\n        extent_count = 25\n        type = \"striped\"\n        stripe_count = 1\n        stripes = [\"pv0\", 0]\n      }\n    }\n  }\n}\n";
+const ONE: &str = r#"contents = "Text Format Volume Group"
+version = 1
+vg0 {
+  extent_size = 8192
+  physical_volumes {
+    pv0 {
+      device = "/dev/sda1"
+      dev_size = 1050624
+      pe_start = 2048
+      pe_count = 128
+    }
+  }
+  logical_volumes {
+    lv0 {
+      status = ["READ", "WRITE", "VISIBLE"]
+      segment_count = 1
+      segment1 {
+        start_extent = 0
+        extent_count = 25
+        type = "striped"
+        stripe_count = 1
+        stripes = ["pv0", 0]
+      }
+    }
+  }
+}
+"#;
 
 /// The same with a second volume, of two stripes, in lines 25 to 36.
-const BOTH: &str =
-    "contents = \"Text Format Volume Group\"\nversion = 1\nvg0 {\n  extent_size = 8192\n  physical_volumes {\n    pv0 {\n      device = \"/dev/sda1\"\n      dev_size = 1050624\n      pe_start = 2048\n      pe_count = 128\n    }\n  }\n  logical_volumes {\n    lv0 {\n      status = [\"READ\", \"WRITE\", \"VISIBLE\"]\n      segment_count = 1\n      segment1 {\n        start_extent = 0\n        extent_count = 25\n        type = \"striped\"\n        stripe_count = 1\n        stripes = [\"pv0\", 0]\n      }\n    }\n    lv-1 {\n      status = [\"READ\"]\n      segment_count = 1\n      segment1 {\n        start_extent = 0\n        extent_count = 4\n        type = \"striped\"\n        stripe_count = 2\n        stripe_size = 128\n        stripes = [\"pv0\", 25, \"pv0\", 27]\n      }\n    }\n  }\n}\n";
+const BOTH: &str = r#"contents = "Text Format Volume Group"
+version = 1
+vg0 {
+  extent_size = 8192
+  physical_volumes {
+    pv0 {
+      device = "/dev/sda1"
+      dev_size = 1050624
+      pe_start = 2048
+      pe_count = 128
+    }
+  }
+  logical_volumes {
+    lv0 {
+      status = ["READ", "WRITE", "VISIBLE"]
+      segment_count = 1
+      segment1 {
+        start_extent = 0
+        extent_count = 25
+        type = "striped"
+        stripe_count = 1
+        stripes = ["pv0", 0]
+      }
+    }
+    lv-1 {
+      status = ["READ"]
+      segment_count = 1
+      segment1 {
+        start_extent = 0
+        extent_count = 4
+        type = "striped"
+        stripe_count = 2
+        stripe_size = 128
+        stripes = ["pv0", 25, "pv0", 27]
+      }
+    }
+  }
+}
+"#;
 
 /// One volume, in lines 25 to 35 the store of its snapshot, and in lines 36 to 47 the record of that.
-const RECORDED: &str =
-    "contents = \"Text Format Volume Group\"\nversion = 1\nvg0 {\n  extent_size = 8192\n  physical_volumes {\n    pv0 {\n      device = \"/dev/sda1\"\n      dev_size = 1050624\n      pe_start = 2048\n      pe_count = 128\n    }\n  }\n  logical_volumes {\n    lv0 {\n      status = [\"READ\", \"WRITE\", \"VISIBLE\"]\n      segment_count = 1\n      segment1 {\n        start_extent = 0\n        extent_count = 25\n        type = \"striped\"\n        stripe_count = 1\n        stripes = [\"pv0\", 0]\n      }\n    }\n    snap {\n      status = [\"READ\", \"WRITE\", \"VISIBLE\"]\n      segment_count = 1\n      segment1 {\n        start_extent = 0\n        extent_count = 2\n        type = \"striped\"\n        stripe_count = 1\n        stripes = [\"pv0\", 25]\n      }\n    }\n    snapshot0 {\n      status = [\"READ\", \"WRITE\"]\n      segment_count = 1\n      segment1 {\n        start_extent = 0\n        extent_count = 25\n        type = \"snapshot\"\n        chunk_size = 8\n        origin = \"lv0\"\n        cow_store = \"snap\"\n      }\n    }\n  }\n}\n";
+const RECORDED: &str = r#"contents = "Text Format Volume Group"
+version = 1
+vg0 {
+  extent_size = 8192
+  physical_volumes {
+    pv0 {
+      device = "/dev/sda1"
+      dev_size = 1050624
+      pe_start = 2048
+      pe_count = 128
+    }
+  }
+  logical_volumes {
+    lv0 {
+      status = ["READ", "WRITE", "VISIBLE"]
+      segment_count = 1
+      segment1 {
+        start_extent = 0
+        extent_count = 25
+        type = "striped"
+        stripe_count = 1
+        stripes = ["pv0", 0]
+      }
+    }
+    snap {
+      status = ["READ", "WRITE", "VISIBLE"]
+      segment_count = 1
+      segment1 {
+        start_extent = 0
+        extent_count = 2
+        type = "striped"
+        stripe_count = 1
+        stripes = ["pv0", 25]
+      }
+    }
+    snapshot0 {
+      status = ["READ", "WRITE"]
+      segment_count = 1
+      segment1 {
+        start_extent = 0
+        extent_count = 25
+        type = "snapshot"
+        chunk_size = 8
+        origin = "lv0"
+        cow_store = "snap"
+      }
+    }
+  }
+}
+"#;
 
 /// The devices and the disks of a text.
 fn tables_of(rt: &impl Abort, alloc: Global, text: &str) -> (Vec<DeviceSpec>, Vec<Disk>) {
@@ -34,12 +144,12 @@ fn check_devices(
     alloc: Global,
     devices: &[DeviceSpec],
     concise: &str,
-    places: &[(u64, u64)],
+    lines: &[(u64, u64)],
 ) {
     let mut output = ShortOut::new(alloc, 4096, 4096).expect(rt, "an output");
     assert!(rt; write_concise(devices, &mut output).is_ok(), "{concise}");
     assert!(rt; output.as_slice() == concise.as_bytes(), "{concise}");
-    for (device, &(at, line_at)) in devices.iter().zip(places) {
+    for (device, &(at, line_at)) in devices.iter().zip(lines) {
         assert_eq!(rt; device.at.number, at, "{concise}");
         for line in device.lines.as_slice() {
             assert_eq!(rt; line.at.number, line_at, "{concise}");
@@ -75,138 +185,136 @@ const ON_DEVICE: &[DiskRow] = &[("/dev/sda1", 1_050_624, 6)];
 
 const ON_KEY: &[DiskRow] = &[("pv0", 1_050_624, 6)];
 
-/// A text, a line of it and what stands in its place, where line 0 is none; its devices in the concise form,
-/// the numbers of the lines that each of them and its lines are from, and its disks.
-static ACCEPTED: [(&str, usize, &str, &str, &[(u64, u64)], &[DiskRow]); 15] = [
+/// A line of `ONE` and what stands in its place, where line 0 is none; its device in the concise form, and
+/// its disks.
+static OF_ONE: [(usize, &str, &str, &[DiskRow]); 13] = [
     (
-        ONE,
         0,
         "",
         "vg0-lv0,,,rw,0 204800 linear /dev/sda1 2048\n",
-        &[(14, 17)],
         ON_DEVICE,
     ),
     (
-        ONE,
         20,
         "type = \"zero\"",
         "vg0-lv0,,,rw,0 204800 zero\n",
-        &[(14, 17)],
         ON_DEVICE,
     ),
     (
-        ONE,
         20,
         "type = \"error\"",
         "vg0-lv0,,,rw,0 204800 error\n",
-        &[(14, 17)],
         ON_DEVICE,
     ),
     (
-        ONE,
         22,
         "stripes = [\"pv0\", 103]",
         "vg0-lv0,,,rw,0 204800 linear /dev/sda1 845824\n",
-        &[(14, 17)],
         ON_DEVICE,
     ),
     (
-        ONE,
         21,
         "stripe_count = 01 stripe_size = \"x\"",
         "vg0-lv0,,,rw,0 204800 linear /dev/sda1 2048\n",
-        &[(14, 17)],
         ON_DEVICE,
     ),
     (
-        ONE,
         15,
         "status = [\"READ\", \"WRITE_LOCKED\", \"VISIBLE\"]",
         "vg0-lv0,,,rw,0 204800 linear /dev/sda1 2048\n",
-        &[(14, 17)],
         ON_DEVICE,
     ),
     (
-        ONE,
         15,
         "status = []",
         "vg0-lv0,,,ro,0 204800 linear /dev/sda1 2048\n",
-        &[(14, 17)],
         ON_DEVICE,
     ),
+    (16, "segment_count = 0", "vg0-lv0,,,rw,\n", ON_DEVICE),
     (
-        ONE,
-        16,
-        "segment_count = 0",
-        "vg0-lv0,,,rw,\n",
-        &[(14, 17)],
-        ON_DEVICE,
-    ),
-    (
-        ONE,
         7,
         "device = \"/dev/mapper/x\"",
         "vg0-lv0,,,rw,0 204800 linear pv0 2048\n",
-        &[(14, 17)],
         ON_KEY,
     ),
     (
-        ONE,
         7,
         "device = \"sda\"",
         "vg0-lv0,,,rw,0 204800 linear pv0 2048\n",
-        &[(14, 17)],
         ON_KEY,
     ),
     (
-        ONE,
         7,
         "device = \"/dev/a b\"",
         "vg0-lv0,,,rw,0 204800 linear pv0 2048\n",
-        &[(14, 17)],
         ON_KEY,
     ),
     (
-        ONE,
         11,
         "} pv1 { device = \"/dev/sda1\" dev_size = 0 pe_start = 0 pe_count = 0 }",
         "vg0-lv0,,,rw,0 204800 linear pv0 2048\n",
-        &[(14, 17)],
         &[("pv0", 1_050_624, 6), ("pv1", 0, 11)],
     ),
     (
-        ONE,
         11,
         "} pv1 { device = \"/dev/sdb\" dev_size = 9 pe_start = 0 pe_count = 0 }",
         "vg0-lv0,,,rw,0 204800 linear /dev/sda1 2048\n",
-        &[(14, 17)],
         &[("/dev/sda1", 1_050_624, 6), ("/dev/sdb", 9, 11)],
-    ),
-    (
-        BOTH,
-        0,
-        "",
-        "vg0-lv0,,,rw,0 204800 linear /dev/sda1 2048;vg0-lv--1,,,ro,0 32768 striped 2 128 /dev/sda1 206848 /dev/sda1 223232\n",
-        &[(14, 17), (25, 28)],
-        ON_DEVICE,
-    ),
-    (
-        RECORDED,
-        0,
-        "",
-        "vg0-lv0-real,,,rw,0 204800 linear /dev/sda1 2048;vg0-lv0,,,rw,0 204800 snapshot-origin /dev/mapper/vg0-lv0-real;vg0-snap-cow,,,rw,0 16384 linear /dev/sda1 206848;vg0-snap,,,rw,0 204800 snapshot /dev/mapper/vg0-lv0-real /dev/mapper/vg0-snap-cow P 8\n",
-        &[(14, 17), (14, 14), (25, 28), (25, 39)],
-        ON_DEVICE,
     ),
 ];
 
+/// Texts of several devices: those in the concise form, and the numbers of the lines of the text that each of
+/// them and its lines are from.
+static OF_SEVERAL: [(&str, &str, &[(u64, u64)]); 2] = [
+    (
+        BOTH,
+        "vg0-lv0,,,rw,0 204800 linear /dev/sda1 2048;\
+        vg0-lv--1,,,ro,0 32768 striped 2 128 /dev/sda1 206848 /dev/sda1 223232\n",
+        &[(14, 17), (25, 28)],
+    ),
+    (
+        RECORDED,
+        "vg0-lv0-real,,,rw,0 204800 linear /dev/sda1 2048;\
+        vg0-lv0,,,rw,0 204800 snapshot-origin /dev/mapper/vg0-lv0-real;\
+        vg0-snap-cow,,,rw,0 16384 linear /dev/sda1 206848;\
+        vg0-snap,,,rw,0 204800 snapshot /dev/mapper/vg0-lv0-real /dev/mapper/vg0-snap-cow P 8\n",
+        &[(14, 17), (14, 14), (25, 28), (25, 39)],
+    ),
+];
+
+/// Asserts what a text says of devices and of disks.
+fn check_tables(
+    rt: &impl Abort,
+    alloc: Global,
+    text: &str,
+    concise: &str,
+    lines: &[(u64, u64)],
+    disk_rows: &[DiskRow],
+) {
+    let (devices, disks) = tables_of(rt, alloc, text);
+    check_devices(rt, alloc, &devices, concise, lines);
+    check_disks(rt, &disks, disk_rows);
+}
+
 #[test]
-fn accepted_lines(rt: HostRuntime) {
-    for &(text, number, line, concise, places, disk_rows) in &ACCEPTED {
-        let changed = with_line(rt.alloc(), text, number, line).expect(&rt, "a text");
-        let (devices, disks) = tables_of(&rt, rt.alloc(), changed.as_str());
-        check_devices(&rt, rt.alloc(), &devices, concise, places);
-        check_disks(&rt, &disks, disk_rows);
+fn one_device(rt: HostRuntime) {
+    for &(number, line, concise, disk_rows) in &OF_ONE {
+        let text = with_line(rt.alloc(), ONE, number, line).expect(&rt, "a text");
+        check_tables(
+            &rt,
+            rt.alloc(),
+            text.as_str(),
+            concise,
+            &[(14, 17)],
+            disk_rows,
+        );
+    }
+}
+
+#[test]
+fn several_devices(rt: HostRuntime) {
+    for &(text, concise, lines) in &OF_SEVERAL {
+        check_tables(&rt, rt.alloc(), text, concise, lines, ON_DEVICE);
     }
 }
 

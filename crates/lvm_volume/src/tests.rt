@@ -1,5 +1,6 @@
-//! Rows of names. Each public call is made here with enough memory, but for `spaced_parts`: the tests of `dmremap`
-//! make it, by the command `splitname`. More names are built and split by the built program (`tests/outside`).
+//! Rows of names. Each public call is made here with enough memory, but for `spaced_parts`: the tests of
+//! `dmremap` make it, by the command `splitname`. More names are built and split by the built program
+//! (`tests/outside`).
 
 use crate::{NameFault, build_name, split_name, undouble};
 
@@ -8,7 +9,8 @@ const PART_OF_63: &str = "abcdefghijklmnopqrstuvwxyzabcdefghijklmnopqrstuvwxyz01
 const PART_OF_64: &str = "abcdefghijklmnopqrstuvwxyzabcdefghijklmnopqrstuvwxyz012345678901";
 
 const NAME_OF_127: &str =
-    "abcdefghijklmnopqrstuvwxyzabcdefghijklmnopqrstuvwxyz01234567890-abcdefghijklmnopqrstuvwxyzabcdefghijklmnopqrstuvwxyz01234567890";
+    "abcdefghijklmnopqrstuvwxyzabcdefghijklmnopqrstuvwxyz01234567890-abcdefghijklmnop\
+    qrstuvwxyzabcdefghijklmnopqrstuvwxyz01234567890";
 
 /// A group, a volume and a layer, and the name that is built of them.
 static BUILT: [(&str, &str, Option<&str>, Result<&str, NameFault>); 14] = [
