@@ -18,7 +18,7 @@ use Rattle.lvm_volume.specs.declared.segment.Segment.{Segment}
 use Rattle.lvm_volume.specs.declared.volume.Volume.{Volume}
 use Rattle.lvm_volume.specs.Fields.{Field, faults_of_fields, field_faults, fields_faults, group_faults, group_fields, is_asked, is_wrong, load_kind, missing, node_faults, number_at, one_group_faults, physical_fields, sections_at, segment_field, segment_fields, segments_of, source_faults, top_fields, volume_faults, volume_fields}
 use Rattle.lvm_volume.specs.Extents as extents
-use Rattle.lvm_volume.specs.Extents.{Claim, at_line, claims_of, used_after, used_by, hit, is_misplaced, is_too_long, is_unknown, least_line_of, segment_faults, size_faults, snapshot_faults, source_place, unknown_faults}
+use Rattle.lvm_volume.specs.Extents.{Claim, at_line, claims_of, used_after, used_by, hit, is_misplaced, is_too_long, is_unknown, least_line_of, segment_faults, size_faults, snapshot_faults, source_line, unknown_faults}
 use Rattle.lvm_volume.specs.Group.{Group, Keyed}
 use Rattle.lvm_volume.specs.Roles.{is_bad_snapshot, roles_of}
 use Rattle.lvm_volume.specs.Names.{fault_of}
@@ -49,9 +49,9 @@ if_bad : (b : Bool) (one : LoadFault) (more : List LoadFault) → one.kind ≢ M
 if_bad true one more h left = (h, left)
 if_bad false one more h left = left
 
-by_kind : {X : Type 0} (kind : LoadKind) (place : X → Place) (bad : X → Bool) (xs : List X) → kind ≢ Memory → NoMemory (faults_by kind place bad xs)
-by_kind kind place bad [] h = tt
-by_kind kind place bad (x ∷ xs) h = if_bad (bad x) (fault kind (place x)) (faults_by kind place bad xs) h (by_kind kind place bad xs h)
+by_kind : {X : Type 0} (kind : LoadKind) (at : X → Place) (bad : X → Bool) (xs : List X) → kind ≢ Memory → NoMemory (faults_by kind at bad xs)
+by_kind kind at bad [] h = tt
+by_kind kind at bad (x ∷ xs) h = if_bad (bad x) (fault kind (at x)) (faults_by kind at bad xs) h (by_kind kind at bad xs h)
 
 check_kind : (check : Check) → load_kind check ≢ Memory
 check_kind Fields = λ e. absurd cc
@@ -129,12 +129,12 @@ of_snapshots group = of_line loads.Snapshot (least_line_of (is_bad_snapshot grou
 
 pub of_extents : (group : Group) → NoMemory (size_faults group.extent_size group.physicals ++ extents.volume_faults group.physicals [] group.volumes)
 of_extents group =
-    both (size_faults group.extent_size group.physicals) (extents.volume_faults group.physicals [] group.volumes) (by_kind Extents (λ physical. source_place physical.line) (is_too_long group.extent_size) group.physicals (λ e. absurd cc)) (of_volumes group.physicals [] group.volumes)
+    both (size_faults group.extent_size group.physicals) (extents.volume_faults group.physicals [] group.volumes) (by_kind Extents (λ physical. source_line physical.line) (is_too_long group.extent_size) group.physicals (λ e. absurd cc)) (of_volumes group.physicals [] group.volumes)
 
 -- the names of devices
 
-pub of_unnamed : (group : List ℕ) (casts : List (Role × Volume)) → NoMemory (flat_map (unnamed_volume group) casts)
+pub of_unnamed : (group : List ℕ) (members : List (Role × Volume)) → NoMemory (flat_map (unnamed_volume group) members)
 unfolding unnamed_volume
-of_unnamed group casts = each (unnamed_volume group) one casts where
-  one : (cast : Role × Volume) → NoMemory (unnamed_volume group cast)
-  one cast = each (unnamed_layer group cast.1) (λ layer. if_hit (is_some (fault_of (device_parts group cast.1.name layer))) Name cast.1.line (λ e. absurd cc)) (layers_of cast.0)
+of_unnamed group members = each (unnamed_volume group) one members where
+  one : (member : Role × Volume) → NoMemory (unnamed_volume group member)
+  one member = each (unnamed_layer group member.1) (λ layer. if_hit (is_some (fault_of (device_parts group member.1.name layer))) Name member.1.line (λ e. absurd cc)) (layers_of member.0)

@@ -17,17 +17,7 @@ pub first_after : (xs ys : List LoadFault) (later : Option LoadFault) → first_
 first_after [] ys later e = refl
 first_after (x ∷ xs) ys later e = absurd cc
 
--- the faults from an element on
-here : {A X : Type 0} (g : A → X) (f : X → List LoadFault) (xs : List A) (i : ℕ) (x : A) → i < length xs → x ≡ get_or xs i x → flat_map f (map g (drop i xs)) ≡ f (g x) ++ flat_map f (map g (drop (i + 1) xs))
-here {A} g f xs i x within is = ap (λ (ys : List A). flat_map f (map g ys)) (drop_more xs i x within) ∙ ap (λ (y : A). f (g y) ++ flat_map f (map g (drop (i + 1) xs))) (sym is)
-
-pub stops : {A X : Type 0} (g : A → X) (f : X → List LoadFault) (xs : List A) (i : ℕ) (x : A) (fault : LoadFault) → i < length xs → x ≡ get_or xs i x → first_or (f (g x)) None ≡ Some fault → first_or (flat_map f (map g (drop i xs))) None ≡ Some fault
-stops g f xs i x fault within is e = ap (λ (fs : List LoadFault). first_or fs None) (here g f xs i x within is) ∙ first_here (f (g x)) _ None fault e
-
-pub goes_on : {A X : Type 0} (g : A → X) (f : X → List LoadFault) (xs : List A) (i : ℕ) (x : A) → i < length xs → x ≡ get_or xs i x → first_or (f (g x)) None ≡ None → first_or (flat_map f (map g (drop (i + 1) xs))) None ≡ first_or (flat_map f (map g (drop i xs))) None
-goes_on g f xs i x within is e = sym (ap (λ (fs : List LoadFault). first_or fs None) (here g f xs i x within is) ∙ first_after (f (g x)) _ None e)
-
--- the same over numbers from 1 on
+-- over numbers from 1 on
 pub range_more : (i end : ℕ) → i < end → range_with_len (i + 1) (end - i) ≡ (i + 1) ∷ range_with_len (i + 1 + 1) (end - (i + 1))
 range_more i end below = let n : end - i ≡ suc (end - (i + 1)) = omega arith in rw n refl
 

@@ -9,7 +9,7 @@ use Rattle.lvm_volume.specs.declared.check.Check.TheVariants.{Fields, Limits}
 use Rattle.lvm_volume.specs.Extents.{name_faults, snapshot_faults, unknown_faults}
 use Rattle.lvm_volume.specs.Fields.{faults_of_fields}
 use Rattle.lvm_volume.specs.Group.{Group, group_of}
-use Rattle.lvm_volume.specs.Tables.{casts_of, checks_of_parts, extent_faults, group_checks, later_checks, unnamed}
+use Rattle.lvm_volume.specs.Tables.{members_of, checks_of_parts, extent_faults, group_checks, later_checks, unnamed}
 use Rattle.lvm_volume.proofs.FaultKinds.{NoMemory, first_kind, of_walk, of_unknown, of_extents, of_snapshots, of_unnamed}
 
 -- what is returned where a fault is found
@@ -83,6 +83,6 @@ accepted top group is limits names parts = said_is top group is ∙ ap (λ (o : 
 -- the check of names
 pub at_unnamed : {X : Type 0} (group : Group) (x : X) (fault : LoadFault) → first_or (unnamed group) None ≡ Some fault → Refused fault (unless (first_or (unnamed group) None) x)
 at_unnamed group x fault found = (
-  λ memory. absurd (first_kind (unnamed group) fault (of_unnamed group.name (casts_of group)) found memory),
+  λ memory. absurd (first_kind (unnamed group) fault (of_unnamed group.name (members_of group)) found memory),
   λ other. ap (λ (o : Option LoadFault). unless o x) found,
 )

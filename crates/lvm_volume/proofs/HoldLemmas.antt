@@ -16,19 +16,19 @@ use Rattle.lvm_volume.specs.declared.physical.Physical.{Physical}
 use Rattle.lvm_volume.specs.declared.segment.Segment.{Segment}
 use Rattle.lvm_volume.specs.declared.volume.Volume.{Volume}
 use Rattle.lvm_volume.proofs.Faults.{first_after}
-use Rattle.lvm_volume.specs.Used.{Holds, Keeps, ranges_of, reaches}
+use Rattle.lvm_volume.specs.Used.{Holds, HasRanges, ranges_of, reaches}
 
 -- a claim meets others where its range reaches theirs on its physical volume
 pub meets_is : (claim : Claim) (used : List Claim) → list_any (meets claim) used ≡ list_any (reaches claim.first claim.end) (ranges_of claim.physical used)
 meets_is claim [] = refl
-meets_is claim (c ∷ used) = by_place (claim.physical == c.physical) refl (meets_is claim used) where
-  by_place : (b : Bool) → (claim.physical == c.physical) ≡ b → list_any (meets claim) used ≡ list_any (reaches claim.first claim.end) (ranges_of claim.physical used)
+meets_is claim (c ∷ used) = by_position (claim.physical == c.physical) refl (meets_is claim used) where
+  by_position : (b : Bool) → (claim.physical == c.physical) ≡ b → list_any (meets claim) used ≡ list_any (reaches claim.first claim.end) (ranges_of claim.physical used)
       → list_any (meets claim) (c ∷ used) ≡ list_any (reaches claim.first claim.end) (ranges_of claim.physical (c ∷ used))
-  by_place true e rest = rw (e, rest) refl
-  by_place false e rest = rw (e, rest) refl
+  by_position true e rest = rw (e, rest) refl
+  by_position false e rest = rw (e, rest) refl
 
 -- an empty map keeps nothing
-pub keeps_nothing : (m : BTreeMap ℕ ℕ) → ((q : ℕ) → get nat_cmp m q ≡ None) → Keeps m []
+pub keeps_nothing : (m : BTreeMap ℕ ℕ) → ((q : ℕ) → get nat_cmp m q ≡ None) → HasRanges m []
 keeps_nothing m none = record {
   all = tt;
   only = λ first end is a b hit. absurd (some_none (get nat_cmp m first) end is (none first));
@@ -45,30 +45,30 @@ pub if_ok : {A B : Type 0} (r : Result A B) (P Q : A → Type 0) → ((a : A) �
 if_ok (Ok a) P Q f h = f a h
 if_ok (Err e) P Q f h = tt
 
--- one claim more, where its range is kept
-pub holds_more : (maps : List (BTreeMap ℕ ℕ)) (new : BTreeMap ℕ ℕ) (claim : Claim) (used : List Claim) → Holds maps used → claim.physical < length maps → Keeps new ((claim.first, claim.end) ∷ ranges_of claim.physical used) → Holds (set maps claim.physical new) (claim ∷ used)
-holds_more maps new claim used holds within keeps = record { at = λ i d below. at_place i d (omega (arith, below, length-set maps claim.physical new)) (i == claim.physical) refl } where
-  at_place : (i : ℕ) (d : BTreeMap ℕ ℕ) → i < length maps → (b : Bool) → (i == claim.physical) ≡ b → Keeps (get_or (set maps claim.physical new) i d) (ranges_of i (claim ∷ used))
-  at_place i d below true e =
+-- one claim more, where its range is has
+pub holds_more : (maps : List (BTreeMap ℕ ℕ)) (new : BTreeMap ℕ ℕ) (claim : Claim) (used : List Claim) → Holds maps used → claim.physical < length maps → HasRanges new ((claim.first, claim.end) ∷ ranges_of claim.physical used) → Holds (set maps claim.physical new) (claim ∷ used)
+holds_more maps new claim used holds within keeps = record { at = λ i d below. at_position i d (omega (arith, below, length-set maps claim.physical new)) (i == claim.physical) refl } where
+  at_position : (i : ℕ) (d : BTreeMap ℕ ℕ) → i < length maps → (b : Bool) → (i == claim.physical) ≡ b → HasRanges (get_or (set maps claim.physical new) i d) (ranges_of i (claim ∷ used))
+  at_position i d below true e =
       let same : i ≡ claim.physical = eqb-true i claim.physical e in
-      let kept : Keeps (get_or (set maps claim.physical new) claim.physical d) ((claim.first, claim.end) ∷ ranges_of claim.physical used) =
-      subst (λ (m : BTreeMap ℕ ℕ). Keeps m ((claim.first, claim.end) ∷ ranges_of claim.physical used)) (sym (get_or-set_same maps claim.physical new d within)) keeps in
+      let has : HasRanges (get_or (set maps claim.physical new) claim.physical d) ((claim.first, claim.end) ∷ ranges_of claim.physical used) =
+      subst (λ (m : BTreeMap ℕ ℕ). HasRanges m ((claim.first, claim.end) ∷ ranges_of claim.physical used)) (sym (get_or-set_same maps claim.physical new d within)) keeps in
       let more : (claim.first, claim.end) ∷ ranges_of claim.physical used ≡ ranges_of claim.physical (claim ∷ used) = rw (same_eqb claim.physical) refl in
-      subst (λ (j : ℕ). Keeps (get_or (set maps claim.physical new) j d) (ranges_of j (claim ∷ used))) (sym same)
-      (subst (λ (rs : List (ℕ × ℕ)). Keeps (get_or (set maps claim.physical new) claim.physical d) rs) more kept)
-  at_place i d below false e =
-      let kept : Keeps (get_or (set maps claim.physical new) i d) (ranges_of i used) =
-      subst (λ (m : BTreeMap ℕ ℕ). Keeps m (ranges_of i used)) (sym (get_or-set_other maps claim.physical i new d (eqb-false i claim.physical e))) (holds.at i d below) in
+      subst (λ (j : ℕ). HasRanges (get_or (set maps claim.physical new) j d) (ranges_of j (claim ∷ used))) (sym same)
+      (subst (λ (rs : List (ℕ × ℕ)). HasRanges (get_or (set maps claim.physical new) claim.physical d) rs) more has)
+  at_position i d below false e =
+      let has : HasRanges (get_or (set maps claim.physical new) i d) (ranges_of i used) =
+      subst (λ (m : BTreeMap ℕ ℕ). HasRanges m (ranges_of i used)) (sym (get_or-set_other maps claim.physical i new d (eqb-false i claim.physical e))) (holds.at i d below) in
       let same : ranges_of i used ≡ ranges_of i (claim ∷ used) = rw e refl in
-      subst (λ (rs : List (ℕ × ℕ)). Keeps (get_or (set maps claim.physical new) i d) rs) same kept
+      subst (λ (rs : List (ℕ × ℕ)). HasRanges (get_or (set maps claim.physical new) i d) rs) same has
 
-pub holds_nothing : (maps : List (BTreeMap ℕ ℕ)) (m : BTreeMap ℕ ℕ) → Holds maps [] → Keeps m [] → Holds (maps ++ m ∷ []) []
-holds_nothing maps m holds keeps = record { at = λ i d below. at_place i d (cases_lt i (length maps)) (omega (arith, below, length-append maps (m ∷ []))) } where
-  at_place : (i : ℕ) (d : BTreeMap ℕ ℕ) → (i < length maps) ⊎ (length maps ≤ i) → i < length maps + 1 → Keeps (get_or (maps ++ m ∷ []) i d) []
-  at_place i d (inl before) below = subst (λ (n : BTreeMap ℕ ℕ). Keeps n []) (sym (get_or_append_left maps (m ∷ []) d i before)) (holds.at i d before)
-  at_place i d (inr after) below =
+pub holds_nothing : (maps : List (BTreeMap ℕ ℕ)) (m : BTreeMap ℕ ℕ) → Holds maps [] → HasRanges m [] → Holds (maps ++ m ∷ []) []
+holds_nothing maps m holds keeps = record { at = λ i d below. at_position i d (cases_lt i (length maps)) (omega (arith, below, length-append maps (m ∷ []))) } where
+  at_position : (i : ℕ) (d : BTreeMap ℕ ℕ) → (i < length maps) ⊎ (length maps ≤ i) → i < length maps + 1 → HasRanges (get_or (maps ++ m ∷ []) i d) []
+  at_position i d (inl before) below = subst (λ (n : BTreeMap ℕ ℕ). HasRanges n []) (sym (get_or_append_left maps (m ∷ []) d i before)) (holds.at i d before)
+  at_position i d (inr after) below =
       let last : i ≡ length maps = omega (arith, after, below) in
-      subst (λ (n : BTreeMap ℕ ℕ). Keeps n []) (sym (ap (λ (j : ℕ). get_or (maps ++ m ∷ []) j d) last ∙ get_or-append_seam maps m [] d)) keeps
+      subst (λ (n : BTreeMap ℕ ℕ). HasRanges n []) (sym (ap (λ (j : ℕ). get_or (maps ++ m ∷ []) j d) last ∙ get_or-append_seam maps m [] d)) keeps
 
 -- one volume more is looked at
 pub volume_passed : (physicals : List Physical) (used : List Claim) (volumes : List Volume) (i : ℕ) (volume : Volume) (segments : List Segment) → i < length volumes → volume ≡ get_or volumes i volume → segments ≡ volume.segments

@@ -1,5 +1,5 @@
 pub mod Faults
-pub mod PlaceLemmas
+pub mod PositionLemmas
 pub mod PhysicalLemmas
 pub mod StripeLemmas
 pub mod UsedLemmas

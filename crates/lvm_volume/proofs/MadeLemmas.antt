@@ -13,7 +13,7 @@ use Rattle.lvm_volume.specs.declared.volume.Volume.{Volume}
 use Rattle.lvm_volume.specs.Group.{Group}
 use Rattle.lvm_volume.specs.Names.{fault_of}
 use Rattle.lvm_volume.specs.Roles.{end_of, name_at, recorded, records_of, role_at, role_by, role_of, roles_of, segments_at, unless_recorded}
-use Rattle.lvm_volume.specs.Tables.{IsMadeIn, IsSegmentIn, IsSnapshotIn, IsSoundGroup, casts_of, device_parts, length_of, unnamed, unnamed_volume}
+use Rattle.lvm_volume.specs.Tables.{IsMadeIn, IsSegmentIn, IsSnapshotIn, IsSoundGroup, members_of, device_parts, length_of, unnamed, unnamed_volume}
 use Rattle.lvm_volume.proofs.NamedLemmas.{origin_named}
 use Rattle.lvm_volume.proofs.OriginLemmas.{all_by, all_filtered}
 use Rattle.lvm_volume.proofs.Sound.{append-nil_both, first_or-nil}
@@ -83,7 +83,7 @@ made_from group snapshots first (volume ∷ volumes) fits segments none =
     )
 
 -- a sound group of which no name is refused
-pub all_made : (group : Group) → IsSoundGroup group → first_or (unnamed group) None ≡ None → AllByRecursion (IsMadeIn group) (casts_of group)
+pub all_made : (group : Group) → IsSoundGroup group → first_or (unnamed group) None ≡ None → AllByRecursion (IsMadeIn group) (members_of group)
 all_made group sound named =
     let none = (first_or-nil (unnamed group) None named).0 in
     let snapshots = records_of group.volumes in
@@ -99,5 +99,5 @@ pub names_of : (group : Group) (name : List ℕ) (all : List Role) (volumes : Li
 names_of group name all volumes is_name are_roles are_volumes = rw (is_name, are_roles, are_volumes) refl
 
 pub made_of : (group : Group) (name : List ℕ) (physicals : List Physical) (volumes : List Volume) (all : List Role) → name ≡ group.name → physicals ≡ group.physicals → volumes ≡ group.volumes → all ≡ roles_of group.volumes
-    → AllByRecursion (IsMadeIn group) (casts_of group) → AllByRecursion (IsMadeIn (record { name = name; extent_size = group.extent_size; physicals = physicals; volumes = volumes })) (zip all volumes)
+    → AllByRecursion (IsMadeIn group) (members_of group) → AllByRecursion (IsMadeIn (record { name = name; extent_size = group.extent_size; physicals = physicals; volumes = volumes })) (zip all volumes)
 made_of group name physicals volumes all is_name are_physicals are_volumes are_roles made = rw (is_name, are_physicals, are_volumes, are_roles) made

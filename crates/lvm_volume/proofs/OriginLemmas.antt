@@ -51,7 +51,7 @@ all_among (snapshot ∷ snapshots) = (
 
 -- What the checks leave of a record
 
-record IsKept (count : ℕ) (all : List Role) (snapshot : Record) : Type 0 where
+record IsAllowed (count : ℕ) (all : List Role) (snapshot : Record) : Type 0 where
   there : snapshot.origin < count
   no_record : is_record (role_at all snapshot.origin) ≡ false
   store : is_store (role_at all snapshot.store) ≡ true
@@ -64,28 +64,28 @@ not_false : (b : Bool) → not b ≡ false → b ≡ true
 not_false true e = refl
 not_false false e = absurd cc
 
-kept_target : (count : ℕ) (volumes : List Volume) (all : List Role) (extents line : ℕ) (target : SegmentType) → list_any (λ place. not (nat_lt place count)) (volumes_named target) ≡ false → is_bad_target volumes all true extents target ≡ false
-    → AllByRecursion (IsKept count all) (snapshot_of line target)
-kept_target count volumes all extents line (Snapshot chunk origin store) known good =
+allowed_target : (count : ℕ) (volumes : List Volume) (all : List Role) (extents line : ℕ) (target : SegmentType) → list_any (λ position. not (nat_lt position count)) (volumes_named target) ≡ false → is_bad_target volumes all true extents target ≡ false
+    → AllByRecursion (IsAllowed count all) (snapshot_of line target)
+allowed_target count volumes all extents line (Snapshot chunk_size origin store) known good =
     let a = or_false (is_record (role_at all origin)) _ good in
     let b = or_false (not (is_store (role_at all store))) _ a.1 in
     (record { there = ltb-true origin count (not_false (nat_lt origin count) (or_false (not (nat_lt origin count)) _ known).0); no_record = a.0; store = not_false (is_store (role_at all store)) b.0 }, tt)
-kept_target count volumes all extents line (Striped chunk stripes) known good = tt
-kept_target count volumes all extents line Zero known good = tt
-kept_target count volumes all extents line Error known good = tt
+allowed_target count volumes all extents line (Striped stripe_size stripes) known good = tt
+allowed_target count volumes all extents line Zero known good = tt
+allowed_target count volumes all extents line Error known good = tt
 
-kept_in : (physicals count : ℕ) (volumes : List Volume) (all : List Role) (segments : List Segment) → AllByRecursion (λ segment. is_unknown physicals count segment ≡ false) segments
-    → AllByRecursion (λ segment. is_bad_snapshot volumes all (length segments == 1) segment ≡ false) segments → AllByRecursion (IsKept count all) (recorded segments)
-kept_in physicals count volumes all [] known good = tt
-kept_in physicals count volumes all (segment ∷ []) known good =
-    kept_target count volumes all segment.count segment.line segment.target (or_false (list_any (λ stripe. not (nat_lt stripe.physical physicals)) (stripes_of segment.target)) _ known.0).1 good.0
-kept_in physicals count volumes all (segment ∷ second ∷ more) known good = tt
+allowed_in : (physicals count : ℕ) (volumes : List Volume) (all : List Role) (segments : List Segment) → AllByRecursion (λ segment. is_unknown physicals count segment ≡ false) segments
+    → AllByRecursion (λ segment. is_bad_snapshot volumes all (length segments == 1) segment ≡ false) segments → AllByRecursion (IsAllowed count all) (recorded segments)
+allowed_in physicals count volumes all [] known good = tt
+allowed_in physicals count volumes all (segment ∷ []) known good =
+    allowed_target count volumes all segment.count segment.line segment.target (or_false (list_any (λ stripe. not (nat_lt stripe.physical physicals)) (stripes_of segment.target)) _ known.0).1 good.0
+allowed_in physicals count volumes all (segment ∷ second ∷ more) known good = tt
 
-all_kept : (physicals count : ℕ) (volumes : List Volume) (all : List Role) (left : List Volume) → AllByRecursion (λ volume. AllByRecursion (λ segment. is_unknown physicals count segment ≡ false) volume.segments) left
-    → AllByRecursion (λ volume. AllByRecursion (λ segment. is_bad_snapshot volumes all (length volume.segments == 1) segment ≡ false) volume.segments) left → AllByRecursion (IsKept count all) (records_of left)
-all_kept physicals count volumes all [] known good = tt
-all_kept physicals count volumes all (volume ∷ left) known good =
-    all_both (IsKept count all) (recorded volume.segments) (records_of left) (kept_in physicals count volumes all volume.segments known.0 good.0) (all_kept physicals count volumes all left known.1 good.1)
+all_allowed : (physicals count : ℕ) (volumes : List Volume) (all : List Role) (left : List Volume) → AllByRecursion (λ volume. AllByRecursion (λ segment. is_unknown physicals count segment ≡ false) volume.segments) left
+    → AllByRecursion (λ volume. AllByRecursion (λ segment. is_bad_snapshot volumes all (length volume.segments == 1) segment ≡ false) volume.segments) left → AllByRecursion (IsAllowed count all) (records_of left)
+all_allowed physicals count volumes all [] known good = tt
+all_allowed physicals count volumes all (volume ∷ left) known good =
+    all_both (IsAllowed count all) (recorded volume.segments) (records_of left) (allowed_in physicals count volumes all volume.segments known.0 good.0) (all_allowed physicals count volumes all left known.1 good.1)
 
 -- The role of an origin
 
@@ -98,29 +98,29 @@ role_there snapshots first (suc i) (volume ∷ volumes) within =
 
 origin_by : (own : List Record) (is_origin : Bool) (stored : List Record) → is_origin ≡ true → is_record (unless_recorded own (role_by is_origin stored)) ≡ false
     → AllByRecursion (λ snapshot. is_store (unless_recorded own (role_by is_origin stored)) ≡ true) stored → unless_recorded own (role_by is_origin stored) ≡ roles.Origin
-origin_by (snapshot ∷ own) is_origin stored is none kept = absurd cc
-origin_by [] false stored is none kept = absurd cc
-origin_by [] true [] is none kept = refl
-origin_by [] true (s ∷ []) is none kept = let wrong = kept.0 in absurd cc
-origin_by [] true (s ∷ t ∷ stored) is none kept = let wrong = kept.0 in absurd cc
+origin_by (snapshot ∷ own) is_origin stored is none allowed = absurd cc
+origin_by [] false stored is none allowed = absurd cc
+origin_by [] true [] is none allowed = refl
+origin_by [] true (s ∷ []) is none allowed = let wrong = allowed.0 in absurd cc
+origin_by [] true (s ∷ t ∷ stored) is none allowed = let wrong = allowed.0 in absurd cc
 
-is_origin : (volumes : List Volume) (snapshot : Record) → AllByRecursion (IsKept (length volumes) (roles_of volumes)) (records_of volumes) → IsKept (length volumes) (roles_of volumes) snapshot → has_origin (records_of volumes) snapshot
+is_origin : (volumes : List Volume) (snapshot : Record) → AllByRecursion (IsAllowed (length volumes) (roles_of volumes)) (records_of volumes) → IsAllowed (length volumes) (roles_of volumes) snapshot → has_origin (records_of volumes) snapshot
     → role_at (roles_of volumes) snapshot.origin ≡ roles.Origin
-is_origin volumes snapshot all kept among =
+is_origin volumes snapshot all allowed among =
     let snapshots = records_of volumes in
-    let place = snapshot.origin in
-    let there = role_there snapshots 0 place volumes kept.there in
+    let position = snapshot.origin in
+    let there = role_there snapshots 0 position volumes allowed.there in
     let volume = there.0 in
-    let is : role_at (roles_of volumes) place ≡ role_of snapshots (place, volume) = there.1 ∙ ap (λ (n : ℕ). role_of snapshots (n, volume)) (omega arith) in
-    let stored = all_by (λ (s : Record). ((s.store == place) ≡ true) × IsKept (length volumes) (roles_of volumes) s) (λ (s : Record). is_store (role_of snapshots (place, volume)) ≡ true)
-    (λ s h. subst (λ (role : Role). is_store role ≡ true) is (subst (λ (n : ℕ). is_store (role_at (roles_of volumes) n) ≡ true) (eqb-true s.store place h.0) h.1.store))
-    (filter (λ s. s.store == place) snapshots) (all_filtered (IsKept (length volumes) (roles_of volumes)) (λ s. s.store == place) snapshots all) in
-    is ∙ origin_by (recorded volume.segments) (list_any (λ s. s.origin == place) snapshots) (filter (λ s. s.store == place) snapshots) among (sym (ap is_record is) ∙ kept.no_record) stored
+    let is : role_at (roles_of volumes) position ≡ role_of snapshots (position, volume) = there.1 ∙ ap (λ (n : ℕ). role_of snapshots (n, volume)) (omega arith) in
+    let stored = all_by (λ (s : Record). ((s.store == position) ≡ true) × IsAllowed (length volumes) (roles_of volumes) s) (λ (s : Record). is_store (role_of snapshots (position, volume)) ≡ true)
+    (λ s h. subst (λ (role : Role). is_store role ≡ true) is (subst (λ (n : ℕ). is_store (role_at (roles_of volumes) n) ≡ true) (eqb-true s.store position h.0) h.1.store))
+    (filter (λ s. s.store == position) snapshots) (all_filtered (IsAllowed (length volumes) (roles_of volumes)) (λ s. s.store == position) snapshots all) in
+    is ∙ origin_by (recorded volume.segments) (list_any (λ s. s.origin == position) snapshots) (filter (λ s. s.store == position) snapshots) among (sym (ap is_record is) ∙ allowed.no_record) stored
 
 pub all_origins : (physicals : ℕ) (volumes : List Volume) → AllByRecursion (λ volume. AllByRecursion (λ segment. is_unknown physicals (length volumes) segment ≡ false) volume.segments) volumes
     → AllByRecursion (λ volume. AllByRecursion (λ segment. is_bad_snapshot volumes (roles_of volumes) (length volume.segments == 1) segment ≡ false) volume.segments) volumes
     → AllByRecursion (λ snapshot. role_at (roles_of volumes) snapshot.origin ≡ roles.Origin) (records_of volumes)
 all_origins physicals volumes known good =
-    let kept = all_kept physicals (length volumes) volumes (roles_of volumes) volumes known good in
-    all_by (λ (s : Record). IsKept (length volumes) (roles_of volumes) s × has_origin (records_of volumes) s) (λ (s : Record). role_at (roles_of volumes) s.origin ≡ roles.Origin)
-    (λ s h. is_origin volumes s kept h.0 h.1) (records_of volumes) (all_paired (IsKept (length volumes) (roles_of volumes)) (has_origin (records_of volumes)) (records_of volumes) kept (all_among (records_of volumes)))
+    let allowed = all_allowed physicals (length volumes) volumes (roles_of volumes) volumes known good in
+    all_by (λ (s : Record). IsAllowed (length volumes) (roles_of volumes) s × has_origin (records_of volumes) s) (λ (s : Record). role_at (roles_of volumes) s.origin ≡ roles.Origin)
+    (λ s h. is_origin volumes s allowed h.0 h.1) (records_of volumes) (all_paired (IsAllowed (length volumes) (roles_of volumes)) (has_origin (records_of volumes)) (records_of volumes) allowed (all_among (records_of volumes)))

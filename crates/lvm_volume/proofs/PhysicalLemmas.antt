@@ -39,8 +39,8 @@ nothing : (b : Bool) (x : LoadFault) (ys : List LoadFault) → first_or (if b th
 nothing true x ys e = absurd cc
 nothing false x ys e = refl
 
-at_place : (f : Keyed → Physical) (xs : List (Bor (List ℕ) × Bor Tree)) (i : ℕ) (x : Bor (List ℕ) × Bor Tree) → i < length xs → x ≡ get_or xs i x → map f (map item_view (drop i xs)) ≡ f (item_view x) ∷ map f (map item_view (drop (i + 1) xs))
-at_place f xs i x within is =
+at_position : (f : Keyed → Physical) (xs : List (Bor (List ℕ) × Bor Tree)) (i : ℕ) (x : Bor (List ℕ) × Bor Tree) → i < length xs → x ≡ get_or xs i x → map f (map item_view (drop i xs)) ≡ f (item_view x) ∷ map f (map item_view (drop (i + 1) xs))
+at_position f xs i x within is =
     ap (λ (ys : List (Bor (List ℕ) × Bor Tree)). map f (map item_view ys)) (drop_more xs i x within) ∙ ap (λ (y : Bor (List ℕ) × Bor Tree). f (item_view y) ∷ map f (map item_view (drop (i + 1) xs))) (sym is)
 
 -- the next is refused
@@ -49,7 +49,7 @@ pub refused_here : (f : Keyed → Physical) (xs : List (Bor (List ℕ) × Bor Tr
     → unless (first_or (name_faults (f (item_view x) ∷ [])) None) (f (item_view x)) ≡ Err fault → unless (first_or (name_faults all) None) all ≡ Err fault
 refused_here f xs i x all fault within is left e =
     let found = alone (not (is_disk_name (f (item_view x)).disk)) (fault_at Source Name (f (item_view x)).line) (name_faults (map f (map item_view (drop (i + 1) xs)))) fault (err_is _ _ fault e) in
-    let first : first_or (name_faults all) None ≡ Some fault = sym left ∙ ap (λ (ps : List Physical). first_or (name_faults ps) None) (at_place f xs i x within is) ∙ found in
+    let first : first_or (name_faults all) None ≡ Some fault = sym left ∙ ap (λ (ps : List Physical). first_or (name_faults ps) None) (at_position f xs i x within is) ∙ found in
     ap (λ (o : Option LoadFault). unless o all) first
 
 pub taken_here : (f : Keyed → Physical) (xs : List (Bor (List ℕ) × Bor Tree)) (i : ℕ) (x : Bor (List ℕ) × Bor Tree) (p : Physical) → i < length xs → x ≡ get_or xs i x
@@ -58,7 +58,7 @@ pub taken_here : (f : Keyed → Physical) (xs : List (Bor (List ℕ) × Bor Tree
 taken_here f xs i x p within is e =
     let a = ok_is (first_or (name_faults (f (item_view x) ∷ [])) None) (f (item_view x)) p e in
     let more = map f (map item_view (drop (i + 1) xs)) in
-    let at = at_place f xs i x within is in (
+    let at = at_position f xs i x within is in (
       at ∙ ap (λ (q : Physical). q ∷ more) a.1,
       sym (ap (λ (ps : List Physical). first_or (name_faults ps) None) at ∙ nothing (not (is_disk_name (f (item_view x)).disk)) (fault_at Source Name (f (item_view x)).line) (name_faults more) a.0),
     )

@@ -1,4 +1,4 @@
--- Places of keys: a set of keys that all differ has them in their order.
+-- Positions of keys: a set of keys that all differ has them in their order.
 use Rattle.std.proofs.Common.{◌≡◌, ◌≢◌, ◌≤◌, ℕ, ◌+◌, Bool, true, false, not, cond, List, [], ◌∷◌, ◌++◌, length, Option, Some, None, refl, sym, ap, ◌∙◌, arith}
 use Rattle.std.specs.Prelude.{◌||◌, bytes_eq, nat_lt, position, unwrap_or}
 use Rattle.std.specs.List.{AllByRecursion, AllPairs, IsDistinct, list_any, position_or_len}
@@ -8,7 +8,7 @@ use Rattle.std.proofs.lemmas.List.Sums.{prefix_len-le-length}
 use Rattle.std.proofs.lemmas.Map.Made.{IsDistinct-from_AllPairs}
 use Rattle.std.proofs.lemmas.Slice.Eq.{bytes_eq-Decides}
 use Rattle.lvm_text.specs.Tree.{Values, Nothing, Section, Single, Several, keys_of, sections_of}
-use Rattle.lvm_volume.specs.Group.{keys_in, place_of}
+use Rattle.lvm_volume.specs.Group.{keys_in, position_of}
 use Rattle.lvm_volume.specs.GroupCode.{texts}
 use denote.Ref.{Bor}
 
@@ -63,16 +63,16 @@ pub added : (key : Bor (List ℕ)) (old new : List (Bor (List ℕ))) → new ≡
 added key old new is none =
     ap texts (is ∙ ap (λ (b : Bool). cond b old (old ++ key ∷ [])) (any_texts key.now old ∙ none)) ∙ map_push (λ (text : Bor (List ℕ)). text.now) old key
 
-place_texts : (key : List ℕ) (ks : List (Bor (List ℕ))) → position_or_len (λ k. bytes_eq key k.now) ks ≡ position_or_len (bytes_eq key) (texts ks)
-place_texts key [] = refl
-place_texts key (k ∷ ks) = ap (λ (n : ℕ). cond (not (bytes_eq key k.now)) (1 + n) 0) (place_texts key ks)
+position_texts : (key : List ℕ) (ks : List (Bor (List ℕ))) → position_or_len (λ k. bytes_eq key k.now) ks ≡ position_or_len (bytes_eq key) (texts ks)
+position_texts key [] = refl
+position_texts key (k ∷ ks) = ap (λ (n : ℕ). cond (not (bytes_eq key k.now)) (1 + n) 0) (position_texts key ks)
 
 by_test : (b : Bool) (n len : ℕ) → nat_lt n len ≡ b → n ≤ len → unwrap_or (cond b (Some n) None) len ≡ n
 by_test true n len e within = refl
 by_test false n len e within = omega (arith, ltb-false n len e)
 
 -- what was found of a key, or their number
-pub place_is : (key : List ℕ) (ks : List (Bor (List ℕ))) (found : Option ℕ) → found ≡ position (λ k. bytes_eq key k.now) ks → unwrap_or found (length ks) ≡ place_of (texts ks) key
-place_is key ks found is =
-    let place = position_or_len (λ (k : Bor (List ℕ)). bytes_eq key k.now) ks in
-    ap (λ (o : Option ℕ). unwrap_or o (length ks)) is ∙ by_test (nat_lt place (length ks)) place (length ks) refl (prefix_len-le-length _ ks) ∙ place_texts key ks
+pub position_is : (key : List ℕ) (ks : List (Bor (List ℕ))) (found : Option ℕ) → found ≡ position (λ k. bytes_eq key k.now) ks → unwrap_or found (length ks) ≡ position_of (texts ks) key
+position_is key ks found is =
+    let position = position_or_len (λ (k : Bor (List ℕ)). bytes_eq key k.now) ks in
+    ap (λ (o : Option ℕ). unwrap_or o (length ks)) is ∙ by_test (nat_lt position (length ks)) position (length ks) refl (prefix_len-le-length _ ks) ∙ position_texts key ks

@@ -47,31 +47,31 @@ all_changed snapshot snapshots first (volume ∷ volumes) =
     ap (λ (role : Role). role ∷ changed (with_store snapshot) snapshot.store (first + 1) (changed with_origin snapshot.origin (first + 1) (map (role_of snapshots) (enumerate_from (first + 1) volumes)))) one
     ∙ ap (λ (all : List Role). role_of (snapshot ∷ snapshots) (first, volume) ∷ all) (all_changed snapshot snapshots (first + 1) volumes)
 
--- The one at a place
+-- The one at a position
 
-not_before : (change : Role → Role) (place first : ℕ) (all : List Role) → place < first → changed change place first all ≡ all
-not_before change place first [] below = refl
-not_before change place first (role ∷ all) below =
-    let other : (place == first) ≡ false = ne_eqb place first (λ same. omega (arith, same, below)) in
-    rw (other, not_before change place (first + 1) all (omega (arith, below))) refl
+not_before : (change : Role → Role) (position first : ℕ) (all : List Role) → position < first → changed change position first all ≡ all
+not_before change position first [] below = refl
+not_before change position first (role ∷ all) below =
+    let other : (position == first) ≡ false = ne_eqb position first (λ same. omega (arith, same, below)) in
+    rw (other, not_before change position (first + 1) all (omega (arith, below))) refl
 
-pub not_after : (change : Role → Role) (place first : ℕ) (all : List Role) → first + length all ≤ place → changed change place first all ≡ all
-not_after change place first [] past = refl
-not_after change place first (role ∷ all) past =
-    let other : (place == first) ≡ false = ne_eqb place first (λ same. omega (arith, same, past)) in
-    rw (other, not_after change place (first + 1) all (omega (arith, past))) refl
+pub not_after : (change : Role → Role) (position first : ℕ) (all : List Role) → first + length all ≤ position → changed change position first all ≡ all
+not_after change position first [] past = refl
+not_after change position first (role ∷ all) past =
+    let other : (position == first) ≡ false = ne_eqb position first (λ same. omega (arith, same, past)) in
+    rw (other, not_after change position (first + 1) all (omega (arith, past))) refl
 
-set_at : (change : Role → Role) (place first i : ℕ) (all : List Role) (d : Role) → place ≡ first + i → i < length all → changed change place first all ≡ set all i (change (get_or all i d))
-set_at change place first i [] d is within = absurd (omega (arith, within))
-set_at change place first zero (role ∷ all) d is within =
-    let same : (place == first) ≡ true = eq-eqb place first (omega (arith, is)) in
-    rw (same, not_before change place (first + 1) all (omega (arith, is))) refl
-set_at change place first (suc i) (role ∷ all) d is within =
-    let other : (place == first) ≡ false = ne_eqb place first (λ same. omega (arith, same, is)) in
-    rw (other, set_at change place (first + 1) i all d (omega (arith, is)) (omega (arith, within))) refl
+set_at : (change : Role → Role) (position first i : ℕ) (all : List Role) (d : Role) → position ≡ first + i → i < length all → changed change position first all ≡ set all i (change (get_or all i d))
+set_at change position first i [] d is within = absurd (omega (arith, within))
+set_at change position first zero (role ∷ all) d is within =
+    let same : (position == first) ≡ true = eq-eqb position first (omega (arith, is)) in
+    rw (same, not_before change position (first + 1) all (omega (arith, is))) refl
+set_at change position first (suc i) (role ∷ all) d is within =
+    let other : (position == first) ≡ false = ne_eqb position first (λ same. omega (arith, same, is)) in
+    rw (other, set_at change position (first + 1) i all d (omega (arith, is)) (omega (arith, within))) refl
 
-pub changed_one : (change : Role → Role) (place : ℕ) (all : List Role) (d : Role) → place < length all → changed change place 0 all ≡ set all place (change (get_or all place d))
-changed_one change place all d within = set_at change place 0 place all d (omega arith) within
+pub changed_one : (change : Role → Role) (position : ℕ) (all : List Role) (d : Role) → position < length all → changed change position 0 all ≡ set all position (change (get_or all position d))
+changed_one change position all d within = set_at change position 0 position all d (omega arith) within
 
 -- The snapshots from a volume on
 

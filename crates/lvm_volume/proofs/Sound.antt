@@ -14,7 +14,7 @@ use Rattle.lvm_volume.specs.declared.field.Kind.{Kind}
 use Rattle.lvm_volume.specs.declared.field.Kind.TheVariants as kinds
 use Rattle.lvm_volume.specs.declared.field.Condition.TheVariants.{Always}
 use Rattle.lvm_volume.specs.declared.physical.Physical.{Physical}
-use Rattle.lvm_volume.specs.declared.places.GroupPlaces.{GroupPlaces}
+use Rattle.lvm_volume.specs.declared.positions.GroupPositions.{GroupPositions}
 use Rattle.lvm_volume.specs.declared.segment.Stripe.{Stripe}
 use Rattle.lvm_volume.specs.declared.segment.Segment.{Segment}
 use Rattle.lvm_volume.specs.declared.volume.Volume.{Volume}
@@ -22,7 +22,7 @@ use Rattle.lvm_volume.specs.Fields.{faults_of_fields, field, field_faults, field
 use Rattle.lvm_volume.specs.Extents as extents
 use Rattle.lvm_volume.specs.Extents.{Claim, at_line, claims_of, used_after, used_by, extents_at, have_clash, hit, is_misplaced, is_unknown, least_line, least_line_of, lesser, meets, parts_of, segment_faults, size_faults, snapshot_faults, stripes_of, unknown_faults}
 use Rattle.lvm_volume.specs.Used.{claims_by}
-use Rattle.lvm_volume.specs.Group.{Keyed, device_of, group_in, physical_of, places_in, segment_of, volume_of}
+use Rattle.lvm_volume.specs.Group.{Keyed, device_of, group_in, physical_of, positions_in, segment_of, volume_of}
 use Rattle.lvm_volume.specs.Roles.{is_bad_snapshot, roles_of}
 use Rattle.lvm_volume.specs.Tables.{IsSegmentIn, IsSoundGroup, IsStripeIn, checks_of_parts, extent_faults, physical_at}
 use Rattle.lvm_volume.proofs.OriginLemmas.{all_origins}
@@ -110,7 +110,7 @@ small size devices (physical ∷ physicals) h =
     let a = physical-limits size physical.1 h.0 in
     (record { start = a.0; sectors = a.1 }, small size devices physicals h.1)
 
--- the one at a place
+-- the one at a position
 small_at : (size : ℕ) (physicals : List Physical) (i : ℕ) → AllByRecursion (IsSmall size) physicals → ((physical_at physicals i).start ≤ most) × (extents_at physicals i * size ≤ most)
 small_at size [] i h = (omega arith, omega arith)
 small_at size (physical ∷ physicals) zero h = (h.0.start, h.0.sectors)
@@ -246,7 +246,7 @@ sound_stripes size physicals (stripe ∷ stripes) few known begins =
       sound_stripes size physicals stripes few known.1 begins.1,
     )
 
-sound_segments : (size : ℕ) (physicals : List Physical) (keys : GroupPlaces) (trees : List Tree) → AllByRecursion (IsSmall size) physicals → AllByRecursion (λ segment. fields_faults (Limits size) segment segment_fields ≡ []) trees
+sound_segments : (size : ℕ) (physicals : List Physical) (keys : GroupPositions) (trees : List Tree) → AllByRecursion (IsSmall size) physicals → AllByRecursion (λ segment. fields_faults (Limits size) segment segment_fields ≡ []) trees
     → AllByRecursion (IsKnown (length physicals)) (map (segment_of keys) trees) → AllByRecursion (BeginsIn physicals) (map (segment_of keys) trees) → AllByRecursion (IsSegmentIn size physicals) (map (segment_of keys) trees)
 unfolding segment_of
 sound_segments size physicals keys [] few limits known begins = tt
@@ -256,7 +256,7 @@ sound_segments size physicals keys (tree ∷ trees) few limits known begins =
       sound_segments size physicals keys trees few limits.1 known.1 begins.1,
     )
 
-sound_volumes : (size : ℕ) (physicals : List Physical) (keys : GroupPlaces) (trees : List Keyed) → AllByRecursion (IsSmall size) physicals → AllByRecursion (λ (volume : Keyed). volume_faults (Limits size) volume.1 ≡ []) trees
+sound_volumes : (size : ℕ) (physicals : List Physical) (keys : GroupPositions) (trees : List Keyed) → AllByRecursion (IsSmall size) physicals → AllByRecursion (λ (volume : Keyed). volume_faults (Limits size) volume.1 ≡ []) trees
     → AllByRecursion (λ volume. AllByRecursion (IsKnown (length physicals)) volume.segments) (map (volume_of keys) trees) → AllByRecursion (λ volume. AllByRecursion (BeginsIn physicals) volume.segments) (map (volume_of keys) trees)
     → AllByRecursion (λ volume. AllByRecursion (IsSegmentIn size physicals) volume.segments) (map (volume_of keys) trees)
 unfolding volume_of
@@ -279,7 +279,7 @@ sound_group group limits e =
     let known = unhit_volumes (λ alone. is_unknown (length g.physicals) (length g.volumes)) g.volumes (no_line Unknown (least_line_of (λ alone. is_unknown (length g.physicals) (length g.volumes)) g.volumes) a.0) in
     let good = unhit_volumes (is_bad_snapshot g.volumes (roles_of g.volumes)) g.volumes (no_line loads.Snapshot (least_line_of (is_bad_snapshot g.volumes (roles_of g.volumes)) g.volumes) c.0) in
     record {
-      volumes = sound_volumes g.extent_size g.physicals (places_in group.1) (sections_at (codes "logical_volumes") group.1) few limits.volumes
+      volumes = sound_volumes g.extent_size g.physicals (positions_in group.1) (sections_at (codes "logical_volumes") group.1) few limits.volumes
           (known_volumes (length g.physicals) (length g.volumes) g.volumes known) (volumes_placed g.physicals [] g.volumes lies.1);
       origins = all_origins (length g.physicals) g.volumes known good;
     }

@@ -8,6 +8,7 @@ use Rattle.std.proofs.lemmas.Bool.Decides.{nat_tests}
 use Rattle.std.proofs.lemmas.List.{append-nil, take_more, take-append-drop}
 use denote.Ref.{Bor}
 use Rattle.std.proofs.lemmas.Option.{same_Some}
+use Rattle.lvm_volume.specs.Bytes.{hyphen, underscore}
 use Rattle.lvm_volume.specs.Names.{NameParts, built, Returns, is_letter, begins_with, part_fault, layer_fault, or_later, doubled, undoubled, undoubled_parts, with_hyphen, joined, fault_of, Builds, IsSplit, doubled_parts, name_or}
 use Rattle.dm_table.specs.Name.{is_device_byte, is_device_name}
 use Rattle.lvm_volume.specs.Cuts.{slice_length, first_slice, after_hyphen, later_slices, with_layer, slices_of}
@@ -21,26 +22,26 @@ cond_elim false P x y f g = g refl
 
 -- Doubled parts
 
-plain_length : (b : ℕ) (bs : List ℕ) → eqb b 45 ≡ false → slice_length (b ∷ bs) ≡ suc (slice_length bs)
+plain_length : (b : ℕ) (bs : List ℕ) → eqb b hyphen ≡ false → slice_length (b ∷ bs) ≡ suc (slice_length bs)
 plain_length b [] e = rw e refl
 plain_length b (c ∷ bs) e = rw e refl
 
-plain_undoubled : (b : ℕ) (bs : List ℕ) → eqb b 45 ≡ false → undoubled (b ∷ bs) ≡ b ∷ undoubled bs
+plain_undoubled : (b : ℕ) (bs : List ℕ) → eqb b hyphen ≡ false → undoubled (b ∷ bs) ≡ b ∷ undoubled bs
 plain_undoubled b [] e = refl
 plain_undoubled b (c ∷ bs) e = rw e refl
 
 pub undoubled-doubled : (w : List ℕ) → undoubled (doubled w) ≡ w
 undoubled-doubled [] = refl
 undoubled-doubled (b ∷ w) =
-    cond_elim (eqb b 45) (λ xs. undoubled xs ≡ b ∷ w) (45 ∷ 45 ∷ doubled w) (b ∷ doubled w)
-    (λ e. ap (λ (xs : List ℕ). 45 ∷ xs) (undoubled-doubled w) ∙ ap (λ n. n ∷ w) (sym (eqb-true b 45 e)))
+    cond_elim (eqb b hyphen) (λ xs. undoubled xs ≡ b ∷ w) (hyphen ∷ hyphen ∷ doubled w) (b ∷ doubled w)
+    (λ e. ap (λ (xs : List ℕ). hyphen ∷ xs) (undoubled-doubled w) ∙ ap (λ n. n ∷ w) (sym (eqb-true b hyphen e)))
     (λ e. plain_undoubled b (doubled w) e ∙ ap (λ (xs : List ℕ). b ∷ xs) (undoubled-doubled w))
 
 pub doubled-append : (xs ys : List ℕ) → doubled (xs ++ ys) ≡ doubled xs ++ doubled ys
 doubled-append [] ys = refl
 doubled-append (b ∷ xs) ys =
-    cond_elim (eqb b 45) (λ zs. cond (eqb b 45) (45 ∷ 45 ∷ doubled (xs ++ ys)) (b ∷ doubled (xs ++ ys)) ≡ zs ++ doubled ys) (45 ∷ 45 ∷ doubled xs) (b ∷ doubled xs)
-    (λ e. rw e (ap (λ (zs : List ℕ). 45 ∷ 45 ∷ zs) (doubled-append xs ys)))
+    cond_elim (eqb b hyphen) (λ zs. cond (eqb b hyphen) (hyphen ∷ hyphen ∷ doubled (xs ++ ys)) (b ∷ doubled (xs ++ ys)) ≡ zs ++ doubled ys) (hyphen ∷ hyphen ∷ doubled xs) (b ∷ doubled xs)
+    (λ e. rw e (ap (λ (zs : List ℕ). hyphen ∷ hyphen ∷ zs) (doubled-append xs ys)))
     (λ e. rw e (ap (λ (zs : List ℕ). b ∷ zs) (doubled-append xs ys)))
 
 -- a byte of a part after those of its front
@@ -51,18 +52,18 @@ not_equal : (a b : ℕ) (x : Bool) → eqb a b ≡ x → (a ≡ b → ⊥) → x
 not_equal a b true e n = absurd (n (eqb-true a b e))
 not_equal a b false e n = refl
 
-pub push_hyphen : (xs : List ℕ) (i : ℕ) (old t one two e : List ℕ) → i < length xs → t ≡ old ++ doubled (take i xs) → one ≡ t ++ e → e ≡ get_or xs i 0 ∷ [] → get_or xs i 0 ≡ 45 → two ≡ one ++ 45 ∷ [] → two ≡ old ++ doubled (take (i + 1) xs)
-push_hyphen xs i old t one two e lt at grown is hyphen last =
+pub push_hyphen : (xs : List ℕ) (i : ℕ) (old t one two e : List ℕ) → i < length xs → t ≡ old ++ doubled (take i xs) → one ≡ t ++ e → e ≡ get_or xs i 0 ∷ [] → get_or xs i 0 ≡ hyphen → two ≡ one ++ hyphen ∷ [] → two ≡ old ++ doubled (take (i + 1) xs)
+push_hyphen xs i old t one two e lt at grown is is_hyphen last =
     last
-    ∙ ap (λ (z : List ℕ). z ++ 45 ∷ []) (grown ∙ ap (λ (z : List ℕ). t ++ z) (is ∙ ap (λ n. n ∷ []) hyphen) ∙ ap (λ (z : List ℕ). z ++ 45 ∷ []) at)
-    ∙ append_assoc (old ++ doubled (take i xs)) (45 ∷ []) (45 ∷ [])
-    ∙ append_assoc old (doubled (take i xs)) (45 ∷ 45 ∷ [])
-    ∙ ap (λ (z : List ℕ). old ++ z) (sym (doubled_more xs i lt ∙ ap (λ n. doubled (take i xs) ++ doubled (n ∷ [])) hyphen))
+    ∙ ap (λ (z : List ℕ). z ++ hyphen ∷ []) (grown ∙ ap (λ (z : List ℕ). t ++ z) (is ∙ ap (λ n. n ∷ []) is_hyphen) ∙ ap (λ (z : List ℕ). z ++ hyphen ∷ []) at)
+    ∙ append_assoc (old ++ doubled (take i xs)) (hyphen ∷ []) (hyphen ∷ [])
+    ∙ append_assoc old (doubled (take i xs)) (hyphen ∷ hyphen ∷ [])
+    ∙ ap (λ (z : List ℕ). old ++ z) (sym (doubled_more xs i lt ∙ ap (λ n. doubled (take i xs) ++ doubled (n ∷ [])) is_hyphen))
 
-pub push_plain : (xs : List ℕ) (i : ℕ) (old t one e : List ℕ) → i < length xs → t ≡ old ++ doubled (take i xs) → one ≡ t ++ e → e ≡ get_or xs i 0 ∷ [] → (get_or xs i 0 ≡ 45 → ⊥) → one ≡ old ++ doubled (take (i + 1) xs)
+pub push_plain : (xs : List ℕ) (i : ℕ) (old t one e : List ℕ) → i < length xs → t ≡ old ++ doubled (take i xs) → one ≡ t ++ e → e ≡ get_or xs i 0 ∷ [] → (get_or xs i 0 ≡ hyphen → ⊥) → one ≡ old ++ doubled (take (i + 1) xs)
 push_plain xs i old t one e lt at grown is plain =
     let b = get_or xs i 0 in
-    let own : doubled (b ∷ []) ≡ b ∷ [] = rw (not_equal b 45 (eqb b 45) refl plain) refl in
+    let own : doubled (b ∷ []) ≡ b ∷ [] = rw (not_equal b hyphen (eqb b hyphen) refl plain) refl in
     grown ∙ ap (λ (z : List ℕ). t ++ z) is ∙ ap (λ (z : List ℕ). z ++ b ∷ []) at
     ∙ append_assoc old (doubled (take i xs)) (b ∷ [])
     ∙ ap (λ (z : List ℕ). old ++ z) (sym (doubled_more xs i lt ∙ ap (λ (z : List ℕ). doubled (take i xs) ++ z) own))
@@ -78,10 +79,10 @@ letter_at (x ∷ xs) (suc i) h lt = letter_at xs i (and_parts (is_letter x) (lis
 drop_next : (bs : List ℕ) (i : ℕ) → i < length bs → drop i bs ≡ get_or bs i 0 ∷ drop (i + 1) bs
 drop_next bs i lt = rw add-one (drop-cons bs i 0 lt)
 
-pub length_plain : (bs : List ℕ) (i : ℕ) → i < length bs → (get_or bs i 0 ≡ 45 → ⊥) → slice_length bs ≡ i + slice_length (drop i bs) → slice_length bs ≡ i + 1 + slice_length (drop (i + 1) bs)
+pub length_plain : (bs : List ℕ) (i : ℕ) → i < length bs → (get_or bs i 0 ≡ hyphen → ⊥) → slice_length bs ≡ i + slice_length (drop i bs) → slice_length bs ≡ i + 1 + slice_length (drop (i + 1) bs)
 length_plain bs i lt plain e =
     let b = get_or bs i 0 in
-    let step : slice_length (drop i bs) ≡ suc (slice_length (drop (i + 1) bs)) = ap slice_length (drop_next bs i lt) ∙ plain_length b (drop (i + 1) bs) (not_equal b 45 (eqb b 45) refl plain) in
+    let step : slice_length (drop i bs) ≡ suc (slice_length (drop (i + 1) bs)) = ap slice_length (drop_next bs i lt) ∙ plain_length b (drop (i + 1) bs) (not_equal b hyphen (eqb b hyphen) refl plain) in
     omega (arith, e, step)
 
 -- What is wrong with a part is wrong with it doubled
@@ -92,40 +93,40 @@ not_zero n false e = refl
 
 begins-doubled : (c b : ℕ) (w more : List ℕ) → begins_with c (doubled (b ∷ w) ++ more) ≡ eqb b c
 begins-doubled c b w more =
-    cond_elim (eqb b 45) (λ xs. begins_with c (xs ++ more) ≡ eqb b c) (45 ∷ 45 ∷ doubled w) (b ∷ doubled w)
-    (λ e. ap (λ n. eqb n c) (sym (eqb-true b 45 e)))
+    cond_elim (eqb b hyphen) (λ xs. begins_with c (xs ++ more) ≡ eqb b c) (hyphen ∷ hyphen ∷ doubled w) (b ∷ doubled w)
+    (λ e. ap (λ n. eqb n c) (sym (eqb-true b hyphen e)))
     (λ e. refl)
 
 empty-doubled : (b : ℕ) (w : List ℕ) → eqb (length (doubled (b ∷ w))) 0 ≡ false
 empty-doubled b w =
-    cond_elim (eqb b 45) (λ xs. eqb (length xs) 0 ≡ false) (45 ∷ 45 ∷ doubled w) (b ∷ doubled w)
-    (λ e. not_zero (length (45 ∷ doubled w)) _ refl)
+    cond_elim (eqb b hyphen) (λ xs. eqb (length xs) 0 ≡ false) (hyphen ∷ hyphen ∷ doubled w) (b ∷ doubled w)
+    (λ e. not_zero (length (hyphen ∷ doubled w)) _ refl)
     (λ e. not_zero (length (doubled w)) _ refl)
 
 letters-doubled : (w : List ℕ) → list_all is_letter (doubled w) ≡ list_all is_letter w
 letters-doubled [] = refl
 letters-doubled (b ∷ w) =
-    cond_elim (eqb b 45) (λ xs. list_all is_letter xs ≡ (is_letter b && list_all is_letter w)) (45 ∷ 45 ∷ doubled w) (b ∷ doubled w)
-    (λ e. letters-doubled w ∙ ap (λ n. is_letter n && list_all is_letter w) (sym (eqb-true b 45 e)))
+    cond_elim (eqb b hyphen) (λ xs. list_all is_letter xs ≡ (is_letter b && list_all is_letter w)) (hyphen ∷ hyphen ∷ doubled w) (b ∷ doubled w)
+    (λ e. letters-doubled w ∙ ap (λ n. is_letter n && list_all is_letter w) (sym (eqb-true b hyphen e)))
     (λ e. ap (λ (x : Bool). is_letter b && x) (letters-doubled w))
 
 abbrev fault_by : Bool → Bool → Bool → Option NameFault
-fault_by empty letters hyphen = cond empty (Some Empty) (cond letters (cond hyphen (Some HyphenFirst) None) (Some Letter))
+fault_by empty letters is_hyphen = cond empty (Some Empty) (cond letters (cond is_hyphen (Some HyphenFirst) None) (Some Letter))
 
 part-doubled : (w : List ℕ) → part_fault (doubled w) ≡ part_fault w
 part-doubled [] = refl
 part-doubled (b ∷ w) =
     let d = doubled (b ∷ w) in
-    ap (λ (x : Bool). fault_by x (list_all is_letter d) (begins_with 45 d)) (empty-doubled b w ∙ sym (not_zero (length w) _ refl))
-    ∙ ap (λ (x : Bool). fault_by (eqb (length (b ∷ w)) 0) x (begins_with 45 d)) (letters-doubled (b ∷ w))
-    ∙ ap (λ (x : Bool). fault_by (eqb (length (b ∷ w)) 0) (list_all is_letter (b ∷ w)) x) (ap (begins_with 45) (sym (append-nil d)) ∙ begins-doubled 45 b w [])
+    ap (λ (x : Bool). fault_by x (list_all is_letter d) (begins_with hyphen d)) (empty-doubled b w ∙ sym (not_zero (length w) _ refl))
+    ∙ ap (λ (x : Bool). fault_by (eqb (length (b ∷ w)) 0) x (begins_with hyphen d)) (letters-doubled (b ∷ w))
+    ∙ ap (λ (x : Bool). fault_by (eqb (length (b ∷ w)) 0) (list_all is_letter (b ∷ w)) x) (ap (begins_with hyphen) (sym (append-nil d)) ∙ begins-doubled hyphen b w [])
 
 layer-doubled : (l : Option (List ℕ)) → layer_fault (option_map doubled l) ≡ layer_fault l
 layer-doubled None = refl
 layer-doubled (Some []) = refl
 layer-doubled (Some (b ∷ w)) =
-    ap (λ (x : Bool). cond x (Some Letter) (part_fault (doubled (b ∷ w)))) (ap (begins_with 95) (sym (append-nil (doubled (b ∷ w)))) ∙ begins-doubled 95 b w [])
-    ∙ ap (λ (x : Option NameFault). cond (eqb b 95) (Some Letter) x) (part-doubled (b ∷ w))
+    ap (λ (x : Bool). cond x (Some Letter) (part_fault (doubled (b ∷ w)))) (ap (begins_with underscore) (sym (append-nil (doubled (b ∷ w)))) ∙ begins-doubled underscore b w [])
+    ∙ ap (λ (x : Option NameFault). cond (eqb b underscore) (Some Letter) x) (part-doubled (b ∷ w))
 
 -- the faults of parts
 abbrev pub parts_faults : NameParts → Option NameFault
@@ -165,7 +166,7 @@ device_doubled : (w : List ℕ) → list_all is_letter w ≡ true → list_all i
 device_doubled [] h = refl
 device_doubled (b ∷ w) h =
     let a = and_parts (is_letter b) (list_all is_letter w) h in
-    cond_elim (eqb b 45) (λ (xs : List ℕ). list_all is_device_byte xs ≡ true) (45 ∷ 45 ∷ doubled w) (b ∷ doubled w)
+    cond_elim (eqb b hyphen) (λ (xs : List ℕ). list_all is_device_byte xs ≡ true) (hyphen ∷ hyphen ∷ doubled w) (b ∷ doubled w)
     (λ e. device_doubled w a.1)
     (λ e. and_from (is_device_byte b) (list_all is_device_byte (doubled w)) (letter_device b a.0) (device_doubled w a.1))
 
@@ -175,14 +176,14 @@ device_append (x ∷ xs) ys h k =
     let a = and_parts (is_device_byte x) (list_all is_device_byte xs) h in
     and_from (is_device_byte x) (list_all is_device_byte (xs ++ ys)) a.0 (device_append xs ys a.1 k)
 
-by_none : (empty letters hyphen : Bool) → fault_by empty letters hyphen ≡ None → (letters ≡ true) × (hyphen ≡ false)
+by_none : (empty letters is_hyphen : Bool) → fault_by empty letters is_hyphen ≡ None → (letters ≡ true) × (is_hyphen ≡ false)
 by_none true l h e = absurd cc
 by_none false true true e = absurd cc
 by_none false true false e = (refl, refl)
 by_none false false h e = absurd cc
 
 part_letters : (w : List ℕ) → part_fault w ≡ None → list_all is_letter w ≡ true
-part_letters w e = (by_none (eqb (length w) 0) (list_all is_letter w) (begins_with 45 w) e).0
+part_letters w e = (by_none (eqb (length w) 0) (list_all is_letter w) (begins_with hyphen w) e).0
 
 layer_none : (l : List ℕ) (b : Bool) → cond b (Some Letter) (part_fault l) ≡ None → part_fault l ≡ None
 layer_none l true e = absurd cc
@@ -190,7 +191,7 @@ layer_none l false e = e
 
 device_layer : (l : Option (List ℕ)) → layer_fault l ≡ None → list_all is_device_byte (with_hyphen (option_map doubled l)) ≡ true
 device_layer None e = refl
-device_layer (Some l) e = device_doubled l (part_letters l (layer_none l (begins_with 95 l) e))
+device_layer (Some l) e = device_doubled l (part_letters l (layer_none l (begins_with underscore l) e))
 
 or_none : (a b : Option NameFault) → or_later a b ≡ None → (a ≡ None) × (b ≡ None)
 or_none None b e = (refl, e)
@@ -200,7 +201,7 @@ joined_device : (p : NameParts) → parts_faults p ≡ None → list_all is_devi
 joined_device p e =
     let v = or_none (part_fault p.vg) (or_later (part_fault p.lv) (layer_fault p.layer)) e in
     let l = or_none (part_fault p.lv) (layer_fault p.layer) v.1 in
-    device_append (doubled p.vg) (45 ∷ (doubled p.lv ++ with_hyphen (option_map doubled p.layer))) (device_doubled p.vg (part_letters p.vg v.0))
+    device_append (doubled p.vg) (hyphen ∷ (doubled p.lv ++ with_hyphen (option_map doubled p.layer))) (device_doubled p.vg (part_letters p.vg v.0))
     (device_append (doubled p.lv) (with_hyphen (option_map doubled p.layer)) (device_doubled p.lv (part_letters p.lv l.0)) (device_layer p.layer l.1))
 
 pub layer_letters : (l : Option (Bor (List ℕ))) (vg lv : List ℕ) → None ≡ or_later (part_fault vg) (or_later (part_fault lv) (layer_fault (option_map (λ t. t.now) l))) → IfSome l (λ t. IsTrue (list_all is_letter t.now))
@@ -208,7 +209,7 @@ layer_letters None vg lv e = tt
 layer_letters (Some t) vg lv e =
     let v = or_none (part_fault vg) (or_later (part_fault lv) (layer_fault (Some t.now))) (sym e) in
     let l = or_none (part_fault lv) (layer_fault (Some t.now)) v.1 in
-    part_letters t.now (layer_none t.now (begins_with 95 t.now) l.1)
+    part_letters t.now (layer_none t.now (begins_with underscore t.now) l.1)
 
 long_joined : (n : ℕ) → 1 ≤ n → (b : Bool) → nat_le n 127 ≡ b → (nat_le 1 n && (b && true)) ≡ false → b ≡ false
 long_joined n some true e h = let wrong : true ≡ false = sym (ap (λ (x : Bool). x && true) (le-leb 1 n some)) ∙ h in absurd cc
@@ -217,7 +218,7 @@ long_joined n some false e h = refl
 pub form_is_long : (p : NameParts) (text : List ℕ) → None ≡ parts_faults p → text ≡ joined p → is_device_name text ≡ false → Err Long ≡ built p
 form_is_long p text e same refused =
     let n = length (joined p) in
-    let some : 1 ≤ n = omega (arith, length-append (doubled p.vg) (45 ∷ (doubled p.lv ++ with_hyphen (option_map doubled p.layer)))) in
+    let some : 1 ≤ n = omega (arith, length-append (doubled p.vg) (hyphen ∷ (doubled p.lv ++ with_hyphen (option_map doubled p.layer)))) in
     let told : (nat_le 1 n && (nat_le n 127 && true)) ≡ false = ap (λ (x : Bool). nat_le 1 n && (nat_le n 127 && x)) (sym (joined_device p (sym e))) ∙ ap is_device_name (sym same) ∙ refused in
     let long : nat_le n 127 ≡ false = long_joined n some (nat_le n 127) refl told in
     sym (ap (λ (f : Option NameFault). name_or f (joined p)) (fault_parts p ∙ ap (λ (f : Option NameFault). or_later f (long_fault p)) (sym e) ∙ ap (λ (x : Bool). cond x None (Some Long)) long))
@@ -230,7 +231,7 @@ fault_built p f e = returns_fault f (built p) (ap (λ (x : Option NameFault). na
 -- nothing, or one hyphen that none follows
 abbrev IsEnd : List ℕ → Type 0
 IsEnd [] = Unit {0}
-IsEnd (b ∷ bs) = (b ≡ 45) × (begins_with 45 bs ≡ false)
+IsEnd (b ∷ bs) = (b ≡ hyphen) × (begins_with hyphen bs ≡ false)
 
 end_length : (rest : List ℕ) → IsEnd rest → slice_length rest ≡ 0
 end_length [] h = refl
@@ -240,7 +241,7 @@ end_length (b ∷ c ∷ bs) h = rw h.0 (rw h.1 refl)
 length_doubled : (w rest : List ℕ) → IsEnd rest → slice_length (doubled w ++ rest) ≡ length (doubled w)
 length_doubled [] rest h = end_length rest h
 length_doubled (b ∷ w) rest h =
-    cond_elim (eqb b 45) (λ xs. slice_length (xs ++ rest) ≡ length xs) (45 ∷ 45 ∷ doubled w) (b ∷ doubled w)
+    cond_elim (eqb b hyphen) (λ xs. slice_length (xs ++ rest) ≡ length xs) (hyphen ∷ hyphen ∷ doubled w) (b ∷ doubled w)
     (λ e. ap (λ n. suc (suc n)) (length_doubled w rest h))
     (λ e. plain_length b (doubled w ++ rest) e ∙ ap (λ n. suc n) (length_doubled w rest h))
 
@@ -265,14 +266,14 @@ record Front (bs : List ℕ) (n : ℕ) : Type 0 where
   pub is : bs ≡ doubled part ++ drop n bs
   pub end : IsEnd (drop n bs)
 
-front_pair : (b c : ℕ) (bs : List ℕ) → eqb b 45 ≡ true → eqb c 45 ≡ true → Front bs (slice_length bs) → Front (b ∷ c ∷ bs) (suc (suc (slice_length bs)))
+front_pair : (b c : ℕ) (bs : List ℕ) → eqb b hyphen ≡ true → eqb c hyphen ≡ true → Front bs (slice_length bs) → Front (b ∷ c ∷ bs) (suc (suc (slice_length bs)))
 front_pair b c bs e d f = record {
-  part = 45 ∷ f.part;
-  is = ap (λ n. n ∷ c ∷ bs) (eqb-true b 45 e) ∙ ap (λ n. 45 ∷ n ∷ bs) (eqb-true c 45 d) ∙ ap (λ (xs : List ℕ). 45 ∷ 45 ∷ xs) f.is;
+  part = hyphen ∷ f.part;
+  is = ap (λ n. n ∷ c ∷ bs) (eqb-true b hyphen e) ∙ ap (λ n. hyphen ∷ n ∷ bs) (eqb-true c hyphen d) ∙ ap (λ (xs : List ℕ). hyphen ∷ hyphen ∷ xs) f.is;
   end = f.end;
 }
 
-front_plain : (b : ℕ) (bs : List ℕ) → eqb b 45 ≡ false → Front bs (slice_length bs) → Front (b ∷ bs) (suc (slice_length bs))
+front_plain : (b : ℕ) (bs : List ℕ) → eqb b hyphen ≡ false → Front bs (slice_length bs) → Front (b ∷ bs) (suc (slice_length bs))
 front_plain b bs e f = record {
   part = b ∷ f.part;
   is = ap (λ (xs : List ℕ). b ∷ xs) f.is ∙ sym (rw e refl);
@@ -285,14 +286,14 @@ front_end bs h = record { part = []; is = refl; end = h }
 front : (bs : List ℕ) → Front bs (slice_length bs)
 front [] = front_end [] tt
 front (b ∷ []) =
-    cond_elim (eqb b 45) (Front (b ∷ [])) 0 1
-    (λ e. front_end (b ∷ []) (eqb-true b 45 e, refl))
+    cond_elim (eqb b hyphen) (Front (b ∷ [])) 0 1
+    (λ e. front_end (b ∷ []) (eqb-true b hyphen e, refl))
     (λ e. front_plain b [] e (front_end [] tt))
 front (b ∷ c ∷ bs) =
-    cond_elim (eqb b 45) (Front (b ∷ c ∷ bs)) (cond (eqb c 45) (suc (suc (slice_length bs))) 0) (suc (slice_length (c ∷ bs)))
-    (λ e. cond_elim (eqb c 45) (Front (b ∷ c ∷ bs)) (suc (suc (slice_length bs))) 0
+    cond_elim (eqb b hyphen) (Front (b ∷ c ∷ bs)) (cond (eqb c hyphen) (suc (suc (slice_length bs))) 0) (suc (slice_length (c ∷ bs)))
+    (λ e. cond_elim (eqb c hyphen) (Front (b ∷ c ∷ bs)) (suc (suc (slice_length bs))) 0
     (λ d. front_pair b c bs e d (front bs))
-    (λ d. front_end (b ∷ c ∷ bs) (eqb-true b 45 e, d)))
+    (λ d. front_end (b ∷ c ∷ bs) (eqb-true b hyphen e, d)))
     (λ e. front_plain b (c ∷ bs) e (front (c ∷ bs)))
 
 length_part : (bs : List ℕ) → slice_length bs ≡ length (doubled (front bs).part)
@@ -304,14 +305,14 @@ length_within bs =
     let whole : length bs ≡ length (doubled f.part) + length (drop (slice_length bs) bs) = ap length f.is ∙ length-append (doubled f.part) (drop (slice_length bs) bs) in
     omega (arith, whole, length_part bs)
 
-pub hyphen_at : (bs : List ℕ) → slice_length bs < length bs → get_or bs (slice_length bs) 0 ≡ 45
+pub hyphen_at : (bs : List ℕ) → slice_length bs < length bs → get_or bs (slice_length bs) 0 ≡ hyphen
 hyphen_at bs lt = (subst IsEnd (drop-cons bs (slice_length bs) 0 lt) (front bs).end).0
 
-pub after_is : (bs : List ℕ) (r : Option (Bor (List ℕ))) → MatchOption r ((rest : List ℕ) → bs ≢ 45 ∷ rest) (λ x. bs ≡ 45 ∷ x.now) → option_map (λ t. t.now) r ≡ after_hyphen bs
+pub after_is : (bs : List ℕ) (r : Option (Bor (List ℕ))) → MatchOption r ((rest : List ℕ) → bs ≢ hyphen ∷ rest) (λ x. bs ≡ hyphen ∷ x.now) → option_map (λ t. t.now) r ≡ after_hyphen bs
 after_is [] None m = refl
 after_is (b ∷ bs) None m =
-    cond_elim (eqb b 45) (λ (o : Option (List ℕ)). None ≡ o) (Some bs) None
-    (λ e. absurd (m bs (ap (λ n. n ∷ bs) (eqb-true b 45 e))))
+    cond_elim (eqb b hyphen) (λ (o : Option (List ℕ)). None ≡ o) (Some bs) None
+    (λ e. absurd (m bs (ap (λ n. n ∷ bs) (eqb-true b hyphen e))))
     (λ e. refl)
 after_is bs (Some x) m = sym (ap after_hyphen m)
 
@@ -351,7 +352,7 @@ sliced_two name rest s h t g u e = record {
       ∙ ap (λ (x : List ℕ). let q : NameParts = record { vg = doubled h.part; lv = x; layer = None } in q) g.first;
   spell = h.whole
       ∙ ap (λ (x : Option (List ℕ)). doubled h.part ++ with_hyphen x) t
-      ∙ ap (λ (x : List ℕ). doubled h.part ++ 45 ∷ x) (g.whole ∙ ap (λ (x : Option (List ℕ)). doubled g.part ++ with_hyphen x) u);
+      ∙ ap (λ (x : List ℕ). doubled h.part ++ hyphen ∷ x) (g.whole ∙ ap (λ (x : Option (List ℕ)). doubled g.part ++ with_hyphen x) u);
 }
 
 sliced_three : (name rest last : List ℕ) (s : NameParts) → FirstSlice name → later_slices name ≡ Some rest → FirstSlice rest → later_slices rest ≡ Some last → FirstSlice last → later_slices last ≡ None
@@ -366,7 +367,7 @@ sliced_three name rest last s h t g u k v e =
           ∙ ap (λ (x : List ℕ). let q : NameParts = record { vg = doubled h.part; lv = doubled g.part; layer = Some x } in q) k.first;
       spell = h.whole
           ∙ ap (λ (x : Option (List ℕ)). doubled h.part ++ with_hyphen x) t
-          ∙ ap (λ (x : List ℕ). doubled h.part ++ 45 ∷ x) (g.whole ∙ ap (λ (x : Option (List ℕ)). doubled g.part ++ with_hyphen x) u ∙ ap (λ (x : List ℕ). doubled g.part ++ 45 ∷ x) end);
+          ∙ ap (λ (x : List ℕ). doubled h.part ++ hyphen ∷ x) (g.whole ∙ ap (λ (x : Option (List ℕ)). doubled g.part ++ with_hyphen x) u ∙ ap (λ (x : List ℕ). doubled g.part ++ hyphen ∷ x) end);
     }
 
 sliced_last : (name rest last : List ℕ) (s : NameParts) (more : Option (List ℕ)) → later_slices name ≡ Some rest → later_slices rest ≡ Some last → later_slices last ≡ more
@@ -387,13 +388,13 @@ sliced name s e = sliced_at name s (later_slices name) refl e
 
 -- The parts that build a name are those of its slices
 
-no_hyphen : (w more : List ℕ) → part_fault w ≡ None → begins_with 45 (doubled w ++ more) ≡ false
+no_hyphen : (w more : List ℕ) → part_fault w ≡ None → begins_with hyphen (doubled w ++ more) ≡ false
 no_hyphen [] more e = absurd cc
-no_hyphen (b ∷ w) more e = begins-doubled 45 b w more ∙ (by_none (eqb (length (b ∷ w)) 0) (list_all is_letter (b ∷ w)) (eqb b 45) e).1
+no_hyphen (b ∷ w) more e = begins-doubled hyphen b w more ∙ (by_none (eqb (length (b ∷ w)) 0) (list_all is_letter (b ∷ w)) (eqb b hyphen) e).1
 
 layer_end : (l : Option (List ℕ)) → layer_fault l ≡ None → IsEnd (with_hyphen (option_map doubled l))
 layer_end None e = tt
-layer_end (Some l) e = (refl, ap (begins_with 45) (sym (append-nil (doubled l))) ∙ no_hyphen l [] (layer_none l (begins_with 95 l) e))
+layer_end (Some l) e = (refl, ap (begins_with hyphen) (sym (append-nil (doubled l))) ∙ no_hyphen l [] (layer_none l (begins_with underscore l) e))
 
 first_whole : (w : List ℕ) → first_slice (doubled w) ≡ doubled w
 first_whole w = ap first_slice (sym (append-nil (doubled w))) ∙ cut_first w [] tt
@@ -408,14 +409,14 @@ layer_slices vg lv (Some l) =
     ∙ ap (λ (x : List ℕ). Some (let q : NameParts = record { vg = vg; lv = lv; layer = Some x } in q)) (first_whole l)
 
 joined_slices : (vg lv : List ℕ) (l : Option (List ℕ)) → part_fault vg ≡ None → part_fault lv ≡ None → layer_fault l ≡ None
-    → slices_of (doubled vg ++ 45 ∷ (doubled lv ++ with_hyphen (option_map doubled l))) ≡ Some (record { vg = doubled vg; lv = doubled lv; layer = option_map doubled l })
+    → slices_of (doubled vg ++ hyphen ∷ (doubled lv ++ with_hyphen (option_map doubled l))) ≡ Some (record { vg = doubled vg; lv = doubled lv; layer = option_map doubled l })
 joined_slices vg lv l a b c =
     let end = with_hyphen (option_map doubled l) in
     let rest = doubled lv ++ end in
-    let name = doubled vg ++ 45 ∷ rest in
-    let first : IsEnd (45 ∷ rest) = (refl, no_hyphen lv end b) in
-    ap (λ (x : Option (List ℕ)). option_and_then (λ (r : List ℕ). with_layer (first_slice name) (first_slice r) (later_slices r)) x) (cut_later vg (45 ∷ rest) first)
-    ∙ ap (λ (x : List ℕ). with_layer x (first_slice rest) (later_slices rest)) (cut_first vg (45 ∷ rest) first)
+    let name = doubled vg ++ hyphen ∷ rest in
+    let first : IsEnd (hyphen ∷ rest) = (refl, no_hyphen lv end b) in
+    ap (λ (x : Option (List ℕ)). option_and_then (λ (r : List ℕ). with_layer (first_slice name) (first_slice r) (later_slices r)) x) (cut_later vg (hyphen ∷ rest) first)
+    ∙ ap (λ (x : List ℕ). with_layer x (first_slice rest) (later_slices rest)) (cut_first vg (hyphen ∷ rest) first)
     ∙ ap (λ (x : List ℕ). with_layer (doubled vg) x (later_slices rest)) (cut_first lv end (layer_end l c))
     ∙ ap (λ (x : Option (List ℕ)). with_layer (doubled vg) (doubled lv) x) (cut_later lv end (layer_end l c))
     ∙ layer_slices (doubled vg) (doubled lv) l
@@ -476,32 +477,32 @@ some_split name s None e is n le =
 
 -- Undoubling
 
-apart_undoubled : (x : ℕ) (zs : List ℕ) → ((rest : List ℕ) → x ∷ zs ≢ 45 ∷ 45 ∷ rest) → undoubled (x ∷ zs) ≡ x ∷ undoubled zs
+apart_undoubled : (x : ℕ) (zs : List ℕ) → ((rest : List ℕ) → x ∷ zs ≢ hyphen ∷ hyphen ∷ rest) → undoubled (x ∷ zs) ≡ x ∷ undoubled zs
 apart_undoubled x [] h = refl
 apart_undoubled x (y ∷ zs) h =
-    cond_elim (eqb x 45 && eqb y 45) (λ (r : List ℕ). r ≡ x ∷ undoubled (y ∷ zs)) (45 ∷ undoubled zs) (x ∷ undoubled (y ∷ zs))
-    (λ e. let both = and_parts (eqb x 45) (eqb y 45) e in absurd (h zs (ap (λ n. n ∷ y ∷ zs) (eqb-true x 45 both.0) ∙ ap (λ n. 45 ∷ n ∷ zs) (eqb-true y 45 both.1))))
+    cond_elim (eqb x hyphen && eqb y hyphen) (λ (r : List ℕ). r ≡ x ∷ undoubled (y ∷ zs)) (hyphen ∷ undoubled zs) (x ∷ undoubled (y ∷ zs))
+    (λ e. let both = and_parts (eqb x hyphen) (eqb y hyphen) e in absurd (h zs (ap (λ n. n ∷ y ∷ zs) (eqb-true x hyphen both.0) ∙ ap (λ n. hyphen ∷ n ∷ zs) (eqb-true y hyphen both.1))))
     (λ e. refl)
 
-undoubled_pair : (xs ys : List ℕ) → ((i : ℕ) → i < length xs → LacksTextAt (45 ∷ 45 ∷ []) (xs ++ 45 ∷ 45 ∷ ys) i) → undoubled (xs ++ 45 ∷ 45 ∷ ys) ≡ xs ++ 45 ∷ undoubled ys
+undoubled_pair : (xs ys : List ℕ) → ((i : ℕ) → i < length xs → LacksTextAt (hyphen ∷ hyphen ∷ []) (xs ++ hyphen ∷ hyphen ∷ ys) i) → undoubled (xs ++ hyphen ∷ hyphen ∷ ys) ≡ xs ++ hyphen ∷ undoubled ys
 undoubled_pair [] ys h = refl
 undoubled_pair (x ∷ xs) ys h =
-    apart_undoubled x (xs ++ 45 ∷ 45 ∷ ys) (h 0 (omega arith))
+    apart_undoubled x (xs ++ hyphen ∷ hyphen ∷ ys) (h 0 (omega arith))
     ∙ ap (λ (zs : List ℕ). x ∷ zs) (undoubled_pair xs ys (λ i lt. h (suc i) (omega (arith, lt))))
 
-pub undoubled_none : (bs : List ℕ) → ((i : ℕ) → i ≤ length bs → LacksTextAt (45 ∷ 45 ∷ []) bs i) → undoubled bs ≡ bs
+pub undoubled_none : (bs : List ℕ) → ((i : ℕ) → i ≤ length bs → LacksTextAt (hyphen ∷ hyphen ∷ []) bs i) → undoubled bs ≡ bs
 undoubled_none [] h = refl
 undoubled_none (x ∷ bs) h =
     apart_undoubled x bs (h 0 (omega arith)) ∙ ap (λ (zs : List ℕ). x ∷ zs) (undoubled_none bs (λ i le. h (suc i) (omega (arith, le))))
 
-pub undoubled_step : (s before after : List ℕ) (i j : ℕ) → ((k : ℕ) → k < i → LacksTextAt (45 ∷ 45 ∷ []) s k) → HasTextAt (45 ∷ 45 ∷ []) s i j → before ≡ take i s → after ≡ drop j s → length before ≡ i → undoubled s ≡ before ++ 45 ∷ undoubled after
+pub undoubled_step : (s before after : List ℕ) (i j : ℕ) → ((k : ℕ) → k < i → LacksTextAt (hyphen ∷ hyphen ∷ []) s k) → HasTextAt (hyphen ∷ hyphen ∷ []) s i j → before ≡ take i s → after ≡ drop j s → length before ≡ i → undoubled s ≡ before ++ hyphen ∷ undoubled after
 undoubled_step s before after i j lacks has b a n =
-    let whole : s ≡ before ++ 45 ∷ 45 ∷ after =
-    sym (take-append-drop i s) ∙ ap (λ (z : List ℕ). z ++ drop i s) (sym b) ∙ ap (λ (z : List ℕ). before ++ z) (has.split ∙ ap (λ (z : List ℕ). 45 ∷ 45 ∷ z) (sym a)) in
-    let clear : (k : ℕ) → k < length before → LacksTextAt (45 ∷ 45 ∷ []) (before ++ 45 ∷ 45 ∷ after) k = λ k lt. subst (λ (z : List ℕ). LacksTextAt (45 ∷ 45 ∷ []) z k) whole (lacks k (omega (arith, lt, n))) in
+    let whole : s ≡ before ++ hyphen ∷ hyphen ∷ after =
+    sym (take-append-drop i s) ∙ ap (λ (z : List ℕ). z ++ drop i s) (sym b) ∙ ap (λ (z : List ℕ). before ++ z) (has.split ∙ ap (λ (z : List ℕ). hyphen ∷ hyphen ∷ z) (sym a)) in
+    let clear : (k : ℕ) → k < length before → LacksTextAt (hyphen ∷ hyphen ∷ []) (before ++ hyphen ∷ hyphen ∷ after) k = λ k lt. subst (λ (z : List ℕ). LacksTextAt (hyphen ∷ hyphen ∷ []) z k) whole (lacks k (omega (arith, lt, n))) in
     ap undoubled whole ∙ undoubled_pair before after clear
 
-pub undoubled_joined : (all whole rest before after one two : List ℕ) → all ≡ whole ++ rest → rest ≡ before ++ 45 ∷ after → one ≡ whole ++ before → two ≡ one ++ 45 ∷ [] → all ≡ two ++ after
+pub undoubled_joined : (all whole rest before after one two : List ℕ) → all ≡ whole ++ rest → rest ≡ before ++ hyphen ∷ after → one ≡ whole ++ before → two ≡ one ++ hyphen ∷ [] → all ≡ two ++ after
 undoubled_joined all whole rest before after one two a r o t =
-    a ∙ ap (λ (z : List ℕ). whole ++ z) r ∙ sym (append_assoc whole before (45 ∷ after)) ∙ ap (λ (z : List ℕ). z ++ 45 ∷ after) (sym o)
-    ∙ sym (append_assoc one (45 ∷ []) after) ∙ ap (λ (z : List ℕ). z ++ after) (sym t)
+    a ∙ ap (λ (z : List ℕ). whole ++ z) r ∙ sym (append_assoc whole before (hyphen ∷ after)) ∙ ap (λ (z : List ℕ). z ++ hyphen ∷ after) (sym o)
+    ∙ sym (append_assoc one (hyphen ∷ []) after) ∙ ap (λ (z : List ℕ). z ++ after) (sym t)

@@ -6,7 +6,7 @@ use Rattle.std.specs.List.{list_any, AllByRecursion}
 use Rattle.std.specs.Ordering.{nat_cmp}
 use Rattle.std.specs.BTreeMap.{BTreeMap, Updates, get, is_at}
 use Rattle.std.proofs.lemmas.Bool.{and_from, lt-ltb, ltb-false, ltb-true, le-ltb, cases_order}
-use Rattle.lvm_volume.specs.Used.{Keeps, reaches}
+use Rattle.lvm_volume.specs.Used.{HasRanges, reaches}
 
 -- no range of a map reaches, where none that the map finds does
 none_reach : (used : BTreeMap ℕ ℕ) (test : ℕ × ℕ → Bool) → ((a b : ℕ) → get nat_cmp used a ≡ Some b → test (a, b) ≡ false) → (ranges : List (ℕ × ℕ)) → AllByRecursion (λ range. get nat_cmp used range.0 ≡ Some range.1) ranges → list_any test ranges ≡ false
@@ -23,7 +23,7 @@ reaches_not first end a b h = by_test (nat_lt a end) refl where
   by_test true e = rw (le-ltb first b (h (ltb-true a end e))) refl
   by_test false e = rw e (and_false (nat_lt first b))
 
-pub none_before : (used : BTreeMap ℕ ℕ) (ranges : List (ℕ × ℕ)) (first end : ℕ) → Keeps used ranges → ((q : ℕ) → q < end → get nat_cmp used q ≡ None) → list_any (reaches first end) ranges ≡ false
+pub none_before : (used : BTreeMap ℕ ℕ) (ranges : List (ℕ × ℕ)) (first end : ℕ) → HasRanges used ranges → ((q : ℕ) → q < end → get nat_cmp used q ≡ None) → list_any (reaches first end) ranges ≡ false
 none_before used ranges first end keeps none = none_reach used (reaches first end) (λ a b is. reaches_not first end a b (λ below. absurd (some_none (get nat_cmp used a) b is (none a below)))) ranges keeps.all where
   some_none : (o : Option ℕ) (b : ℕ) → o ≡ Some b → o ≡ None → ⊥
   some_none o b e f = let g : Some b ≡ None = sym e ∙ f in absurd cc
@@ -33,7 +33,7 @@ is_some None b e = absurd cc
 is_some (Some x) b e = search rules
 
 -- a range that does not begin after the last one ends before this first extent, where the last one does
-ends_before : (used : BTreeMap ℕ ℕ) (ranges : List (ℕ × ℕ)) (first s e a b : ℕ) → Keeps used ranges → get nat_cmp used s ≡ Some e → e ≤ first → get nat_cmp used a ≡ Some b → (a ≡ s) ⊎ ((a < s) ⊎ (s < a)) → a ≤ s → b ≤ first
+ends_before : (used : BTreeMap ℕ ℕ) (ranges : List (ℕ × ℕ)) (first s e a b : ℕ) → HasRanges used ranges → get nat_cmp used s ≡ Some e → e ≤ first → get nat_cmp used a ≡ Some b → (a ≡ s) ⊎ ((a < s) ⊎ (s < a)) → a ≤ s → b ≤ first
 ends_before used ranges first s e a b keeps is low here (inl same) most =
     let ends : Some b ≡ Some e = sym here ∙ ap (get nat_cmp used) same ∙ is in
     let equal : b ≡ e = cc in
@@ -41,7 +41,7 @@ ends_before used ranges first s e a b keeps is low here (inl same) most =
 ends_before used ranges first s e a b keeps is low here (inr (inl before)) most = omega (arith, keeps.apart a b s e here is before, keeps.some s e is, low)
 ends_before used ranges first s e a b keeps is low here (inr (inr after)) most = absurd (omega (arith, most, after))
 
-pub last_before : (used : BTreeMap ℕ ℕ) (ranges : List (ℕ × ℕ)) (first end s e : ℕ) → Keeps used ranges → first < end → s < end → get nat_cmp used s ≡ Some e → ((q : ℕ) → q < end → IsSome (get nat_cmp used q) → q ≤ s)
+pub last_before : (used : BTreeMap ℕ ℕ) (ranges : List (ℕ × ℕ)) (first end s e : ℕ) → HasRanges used ranges → first < end → s < end → get nat_cmp used s ≡ Some e → ((q : ℕ) → q < end → IsSome (get nat_cmp used q) → q ≤ s)
     → nat_lt first e ≡ list_any (reaches first end) ranges
 last_before used ranges first end s e keeps some below is greatest = by_test (nat_lt first e) refl where
   by_test : (b : Bool) → nat_lt first e ≡ b → b ≡ list_any (reaches first end) ranges
@@ -72,8 +72,8 @@ adds old new first end updates = record {
   by_order q (inr (inl before)) = inr (updates.2 q (ne_at first q (λ same. omega (arith, same, before))))
   by_order q (inr (inr after)) = inr (updates.2 q (ne_at first q (λ same. omega (arith, same, after))))
 
--- a range that is kept does not reach a free one
-apart_from : (old : BTreeMap ℕ ℕ) (ranges : List (ℕ × ℕ)) (first end a b : ℕ) → Keeps old ranges → list_any (reaches first end) ranges ≡ false → get nat_cmp old a ≡ Some b → first < b → a < end → ⊥
+-- a range that is used does not reach a free one
+apart_from : (old : BTreeMap ℕ ℕ) (ranges : List (ℕ × ℕ)) (first end a b : ℕ) → HasRanges old ranges → list_any (reaches first end) ranges ≡ false → get nat_cmp old a ≡ Some b → first < b → a < end → ⊥
 apart_from old ranges first end a b keeps free is over under =
     let hit = keeps.only a b is first end (and_from (nat_lt first b) (nat_lt a end) (lt-ltb first b over) (lt-ltb a end under)) in
     let wrong : true ≡ false = sym hit ∙ free in
@@ -85,10 +85,10 @@ same_end (Some x) a b e f = cc
 
 new_all : (old new : BTreeMap ℕ ℕ) (first end : ℕ) → Adds old new first end → ((b : ℕ) → get nat_cmp old first ≡ Some b → ⊥) → (ranges : List (ℕ × ℕ)) → AllByRecursion (λ range. get nat_cmp old range.0 ≡ Some range.1) ranges → AllByRecursion (λ range. get nat_cmp new range.0 ≡ Some range.1) ranges
 new_all old new first end added fresh [] all = tt
-new_all old new first end added fresh ((a, b) ∷ ranges) all = (by_place (added.others a), new_all old new first end added fresh ranges all.1) where
-  by_place : (first ≡ a) ⊎ (get nat_cmp new a ≡ get nat_cmp old a) → get nat_cmp new a ≡ Some b
-  by_place (inl same) = absurd (fresh b (ap (get nat_cmp old) same ∙ all.0))
-  by_place (inr other) = other ∙ all.0
+new_all old new first end added fresh ((a, b) ∷ ranges) all = (by_position (added.others a), new_all old new first end added fresh ranges all.1) where
+  by_position : (first ≡ a) ⊎ (get nat_cmp new a ≡ get nat_cmp old a) → get nat_cmp new a ≡ Some b
+  by_position (inl same) = absurd (fresh b (ap (get nat_cmp old) same ∙ all.0))
+  by_position (inr other) = other ∙ all.0
 
 not_below : (a b : ℕ) → (a < b → ⊥) → b ≤ a
 not_below a b h = by_test (nat_lt a b) refl where
@@ -102,7 +102,7 @@ end_first c end b ends h = omega (arith, ends, not_below c end h)
 first_end : (first b c : ℕ) → first ≡ c → (first < b → ⊥) → b ≤ c
 first_end first b c same h = omega (arith, same, not_below first b h)
 
-pub keeps_more : (old new : BTreeMap ℕ ℕ) (ranges : List (ℕ × ℕ)) (first end : ℕ) → Keeps old ranges → first < end → list_any (reaches first end) ranges ≡ false → Adds old new first end → Keeps new ((first, end) ∷ ranges)
+pub keeps_more : (old new : BTreeMap ℕ ℕ) (ranges : List (ℕ × ℕ)) (first end : ℕ) → HasRanges old ranges → first < end → list_any (reaches first end) ranges ≡ false → Adds old new first end → HasRanges new ((first, end) ∷ ranges)
 keeps_more old new ranges first end keeps some free added = record {
   all = (added.here, new_all old new first end added (λ b is. apart_from old ranges first end first b keeps free is (keeps.some first b is) some) ranges keeps.all);
   only = λ s e is a b hit. only_at s e is a b hit (added.others s);

@@ -12,17 +12,18 @@ use Rattle.dm_table.specs.declared.table.StoreKind.TheVariants.{Persistent}
 use Rattle.dm_table.specs.declared.table.Target.{Target}
 use Rattle.dm_table.specs.declared.table.Target.TheVariants as targets
 use Rattle.dm_table.specs.LoadFault.{fault_at, first_fault}
-use Rattle.lvm_volume.specs.declared.places.GroupPlaces.{GroupPlaces}
+use Rattle.lvm_volume.specs.declared.positions.GroupPositions.{GroupPositions}
 use Rattle.lvm_volume.specs.declared.roles.Role.TheVariants as roles
 use Rattle.lvm_volume.specs.declared.segment.Segment.{Segment}
 use Rattle.lvm_volume.specs.declared.segment.SegmentType.{SegmentType}
 use Rattle.lvm_volume.specs.declared.segment.SegmentType.TheVariants.{Striped, Snapshot}
 use Rattle.lvm_volume.specs.declared.volume.Volume.{Volume}
 use Rattle.lvm_volume.specs.declared.check.Check.TheVariants.{Fields}
+use Rattle.lvm_volume.specs.Extents.{source_line}
 use Rattle.lvm_volume.specs.Fields.{field_faults, fields_faults, segment_fields}
 use Rattle.lvm_volume.specs.Group.{Group, segment_of}
 use Rattle.lvm_volume.specs.Roles.{roles_of}
-use Rattle.lvm_volume.specs.Tables.{checks_of_parts, devices_in, line_of, source_line, tables_of, unnamed, unnamed_volume}
+use Rattle.lvm_volume.specs.Tables.{checks_of_parts, devices_in, line_of, tables_of, unnamed, unnamed_volume}
 
 -- What the segment of a record says, in a group with the volumes lv0, snap and snapshot0
 
@@ -33,13 +34,13 @@ record_segment = record {
       (Single (codes "chunk_size") 43 (Int 8) (Single (codes "origin") 44 (Text (codes "lv0")) (Single (codes "cow_store") 45 (Text (codes "snap")) Nothing)))));
 }
 
-abbrev places : GroupPlaces
-places = record { physicals = codes "pv0" ∷ []; volumes = codes "lv0" ∷ codes "snap" ∷ codes "snapshot0" ∷ [] }
+abbrev positions : GroupPositions
+positions = record { physicals = codes "pv0" ∷ []; volumes = codes "lv0" ∷ codes "snap" ∷ codes "snapshot0" ∷ [] }
 
 abbrev segment : (line extents : ℕ) → SegmentType → Segment
 segment line extents target = record { start = 0; count = extents; target = target; line = line }
 
-it_says : segment_of places record_segment ≡ segment 39 25 (Snapshot 8 0 1)
+it_says : segment_of positions record_segment ≡ segment 39 25 (Snapshot 8 0 1)
 unfolding segment_of
 it_says = refl
 
@@ -70,7 +71,7 @@ sample extents origin store = record {
 abbrev found : Group → Option LoadFault
 found group = first_fault (checks_of_parts group ++ unnamed group ∷ [])
 
-its_roles : roles_of (sample 25 0 1).volumes ≡ roles.Origin ∷ roles.Store (record { chunk = 8; origin = 0; store = 1; line = 39 }) ∷ roles.Record ∷ []
+its_roles : roles_of (sample 25 0 1).volumes ≡ roles.Origin ∷ roles.Store (record { chunk_size = 8; origin = 0; store = 1; line = 39 }) ∷ roles.Record ∷ []
 its_roles = refl
 
 none_found : found (sample 25 0 1) ≡ None
@@ -103,18 +104,10 @@ its_devices = refl
 abbrev refused : LoadKind → Option LoadFault
 refused kind = Some (fault_at Source kind 39)
 
-of_nothing : found (sample 25 3 1) ≡ refused loads.Unknown
-unfolding unnamed_volume
-of_nothing = refl
+-- a snapshot of this many extents, of a volume on another, is refused
+abbrev Refuses : (extents origin store : ℕ) → LoadKind → Type 0
+Refuses extents origin store kind = found (sample extents origin store) ≡ refused kind
 
-too_short : found (sample 24 0 1) ≡ refused loads.Snapshot
+its_refusals : Refuses 25 3 1 loads.Unknown × Refuses 24 0 1 loads.Snapshot × Refuses 25 2 1 loads.Snapshot × Refuses 25 0 0 loads.Snapshot
 unfolding unnamed_volume
-too_short = refl
-
-of_a_record : found (sample 25 2 1) ≡ refused loads.Snapshot
-unfolding unnamed_volume
-of_a_record = refl
-
-on_an_origin : found (sample 25 0 0) ≡ refused loads.Snapshot
-unfolding unnamed_volume
-on_an_origin = refl
+its_refusals = (refl, refl, refl, refl)

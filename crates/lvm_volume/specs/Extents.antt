@@ -19,9 +19,9 @@ use Rattle.lvm_volume.specs.Fields.{source_faults}
 use Rattle.lvm_volume.specs.Group.{Group}
 use Rattle.lvm_volume.specs.Roles.{is_bad_snapshot, roles_of}
 
--- a line of the text, as a place
-abbrev pub source_place : ℕ → Place
-source_place line = record { part = Source; number = line }
+-- the place of a line of the source
+abbrev pub source_line : ℕ → Place
+source_line line = record { part = Source; number = line }
 
 -- a fault where a test hits
 abbrev pub hit : Bool → LoadKind → ℕ → List LoadFault
@@ -29,7 +29,7 @@ hit bad kind line = if bad then source_faults kind line else []
 
 -- Names: a physical volume whose disk gets no name of a disk. A key is a word, so this is one of more than 255 bytes.
 abbrev pub name_faults : List Physical → List LoadFault
-name_faults physicals = faults_by Name (λ physical. source_place physical.line) (λ physical. not (is_disk_name physical.disk)) physicals
+name_faults physicals = faults_by Name (λ physical. source_line physical.line) (λ physical. not (is_disk_name physical.disk)) physicals
 
 -- The first segment in the text that a test finds: its lines ascend, whatever the numbers of segments
 
@@ -55,20 +55,20 @@ at_line kind (Some line) = source_faults kind line
 -- Unknown: a stripe that names no physical volume, or a snapshot that names no volume
 
 abbrev pub stripes_of : SegmentType → List Stripe
-stripes_of (Striped chunk stripes) = stripes
+stripes_of (Striped stripe_size stripes) = stripes
 stripes_of Zero = []
 stripes_of Error = []
-stripes_of (Snapshot chunk origin store) = []
+stripes_of (Snapshot chunk_size origin store) = []
 
 abbrev pub volumes_named : SegmentType → List ℕ
-volumes_named (Snapshot chunk origin store) = origin ∷ store ∷ []
-volumes_named (Striped chunk stripes) = []
+volumes_named (Snapshot chunk_size origin store) = origin ∷ store ∷ []
+volumes_named (Striped stripe_size stripes) = []
 volumes_named Zero = []
 volumes_named Error = []
 
 abbrev pub is_unknown : (physicals volumes : ℕ) → Segment → Bool
 is_unknown physicals volumes segment =
-    list_any (λ stripe. not (nat_lt stripe.physical physicals)) (stripes_of segment.target) || list_any (λ place. not (nat_lt place volumes)) (volumes_named segment.target)
+    list_any (λ stripe. not (nat_lt stripe.physical physicals)) (stripes_of segment.target) || list_any (λ position. not (nat_lt position volumes)) (volumes_named segment.target)
 
 abbrev pub unknown_faults : Group → List LoadFault
 unknown_faults group = at_line Unknown (least_line_of (λ alone. is_unknown (length group.physicals) (length group.volumes)) group.volumes)
@@ -87,7 +87,7 @@ abbrev pub is_too_long : ℕ → Physical → Bool
 is_too_long extent_size physical = nat_lt physical.size (physical.start + physical.count * extent_size)
 
 abbrev pub size_faults : ℕ → List Physical → List LoadFault
-size_faults extent_size physicals = faults_by Extents (λ physical. source_place physical.line) (is_too_long extent_size) physicals
+size_faults extent_size physicals = faults_by Extents (λ physical. source_line physical.line) (is_too_long extent_size) physicals
 
 -- Extents: what the stripes of segments use
 
@@ -96,6 +96,9 @@ pub record Claim : Type 0 where
   pub physical : ℕ
   pub first : ℕ
   pub end : ℕ
+
+abbrev pub claim_on : (physical first end : ℕ) → Claim
+claim_on physical first end = record { physical = physical; first = first; end = end }
 
 -- two claims have an extent in common
 abbrev pub meets : Claim → Claim → Bool
@@ -107,15 +110,15 @@ extents_at physicals i = slice_index (map (λ physical. physical.count) physical
 
 -- the number of parts that a segment is divided into
 abbrev pub parts_of : SegmentType → ℕ
-parts_of (Striped chunk stripes) = length stripes
+parts_of (Striped stripe_size stripes) = length stripes
 parts_of Zero = 1
 parts_of Error = 1
-parts_of (Snapshot chunk origin store) = 1
+parts_of (Snapshot chunk_size origin store) = 1
 
 -- the claims of a segment, each of as many extents
 abbrev pub claims_of : Segment → List Claim
 claims_of segment =
-    map (λ stripe. record { physical = stripe.physical; first = stripe.extent; end = stripe.extent + segment.count / parts_of segment.target }) (stripes_of segment.target)
+    map (λ stripe. claim_on stripe.physical stripe.extent (stripe.extent + segment.count / parts_of segment.target)) (stripes_of segment.target)
 
 -- a claim that passes the end of its physical volume, or meets one of these or an earlier one
 abbrev pub have_clash : List Physical → List Claim → List Claim → Bool

@@ -6,7 +6,7 @@ use Rattle.dm_table.specs.declared.place.Part.TheVariants.{Source}
 use Rattle.dm_table.specs.declared.load_fault.LoadKind.{LoadKind}
 use Rattle.dm_table.specs.declared.load_fault.LoadKind.TheVariants as loads
 use Rattle.dm_table.specs.declared.load_fault.LoadFault.{LoadFault}
-use Rattle.dm_table.specs.LoadFault.{fault_at}
+use Rattle.dm_table.specs.LoadFault.{fault_at, first_or}
 use Rattle.lvm_volume.specs.declared.field.Kind.{Kind}
 use Rattle.lvm_volume.specs.declared.field.Kind.TheVariants as kinds
 use Rattle.lvm_volume.specs.declared.field.Condition.{Condition}
@@ -198,6 +198,10 @@ is_far extent_size kind (Inner tree) = false
 
 -- What a check finds at the fields of a section
 
+-- the first of some faults
+abbrev pub first_of : List LoadFault → Option LoadFault
+first_of faults = first_or faults None
+
 -- one fault, at a line of the text
 abbrev pub source_faults : LoadKind → ℕ → List LoadFault
 source_faults kind line = fault_at Source kind line ∷ []
@@ -228,19 +232,29 @@ field_faults check tree f = if is_asked f.when f.key tree then node_faults check
 abbrev pub fields_faults : Check → Tree → List Field → List LoadFault
 fields_faults check tree fields = flat_map (field_faults check tree) fields
 
+-- the segments of a volume, each as a field of it
+abbrev pub keys_faults : Check → Tree → List LoadFault
+keys_faults check volume =
+    flat_map (λ i. field_faults check volume (segment_field i)) (range_with_len 1 (number_at (codes "segment_count") volume))
+
 -- a volume: its fields, each of its segments as a field, and then the fields of each segment
 unfoldable pub volume_faults : Check → Tree → List LoadFault
 volume_faults check volume =
     fields_faults check volume volume_fields
-    ++ (flat_map (λ i. field_faults check volume (segment_field i)) (range_with_len 1 (number_at (codes "segment_count") volume))
-    ++ flat_map (λ segment. fields_faults check segment segment_fields) (segments_of volume))
+    ++ (keys_faults check volume ++ flat_map (λ segment. fields_faults check segment segment_fields) (segments_of volume))
+
+abbrev pub physicals_faults : Check → List (List ℕ × Tree) → List LoadFault
+physicals_faults check physicals = flat_map (λ physical. fields_faults check physical.1 physical_fields) physicals
+
+abbrev pub volumes_faults : Check → List (List ℕ × Tree) → List LoadFault
+volumes_faults check volumes = flat_map (λ volume. volume_faults check volume.1) volumes
 
 -- a group: its fields, its physical volumes, and then its volumes
 unfoldable pub group_faults : Check → Tree → List LoadFault
 group_faults check group =
     fields_faults check group group_fields
-    ++ (flat_map (λ physical. fields_faults check physical.1 physical_fields) (sections_at (codes "physical_volumes") group)
-    ++ flat_map (λ volume. volume_faults check volume.1) (sections_at (codes "logical_volumes") group))
+    ++ (physicals_faults check (sections_at (codes "physical_volumes") group)
+    ++ volumes_faults check (sections_at (codes "logical_volumes") group))
 
 -- the one section at the top
 unfoldable pub one_group_faults : Check → ℕ → List (List ℕ × Tree) → List LoadFault

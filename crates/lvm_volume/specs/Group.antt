@@ -1,9 +1,10 @@
 -- What a group's metadata says: the group, its physical volumes, and its volumes with their segments.
 use Rattle.std.specs.Prelude.{ℕ, Bool, false, not, ◌&&◌, ◌||◌, ◌==◌, List, [], ◌∷◌, nat_lt, bytes_eq, codes, count_by, map, if◌then◌else◌}
 use Rattle.std.specs.List.{list_any, position_or_len}
+use Rattle.lvm_volume.specs.Bytes.{slash}
 use Rattle.lvm_text.specs.Tree.{Tree, Scalar, Int, Text, Nothing, sections_of}
 use Rattle.dm_table.specs.Name.{is_disk_name}
-use Rattle.lvm_volume.specs.declared.places.GroupPlaces.{GroupPlaces}
+use Rattle.lvm_volume.specs.declared.positions.GroupPositions.{GroupPositions}
 use Rattle.lvm_volume.specs.declared.segment.Stripe.{Stripe}
 use Rattle.lvm_volume.specs.declared.segment.SegmentType.{SegmentType}
 use Rattle.lvm_volume.specs.declared.segment.SegmentType.TheVariants.{Zero, Error, Striped, Snapshot}
@@ -19,6 +20,9 @@ pub record Group : Type 0 where
   pub physicals : List Physical
   pub volumes : List Volume
 
+abbrev pub group_with : (name : List ℕ) → (extent_size : ℕ) → List Physical → List Volume → Group
+group_with name extent_size physicals volumes = record { name = name; extent_size = extent_size; physicals = physicals; volumes = volumes }
+
 -- Physical volumes
 
 -- a section with its key
@@ -30,7 +34,7 @@ device_of physical = text_at (codes "device") physical.1
 
 abbrev pub begins_with_slash : List ℕ → Bool
 begins_with_slash [] = false
-begins_with_slash (b ∷ bs) = b == 47
+begins_with_slash (b ∷ bs) = b == slash
 
 -- the device of two physical volumes or more
 abbrev pub is_shared : List (List ℕ) → List ℕ → Bool
@@ -53,31 +57,38 @@ physical_of devices physical = record {
   line = physical.1.line;
 }
 
+-- the physical volumes that sections say
+abbrev pub physicals_in : List Keyed → List Physical
+physicals_in sections = map (physical_of (map device_of sections)) sections
+
 -- Volumes
 
 -- the keys of sections
 abbrev pub keys_in : List Keyed → List (List ℕ)
 keys_in = map (λ section. section.0)
 
--- the place of a key, or their number where it is none of them
-abbrev pub place_of : List (List ℕ) → List ℕ → ℕ
-place_of keys key = position_or_len (bytes_eq key) keys
+-- the position of a key, or their number where it is none of them
+abbrev pub position_of : List (List ℕ) → List ℕ → ℕ
+position_of keys key = position_or_len (bytes_eq key) keys
 
 abbrev pub stripes_in : List (List ℕ) → List Scalar → List Stripe
-stripes_in keys (Text key ∷ Int extent ∷ items) = record { physical = place_of keys key; extent = extent } ∷ stripes_in keys items
+stripes_in keys (Text key ∷ Int extent ∷ items) = record { physical = position_of keys key; extent = extent } ∷ stripes_in keys items
 stripes_in keys _ = []
+
+abbrev pub striped_in : List (List ℕ) → Tree → SegmentType
+striped_in keys segment = Striped (number_at (codes "stripe_size") segment) (stripes_in keys (items_at (codes "stripes") segment))
 
 abbrev pub snapshot_in : List (List ℕ) → Tree → SegmentType
 snapshot_in keys segment =
-    Snapshot (number_at (codes "chunk_size") segment) (place_of keys (text_at (codes "origin") segment)) (place_of keys (text_at (codes "cow_store") segment))
+    Snapshot (number_at (codes "chunk_size") segment) (position_of keys (text_at (codes "origin") segment)) (position_of keys (text_at (codes "cow_store") segment))
 
-abbrev pub target_of : GroupPlaces → Tree → SegmentType
+abbrev pub target_of : GroupPositions → Tree → SegmentType
 target_of keys segment =
-    if is_striped segment then Striped (number_at (codes "stripe_size") segment) (stripes_in keys.physicals (items_at (codes "stripes") segment))
+    if is_striped segment then striped_in keys.physicals segment
     else (if is_snapshot segment then snapshot_in keys.volumes segment
     else (if bytes_eq (text_at (codes "type") segment) (codes "zero") then Zero else Error))
 
-unfoldable pub segment_of : GroupPlaces → Tree → Segment
+unfoldable pub segment_of : GroupPositions → Tree → Segment
 segment_of keys segment = record {
   start = number_at (codes "start_extent") segment;
   count = number_at (codes "extent_count") segment;
@@ -89,7 +100,7 @@ abbrev pub is_write : Scalar → Bool
 is_write (Text text) = bytes_eq text (codes "WRITE") || bytes_eq text (codes "WRITE_LOCKED")
 is_write (Int n) = false
 
-unfoldable pub volume_of : GroupPlaces → Keyed → Volume
+unfoldable pub volume_of : GroupPositions → Keyed → Volume
 volume_of keys volume = record {
   name = volume.0;
   ro = not (list_any is_write (items_at (codes "status") volume.1));
@@ -100,21 +111,23 @@ volume_of keys volume = record {
 -- The group
 
 -- the keys of a group, in their order
-abbrev pub places_in : Tree → GroupPlaces
-places_in group = record {
+abbrev pub positions_in : Tree → GroupPositions
+positions_in group = record {
   physicals = keys_in (sections_at (codes "physical_volumes") group);
   volumes = keys_in (sections_at (codes "logical_volumes") group);
 }
 
+-- the volumes of a group
+abbrev pub volumes_in : Tree → List Volume
+volumes_in group = map (volume_of (positions_in group)) (sections_at (codes "logical_volumes") group)
+
 abbrev pub group_in : Keyed → Group
-group_in group =
-    let physicals = sections_at (codes "physical_volumes") group.1 in
-    record {
-      name = group.0;
-      extent_size = number_at (codes "extent_size") group.1;
-      physicals = map (physical_of (map device_of physicals)) physicals;
-      volumes = map (volume_of (places_in group.1)) (sections_at (codes "logical_volumes") group.1);
-    }
+group_in group = record {
+  name = group.0;
+  extent_size = number_at (codes "extent_size") group.1;
+  physicals = physicals_in (sections_at (codes "physical_volumes") group.1);
+  volumes = volumes_in group.1;
+}
 
 -- the first section, or an empty one
 abbrev pub first_section : List Keyed → Keyed

@@ -1,3 +1,4 @@
+pub mod Bytes
 pub mod Names
 pub mod NameMessage
 pub mod Fields

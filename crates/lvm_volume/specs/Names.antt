@@ -1,10 +1,12 @@
 -- How the device mapper's name of a volume is spelled from its parts (lvm(8), "Valid names"; dmsetup splitname).
 use Rattle.std.specs.Prelude.{◌≡◌, ℕ, Bool, false, ◌&&◌, ◌||◌, ◌==◌, nat_le, List, [], ◌∷◌, ◌++◌, length, Option, Some, None, option_map, Result, Ok, Err, if◌then◌else◌}
 use Rattle.std.specs.List.{list_all}
-use Rattle.std.specs.Char.{is_ascii_digit}
+use Rattle.std.specs.Char.{is_ascii_alphanumeric}
+use Rattle.lvm_volume.specs.Bytes.{full_stop, hyphen, plus, space, underscore}
 use Rattle.lvm_volume.specs.declared.fault.NameFault.{NameFault}
 use Rattle.lvm_volume.specs.declared.fault.NameFault.TheVariants.{Letter, HyphenFirst, Empty, Long, Memory}
 use Rattle.lvm_volume.specs.declared.names.Parts.{Parts}
+use denote.Ref.{Bor}
 
 -- The parts
 
@@ -14,9 +16,13 @@ pub record NameParts : Type 0 where
   pub lv : List ℕ
   pub layer : Option (List ℕ)
 
+-- the parts that texts say
+abbrev pub name_parts : (vg lv : List ℕ) → Option (Bor (List ℕ)) → NameParts
+name_parts vg lv layer = record { vg = vg; lv = lv; layer = option_map (λ l. l.now) layer }
+
 -- a byte of a part: an ASCII letter, a digit or one of + _ . -
 abbrev pub is_letter : ℕ → Bool
-is_letter b = (nat_le 97 b && nat_le b 122) || ((nat_le 65 b && nat_le b 90) || (is_ascii_digit b || (b == 43 || (b == 95 || (b == 46 || b == 45)))))
+is_letter b = is_ascii_alphanumeric b || (b == plus || (b == underscore || (b == full_stop || b == hyphen)))
 
 -- the first byte is this one
 abbrev pub begins_with : ℕ → List ℕ → Bool
@@ -25,12 +31,12 @@ begins_with c (b ∷ bs) = b == c
 
 -- what is wrong with a group or a volume
 abbrev pub part_fault : List ℕ → Option NameFault
-part_fault part = if length part == 0 then Some Empty else (if list_all is_letter part then (if begins_with 45 part then Some HyphenFirst else None) else Some Letter)
+part_fault part = if length part == 0 then Some Empty else (if list_all is_letter part then (if begins_with hyphen part then Some HyphenFirst else None) else Some Letter)
 
 -- what is wrong with a layer, which may not begin with an underscore either
 abbrev pub layer_fault : Option (List ℕ) → Option NameFault
 layer_fault None = None
-layer_fault (Some layer) = if begins_with 95 layer then Some Letter else part_fault layer
+layer_fault (Some layer) = if begins_with underscore layer then Some Letter else part_fault layer
 
 -- the first fault, or else a later one
 abbrev pub or_later : Option NameFault → Option NameFault → Option NameFault
@@ -42,22 +48,22 @@ or_later (Some f) later = Some f
 -- each hyphen twice
 abbrev pub doubled : List ℕ → List ℕ
 doubled [] = []
-doubled (b ∷ bs) = if b == 45 then 45 ∷ 45 ∷ doubled bs else b ∷ doubled bs
+doubled (b ∷ bs) = if b == hyphen then hyphen ∷ hyphen ∷ doubled bs else b ∷ doubled bs
 
 -- from the left, each two neighbouring hyphens as one
 abbrev pub undoubled : List ℕ → List ℕ
 undoubled [] = []
 undoubled (b ∷ []) = b ∷ []
-undoubled (b ∷ c ∷ bs) = if b == 45 && c == 45 then 45 ∷ undoubled bs else b ∷ undoubled (c ∷ bs)
+undoubled (b ∷ c ∷ bs) = if b == hyphen && c == hyphen then hyphen ∷ undoubled bs else b ∷ undoubled (c ∷ bs)
 
 -- a hyphen and a part, if there is one
 abbrev pub with_hyphen : Option (List ℕ) → List ℕ
 with_hyphen None = []
-with_hyphen (Some part) = 45 ∷ part
+with_hyphen (Some part) = hyphen ∷ part
 
 -- the parts with each hyphen twice, joined by one hyphen
 abbrev pub joined : NameParts → List ℕ
-joined p = doubled p.vg ++ 45 ∷ (doubled p.lv ++ with_hyphen (option_map doubled p.layer))
+joined p = doubled p.vg ++ hyphen ∷ (doubled p.lv ++ with_hyphen (option_map doubled p.layer))
 
 -- the first fault of the parts in their order, and then that of the whole
 abbrev pub fault_of : NameParts → Option NameFault
@@ -102,11 +108,11 @@ undoubled_parts p = record { vg = undoubled p.vg; lv = undoubled p.lv; layer = o
 -- a space and a part, if there is one
 abbrev pub with_space : Option (List ℕ) → List ℕ
 with_space None = []
-with_space (Some part) = 32 ∷ part
+with_space (Some part) = space ∷ part
 
 -- the parts with single spaces between them
 abbrev pub spaced : NameParts → List ℕ
-spaced p = p.vg ++ 32 ∷ (p.lv ++ with_space p.layer)
+spaced p = p.vg ++ space ∷ (p.lv ++ with_space p.layer)
 
 -- the text is the parts of a name with single spaces between them
 abbrev pub IsSpaced : List ℕ → List ℕ → Type 0

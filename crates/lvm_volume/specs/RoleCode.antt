@@ -1,6 +1,6 @@
 -- How roles are found, one snapshot after the other, and how what uses them is seen.
 use Rattle.std.specs.Prelude.{ℕ, ◌+◌, ◌==◌, Bool, List, [], ◌∷◌, Option, Some, None, if◌then◌else◌}
-use Rattle.lvm_volume.specs.declared.devices.Seen.{Seen}
+use Rattle.lvm_volume.specs.declared.devices.GroupRef.{GroupRef}
 use Rattle.lvm_volume.specs.declared.segment.Segment.{Segment}
 use Rattle.lvm_volume.specs.declared.segment_check.SegmentCheck.{SegmentCheck}
 use Rattle.lvm_volume.specs.declared.segment_check.SegmentCheck.TheVariants.{Unknown, Snapshot}
@@ -31,10 +31,10 @@ with_store snapshot (roles.Store other) = roles.Clashing
 with_store snapshot roles.Record = roles.Record
 with_store snapshot roles.Clashing = roles.Clashing
 
--- the roles with the one at a place changed, where the first is at this place
-abbrev pub changed : (Role → Role) → (place first : ℕ) → List Role → List Role
-changed change place first [] = []
-changed change place first (role ∷ all) = (if place == first then change role else role) ∷ changed change place (first + 1) all
+-- the roles with the one at a position changed, where the first is at this position
+abbrev pub changed : (Role → Role) → (position first : ℕ) → List Role → List Role
+changed change position first [] = []
+changed change position first (role ∷ all) = (if position == first then change role else role) ∷ changed change position (first + 1) all
 
 -- What a check of segments finds
 abbrev pub test_of : SegmentCheck → (alone : Bool) → Segment → Bool
@@ -42,5 +42,5 @@ test_of (Unknown physicals volumes) alone segment = is_unknown physicals volumes
 test_of (Snapshot volumes all) alone segment = is_bad_snapshot volumes.now all.now alone segment
 
 -- The group that devices are made of
-abbrev pub seen : Seen → Group
-seen group = record { name = group.name.now; extent_size = group.extent_size; physicals = group.physicals.now; volumes = group.volumes.now }
+abbrev pub group_view : GroupRef → Group
+group_view group = record { name = group.name.now; extent_size = group.extent_size; physicals = group.physicals.now; volumes = group.volumes.now }

@@ -12,8 +12,8 @@ use Rattle.lvm_volume.specs.declared.roles.Role.TheVariants as roles
 -- Records: volumes whose only segment is a snapshot
 
 abbrev pub snapshot_of : (line : ℕ) → SegmentType → List Record
-snapshot_of line (Snapshot chunk origin store) = record { chunk = chunk; origin = origin; store = store; line = line } ∷ []
-snapshot_of line (Striped chunk stripes) = []
+snapshot_of line (Snapshot chunk_size origin store) = record { chunk_size = chunk_size; origin = origin; store = store; line = line } ∷ []
+snapshot_of line (Striped stripe_size stripes) = []
 snapshot_of line Zero = []
 snapshot_of line Error = []
 
@@ -41,7 +41,7 @@ abbrev pub unless_recorded : List Record → Role → Role
 unless_recorded [] role = role
 unless_recorded (snapshot ∷ more) role = roles.Record
 
--- the role of a volume with its place, among all these snapshots
+-- the role of a volume with its position, among all these snapshots
 abbrev pub role_of : List Record → ℕ × Volume → Role
 role_of snapshots at =
     unless_recorded (recorded at.1.segments) (role_by (list_any (λ snapshot. snapshot.origin == at.0) snapshots) (filter (λ snapshot. snapshot.store == at.0) snapshots))
@@ -53,16 +53,16 @@ roles_among snapshots volumes = map (role_of snapshots) (enumerate_from 0 volume
 abbrev pub roles_of : List Volume → List Role
 roles_of volumes = roles_among (records_of volumes) volumes
 
--- What a check and tables ask of a place
+-- What a check and tables ask of a position
 
 abbrev pub role_at : List Role → ℕ → Role
-role_at all place = slice_index_or all place roles.Plain
+role_at all position = slice_index_or all position roles.Plain
 
 abbrev pub segments_at : List Volume → ℕ → List Segment
-segments_at volumes place = slice_index_or (map (λ volume. volume.segments) volumes) place []
+segments_at volumes position = slice_index_or (map (λ volume. volume.segments) volumes) position []
 
 abbrev pub name_at : List Volume → ℕ → List ℕ
-name_at volumes place = slice_index_or (map (λ volume. volume.name) volumes) place []
+name_at volumes position = slice_index_or (map (λ volume. volume.name) volumes) position []
 
 abbrev pub is_record : Role → Bool
 is_record roles.Record = true
@@ -83,11 +83,11 @@ extents_of segments = end_of (slice_get segments (length segments - 1))
 -- a snapshot that isn't the only segment of its volume, whose origin or store is a record, whose store is an origin or
 -- another one's store too, or that hasn't as many extents as its origin
 abbrev pub is_bad_target : List Volume → List Role → (alone : Bool) → (count : ℕ) → SegmentType → Bool
-is_bad_target volumes all alone count (Snapshot chunk origin store) =
+is_bad_target volumes all alone count (Snapshot chunk_size origin store) =
     not alone
     || (is_record (role_at all origin)
     || (not (is_store (role_at all store)) || not (extents_of (segments_at volumes origin) == count)))
-is_bad_target volumes all alone count (Striped chunk stripes) = false
+is_bad_target volumes all alone count (Striped stripe_size stripes) = false
 is_bad_target volumes all alone count Zero = false
 is_bad_target volumes all alone count Error = false
 

@@ -3,7 +3,6 @@ use Rattle.std.specs.Prelude.{◌≡◌, ℕ, ◌+◌, ◌*◌, ◌^◌, ◌<◌
 use Rattle.std.specs.List.{flat_map, zip, AllByRecursion}
 use Rattle.lvm_text.specs.Tree.{Tree}
 use Rattle.dm_table.specs.declared.place.Part.TheVariants.{Source}
-use Rattle.dm_table.specs.declared.place.Place.{Place}
 use Rattle.dm_table.specs.declared.load_fault.LoadKind.TheVariants.{Deep, Field, Memory, Name, Syntax, Twice}
 use Rattle.dm_table.specs.declared.load_fault.LoadFault.{LoadFault}
 use Rattle.dm_table.specs.declared.table.DevRef.TheVariants as refs
@@ -33,7 +32,7 @@ use Rattle.lvm_volume.specs.Names.{NameParts, fault_of, joined}
 use Rattle.lvm_volume.specs.Fields.{faults_of_fields}
 use Rattle.lvm_volume.specs.Group.{Group, group_of}
 use Rattle.lvm_volume.specs.Roles.{extents_of, name_at, records_of, role_at, roles_of, segments_at}
-use Rattle.lvm_volume.specs.Extents.{hit, name_faults, size_faults, snapshot_faults, stripes_of, unknown_faults, volume_faults}
+use Rattle.lvm_volume.specs.Extents.{hit, name_faults, size_faults, snapshot_faults, source_line, stripes_of, unknown_faults, volume_faults}
 
 -- The checks, in their order
 
@@ -55,11 +54,7 @@ group_checks top = faults_of_fields Fields top ∷ later_checks top
 
 -- Tables
 
--- the place of a line of the source
-abbrev pub source_line : ℕ → Place
-source_line line = record { part = Source; number = line }
-
--- the physical volume at a place
+-- the physical volume at a position
 abbrev pub physical_at : List Physical → ℕ → Physical
 physical_at physicals i = slice_index_or physicals i (record { disk = []; size = 0; start = 0; count = 0; line = 0 })
 
@@ -71,15 +66,15 @@ column_of extent_size physicals stripe =
 
 -- one column is linear
 abbrev pub columns_target : ℕ → List Column → Target
-columns_target chunk (column ∷ []) = targets.Linear column.to column.offset
-columns_target chunk columns = targets.Striped chunk columns
+columns_target stripe_size (column ∷ []) = targets.Linear column.to column.offset
+columns_target stripe_size columns = targets.Striped stripe_size columns
 
 abbrev pub line_target : ℕ → List Physical → SegmentType → Target
-line_target extent_size physicals (Striped chunk stripes) = columns_target chunk (map (column_of extent_size physicals) stripes)
+line_target extent_size physicals (Striped stripe_size stripes) = columns_target stripe_size (map (column_of extent_size physicals) stripes)
 line_target extent_size physicals Zero = targets.Zero
 line_target extent_size physicals Error = targets.Error
 -- no device has the segment of a record
-line_target extent_size physicals (Snapshot chunk origin store) = targets.Error
+line_target extent_size physicals (Snapshot chunk_size origin store) = targets.Error
 
 -- the line of a segment
 unfoldable pub line_of : ℕ → List Physical → Segment → Line
@@ -106,6 +101,10 @@ device_parts group volume layer = record { vg = group; lv = volume; layer = opti
 
 abbrev pub device_name : List ℕ → List ℕ → Option Layer → List ℕ
 device_name group volume layer = joined (device_parts group volume layer)
+
+-- a name is built of these parts
+abbrev pub IsNamed : List ℕ → List ℕ → Option Layer → Type 0
+IsNamed group volume layer = fault_of (device_parts group volume layer) ≡ None
 
 -- the device of a volume's own segments: the volume itself, or its layer
 abbrev pub own_device : Group → Volume → (ro : Bool) → Option Layer → DeviceSpec
@@ -145,7 +144,7 @@ snapshot_line group volume snapshot = record {
       (refs.Device (device_name group.name (name_at group.volumes snapshot.origin) (Some Real)))
       (refs.Device (device_name group.name volume.name (Some Cow)))
       Persistent
-      snapshot.chunk;
+      snapshot.chunk_size;
   at = source_line snapshot.line;
 }
 
@@ -158,7 +157,7 @@ devices_by group volume roles.Record = []
 devices_by group volume roles.Clashing = []
 
 unfoldable pub devices_in : Group → Role × Volume → List DeviceSpec
-devices_in group cast = devices_by group cast.1 cast.0
+devices_in group member = devices_by group member.1 member.0
 
 unfoldable pub disk_of : Physical → Disk
 disk_of physical = record { name = physical.disk; len = physical.size; at = source_line physical.line }
@@ -176,18 +175,18 @@ abbrev pub unnamed_layer : List ℕ → Volume → Option Layer → List LoadFau
 unnamed_layer group volume layer = hit (is_some (fault_of (device_parts group volume.name layer))) Name volume.line
 
 unfoldable pub unnamed_volume : List ℕ → Role × Volume → List LoadFault
-unnamed_volume group cast = flat_map (unnamed_layer group cast.1) (layers_of cast.0)
+unnamed_volume group member = flat_map (unnamed_layer group member.1) (layers_of member.0)
 
 -- the volumes of a group with their roles
-abbrev pub casts_of : Group → List (Role × Volume)
-casts_of group = zip (roles_of group.volumes) group.volumes
+abbrev pub members_of : Group → List (Role × Volume)
+members_of group = zip (roles_of group.volumes) group.volumes
 
 abbrev pub unnamed : Group → List LoadFault
-unnamed group = flat_map (unnamed_volume group.name) (casts_of group)
+unnamed group = flat_map (unnamed_volume group.name) (members_of group)
 
 -- the devices and the disks of a group
 abbrev pub tables_of : Group → List DeviceSpec × List Disk
-tables_of group = (flat_map (devices_in group) (casts_of group), map disk_of group.physicals)
+tables_of group = (flat_map (devices_in group) (members_of group), map disk_of group.physicals)
 
 -- What checks leave: numbers that fit 64 bits in sectors, stripes of physical volumes that are there, and snapshots of
 -- volumes that are origins
@@ -202,22 +201,25 @@ pub record IsSegmentIn (extent_size : ℕ) (physicals : List Physical) (segment 
   pub end : (segment.start + segment.count) * extent_size < 2 ^ 64
   pub stripes : AllByRecursion (IsStripeIn extent_size physicals) (stripes_of segment.target)
 
+abbrev pub AreSegmentsIn : Group → List Segment → Type 0
+AreSegmentsIn group segments = AllByRecursion (IsSegmentIn group.extent_size group.physicals) segments
+
 pub record IsSoundGroup (group : Group) : Type 0 where
-  pub volumes : AllByRecursion (λ volume. AllByRecursion (IsSegmentIn group.extent_size group.physicals) volume.segments) group.volumes
+  pub volumes : AllByRecursion (λ volume. AreSegmentsIn group volume.segments) group.volumes
   pub origins : AllByRecursion (λ snapshot. role_at (roles_of group.volumes) snapshot.origin ≡ roles.Origin) (records_of group.volumes)
 
 -- what the devices of a volume with its role need: lengths that fit, and names
 
 abbrev pub IsSnapshotIn : Group → Role → Type 0
 IsSnapshotIn group (roles.Store snapshot) =
-    (length_of group (segments_at group.volumes snapshot.origin) < 2 ^ 64) × (fault_of (device_parts group.name (name_at group.volumes snapshot.origin) (Some Real)) ≡ None)
+    (length_of group (segments_at group.volumes snapshot.origin) < 2 ^ 64) × IsNamed group.name (name_at group.volumes snapshot.origin) (Some Real)
 IsSnapshotIn group role = ⊤
 
-pub record IsMadeIn (group : Group) (cast : Role × Volume) : Type 0 where
-  pub segments : AllByRecursion (IsSegmentIn group.extent_size group.physicals) cast.1.segments
-  pub length : length_of group cast.1.segments < 2 ^ 64
-  pub names : unnamed_volume group.name cast ≡ []
-  pub snapshot : IsSnapshotIn group cast.0
+pub record IsMadeIn (group : Group) (member : Role × Volume) : Type 0 where
+  pub segments : AreSegmentsIn group member.1.segments
+  pub length : length_of group member.1.segments < 2 ^ 64
+  pub names : unnamed_volume group.name member ≡ []
+  pub snapshot : IsSnapshotIn group member.0
 
 -- Faults of a metadata text, as faults of a load
 abbrev pub text_fault : TextFault → LoadFault

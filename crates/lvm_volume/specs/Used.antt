@@ -6,14 +6,14 @@ use Rattle.std.specs.Ordering.{nat_cmp}
 use Rattle.std.specs.BTreeMap.{BTreeMap, get}
 use Rattle.lvm_volume.specs.declared.segment.Stripe.{Stripe}
 use Rattle.lvm_volume.specs.declared.physical.Physical.{Physical}
-use Rattle.lvm_volume.specs.Extents.{Claim, have_clash, used_by}
+use Rattle.lvm_volume.specs.Extents.{Claim, claim_on, have_clash, used_by}
 
 -- a range has something in common with that from the first to before the end
 abbrev pub reaches : ℕ → ℕ → ℕ × ℕ → Bool
 reaches first end range = nat_lt first range.1 && nat_lt range.0 end
 
 -- the map has these ranges, which have nothing in common, and no other
-pub record Keeps (used : BTreeMap ℕ ℕ) (ranges : List (ℕ × ℕ)) : Type 0 where
+pub record HasRanges (used : BTreeMap ℕ ℕ) (ranges : List (ℕ × ℕ)) : Type 0 where
   pub all : AllByRecursion (λ range. get nat_cmp used range.0 ≡ Some range.1) ranges
   pub only : (first end : ℕ) → get nat_cmp used first ≡ Some end → (a b : ℕ) → reaches a b (first, end) ≡ true → list_any (reaches a b) ranges ≡ true
   pub some : (first end : ℕ) → get nat_cmp used first ≡ Some end → first < end
@@ -26,13 +26,13 @@ ranges_of physical (claim ∷ claims) = if physical == claim.physical then (clai
 
 -- the maps of the physical volumes have what is claimed
 pub record Holds (maps : List (BTreeMap ℕ ℕ)) (claims : List Claim) : Type 0 where
-  pub at : (physical : ℕ) (d : BTreeMap ℕ ℕ) → physical < length maps → Keeps (get_or maps physical d) (ranges_of physical claims)
+  pub at : (physical : ℕ) (d : BTreeMap ℕ ℕ) → physical < length maps → HasRanges (get_or maps physical d) (ranges_of physical claims)
 
 -- the claims of stripes, with this many extents each
 abbrev pub claims_by : ℕ → List Stripe → List Claim
-claims_by share stripes = map (λ stripe. record { physical = stripe.physical; first = stripe.extent; end = stripe.extent + share }) stripes
+claims_by share stripes = map (λ stripe. claim_on stripe.physical stripe.extent (stripe.extent + share)) stripes
 
--- what is kept of claims, from where they were held before: whether there was a clash, and what is claimed if not
+-- what claims come to, where others were made before: whether there was a clash, and what is claimed if not
 pub record Claimed (physicals : List Physical) (new : List (BTreeMap ℕ ℕ)) (claims used : List Claim) (clash : Bool) : Type 0 where
   pub value : clash ≡ have_clash physicals used claims
   pub held : clash ≡ false → Holds new (used_by used claims)

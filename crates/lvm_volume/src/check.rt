@@ -1,4 +1,5 @@
-//! The two checks that go over the fields: whether they are there and fit, and whether their integers are in the limits.
+//! The two checks that go over the fields: whether they are there and fit, and whether their integers are in
+//! the limits.
 
 /// Which check goes over the fields.
 #[derive(Clone, Copy)]

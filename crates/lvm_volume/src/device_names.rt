@@ -1,16 +1,18 @@
 //! The names of devices: of a volume, and of the layer that an origin and a store have.
 //!
-//! They are all tried before any device is made, so that the first in the order of the text is refused, whichever
-//! devices name it in their lines.
+//! They are all tried before any device is made, so that the first in the order of the text is refused,
+//! whichever devices name it in their lines.
 
 ghost use Rattle.std.specs.Prelude.{◌≡◌, ◌≢◌, ◌∷◌, [], None, Some, IfOk};
 ghost use Rattle.std.specs.List.{flat_map, zip};
-ghost use Rattle.dm_table.specs.LoadFault.{fault_at, first_or};
+ghost use Rattle.dm_table.specs.LoadFault.{fault_at};
 ghost use Rattle.dm_table.specs.declared.load_fault.LoadKind.TheVariants as loads;
 ghost use Rattle.dm_table.specs.declared.place.Part.TheVariants.{Source};
+ghost use Rattle.lvm_volume.specs.Fields.{first_of};
 ghost use Rattle.lvm_volume.specs.declared.fault.NameFault.TheVariants as names;
-ghost use Rattle.lvm_volume.specs.Names.{Returns, built, fault_of};
-ghost use Rattle.lvm_volume.specs.Tables.{device_name, device_parts, layer_text, unnamed_layer, unnamed_volume};
+ghost use Rattle.lvm_volume.specs.Names.{Returns, built};
+ghost use Rattle.lvm_volume.specs.Tables.{IsNamed, device_name, device_parts, layer_text, unnamed_layer};
+ghost use Rattle.lvm_volume.specs.Tables.{unnamed_volume};
 
 use crate::fault::NameFault;
 use crate::names::build_name;
@@ -25,7 +27,7 @@ use std::alloc::{AllocError, Global};
 pub(crate) enum Layer {
     /// What an origin has: its snapshots are of it.
     Real,
-    /// What a store has: its snapshot is kept on it.
+    /// What a store has: it holds the chunks that its snapshot took.
     Cow,
 }
 
@@ -47,7 +49,8 @@ pub(crate) fn names_fault(
     roles: &[Role],
     volumes: &[Volume],
 ) -> Result<Option<LoadFault>, AllocError>
-    ensures { IfOk result (λ fault. fault ≡ first_or (flat_map (unnamed_volume group.now) (zip roles.now volumes.now)) None) }
+    ensures { IfOk result (λ fault. fault
+        ≡ first_of (flat_map (unnamed_volume group.now) (zip roles.now volumes.now))) }
 {
     for (role, volume) in roles.iter().zip(volumes) {
         if let Some(fault) = volume_fault(alloc, group, *role, volume)? {
@@ -65,7 +68,7 @@ fn volume_fault(
     role: Role,
     volume: &Volume,
 ) -> Result<Option<LoadFault>, AllocError>
-    ensures { IfOk result (λ fault. fault ≡ first_or (unnamed_volume group.now (role, volume.now)) None) }
+    ensures { IfOk result (λ fault. fault ≡ first_of (unnamed_volume group.now (role, volume.now))) }
 {
     match role {
         Role::Plain => device_fault(alloc, group, volume, None),
@@ -82,7 +85,8 @@ fn layer_fault(
     volume: &Volume,
     layer: Layer,
 ) -> Result<Option<LoadFault>, AllocError>
-    ensures { IfOk result (λ fault. fault ≡ first_or (flat_map (unnamed_layer group.now volume.now) (Some layer ∷ None ∷ [])) None) }
+    ensures { IfOk result (λ fault. fault
+        ≡ first_of (flat_map (unnamed_layer group.now volume.now) (Some layer ∷ None ∷ []))) }
 {
     match device_fault(alloc, group, volume, Some(layer))? {
         Some(fault) => Ok(Some(fault)),
@@ -97,7 +101,7 @@ fn device_fault(
     volume: &Volume,
     layer: Option<Layer>,
 ) -> Result<Option<LoadFault>, AllocError>
-    ensures { IfOk result (λ fault. fault ≡ first_or (unnamed_layer group.now volume.now layer) None) }
+    ensures { IfOk result (λ fault. fault ≡ first_of (unnamed_layer group.now volume.now layer)) }
 {
     match built_name(alloc, group, volume.name.as_str(), layer) {
         Ok(_) => Ok(None),
@@ -125,7 +129,7 @@ pub(crate) fn name_of(
     volume: &str,
     layer: Option<Layer>,
 ) -> Result<Name, AllocError>
-    requires { fault_of (device_parts group.now volume.now layer) ≡ None }
+    requires { IsNamed group.now volume.now layer }
     ensures { IfOk result (λ name. name ≡ device_name group.now volume.now layer) }
 {
     match built_name(alloc, group, volume, layer) {

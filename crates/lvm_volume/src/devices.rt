@@ -1,16 +1,16 @@
 //! The devices of volumes, by their roles.
 //!
-//! A snapshot is over a layer of its origin and over one of its store, so that the volumes themselves keep their names
-//! (lvm(8); what `dmsetup table` prints of a group with snapshots). A new role is an arm in `add_devices`, and in
-//! `devices_by` and `layers_of` of `specs/Tables.antt`.
+//! A snapshot is over a layer of its origin and over one of its store, so that the volumes themselves keep
+//! their names (lvm(8); what `dmsetup table` prints of a group with snapshots). A new role is an arm in
+//! `add_devices`, and in `devices_by` and `layers_of` of `specs/Tables.antt`.
 
 ghost use Rattle.std.specs.Prelude.{◌≡◌, ◌++◌, ◌*◌, ◌^◌, ◌<◌, None, Some, IfOk, OnOk};
 ghost use Rattle.std.specs.List.{AllByRecursion, flat_map, zip};
 ghost use Rattle.lvm_volume.specs.declared.device_names.Layer.TheVariants.{Real, Cow};
-ghost use Rattle.lvm_volume.specs.Names.{fault_of};
-ghost use Rattle.lvm_volume.specs.RoleCode.{seen};
+ghost use Rattle.lvm_volume.specs.RoleCode.{group_view};
 ghost use Rattle.lvm_volume.specs.Roles.{extents_of, name_at, segments_at};
-ghost use Rattle.lvm_volume.specs.Tables.{IsMadeIn, IsSegmentIn, device_parts, devices_in, length_of, origin_line, over_device, own_device, snapshot_line};
+ghost use Rattle.lvm_volume.specs.Tables.{AreSegmentsIn, IsMadeIn, IsNamed, devices_in, length_of};
+ghost use Rattle.lvm_volume.specs.Tables.{origin_line, over_device, own_device, snapshot_line};
 
 use crate::device_names::{Layer, name_of};
 use crate::lines::lines_of;
@@ -22,9 +22,10 @@ use crate::volume::Volume;
 use dm_table::{DevRef, DeviceSpec, Line, StoreKind, Table, Target};
 use std::alloc::{AllocError, Global};
 
-/// What devices are made of: a group's name, the sectors of an extent, its physical volumes and its volumes.
+/// A group that devices are made of: its name, the sectors of an extent, its physical volumes and its
+/// volumes.
 #[derive(Drop)]
-pub(crate) struct Seen<'g> {
+pub(crate) struct GroupRef<'g> {
     pub name: &'g str,
     pub extent_size: u64,
     pub physicals: &'g [Physical],
@@ -34,11 +35,12 @@ pub(crate) struct Seen<'g> {
 /// The devices of the volumes, in their order, by their roles.
 pub(crate) fn devices_of(
     alloc: Global,
-    group: &Seen<'_>,
+    group: &GroupRef<'_>,
     roles: &[Role],
 ) -> Result<Vec<DeviceSpec>, AllocError>
-    requires { AllByRecursion (IsMadeIn (seen group.now)) (zip roles.now group.now.volumes.now) }
-    ensures { IfOk result (λ v. v.items ≡ flat_map (devices_in (seen group.now)) (zip roles.now group.now.volumes.now)) }
+    requires { AllByRecursion (IsMadeIn (group_view group.now)) (zip roles.now group.now.volumes.now) }
+    ensures { IfOk result (λ v. v.items
+        ≡ flat_map (devices_in (group_view group.now)) (zip roles.now group.now.volumes.now)) }
 {
     let mut devices = Vec::new(alloc);
     for (role, volume) in roles.iter().zip(group.volumes) {
@@ -52,12 +54,13 @@ pub(crate) fn devices_of(
 fn add_devices(
     alloc: Global,
     devices: &mut Vec<DeviceSpec>,
-    group: &Seen<'_>,
+    group: &GroupRef<'_>,
     role: Role,
     volume: &Volume,
 ) -> Result<(), AllocError>
-    requires { IsMadeIn (seen group.now) (role, volume.now) }
-    ensures { OnOk result (devices.new.items ≡ devices.old.items ++ devices_in (seen group.now) (role, volume.now)) }
+    requires { IsMadeIn (group_view group.now) (role, volume.now) }
+    ensures { OnOk result
+        (devices.new.items ≡ devices.old.items ++ devices_in (group_view group.now) (role, volume.now)) }
 {
     match role {
         Role::Plain => devices.push(own_device(alloc, group, volume, volume.ro, None)?)?,
@@ -79,14 +82,14 @@ fn add_devices(
 /// The device of a volume's own segments: the volume itself, or a layer of it.
 fn own_device(
     alloc: Global,
-    group: &Seen<'_>,
+    group: &GroupRef<'_>,
     volume: &Volume,
     ro: bool,
     layer: Option<Layer>,
 ) -> Result<DeviceSpec, AllocError>
-    requires segments { AllByRecursion (IsSegmentIn group.now.extent_size group.now.physicals.now) volume.now.segments }
-    requires name { fault_of (device_parts group.now.name.now volume.now.name layer) ≡ None }
-    ensures { IfOk result (λ device. device ≡ own_device (seen group.now) volume.now ro layer) }
+    requires segments { AreSegmentsIn (group_view group.now) volume.now.segments }
+    requires name { IsNamed group.now.name.now volume.now.name layer }
+    ensures { IfOk result (λ device. device ≡ own_device (group_view group.now) volume.now ro layer) }
 {
     Ok(DeviceSpec {
         name: name_of(alloc, group.name, volume.name.as_str(), layer)?,
@@ -104,12 +107,12 @@ fn own_device(
 /// The device of a volume over its layer, of one line.
 fn over_device(
     alloc: Global,
-    group: &Seen<'_>,
+    group: &GroupRef<'_>,
     volume: &Volume,
     line: Line,
 ) -> Result<DeviceSpec, AllocError>
-    requires { fault_of (device_parts group.now.name.now volume.now.name None) ≡ None }
-    ensures { IfOk result (λ device. device ≡ over_device (seen group.now) volume.now line) }
+    requires { IsNamed group.now.name.now volume.now.name None }
+    ensures { IfOk result (λ device. device ≡ over_device (group_view group.now) volume.now line) }
 {
     let mut lines = Vec::new(alloc);
     lines.push(line)?;
@@ -122,10 +125,10 @@ fn over_device(
 }
 
 /// The line of an origin, over its layer.
-fn origin_line(alloc: Global, group: &Seen<'_>, volume: &Volume) -> Result<Line, AllocError>
-    requires len { length_of (seen group.now) volume.now.segments < 2 ^ 64 }
-    requires name { fault_of (device_parts group.now.name.now volume.now.name (Some Real)) ≡ None }
-    ensures { IfOk result (λ line. line ≡ origin_line (seen group.now) volume.now) }
+fn origin_line(alloc: Global, group: &GroupRef<'_>, volume: &Volume) -> Result<Line, AllocError>
+    requires len { length_of (group_view group.now) volume.now.segments < 2 ^ 64 }
+    requires name { IsNamed group.now.name.now volume.now.name (Some Real) }
+    ensures { IfOk result (λ line. line ≡ origin_line (group_view group.now) volume.now) }
 {
     let real = name_of(alloc, group.name, volume.name.as_str(), Some(Layer::Real))?;
     Ok(Line {
@@ -138,17 +141,18 @@ fn origin_line(alloc: Global, group: &Seen<'_>, volume: &Volume) -> Result<Line,
     })
 }
 
-/// The line of a snapshot that is kept on this volume, over the layers of its origin and of the volume.
+/// The line of a snapshot whose store is this volume, over the layers of its origin and of the volume.
 fn snapshot_line(
     alloc: Global,
-    group: &Seen<'_>,
+    group: &GroupRef<'_>,
     volume: &Volume,
     snapshot: Record,
 ) -> Result<Line, AllocError>
-    requires len { length_of (seen group.now) (segments_at group.now.volumes.now snapshot.origin) < 2 ^ 64 }
-    requires origin { fault_of (device_parts group.now.name.now (name_at group.now.volumes.now snapshot.origin) (Some Real)) ≡ None }
-    requires store { fault_of (device_parts group.now.name.now volume.now.name (Some Cow)) ≡ None }
-    ensures { IfOk result (λ line. line ≡ snapshot_line (seen group.now) volume.now snapshot) }
+    requires len { length_of (group_view group.now) (segments_at group.now.volumes.now snapshot.origin)
+        < 2 ^ 64 }
+    requires origin { IsNamed group.now.name.now (name_at group.now.volumes.now snapshot.origin) (Some Real) }
+    requires store { IsNamed group.now.name.now volume.now.name (Some Cow) }
+    ensures { IfOk result (λ line. line ≡ snapshot_line (group_view group.now) volume.now snapshot) }
 {
     let origin = name_at(group.volumes, snapshot.origin);
     let real = name_of(alloc, group.name, origin, Some(Layer::Real))?;
@@ -163,7 +167,7 @@ fn snapshot_line(
             origin: DevRef::Device(real),
             store: DevRef::Device(cow),
             kind: StoreKind::Persistent,
-            chunk: snapshot.chunk,
+            chunk: snapshot.chunk_size,
         },
         at: source_line(snapshot.line),
     })

@@ -1,13 +1,15 @@
-//! The check of how extents lie: physical volumes within their devices, segments one after the other, and no extent
-//! of a physical volume in two stripes.
+//! The check of how extents lie: physical volumes within their devices, segments one after the other, and no
+//! extent of a physical volume in two stripes.
 //!
-//! What stripes use is kept by physical volume (`used`), over all volumes in the order of the text.
+//! What stripes use is listed by physical volume (`used`), over all volumes in the order of the text.
 
-ghost use Rattle.std.specs.Prelude.{◌≡◌, ◌==◌, ◌+◌, ◌*◌, ◌/◌, ◌%◌, ◌^◌, ◌<◌, ◌∷◌, ◌||◌, [], List, None, Some, true, false, not, nat_lt, length, IfOk};
+ghost use Rattle.std.specs.Prelude.{◌≡◌, ◌==◌, ◌+◌, ◌*◌, ◌/◌, ◌%◌, ◌^◌, ◌<◌, ◌∷◌, ◌||◌, [], List, None, Some};
+ghost use Rattle.std.specs.Prelude.{true, false, not, nat_lt, length, IfOk};
 ghost use Rattle.std.specs.List.{list_any};
-ghost use Rattle.dm_table.specs.LoadFault.{first_or};
+ghost use Rattle.lvm_volume.specs.Fields.{first_of};
 ghost use Rattle.lvm_volume.specs.Extents as spec;
-ghost use Rattle.lvm_volume.specs.Extents.{Claim, extents_at, is_misplaced, is_too_long, meets, segment_faults, size_faults, used_after, used_by, volume_faults};
+ghost use Rattle.lvm_volume.specs.Extents.{Claim, claim_on, extents_at, is_misplaced, is_too_long, meets};
+ghost use Rattle.lvm_volume.specs.Extents.{segment_faults, size_faults, used_after, used_by, volume_faults};
 ghost use Rattle.lvm_volume.specs.Used.{Claimed, Holds, claims_by};
 
 use crate::physical::Physical;
@@ -21,7 +23,7 @@ use std::collections::BTreeMap;
 
 /// The first physical volume that is longer than its device.
 pub(crate) fn size_fault(extent_size: u64, physicals: &[Physical]) -> Option<LoadFault>
-    ensures { result ≡ first_or (size_faults extent_size physicals.now) None }
+    ensures { result ≡ first_of (size_faults extent_size physicals.now) }
 {
     for physical in physicals {
         if is_too_long(extent_size, physical) {
@@ -31,7 +33,8 @@ pub(crate) fn size_fault(extent_size: u64, physicals: &[Physical]) -> Option<Loa
     None
 }
 
-/// Whether a physical volume is longer than its device. Products of two numbers of 64 bits, and one more, fit 128.
+/// Whether a physical volume is longer than its device. Products of two numbers of 64 bits, and one more, fit
+/// 128.
 fn is_too_long(extent_size: u64, physical: &Physical) -> bool
     ensures { result ≡ is_too_long extent_size physical.now }
 {
@@ -53,7 +56,7 @@ pub(crate) fn volumes_fault(
     physicals: &[Physical],
     volumes: &[Volume],
 ) -> Result<Option<LoadFault>, AllocError>
-    ensures { IfOk result (λ fault. fault ≡ first_or (volume_faults physicals.now [] volumes.now) None) }
+    ensures { IfOk result (λ fault. fault ≡ first_of (volume_faults physicals.now [] volumes.now)) }
 {
     let mut maps = maps_of(alloc, physicals.len())?;
     each_fault(physicals, &mut maps, volumes)
@@ -67,7 +70,7 @@ fn each_fault(
 ) -> Result<Option<LoadFault>, AllocError>
     requires len { length maps.old ≡ length physicals.now }
     requires held { Holds maps.old [] }
-    ensures { IfOk result (λ fault. fault ≡ first_or (volume_faults physicals.now [] volumes.now) None) }
+    ensures { IfOk result (λ fault. fault ≡ first_of (volume_faults physicals.now [] volumes.now)) }
 {
     for volume in volumes {
         if let Some(fault) = segments_fault(physicals, maps, volume.segments.as_slice())? {
@@ -96,8 +99,10 @@ fn segments_fault(
     segments: &[Segment],
 ) -> Result<Option<LoadFault>, AllocError>
     requires { length maps.old ≡ length physicals.now }
-    ensures value { (used : List Claim) → Holds maps.old used → IfOk result (λ fault. fault ≡ first_or (segment_faults physicals.now used 0 segments.now) None) }
-    ensures held { (used : List Claim) → Holds maps.old used → IfOk result (λ fault. fault ≡ None → Holds maps.new (used_after used segments.now)) }
+    ensures value { (used : List Claim) → Holds maps.old used
+        → IfOk result (λ fault. fault ≡ first_of (segment_faults physicals.now used 0 segments.now)) }
+    ensures held { (used : List Claim) → Holds maps.old used
+        → IfOk result (λ fault. fault ≡ None → Holds maps.new (used_after used segments.now)) }
     ensures len { length maps.new ≡ length maps.old }
 {
     let mut end = 0;
@@ -118,8 +123,11 @@ fn is_misplaced(
     segment: &Segment,
 ) -> Result<bool, AllocError>
     requires { length maps.old ≡ length physicals.now }
-    ensures value { (used : List Claim) → Holds maps.old used → IfOk result (λ misplaced. misplaced ≡ is_misplaced physicals.now used end segment.now) }
-    ensures held { (used : List Claim) → Holds maps.old used → IfOk result (λ misplaced. misplaced ≡ false → Holds maps.new (used_by used (spec.claims_of segment.now))) }
+    ensures value { (used : List Claim) → Holds maps.old used
+        → IfOk result (λ misplaced. misplaced ≡ is_misplaced physicals.now used end segment.now) }
+    ensures held { (used : List Claim) → Holds maps.old used
+        → IfOk result (λ misplaced. misplaced ≡ false
+        → Holds maps.new (used_by used (spec.claims_of segment.now))) }
     ensures len { length maps.new ≡ length maps.old }
 {
     if u128::from(segment.start) != end || segment.count == 0 {
@@ -147,8 +155,9 @@ fn claim_all(
 ) -> Result<bool, AllocError>
     requires len { length maps.old ≡ length physicals.now }
     requires some { 0 < share }
-    ensures claimed { (used : List Claim) → Holds maps.old used → IfOk result (Claimed physicals.now maps.new (claims_by share stripes.now) used) }
-    ensures kept { length maps.new ≡ length maps.old }
+    ensures claimed { (used : List Claim) → Holds maps.old used
+        → IfOk result (Claimed physicals.now maps.new (claims_by share stripes.now) used) }
+    ensures len { length maps.new ≡ length maps.old }
 {
     for stripe in stripes {
         if passes_end(physicals, stripe, share) {
@@ -161,10 +170,12 @@ fn claim_all(
     Ok(false)
 }
 
-/// Whether `share` extents of a stripe pass the end of its physical volume; nothing is added up, so nothing wraps.
+/// Whether `share` extents of a stripe pass the end of its physical volume; nothing is added up, so nothing
+/// wraps.
 fn passes_end(physicals: &[Physical], stripe: &Stripe, share: u64) -> bool
     requires { 0 < share }
-    ensures value { result ≡ nat_lt (extents_at physicals.now stripe.now.physical) (stripe.now.extent + share) }
+    ensures value { result
+        ≡ nat_lt (extents_at physicals.now stripe.now.physical) (stripe.now.extent + share) }
     ensures within { result ≡ false → stripe.now.physical < length physicals.now }
     ensures fits { result ≡ false → stripe.now.extent + share < 2 ^ 64 }
 {
@@ -183,9 +194,11 @@ fn claim(
 ) -> Result<bool, AllocError>
     requires within { physical < length maps.old }
     requires some { first < end }
-    ensures free { (used : List Claim) → Holds maps.old used → IfOk result (λ free. free ≡ not (list_any (meets (record { physical = physical; first = first; end = end })) used)) }
-    ensures held { (used : List Claim) → Holds maps.old used → IfOk result (λ free. free ≡ true → Holds maps.new (record { physical = physical; first = first; end = end } ∷ used)) }
-    ensures kept { length maps.new ≡ length maps.old }
+    ensures free { (used : List Claim) → Holds maps.old used
+        → IfOk result (λ free. free ≡ not (list_any (meets (claim_on physical first end)) used)) }
+    ensures held { (used : List Claim) → Holds maps.old used
+        → IfOk result (λ free. free ≡ true → Holds maps.new (claim_on physical first end ∷ used)) }
+    ensures len { length maps.new ≡ length maps.old }
 {
     take(&mut maps[physical], first, end)
 }

@@ -29,8 +29,8 @@ pub enum NameFault {
 }
 
 impl NameFault {
-    /// The message of a name that was not built: one line, with its newline. `Memory` has that of a run that is out of
-    /// memory. Takes no memory.
+    /// The message of a name that was not built: one line, with its newline. `Memory` has that of a run that
+    /// is out of memory. Takes no memory.
     pub fn message(self) -> &'static [u8]
         ensures { result.now ≡ name_message self }
     {

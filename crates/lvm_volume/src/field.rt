@@ -1,7 +1,7 @@
 //! The fields of a group's metadata that are read, in the order in which they are checked.
 //!
-//! The tables here are those of `specs/Fields.antt`, row by row. A field that is to be read becomes a row there and
-//! here; a new form of value is a variant of `Kind`, with an arm in `fits`.
+//! The tables here are those of `specs/Fields.antt`, row by row. A field that is to be read becomes a row
+//! there and here; a new form of value is a variant of `Kind`, with an arm in `fits`.
 
 ghost use Rattle.std.specs.Prelude.{◌≡◌};
 ghost use Rattle.lvm_volume.specs.Fields as spec;

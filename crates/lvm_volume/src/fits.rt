@@ -5,7 +5,8 @@
 ghost use Rattle.std.specs.Prelude.{◌≡◌, ◌==◌, ◌*◌, nat_lt};
 ghost use Rattle.std.specs.List.{list_all, list_any};
 ghost use Rattle.lvm_text.specs.View.{content_view, scalar_view, scalar_views};
-ghost use Rattle.lvm_volume.specs.Fields.{fits, is_far, is_far_scalar, is_text, is_type, are_pairs, is_snapshot, is_striped, is_asked, most};
+ghost use Rattle.lvm_volume.specs.Fields.{fits, is_far, is_far_scalar, is_text, is_type, are_pairs};
+ghost use Rattle.lvm_volume.specs.Fields.{is_snapshot, is_striped, is_asked, most};
 
 use crate::field::{Condition, Field, Kind};
 use crate::value::{number_at, text_at};

@@ -1,4 +1,4 @@
-//! The key of a section, kept beyond the text that it stands in. A clause sees it as its bytes.
+//! The key of a section, copied so that it outlives the text. A clause sees it as its bytes.
 
 ghost use Rattle.std.specs.Prelude.{◌≡◌, IfOk};
 

@@ -1,12 +1,13 @@
 //! The lines of segments: one for each, in the sectors of physical volumes.
 //!
-//! What the checks of a group left makes each product fit and each look-up succeed. A new type of segment is an arm in
-//! `line_target`, here and in `specs/Tables.antt`.
+//! What the checks of a group left makes each product fit and each look-up succeed. A new type of segment is
+//! an arm in `line_target`, here and in `specs/Tables.antt`.
 
 ghost use Rattle.std.specs.Prelude.{◌≡◌, IfOk, map};
 ghost use Rattle.std.specs.List.{AllByRecursion};
 ghost use Rattle.lvm_volume.specs.Extents.{stripes_of};
-ghost use Rattle.lvm_volume.specs.Tables.{IsSegmentIn, IsStripeIn, column_of, columns_target, line_of, line_target};
+ghost use Rattle.lvm_volume.specs.Tables.{IsSegmentIn, IsStripeIn, column_of, columns_target, line_of};
+ghost use Rattle.lvm_volume.specs.Tables.{line_target};
 
 use crate::disks::copy_of;
 use crate::physical::Physical;
@@ -62,9 +63,12 @@ fn line_target(
     ensures { IfOk result (λ made. made ≡ line_target extent_size physicals.now target.now) }
 {
     match target {
-        SegmentType::Striped { chunk, stripes } => {
+        SegmentType::Striped {
+            stripe_size,
+            stripes,
+        } => {
             let columns = columns_of(alloc, extent_size, physicals, stripes.as_slice())?;
-            Ok(columns_target(*chunk, columns))
+            Ok(columns_target(*stripe_size, columns))
         }
         SegmentType::Zero => Ok(Target::Zero),
         SegmentType::Error | SegmentType::Snapshot { .. } => Ok(Target::Error),
@@ -72,8 +76,8 @@ fn line_target(
 }
 
 /// One column is linear, others are striped.
-fn columns_target(chunk: u64, mut columns: Vec<Column>) -> Target
-    ensures { result ≡ columns_target chunk columns.items }
+fn columns_target(stripe_size: u64, mut columns: Vec<Column>) -> Target
+    ensures { result ≡ columns_target stripe_size columns.items }
 {
     if columns.len() == 1 {
         if let Some(column) = columns.pop() {
@@ -84,7 +88,7 @@ fn columns_target(chunk: u64, mut columns: Vec<Column>) -> Target
         }
     }
     Target::Striped {
-        chunk,
+        chunk: stripe_size,
         columns: Columns::from_vec(columns),
     }
 }

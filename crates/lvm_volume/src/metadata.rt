@@ -1,7 +1,7 @@
 //! Texts of metadata, from their bytes to the tables of their group.
 //!
-//! This joins the steps in the order of their refusals: bytes that are no UTF-8, the language of the text, the
-//! group, the names of its volumes. None has a rule of its own here.
+//! This joins the steps in the order of their refusals: bytes that are no UTF-8, the language of the text,
+//! the group, the names of its volumes. None has a rule of its own here.
 
 ghost use Rattle.std.specs.Prelude.{◌≡◌, ◌≢◌, IfErr, IfOk};
 ghost use Rattle.std.specs.Str.{IsUtf8};
@@ -9,7 +9,8 @@ ghost use Rattle.dm_table.specs.LoadFault.{Answers, IsMemoryFault, fault_at, fir
 ghost use Rattle.dm_table.specs.declared.load_fault.LoadKind.TheVariants.{Memory, NotText};
 ghost use Rattle.dm_table.specs.declared.place.Part.TheVariants.{Source};
 ghost use Rattle.lvm_volume.specs.Group.{group_of};
-ghost use Rattle.lvm_volume.specs.Metadata.{DescribesGroup, IsRefusedText, SaysOneThing, bad_byte_line, metadata_checks};
+ghost use Rattle.lvm_volume.specs.Metadata.{DescribesGroup, IsRefusedText, SaysOneThing, bad_byte_line};
+ghost use Rattle.lvm_volume.specs.Metadata.{metadata_checks};
 ghost use Rattle.lvm_volume.specs.Tables.{tables_of};
 
 use crate::refused_text::text_fault;
@@ -21,9 +22,9 @@ use std::alloc::Global;
 
 /// The devices and disks that a text of LVM2 metadata describes, or why it is refused.
 ///
-/// `NotText` at the line of the first byte that is not UTF-8; otherwise the fault of the text as `text_fault` gives it;
-/// else that of the group as `VolumeGroup::read` and `VolumeGroup::tables` give it. `Memory` is returned only
-/// where an allocation was refused. All places are of part `source`.
+/// `NotText` at the line of the first byte that is not UTF-8; otherwise the fault of the text as `text_fault`
+/// gives it; else that of the group as `VolumeGroup::read` and `VolumeGroup::tables` give it. `Memory` is
+/// returned only where an allocation was refused. All places are of part `source`.
 ///
 /// Cost: near-linear in the text. Source: vgcfgbackup(8).
 pub fn parse_metadata(
@@ -46,7 +47,8 @@ pub fn parse_metadata(
 /// The bytes as a text, where they are UTF-8.
 fn utf8_text(source: &[u8]) -> Result<&str, LoadFault>
     ensures text { IfOk result (λ text. (text.now ≡ source.now) × IsUtf8 source.now) }
-    ensures fault { IfErr result (λ fault. ¬ (IsUtf8 source.now) × (fault ≡ fault_at Source NotText (bad_byte_line source.now))) }
+    ensures fault { IfErr result (λ fault. ¬ (IsUtf8 source.now)
+        × (fault ≡ fault_at Source NotText (bad_byte_line source.now))) }
 {
     match std::str::from_utf8(source) {
         Ok(text) => Ok(text),

@@ -1,11 +1,13 @@
-//! Names of volumes: a group, a volume and perhaps a layer, with each hyphen of a part doubled, joined by hyphens.
-//! That tells the hyphen that ends a part from those inside it, so a name splits in one way: a clause of
-//! `split_name` says so. To change what a part may be, change `specs/Names` first.
+//! Names of volumes: a group, a volume and perhaps a layer, with each hyphen of a part doubled, joined by
+//! hyphens. That tells the hyphen that ends a part from those inside it, so a name splits in one way: a
+//! clause of `split_name` says so. To change what a part may be, change `specs/Names` first.
 
 ghost use Rattle.std.specs.Prelude.{◌≡◌, ℕ, ◌++◌, List, IfOk, IfSome, IfNone, OnOk, option_map, IsTrue};
 ghost use Rattle.std.specs.List.{list_all};
 ghost use Rattle.std.specs.String.{string_bytes};
-ghost use Rattle.lvm_volume.specs.Names.{NameParts, is_letter, begins_with, part_fault, layer_fault, or_later, doubled, undoubled, joined, built, Returns, Builds, IsSplit, IsSpaced, parts_view, spaced, undoubled_parts};
+ghost use Rattle.lvm_volume.specs.Names.{NameParts, name_parts, is_letter, begins_with, part_fault};
+ghost use Rattle.lvm_volume.specs.Names.{layer_fault, or_later, doubled, undoubled, joined, built, Returns};
+ghost use Rattle.lvm_volume.specs.Names.{Builds, IsSplit, IsSpaced, parts_view, spaced, undoubled_parts};
 ghost use Rattle.lvm_volume.specs.Cuts.{slice_length, first_slice, later_slices, slices_of};
 
 use crate::fault::NameFault;
@@ -69,7 +71,8 @@ fn layer_fault(layer: Option<&str>) -> Option<NameFault>
 
 /// The first fault of the parts in their order.
 fn parts_fault(vg: &str, lv: &str, layer: Option<&str>) -> Option<NameFault>
-    ensures { result ≡ or_later (part_fault vg.now) (or_later (part_fault lv.now) (layer_fault (option_map (λ l. l.now) layer.entry))) }
+    ensures { result ≡ or_later (part_fault vg.now) (or_later (part_fault lv.now)
+        (layer_fault (option_map (λ l. l.now) layer.entry))) }
 {
     if let Some(fault) = part_fault(vg.as_bytes()) {
         return Some(fault);
@@ -99,7 +102,7 @@ fn joined(alloc: Global, vg: &str, lv: &str, layer: Option<&str>) -> Result<Stri
     requires vg { IsTrue (list_all is_letter vg.now) }
     requires lv { IsTrue (list_all is_letter lv.now) }
     requires layer { IfSome layer (λ l. IsTrue (list_all is_letter l.now)) }
-    ensures { IfOk result (λ text. string_bytes text ≡ joined (record { vg = vg.now; lv = lv.now; layer = option_map (λ l. l.now) layer.entry })) }
+    ensures { IfOk result (λ text. string_bytes text ≡ joined (name_parts vg.now lv.now layer.entry)) }
 {
     let mut text = String::new(alloc);
     push_doubled(&mut text, vg)?;
@@ -115,11 +118,11 @@ fn joined(alloc: Global, vg: &str, lv: &str, layer: Option<&str>) -> Result<Stri
 /// The device mapper's name of a volume, or of a layer of it.
 ///
 /// The parts are checked in their order, each whether it is empty (`Empty`), has a byte that no part has
-/// (`Letter`, also for a layer that begins with an underscore) and begins with a hyphen (`HyphenFirst`); then the
-/// whole for more than 127 bytes (`Long`). `Memory` is returned only where an allocation was refused.
+/// (`Letter`, also for a layer that begins with an underscore) and begins with a hyphen (`HyphenFirst`); then
+/// the whole for more than 127 bytes (`Long`). `Memory` is returned only where an allocation was refused.
 /// Source: lvm(8), "Valid names"; which letters a part has there is this project's profile.
 pub fn build_name(alloc: Global, vg: &str, lv: &str, layer: Option<&str>) -> Result<Name, NameFault>
-    ensures { Returns result (built (record { vg = vg.now; lv = lv.now; layer = option_map (λ l. l.now) layer.entry })) }
+    ensures { Returns result (built (name_parts vg.now lv.now layer.entry)) }
 {
     if let Some(fault) = parts_fault(vg, lv, layer) {
         return Err(fault);
@@ -185,8 +188,8 @@ fn slices_of(name: &str) -> Option<Parts<'_>>
     })
 }
 
-/// The parts of a name, as slices of it with their hyphens doubled, and `None` exactly where no parts build it.
-/// `undouble` gives each part back. Takes no memory.
+/// The parts of a name, as slices of it with their hyphens doubled, and `None` exactly where no parts build
+/// it. `undouble` gives each part back. Takes no memory.
 ///
 /// Source: dmsetup(8), splitname.
 pub fn split_name(name: &str) -> Option<Parts<'_>>
@@ -203,8 +206,8 @@ pub fn split_name(name: &str) -> Option<Parts<'_>>
     }
 }
 
-/// A text in which, from the left, each two neighbouring hyphens have become one: of a slice of a name, its part.
-/// Fails only when out of memory.
+/// A text in which, from the left, each two neighbouring hyphens have become one: of a slice of a name, its
+/// part. Fails only when out of memory.
 pub fn undouble(alloc: Global, text: &str) -> Result<String, AllocError>
     ensures text { IfOk result (λ s. string_bytes s ≡ undoubled text.now) }
     ensures part { (part : List ℕ) → text.now ≡ doubled part → IfOk result (λ s. string_bytes s ≡ part) }

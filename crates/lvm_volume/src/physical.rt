@@ -1,30 +1,32 @@
 //! Physical volumes, as their sections say them, and the names of their disks.
 //!
-//! A group's metadata names a device only as a hint, so a disk is named by it only where that can be no other disk;
-//! else the key names the disk. The rule stands in `chosen` of `specs/Group.antt`.
+//! A group's metadata names a device only as a hint, so a disk is named by it only where that can be no other
+//! disk; else the key names the disk. The rule stands in `chosen` of `specs/Group.antt`.
 
-ghost use Rattle.std.specs.Prelude.{◌≡◌, Err, List, [], ◌∷◌, ℕ, None, false, true, map, nat_lt, unwrap_or, IfOk};
+ghost use Rattle.std.specs.Prelude.{◌≡◌, Err, List, [], ◌∷◌, ℕ, None, false, true, map, nat_lt, unwrap_or};
+ghost use Rattle.std.specs.Prelude.{IfOk};
 ghost use Rattle.std.specs.Ordering.{nat_cmp};
 ghost use Rattle.std.specs.Cmp.Lexicographic.{slice_cmp};
 ghost use Rattle.std.specs.BTreeMap.{get_by};
 ghost use Rattle.lvm_text.specs.Iterate.{item_view};
-ghost use Rattle.dm_table.specs.LoadFault.{Answers, first_or, unless};
+ghost use Rattle.dm_table.specs.LoadFault.{Answers, unless};
 ghost use Rattle.dm_table.specs.Name.{is_disk_name};
 ghost use Rattle.dm_table.specs.declared.place.Part.TheVariants.{Source};
 ghost use Rattle.dm_table.specs.declared.name.CheckFault.TheVariants.{Form};
+ghost use Rattle.lvm_volume.specs.Fields.{first_of};
 ghost use Rattle.lvm_volume.specs.Extents.{name_faults};
-ghost use Rattle.lvm_volume.specs.Group.{chosen, device_of, physical_of};
+ghost use Rattle.lvm_volume.specs.Group.{chosen, device_of, physical_of, physicals_in};
 ghost use Rattle.lvm_volume.specs.GroupCode.{Counts, texts};
 
-use crate::source_line::source_fault;
+use crate::source_line::{memory_fault, source_fault};
 use crate::value::{number_at, text_at};
-use dm_table::{CheckFault, DiskName, LoadFault, LoadKind, Part};
+use dm_table::{CheckFault, DiskName, LoadFault, LoadKind};
 use lvm_text::Section;
 use std::alloc::{AllocError, Global};
 use std::collections::BTreeMap;
 
-/// A physical volume: the name of its disk, the sectors of that, the sector where its extents begin, how many there
-/// are, and the line of its key.
+/// A physical volume: the name of its disk, the sectors of that, the sector where its extents begin, how many
+/// there are, and the line of its key.
 #[derive(Debug, Drop)]
 pub(crate) struct Physical {
     pub disk: DiskName,
@@ -41,14 +43,14 @@ pub(crate) fn physicals_in<'s, 'a>(
     alloc: Global,
     sections: &[(&'a str, &'s Section<'a>)],
 ) -> Result<Vec<Physical>, LoadFault>
-    ensures { let said = map (physical_of (map device_of (map item_view sections.now))) (map item_view sections.now) in
-        Answers Source (λ v. v.items) result (unless (first_or (name_faults said) None) said) }
+    ensures { let said = physicals_in (map item_view sections.now) in
+        Answers Source (λ v. v.items) result (unless (first_of (name_faults said)) said) }
 {
     let Ok(devices) = devices_of(alloc, sections) else {
-        return Err(LoadFault::memory(Part::Source));
+        return Err(memory_fault());
     };
     let Ok(counts) = counts_of(alloc, &devices) else {
-        return Err(LoadFault::memory(Part::Source));
+        return Err(memory_fault());
     };
     let mut physicals = Vec::new(alloc);
     for section in sections {
@@ -57,7 +59,7 @@ pub(crate) fn physicals_in<'s, 'a>(
             Err(fault) => return Err(fault),
         };
         let Ok(()) = physicals.push(physical) else {
-            return Err(LoadFault::memory(Part::Source));
+            return Err(memory_fault());
         };
     }
     Ok(physicals)
@@ -124,7 +126,8 @@ fn physical_of(
     section: &Section<'_>,
 ) -> Result<Physical, LoadFault>
     ensures { (devices : List (List ℕ)) → Counts counts.now devices
-        → let said = physical_of devices (key.now, section.now) in Answers Source (λ p. p) result (unless (first_or (name_faults (said ∷ [])) None) said) }
+        → let said = physical_of devices (key.now, section.now) in
+        Answers Source (λ p. p) result (unless (first_of (name_faults (said ∷ []))) said) }
 {
     let device = text_at(section, "device");
     match disk_name(alloc, is_shared(counts, device), key, device) {
@@ -136,6 +139,6 @@ fn physical_of(
             line: section.line(),
         }),
         Err(CheckFault::Form) => Err(source_fault(LoadKind::Name, section.line())),
-        Err(CheckFault::Memory) => Err(LoadFault::memory(Part::Source)),
+        Err(CheckFault::Memory) => Err(memory_fault()),
     }
 }

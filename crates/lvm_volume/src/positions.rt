@@ -1,5 +1,5 @@
-//! The places of physical volumes and of volumes by their keys, so that what names one finds it at about the same
-//! cost however many there are.
+//! The positions of physical volumes and of volumes by their keys, so that what names one finds it at about
+//! the same cost however many there are.
 //!
 //! The keys of a section all differ, so each is new to the set. A clause sees the keys in source order.
 
@@ -7,7 +7,7 @@ ghost use Rattle.std.specs.Prelude.{◌≡◌, ◌++◌, ◌∷◌, [], false, I
 ghost use Rattle.std.specs.List.{list_any};
 ghost use Rattle.lvm_text.specs.Tree.{sections_of};
 ghost use Rattle.lvm_volume.specs.Fields.{sections_at};
-ghost use Rattle.lvm_volume.specs.Group.{keys_in, place_of, places_in};
+ghost use Rattle.lvm_volume.specs.Group.{keys_in, position_of, positions_in};
 ghost use Rattle.lvm_volume.specs.GroupCode.{texts};
 
 use crate::value::section_at;
@@ -16,67 +16,67 @@ use lvm_text::Section;
 use std::alloc::{AllocError, Global};
 use std::marker::Model;
 
-/// The places of keys.
+/// The positions of keys.
 #[derive(Drop)]
-pub(crate) struct Places<'a> {
+pub(crate) struct Positions<'a> {
     keys: IndexSet<&'a str>,
 }
 
-/// The places of a group's physical volumes, and those of its volumes.
+/// The positions of a group's physical volumes, and those of its volumes.
 #[derive(Drop)]
-pub(crate) struct GroupPlaces<'a> {
-    pub physicals: Places<'a>,
-    pub volumes: Places<'a>,
+pub(crate) struct GroupPositions<'a> {
+    pub physicals: Positions<'a>,
+    pub volumes: Positions<'a>,
 }
 
-impl<'a> Model for Places<'a> {
+impl<'a> Model for Positions<'a> {
     ghost use Rattle.std.specs.Prelude.{List, ℕ};
     ghost use Rattle.lvm_volume.specs.GroupCode.{texts};
 
     ghost Value = { List (List ℕ) };
 
-    ghost view = { λ places. texts places.keys.keys };
+    ghost view = { λ positions. texts positions.keys.keys };
 }
 
-impl<'a> Places<'a> {
-    /// The places of the sections inside the section of a key.
+impl<'a> Positions<'a> {
+    /// The positions of the sections inside the section of a key.
     pub(crate) fn new(
         alloc: Global,
         section: &Section<'a>,
         key: &str,
-    ) -> Result<Places<'a>, AllocError>
-        ensures { IfOk result (λ places. places ≡ keys_in (sections_at key.now section.now)) }
+    ) -> Result<Positions<'a>, AllocError>
+        ensures { IfOk result (λ positions. positions ≡ keys_in (sections_at key.now section.now)) }
     {
         match section_at(section, key) {
             Some(inner) => {
                 let keys = keys_of(alloc, inner)?;
-                Ok(Places { keys })
+                Ok(Positions { keys })
             }
-            None => Ok(Places {
+            None => Ok(Positions {
                 keys: IndexSet::new(alloc),
             }),
         }
     }
 
-    /// The place of a key, or the number of keys where it is none of them.
-    pub(crate) fn place_of(&self, key: &str) -> usize
-        ensures { result ≡ place_of self.now key.now }
+    /// The position of a key, or the number of keys where it is none of them.
+    pub(crate) fn position_of(&self, key: &str) -> usize
+        ensures { result ≡ position_of self.now key.now }
     {
         match self.keys.get_index_of(key) {
-            Some(place) => place,
+            Some(position) => position,
             None => self.keys.len(),
         }
     }
 }
 
-impl<'a> GroupPlaces<'a> {
-    /// The places of what is inside the section of a group.
-    pub(crate) fn new(alloc: Global, group: &Section<'a>) -> Result<GroupPlaces<'a>, AllocError>
-        ensures { IfOk result (λ places. places ≡ places_in group.now) }
+impl<'a> GroupPositions<'a> {
+    /// The positions of what is inside the section of a group.
+    pub(crate) fn new(alloc: Global, group: &Section<'a>) -> Result<GroupPositions<'a>, AllocError>
+        ensures { IfOk result (λ positions. positions ≡ positions_in group.now) }
     {
-        Ok(GroupPlaces {
-            physicals: Places::new(alloc, group, "physical_volumes")?,
-            volumes: Places::new(alloc, group, "logical_volumes")?,
+        Ok(GroupPositions {
+            physicals: Positions::new(alloc, group, "physical_volumes")?,
+            volumes: Positions::new(alloc, group, "logical_volumes")?,
         })
     }
 }

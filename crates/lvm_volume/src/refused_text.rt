@@ -3,8 +3,8 @@
 ghost use Rattle.std.specs.Prelude.{◌≡◌};
 ghost use Rattle.lvm_volume.specs.Tables.{text_fault};
 
-use crate::source_line::source_fault;
-use dm_table::{LoadFault, LoadKind, Part};
+use crate::source_line::{memory_fault, source_fault};
+use dm_table::{LoadFault, LoadKind};
 use lvm_text::TextFault;
 
 /// The fault of a load for a fault of the metadata text, at its line of the source.
@@ -17,6 +17,6 @@ pub fn text_fault(fault: TextFault) -> LoadFault
         TextFault::KeyTwice(line) => source_fault(LoadKind::Twice, line),
         TextFault::Deep(line) => source_fault(LoadKind::Deep, line),
         TextFault::Number(line) => source_fault(LoadKind::Field, line),
-        TextFault::Memory => LoadFault::memory(Part::Source),
+        TextFault::Memory => memory_fault(),
     }
 }

@@ -1,24 +1,25 @@
 //! What the volumes of a group are to its snapshots.
 //!
-//! A volume whose only segment is a snapshot is the record of one: no device, but what says which volume is its origin
-//! and which its store. The roles of all volumes are found in one pass over their records; the check of snapshots, the
-//! names of devices and the devices themselves follow from them.
+//! A volume whose only segment is a snapshot is the record of one: no device, but what says which volume is
+//! its origin and which its store. The roles of all volumes are found in one pass over their records; the
+//! check of snapshots, the names of devices and the devices themselves follow from them.
 
 ghost use Rattle.std.specs.Prelude.{◌≡◌, [], IfOk};
 ghost use Rattle.lvm_volume.specs.declared.roles.Role.TheVariants as roles;
 ghost use Rattle.lvm_volume.specs.Roles as spec;
-ghost use Rattle.lvm_volume.specs.Roles.{extents_of, is_record, is_store, name_at, recorded, role_at, roles_among, roles_of, segments_at};
+ghost use Rattle.lvm_volume.specs.Roles.{extents_of, is_record, is_store, name_at, recorded, role_at};
+ghost use Rattle.lvm_volume.specs.Roles.{roles_among, roles_of, segments_at};
 ghost use Rattle.lvm_volume.specs.RoleCode.{changed, record_list, with_origin, with_store};
 
 use crate::segment::{Segment, SegmentType};
 use crate::volume::Volume;
 use std::alloc::{AllocError, Global};
 
-/// A snapshot as its record says it: the sectors of a chunk, the places of its origin and its store among the volumes
-/// of the group, and the line of the record's segment.
+/// A snapshot as its record says it: the sectors of a chunk, the positions of its origin and its store among
+/// the volumes of the group, and the line of the record's segment.
 #[derive(Clone, Copy, Debug, Drop)]
 pub(crate) struct Record {
-    pub chunk: u64,
+    pub chunk_size: u64,
     pub origin: usize,
     pub store: usize,
     pub line: u64,
@@ -84,11 +85,11 @@ fn recorded(segments: &[Segment]) -> Option<Record>
     };
     match &segment.target {
         SegmentType::Snapshot {
-            chunk,
+            chunk_size,
             origin,
             store,
         } => Some(Record {
-            chunk: *chunk,
+            chunk_size: *chunk_size,
             origin: *origin,
             store: *store,
             line: segment.line,
@@ -135,12 +136,12 @@ fn first_role(volume: &Volume) -> Role
     }
 }
 
-/// Adds to the roles that a snapshot has the volume at a place as its origin.
-fn add_origin(roles: &mut Vec<Role>, place: usize)
-    ensures { roles.new.items ≡ changed with_origin place 0 roles.old.items }
+/// Adds to the roles that a snapshot has the volume at a position as its origin.
+fn add_origin(roles: &mut Vec<Role>, position: usize)
+    ensures { roles.new.items ≡ changed with_origin position 0 roles.old.items }
 {
-    if place < roles.len() {
-        roles[place] = roles[place].with_origin();
+    if position < roles.len() {
+        roles[position] = roles[position].with_origin();
     }
 }
 
@@ -153,31 +154,31 @@ fn add_store(roles: &mut Vec<Role>, snapshot: Record)
     }
 }
 
-/// The role of the volume at a place.
-pub(crate) fn role_at(roles: &[Role], place: usize) -> Role
-    ensures { result ≡ role_at roles.now place }
+/// The role of the volume at a position.
+pub(crate) fn role_at(roles: &[Role], position: usize) -> Role
+    ensures { result ≡ role_at roles.now position }
 {
-    match roles.get(place) {
+    match roles.get(position) {
         Some(role) => *role,
         None => Role::Plain,
     }
 }
 
-/// The segments of the volume at a place.
-pub(crate) fn segments_at(volumes: &[Volume], place: usize) -> &[Segment]
-    ensures { result.now ≡ segments_at volumes.now place }
+/// The segments of the volume at a position.
+pub(crate) fn segments_at(volumes: &[Volume], position: usize) -> &[Segment]
+    ensures { result.now ≡ segments_at volumes.now position }
 {
-    match volumes.get(place) {
+    match volumes.get(position) {
         Some(volume) => volume.segments.as_slice(),
         None => &[],
     }
 }
 
-/// The key of the volume at a place.
-pub(crate) fn name_at(volumes: &[Volume], place: usize) -> &str
-    ensures { result.now ≡ name_at volumes.now place }
+/// The key of the volume at a position.
+pub(crate) fn name_at(volumes: &[Volume], position: usize) -> &str
+    ensures { result.now ≡ name_at volumes.now position }
 {
-    match volumes.get(place) {
+    match volumes.get(position) {
         Some(volume) => volume.name.as_str(),
         None => "",
     }

@@ -1,25 +1,23 @@
-//! Segments of a volume, as their sections say them, with physical volumes and volumes by their places.
+//! Segments of a volume, as their sections say them, with physical volumes and volumes by their positions.
 //!
-//! What they say is not checked here. A new type of segment is a variant of `SegmentType`, a word of the field
-//! `type`, and an arm where segments are checked and where they become lines.
+//! What they say is not checked here. A new type of segment is a variant of `SegmentType`, a word of the
+//! field `type`, and an arm where segments are checked and where they become lines.
 
-ghost use Rattle.std.specs.Prelude.{◌≡◌, ◌+◌, ◌∷◌, [], ℕ, List, MatchOption, IfOk, codes, map};
+ghost use Rattle.std.specs.Prelude.{◌≡◌, ◌+◌, ◌∷◌, [], ℕ, List, MatchOption, IfOk, map};
 ghost use Rattle.lvm_text.specs.Tree as tree;
 ghost use Rattle.lvm_text.specs.View.{scalar_view, scalar_views};
-ghost use Rattle.lvm_volume.specs.Fields as fields;
 ghost use Rattle.lvm_volume.specs.Fields.{section_view};
-ghost use Rattle.lvm_volume.specs.declared.segment.SegmentType.TheVariants.{Striped};
-ghost use Rattle.lvm_volume.specs.Group.{segment_of, snapshot_in, stripes_in, target_of};
+ghost use Rattle.lvm_volume.specs.Group.{segment_of, snapshot_in, striped_in, stripes_in, target_of};
 
 use crate::fits::{is_snapshot, is_striped};
-use crate::places::{GroupPlaces, Places};
+use crate::positions::{GroupPositions, Positions};
 use crate::value::{items_at, number_at, text_at};
 use dm_table::Listed;
 use lvm_text::{Scalar, Section};
 use std::alloc::{AllocError, Global};
 
-/// A stripe: the place of its physical volume among those of the group, or their number where it names none of them,
-/// and the first extent.
+/// A stripe: the position of its physical volume among those of the group, or their number where it names
+/// none of them, and the first extent.
 #[derive(Clone, Copy, Debug)]
 pub(crate) struct Stripe {
     pub physical: usize,
@@ -29,19 +27,20 @@ pub(crate) struct Stripe {
 /// The stripes of a segment, in order.
 pub(crate) type Stripes = Listed<Stripe>;
 
-/// What becomes of a segment's extents. A chunk is in sectors.
+/// What becomes of a segment's extents. The sizes of a stripe's pieces and of a snapshot's chunks are in
+/// sectors.
 #[derive(Debug, Drop)]
 pub(crate) enum SegmentType {
     Zero,
     Error,
     Striped {
-        chunk: u64,
+        stripe_size: u64,
         stripes: Stripes,
     },
-    /// A snapshot of a volume with another one as its store: their places among the volumes of the group, or the
-    /// number of volumes where it names none of them.
+    /// A snapshot of a volume with another one as its store: their positions among the volumes of the group,
+    /// or the number of volumes where it names none of them.
     Snapshot {
-        chunk: u64,
+        chunk_size: u64,
         origin: usize,
         store: usize,
     },
@@ -71,10 +70,10 @@ pub(crate) type Segments = Listed<Segment>;
 /// The stripes that a list says, pair by pair. One pass, with a look-up for each.
 fn stripes_of(
     alloc: Global,
-    places: &Places<'_>,
+    positions: &Positions<'_>,
     items: &[Scalar<'_>],
 ) -> Result<Vec<Stripe>, AllocError>
-    ensures { IfOk result (λ v. v.items ≡ stripes_in places.now (scalar_views items.now)) }
+    ensures { IfOk result (λ v. v.items ≡ stripes_in positions.now (scalar_views items.now)) }
 {
     let mut stripes = Vec::new(alloc);
     let mut rest = items;
@@ -83,7 +82,7 @@ fn stripes_of(
             return Ok(stripes);
         };
         stripes.push(Stripe {
-            physical: places.place_of(key),
+            physical: positions.position_of(key),
             extent,
         })?;
         rest = more;
@@ -93,8 +92,11 @@ fn stripes_of(
 
 /// A string and an integer.
 fn pair<'a>(first: &Scalar<'a>, second: &Scalar<'a>) -> Option<(&'a str, u64)>
-    ensures { MatchOption result ((keys : List (List ℕ)) (items : List tree.Scalar) → stripes_in keys (scalar_view first.now ∷ scalar_view second.now ∷ items) ≡ [])
-        (λ pair. (scalar_view first.now ≡ tree.Text pair.0.now) × (scalar_view second.now ≡ tree.Int pair.1)) }
+    ensures { MatchOption result
+        ((keys : List (List ℕ)) (items : List tree.Scalar)
+        → stripes_in keys (scalar_view first.now ∷ scalar_view second.now ∷ items) ≡ [])
+        (λ pair. (scalar_view first.now ≡ tree.Text pair.0.now)
+        × (scalar_view second.now ≡ tree.Int pair.1)) }
 {
     match (first, second) {
         (Scalar::Text(key), Scalar::Int(extent)) => Some((*key, *extent)),
@@ -105,16 +107,16 @@ fn pair<'a>(first: &Scalar<'a>, second: &Scalar<'a>) -> Option<(&'a str, u64)>
 /// What becomes of a segment's extents.
 fn target_of(
     alloc: Global,
-    places: &GroupPlaces<'_>,
+    positions: &GroupPositions<'_>,
     segment: &Section<'_>,
 ) -> Result<SegmentType, AllocError>
-    ensures { IfOk result (λ target. target ≡ target_of places.now segment.now) }
+    ensures { IfOk result (λ target. target ≡ target_of positions.now segment.now) }
 {
     if is_striped(segment) {
-        return striped(alloc, &places.physicals, segment);
+        return striped(alloc, &positions.physicals, segment);
     }
     if is_snapshot(segment) {
-        return Ok(snapshot(&places.volumes, segment));
+        return Ok(snapshot(&positions.volumes, segment));
     }
     if text_at(segment, "type") == "zero" {
         Ok(SegmentType::Zero)
@@ -123,32 +125,32 @@ fn target_of(
     }
 }
 
-/// The stripes of a striped segment, with their chunk.
+/// The stripes of a striped segment, with the size of their pieces.
 fn striped(
     alloc: Global,
-    places: &Places<'_>,
+    positions: &Positions<'_>,
     segment: &Section<'_>,
 ) -> Result<SegmentType, AllocError>
-    ensures { IfOk result (λ target. target ≡ Striped (fields.number_at (codes "stripe_size") segment.now) (stripes_in places.now (fields.items_at (codes "stripes") segment.now))) }
+    ensures { IfOk result (λ target. target ≡ striped_in positions.now segment.now) }
 {
     let stripes = match items_at(segment, "stripes") {
-        Some(items) => stripes_of(alloc, places, items)?,
+        Some(items) => stripes_of(alloc, positions, items)?,
         None => Vec::new(alloc),
     };
     Ok(SegmentType::Striped {
-        chunk: number_at(segment, "stripe_size"),
+        stripe_size: number_at(segment, "stripe_size"),
         stripes: Stripes::from_vec(stripes),
     })
 }
 
-/// A snapshot, with its volumes by their places.
-fn snapshot(places: &Places<'_>, segment: &Section<'_>) -> SegmentType
-    ensures { result ≡ snapshot_in places.now segment.now }
+/// A snapshot, with its volumes by their positions.
+fn snapshot(positions: &Positions<'_>, segment: &Section<'_>) -> SegmentType
+    ensures { result ≡ snapshot_in positions.now segment.now }
 {
     SegmentType::Snapshot {
-        chunk: number_at(segment, "chunk_size"),
-        origin: places.place_of(text_at(segment, "origin")),
-        store: places.place_of(text_at(segment, "cow_store")),
+        chunk_size: number_at(segment, "chunk_size"),
+        origin: positions.position_of(text_at(segment, "origin")),
+        store: positions.position_of(text_at(segment, "cow_store")),
     }
 }
 
@@ -156,17 +158,17 @@ fn snapshot(places: &Places<'_>, segment: &Section<'_>) -> SegmentType
 #[tactic(auto, unfolding(crate::specs::Group::segment_of))]
 pub(crate) fn segments_in(
     alloc: Global,
-    places: &GroupPlaces<'_>,
+    positions: &GroupPositions<'_>,
     sections: &[&Section<'_>],
 ) -> Result<Segments, AllocError>
-    ensures { IfOk result (λ made. made ≡ map (segment_of places.now) (map section_view sections.now)) }
+    ensures { IfOk result (λ made. made ≡ map (segment_of positions.now) (map section_view sections.now)) }
 {
     let mut segments = Vec::new(alloc);
     for section in sections {
         segments.push(Segment {
             start: number_at(*section, "start_extent"),
             count: number_at(*section, "extent_count"),
-            target: target_of(alloc, places, *section)?,
+            target: target_of(alloc, positions, *section)?,
             line: section.line(),
         })?;
     }

@@ -1,11 +1,12 @@
-//! The checks of what segments name: that each stripe names a physical volume of the group and each snapshot two of its
-//! volumes, and that these are an origin and a store of its own.
+//! The checks of what segments name: that each stripe names a physical volume of the group and each snapshot
+//! two of its volumes, and that these are an origin and a store of its own.
 //!
-//! The fault is the first in the text, where segments may stand in any order, so it is the one at the least line.
+//! The fault is the first in the text, where segments may stand in any order, so it is the one at the least
+//! line.
 
 ghost use Rattle.std.specs.Prelude.{◌≡◌, ◌==◌, None, IfOk, length, not, nat_lt};
 ghost use Rattle.std.specs.List.{list_any};
-ghost use Rattle.dm_table.specs.LoadFault.{first_or};
+ghost use Rattle.lvm_volume.specs.Fields.{first_of};
 ghost use Rattle.lvm_volume.specs.Extents as spec;
 ghost use Rattle.lvm_volume.specs.Extents.{is_unknown, least_line, least_line_of, snapshot_faults_in};
 ghost use Rattle.lvm_volume.specs.RoleCode.{test_of};
@@ -51,7 +52,7 @@ pub(crate) fn snapshot_fault(
     alloc: Global,
     volumes: &[Volume],
 ) -> Result<Option<LoadFault>, AllocError>
-    ensures { IfOk result (λ fault. fault ≡ first_or (snapshot_faults_in volumes.now) None) }
+    ensures { IfOk result (λ fault. fault ≡ first_of (snapshot_faults_in volumes.now)) }
 {
     let roles = roles_of(alloc, volumes)?;
     let check = SegmentCheck::Snapshot {

@@ -4,9 +4,9 @@
 //! memory has no line.
 
 ghost use Rattle.std.specs.Prelude.{◌≡◌};
-ghost use Rattle.dm_table.specs.LoadFault.{fault_at};
+ghost use Rattle.dm_table.specs.LoadFault.{IsMemoryFault, fault_at};
 ghost use Rattle.dm_table.specs.declared.place.Part.TheVariants.{Source};
-ghost use Rattle.lvm_volume.specs.Tables.{source_line};
+ghost use Rattle.lvm_volume.specs.Extents.{source_line};
 
 use dm_table::{LoadFault, LoadKind, Part, Place};
 
@@ -18,6 +18,13 @@ pub(crate) fn source_line(line: u64) -> Place
         part: Part::Source,
         number: line,
     }
+}
+
+/// Out of memory while the source was read.
+pub(crate) fn memory_fault() -> LoadFault
+    ensures { IsMemoryFault Source result }
+{
+    LoadFault::memory(Part::Source)
 }
 
 /// A fault at a line.

@@ -1,58 +1,63 @@
 //! The tables of a group: the devices of its volumes, and the disks of its physical volumes.
 //!
-//! What the checks of a group left makes each product fit and each look-up succeed, so nothing here is refused but a
-//! name.
+//! What the checks of a group left makes each product fit and each look-up succeed, so nothing here is
+//! refused but a name.
 
 ghost use Rattle.std.specs.Prelude.{◌≡◌, None};
-ghost use Rattle.dm_table.specs.LoadFault.{Answers, first_or, unless};
+ghost use Rattle.dm_table.specs.LoadFault.{Answers, unless};
 ghost use Rattle.dm_table.specs.declared.place.Part.TheVariants.{Source};
+ghost use Rattle.lvm_volume.specs.Fields.{first_of};
 ghost use Rattle.lvm_volume.specs.Tables.{tables_of, unnamed};
 
 use crate::device_names::names_fault;
-use crate::devices::{Seen, devices_of};
+use crate::devices::{GroupRef, devices_of};
 use crate::disks::disks_of;
 use crate::roles::roles_of;
+use crate::source_line::memory_fault;
 use crate::volume_group::VolumeGroup;
-use dm_table::{DeviceSpec, Disk, LoadFault, Part};
+use dm_table::{DeviceSpec, Disk, LoadFault};
 use std::alloc::Global;
 
 impl VolumeGroup {
     /// The devices of the group's volumes, in the order of the text, and the disks of its physical volumes.
     ///
-    /// A volume is a device with a line for each segment, named by `build_name` of group and volume. The origin of
-    /// snapshots is two: first its layer `real`, with those lines, and then the volume itself, whose one line is an
-    /// origin's over that. So is the store of a snapshot: its layer `cow`, and then the volume, whose one line is the
-    /// snapshot of the origin's `real` on that store. A snapshot's record is none. Layers are never read-only.
+    /// A volume is a device with a line for each segment, named by `build_name` of group and volume. The
+    /// origin of snapshots is two: first its layer `real`, with those lines, and then the volume itself,
+    /// whose one line is an origin's over that. So is the store of a snapshot: its layer `cow`, and then the
+    /// volume, whose one line is the snapshot of the origin's `real` on that store. A snapshot's record is
+    /// none. Layers are never read-only.
     ///
-    /// The place of a device, and of an origin's line, is the line of its volume's key, that of a snapshot's line the
-    /// segment of its record, that of any other line its segment's, a disk's that of the physical volume's. `Name`, at
-    /// the volume's key, where no name is built, and `Memory` where a growth was refused.
+    /// The place of a device, and of an origin's line, is the line of its volume's key, that of a snapshot's
+    /// line the segment of its record, that of any other line its segment's, a disk's that of the physical
+    /// volume's. `Name`, at the volume's key, where no name is built, and `Memory` where a growth was
+    /// refused.
     ///
     /// Cost: near-linear, with memory for each name of a device and of a line.
     pub fn tables(&self, alloc: Global) -> Result<(Vec<DeviceSpec>, Vec<Disk>), LoadFault>
         // The tables of the group exactly where each device has a name, unless memory runs out.
-        ensures { Answers Source (λ tables. (tables.0.items, tables.1.items)) result (unless (first_or (unnamed self.now) None) (tables_of self.now)) }
+        ensures { Answers Source (λ tables. (tables.0.items, tables.1.items)) result
+            (unless (first_of (unnamed self.now)) (tables_of self.now)) }
     {
         let Ok(roles) = roles_of(alloc, &self.volumes) else {
-            return Err(LoadFault::memory(Part::Source));
+            return Err(memory_fault());
         };
         match names_fault(alloc, self.name.as_str(), &roles, &self.volumes) {
             Ok(None) => {}
             Ok(Some(fault)) => return Err(fault),
-            Err(_) => return Err(LoadFault::memory(Part::Source)),
+            Err(_) => return Err(memory_fault()),
         }
-        let group = Seen {
+        let group = GroupRef {
             name: self.name.as_str(),
             extent_size: self.extent_size,
             physicals: &self.physicals,
             volumes: &self.volumes,
         };
         let Ok(devices) = devices_of(alloc, &group, &roles) else {
-            return Err(LoadFault::memory(Part::Source));
+            return Err(memory_fault());
         };
         match disks_of(alloc, &self.physicals) {
             Ok(disks) => Ok((devices, disks)),
-            Err(_) => Err(LoadFault::memory(Part::Source)),
+            Err(_) => Err(memory_fault()),
         }
     }
 }

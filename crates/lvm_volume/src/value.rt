@@ -1,13 +1,14 @@
 //! What a section holds under a key, as the kind of value that is asked for.
 //!
-//! A value of another kind counts as missing here, so that these never fail; whether a field is there and fits is
-//! the first check of all.
+//! A value of another kind counts as missing here, so that these never fail; whether a field is there and
+//! fits is the first check of all.
 
 ghost use Rattle.std.specs.Prelude.{◌≡◌, ◌++◌, ◌+◌, codes, decimal, map, IfOk};
 ghost use Rattle.std.specs.String.{string_bytes};
 ghost use Rattle.lvm_text.specs.Tree as spec;
 ghost use Rattle.lvm_text.specs.Iterate.{item_view};
-ghost use Rattle.lvm_volume.specs.Fields.{number_at, text_at, items_at, sections_at, section_at, section_list, items_view, section_view, segments_of};
+ghost use Rattle.lvm_volume.specs.Fields.{number_at, text_at, items_at, sections_at, section_at};
+ghost use Rattle.lvm_volume.specs.Fields.{section_list, items_view, section_view, segments_of};
 
 use lvm_text::{Scalar, Section, Value};
 use std::alloc::{AllocError, Global};

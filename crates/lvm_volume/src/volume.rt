@@ -8,7 +8,7 @@ ghost use Rattle.lvm_volume.specs.Fields as fields;
 ghost use Rattle.lvm_volume.specs.Group.{is_write, volume_of};
 
 use crate::key::Key;
-use crate::places::GroupPlaces;
+use crate::positions::GroupPositions;
 use crate::segment::{Segments, segments_in};
 use crate::value::{items_at, segments_of};
 use lvm_text::{Scalar, Section};
@@ -26,14 +26,14 @@ pub(crate) struct Volume {
 /// The volumes that sections say.
 pub(crate) fn volumes_in(
     alloc: Global,
-    places: &GroupPlaces<'_>,
+    positions: &GroupPositions<'_>,
     sections: &[(&str, &Section<'_>)],
 ) -> Result<Vec<Volume>, AllocError>
-    ensures { IfOk result (λ v. v.items ≡ map (volume_of places.now) (map item_view sections.now)) }
+    ensures { IfOk result (λ v. v.items ≡ map (volume_of positions.now) (map item_view sections.now)) }
 {
     let mut volumes = Vec::new(alloc);
     for section in sections {
-        volumes.push(volume_of(alloc, places, *section)?)?;
+        volumes.push(volume_of(alloc, positions, *section)?)?;
     }
     Ok(volumes)
 }
@@ -42,17 +42,17 @@ pub(crate) fn volumes_in(
 #[tactic(auto, unfolding(crate::specs::Group::volume_of))]
 fn volume_of(
     alloc: Global,
-    places: &GroupPlaces<'_>,
+    positions: &GroupPositions<'_>,
     section: (&str, &Section<'_>),
 ) -> Result<Volume, AllocError>
-    ensures { IfOk result (λ volume. volume ≡ volume_of places.now (item_view section.entry)) }
+    ensures { IfOk result (λ volume. volume ≡ volume_of positions.now (item_view section.entry)) }
 {
     let (key, volume) = section;
     let segments = segments_of(alloc, volume)?;
     Ok(Volume {
         name: Key::new(alloc, key)?,
         ro: !is_writable(volume),
-        segments: segments_in(alloc, places, &segments)?,
+        segments: segments_in(alloc, positions, &segments)?,
         line: volume.line(),
     })
 }

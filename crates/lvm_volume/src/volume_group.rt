@@ -1,19 +1,18 @@
 //! Volume groups: what the metadata of a group says, once no check finds a fault in it.
 //!
-//! A `VolumeGroup` exists only where that is so, and its type keeps what tables rest on: numbers that fit 64 bits
-//! in sectors, stripes of physical volumes that are there, and snapshots of volumes that are origins. A new check
-//! takes its place here and in `group_checks` of `specs/Tables.antt`.
+//! A `VolumeGroup` exists only where that is so, and its type keeps what tables rest on: numbers that fit 64
+//! bits in sectors, stripes of physical volumes that are there, and snapshots of volumes that are origins. A
+//! new check takes its place here and in `group_checks` of `specs/Tables.antt`.
 
 ghost use Rattle.std.specs.Prelude.{◌≡◌, ◌∷◌, [], ℕ, List, None, IfOk, codes, length, map};
 ghost use Rattle.lvm_text.specs.Tree as tree;
 ghost use Rattle.lvm_text.specs.Iterate.{item_view};
-ghost use Rattle.dm_table.specs.LoadFault.{Answers, first_fault, first_or, unless};
+ghost use Rattle.dm_table.specs.LoadFault.{Answers, first_fault, unless};
 ghost use Rattle.dm_table.specs.declared.place.Part.TheVariants.{Source};
 ghost use Rattle.lvm_volume.specs.declared.check.Check.TheVariants.{Fields};
 ghost use Rattle.lvm_volume.specs.Extents.{name_faults};
-ghost use Rattle.lvm_volume.specs.Fields as fields;
-ghost use Rattle.lvm_volume.specs.Fields.{faults_of_fields};
-ghost use Rattle.lvm_volume.specs.Group.{group_in, group_of, places_in, volume_of};
+ghost use Rattle.lvm_volume.specs.Fields.{faults_of_fields, first_of};
+ghost use Rattle.lvm_volume.specs.Group.{group_in, group_of, group_with, volumes_in};
 ghost use Rattle.lvm_volume.specs.GroupCode.{parts_view};
 ghost use Rattle.lvm_volume.specs.Tables.{checks_of_parts, group_checks, later_checks};
 
@@ -21,13 +20,13 @@ use crate::check::Check;
 use crate::extents::{size_fault, volumes_fault};
 use crate::key::Key;
 use crate::physical::{Physical, physicals_in};
-use crate::places::GroupPlaces;
+use crate::positions::GroupPositions;
 use crate::segment_check::{snapshot_fault, unknown_line};
-use crate::source_line::source_fault;
+use crate::source_line::{memory_fault, source_fault};
 use crate::value::{number_at, sections_at, sections_of};
 use crate::volume::{Volume, volumes_in};
 use crate::walk;
-use dm_table::{LoadFault, LoadKind, Part};
+use dm_table::{LoadFault, LoadKind};
 use lvm_text::Section;
 use std::alloc::{AllocError, Global};
 use std::marker::Model;
@@ -42,14 +41,15 @@ pub struct VolumeGroup {
 }
 
 impl Model for VolumeGroup {
-    ghost use Rattle.lvm_volume.specs.Group.{Group};
+    ghost use Rattle.lvm_volume.specs.Group.{Group, group_with};
     ghost use Rattle.lvm_volume.specs.Tables.{IsSoundGroup};
 
     ghost Value = { Group };
 
-    ghost view = { λ group. record { name = group.name; extent_size = group.extent_size; physicals = group.physicals.items; volumes = group.volumes.items } };
+    ghost view = { λ g. group_with g.name g.extent_size g.physicals.items g.volumes.items };
 
-    ghost invariant = { λ group. IsSoundGroup (record { name = group.name; extent_size = group.extent_size; physicals = group.physicals.items; volumes = group.volumes.items }) };
+    ghost invariant = { λ g. IsSoundGroup
+        (group_with g.name g.extent_size g.physicals.items g.volumes.items) };
 }
 
 /// The parts of a group.
@@ -62,28 +62,30 @@ pub(crate) struct Parts {
 impl VolumeGroup {
     /// The volume group that a metadata text describes, from the top of its tree.
     ///
-    /// The checks run over the whole text one after the other, and the first that finds anything gives the fault, at
-    /// the first place in its order, in which the segments of a volume go by their numbers: `Field` for a field that
-    /// is missing or not what it may be, `Limit` for an integer above 2^50, also where extents are counted in
-    /// sectors, `Name` for a physical volume whose disk gets no name, `Unknown` for a stripe of no physical volume and
-    /// a snapshot of no volume or on none, `Extents` for physical volumes longer than their device and segments that
-    /// are misplaced or use an extent twice, `Snapshot` for a snapshot beside other segments, one of or on a volume
-    /// that is itself the record of a snapshot, one on an origin or on another one's store, and one that hasn't as
-    /// many extents as its origin.
+    /// The checks run over the whole text one after the other, and the first that finds anything gives the
+    /// fault, at the first place in its order, in which the segments of a volume go by their numbers: `Field`
+    /// for a field that is missing or not what it may be, `Limit` for an integer above 2^50, also where
+    /// extents are counted in sectors, `Name` for a physical volume whose disk gets no name, `Unknown` for a
+    /// stripe of no physical volume and a snapshot of no volume or on none, `Extents` for physical volumes
+    /// longer than their device and segments that are misplaced or use an extent twice, `Snapshot` for a
+    /// snapshot beside other segments, one of or on a volume that is itself the record of a snapshot, one on
+    /// an origin or on another one's store, and one that hasn't as many extents as its origin.
     /// `Memory` is returned only where an allocation was refused.
     ///
     /// Cost: near-linear in the text. Source: vgcfgbackup(8), lvm.conf(5); the limits are this project's own.
     pub fn read(alloc: Global, top: &Section<'_>) -> Result<VolumeGroup, LoadFault>
-        // The group of the text exactly where no check finds anything, else the first fault, unless memory runs out.
-        ensures { Answers Source (λ group. group) result (unless (first_fault (group_checks top.now)) (group_of top.now)) }
+        // The group of the text exactly where no check finds anything, else the first fault, unless memory
+        // runs out.
+        ensures { Answers Source (λ group. group) result
+            (unless (first_fault (group_checks top.now)) (group_of top.now)) }
     {
         match walk::first_fault(alloc, Check::Fields, top) {
             Ok(None) => {}
             Ok(Some(fault)) => return Err(fault),
-            Err(_) => return Err(LoadFault::memory(Part::Source)),
+            Err(_) => return Err(memory_fault()),
         }
         let Ok(sections) = sections_of(alloc, top) else {
-            return Err(LoadFault::memory(Part::Source));
+            return Err(memory_fault());
         };
         read_group(alloc, top, only(&sections))
     }
@@ -104,14 +106,15 @@ fn read_group(
     group: (&str, &Section<'_>),
 ) -> Result<VolumeGroup, LoadFault>
     requires one { tree.sections_of top.now.values ≡ item_view group ∷ [] }
-    requires fields { first_or (faults_of_fields Fields top.now) None ≡ None }
-    ensures { Answers Source (λ group. group) result (unless (first_fault (later_checks top.now)) (group_of top.now)) }
+    requires fields { first_of (faults_of_fields Fields top.now) ≡ None }
+    ensures { Answers Source (λ group. group) result
+        (unless (first_fault (later_checks top.now)) (group_of top.now)) }
 {
     let extent_size = number_at(group.1, "extent_size");
     match walk::first_fault(alloc, Check::Limits { extent_size }, top) {
         Ok(None) => {}
         Ok(Some(fault)) => return Err(fault),
-        Err(_) => return Err(LoadFault::memory(Part::Source)),
+        Err(_) => return Err(memory_fault()),
     }
     let parts = match parts_in(alloc, group) {
         Ok(parts) => parts,
@@ -120,10 +123,10 @@ fn read_group(
     match parts_fault(alloc, extent_size, &parts) {
         Ok(None) => {}
         Ok(Some(fault)) => return Err(fault),
-        Err(_) => return Err(LoadFault::memory(Part::Source)),
+        Err(_) => return Err(memory_fault()),
     }
     let Ok(name) = Key::new(alloc, group.0) else {
-        return Err(LoadFault::memory(Part::Source));
+        return Err(memory_fault());
     };
     Ok(VolumeGroup {
         name,
@@ -136,10 +139,11 @@ fn read_group(
 /// The parts of a group, unless a disk gets no name.
 fn parts_in(alloc: Global, group: (&str, &Section<'_>)) -> Result<Parts, LoadFault>
     ensures { let said = group_in (item_view group.entry) in
-        Answers Source parts_view result (unless (first_or (name_faults said.physicals) None) (said.physicals, said.volumes)) }
+        Answers Source parts_view result
+        (unless (first_of (name_faults said.physicals)) (said.physicals, said.volumes)) }
 {
     let Ok(sections) = sections_at(alloc, group.1, "physical_volumes") else {
-        return Err(LoadFault::memory(Part::Source));
+        return Err(memory_fault());
     };
     let physicals = match physicals_in(alloc, &sections) {
         Ok(physicals) => physicals,
@@ -147,17 +151,17 @@ fn parts_in(alloc: Global, group: (&str, &Section<'_>)) -> Result<Parts, LoadFau
     };
     match volumes_of(alloc, group.1) {
         Ok(volumes) => Ok(Parts { physicals, volumes }),
-        Err(_) => Err(LoadFault::memory(Part::Source)),
+        Err(_) => Err(memory_fault()),
     }
 }
 
 /// The volumes of a group.
 fn volumes_of(alloc: Global, group: &Section<'_>) -> Result<Vec<Volume>, AllocError>
-    ensures { IfOk result (λ v. v.items ≡ map (volume_of (places_in group.now)) (fields.sections_at (codes "logical_volumes") group.now)) }
+    ensures { IfOk result (λ v. v.items ≡ volumes_in group.now) }
 {
-    let places = GroupPlaces::new(alloc, group)?;
+    let positions = GroupPositions::new(alloc, group)?;
     let sections = sections_at(alloc, group, "logical_volumes")?;
-    volumes_in(alloc, &places, &sections)
+    volumes_in(alloc, &positions, &sections)
 }
 
 /// The first fault of the checks of what segments name, of extents, and of snapshots.
@@ -166,7 +170,8 @@ fn parts_fault(
     extent_size: u64,
     parts: &Parts,
 ) -> Result<Option<LoadFault>, AllocError>
-    ensures { (name : List ℕ) → IfOk result (λ fault. fault ≡ first_fault (checks_of_parts (record { name = name; extent_size = extent_size; physicals = parts.now.physicals.items; volumes = parts.now.volumes.items }))) }
+    ensures { (name : List ℕ) → IfOk result (λ fault. fault ≡ first_fault (checks_of_parts
+        (group_with name extent_size parts.now.physicals.items parts.now.volumes.items))) }
 {
     if let Some(line) = unknown_line(parts.physicals.len(), &parts.volumes) {
         return Ok(Some(source_fault(LoadKind::Unknown, line)));

@@ -1,18 +1,21 @@
-//! The walk over the fields of a group, in the order of the tables: the top, the group, its physical volumes, its
-//! volumes with their segments.
+//! The walk over the fields of a group, in the order of the tables: the top, the group, its physical volumes,
+//! its volumes with their segments.
 //!
-//! Both checks take it, each over the whole text before the next one begins; a new field is a row of a table, and
-//! no step here.
+//! Both checks take it, each over the whole text before the next one begins; a new field is a row of a table,
+//! and no step here.
 
 ghost use Rattle.std.specs.Prelude.{◌≡◌, ◌+◌, None, Some, Ok, IfOk, codes, map};
 ghost use Rattle.std.specs.List.{flat_map, range_with_len};
 ghost use Rattle.lvm_text.specs.Iterate.{item_view};
 ghost use Rattle.lvm_text.specs.View.{node_view, content_view};
 ghost use Rattle.lvm_text.specs.Tree as tree;
-ghost use Rattle.dm_table.specs.LoadFault.{first_or};
 ghost use Rattle.dm_table.specs.declared.load_fault.LoadKind.TheVariants as loads;
 ghost use Rattle.lvm_volume.specs.Fields as spec;
-ghost use Rattle.lvm_volume.specs.Fields.{faults_of_fields, fields_faults, field_faults, field_view, field_views, group_faults, is_wrong, load_kind, missing, node_faults, number_at, one_group_faults, segment_field, section_view, segments_of, volume_faults};
+ghost use Rattle.lvm_volume.specs.Fields.{faults_of_fields, field_faults, field_view, field_views};
+ghost use Rattle.lvm_volume.specs.Fields.{fields_faults, first_of, group_faults, is_wrong, keys_faults};
+ghost use Rattle.lvm_volume.specs.Fields.{load_kind, missing, node_faults, number_at, one_group_faults};
+ghost use Rattle.lvm_volume.specs.Fields.{physicals_faults, section_view, segment_field};
+ghost use Rattle.lvm_volume.specs.Fields.{segments_of, volume_faults, volumes_faults};
 
 use crate::check::Check;
 use crate::field::{
@@ -27,7 +30,7 @@ use std::alloc::{AllocError, Global};
 
 /// The first fault that a check finds at a missing field of a section at this line.
 fn missing(check: Check, line: u64) -> Option<LoadFault>
-    ensures { result ≡ first_or (missing check line) None }
+    ensures { result ≡ first_of (missing check line) }
 {
     match check {
         Check::Fields => Some(source_fault(LoadKind::Field, line)),
@@ -37,7 +40,7 @@ fn missing(check: Check, line: u64) -> Option<LoadFault>
 
 /// The first fault that a check finds at the value of a field.
 fn node_fault(check: Check, section: &Section<'_>, kind: Kind, node: &Node<'_>) -> Option<LoadFault>
-    ensures { result ≡ first_or (node_faults check kind section.now (Some (node_view node.now))) None }
+    ensures { result ≡ first_of (node_faults check kind section.now (Some (node_view node.now))) }
 {
     let wrong = is_wrong(check, section, kind, &node.value);
     if wrong {
@@ -68,7 +71,7 @@ fn is_wrong(check: Check, section: &Section<'_>, kind: Kind, value: &Value<'_>) 
 /// The first fault that a check finds at a field of a section.
 #[tactic(auto, unfolding(crate::specs::Fields::field_faults))]
 fn field_fault(check: Check, section: &Section<'_>, field: &Field<'_>) -> Option<LoadFault>
-    ensures { result ≡ first_or (field_faults check section.now (field_view field.now)) None }
+    ensures { result ≡ first_of (field_faults check section.now (field_view field.now)) }
 {
     if !is_asked(section, field) {
         return None;
@@ -81,7 +84,7 @@ fn field_fault(check: Check, section: &Section<'_>, field: &Field<'_>) -> Option
 
 /// The first fault that a check finds at the fields of a section.
 fn fields_fault(check: Check, section: &Section<'_>, fields: &[Field<'_>]) -> Option<LoadFault>
-    ensures { result ≡ first_or (fields_faults check section.now (field_views fields.now)) None }
+    ensures { result ≡ first_of (fields_faults check section.now (field_views fields.now)) }
 {
     for field in fields {
         if let Some(fault) = field_fault(check, section, field) {
@@ -93,7 +96,7 @@ fn fields_fault(check: Check, section: &Section<'_>, fields: &[Field<'_>]) -> Op
 
 /// The first fault that a check finds at the physical volumes.
 fn physicals_fault(check: Check, physicals: &[(&str, &Section<'_>)]) -> Option<LoadFault>
-    ensures { result ≡ first_or (flat_map (λ physical. fields_faults check physical.1 spec.physical_fields) (map item_view physicals.now)) None }
+    ensures { result ≡ first_of (physicals_faults check (map item_view physicals.now)) }
 {
     for physical in physicals {
         if let Some(fault) = fields_fault(check, physical.1, &physical_fields()) {
@@ -103,14 +106,14 @@ fn physicals_fault(check: Check, physicals: &[(&str, &Section<'_>)]) -> Option<L
     None
 }
 
-/// The first fault that a check finds at the keys of a volume's segments. It stops at the first that is missing, so that
-/// no count makes it long.
+/// The first fault that a check finds at the keys of a volume's segments. It stops at the first that is
+/// missing, so that no count makes it long.
 fn keys_fault(
     alloc: Global,
     check: Check,
     volume: &Section<'_>,
 ) -> Result<Option<LoadFault>, AllocError>
-    ensures { IfOk result (λ fault. fault ≡ first_or (flat_map (λ i. field_faults check volume.now (segment_field i)) (range_with_len 1 (number_at (codes "segment_count") volume.now))) None) }
+    ensures { IfOk result (λ fault. fault ≡ first_of (keys_faults check volume.now)) }
 {
     for i in 0..number_at(volume, "segment_count") {
         let key = segment_key(alloc, i + 1)?;
@@ -123,7 +126,8 @@ fn keys_fault(
 
 /// The first fault that a check finds at the fields of segments.
 fn segments_fault(check: Check, segments: &[&Section<'_>]) -> Option<LoadFault>
-    ensures { result ≡ first_or (flat_map (λ segment. fields_faults check segment spec.segment_fields) (map section_view segments.now)) None }
+    ensures { result ≡ first_of (flat_map (λ segment. fields_faults check segment spec.segment_fields)
+        (map section_view segments.now)) }
 {
     for segment in segments {
         if let Some(fault) = fields_fault(check, *segment, &segment_fields()) {
@@ -144,7 +148,7 @@ impl FieldWalk {
     /// The first fault that a check finds at a volume and its segments.
     #[tactic(auto, unfolding(crate::specs::Fields::volume_faults))]
     fn volume_fault(self, volume: &Section<'_>) -> Result<Option<LoadFault>, AllocError>
-        ensures { IfOk result (λ fault. fault ≡ first_or (volume_faults self.check volume.now) None) }
+        ensures { IfOk result (λ fault. fault ≡ first_of (volume_faults self.check volume.now)) }
     {
         if let Some(fault) = fields_fault(self.check, volume, &volume_fields()) {
             return Ok(Some(fault));
@@ -161,7 +165,8 @@ impl FieldWalk {
         self,
         volumes: &[(&str, &Section<'_>)],
     ) -> Result<Option<LoadFault>, AllocError>
-        ensures { IfOk result (λ fault. fault ≡ first_or (flat_map (λ volume. volume_faults self.check volume.1) (map item_view volumes.now)) None) }
+        ensures { IfOk result (λ fault. fault
+            ≡ first_of (volumes_faults self.check (map item_view volumes.now))) }
     {
         for volume in volumes {
             if let Some(fault) = self.volume_fault(volume.1)? {
@@ -174,7 +179,7 @@ impl FieldWalk {
     /// The first fault that a check finds at a group.
     #[tactic(auto, unfolding(crate::specs::Fields::group_faults))]
     fn group_fault(self, group: &Section<'_>) -> Result<Option<LoadFault>, AllocError>
-        ensures { IfOk result (λ fault. fault ≡ first_or (group_faults self.check group.now) None) }
+        ensures { IfOk result (λ fault. fault ≡ first_of (group_faults self.check group.now)) }
     {
         if let Some(fault) = fields_fault(self.check, group, &group_fields()) {
             return Ok(Some(fault));
@@ -197,7 +202,7 @@ pub(crate) fn first_fault(
     check: Check,
     top: &Section<'_>,
 ) -> Result<Option<LoadFault>, AllocError>
-    ensures { IfOk result (λ fault. fault ≡ first_or (faults_of_fields check top.now) None) }
+    ensures { IfOk result (λ fault. fault ≡ first_of (faults_of_fields check top.now)) }
 {
     if let Some(fault) = fields_fault(check, top, &top_fields()) {
         return Ok(Some(fault));

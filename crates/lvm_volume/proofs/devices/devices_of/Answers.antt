@@ -4,7 +4,7 @@ use Rattle.std.proofs.lemmas.List.{append-nil}
 use Rattle.std.proofs.lemmas.Slice.Zip.{either_empty_from_Zip}
 use Rattle.lvm_volume.specs.declared.roles.Role.{Role}
 use Rattle.lvm_volume.specs.declared.volume.Volume.{Volume}
-use Rattle.lvm_volume.specs.RoleCode.{seen}
+use Rattle.lvm_volume.specs.RoleCode.{group_view}
 use Rattle.lvm_volume.specs.Tables.{devices_in}
 use Rattle.lvm_volume.proofs.RoleLemmas.{none_left}
 use Rattle.lvm_volume.proofs.devices.devices_of.Goals as goal
@@ -13,4 +13,4 @@ pub returns : goal.returns
 returns c =
     let none = none_left _ _ (either_empty_from_Zip c.loop-role.role-iterator c.next.new.self c.next.result c.in-None.is c.next.ensures.steps) in
     let devices = c.loop-role.devices.items in
-    sym (append-nil devices) ∙ ap (λ (left : List (Role × Volume)). devices ++ flat_map (devices_in (seen c.args.group.now)) left) (sym none) ∙ c.loop-role.invariant.made
+    sym (append-nil devices) ∙ ap (λ (left : List (Role × Volume)). devices ++ flat_map (devices_in (group_view c.args.group.now)) left) (sym none) ∙ c.loop-role.invariant.made

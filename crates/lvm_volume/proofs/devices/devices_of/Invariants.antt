@@ -3,7 +3,7 @@ use Rattle.std.proofs.Common.{◌≡◌, ◌++◌}
 use Rattle.std.specs.Iterator.Adapters.{zip_first, zip_second}
 use Rattle.std.specs.List.{AllByRecursion, flat_map, zip}
 use Rattle.std.specs.Slice.Iter.{iter_rest}
-use Rattle.lvm_volume.specs.RoleCode.{seen}
+use Rattle.lvm_volume.specs.RoleCode.{group_view}
 use Rattle.lvm_volume.specs.Tables.{IsMadeIn, devices_in}
 use Rattle.lvm_volume.proofs.devices.devices_of.Given as goal
 
@@ -11,6 +11,6 @@ abbrev pub invariant-loop-role : goal.invariant-loop-role
 invariant-loop-role l =
     let left = zip (iter_rest (zip_first l.role-iterator)) (iter_rest (zip_second l.role-iterator)) in
     record {
-      made : l.devices.items ++ flat_map (devices_in (seen l.group)) left ≡ flat_map (devices_in (seen l.group)) (zip l.roles l.group.volumes.now);
-      all : AllByRecursion (IsMadeIn (seen l.group)) left;
+      made : l.devices.items ++ flat_map (devices_in (group_view l.group)) left ≡ flat_map (devices_in (group_view l.group)) (zip l.roles l.group.volumes.now);
+      all : AllByRecursion (IsMadeIn (group_view l.group)) left;
     }

@@ -1,7 +1,7 @@
 use Rattle.std.proofs.Common.{Bool, not, true, ◌≡◌, ◌∷◌, sym, subst, set}
 use Rattle.std.specs.Prelude.{IfOk}
 use Rattle.lvm_volume.specs.Extents.{Claim}
-use Rattle.lvm_volume.specs.Used.{Holds, Keeps, ranges_of}
+use Rattle.lvm_volume.specs.Used.{Holds, HasRanges, ranges_of}
 use Rattle.lvm_volume.proofs.HoldLemmas.{meets_is, if_ok, holds_more}
 use Rattle.lvm_volume.proofs.extents.claim.Goals as goal
 
@@ -13,6 +13,6 @@ returns-clause-free c = λ used holds.
 pub returns-clause-held : goal.returns-clause-held
 returns-clause-held c = λ used holds.
     let here : Claim = record { physical = c.args.physical; first = c.args.first; end = c.args.end } in
-    if_ok c.take.result (λ free. free ≡ true → Keeps c.take.new.used ((c.args.first, c.args.end) ∷ ranges_of c.args.physical used)) (λ free. free ≡ true → Holds (set c.args.maps.now c.args.physical c.take.new.used) (here ∷ used))
+    if_ok c.take.result (λ free. free ≡ true → HasRanges c.take.new.used ((c.args.first, c.args.end) ∷ ranges_of c.args.physical used)) (λ free. free ≡ true → Holds (set c.args.maps.now c.args.physical c.take.new.used) (here ∷ used))
     (λ free keeps is. holds_more c.args.maps.now c.take.new.used here used holds c.requires.within (keeps is))
     (c.take.ensures.taken (ranges_of c.args.physical used) (holds.at c.args.physical _ c.requires.within))

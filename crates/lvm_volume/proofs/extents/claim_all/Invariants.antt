@@ -9,5 +9,5 @@ invariant-loop-stripe l = record {
   now : (used : List Claim) → Holds l.fn.maps used → (now : List Claim) × Holds l.maps now
       × (have_clash l.physicals now (claims_by l.share (drop l.stripe-index l.stripes)) ≡ have_clash l.physicals used (claims_by l.share l.stripes))
       × (used_by now (claims_by l.share (drop l.stripe-index l.stripes)) ≡ used_by used (claims_by l.share l.stripes));
-  kept : length l.maps ≡ length l.fn.maps;
+  len : length l.maps ≡ length l.fn.maps;
 }

@@ -14,5 +14,5 @@ loop-volume-preserved c =
         c.in_ok-fault.ensures.held used inv.1 c.in_default.is,
         volume_passed c.args.physicals.now used c.args.volumes.now c.loop-volume.volume-index c.volume-item.result c.as_slice.result.now c.loop-volume-test.true c.volume-item.is c.as_slice.ensures none ∙ inv.2,
       );
-      kept = c.segments_fault.ensures.len ∙ c.loop-volume.invariant.kept;
+      len = c.segments_fault.ensures.len ∙ c.loop-volume.invariant.len;
     }

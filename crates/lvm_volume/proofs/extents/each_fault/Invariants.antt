@@ -9,5 +9,5 @@ abbrev pub invariant-loop-volume : goal.invariant-loop-volume
 invariant-loop-volume l = record {
   now : (used : List Claim) × Holds l.maps used
       × (first_or (volume_faults l.physicals used (drop l.volume-index l.volumes)) None ≡ first_or (volume_faults l.physicals [] l.volumes) None);
-  kept : length l.maps ≡ length l.physicals;
+  len : length l.maps ≡ length l.physicals;
 }

@@ -10,5 +10,5 @@ invariant-loop-segment l = record {
   now : (used : List Claim) → Holds l.fn.maps used → (now : List Claim) × Holds l.maps now
       × (first_or (segment_faults l.physicals now l.end (drop l.segment-index l.segments)) None ≡ first_or (segment_faults l.physicals used 0 l.segments) None)
       × (used_after now (drop l.segment-index l.segments) ≡ used_after used l.segments);
-  kept : length l.maps ≡ length l.fn.maps;
+  len : length l.maps ≡ length l.fn.maps;
 }

@@ -5,8 +5,8 @@ use Rattle.lvm_text.specs.Tree.{Tree}
 use Rattle.lvm_text.specs.Iterate.{sections_left}
 use Rattle.lvm_volume.specs.Group.{keys_in}
 use Rattle.lvm_volume.specs.GroupCode.{texts}
-use Rattle.lvm_volume.proofs.PlaceLemmas.{none_before, sections_differ}
-use Rattle.lvm_volume.proofs.places.keys_of.Goals as goal
+use Rattle.lvm_volume.proofs.PositionLemmas.{none_before, sections_differ}
+use Rattle.lvm_volume.proofs.positions.keys_of.Goals as goal
 
 pub add_key-requires : goal.add_key-requires
 add_key-requires c =

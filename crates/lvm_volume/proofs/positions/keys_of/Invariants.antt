@@ -4,7 +4,7 @@ use Rattle.lvm_text.specs.Tree.{sections_of}
 use Rattle.lvm_text.specs.Iterate.{sections_left}
 use Rattle.lvm_volume.specs.Group.{keys_in}
 use Rattle.lvm_volume.specs.GroupCode.{texts}
-use Rattle.lvm_volume.proofs.places.keys_of.Given as goal
+use Rattle.lvm_volume.proofs.positions.keys_of.Given as goal
 
 abbrev pub invariant-loop-item : goal.invariant-loop-item
 invariant-loop-item l = texts l.keys.keys ++ keys_in (sections_left l.item-iterator) ≡ keys_in (sections_of l.section.values)

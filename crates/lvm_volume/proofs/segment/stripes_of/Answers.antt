@@ -5,4 +5,4 @@ use Rattle.lvm_volume.proofs.segment.stripes_of.Goals as goal
 
 pub returns : goal.returns
 returns c =
-    sym (append-nil c.loop-rest.stripes.items) ∙ sym (ap (λ more. c.loop-rest.stripes.items ++ more) (too_short c.args.places.now c.loop-rest.rest.now c.in_default.len_below)) ∙ c.loop-rest.invariant
+    sym (append-nil c.loop-rest.stripes.items) ∙ sym (ap (λ more. c.loop-rest.stripes.items ++ more) (too_short c.args.positions.now c.loop-rest.rest.now c.in_default.len_below)) ∙ c.loop-rest.invariant

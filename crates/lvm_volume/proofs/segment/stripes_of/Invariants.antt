@@ -4,7 +4,7 @@ use Rattle.lvm_volume.specs.Group.{stripes_in}
 use Rattle.lvm_volume.proofs.segment.stripes_of.Given as goal
 
 abbrev pub invariant-loop-rest : goal.invariant-loop-rest
-invariant-loop-rest l = l.stripes.items ++ stripes_in l.places (scalar_views l.rest) ≡ stripes_in l.places (scalar_views l.items)
+invariant-loop-rest l = l.stripes.items ++ stripes_in l.positions (scalar_views l.rest) ≡ stripes_in l.positions (scalar_views l.items)
 
 abbrev pub decreases-loop-rest : goal.decreases-loop-rest
 decreases-loop-rest l = length l.rest

@@ -4,4 +4,4 @@ use Rattle.lvm_volume.specs.Group.{volume_of}
 use Rattle.lvm_volume.proofs.volume.volumes_in.Given as goal
 
 abbrev pub invariant-loop-section : goal.invariant-loop-section
-invariant-loop-section l = l.volumes.items ++ map (volume_of l.places) (map item_view (drop l.section-index l.sections)) ≡ map (volume_of l.places) (map item_view l.sections)
+invariant-loop-section l = l.volumes.items ++ map (volume_of l.positions) (map item_view (drop l.section-index l.sections)) ≡ map (volume_of l.positions) (map item_view l.sections)

@@ -1,14 +1,14 @@
 use Rattle.std.proofs.Common.{◌∙◌, List, ℕ, Some, None, ap}
-use Rattle.lvm_volume.specs.Group.{place_of}
-use Rattle.lvm_volume.proofs.PlaceLemmas.{place_is}
-use Rattle.lvm_volume.proofs.places.Places.place_of.Goals as goal
+use Rattle.lvm_volume.specs.Group.{position_of}
+use Rattle.lvm_volume.proofs.PositionLemmas.{position_is}
+use Rattle.lvm_volume.proofs.positions.Positions.position_of.Goals as goal
 
 pub returns-in-Some : goal.returns-in-Some
 returns-in-Some c =
-    place_is c.args.key.now c.self.inside.keys.keys (Some c.in-Some.place) c.in-Some.ensures.index
-    ∙ ap (λ (keys : List (List ℕ)). place_of keys c.args.key.now) c.self.view_is
+    position_is c.args.key.now c.self.inside.keys.keys (Some c.in-Some.position) c.in-Some.ensures.index
+    ∙ ap (λ (keys : List (List ℕ)). position_of keys c.args.key.now) c.self.view_is
 
 pub returns-in-None : goal.returns-in-None
 returns-in-None c =
-    c.len.ensures.len ∙ place_is c.args.key.now c.self.inside.keys.keys None c.in-None.ensures.index
-    ∙ ap (λ (keys : List (List ℕ)). place_of keys c.args.key.now) c.self.view_is
+    c.len.ensures.len ∙ position_is c.args.key.now c.self.inside.keys.keys None c.in-None.ensures.index
+    ∙ ap (λ (keys : List (List ℕ)). position_of keys c.args.key.now) c.self.view_is
