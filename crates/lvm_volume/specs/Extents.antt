@@ -31,7 +31,7 @@ hit bad kind line = if bad then source_faults kind line else []
 abbrev pub name_faults : List Physical → List LoadFault
 name_faults physicals = faults_by Name (λ physical. source_line physical.line) (λ physical. not (is_disk_name physical.disk)) physicals
 
--- The first segment in the text that a test finds: its lines ascend, whatever the numbers of segments
+-- The first segment in the text that a test finds. It is the one at the least line, whatever its number in its volume
 
 -- the lesser of a line and one that may be missing
 abbrev pub lesser : ℕ → Option ℕ → ℕ

@@ -1,4 +1,4 @@
--- How roles are found, one snapshot after the other, and how what uses them is seen.
+-- Roles as the code finds them, one snapshot after the other, and the group that devices are made of.
 use Rattle.std.specs.Prelude.{ℕ, ◌+◌, ◌==◌, Bool, List, [], ◌∷◌, Option, Some, None, if◌then◌else◌}
 use Rattle.lvm_volume.specs.declared.devices.GroupRef.{GroupRef}
 use Rattle.lvm_volume.specs.declared.segment.Segment.{Segment}

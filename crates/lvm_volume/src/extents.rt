@@ -33,8 +33,8 @@ pub(crate) fn size_fault(extent_size: u64, physicals: &[Physical]) -> Option<Loa
     None
 }
 
-/// Whether a physical volume is longer than its device. Products of two numbers of 64 bits, and one more, fit
-/// 128.
+/// Whether a physical volume is longer than its device. 128 bits hold a product of two numbers of 64, and one
+/// more number.
 fn is_too_long(extent_size: u64, physical: &Physical) -> bool
     ensures { result ≡ is_too_long extent_size physical.now }
 {

@@ -1,7 +1,7 @@
 //! The lines of segments: one for each, in the sectors of physical volumes.
 //!
-//! What the checks of a group left makes each product fit and each look-up succeed. A new type of segment is
-//! an arm in `line_target`, here and in `specs/Tables.antt`.
+//! The checks of a group have passed, so each product fits 64 bits, and each stripe is on a physical volume
+//! of the group. A new type of segment is an arm in `line_target`, here and in `specs/Tables.antt`.
 
 ghost use Rattle.std.specs.Prelude.{◌≡◌, IfOk, map};
 ghost use Rattle.std.specs.List.{AllByRecursion};

@@ -1,7 +1,8 @@
 //! Physical volumes, as their sections say them, and the names of their disks.
 //!
-//! A group's metadata names a device only as a hint, so a disk is named by it only where that can be no other
-//! disk; else the key names the disk. The rule stands in `chosen` of `specs/Group.antt`.
+//! The device that metadata gives is a hint, and two physical volumes may give the same. So a disk is named
+//! by its device only where that is a path that no other physical volume gives, and else by the key. The rule
+//! is `chosen` in `specs/Group.antt`.
 
 ghost use Rattle.std.specs.Prelude.{◌≡◌, Err, List, [], ◌∷◌, ℕ, None, false, true, map, nat_lt, unwrap_or};
 ghost use Rattle.std.specs.Prelude.{IfOk};
@@ -100,7 +101,8 @@ fn is_shared(counts: &BTreeMap<&str, usize>, device: &str) -> bool
     }
 }
 
-/// The name of a disk: the device, where that can be no other disk, and else the key.
+/// The name of a disk: the device, where it is a path that no other physical volume gives and may be a disk's
+/// name, and else the key.
 #[tactic(auto, unfolding(crate::specs::Group::chosen))]
 fn disk_name(alloc: Global, shared: bool, key: &str, device: &str) -> Result<DiskName, CheckFault>
     ensures named { IfOk result (λ name. name ≡ chosen shared key.now device.now) }

@@ -28,7 +28,7 @@ pub(crate) struct Record {
 /// What a volume is to the snapshots of its group.
 #[derive(Clone, Copy, Debug, Drop)]
 pub(crate) enum Role {
-    /// None of the others.
+    /// Neither an origin, nor a store, nor a record.
     Plain,
     /// The origin of a snapshot or of several.
     Origin,

@@ -27,7 +27,7 @@ pub(crate) struct Stripe {
 /// The stripes of a segment, in order.
 pub(crate) type Stripes = Listed<Stripe>;
 
-/// What becomes of a segment's extents. The sizes of a stripe's pieces and of a snapshot's chunks are in
+/// What a segment's extents are mapped to. The sizes of a stripe's pieces and of a snapshot's chunks are in
 /// sectors.
 #[derive(Debug, Drop)]
 pub(crate) enum SegmentType {
@@ -104,7 +104,7 @@ fn pair<'a>(first: &Scalar<'a>, second: &Scalar<'a>) -> Option<(&'a str, u64)>
     }
 }
 
-/// What becomes of a segment's extents.
+/// What a segment's extents are mapped to.
 fn target_of(
     alloc: Global,
     positions: &GroupPositions<'_>,

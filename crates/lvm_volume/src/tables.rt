@@ -1,7 +1,7 @@
 //! The tables of a group: the devices of its volumes, and the disks of its physical volumes.
 //!
-//! What the checks of a group left makes each product fit and each look-up succeed, so nothing here is
-//! refused but a name.
+//! The checks of a group have passed, so each product fits 64 bits and each position is one of its list: only
+//! a name can still be refused.
 
 ghost use Rattle.std.specs.Prelude.{◌≡◌, None};
 ghost use Rattle.dm_table.specs.LoadFault.{Answers, unless};

@@ -1,7 +1,7 @@
 //! The extents of a physical volume that stripes use, as ranges that have nothing in common.
 //!
 //! Ranges are in a map by their first extent. Of those that begin before the end of a new one only the last
-//! can reach into it, so one look-up decides; so the check of extents is near-linear.
+//! can reach into it. So one look-up decides, and the check of extents is near-linear.
 
 ghost use Rattle.std.specs.Prelude.{◌≡◌, ◌<◌, ◌∷◌, List, ℕ, true, not, IfOk};
 ghost use Rattle.std.specs.List.{list_any};

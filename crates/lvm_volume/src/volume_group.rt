@@ -52,7 +52,7 @@ impl Model for VolumeGroup {
         (group_with g.name g.extent_size g.physicals.items g.volumes.items) };
 }
 
-/// The parts of a group.
+/// The physical volumes and the volumes of a group, before they are checked together.
 #[derive(Drop)]
 pub(crate) struct Parts {
     physicals: Vec<Physical>,

@@ -1,7 +1,7 @@
 //! The walk over the fields of a group, in the order of the tables: the top, the group, its physical volumes,
 //! its volumes with their segments.
 //!
-//! Both checks take it, each over the whole text before the next one begins; a new field is a row of a table,
+//! Both checks walk, each over the whole text before the next one begins. A new field is a row of a table,
 //! and no step here.
 
 ghost use Rattle.std.specs.Prelude.{◌≡◌, ◌+◌, None, Some, Ok, IfOk, codes, map};
