@@ -5,10 +5,17 @@
 ghost use Rattle.std.specs.Prelude.{◌≡◌, IfOk, length};
 
 use crate::divisor::Divisor;
-use crate::found_line::FoundColumn;
+use crate::id::Lower;
 use dm_table::Listed;
 use std::alloc::{AllocError, Global};
 use std::marker::Model;
+
+/// A column of a striped line: what it names, and the first sector there.
+#[derive(Clone, Copy, Debug, Drop)]
+pub struct FoundColumn {
+    pub to: Lower,
+    pub offset: u64,
+}
 
 /// The columns of a striped line in their order. A clause sees them as a list.
 #[derive(Debug, Drop)]
@@ -26,7 +33,7 @@ struct CountedColumns {
 impl Model for FoundColumns {
     ghost use Rattle.std.specs.Prelude.{◌≡◌, List, length};
     ghost use Rattle.std.specs.Box.{box_value};
-    ghost use Rattle.dm_stack.specs.declared.found_line.FoundColumn.{FoundColumn};
+    ghost use Rattle.dm_stack.specs.declared.found_columns.FoundColumn.{FoundColumn};
 
     ghost Value = { List FoundColumn };
 

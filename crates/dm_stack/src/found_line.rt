@@ -73,12 +73,5 @@ pub struct FoundOver {
     pub snapshot: FoundSnapshot,
 }
 
-/// A column of a striped line: what it names, and the first sector there.
-#[derive(Clone, Copy, Debug, Drop)]
-pub struct FoundColumn {
-    pub to: Lower,
-    pub offset: u64,
-}
-
 /// The lines of a device.
 pub(crate) type FoundTable = Listed<FoundLine>;

@@ -40,10 +40,8 @@ mod tidy;
 pub use clash::Clash;
 pub use disk_text::DiskText;
 pub use divisor::Divisor;
-pub use found_columns::FoundColumns;
-pub use found_line::{
-    Found, FoundColumn, FoundLine, FoundOrigin, FoundOver, FoundSnapshot, FoundTarget,
-};
+pub use found_columns::{FoundColumn, FoundColumns};
+pub use found_line::{Found, FoundLine, FoundOrigin, FoundOver, FoundSnapshot, FoundTarget};
 pub use graph::MOST_DEPTH;
 pub use id::{DeviceId, DiskId, Lower};
 pub use looker::Looker;

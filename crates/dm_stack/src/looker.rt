@@ -37,21 +37,23 @@ impl<'s> Model for Looker<'s> {
     ghost invariant = { λ looker. IsLast looker.stack.now looker.last };
 }
 
-impl<'s> Looker<'s> {
-    /// A looker of a stack, with no search and no comparison counted.
-    pub(crate) fn new(stack: &'s Stack) -> Looker<'s>
-        ensures stack { result.stack ≡ stack.now }
+impl Stack {
+    /// A looker of this stack, with no search and no comparison counted.
+    pub fn looker(&self) -> Looker<'_>
+        ensures stack { result.stack ≡ self.now }
         ensures searches { result.searches ≡ 0 }
         ensures comparisons { result.comparisons ≡ 0 }
     {
         Looker {
-            stack,
+            stack: self,
             searches: 0,
             comparisons: 0,
             last: LastLine::none(),
         }
     }
+}
 
+impl<'s> Looker<'s> {
     /// The line of a sector of a device, with ids for names: also that of each other sector that it
     /// holds. The search is counted, and so is each comparison of a line's start with the sector: at
     /// most as many as the number of the device's lines has binary digits, and so at most 17; of more

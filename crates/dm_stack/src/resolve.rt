@@ -12,8 +12,8 @@ ghost use Rattle.dm_stack.specs.Over.{all_over};
 ghost use Rattle.dm_stack.specs.Soundness.{HasGoodChunk, HaveGoodChunks, is_unknown, unknown};
 
 use crate::divisor::Divisor;
-use crate::found_columns::FoundColumns;
-use crate::found_line::{FoundColumn, FoundLine, FoundOrigin, FoundOver, FoundTable, FoundTarget};
+use crate::found_columns::{FoundColumn, FoundColumns};
+use crate::found_line::{FoundLine, FoundOrigin, FoundOver, FoundTable, FoundTarget};
 use crate::indexed::Indexed;
 use crate::over::{all_over, found_snapshot, snapshots_over};
 use crate::placed::first_line;

@@ -29,7 +29,6 @@ use crate::indexed::Indexed;
 use crate::layout::end_of;
 use crate::line_search::{LastLine, find};
 use crate::load::check;
-use crate::looker::Looker;
 use crate::name_index::NameIndex;
 use crate::tidy::first_clash;
 use dm_table::{DeviceSpec, Disk, LoadFault};
@@ -270,15 +269,6 @@ impl Stack {
         ensures text { result.now ≡ disk_text (disk_name_at self.now disk) }
     {
         &self.texts[disk.index()]
-    }
-
-    /// A looker of this stack, with no search and no comparison counted.
-    pub fn looker(&self) -> Looker<'_>
-        ensures stack { result.stack ≡ self.now }
-        ensures searches { result.searches ≡ 0 }
-        ensures comparisons { result.comparisons ≡ 0 }
-    {
-        Looker::new(self)
     }
 
     /// The description, with its names indexed.
