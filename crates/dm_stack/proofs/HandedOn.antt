@@ -12,8 +12,7 @@ use Rattle.dm_table.specs.declared.load_fault.LoadKind.TheVariants.{Limit, Twice
 use Rattle.dm_table.specs.declared.load_fault.LoadFault.{LoadFault}
 use Rattle.dm_table.specs.LoadFault.{fault, faults_by, first_or, first_fault}
 use Rattle.dm_stack.specs.Description.{Description, end_of}
-use Rattle.dm_stack.specs.Load.{IsLateFault}
-use Rattle.dm_stack.specs.Soundness.{HaveSmallEnds, WithBefore, all_lines, checks_after, checks_before, crowded, deep, depth_of, empty, empty_in, faults_by_id, has_bad_store, has_bad_stripes, is_crowded, is_far, is_large, is_misplaced, is_repeated, is_unknown, misplaced, misplaced_in, misplaced_kind, passes_end, past, range, snapshot, bad_snapshots_in, is_bad_snapshot, store, stripe, too_large, too_many, twice, twice_in, unknown, with_before, without_lines}
+use Rattle.dm_stack.specs.Soundness.{Early, HaveSmallEnds, IsRefusedBy, Late, OnCycle, WithBefore, all_lines, checks_after, checks_before, crowded, deep, depth_of, empty, empty_in, faults_by_id, has_bad_store, has_bad_stripes, is_crowded, is_far, is_large, is_misplaced, is_repeated, is_unknown, misplaced, misplaced_in, misplaced_kind, passes_end, past, range, snapshot, bad_snapshots_in, is_bad_snapshot, store, stripe, too_large, too_many, twice, twice_in, unknown, with_before, without_lines}
 use Rattle.dm_table.specs.Span.{spans}
 use Rattle.dm_stack.proofs.Passes.{all_parts, append_none, faults_by_none}
 
@@ -106,7 +105,7 @@ at_not_memory kind bad id [] other = tt
 at_not_memory kind bad id (device ∷ devices) other = cond_not_memory (fault kind device.at) (faults_by_id kind bad (suc id) devices) (bad id) other (at_not_memory kind bad (suc id) devices other)
 
 -- a fault of the checks before the one for cycles, and of those after it
-pub before_not_memory : (stack : Description) (at : LoadFault) → first_fault (checks_before stack) ≡ Some at → IsNotMemory at
+before_not_memory : (stack : Description) (at : LoadFault) → first_fault (checks_before stack) ≡ Some at → IsNotMemory at
 before_not_memory stack at e =
     first_not_memory (too_many stack) _ at (many_not_memory stack)
     (first_not_memory (too_large stack) _ at (large_not_memory stack)
@@ -117,7 +116,7 @@ before_not_memory stack at e =
     (first_not_memory (misplaced stack) _ at (all_each IsNotMemory (λ device. misplaced_in device.lines) stack.devices (λ device. each_not_memory (filter is_misplaced (with_before device.lines))))
     (first_not_memory (unknown stack) None at (by_not_memory Unknown (λ line. line.at) (is_unknown stack) (all_lines stack.devices) (λ e. cc)) (λ none. absurd cc)))))) e
 
-pub after_not_memory : (stack : Description) (at : LoadFault) → first_fault (checks_after stack) ≡ Some at → IsNotMemory at
+after_not_memory : (stack : Description) (at : LoadFault) → first_fault (checks_after stack) ≡ Some at → IsNotMemory at
 after_not_memory stack at e =
     first_not_memory (deep stack) _ at (at_not_memory Deep (λ id. nat_lt 32 (depth_of stack id)) 0 stack.devices (λ e. cc))
     (first_not_memory (stripe stack) _ at (by_not_memory Stripe (λ line. line.at) (λ line. has_bad_stripes line line.target) (all_lines stack.devices) (λ e. cc))
@@ -127,7 +126,7 @@ after_not_memory stack at e =
     (first_not_memory (store stack) _ at (by_not_memory Store (λ line. line.at) (λ line. has_bad_store stack line.target) (all_lines stack.devices) (λ e. cc))
     (first_not_memory (crowded stack) None at (by_not_memory Limit (λ line. line.it.at) (is_crowded stack) (with_before (all_lines stack.devices)) (λ e. cc)) (λ none. absurd cc)))))) e
 
--- a fault of the check for cycles, or of one after it
-pub late_not_memory : (stack : Description) (at : LoadFault) → IsLateFault stack at → IsNotMemory at
-late_not_memory stack at (inl ring) = λ memory. let kind = ap (λ (f : LoadFault). f.kind) ring.is in absurd cc
-late_not_memory stack at (inr after) = after_not_memory stack at after.1
+pub refused_not_memory : (stack : Description) (at : LoadFault) → IsRefusedBy stack at → IsNotMemory at
+refused_not_memory stack at (Early before) = before_not_memory stack at before
+refused_not_memory stack at (OnCycle before ring) = λ memory. let kind = ap (λ (f : LoadFault). f.kind) ring.is in absurd cc
+refused_not_memory stack at (Late before acyclic after) = after_not_memory stack at after

@@ -1,6 +1,6 @@
 -- Checks in a row, what is named among devices that are there, and the first ring.
-use Rattle.std.proofs.Common.{◌≡◌, ℕ, zero, suc, ◌+◌, ◌<◌, Bool, true, false, cond, inl, inr, not, List, [], ◌∷◌, ◌++◌, Option, Some, None, Vec, Global, arith, refl, sym, ap, subst, ◌∙◌, drop, get_or, length, map, take}
-use Rattle.std.specs.Prelude.{IfSome, IfNone, find, is_none}
+use Rattle.std.proofs.Common.{◌≡◌, ◌≢◌, ◌⊎◌, ℕ, zero, suc, ◌+◌, ◌<◌, Bool, true, false, cond, inl, inr, not, List, [], ◌∷◌, ◌++◌, Option, Some, None, Result, Ok, Vec, Global, arith, refl, sym, ap, subst, ◌∙◌, drop, get_or, length, map, take}
+use Rattle.std.specs.Prelude.{IfOk, IfSome, IfNone, find, is_none}
 use Rattle.std.specs.List.{AllByRecursion, flat_map, list_any, position_or_len, range_with_len}
 use Rattle.std.proofs.lemmas.Bool.{or_parts}
 use Rattle.std.proofs.lemmas.List.{drop_more, length-map, length-take-le, take-append-drop}
@@ -9,47 +9,72 @@ use Rattle.dm_table.specs.declared.table.DevRef.{DevRef}
 use Rattle.dm_table.specs.declared.table.DevRef.TheVariants as refs
 use Rattle.dm_table.specs.declared.table.DeviceSpec.{DeviceSpec}
 use Rattle.dm_table.specs.declared.table.Line.{Line}
-use Rattle.dm_table.specs.declared.load_fault.LoadKind.TheVariants.{Cycle, Unknown}
+use Rattle.dm_table.specs.declared.load_fault.LoadKind.{LoadKind}
+use Rattle.dm_table.specs.declared.load_fault.LoadKind.TheVariants.{Cycle, Memory, Unknown}
 use Rattle.dm_table.specs.declared.load_fault.LoadFault.{LoadFault}
-use Rattle.dm_table.specs.LoadFault.{fault, first_or, first_fault}
+use Rattle.dm_table.specs.declared.place.Part.TheVariants.{Source}
+use Rattle.dm_table.specs.LoadFault.{IsMemoryFault, fault, first_or, first_fault}
 use Rattle.dm_stack.specs.Description.{Description, device_links, is_same, line_links, links, ref_link}
-use Rattle.dm_stack.specs.Graph.{IsClosed, Reaches, depths_to, greatest, links_in, links_of}
-use Rattle.dm_stack.specs.Load.{IsLateResult, IsFirstRing, IsLateFault}
+use Rattle.dm_stack.specs.Graph.{IsClosed, IsFirstRing, Reaches, depths_to, greatest, links_in, links_of}
 use Rattle.dm_stack.specs.Loaded.{stack_depth}
-use Rattle.dm_stack.specs.Soundness.{HasNoCycle, IsFirstCycle, IsRefusedBy, Late, OnCycle, all_lines, checks_after, checks_before, depth_of, empty, is_unknown, is_unknown_ref, misplaced, too_large, too_many, twice, unknown}
+use Rattle.dm_stack.specs.Soundness.{Early, HasNoCycle, IsFirstCycle, IsRefusedBy, IsSound, Late, all_lines, checks_after, checks_before, depth_of, is_unknown, is_unknown_ref, unknown}
 use Rattle.dm_table.specs.Span.{Span, spans}
-use Rattle.dm_stack.proofs.HandedOn.{all_append}
-use Rattle.dm_table.proofs.FaultLemmas.{first_or-none}
+use Rattle.dm_stack.proofs.HandedOn.{all_append, refused_not_memory}
+use Rattle.dm_table.proofs.FaultLemmas.{first_or-found, first_or-none, first_or-passed}
 use Rattle.dm_stack.proofs.Passes.{all_parts, faults_by_none}
 
 -- Checks in a row
 
-two_passed : (a b : List LoadFault) (later : Option LoadFault) → first_or a (first_or b None) ≡ None → first_or a (first_or b later) ≡ later
-two_passed [] [] later e = refl
-two_passed [] (x ∷ b) later e = absurd cc
-two_passed (x ∷ a) b later e = absurd cc
+abbrev pub FindNothing : List (List LoadFault) → Type 0
+FindNothing checks = AllByRecursion (λ faults. first_or faults None ≡ None) checks
 
-two_stopped : (a b : List LoadFault) (later : Option LoadFault) (at : LoadFault) → first_or a (first_or b None) ≡ Some at → first_or a (first_or b later) ≡ Some at
-two_stopped [] [] later at e = absurd cc
-two_stopped [] (x ∷ b) later at e = e
-two_stopped (x ∷ a) b later at e = e
+nothing_found : (checks : List (List LoadFault)) → FindNothing checks → first_fault checks ≡ None
+nothing_found [] none = refl
+nothing_found (faults ∷ checks) none = first_or-passed faults _ none.0 ∙ nothing_found checks none.1
 
--- the checks of how lines lie, and of what they name
-abbrev pub layout_checks : Description → List (List LoadFault)
-layout_checks stack = empty stack ∷ misplaced stack ∷ unknown stack ∷ []
+-- the check of an index finds the first fault where those before it find nothing
+first_at : (checks : List (List LoadFault)) (index : ℕ) (at : LoadFault) → FindNothing (take index checks) → first_or (get_or checks index []) None ≡ Some at → first_fault checks ≡ Some at
+first_at [] index at none e = absurd cc
+first_at (faults ∷ checks) zero at none e = first_or-found faults _ at e
+first_at (faults ∷ checks) (suc index) at none e = first_or-passed faults _ none.0 ∙ first_at checks index at none.1 e
 
-pub sizes_passed : (stack : Description) → first_fault (too_many stack ∷ too_large stack ∷ []) ≡ None → first_fault (checks_before stack) ≡ first_or (twice stack) (first_fault (layout_checks stack))
-sizes_passed stack e = two_passed (too_many stack) (too_large stack) _ e
+-- a fault of the check of an index among those before the one for cycles, and among those after it
+pub refused_early : (stack : Description) (index : ℕ) (at : LoadFault) → FindNothing (take index (checks_before stack)) → first_or (get_or (checks_before stack) index []) None ≡ Some at → IsRefusedBy stack at
+refused_early stack index at none e = Early (first_at (checks_before stack) index at none e)
 
-pub sizes_stopped : (stack : Description) (at : LoadFault) → first_fault (too_many stack ∷ too_large stack ∷ []) ≡ Some at → first_fault (checks_before stack) ≡ Some at
-sizes_stopped stack at e = two_stopped (too_many stack) (too_large stack) _ at e
+pub refused_late : (stack : Description) (index : ℕ) (at : LoadFault) → first_fault (checks_before stack) ≡ None → HasNoCycle stack → FindNothing (take index (checks_after stack)) → first_or (get_or (checks_after stack) index []) None ≡ Some at → IsRefusedBy stack at
+refused_late stack index at before acyclic none e = Late before acyclic (first_at (checks_after stack) index at none e)
 
-pub small_passed : (stack : Description) → first_fault (too_many stack ∷ too_large stack ∷ []) ≡ None → too_large stack ≡ []
-small_passed stack e = (first_or-none (too_large stack) None (first_or-none (too_many stack) _ e).1).0
+pub early_passed : (stack : Description) → FindNothing (checks_before stack) → first_fault (checks_before stack) ≡ None
+early_passed stack none = nothing_found (checks_before stack) none
 
-pub known_passed : (stack : Description) → first_fault (checks_before stack) ≡ None → first_or (unknown stack) None ≡ None
-known_passed stack e =
-    (first_or-none (misplaced stack) _ (first_or-none (empty stack) _ (first_or-none (twice stack) _ (first_or-none (too_large stack) _ (first_or-none (too_many stack) _ e).1).1).1).1).1
+pub are_sound : (stack : Description) → first_fault (checks_before stack) ≡ None → HasNoCycle stack → FindNothing (checks_after stack) → IsSound stack
+are_sound stack before acyclic none = record { before = before; acyclic = acyclic; after = nothing_found (checks_after stack) none }
+
+is_memory : (kind : LoadKind) → (kind ≡ Memory) ⊎ (kind ≢ Memory)
+is_memory Memory = inl refl
+is_memory _ = inr (λ e. cc)
+
+by_kind : {P Q : Type 0} (kind : LoadKind) → (kind ≢ Memory → P) → (kind ≡ Memory → Q) → (kind ≡ Memory) ⊎ (kind ≢ Memory) → P ⊎ Q
+by_kind kind found memory (inl is) = inr (memory is)
+by_kind kind found memory (inr other) = inl (found other)
+
+-- a fault means that memory ran out, or it does not
+pub found_or_memory : {P Q : Type 0} (kind : LoadKind) → (kind ≢ Memory → P) → (kind ≡ Memory → Q) → P ⊎ Q
+found_or_memory kind found memory = by_kind kind found memory (is_memory kind)
+
+-- why a load is refused, by whether memory ran out
+pub refused_if : (stack : Description) (at : LoadFault) → IsRefusedBy stack at ⊎ IsMemoryFault Source at → at.kind ≢ Memory → IsRefusedBy stack at
+refused_if stack at (inl refused) other = refused
+refused_if stack at (inr memory) other = absurd (other (ap (λ (f : LoadFault). f.kind) memory))
+
+pub memory_if : (stack : Description) (at : LoadFault) → IsRefusedBy stack at ⊎ IsMemoryFault Source at → at.kind ≡ Memory → IsMemoryFault Source at
+memory_if stack at (inl refused) is = absurd (refused_not_memory stack at refused is)
+memory_if stack at (inr memory) is = memory
+
+-- what was made is as it was promised
+pub made_ok : {T E : Type 0} (made : Result T E) (value : T) (P : T → Type 0) → made ≡ Ok value → IfOk made P → P value
+made_ok {T} {E} made value P is holds = subst (λ (r : Result T E). IfOk r P) is holds
 
 -- What is named is there
 
@@ -124,14 +149,6 @@ ring_fault stack d device other ring is =
 pub no_ring : (stack : Description) → IsFirstRing (links stack) None → HasNoCycle stack
 no_ring stack none = λ device below. none device (omega (arith, length-map stack.devices (device_links stack)))
 
-pub is_late_result : (stack : Description) (found : Option LoadFault) → HasNoCycle stack → found ≡ first_fault (checks_after stack) → IsLateResult stack found
-is_late_result stack (Some at) acyclic e = inr (acyclic, sym e)
-is_late_result stack None acyclic e = (acyclic, sym e)
-
 pub deepest_is : (stack : Description) (depths : List ℕ) → depths ≡ depths_to (links stack) 33 → greatest depths ≡ stack_depth stack
 deepest_is stack depths e =
     ap greatest e ∙ ap (λ (n : ℕ). greatest (map (depth_of stack) (range_with_len 0 n))) (length-map stack.devices (device_links stack))
-
-pub refused_late : (stack : Description) (at : LoadFault) → first_fault (checks_before stack) ≡ None → IsLateFault stack at → IsRefusedBy stack at
-refused_late stack at passed (inl ring) = OnCycle passed ring
-refused_late stack at passed (inr after) = Late passed after.0 after.1

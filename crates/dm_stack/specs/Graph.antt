@@ -1,5 +1,5 @@
 -- Devices that name one another, by their indexes: paths, what is reached, depths.
-use Rattle.std.specs.Prelude.{◌≡◌, ◌⊎◌, ◌↔◌, ℕ, zero, suc, ◌+◌, ◌<◌, max, Bool, true, false, not, List, [], ◌∷◌, length, map}
+use Rattle.std.specs.Prelude.{◌≡◌, ◌⊎◌, ◌↔◌, ℕ, zero, suc, ◌+◌, ◌<◌, max, Bool, true, false, not, List, [], ◌∷◌, Option, Some, None, length, map}
 use Rattle.std.specs.List.{Contains, count_by, range_with_len, slice_index_or}
 use Rattle.std.specs.Global.{Vec}
 
@@ -32,6 +32,11 @@ IsPath g d (m ∷ ms) e = Names g d m × IsPath g m ms e
 pub record Reaches (g : List (List ℕ)) (d e : ℕ) : Type 0 where
   pub between : List ℕ
   pub path : IsPath g d between e
+
+-- the first device that reaches itself, or that none does
+abbrev pub IsFirstRing : List (List ℕ) → Option ℕ → Type 0
+IsFirstRing g (Some d) = (d < length g) × (Reaches g d d) × ((e : ℕ) → e < d → Reaches g e e → ⊥)
+IsFirstRing g None = (d : ℕ) → d < length g → Reaches g d d → ⊥
 
 -- Depths
 

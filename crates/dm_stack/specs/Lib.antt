@@ -3,7 +3,6 @@ pub mod Claims
 pub mod Description
 pub mod Graph
 pub mod LineSearch
-pub mod Load
 pub mod Loaded
 pub mod NameIndex
 pub mod Naming

@@ -5,6 +5,7 @@
 
 ghost use Rattle.std.specs.Prelude.{◌≡◌, None, length, nat_lt};
 ghost use Rattle.std.specs.List.{slice_index_or};
+ghost use Rattle.std.specs.Result.{result_err};
 ghost use Rattle.dm_table.specs.LoadFault.{first_or};
 ghost use Rattle.dm_table.specs.declared.load_fault.LoadKind.TheVariants.{Deep};
 ghost use Rattle.dm_stack.specs.Graph.{greatest};
@@ -13,22 +14,22 @@ ghost use Rattle.dm_stack.specs.Soundness.{faults_by_id};
 use crate::graph::MOST_DEPTH;
 use dm_table::{DeviceSpec, LoadFault, LoadKind};
 
-/// The first device whose depth is above the limit.
+/// Fails at the first device whose depth is above the limit.
 ///
 /// Cost: a walk over the devices.
-pub(crate) fn deep(devices: &[DeviceSpec], depths: &[u32]) -> Option<LoadFault>
+pub(crate) fn check_depths(devices: &[DeviceSpec], depths: &[u32]) -> Result<(), LoadFault>
     requires { length depths.now ≡ length devices.now }
-    ensures { result ≡ first_or (faults_by_id Deep (λ id. nat_lt MOST_DEPTH (slice_index_or depths.now id 0)) 0 devices.now) None }
+    ensures { result_err result ≡ first_or (faults_by_id Deep (λ id. nat_lt MOST_DEPTH (slice_index_or depths.now id 0)) 0 devices.now) None }
 {
     for (id, device) in devices.iter().enumerate() {
         if MOST_DEPTH < depths[id] {
-            return Some(LoadFault {
+            return Err(LoadFault {
                 kind: LoadKind::Deep,
                 at: device.at,
             });
         }
     }
-    None
+    Ok(())
 }
 
 /// The greatest of these depths, 0 of none.

@@ -5,11 +5,12 @@
 
 ghost use Rattle.std.specs.Prelude.{◌≡◌, None, option_copied, slice_get};
 ghost use Rattle.std.specs.List.{list_any};
+ghost use Rattle.std.specs.Result.{result_err};
 ghost use Rattle.dm_table.specs.LoadFault.{first_or};
 ghost use Rattle.dm_stack.specs.Soundness.{all_lines, is_far, is_large, past, too_large, too_many};
 ghost use Rattle.dm_table.specs.Span.{spans};
 
-use crate::placed::{Placed, first_bad, first_line};
+use crate::placed::{Placed, check_each, check_lines};
 use crate::span::Spans;
 use dm_table::{DeviceSpec, Disk, Line, LoadFault, LoadKind};
 
@@ -37,34 +38,34 @@ pub const MOST_SNAPSHOT_CHUNK: u64 = 1024;
 /// The most places for chunks of all stores together.
 pub const MOST_PLACES: u64 = 4_194_304;
 
-/// The first device, or else disk, or else line, above the count that is allowed.
+/// Fails at the first device, or else disk, or else line, above the count that is allowed.
 ///
 /// Cost: a walk over the devices.
-pub(crate) fn too_many(devices: &[DeviceSpec], disks: &[Disk]) -> Option<LoadFault>
-    ensures { result ≡ first_or (too_many (record { devices = devices.now; disks = disks.now })) None }
+pub(crate) fn check_counts(devices: &[DeviceSpec], disks: &[Disk]) -> Result<(), LoadFault>
+    ensures { result_err result ≡ first_or (too_many (record { devices = devices.now; disks = disks.now })) None }
 {
-    if let Some(fault) = past(MOST_DEVICES, devices) {
-        return Some(fault);
+    check_count(MOST_DEVICES, devices)?;
+    check_count(MOST_DISKS, disks)?;
+    match line_at(devices, MOST_LINES) {
+        Some(line) => Err(LoadFault {
+            kind: LoadKind::Limit,
+            at: line.at,
+        }),
+        None => Ok(()),
     }
-    if let Some(fault) = past(MOST_DISKS, disks) {
-        return Some(fault);
-    }
-    let line = line_at(devices, MOST_LINES)?;
-    Some(LoadFault {
-        kind: LoadKind::Limit,
-        at: line.at,
-    })
 }
 
-/// The first element of a list that is one too many.
-fn past<T: Placed>(most: usize, list: &[T]) -> Option<LoadFault>
-    ensures { result ≡ first_or (past most T.place_of list.now) None }
+/// Fails at the first element of a list that is one too many.
+fn check_count<T: Placed>(most: usize, list: &[T]) -> Result<(), LoadFault>
+    ensures { result_err result ≡ first_or (past most T.place_of list.now) None }
 {
-    let item = list.get(most)?;
-    Some(LoadFault {
-        kind: LoadKind::Limit,
-        at: item.place(),
-    })
+    match list.get(most) {
+        Some(item) => Err(LoadFault {
+            kind: LoadKind::Limit,
+            at: item.place(),
+        }),
+        None => Ok(()),
+    }
 }
 
 /// The line of an index among the lines of all devices.
@@ -82,16 +83,14 @@ fn line_at(devices: &[DeviceSpec], index: usize) -> Option<&Line>
     None
 }
 
-/// The first line, or else the first disk, with a number above the limit.
+/// Fails at the first line, or else the first disk, with a number above the limit.
 ///
 /// Cost: a walk over the lines and their columns, and over the disks.
-pub(crate) fn too_large(devices: &[DeviceSpec], disks: &[Disk]) -> Option<LoadFault>
-    ensures { result ≡ first_or (too_large (record { devices = devices.now; disks = disks.now })) None }
+pub(crate) fn check_numbers(devices: &[DeviceSpec], disks: &[Disk]) -> Result<(), LoadFault>
+    ensures { result_err result ≡ first_or (too_large (record { devices = devices.now; disks = disks.now })) None }
 {
-    if let Some(fault) = first_line(LoadKind::Limit, devices, is_large) {
-        return Some(fault);
-    }
-    first_bad(LoadKind::Limit, disks, |disk| MOST_LENGTH < disk.len)
+    check_lines(LoadKind::Limit, devices, is_large)?;
+    check_each(LoadKind::Limit, disks, |disk| MOST_LENGTH < disk.len)
 }
 
 /// Whether a start, a length, an end or an offset is above the limit.

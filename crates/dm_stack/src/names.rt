@@ -10,8 +10,8 @@ ghost use Rattle.dm_table.specs.declared.place.Part.TheVariants.{Source};
 ghost use Rattle.dm_stack.specs.Soundness.{twice, twice_in};
 
 use crate::name_index::NameIndex;
-use crate::placed::Placed;
-use dm_table::{DeviceSpec, Disk, LoadFault, LoadKind, Part};
+use crate::placed::{Placed, out_of_memory};
+use dm_table::{DeviceSpec, Disk, LoadFault, LoadKind};
 use std::alloc::Global;
 
 /// What has a name: a device, or a disk.
@@ -45,11 +45,11 @@ pub(crate) struct Names {
     pub disks: NameIndex,
 }
 
-/// The names of a description, or the first device, and else the first disk, whose name an earlier
-/// one has.
+/// The names of a description. It fails at the first device, and else the first disk, whose name an
+/// earlier one has.
 ///
 /// Cost: near-linear, with memory for a copy of each name. `Memory` if that was refused.
-pub(crate) fn index_names(
+pub(crate) fn check_names(
     alloc: Global,
     devices: &[DeviceSpec],
     disks: &[Disk],
@@ -80,7 +80,7 @@ fn index_of<T: Named + Placed>(alloc: Global, list: &[T]) -> Result<NameIndex, L
                     at,
                 });
             }
-            Err(_) => return Err(LoadFault::memory(Part::Source)),
+            Err(_) => return Err(out_of_memory()),
         }
     }
     Ok(names)

@@ -2,14 +2,35 @@
 //!
 //! Faults are made here, at the place of the element itself, so that a check says only what is bad.
 
-ghost use Rattle.std.specs.Prelude.{◌≡◌, Bool, None};
+ghost use Rattle.std.specs.Prelude.{◌≡◌, Bool, IfErr, IfOk, None};
 ghost use Rattle.std.specs.Fn.{FnReturnsAt};
-ghost use Rattle.dm_table.specs.LoadFault.{faults_by, first_or};
+ghost use Rattle.std.specs.Result.{result_err};
+ghost use Rattle.dm_table.specs.LoadFault.{IsMemoryFault, faults_by, first_or};
+ghost use Rattle.dm_table.specs.declared.place.Part.TheVariants.{Source};
 ghost use Rattle.dm_table.specs.declared.place.Place.{Place};
 ghost use Rattle.dm_table.specs.declared.table.Line.{Line};
 ghost use Rattle.dm_stack.specs.Soundness.{all_lines};
 
-use dm_table::{DeviceSpec, Disk, Line, LoadFault, LoadKind, Place};
+use dm_table::{DeviceSpec, Disk, Line, LoadFault, LoadKind, Part, Place};
+use std::alloc::AllocError;
+
+/// The fault of a load that got no memory.
+pub(crate) fn out_of_memory() -> LoadFault
+    ensures { IsMemoryFault Source result }
+{
+    LoadFault::memory(Part::Source)
+}
+
+/// What was made, or that fault where it was not.
+pub(crate) fn or_out_of_memory<T>(made: Result<T, AllocError>) -> Result<T, LoadFault>
+    ensures made { IfOk result (λ value. made ≡ Ok value) }
+    ensures memory { IfErr result (λ fault. IsMemoryFault Source fault) }
+{
+    match made {
+        Ok(value) => Ok(value),
+        Err(_) => Err(out_of_memory()),
+    }
+}
 
 /// What a part of a load describes at a place: a device, a line of one, or a disk.
 pub(crate) trait Placed {
@@ -43,37 +64,35 @@ impl Placed for Disk {
     }
 }
 
-/// The fault of a kind at the first element of a list that is bad.
-pub(crate) fn first_bad<T: Placed, F: Fn(&T) -> bool>(
+/// Fails at the first element of a list that is bad, with the fault of a kind.
+pub(crate) fn check_each<T: Placed, F: Fn(&T) -> bool>(
     kind: LoadKind,
     list: &[T],
     is_bad: F,
-) -> Option<LoadFault>
+) -> Result<(), LoadFault>
     requires { F.IsAlwaysCallable is_bad }
-    ensures { (test : T → Bool) → ((item : T) (bad : Bool) → FnReturnsAt F.Fn is_bad item bad → bad ≡ test item) → result ≡ first_or (faults_by kind T.place_of test list.now) None }
+    ensures { (test : T → Bool) → ((item : T) (bad : Bool) → FnReturnsAt F.Fn is_bad item bad → bad ≡ test item) → result_err result ≡ first_or (faults_by kind T.place_of test list.now) None }
 {
     for item in list {
         if is_bad(item) {
             let at = item.place();
-            return Some(LoadFault { kind, at });
+            return Err(LoadFault { kind, at });
         }
     }
-    None
+    Ok(())
 }
 
-/// The fault of a kind at the first line of all devices that is bad.
-pub(crate) fn first_line<F: Fn(&Line) -> bool>(
+/// Fails at the first line of all devices that is bad, with the fault of a kind.
+pub(crate) fn check_lines<F: Fn(&Line) -> bool>(
     kind: LoadKind,
     devices: &[DeviceSpec],
     is_bad: F,
-) -> Option<LoadFault>
+) -> Result<(), LoadFault>
     requires { F.IsAlwaysCallable is_bad }
-    ensures { (test : Line → Bool) → ((line : Line) (bad : Bool) → FnReturnsAt F.Fn is_bad line bad → bad ≡ test line) → result ≡ first_or (faults_by kind (λ line. line.at) test (all_lines devices.now)) None }
+    ensures { (test : Line → Bool) → ((line : Line) (bad : Bool) → FnReturnsAt F.Fn is_bad line bad → bad ≡ test line) → result_err result ≡ first_or (faults_by kind (λ line. line.at) test (all_lines devices.now)) None }
 {
     for device in devices {
-        if let Some(fault) = first_bad(kind, device.lines.as_slice(), &is_bad) {
-            return Some(fault);
-        }
+        check_each(kind, device.lines.as_slice(), &is_bad)?;
     }
-    None
+    Ok(())
 }

@@ -4,21 +4,22 @@
 //! and no walk. The spans of a line say what it names, and how much of it.
 
 ghost use Rattle.std.specs.Prelude.{◌≡◌, None};
+ghost use Rattle.std.specs.Result.{result_err};
 ghost use Rattle.dm_table.specs.LoadFault.{first_or};
 ghost use Rattle.dm_stack.specs.Soundness.{is_past, passes_end, range};
 
 use crate::indexed::Indexed;
-use crate::placed::first_line;
+use crate::placed::check_lines;
 use crate::span::{Span, Spans};
 use dm_table::{Line, LoadFault, LoadKind};
 
-/// The first line that passes the end of what it names.
+/// Fails at the first line that passes the end of what it names.
 ///
 /// Cost: linear in the lines and their columns.
-pub(crate) fn range(stack: &Indexed) -> Option<LoadFault>
-    ensures { result ≡ first_or (range stack.now) None }
+pub(crate) fn check_ranges(stack: &Indexed) -> Result<(), LoadFault>
+    ensures { result_err result ≡ first_or (range stack.now) None }
 {
-    first_line(LoadKind::Range, stack.devices(), |line| {
+    check_lines(LoadKind::Range, stack.devices(), |line| {
         passes_end(stack, line)
     })
 }

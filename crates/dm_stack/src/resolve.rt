@@ -1,10 +1,11 @@
 //! Lines by ids: what each names is looked up once, while a stack is loaded.
 //!
-//! What is not there is found by `unknown`, which runs first; making lines by ids then asks for
+//! What is not there is found by `check_references`, which runs first; making lines by ids then asks for
 //! nothing. A new target is an arm of `target` here and of `found_target` in the specs.
 
 ghost use Rattle.std.specs.Prelude.{◌≡◌, IfOk, None, map};
 ghost use Rattle.std.specs.List.{All};
+ghost use Rattle.std.specs.Result.{result_err};
 ghost use Rattle.dm_table.specs.LoadFault.{first_or};
 ghost use Rattle.dm_stack.specs.Below.{found_columns, found_line, found_target};
 ghost use Rattle.dm_stack.specs.Loaded.{found_table};
@@ -16,18 +17,18 @@ use crate::found_columns::{FoundColumn, FoundColumns};
 use crate::found_line::{FoundLine, FoundOrigin, FoundOver, FoundTable, FoundTarget};
 use crate::indexed::Indexed;
 use crate::over::{all_over, found_snapshot, snapshots_over};
-use crate::placed::first_line;
+use crate::placed::check_lines;
 use crate::span::Spans;
 use dm_table::{Column, Line, LoadFault, LoadKind, Target};
 use std::alloc::{AllocError, Global};
 
-/// The first line that names a device or a disk that is not there.
+/// Fails at the first line that names a device or a disk that is not there.
 ///
 /// Cost: linear in the lines and their columns.
-pub(crate) fn unknown(stack: &Indexed) -> Option<LoadFault>
-    ensures { result ≡ first_or (unknown stack.now) None }
+pub(crate) fn check_references(stack: &Indexed) -> Result<(), LoadFault>
+    ensures { result_err result ≡ first_or (unknown stack.now) None }
 {
-    first_line(LoadKind::Unknown, stack.devices(), |line| {
+    check_lines(LoadKind::Unknown, stack.devices(), |line| {
         is_unknown(stack, line)
     })
 }

@@ -5,6 +5,7 @@
 //! names. Mapping relies on it, and divides by the chunk, so that no rule here may be let go.
 
 ghost use Rattle.std.specs.Prelude.{◌≡◌, ◌∷◌, ◌++◌, [], IfOk, None, OnOk, if◌then◌else◌};
+ghost use Rattle.std.specs.Result.{result_err};
 ghost use Rattle.dm_table.specs.LoadFault.{first_or};
 ghost use Rattle.dm_stack.specs.Loaded.{has_snapshot, snapshots};
 ghost use Rattle.dm_stack.specs.Soundness.{is_bad_chunk, is_bad_snapshot, snapshot, bad_snapshots_in};
@@ -12,31 +13,29 @@ ghost use Rattle.dm_stack.specs.Soundness.{is_bad_chunk, is_bad_snapshot, snapsh
 use crate::id::DeviceId;
 use crate::indexed::Indexed;
 use crate::limits::MOST_SNAPSHOT_CHUNK;
-use crate::placed::first_bad;
+use crate::placed::check_each;
 use dm_table::{DeviceSpec, Line, LoadFault, LoadKind, Target};
 use std::alloc::{AllocError, Global};
 
-/// The first line of a snapshot or of an origin that is not the only one of its table or is not as
-/// long as the origin that it names, or snapshot whose chunk is no power of two from 1 to 1,024
+/// Fails at the first line of a snapshot or of an origin that is not the only one of its table or is not
+/// as long as the origin that it names, or snapshot whose chunk is no power of two from 1 to 1,024
 /// sectors.
 ///
 /// Cost: a walk over the lines.
-pub(crate) fn bad_snapshots(stack: &Indexed) -> Option<LoadFault>
-    ensures { result ≡ first_or (snapshot stack.now) None }
+pub(crate) fn check_snapshots(stack: &Indexed) -> Result<(), LoadFault>
+    ensures { result_err result ≡ first_or (snapshot stack.now) None }
 {
     for device in stack.devices() {
-        if let Some(fault) = bad_snapshots_in(stack, device.lines.as_slice()) {
-            return Some(fault);
-        }
+        check_snapshots_in(stack, device.lines.as_slice())?;
     }
-    None
+    Ok(())
 }
 
-fn bad_snapshots_in(stack: &Indexed, lines: &[Line]) -> Option<LoadFault>
-    ensures { result ≡ first_or (bad_snapshots_in stack.now lines.now) None }
+fn check_snapshots_in(stack: &Indexed, lines: &[Line]) -> Result<(), LoadFault>
+    ensures { result_err result ≡ first_or (bad_snapshots_in stack.now lines.now) None }
 {
     let count = lines.len();
-    first_bad(LoadKind::Snapshot, lines, |line| {
+    check_each(LoadKind::Snapshot, lines, |line| {
         is_bad_snapshot(stack, count, line.len, &line.target)
     })
 }

@@ -2,6 +2,7 @@
 
 ghost use Rattle.std.specs.Prelude.{◌≡◌, None};
 ghost use Rattle.std.specs.List.{All};
+ghost use Rattle.std.specs.Result.{result_err};
 ghost use Rattle.dm_table.specs.LoadFault.{first_or};
 ghost use Rattle.dm_stack.specs.Soundness.{HasGoodChunk, HaveGoodChunks, crowded, target_places};
 
@@ -10,19 +11,19 @@ use crate::limits::MOST_PLACES;
 use crate::store_layout::places;
 use dm_table::{LoadFault, LoadKind, Target};
 
-/// The first snapshot whose store brings all stores together to more than 4,194,304 places.
+/// Fails at the first snapshot whose store brings all stores together to more than 4,194,304 places.
 ///
 /// Cost: a walk over the lines.
-pub(crate) fn crowded(stack: &Indexed) -> Option<LoadFault>
+pub(crate) fn check_places(stack: &Indexed) -> Result<(), LoadFault>
     requires { All (λ device. HaveGoodChunks device.lines) stack.now.devices }
-    ensures { result ≡ first_or (crowded stack.now) None }
+    ensures { result_err result ≡ first_or (crowded stack.now) None }
 {
     let mut used = 0;
     for device in stack.devices() {
         for line in device.lines.as_slice() {
             let places = target_places(stack, &line.target);
             if MOST_PLACES - used < places {
-                return Some(LoadFault {
+                return Err(LoadFault {
                     kind: LoadKind::Limit,
                     at: line.at,
                 });
@@ -30,7 +31,7 @@ pub(crate) fn crowded(stack: &Indexed) -> Option<LoadFault>
             used += places;
         }
     }
-    None
+    Ok(())
 }
 
 /// The places of the store of a line, where it has one.

@@ -6,6 +6,7 @@
 
 ghost use Rattle.std.specs.Prelude.{◌≡◌, IfOk, None};
 ghost use Rattle.std.specs.List.{list_all};
+ghost use Rattle.std.specs.Result.{result_err};
 ghost use Rattle.dm_table.specs.LoadFault.{first_or};
 ghost use Rattle.dm_stack.specs.Description.{links};
 ghost use Rattle.dm_stack.specs.Graph.{IsClosed, depths_to, links_in};
@@ -15,7 +16,7 @@ ghost use Rattle.dm_stack.specs.Store.{has_deep_store, is_plain, is_shallow, may
 use crate::graph::{MOST_DEPTH, depths};
 use crate::id::Lower;
 use crate::indexed::Indexed;
-use crate::placed::first_line;
+use crate::placed::check_lines;
 use dm_table::{DeviceSpec, Line, LoadFault, LoadKind, Target};
 use std::alloc::{AllocError, Global};
 
@@ -83,14 +84,14 @@ fn is_plain(target: &Target) -> bool
     }
 }
 
-/// The first snapshot whose store may not be one, by the depths that `store_depths` returns.
+/// Fails at the first snapshot whose store may not be one, by the depths that `store_depths` returns.
 ///
 /// Cost: a walk over the lines.
-pub(crate) fn bad_stores(stack: &Indexed, depths: &[u32]) -> Option<LoadFault>
+pub(crate) fn check_stores(stack: &Indexed, depths: &[u32]) -> Result<(), LoadFault>
     requires { depths.now ≡ depths_to (store_links stack.now) 33 }
-    ensures { result ≡ first_or (store stack.now) None }
+    ensures { result_err result ≡ first_or (store stack.now) None }
 {
-    first_line(LoadKind::Store, stack.devices(), |line| {
+    check_lines(LoadKind::Store, stack.devices(), |line| {
         has_deep_store(stack, depths, &line.target)
     })
 }

@@ -5,21 +5,22 @@
 //! and by the chunk, so neither may be 0; change a rule here and in `is_bad_stripe` of the specs.
 
 ghost use Rattle.std.specs.Prelude.{◌≡◌, [], None};
+ghost use Rattle.std.specs.Result.{result_err};
 ghost use Rattle.dm_table.specs.LoadFault.{first_or};
 ghost use Rattle.dm_stack.specs.Soundness.{has_bad_stripes, is_bad_stripe, stripe};
 
 use crate::limits::{MOST_CHUNK, MOST_STRIPES};
-use crate::placed::first_line;
+use crate::placed::check_lines;
 use dm_table::{DeviceSpec, Line, LoadFault, LoadKind, Target};
 
-/// The first striped line with no column or more than 128, a chunk of 0 or above 2^32 - 1 sectors,
-/// or a length that the columns, or the chunks of a column, do not divide.
+/// Fails at the first striped line with no column or more than 128, a chunk of 0 or above 2^32 - 1
+/// sectors, or a length that the columns, or the chunks of a column, do not divide.
 ///
 /// Cost: a walk over the lines.
-pub(crate) fn bad_stripes(devices: &[DeviceSpec]) -> Option<LoadFault>
-    ensures { result ≡ first_or (stripe (record { devices = devices.now; disks = [] })) None }
+pub(crate) fn check_stripes(devices: &[DeviceSpec]) -> Result<(), LoadFault>
+    ensures { result_err result ≡ first_or (stripe (record { devices = devices.now; disks = [] })) None }
 {
-    first_line(LoadKind::Stripe, devices, has_bad_stripes)
+    check_lines(LoadKind::Stripe, devices, has_bad_stripes)
 }
 
 fn has_bad_stripes(line: &Line) -> bool
