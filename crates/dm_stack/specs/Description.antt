@@ -16,6 +16,10 @@ pub record Description : Type 0 where
   pub devices : List DeviceSpec
   pub disks : List Disk
 
+-- that of these lists
+abbrev pub described : List DeviceSpec → List Disk → Description
+described devices disks = record { devices = devices; disks = disks }
+
 -- one text
 abbrev pub is_same : List ℕ → List ℕ → Bool
 is_same = pointwise nat_eq

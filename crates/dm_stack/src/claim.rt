@@ -42,7 +42,8 @@ pub(crate) fn may_share(one: Use, other: Use) -> bool
 /// No line passes the end of what it names. Fails only when out of memory. Cost: linear in the
 /// lines and their columns.
 pub(crate) fn claims(alloc: Global, stack: &Indexed) -> Result<Vec<Claim>, AllocError>
-    requires { All (λ device. All (λ line. passes_end stack.now line ≡ false) device.lines) stack.now.devices }
+    requires { All (λ device. All (λ line. passes_end stack.now line ≡ false) device.lines)
+        stack.now.devices }
     ensures { IfOk result (λ all. all.items ≡ claims stack.now) }
 {
     let mut claims = Vec::new(alloc);
@@ -65,7 +66,8 @@ fn add_lines(
     lines: &[Line],
 ) -> Result<(), AllocError>
     requires { All (λ line. passes_end stack.now line ≡ false) lines.now }
-    ensures { OnOk result (claims.new.items ≡ claims.old.items ++ flat_map (line_claims stack.now device) lines.now) }
+    ensures { OnOk result
+        (claims.new.items ≡ claims.old.items ++ flat_map (line_claims stack.now device) lines.now) }
 {
     for line in lines {
         add_line(claims, stack, device, line)?;

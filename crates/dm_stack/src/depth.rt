@@ -19,7 +19,8 @@ use dm_table::{DeviceSpec, LoadFault, LoadKind};
 /// Cost: a walk over the devices.
 pub(crate) fn check_depths(devices: &[DeviceSpec], depths: &[u32]) -> Result<(), LoadFault>
     requires { length depths.now ≡ length devices.now }
-    ensures { result_err result ≡ first_or (faults_by_id Deep (λ id. nat_lt MOST_DEPTH (slice_index_or depths.now id 0)) 0 devices.now) None }
+    ensures { result_err result ≡ first_or
+        (faults_by_id Deep (λ id. nat_lt MOST_DEPTH (slice_index_or depths.now id 0)) 0 devices.now) None }
 {
     for (id, device) in devices.iter().enumerate() {
         if MOST_DEPTH < depths[id] {

@@ -22,7 +22,8 @@ impl Model for Divisor {
 
     ghost view = { λ divisor. divisor.value };
 
-    ghost invariant = { λ divisor. 0 < divisor.value → (divisor.inverse * divisor.value ≤ 2 ^ 64) × (2 ^ 64 ≤ divisor.inverse * divisor.value + divisor.value) };
+    ghost invariant = { λ divisor. 0 < divisor.value → (divisor.inverse * divisor.value ≤ 2 ^ 64)
+        × (2 ^ 64 ≤ divisor.inverse * divisor.value + divisor.value) };
 }
 
 impl Divisor {

@@ -108,9 +108,12 @@ pub(crate) fn first_cycle(
 ) -> Result<Option<usize>, AllocError>
     requires closed { IsClosed (links_in links.now) }
     requires depths { depths.now ≡ depths_to (links_in links.now) 33 }
-    ensures found { IfOk result (λ found. IfSome found (λ d. d < length links.now × Reaches (links_in links.now) d d)) }
-    ensures first { IfOk result (λ found. IfSome found (λ d. (e : ℕ) → e < d → Reaches (links_in links.now) e e → ⊥)) }
-    ensures none { IfOk result (λ found. IfNone found ((d : ℕ) → d < length links.now → Reaches (links_in links.now) d d → ⊥)) }
+    ensures found { IfOk result (λ found. IfSome found
+        (λ d. d < length links.now × Reaches (links_in links.now) d d)) }
+    ensures first { IfOk result (λ found. IfSome found
+        (λ d. (e : ℕ) → e < d → Reaches (links_in links.now) e e → ⊥)) }
+    ensures none { IfOk result (λ found. IfNone found
+        ((d : ℕ) → d < length links.now → Reaches (links_in links.now) d d → ⊥)) }
 {
     for (device, depth) in depths.iter().enumerate() {
         if *depth > MOST_DEPTH && reaches_itself(alloc, links, device)? {

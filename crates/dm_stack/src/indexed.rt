@@ -5,7 +5,7 @@
 
 ghost use Rattle.std.specs.Prelude.{◌≡◌, map};
 ghost use Rattle.std.specs.List.{All};
-ghost use Rattle.dm_stack.specs.Description.{device_id, disk_id, lower_len, lower_of};
+ghost use Rattle.dm_stack.specs.Description.{described, device_id, disk_id, lower_len, lower_of};
 ghost use Rattle.dm_stack.specs.Soundness.{HaveSmallEnds, is_unknown_ref};
 
 use crate::id::{DeviceId, DiskId, Lower};
@@ -25,14 +25,15 @@ pub(crate) struct Indexed<'a> {
 }
 
 impl<'a> Model for Indexed<'a> {
-    ghost use Rattle.dm_stack.specs.Description.{Description};
+    ghost use Rattle.dm_stack.specs.Description.{Description, described};
     ghost use Rattle.dm_stack.specs.NameIndex.{AreIndexed};
 
     ghost Value = { Description };
 
     ghost view = { λ stack. record { devices = stack.devices.now; disks = stack.disks.now } };
 
-    ghost invariant = { λ stack. AreIndexed (record { devices = stack.devices.now; disks = stack.disks.now }) stack.device_names.now stack.disk_names.now };
+    ghost invariant = { λ stack. AreIndexed (described stack.devices.now stack.disks.now)
+        stack.device_names.now stack.disk_names.now };
 }
 
 impl<'a> Indexed<'a> {
@@ -45,7 +46,7 @@ impl<'a> Indexed<'a> {
         requires devices { device_names.now ≡ map (λ device. device.name) devices.now }
         requires disks { disk_names.now ≡ map (λ disk. disk.name) disks.now }
         requires small { All (λ device. HaveSmallEnds device.lines) devices.now }
-        ensures { result ≡ record { devices = devices.now; disks = disks.now } }
+        ensures { result ≡ described devices.now disks.now }
     {
         Indexed {
             devices,

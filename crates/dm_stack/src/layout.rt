@@ -7,7 +7,7 @@ ghost use Rattle.std.specs.Prelude.{◌≡◌, [], None};
 ghost use Rattle.std.specs.List.{All, flat_map};
 ghost use Rattle.std.specs.Result.{result_err};
 ghost use Rattle.dm_table.specs.LoadFault.{first_or};
-ghost use Rattle.dm_stack.specs.Description.{end_of};
+ghost use Rattle.dm_stack.specs.Description.{described, end_of};
 ghost use Rattle.dm_stack.specs.Soundness.{HaveSmallEnds, empty, empty_in, misplaced, misplaced_in};
 
 use crate::placed::check_each;
@@ -17,7 +17,7 @@ use dm_table::{DeviceSpec, Disk, Line, LoadFault, LoadKind};
 ///
 /// Cost: a walk over the lines and the disks.
 pub(crate) fn check_lengths(devices: &[DeviceSpec], disks: &[Disk]) -> Result<(), LoadFault>
-    ensures { result_err result ≡ first_or (empty (record { devices = devices.now; disks = disks.now })) None }
+    ensures { result_err result ≡ first_or (empty (described devices.now disks.now)) None }
 {
     check_line_lengths(devices)?;
     check_each(LoadKind::Empty, disks, |disk| disk.len == 0)
@@ -50,7 +50,7 @@ fn check_lengths_in(device: &DeviceSpec) -> Result<(), LoadFault>
 /// Its sums need ends within the limit. Cost: a walk over the lines.
 pub(crate) fn check_starts(devices: &[DeviceSpec]) -> Result<(), LoadFault>
     requires { All (λ device. HaveSmallEnds device.lines) devices.now }
-    ensures { result_err result ≡ first_or (misplaced (record { devices = devices.now; disks = [] })) None }
+    ensures { result_err result ≡ first_or (misplaced (described devices.now [])) None }
 {
     for device in devices {
         check_starts_in(device.lines.as_slice())?;

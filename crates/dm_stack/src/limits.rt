@@ -9,6 +9,7 @@ ghost use Rattle.std.specs.Result.{result_err};
 ghost use Rattle.dm_table.specs.LoadFault.{first_or};
 ghost use Rattle.dm_stack.specs.Soundness.{all_lines, is_far, is_large, past, too_large, too_many};
 ghost use Rattle.dm_table.specs.Span.{spans};
+ghost use Rattle.dm_stack.specs.Description.{described};
 
 use crate::placed::{Placed, check_each, check_lines};
 use crate::span::Spans;
@@ -42,7 +43,7 @@ pub const MOST_PLACES: u64 = 4_194_304;
 ///
 /// Cost: a walk over the devices.
 pub(crate) fn check_counts(devices: &[DeviceSpec], disks: &[Disk]) -> Result<(), LoadFault>
-    ensures { result_err result ≡ first_or (too_many (record { devices = devices.now; disks = disks.now })) None }
+    ensures { result_err result ≡ first_or (too_many (described devices.now disks.now)) None }
 {
     check_count(MOST_DEVICES, devices)?;
     check_count(MOST_DISKS, disks)?;
@@ -87,7 +88,7 @@ fn line_at(devices: &[DeviceSpec], index: usize) -> Option<&Line>
 ///
 /// Cost: a walk over the lines and their columns, and over the disks.
 pub(crate) fn check_numbers(devices: &[DeviceSpec], disks: &[Disk]) -> Result<(), LoadFault>
-    ensures { result_err result ≡ first_or (too_large (record { devices = devices.now; disks = disks.now })) None }
+    ensures { result_err result ≡ first_or (too_large (described devices.now disks.now)) None }
 {
     check_lines(LoadKind::Limit, devices, is_large)?;
     check_each(LoadKind::Limit, disks, |disk| MOST_LENGTH < disk.len)

@@ -47,7 +47,8 @@ pub(crate) fn find(
     requires follows { last.old.device ≡ device → last.old.end ≡ sector
         → StartsBy lines.now (last.old.index + 1) sector × StartsAfter lines.now (last.old.index + 2) sector }
     ensures found { Finds lines.now sector result }
-    ensures last { (last.new ≡ last.old) ⊎ (last.new.device ≡ device × EndsAt lines.now last.new.index last.new.end) }
+    ensures last { (last.new ≡ last.old)
+        ⊎ (last.new.device ≡ device × EndsAt lines.now last.new.index last.new.end) }
 {
     if lines.len() < 4 {
         find_of_few(lines, sector)

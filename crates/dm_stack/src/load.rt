@@ -6,7 +6,7 @@
 ghost use Rattle.std.specs.Prelude.{◌≡◌, ◌⊎◌, IfErr, IfOk, OnOk};
 ghost use Rattle.dm_table.specs.LoadFault.{IsMemoryFault};
 ghost use Rattle.dm_table.specs.declared.place.Part.TheVariants.{Source};
-ghost use Rattle.dm_stack.specs.Description.{links};
+ghost use Rattle.dm_stack.specs.Description.{described, links};
 ghost use Rattle.dm_stack.specs.Graph.{IsClosed, IsFirstRing, depths_to};
 ghost use Rattle.dm_stack.specs.Loaded.{IsLoaded};
 ghost use Rattle.dm_stack.specs.Soundness.{HasNoCycle, IsFirstCycle, IsRefusedBy};
@@ -59,8 +59,11 @@ pub(crate) fn check(
     devices: &[DeviceSpec],
     disks: &[Disk],
 ) -> Result<Checked, LoadFault>
-    ensures loaded { IfOk result (λ checked. IsLoaded (record { devices = devices.now; disks = disks.now }) checked.names.devices checked.names.disks checked.tables.items checked.depth checked.snapshots.items checked.texts.items) }
-    ensures fault { IfErr result (λ fault. IsRefusedBy (record { devices = devices.now; disks = disks.now }) fault ⊎ IsMemoryFault Source fault) }
+    ensures loaded { IfOk result (λ checked. IsLoaded (described devices.now disks.now)
+        checked.names.devices checked.names.disks checked.tables.items checked.depth
+        checked.snapshots.items checked.texts.items) }
+    ensures fault { IfErr result (λ fault.
+        IsRefusedBy (described devices.now disks.now) fault ⊎ IsMemoryFault Source fault) }
 {
     check_counts(devices, disks)?;
     check_numbers(devices, disks)?;

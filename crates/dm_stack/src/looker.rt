@@ -32,7 +32,11 @@ impl<'s> Model for Looker<'s> {
 
     ghost Value = { Looking };
 
-    ghost view = { λ looker. record { stack = looker.stack.now; searches = looker.searches; comparisons = looker.comparisons } };
+    ghost view = { λ looker. record {
+      stack = looker.stack.now;
+      searches = looker.searches;
+      comparisons = looker.comparisons;
+    } };
 
     ghost invariant = { λ looker. IsLast looker.stack.now looker.last };
 }
@@ -66,12 +70,15 @@ impl<'s> Looker<'s> {
         requires sector { sector < device_len self.old.stack device }
         ensures line { found_at self.old.stack device sector ≡ Some result.now }
         ensures holds { HoldsSoundly self.old.stack device result.now sector }
-        ensures all { (other : ℕ) → result.now.start ≤ other → other < result.now.start + result.now.len → found_at self.old.stack device other ≡ Some result.now }
+        ensures all { (other : ℕ) → result.now.start ≤ other → other < result.now.start + result.now.len
+            → found_at self.old.stack device other ≡ Some result.now }
         ensures stack { self.new.stack ≡ self.old.stack }
         ensures counted { self.new.searches ≡ next_count self.old.searches }
         ensures grown { self.old.comparisons ≤ self.new.comparisons }
-        ensures few { self.new.comparisons ≤ self.old.comparisons + binary_digits (length (lines_at self.old.stack device)) }
-        ensures most { self.new.comparisons ≤ self.old.comparisons + 17 * (self.new.searches - self.old.searches) }
+        ensures few { self.new.comparisons
+            ≤ self.old.comparisons + binary_digits (length (lines_at self.old.stack device)) }
+        ensures most { self.new.comparisons
+            ≤ self.old.comparisons + 17 * (self.new.searches - self.old.searches) }
     {
         let stack = self.stack;
         let (line, comparisons) = stack.find_line(device, sector, &mut self.last);

@@ -41,7 +41,8 @@ impl NameIndex {
     /// Cost: about the same at any number of names, with memory for a copy of the name.
     pub(crate) fn add(&mut self, alloc: Global, name: &str) -> Result<bool, AllocError>
         ensures new { IfOk result (λ new. new ≡ not (list_any (λ other. is_same other name.now) self.old)) }
-        ensures added { IfOk result (λ new. self.new ≡ (if new then self.old ++ name.now ∷ [] else self.old)) }
+        ensures added { IfOk result
+            (λ new. self.new ≡ (if new then self.old ++ name.now ∷ [] else self.old)) }
     {
         let name = String::from_str(alloc, name)?;
         match self.names.insert(name) {

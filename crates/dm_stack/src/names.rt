@@ -7,6 +7,7 @@ ghost use Rattle.std.specs.Prelude.{◌≡◌, ◌≢◌, ℕ, IfErr, IfOk, List
 ghost use Rattle.dm_table.specs.LoadFault.{Answers, IsMemoryFault, first_or, unless};
 ghost use Rattle.dm_table.specs.declared.load_fault.LoadKind.TheVariants.{Memory};
 ghost use Rattle.dm_table.specs.declared.place.Part.TheVariants.{Source};
+ghost use Rattle.dm_stack.specs.Description.{described};
 ghost use Rattle.dm_stack.specs.Soundness.{twice, twice_in};
 
 use crate::name_index::NameIndex;
@@ -56,8 +57,9 @@ pub(crate) fn check_names(
 ) -> Result<Names, LoadFault>
     ensures devices { IfOk result (λ names. names.devices ≡ map (λ device. device.name) devices.now) }
     ensures disks { IfOk result (λ names. names.disks ≡ map (λ disk. disk.name) disks.now) }
-    ensures apart { OnOk result (first_or (twice (record { devices = devices.now; disks = disks.now })) None ≡ None) }
-    ensures fault { IfErr result (λ fault. fault.kind ≢ Memory → first_or (twice (record { devices = devices.now; disks = disks.now })) None ≡ Some fault) }
+    ensures apart { OnOk result (first_or (twice (described devices.now disks.now)) None ≡ None) }
+    ensures fault { IfErr result (λ fault. fault.kind ≢ Memory
+        → first_or (twice (described devices.now disks.now)) None ≡ Some fault) }
     ensures memory { IfErr result (λ fault. fault.kind ≡ Memory → IsMemoryFault Source fault) }
 {
     let devices = index_of(alloc, devices)?;
@@ -67,7 +69,8 @@ pub(crate) fn check_names(
 
 /// The names of a list by their places, or the first element whose name an earlier one has.
 fn index_of<T: Named + Placed>(alloc: Global, list: &[T]) -> Result<NameIndex, LoadFault>
-    ensures { Answers Source (λ index. index) result (unless (first_or (twice_in T.name_of T.place_of list.now) None) (map T.name_of list.now)) }
+    ensures { Answers Source (λ index. index) result
+        (unless (first_or (twice_in T.name_of T.place_of list.now) None) (map T.name_of list.now)) }
 {
     let mut names = NameIndex::new(alloc);
     for item in list {

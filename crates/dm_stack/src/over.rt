@@ -38,7 +38,8 @@ fn add_lines(
     lines: &[Line],
 ) -> Result<(), AllocError>
     requires { HaveGoodChunks lines.now }
-    ensures { OnOk result (over.new.items ≡ over.old.items ++ flat_map (λ line. over_of stack.now device line.target) lines.now) }
+    ensures { OnOk result (over.new.items
+        ≡ over.old.items ++ flat_map (λ line. over_of stack.now device line.target) lines.now) }
 {
     for line in lines {
         add_line(over, stack, device, &line.target)?;

@@ -71,7 +71,9 @@ pub(crate) fn check_each<T: Placed, F: Fn(&T) -> bool>(
     is_bad: F,
 ) -> Result<(), LoadFault>
     requires { F.IsAlwaysCallable is_bad }
-    ensures { (test : T → Bool) → ((item : T) (bad : Bool) → FnReturnsAt F.Fn is_bad item bad → bad ≡ test item) → result_err result ≡ first_or (faults_by kind T.place_of test list.now) None }
+    ensures { (test : T → Bool)
+        → ((item : T) (bad : Bool) → FnReturnsAt F.Fn is_bad item bad → bad ≡ test item)
+        → result_err result ≡ first_or (faults_by kind T.place_of test list.now) None }
 {
     for item in list {
         if is_bad(item) {
@@ -89,7 +91,9 @@ pub(crate) fn check_lines<F: Fn(&Line) -> bool>(
     is_bad: F,
 ) -> Result<(), LoadFault>
     requires { F.IsAlwaysCallable is_bad }
-    ensures { (test : Line → Bool) → ((line : Line) (bad : Bool) → FnReturnsAt F.Fn is_bad line bad → bad ≡ test line) → result_err result ≡ first_or (faults_by kind (λ line. line.at) test (all_lines devices.now)) None }
+    ensures { (test : Line → Bool)
+        → ((line : Line) (bad : Bool) → FnReturnsAt F.Fn is_bad line bad → bad ≡ test line)
+        → result_err result ≡ first_or (faults_by kind (λ line. line.at) test (all_lines devices.now)) None }
 {
     for device in devices {
         check_each(kind, device.lines.as_slice(), &is_bad)?;

@@ -95,7 +95,8 @@ impl Reaches {
     /// Adds a claim.
     pub(crate) fn add(&mut self, claim: &Claim)
         requires { IsCounted (length self.old.devices.items) (length self.old.disks.items) claim.now.to }
-        ensures reach { (lower : Lower) → reach_at self.new lower ≡ (if is_same_lower claim.now.to lower then reach_with (reach_at self.old lower) claim.now else reach_at self.old lower) }
+        ensures reach { (lower : Lower) → reach_at self.new lower ≡ (if is_same_lower claim.now.to lower
+            then reach_with (reach_at self.old lower) claim.now else reach_at self.old lower) }
         ensures devices { length self.new.devices.items ≡ length self.old.devices.items }
         ensures disks { length self.new.disks.items ≡ length self.old.disks.items }
     {

@@ -17,7 +17,8 @@ use std::alloc::{AllocError, Global};
 pub fn check_report(alloc: Global, stack: &Stack) -> Result<String, AllocError>
     ensures text { IfOk result (λ text. IsReport stack.now (string_bytes text)) }
     // A stack has no other report.
-    ensures one { (description : Description) (text other : List ℕ) → IsReport description text → IsReport description other → text ≡ other }
+    ensures one { (description : Description) (text other : List ℕ)
+        → IsReport description text → IsReport description other → text ≡ other }
 {
     let tidiness = tidiness_text(alloc, stack)?;
     format!(in alloc;

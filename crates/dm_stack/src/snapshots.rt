@@ -7,6 +7,7 @@
 ghost use Rattle.std.specs.Prelude.{◌≡◌, ◌∷◌, ◌++◌, [], IfOk, None, OnOk, if◌then◌else◌};
 ghost use Rattle.std.specs.Result.{result_err};
 ghost use Rattle.dm_table.specs.LoadFault.{first_or};
+ghost use Rattle.dm_stack.specs.Description.{described};
 ghost use Rattle.dm_stack.specs.Loaded.{has_snapshot, snapshots};
 ghost use Rattle.dm_stack.specs.Soundness.{is_bad_chunk, is_bad_snapshot, snapshot, bad_snapshots_in};
 
@@ -63,7 +64,7 @@ fn is_bad_chunk(chunk: u64) -> bool
 ///
 /// Fails only when out of memory. Cost: a walk over the lines, with memory for an id a snapshot.
 pub(crate) fn snapshots(alloc: Global, devices: &[DeviceSpec]) -> Result<Vec<DeviceId>, AllocError>
-    ensures { IfOk result (λ ids. ids.items ≡ snapshots (record { devices = devices.now; disks = [] })) }
+    ensures { IfOk result (λ ids. ids.items ≡ snapshots (described devices.now [])) }
 {
     let mut ids = Vec::new(alloc);
     for (id, device) in devices.iter().enumerate() {
@@ -74,7 +75,8 @@ pub(crate) fn snapshots(alloc: Global, devices: &[DeviceSpec]) -> Result<Vec<Dev
 
 /// Adds the id of a device that has a snapshot's line.
 fn add_snapshot(ids: &mut Vec<DeviceId>, id: usize, lines: &[Line]) -> Result<(), AllocError>
-    ensures { OnOk result (ids.new.items ≡ ids.old.items ++ (if has_snapshot lines.now then id ∷ [] else [])) }
+    ensures { OnOk result
+        (ids.new.items ≡ ids.old.items ++ (if has_snapshot lines.now then id ∷ [] else [])) }
 {
     if has_snapshot(lines) {
         ids.push(DeviceId::new(id))?;

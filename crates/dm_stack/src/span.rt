@@ -26,7 +26,12 @@ impl<'a> Model for Span<'a> {
 
     ghost Value = { Span };
 
-    ghost view = { λ span. record { to = span.to.now; offset = span.offset; len = span.len; kind = span.kind } };
+    ghost view = { λ span. record {
+      to = span.to.now;
+      offset = span.offset;
+      len = span.len;
+      kind = span.kind;
+    } };
 }
 
 /// The spans of a line that are left.

@@ -3,18 +3,23 @@
 //! The invariant carries the soundness, so nothing above asks for it again: a value is made only
 //! through the checks of a load. Names are looked up there; afterwards everything goes by ids.
 
-ghost use Rattle.std.specs.Prelude.{◌≡◌, ◌≢◌, ℕ, ◌+◌, ◌<◌, ◌≤◌, ◌^◌, ◌↔◌, IfErr, IfOk, IfSome, IsTrue, OnOk, List, Option, Some, is_none, length, position, slice_get};
+ghost use Rattle.std.specs.Prelude.{◌≡◌, ◌≢◌, ℕ, ◌+◌, ◌<◌, ◌≤◌, ◌^◌, ◌↔◌, IfErr, IfOk, IfSome, IsTrue, OnOk};
+ghost use Rattle.std.specs.Prelude.{List, Option, Some, is_none, length, position, slice_get};
 ghost use Rattle.dm_table.specs.Name.{is_disk_name};
 ghost use Rattle.dm_stack.specs.Below.{HoldsSoundly, found_at, found_lines};
 ghost use Rattle.dm_stack.specs.Claims.{IsFirstClash, IsThere, IsTidy, IsTop, claims};
-ghost use Rattle.dm_stack.specs.Description.{Description, device_len, disk_len, is_ro_at, is_same, name_at, disk_name_at, lines_at};
-ghost use Rattle.dm_stack.specs.Loaded.{IsDeeperByOne, IsLength, all_places, disk_text, snapshots, stack_depth, AreSnapshots};
+ghost use Rattle.dm_stack.specs.Description.{Description, described, device_len, disk_len, is_ro_at, is_same};
+ghost use Rattle.dm_stack.specs.Description.{name_at, disk_name_at, lines_at};
+ghost use Rattle.dm_stack.specs.Loaded.{IsDeeperByOne, IsLength, all_places, disk_text, snapshots};
+ghost use Rattle.dm_stack.specs.Loaded.{stack_depth, AreSnapshots};
 ghost use Rattle.dm_stack.specs.LineSearch.{IsLast, binary_digits};
 ghost use Rattle.dm_stack.specs.Soundness.{IsRefusedBy, IsSound};
 ghost use Rattle.dm_stack.specs.declared.claim.Claim.{Claim};
 ghost use Rattle.dm_stack.specs.declared.clash.Clash.{Clash};
 ghost use Rattle.dm_stack.specs.declared.graph.TheConstants.{MOST_DEPTH};
-ghost use Rattle.dm_stack.specs.declared.limits.TheConstants.{MOST_CHUNK, MOST_DEVICES, MOST_DISKS, MOST_LENGTH, MOST_LINES, MOST_PLACES, MOST_SNAPSHOT_CHUNK, MOST_STRIPES};
+ghost use Rattle.dm_stack.specs.declared.limits.TheConstants.{MOST_CHUNK, MOST_DEVICES, MOST_DISKS};
+ghost use Rattle.dm_stack.specs.declared.limits.TheConstants.{MOST_LENGTH, MOST_LINES, MOST_PLACES};
+ghost use Rattle.dm_stack.specs.declared.limits.TheConstants.{MOST_SNAPSHOT_CHUNK, MOST_STRIPES};
 ghost use Rattle.dm_table.specs.LoadFault.{IsMemoryFault};
 ghost use Rattle.dm_table.specs.declared.load_fault.LoadFault.{LoadFault};
 ghost use Rattle.dm_table.specs.declared.load_fault.LoadKind.TheVariants.{Memory};
@@ -49,14 +54,16 @@ pub struct Stack {
 }
 
 impl Model for Stack {
-    ghost use Rattle.dm_stack.specs.Description.{Description};
+    ghost use Rattle.dm_stack.specs.Description.{Description, described};
     ghost use Rattle.dm_stack.specs.Loaded.{IsLoaded};
 
     ghost Value = { Description };
 
     ghost view = { λ stack. record { devices = stack.devices.items; disks = stack.disks.items } };
 
-    ghost invariant = { λ stack. IsLoaded (record { devices = stack.devices.items; disks = stack.disks.items }) stack.device_names stack.disk_names stack.tables.items stack.depth stack.snapshots.items stack.texts.items };
+    ghost invariant = { λ stack. IsLoaded (described stack.devices.items stack.disks.items)
+        stack.device_names stack.disk_names stack.tables.items stack.depth stack.snapshots.items
+        stack.texts.items };
 }
 
 impl Stack {
@@ -103,14 +110,17 @@ impl Stack {
     ) -> Result<Stack, LoadFault>
         ensures devices { IfOk result (λ stack. stack.devices ≡ devices.items) }
         ensures disks { IfOk result (λ stack. stack.disks ≡ disks.items) }
-        ensures sound { OnOk result (IsSound (record { devices = devices.items; disks = disks.items })) }
-        ensures fault { IfErr result (λ fault. fault.kind ≢ Memory → IsRefusedBy (record { devices = devices.items; disks = disks.items }) fault) }
+        ensures sound { OnOk result (IsSound (described devices.items disks.items)) }
+        ensures fault { IfErr result (λ fault. fault.kind ≢ Memory
+            → IsRefusedBy (described devices.items disks.items) fault) }
         ensures memory { IfErr result (λ fault. fault.kind ≡ Memory → IsMemoryFault Source fault) }
-        ensures one { (stack : Description) (found other : LoadFault) → IsRefusedBy stack found → IsRefusedBy stack other → found ≡ other }
-        ensures never { (stack : Description) (found : LoadFault) → IsSound stack → IsRefusedBy stack found → ⊥ }
+        ensures one { (stack : Description) (found other : LoadFault)
+            → IsRefusedBy stack found → IsRefusedBy stack other → found ≡ other }
+        ensures never { (stack : Description) (found : LoadFault)
+            → IsSound stack → IsRefusedBy stack found → ⊥ }
         // The figures of the limits.
-        ensures limits { (MOST_DEVICES ≡ 1024) × (MOST_DISKS ≡ 1024) × (MOST_LINES ≡ 65536) × (MOST_DEPTH ≡ 32)
-            × (MOST_LENGTH ≡ 2 ^ 50) × (MOST_STRIPES ≡ 128) × (MOST_CHUNK + 1 ≡ 2 ^ 32)
+        ensures limits { (MOST_DEVICES ≡ 1024) × (MOST_DISKS ≡ 1024) × (MOST_LINES ≡ 65536)
+            × (MOST_DEPTH ≡ 32) × (MOST_LENGTH ≡ 2 ^ 50) × (MOST_STRIPES ≡ 128) × (MOST_CHUNK + 1 ≡ 2 ^ 32)
             × (MOST_SNAPSHOT_CHUNK ≡ 1024) × (MOST_PLACES ≡ 4194304) }
     {
         let checked = check(alloc, &devices, &disks)?;
@@ -233,7 +243,8 @@ impl Stack {
         // What it names is there.
         ensures there { IfOk result (λ found. IfSome found (IsThere self.now)) }
         // Claims have no other clash.
-        ensures one { (all : List Claim) (found other : Option Clash) → IsFirstClash all found → IsFirstClash all other → found ≡ other }
+        ensures one { (all : List Claim) (found other : Option Clash)
+            → IsFirstClash all found → IsFirstClash all other → found ≡ other }
     {
         let claims = claims(alloc, &self.indexed())?;
         // An id is at most the count: that of a name that is not there.
@@ -315,7 +326,8 @@ impl Stack {
         requires last { IsLast self.now last.old }
         ensures line { found_at self.now device sector ≡ Some result.0.now }
         ensures holds { HoldsSoundly self.now device result.0.now sector }
-        ensures all { (other : ℕ) → result.0.now.start ≤ other → other < result.0.now.start + result.0.now.len → found_at self.now device other ≡ Some result.0.now }
+        ensures all { (other : ℕ) → result.0.now.start ≤ other → other < result.0.now.start + result.0.now.len
+            → found_at self.now device other ≡ Some result.0.now }
         ensures few { result.1 ≤ binary_digits (length (lines_at self.now device)) }
         ensures most { result.1 ≤ 17 }
         ensures last { IsLast self.now last.new }

@@ -82,6 +82,8 @@ pub fn metadata(kind: StoreKind, chunk: u64, taken: u64) -> u64
 /// the law.
 #[tactic(auto, using(crate::proofs::StoreLayoutLemmas::place_less, crate::proofs::StoreLayoutLemmas::place_data))]
 pub fn places_are_apart()
-    ensures apart { (kind : StoreKind) (chunk first second : ℕ) → first < second → place kind chunk first < place kind chunk second }
-    ensures data { (kind : StoreKind) (chunk number : ℕ) → 0 < chunk → is_metadata kind chunk (place kind chunk number) ≡ false }
+    ensures apart { (kind : StoreKind) (chunk first second : ℕ)
+        → first < second → place kind chunk first < place kind chunk second }
+    ensures data { (kind : StoreKind) (chunk number : ℕ)
+        → 0 < chunk → is_metadata kind chunk (place kind chunk number) ≡ false }
 {}

@@ -11,7 +11,8 @@ ghost use Rattle.dm_table.specs.LoadFault.{first_or};
 ghost use Rattle.dm_stack.specs.Description.{links};
 ghost use Rattle.dm_stack.specs.Graph.{IsClosed, depths_to, links_in};
 ghost use Rattle.dm_stack.specs.Soundness.{store};
-ghost use Rattle.dm_stack.specs.Store.{has_deep_store, is_plain, is_shallow, may_store, store_links, store_links_of};
+ghost use Rattle.dm_stack.specs.Store.{has_deep_store, is_plain, is_shallow, may_store, store_links};
+ghost use Rattle.dm_stack.specs.Store.{store_links_of};
 
 use crate::graph::{MOST_DEPTH, depths};
 use crate::id::Lower;

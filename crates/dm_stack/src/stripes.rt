@@ -7,6 +7,7 @@
 ghost use Rattle.std.specs.Prelude.{◌≡◌, [], None};
 ghost use Rattle.std.specs.Result.{result_err};
 ghost use Rattle.dm_table.specs.LoadFault.{first_or};
+ghost use Rattle.dm_stack.specs.Description.{described};
 ghost use Rattle.dm_stack.specs.Soundness.{has_bad_stripes, is_bad_stripe, stripe};
 
 use crate::limits::{MOST_CHUNK, MOST_STRIPES};
@@ -18,7 +19,7 @@ use dm_table::{DeviceSpec, Line, LoadFault, LoadKind, Target};
 ///
 /// Cost: a walk over the lines.
 pub(crate) fn check_stripes(devices: &[DeviceSpec]) -> Result<(), LoadFault>
-    ensures { result_err result ≡ first_or (stripe (record { devices = devices.now; disks = [] })) None }
+    ensures { result_err result ≡ first_or (stripe (described devices.now [])) None }
 {
     check_lines(LoadKind::Stripe, devices, has_bad_stripes)
 }

@@ -115,7 +115,8 @@ fn tidy_len(
 /// The clash of the claim at an index with the first that meets it.
 fn clash_at(claims: &[Claim], index: usize) -> Option<Clash>
     requires { index < length claims.now }
-    ensures { (later : Claim) → slice_get claims.now index ≡ Some later → result ≡ clash_with (take index claims.now) later }
+    ensures { (later : Claim) → slice_get claims.now index ≡ Some later
+        → result ≡ clash_with (take index claims.now) later }
 {
     let later = &claims[index];
     for earlier in &claims[..index] {
