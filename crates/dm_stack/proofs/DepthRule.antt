@@ -13,7 +13,7 @@ use Rattle.dm_table.specs.declared.table.DeviceSpec.{DeviceSpec}
 use Rattle.dm_table.specs.declared.table.Line.{Line}
 use Rattle.dm_stack.specs.Description.{Description, device_links, line_links, links, lower_of, ref_link}
 use Rattle.dm_stack.specs.Graph.{greatest, links_of}
-use Rattle.dm_stack.specs.Loaded.{IsDeeperByOne, lower_depth}
+use Rattle.dm_stack.specs.Depth.{IsDeeperByOne, lower_depth}
 use Rattle.dm_stack.specs.Soundness.{IsSound, depth_of, faults_by_id}
 use Rattle.dm_table.specs.Span.{Span, spans}
 use Rattle.dm_stack.proofs.DepthLemmas.{depth_to-deeper}

@@ -16,7 +16,7 @@ use Rattle.dm_table.specs.declared.place.Part.TheVariants.{Source}
 use Rattle.dm_table.specs.LoadFault.{IsMemoryFault, fault, first_or, first_fault}
 use Rattle.dm_stack.specs.Description.{Description, device_links, is_same, line_links, links, ref_link}
 use Rattle.dm_stack.specs.Graph.{IsClosed, IsFirstRing, Reaches, depths_to, greatest, links_in, links_of}
-use Rattle.dm_stack.specs.Loaded.{stack_depth}
+use Rattle.dm_stack.specs.Depth.{stack_depth}
 use Rattle.dm_stack.specs.Soundness.{Early, HasNoCycle, IsFirstCycle, IsRefusedBy, IsSound, Late, all_lines, checks_after, checks_before, depth_of, is_unknown, is_unknown_ref, unknown}
 use Rattle.dm_table.specs.Span.{Span, spans}
 use Rattle.dm_stack.proofs.HandedOn.{all_append, refused_not_memory}

@@ -17,7 +17,7 @@ use Rattle.dm_stack.specs.declared.found_line.FoundTarget.TheVariants as found
 use Rattle.dm_stack.specs.declared.id.Lower.{Lower}
 use Rattle.dm_stack.specs.Below.{found_at, found_line, found_target, holds}
 use Rattle.dm_stack.specs.Description.{Description, device_len, is_same_lower, lines_at, lower_of}
-use Rattle.dm_stack.specs.Loaded.{has_snapshot, is_snapshot}
+use Rattle.dm_stack.specs.Snapshots.{has_snapshot, is_snapshot}
 use Rattle.dm_stack.specs.Over.{all_over, device_over, found_snapshot, over_of, snapshots_over}
 use Rattle.dm_stack.specs.Soundness.{IsSound}
 use Rattle.dm_stack.proofs.MeetLemmas.{same_is, self_same}

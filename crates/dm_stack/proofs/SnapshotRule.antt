@@ -14,7 +14,7 @@ use Rattle.dm_stack.specs.declared.found_line.FoundTarget.{FoundTarget}
 use Rattle.dm_stack.specs.declared.found_line.FoundTarget.TheVariants as found
 use Rattle.dm_stack.specs.Below.{found_at, found_line, found_target, holds, line_of}
 use Rattle.dm_stack.specs.Description.{Description, device_len, end_of, lines_at, lines_or_none, lower_len, lower_of}
-use Rattle.dm_stack.specs.Loaded.{AreSnapshots, IsSnapshot, has_snapshot, is_snapshot, snapshots}
+use Rattle.dm_stack.specs.Snapshots.{AreSnapshots, IsSnapshot, has_snapshot, is_snapshot, snapshots}
 use Rattle.dm_stack.specs.Over.{found_snapshot}
 use Rattle.dm_stack.specs.Soundness.{IsSound, is_bad_chunk, is_bad_snapshot}
 use Rattle.dm_stack.proofs.LayoutLemmas.{AreInRow}

@@ -6,7 +6,7 @@ use Rattle.std.proofs.Math.Nat.{mod-lt, mul-le-mul_right, le-div_iff_mul-le}
 use Rattle.std.proofs.lemmas.Bool.{cases_lt, cases_order, ne_eqb}
 use Rattle.dm_table.specs.declared.table.StoreKind.{StoreKind}
 use Rattle.dm_table.specs.declared.table.StoreKind.TheVariants.{Persistent, Transient, Keeping}
-use Rattle.dm_stack.specs.StoreLayout.{allocated, is_metadata, metadata, place, places, places_in}
+use Rattle.dm_stack.specs.StoreLayout.{allocated, is_metadata, metadata, place, place_count, places_in}
 
 -- the chunks of data and of areas up to that of a number, and the numbers below that
 within : (most rest number q a r b : ℕ) → r < most → b < most + 1 → q * most + r ≡ number → a * (most + 1) + b ≡ rest → number < rest - a → number + q < rest
@@ -38,14 +38,14 @@ ends_at at chunks chunk store_len number some is =
     (λ below. whole.0 (let ends = is.0 below in omega (arith, ends)), λ ends. is.1 (let inside = whole.1 ends in omega (arith, inside)))
 
 -- between areas
-has_place_apart : (chunk store_len number : ℕ) → 0 < chunk → (number < places Persistent chunk store_len) ↔ ((place Persistent chunk number + 1) * chunk ≤ store_len)
+has_place_apart : (chunk store_len number : ℕ) → 0 < chunk → (number < place_count Persistent chunk store_len) ↔ ((place Persistent chunk number + 1) * chunk ≤ store_len)
 has_place_apart chunk store_len number some =
     let n = numbered (32 * chunk) (store_len / chunk - 2) number (omega (arith, some)) in
-    ends_at (place Persistent chunk number) (places Persistent chunk store_len) chunk store_len number some
+    ends_at (place Persistent chunk number) (place_count Persistent chunk store_len) chunk store_len number some
     (λ below. (let ends = n.0 below in omega (arith, ends)), λ at. n.1 (omega (arith, at)))
 
 -- a chunk of a store has a place exactly where its number is below how many there are
-pub has_place : (kind : StoreKind) (chunk store_len number : ℕ) → 0 < chunk → (number < places kind chunk store_len) ↔ ((place kind chunk number + 1) * chunk ≤ store_len)
+pub has_place : (kind : StoreKind) (chunk store_len number : ℕ) → 0 < chunk → (number < place_count kind chunk store_len) ↔ ((place kind chunk number + 1) * chunk ≤ store_len)
 has_place Persistent chunk store_len number some = has_place_apart chunk store_len number some
 has_place Transient chunk store_len number some = ends_at number (store_len / chunk) chunk store_len number some (λ below. below, λ at. at)
 has_place Keeping chunk store_len number some = has_place_apart chunk store_len number some

@@ -11,25 +11,25 @@ use Rattle.dm_table.specs.declared.table.Target.TheVariants as targets
 use Rattle.dm_table.specs.LoadFault.{fault}
 use Rattle.dm_stack.specs.Description.{Description}
 use Rattle.dm_stack.specs.Soundness.{crowded}
-use Rattle.dm_stack.specs.StoreLayout.{allocated, is_metadata, metadata, place, places}
+use Rattle.dm_stack.specs.StoreLayout.{allocated, is_metadata, metadata, place, place_count}
 
 -- one place, and none where the store is a sector shorter
-one_persistent : places Persistent 8 24 ≡ 1
+one_persistent : place_count Persistent 8 24 ≡ 1
 one_persistent = refl
 
-no_persistent : places Persistent 8 23 ≡ 0
+no_persistent : place_count Persistent 8 23 ≡ 0
 no_persistent = refl
 
-one_transient : places Transient 8 8 ≡ 1
+one_transient : place_count Transient 8 8 ≡ 1
 one_transient = refl
 
-no_transient : places Transient 8 7 ≡ 0
+no_transient : place_count Transient 8 7 ≡ 0
 no_transient = refl
 
-one_keeping : places Keeping 8 24 ≡ 1
+one_keeping : place_count Keeping 8 24 ≡ 1
 one_keeping = refl
 
-no_keeping : places Keeping 8 23 ≡ 0
+no_keeping : place_count Keeping 8 23 ≡ 0
 no_keeping = refl
 
 -- the second area comes before the place of number 32 where a chunk has one sector

@@ -1,4 +1,4 @@
--- What a stack is, for every definition: its devices with their lines, and its disks, by their places in the lists.
+-- What a stack is, for every definition: its devices with their lines, and its disks, by their indexes in the lists.
 use Rattle.std.specs.Prelude.{ℕ, ◌+◌, ◌==◌, Bool, false, List, [], ◌∷◌, Option, Some, None, find, map, nat_eq, slice_get}
 use Rattle.std.specs.List.{flat_map, position_or_len}
 use Rattle.std.specs.Cmp.Lexicographic.{pointwise}

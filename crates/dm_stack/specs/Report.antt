@@ -5,7 +5,7 @@ use Rattle.dm_stack.specs.declared.id.Lower.{Lower}
 use Rattle.dm_stack.specs.declared.id.Lower.TheVariants.{Device, Disk}
 use Rattle.dm_stack.specs.Claims.{IsFirstClash, claims}
 use Rattle.dm_stack.specs.Description.{Description, disk_name_at, name_at}
-use Rattle.dm_stack.specs.Loaded.{stack_depth}
+use Rattle.dm_stack.specs.Depth.{stack_depth}
 
 -- a lower device or disk, as a line names it
 abbrev pub lower_text : Description → Lower → List ℕ

@@ -16,7 +16,7 @@ use Rattle.dm_table.specs.LoadFault.{fault, faults_by, first_fault}
 use Rattle.dm_stack.specs.Description.{Description, is_same, device_named, disk_named, end_of, lower_of, lower_len, links}
 use Rattle.dm_table.specs.Span.{Span, spans}
 use Rattle.dm_stack.specs.Graph.{Reaches, depth_to}
-use Rattle.dm_stack.specs.StoreLayout.{places}
+use Rattle.dm_stack.specs.StoreLayout.{place_count}
 use Rattle.dm_stack.specs.Store.{is_store_to}
 use Rattle.dm_stack.specs.declared.graph.TheConstants.{MOST_DEPTH}
 use Rattle.dm_stack.specs.declared.limits.TheConstants.{MOST_DEVICES, MOST_DISKS, MOST_LINES, MOST_LENGTH, MOST_STRIPES, MOST_CHUNK, MOST_SNAPSHOT_CHUNK, MOST_PLACES}
@@ -187,7 +187,7 @@ HaveGoodChunks lines = All (λ line. HasGoodChunk line.target) lines
 
 -- the places for chunks that a line's store has: only a snapshot has one
 abbrev pub target_places : Description → Target → ℕ
-target_places stack (targets.Snapshot origin store kind chunk) = places kind chunk (lower_len stack (lower_of stack store))
+target_places stack (targets.Snapshot origin store kind chunk) = place_count kind chunk (lower_len stack (lower_of stack store))
 target_places stack _ = 0
 
 -- a snapshot whose store cannot be one

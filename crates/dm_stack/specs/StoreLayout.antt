@@ -18,9 +18,9 @@ abbrev pub places_in : (most rest : ℕ) → ℕ
 places_in most rest = rest - rest / (most + 1)
 
 -- how many of these chunks end within a store of a length: of its chunks after the header and the first area, all but each one after 32 * chunk others, which is an area
-abbrev pub places : StoreKind → (chunk store_len : ℕ) → ℕ
-places Transient chunk store_len = store_len / chunk
-places kind chunk store_len = places_in (32 * chunk) (store_len / chunk - 2)
+abbrev pub place_count : StoreKind → (chunk store_len : ℕ) → ℕ
+place_count Transient chunk store_len = store_len / chunk
+place_count kind chunk store_len = places_in (32 * chunk) (store_len / chunk - 2)
 
 -- up to where a store is used that has this many taken chunks: to the place of the next one
 abbrev pub allocated : StoreKind → (chunk taken : ℕ) → ℕ

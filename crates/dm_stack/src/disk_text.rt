@@ -5,7 +5,7 @@
 
 ghost use Rattle.std.specs.Prelude.{◌≡◌, ◌+◌, ◌≤◌, IfOk, length, map, take};
 ghost use Rattle.dm_table.specs.Block.{IsPut};
-ghost use Rattle.dm_stack.specs.Loaded.{disk_text};
+ghost use Rattle.dm_stack.specs.DiskText.{disk_text};
 
 use dm_table::{Disk, DiskName, put_bytes, put_room};
 use std::alloc::{AllocError, Global};
@@ -45,7 +45,7 @@ impl DiskText {
         DiskText { text, len }
     }
 
-    /// Puts the name and the space at a place of a block, and returns where they end. The block has
+    /// Puts the name and the space at an offset of a block, and returns where they end. The block has
     /// 256 bytes from there on.
     #[inline(always)]
     pub fn put_into(&self, block: &mut [u8], at: usize) -> usize
@@ -63,7 +63,7 @@ impl DiskText {
     }
 }
 
-/// Puts the first bytes of a text at a place of a block. It is never inlined, since long names are rare.
+/// Puts the first bytes of a text at an offset of a block. It is never inlined, since long names are rare.
 #[cold]
 #[inline(never)]
 fn put_long(block: &mut [u8], at: usize, text: &[u8], len: usize) -> usize

@@ -1,4 +1,4 @@
-//! Ids: the places of devices and disks in a stack.
+//! Ids: the indexes of devices and disks in the lists that a stack was loaded from.
 //!
 //! A clause sees an id as the number that it is. An id is of the stack that gave it: of another one
 //! it may name nothing.
@@ -30,7 +30,7 @@ impl DeviceId {
         DeviceId { index }
     }
 
-    /// The place of the device in the order of the load, from 0.
+    /// The index of the device in the order of the load, from 0.
     pub fn index(self) -> usize
         ensures { result ≡ self }
     {
@@ -61,7 +61,7 @@ impl DiskId {
         DiskId { index }
     }
 
-    /// The place of the disk in the order of the load, from 0.
+    /// The index of the disk in the order of the load, from 0.
     pub fn index(self) -> usize
         ensures { result ≡ self }
     {

@@ -14,7 +14,7 @@ use crate::name_index::NameIndex;
 use dm_table::{DevRef, DeviceSpec, Disk, DiskName, Name};
 use std::marker::Model;
 
-/// The devices and the disks of a description, with their names by their places. The ends of its
+/// The devices and the disks of a description, with indexes of their names. The ends of its
 /// lines are within the limit.
 #[derive(Drop)]
 pub(crate) struct Indexed<'a> {
@@ -85,16 +85,16 @@ impl<'a> Indexed<'a> {
     pub(crate) fn device_of(&self, name: &Name) -> DeviceId
         ensures { result ≡ device_id self.now name.now }
     {
-        let place = self.device_names.find(name.as_str());
-        DeviceId::new(place.unwrap_or(self.devices.len()))
+        let index = self.device_names.find(name.as_str());
+        DeviceId::new(index.unwrap_or(self.devices.len()))
     }
 
     /// The id of a disk's name; one past the last where no disk has it.
     fn disk_of(&self, name: &DiskName) -> DiskId
         ensures { result ≡ disk_id self.now name.now }
     {
-        let place = self.disk_names.find(name.as_str());
-        DiskId::new(place.unwrap_or(self.disks.len()))
+        let index = self.disk_names.find(name.as_str());
+        DiskId::new(index.unwrap_or(self.disks.len()))
     }
 
     /// What a line names, by its id; one past the last where it is not there.

@@ -10,7 +10,7 @@ ghost use Rattle.dm_table.specs.LoadFault.{first_or};
 ghost use Rattle.dm_stack.specs.Description.{described, end_of};
 ghost use Rattle.dm_stack.specs.Soundness.{HaveSmallEnds, empty, empty_in, misplaced, misplaced_in};
 
-use crate::placed::check_each;
+use crate::faults::check_each;
 use dm_table::{DeviceSpec, Disk, Line, LoadFault, LoadKind};
 
 /// Fails at the first device without lines or line of length 0, or else the first disk of length 0.

@@ -11,7 +11,7 @@ ghost use Rattle.dm_stack.specs.Soundness.{all_lines, is_far, is_large, past, to
 ghost use Rattle.dm_table.specs.Span.{spans};
 ghost use Rattle.dm_stack.specs.Description.{described};
 
-use crate::placed::{Placed, check_each, check_lines};
+use crate::faults::{Placed, check_each, check_lines};
 use crate::span::Spans;
 use dm_table::{DeviceSpec, Disk, Line, LoadFault, LoadKind};
 

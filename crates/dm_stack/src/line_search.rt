@@ -1,6 +1,6 @@
 //! The line of a sector, found by halving over the starts of a device's lines.
 //!
-//! This is the one place where lines are found, and each comparison of a start with the sector is
+//! Lines are found nowhere else, and each comparison of a start with the sector is
 //! counted here. The first line is never compared, since every sector is at its start or after it. Of
 //! more than three lines, the one that was found last is remembered, with the sector at which it ends. A
 //! range that goes on there, as over many lines, is in the next line, and no start is compared.

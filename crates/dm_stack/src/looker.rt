@@ -6,7 +6,10 @@
 ghost use Rattle.std.specs.Prelude.{◌≡◌, ℕ, ◌+◌, ◌-◌, ◌*◌, ◌<◌, ◌≤◌, Some, length};
 ghost use Rattle.dm_stack.specs.Below.{HoldsSoundly, found_at};
 ghost use Rattle.dm_stack.specs.Description.{device_len, disk_len, is_ro_at, lines_at};
-ghost use Rattle.dm_stack.specs.Loaded.{next_count, snapshots, stack_depth, AreSnapshots, IsLength};
+ghost use Rattle.dm_stack.specs.Looker.{next_count};
+ghost use Rattle.dm_stack.specs.Snapshots.{snapshots, AreSnapshots};
+ghost use Rattle.dm_stack.specs.Depth.{stack_depth};
+ghost use Rattle.dm_stack.specs.Stack.{IsLength};
 ghost use Rattle.dm_stack.specs.Soundness.{IsSound};
 ghost use Rattle.dm_stack.specs.LineSearch.{binary_digits};
 
@@ -28,7 +31,7 @@ pub struct Looker<'s> {
 
 impl<'s> Model for Looker<'s> {
     ghost use Rattle.dm_stack.specs.LineSearch.{IsLast};
-    ghost use Rattle.dm_stack.specs.Loaded.{Looking};
+    ghost use Rattle.dm_stack.specs.Looker.{Looking};
 
     ghost Value = { Looking };
 

@@ -1,4 +1,4 @@
-//! Names by their places: what was added as number 0, 1 and so on.
+//! An index of names: which name was added as number 0, 1 and so on.
 //!
 //! Looking a name up costs about the same however many there are. A clause sees an index as the
 //! list of its names, in the order in which they were added.
@@ -51,7 +51,7 @@ impl NameIndex {
         }
     }
 
-    /// The place of a name. No memory is taken.
+    /// The number of a name, from 0. No memory is taken.
     pub(crate) fn find(&self, name: &str) -> Option<usize>
         ensures { result ≡ position (λ other. is_same other name.now) self.now }
     {

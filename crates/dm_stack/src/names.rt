@@ -1,7 +1,7 @@
 //! The names of a description: those of its devices, and those of its disks.
 //!
 //! Indexing names is what finds one that stands twice, so that nothing walks them again for it.
-//! The place of a name in its index is the id of what has it.
+//! The number of a name in its index is the id of the device or disk that has it.
 
 ghost use Rattle.std.specs.Prelude.{◌≡◌, ◌≢◌, ℕ, IfErr, IfOk, List, None, OnOk, Some, map};
 ghost use Rattle.dm_table.specs.LoadFault.{Answers, IsMemoryFault, first_or, unless};
@@ -10,8 +10,8 @@ ghost use Rattle.dm_table.specs.declared.place.Part.TheVariants.{Source};
 ghost use Rattle.dm_stack.specs.Description.{described};
 ghost use Rattle.dm_stack.specs.Soundness.{twice, twice_in};
 
+use crate::faults::{Placed, out_of_memory};
 use crate::name_index::NameIndex;
-use crate::placed::{Placed, out_of_memory};
 use dm_table::{DeviceSpec, Disk, LoadFault, LoadKind};
 use std::alloc::Global;
 
@@ -39,7 +39,7 @@ impl Named for Disk {
     }
 }
 
-/// The names of a description by their places.
+/// The names of a description, indexed.
 #[derive(Drop)]
 pub(crate) struct Names {
     pub devices: NameIndex,
@@ -67,7 +67,7 @@ pub(crate) fn check_names(
     Ok(Names { devices, disks })
 }
 
-/// The names of a list by their places, or the first element whose name an earlier one has.
+/// The names of a list, indexed. It fails at the first element whose name an earlier one has.
 fn index_of<T: Named + Placed>(alloc: Global, list: &[T]) -> Result<NameIndex, LoadFault>
     ensures { Answers Source (λ index. index) result
         (unless (first_or (twice_in T.name_of T.place_of list.now) None) (map T.name_of list.now)) }

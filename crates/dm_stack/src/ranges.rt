@@ -8,8 +8,8 @@ ghost use Rattle.std.specs.Result.{result_err};
 ghost use Rattle.dm_table.specs.LoadFault.{first_or};
 ghost use Rattle.dm_stack.specs.Soundness.{is_past, passes_end, range};
 
+use crate::faults::check_lines;
 use crate::indexed::Indexed;
-use crate::placed::check_lines;
 use crate::span::{Span, Spans};
 use dm_table::{Line, LoadFault, LoadKind};
 

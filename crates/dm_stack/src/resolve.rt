@@ -8,16 +8,16 @@ ghost use Rattle.std.specs.List.{All};
 ghost use Rattle.std.specs.Result.{result_err};
 ghost use Rattle.dm_table.specs.LoadFault.{first_or};
 ghost use Rattle.dm_stack.specs.Below.{found_columns, found_line, found_target};
-ghost use Rattle.dm_stack.specs.Loaded.{found_table};
+ghost use Rattle.dm_stack.specs.Stack.{found_table};
 ghost use Rattle.dm_stack.specs.Over.{all_over};
 ghost use Rattle.dm_stack.specs.Soundness.{HasGoodChunk, HaveGoodChunks, is_unknown, unknown};
 
 use crate::divisor::Divisor;
+use crate::faults::check_lines;
 use crate::found_columns::{FoundColumn, FoundColumns};
 use crate::found_line::{FoundLine, FoundOrigin, FoundOver, FoundTable, FoundTarget};
 use crate::indexed::Indexed;
 use crate::over::{all_over, found_snapshot, snapshots_over};
-use crate::placed::check_lines;
 use crate::span::Spans;
 use dm_table::{Column, Line, LoadFault, LoadKind, Target};
 use std::alloc::{AllocError, Global};

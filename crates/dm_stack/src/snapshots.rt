@@ -8,13 +8,13 @@ ghost use Rattle.std.specs.Prelude.{◌≡◌, ◌∷◌, ◌++◌, [], IfOk, No
 ghost use Rattle.std.specs.Result.{result_err};
 ghost use Rattle.dm_table.specs.LoadFault.{first_or};
 ghost use Rattle.dm_stack.specs.Description.{described};
-ghost use Rattle.dm_stack.specs.Loaded.{has_snapshot, snapshots};
+ghost use Rattle.dm_stack.specs.Snapshots.{has_snapshot, snapshots};
 ghost use Rattle.dm_stack.specs.Soundness.{is_bad_chunk, is_bad_snapshot, snapshot, bad_snapshots_in};
 
+use crate::faults::check_each;
 use crate::id::DeviceId;
 use crate::indexed::Indexed;
 use crate::limits::MOST_SNAPSHOT_CHUNK;
-use crate::placed::check_each;
 use dm_table::{DeviceSpec, Line, LoadFault, LoadKind, Target};
 use std::alloc::{AllocError, Global};
 

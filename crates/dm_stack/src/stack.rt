@@ -10,8 +10,13 @@ ghost use Rattle.dm_stack.specs.Below.{HoldsSoundly, found_at, found_lines};
 ghost use Rattle.dm_stack.specs.Claims.{IsFirstClash, IsThere, IsTidy, IsTop, claims};
 ghost use Rattle.dm_stack.specs.Description.{Description, described, device_len, disk_len, is_ro_at, is_same};
 ghost use Rattle.dm_stack.specs.Description.{name_at, disk_name_at, lines_at};
-ghost use Rattle.dm_stack.specs.Loaded.{IsDeeperByOne, IsLength, all_places, disk_text, snapshots};
-ghost use Rattle.dm_stack.specs.Loaded.{stack_depth, AreSnapshots};
+ghost use Rattle.dm_stack.specs.Depth.{IsDeeperByOne};
+ghost use Rattle.dm_stack.specs.Stack.{IsLength};
+ghost use Rattle.dm_stack.specs.StoreLimit.{all_places};
+ghost use Rattle.dm_stack.specs.DiskText.{disk_text};
+ghost use Rattle.dm_stack.specs.Snapshots.{snapshots};
+ghost use Rattle.dm_stack.specs.Depth.{stack_depth};
+ghost use Rattle.dm_stack.specs.Snapshots.{AreSnapshots};
 ghost use Rattle.dm_stack.specs.LineSearch.{IsLast, binary_digits};
 ghost use Rattle.dm_stack.specs.Soundness.{IsRefusedBy, IsSound};
 ghost use Rattle.dm_stack.specs.declared.claim.Claim.{Claim};
@@ -55,7 +60,7 @@ pub struct Stack {
 
 impl Model for Stack {
     ghost use Rattle.dm_stack.specs.Description.{Description, described};
-    ghost use Rattle.dm_stack.specs.Loaded.{IsLoaded};
+    ghost use Rattle.dm_stack.specs.Stack.{IsLoaded};
 
     ghost Value = { Description };
 
@@ -69,11 +74,11 @@ impl Model for Stack {
 impl Stack {
     /// Loads a stack, or returns why not: the first fault of the first check that finds any.
     ///
-    /// Lengths, starts and offsets are in sectors of 512 bytes. The places of devices and disks in
+    /// Lengths, starts and offsets are in sectors of 512 bytes. The indexes of devices and disks in
     /// these lists are their ids. The checks in their order, each with the kind of its fault:
     ///
     /// 1. `Limit`: at most 1,024 devices, then 1,024 disks, then 65,536 lines of all tables
-    ///    together. The place is that of the first that is one too many.
+    ///    together. The fault is at the first that is one too many.
     /// 2. `Limit`: no start, length, end or offset of a line, and then no length of a disk, is above
     ///    2^50.
     /// 3. `Twice`: a device whose name an earlier one has, then a disk.

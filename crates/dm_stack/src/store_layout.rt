@@ -8,7 +8,7 @@
 
 ghost use Rattle.std.specs.Prelude.{◌≡◌, ◌↔◌, ℕ, ◌+◌, ◌*◌, ◌<◌, ◌≤◌, ◌^◌, false};
 ghost use Rattle.dm_table.specs.declared.table.StoreKind.{StoreKind};
-ghost use Rattle.dm_stack.specs.StoreLayout.{allocated, is_metadata, metadata, place, places};
+ghost use Rattle.dm_stack.specs.StoreLayout.{allocated, is_metadata, metadata, place, place_count};
 ghost use Rattle.dm_stack.specs.declared.limits.TheConstants.{MOST_SNAPSHOT_CHUNK};
 
 use dm_table::StoreKind;
@@ -19,10 +19,10 @@ use dm_table::StoreKind;
 ///
 /// The chunk is from 1 to 1,024 sectors. It takes the same time whatever the length.
 #[tactic(auto, using(crate::proofs::StoreLayoutLemmas::has_place))]
-pub fn places(kind: StoreKind, chunk: u64, store_len: u64) -> u64
+pub fn place_count(kind: StoreKind, chunk: u64, store_len: u64) -> u64
     requires some { 0 < chunk }
     requires small { chunk ≤ MOST_SNAPSHOT_CHUNK }
-    ensures count { result ≡ places kind chunk store_len }
+    ensures count { result ≡ place_count kind chunk store_len }
     ensures law { (number : ℕ) → (number < result) ↔ ((place kind chunk number + 1) * chunk ≤ store_len) }
 {
     let chunks = store_len / chunk;

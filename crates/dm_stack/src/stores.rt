@@ -14,10 +14,10 @@ ghost use Rattle.dm_stack.specs.Soundness.{store};
 ghost use Rattle.dm_stack.specs.Store.{has_deep_store, is_plain, is_shallow, may_store, store_links};
 ghost use Rattle.dm_stack.specs.Store.{store_links_of};
 
+use crate::faults::check_lines;
 use crate::graph::{MOST_DEPTH, depths};
 use crate::id::Lower;
 use crate::indexed::Indexed;
-use crate::placed::check_lines;
 use dm_table::{DeviceSpec, Line, LoadFault, LoadKind, Target};
 use std::alloc::{AllocError, Global};
 

@@ -10,8 +10,8 @@ ghost use Rattle.dm_table.specs.LoadFault.{first_or};
 ghost use Rattle.dm_stack.specs.Description.{described};
 ghost use Rattle.dm_stack.specs.Soundness.{has_bad_stripes, is_bad_stripe, stripe};
 
+use crate::faults::check_lines;
 use crate::limits::{MOST_CHUNK, MOST_STRIPES};
-use crate::placed::check_lines;
 use dm_table::{DeviceSpec, Line, LoadFault, LoadKind, Target};
 
 /// Fails at the first striped line with no column or more than 128, a chunk of 0 or above 2^32 - 1

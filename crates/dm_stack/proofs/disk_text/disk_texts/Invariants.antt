@@ -1,5 +1,5 @@
 use Rattle.std.proofs.Common.{◌≡◌, map, take}
-use Rattle.dm_stack.specs.Loaded.{disk_text}
+use Rattle.dm_stack.specs.DiskText.{disk_text}
 use Rattle.dm_stack.proofs.disk_text.disk_texts.Given as goal
 
 abbrev pub invariant-loop-disk : goal.invariant-loop-disk

@@ -7,7 +7,10 @@ use Rattle.dm_table.specs.LoadFault.{first_or, first_fault}
 use Rattle.dm_table.proofs.FaultLemmas.{first_or-none}
 use Rattle.dm_stack.specs.Description.{Description, links}
 use Rattle.dm_stack.specs.Graph.{IsFirstRing, depths_to, greatest}
-use Rattle.dm_stack.specs.Loaded.{disk_text, found_table, snapshots, stack_depth}
+use Rattle.dm_stack.specs.DiskText.{disk_text}
+use Rattle.dm_stack.specs.Stack.{found_table}
+use Rattle.dm_stack.specs.Snapshots.{snapshots}
+use Rattle.dm_stack.specs.Depth.{stack_depth}
 use Rattle.dm_stack.specs.Soundness.{HasNoCycle, IsFirstCycle, OnCycle, checks_before, crowded, deep, faults_by_id, range, snapshot, store, too_large, unknown}
 use Rattle.dm_stack.specs.Store.{store_links}
 use Rattle.dm_stack.proofs.ChunkLemmas.{good_chunks}

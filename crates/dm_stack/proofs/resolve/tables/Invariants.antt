@@ -1,5 +1,5 @@
 use Rattle.std.proofs.Common.{◌≡◌, map, take}
-use Rattle.dm_stack.specs.Loaded.{found_table}
+use Rattle.dm_stack.specs.Stack.{found_table}
 use Rattle.dm_stack.proofs.resolve.tables.Given as goal
 
 abbrev pub invariant-loop-device : goal.invariant-loop-device

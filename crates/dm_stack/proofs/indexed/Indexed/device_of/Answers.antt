@@ -6,5 +6,5 @@ use Rattle.dm_stack.proofs.indexed.Indexed.device_of.Goals as goal
 pub returns : goal.returns
 returns c =
     rw (← c.self.view_is, ← c.as_str.ensures.text)
-    (c.new.ensures ∙ c.unwrap_or.ensures ∙ ap (λ (place : Option ℕ). unwrap_or place (length c.self.inside.devices.now)) c.find-place.ensures
+    (c.new.ensures ∙ c.unwrap_or.ensures ∙ ap (λ (place : Option ℕ). unwrap_or place (length c.self.inside.devices.now)) c.find-index.ensures
     ∙ place_of_name (λ device. device.name) c.as_str.result.now c.self.inside.devices.now c.self.inside.device_names.now c.self.invariant.device_names)

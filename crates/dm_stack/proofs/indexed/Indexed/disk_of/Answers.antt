@@ -6,5 +6,5 @@ use Rattle.dm_stack.proofs.indexed.Indexed.disk_of.Goals as goal
 pub returns : goal.returns
 returns c =
     rw (← c.self.view_is, ← c.as_str.ensures.text)
-    (c.new.ensures ∙ c.unwrap_or.ensures ∙ ap (λ (place : Option ℕ). unwrap_or place (length c.self.inside.disks.now)) c.find-place.ensures
+    (c.new.ensures ∙ c.unwrap_or.ensures ∙ ap (λ (place : Option ℕ). unwrap_or place (length c.self.inside.disks.now)) c.find-index.ensures
     ∙ place_of_name (λ disk. disk.name) c.as_str.result.now c.self.inside.disks.now c.self.inside.disk_names.now c.self.invariant.disk_names)

@@ -1,6 +1,6 @@
-//! The first fault of a check that tests elements one by one: at the first that is bad.
+//! How a check fails: with a fault that tells the user where in the source the first bad element stands.
 //!
-//! Faults are made here, at the place of the element itself, so that a check says only what is bad.
+//! A check that tests elements one by one says only which are bad; the fault is made here.
 
 ghost use Rattle.std.specs.Prelude.{◌≡◌, Bool, IfErr, IfOk, None};
 ghost use Rattle.std.specs.Fn.{FnReturnsAt};
@@ -32,7 +32,7 @@ pub(crate) fn or_out_of_memory<T>(made: Result<T, AllocError>) -> Result<T, Load
     }
 }
 
-/// What a part of a load describes at a place: a device, a line of one, or a disk.
+/// What a user finds again in the source by its place there: a device, a line of one, or a disk.
 pub(crate) trait Placed {
     ghost place_of: { Self → Place };
 

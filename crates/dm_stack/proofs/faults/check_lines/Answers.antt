@@ -4,7 +4,7 @@ use Rattle.std.proofs.lemmas.Result.{err_from_is_err_and}
 use Rattle.dm_table.specs.LoadFault.{faults_by, first_or}
 use Rattle.dm_table.specs.declared.table.Line.{Line}
 use Rattle.dm_stack.proofs.PlacedLemmas.{device_passes, device_stops}
-use Rattle.dm_stack.proofs.placed.check_lines.Goals as goal
+use Rattle.dm_stack.proofs.faults.check_lines.Goals as goal
 
 pub returns-in_err-check_each : goal.returns-in_err-check_each
 returns-in_err-check_each g c test computes =

@@ -2,7 +2,7 @@
 use Rattle.std.proofs.Common.{◌≡◌, Bool, None, drop}
 use Rattle.std.specs.Fn.{FnReturnsAt}
 use Rattle.dm_table.specs.LoadFault.{faults_by, first_or}
-use Rattle.dm_stack.proofs.placed.check_each.Given as goal
+use Rattle.dm_stack.proofs.faults.check_each.Given as goal
 
 abbrev pub invariant-loop-item : goal.invariant-loop-item
 invariant-loop-item g l =

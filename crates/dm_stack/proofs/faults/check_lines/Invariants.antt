@@ -4,7 +4,7 @@ use Rattle.std.specs.Fn.{FnReturnsAt}
 use Rattle.dm_table.specs.LoadFault.{faults_by, first_or}
 use Rattle.dm_table.specs.declared.table.Line.{Line}
 use Rattle.dm_stack.specs.Soundness.{all_lines}
-use Rattle.dm_stack.proofs.placed.check_lines.Given as goal
+use Rattle.dm_stack.proofs.faults.check_lines.Given as goal
 
 abbrev pub invariant-loop-device : goal.invariant-loop-device
 invariant-loop-device g l =

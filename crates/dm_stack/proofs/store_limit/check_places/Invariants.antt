@@ -3,7 +3,7 @@ use Rattle.std.proofs.Common.{◌≡◌, ◌+◌, ◌≤◌, ◌++◌, None, dro
 use Rattle.dm_table.specs.LoadFault.{first_or}
 use Rattle.dm_stack.specs.Soundness.{all_lines, crowded}
 use Rattle.dm_stack.proofs.CrowdLemmas.{crowded_from}
-use Rattle.dm_stack.proofs.store_places.check_places.Given as goal
+use Rattle.dm_stack.proofs.store_limit.check_places.Given as goal
 
 abbrev pub invariant-loop-line : goal.invariant-loop-line
 invariant-loop-line l = record {

@@ -1,15 +1,15 @@
 use Rattle.std.proofs.Common.{◌≡◌, ℕ, ◌+◌, ◌-◌, ◌*◌, ◌/◌, ◌<◌, ◌≤◌, inl, inr, ap, sym, subst}
 use Rattle.std.specs.Prelude.{◌↔◌}
-use Rattle.dm_stack.specs.StoreLayout.{place, places, places_in}
+use Rattle.dm_stack.specs.StoreLayout.{place, place_count, places_in}
 use Rattle.dm_stack.proofs.StoreLayoutLemmas.{has_place}
-use Rattle.dm_stack.proofs.store_layout.places.Goals as goal
+use Rattle.dm_stack.proofs.store_layout.place_count.Goals as goal
 
 pub returns-in-Persistent : goal.returns-in-Persistent
 returns-in-Persistent c =
     let args = c.args in
     let rest = c.saturating_sub-rest.result in
     let counted : rest - rest / (32 * args.chunk + 1) ≡ places_in (32 * args.chunk) (args.store_len / args.chunk - 2) = ap (λ (n : ℕ). n - n / (32 * args.chunk + 1)) c.saturating_sub-rest.ensures in
-    let count : rest - rest / (32 * args.chunk + 1) ≡ places args.kind args.chunk args.store_len = elim c.in-Persistent.is [
+    let count : rest - rest / (32 * args.chunk + 1) ≡ place_count args.kind args.chunk args.store_len = elim c.in-Persistent.is [
       | inl is ↦ rw is counted
       | inr is ↦ rw is counted
     ] in

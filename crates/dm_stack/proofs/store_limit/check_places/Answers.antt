@@ -1,7 +1,7 @@
 use Rattle.std.proofs.Common.{◌+◌, ◌∙◌, arith, drop}
 use Rattle.dm_stack.specs.Soundness.{all_lines}
 use Rattle.dm_stack.proofs.CrowdLemmas.{crowded_passes}
-use Rattle.dm_stack.proofs.store_places.check_places.Goals as goal
+use Rattle.dm_stack.proofs.store_limit.check_places.Goals as goal
 
 pub loop-line-preserved : goal.loop-line-preserved
 loop-line-preserved c = record {

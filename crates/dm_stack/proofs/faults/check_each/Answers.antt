@@ -3,7 +3,7 @@ use Rattle.std.proofs.Common.{true, false, List, Some, None, sym, ap, ◌∙◌,
 use Rattle.dm_table.specs.LoadFault.{fault, first_or}
 use Rattle.dm_table.specs.declared.load_fault.LoadFault.{LoadFault}
 use Rattle.dm_stack.proofs.PlacedLemmas.{bad_here, good_here}
-use Rattle.dm_stack.proofs.placed.check_each.Goals as goal
+use Rattle.dm_stack.proofs.faults.check_each.Goals as goal
 
 pub returns-then-is_bad : goal.returns-then-is_bad
 returns-then-is_bad g c test computes =

@@ -1,4 +1,4 @@
-//! That all stores together have not too many places.
+//! The limit on the places for chunks that all stores have together.
 
 ghost use Rattle.std.specs.Prelude.{◌≡◌, None};
 ghost use Rattle.std.specs.List.{All};
@@ -8,7 +8,7 @@ ghost use Rattle.dm_stack.specs.Soundness.{HasGoodChunk, HaveGoodChunks, crowded
 
 use crate::indexed::Indexed;
 use crate::limits::MOST_PLACES;
-use crate::store_layout::places;
+use crate::store_layout::place_count;
 use dm_table::{LoadFault, LoadKind, Target};
 
 /// Fails at the first snapshot whose store brings all stores together to more than 4,194,304 places.
@@ -45,7 +45,7 @@ fn target_places(stack: &Indexed, target: &Target) -> u64
             kind,
             chunk,
             ..
-        } => places(*kind, *chunk, stack.len_of(store)),
+        } => place_count(*kind, *chunk, stack.len_of(store)),
         _ => 0,
     }
 }
