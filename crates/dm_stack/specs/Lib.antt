@@ -1,4 +1,5 @@
 pub mod Below
+pub mod Bytes
 pub mod Claims
 pub mod Depth
 pub mod Description
