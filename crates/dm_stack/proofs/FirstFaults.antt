@@ -1,6 +1,6 @@
 -- The first fault of a check, by the element at which it is found.
 use Rattle.std.proofs.Common.{◌≡◌, ℕ, zero, suc, ◌+◌, ◌-◌, ◌<◌, ◌≤◌, Bool, true, false, cond, List, [], ◌∷◌, ◌++◌, Option, Some, None, refl, sym, ap, subst, ◌∙◌, arith, length, get_or, drop}
-use Rattle.std.specs.Prelude.{find, slice_get}
+use Rattle.std.specs.Prelude.{slice_get}
 use Rattle.std.proofs.lemmas.List.{drop_more}
 use Rattle.dm_table.specs.declared.place.Place.{Place}
 use Rattle.dm_table.specs.declared.table.Line.{Line}
@@ -9,6 +9,7 @@ use Rattle.dm_table.specs.declared.load_fault.LoadKind.{LoadKind}
 use Rattle.dm_table.specs.declared.load_fault.LoadKind.TheVariants.{Limit}
 use Rattle.dm_table.specs.declared.load_fault.LoadFault.{LoadFault}
 use Rattle.dm_table.specs.LoadFault.{fault, faults_by, first_or}
+use Rattle.dm_table.proofs.FaultLemmas.{first_or-passed, first_or-found}
 use Rattle.dm_stack.specs.Description.{Description, end_of}
 use Rattle.dm_stack.specs.Soundness.{past, all_lines, too_many}
 
@@ -21,15 +22,6 @@ pub first_append : (check more : List LoadFault) (later : Option LoadFault) → 
 first_append [] more later = refl
 first_append (fault ∷ faults) more later = refl
 
--- what comes after a check that found nothing, and after one that did
-pub first_passed : (check : List LoadFault) (later : Option LoadFault) → first_or check None ≡ None → first_or check later ≡ later
-first_passed [] later e = refl
-first_passed (fault ∷ faults) later e = absurd cc
-
-pub first_stopped : (check : List LoadFault) (later : Option LoadFault) (at : LoadFault) → first_or check None ≡ Some at → first_or check later ≡ Some at
-first_stopped [] later at e = absurd cc
-first_stopped (fault ∷ faults) later at e = e
-
 by_append_step : (at : LoadFault) (xs ys more : List LoadFault) (b : Bool) → xs ≡ ys ++ more → cond b (at ∷ xs) xs ≡ cond b (at ∷ ys) ys ++ more
 by_append_step at xs ys more true e = ap (λ (later : List LoadFault). at ∷ later) e
 by_append_step at xs ys more false e = e
@@ -38,15 +30,6 @@ pub by_append : {X : Type 0} (kind : LoadKind) (place : X → Place) (bad : X �
 by_append kind place bad [] ys = refl
 by_append kind place bad (x ∷ xs) ys =
     by_append_step (fault kind (place x)) (faults_by kind place bad (xs ++ ys)) (faults_by kind place bad xs) (faults_by kind place bad ys) (bad x) (by_append kind place bad xs ys)
-
-by_step : {X : Type 0} (kind : LoadKind) (place : X → Place) (x : X) (rest : List LoadFault) (found : Option X) (later : Option LoadFault) (b : Bool) → first_or rest later ≡ at_found kind place found later → first_or (cond b (fault kind (place x) ∷ rest) rest) later ≡ at_found kind place (cond b (Some x) found) later
-by_step kind place x rest found later true e = refl
-by_step kind place x rest found later false e = e
-
-pub first_by : {X : Type 0} (kind : LoadKind) (place : X → Place) (bad : X → Bool) (xs : List X) (later : Option LoadFault) → first_or (faults_by kind place bad xs) later ≡ at_found kind place (find bad xs) later
-first_by kind place bad [] later = refl
-first_by kind place bad (x ∷ xs) later =
-    by_step kind place x (faults_by kind place bad xs) (find bad xs) later (bad x) (first_by kind place bad xs later)
 
 pub first_past : {X : Type 0} (most : ℕ) (place : X → Place) (xs : List X) (later : Option LoadFault) → first_or (past most place xs) later ≡ at_found Limit place (slice_get xs most) later
 first_past zero place [] later = refl
@@ -62,17 +45,15 @@ many_parts stack =
     ∙ first_append (past 1024 (λ device. device.at) stack.devices) (past 1024 (λ disk. disk.at) stack.disks) _
 
 pub many_devices : (stack : Description) (found : LoadFault) → first_or (past 1024 (λ device. device.at) stack.devices) None ≡ Some found → first_or (too_many stack) None ≡ Some found
-many_devices stack found e = many_parts stack ∙ first_stopped (past 1024 (λ device. device.at) stack.devices) _ found e
+many_devices stack found e = many_parts stack ∙ first_or-found (past 1024 (λ device. device.at) stack.devices) _ found e
 
 pub many_disks : (stack : Description) (found : LoadFault) → first_or (past 1024 (λ device. device.at) stack.devices) None ≡ None → first_or (past 1024 (λ disk. disk.at) stack.disks) None ≡ Some found → first_or (too_many stack) None ≡ Some found
-many_disks stack found few e = many_parts stack ∙ first_passed (past 1024 (λ device. device.at) stack.devices) _ few ∙ first_stopped (past 1024 (λ disk. disk.at) stack.disks) _ found e
+many_disks stack found few e = many_parts stack ∙ first_or-passed (past 1024 (λ device. device.at) stack.devices) _ few ∙ first_or-found (past 1024 (λ disk. disk.at) stack.disks) _ found e
 
 pub many_lines : (stack : Description) (found : Option Line) → first_or (past 1024 (λ device. device.at) stack.devices) None ≡ None → first_or (past 1024 (λ disk. disk.at) stack.disks) None ≡ None → found ≡ slice_get (all_lines stack.devices) 65536 → first_or (too_many stack) None ≡ at_found Limit (λ line. line.at) found None
 many_lines stack found few_devices few_disks is =
-    many_parts stack ∙ first_passed (past 1024 (λ device. device.at) stack.devices) _ few_devices ∙ first_passed (past 1024 (λ disk. disk.at) stack.disks) _ few_disks
+    many_parts stack ∙ first_or-passed (past 1024 (λ device. device.at) stack.devices) _ few_devices ∙ first_or-passed (past 1024 (λ disk. disk.at) stack.disks) _ few_disks
     ∙ first_past 65536 (λ line. line.at) (all_lines stack.devices) None ∙ ap (λ (line : Option Line). at_found Limit (λ l. l.at) line None) (sym is)
-
--- A check that runs over elements one after the other
 
 -- An element of lists in a row
 

@@ -26,9 +26,6 @@ use Rattle.dm_stack.proofs.SoundLines.{holds_from, device_small, device_sound, l
 
 -- Binary digits
 
-digits_in_rows : (binary_digits 0 ≡ 0) × (binary_digits 1 ≡ 1) × (binary_digits 3 ≡ 2) × (binary_digits 4 ≡ 3) × (binary_digits 65535 ≡ 16) × (binary_digits 65536 ≡ 17)
-digits_in_rows = (refl, refl, refl, refl, refl, refl)
-
 digits_later : (most number k : ℕ) (b : Bool) → (number == 0) ≡ b → 0 < number → k ≤ digits_to most (number / 2) → suc k ≤ digits_to (suc most) number
 digits_later most number k true none some rest = let zero_number = eqb-true _ _ none in absurd (omega (arith, zero_number, some))
 digits_later most number k false none some rest = rw none (omega (arith, rest))

@@ -7,8 +7,9 @@ use Rattle.dm_table.specs.declared.place.Place.{Place}
 use Rattle.dm_table.specs.declared.table.DeviceSpec.{DeviceSpec}
 use Rattle.dm_table.specs.declared.table.Line.{Line}
 use Rattle.dm_table.specs.LoadFault.{fault, faults_by, first_or}
+use Rattle.dm_table.proofs.FaultLemmas.{first_or-passed, first_or-found}
 use Rattle.dm_stack.specs.Soundness.{all_lines}
-use Rattle.dm_stack.proofs.FirstFaults.{by_append, first_append, first_passed, first_stopped}
+use Rattle.dm_stack.proofs.FirstFaults.{by_append, first_append}
 
 pub next_of : {X : Type 0} (xs : List X) (i : ℕ) (x : X) → i < length xs → x ≡ get_or xs i x → drop i xs ≡ x ∷ drop (i + 1) xs
 next_of {X} xs i x within is = drop_more xs i x within ∙ ap (λ (y : X). y ∷ drop (i + 1) xs) (sym is)
@@ -35,9 +36,9 @@ device_at kind test devices i device within is =
 pub device_stops : (kind : LoadKind) (test : Line → Bool) (devices : List DeviceSpec) (i : ℕ) (device : DeviceSpec) (found : LoadFault) → i < length devices → device ≡ get_or devices i device
     → first_or (faults_by kind (λ line. line.at) test device.lines) None ≡ Some found → first_or (faults_by kind (λ line. line.at) test (all_lines (drop i devices))) None ≡ Some found
 device_stops kind test devices i device found within is here =
-    device_at kind test devices i device within is ∙ first_stopped (faults_by kind (λ line. line.at) test device.lines) _ found here
+    device_at kind test devices i device within is ∙ first_or-found (faults_by kind (λ line. line.at) test device.lines) _ found here
 
 pub device_passes : (kind : LoadKind) (test : Line → Bool) (devices : List DeviceSpec) (i : ℕ) (device : DeviceSpec) → i < length devices → device ≡ get_or devices i device
     → first_or (faults_by kind (λ line. line.at) test device.lines) None ≡ None → first_or (faults_by kind (λ line. line.at) test (all_lines (drop (i + 1) devices))) None ≡ first_or (faults_by kind (λ line. line.at) test (all_lines (drop i devices))) None
 device_passes kind test devices i device within is here =
-    sym (device_at kind test devices i device within is ∙ first_passed (faults_by kind (λ line. line.at) test device.lines) _ here)
+    sym (device_at kind test devices i device within is ∙ first_or-passed (faults_by kind (λ line. line.at) test device.lines) _ here)

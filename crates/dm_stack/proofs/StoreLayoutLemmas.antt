@@ -156,3 +156,9 @@ pub metadata_is : (kind : StoreKind) (chunk taken : ℕ) → (place kind chunk t
 metadata_is Persistent chunk taken = metadata_apart chunk taken
 metadata_is Transient chunk taken = let none : taken - taken ≡ 0 = omega arith in rw none (omega arith)
 metadata_is Keeping chunk taken = metadata_apart chunk taken
+
+-- the sectors of a store that are used, and those of them that are no data
+pub ruleset used_parts = (place_within, number_within, metadata_within, metadata_is)
+
+-- the places of different chunks
+pub ruleset places_apart = (place_less, place_data)

@@ -67,7 +67,7 @@ pub fn allocated(kind: StoreKind, chunk: u64, taken: u64) -> u64
 /// How many of the used sectors are the header and the areas of chunk numbers.
 ///
 /// The chunk is from 1 to 1,024 sectors.
-#[tactic(auto, using(crate::proofs::StoreLayoutLemmas::place_within, crate::proofs::StoreLayoutLemmas::number_within, crate::proofs::StoreLayoutLemmas::metadata_within, crate::proofs::StoreLayoutLemmas::metadata_is))]
+#[tactic(auto, using(crate::proofs::StoreLayoutLemmas::used_parts))]
 pub fn metadata(kind: StoreKind, chunk: u64, taken: u64) -> u64
     requires some { 0 < chunk }
     requires small { chunk ≤ MOST_SNAPSHOT_CHUNK }
@@ -80,7 +80,7 @@ pub fn metadata(kind: StoreKind, chunk: u64, taken: u64) -> u64
 /// Taken chunks of different numbers have different places in their store, in rising order, and
 /// none of them is in the header or in an area of chunk numbers. It does nothing: its contract is
 /// the law.
-#[tactic(auto, using(crate::proofs::StoreLayoutLemmas::place_less, crate::proofs::StoreLayoutLemmas::place_data))]
+#[tactic(auto, using(crate::proofs::StoreLayoutLemmas::places_apart))]
 pub fn places_are_apart()
     ensures apart { (kind : StoreKind) (chunk first second : ℕ)
         → first < second → place kind chunk first < place kind chunk second }
