@@ -100,7 +100,7 @@ pub fn write_runs<W: Output>(
     writer: &mut W,
 ) -> Result<(), OutFault>
     requires { AllByRecursion (IsRunOf (length stack.now.disks)) runs.now }
-    ensures { Wrote W.written W.waiting W.faults W.flushes writer.old writer.new result (runs_text stack.now number runs.now) }
+    ensures { Wrote (W.past writer.old) (W.past writer.new) result (runs_text stack.now number runs.now) }
 {
     for run in runs {
         write_run(stack, number, run, &mut *writer)?;
@@ -116,7 +116,7 @@ fn write_run<W: Output>(
     writer: &mut W,
 ) -> Result<(), OutFault>
     requires { IsRunOf (length stack.now.disks) run.now }
-    ensures { Wrote W.written W.waiting W.faults W.flushes writer.old writer.new result (run_line stack.now number run.now) }
+    ensures { Wrote (W.past writer.old) (W.past writer.new) result (run_line stack.now number run.now) }
 {
     writer.put(&RunLine { stack, number, run })
 }

@@ -101,13 +101,13 @@ text_kept old new pieces stack number =
     ap (λ (s : Description). pieces_text s new.number pieces) stack ∙ ap (λ (n : ℕ). pieces_text old.stack n pieces) number
 
 -- all units were taken, and what was held was written, or cut short
-pub taken_wrote : {X E : Type 0} {written waiting : X → List ℕ} {faults flushes : X → ℕ} {a b c : X} {result : Result (Unit {0}) E} (stack : Description) (number : ℕ) (old new : Pending) (units : List BlockUnit) → old ≡ at_start stack number → HasTaken old new units (written a) (written b)
-    → HasWritten written waiting faults flushes a b 0 → Wrote written waiting faults flushes b c result (pieces_text new.stack new.number (fewest (held_units new.piece))) → Wrote written waiting faults flushes a c result (pieces_text stack number (fewest units))
-taken_wrote {written = written} {a = a} {b = b} stack number old new units start taken moved wrote =
-    let first = since (written a) (written b) in
+pub taken_wrote : {E : Type 0} {a b c : OutputPast} {result : Result (Unit {0}) E} (stack : Description) (number : ℕ) (old new : Pending) (units : List BlockUnit) → old ≡ at_start stack number → HasTaken old new units a.written b.written
+    → HasWritten a b 0 → Wrote b c result (pieces_text new.stack new.number (fewest (held_units new.piece))) → Wrote a c result (pieces_text stack number (fewest units))
+taken_wrote {a = a} {b = b} stack number old new units start taken moved wrote =
+    let first = written_since a b in
     let last = pieces_text new.stack new.number (fewest (held_units new.piece)) in
     let whole : pieces_text stack number (fewest units) ≡ first ++ last =
-    sym (same_text stack number old (fewest units) start) ∙ taken_text old new units (written a) (written b) (ap (λ (h : Pending). h.piece) start) taken
+    sym (same_text stack number old (fewest units) start) ∙ taken_text old new units a.written b.written (ap (λ (h : Pending). h.piece) start) taken
     ∙ ap (λ (xs : List ℕ). first ++ xs) (sym (text_kept old new (fewest (held_units new.piece)) taken.stack taken.number)) in
     and_then first last whole (record { moved = moved; ok = refl; left = tt }) wrote
 

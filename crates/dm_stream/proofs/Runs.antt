@@ -56,9 +56,9 @@ part_mapped stack fault e old new delivered w0 w1 Stopped ends stopped among =
     (stopped_at stack fault old new among.first among.later requests.ending w0 w1 (stopped among.first among.holds)))
 
 -- nothing more is read then
-pub stopped_met : {X : Type 0} (faults ends : X → ℕ) (old new : X) (fault : NotMapped) (e : ending.Ending) → e ≡ ending_for fault → MetNothing faults ends old new → HasMet e faults ends old new
-stopped_met faults ends old new (causes.Unknown number) e is met = subst (λ (x : ending.Ending). HasMet x faults ends old new) (sym is) met
-stopped_met faults ends old new causes.Output e is met = subst (λ (x : ending.Ending). HasMet x faults ends old new) (sym is) tt
+pub stopped_met : (old new : InputPast) (fault : NotMapped) (e : ending.Ending) → e ≡ ending_for fault → MetNothing old new → HasMet e old new
+stopped_met old new (causes.Unknown number) e is met = subst (λ (x : ending.Ending). HasMet x old new) (sym is) met
+stopped_met old new causes.Output e is met = subst (λ (x : ending.Ending). HasMet x old new) (sym is) tt
 
 -- ---- what comes after the answers
 
@@ -70,12 +70,12 @@ no_write_failed ending.TheVariants.ReadFault other = refl
 no_write_failed ending.TheVariants.WriteFault other = absurd (other refl)
 
 -- what the answers leave to write is left of the whole
-pub rest_cut : {X E : Type 0} (written waiting : X → List ℕ) (faults flushes : X → ℕ) (fault : E) (old new : X) (stack : Description) (status : Bool) (outcome : Outcome) (left : State) (e : ending.Ending) → e ≡ ending.TheVariants.WriteFault
-    → HasWritten written waiting faults flushes old new (write_faults e) → IsMapped outcome (since (written old) (written new)) left e → Wrote written waiting faults flushes old new (Err fault) (with_status stack status outcome).output
-rest_cut written waiting faults flushes fault old new stack status outcome left e is moved mapped = record {
-  moved = subst (λ (x : ending.Ending). HasWritten written waiting faults flushes old new (write_faults x)) is moved;
+pub rest_cut : {E : Type 0} (fault : E) (old new : OutputPast) (stack : Description) (status : Bool) (outcome : Outcome) (left : State) (e : ending.Ending) → e ≡ ending.TheVariants.WriteFault
+    → HasWritten old new (write_faults e) → IsMapped outcome (written_since old new) left e → Wrote old new (Err fault) (with_status stack status outcome).output
+rest_cut fault old new stack status outcome left e is moved mapped = record {
+  moved = subst (λ (x : ending.Ending). HasWritten old new (write_faults x)) is moved;
   ok = tt;
-  left = cut_of_more outcome.output (since (written old) (written new)) (if_done status outcome.ending (status_text stack outcome.state)) (mapped.cut is);
+  left = cut_of_more outcome.output (written_since old new) (if_done status outcome.ending (status_text stack outcome.state)) (mapped.cut is);
 }
 
 -- ---- the end of a run
@@ -86,9 +86,9 @@ closed_after (Ok done) P Q failed fact = fact
 closed_after (Err fault) P Q failed fact = let err = failed.0 in absurd cc
 
 -- all was written and flushed
-pub ran_whole : {X : Type 0} (E : Type 0) (written waiting : X → List ℕ) (faults flushes : X → ℕ) (old new : X) (stack : Description) (status : Bool) (outcome : Outcome) (text : List ℕ) (left after : State) (e : ending.Ending) → e ≢ ending.TheVariants.WriteFault → after ≡ left
-    → IsMapped outcome text left e → IsClosedAfter written waiting faults flushes old new (IsErr {T = Unit {0}} {E = E} (Ok tt)) (with_status stack status outcome).output → HasRun written waiting faults flushes old new (with_status stack status outcome) after e
-ran_whole E written waiting faults flushes old new stack status outcome text left after e no_fault same mapped closed =
+pub ran_whole : (E : Type 0) (old new : OutputPast) (stack : Description) (status : Bool) (outcome : Outcome) (text : List ℕ) (left after : State) (e : ending.Ending) → e ≢ ending.TheVariants.WriteFault → after ≡ left
+    → IsMapped outcome text left e → IsClosedAfter old new (IsErr {T = Unit {0}} {E = E} (Ok tt)) (with_status stack status outcome).output → HasRun old new (with_status stack status outcome) after e
+ran_whole E old new stack status outcome text left after e no_fault same mapped closed =
     let whole = mapped.whole no_fault in
     record {
       output = closed_as (IsErr {T = Unit {0}} {E = E} (Ok tt)) (e ≡ ending.TheVariants.WriteFault) (λ err. absurd cc) (λ is. absurd (no_fault is)) closed;
@@ -96,9 +96,9 @@ ran_whole E written waiting faults flushes old new stack status outcome text lef
     }
 
 -- the output failed
-pub ran_failed : {X : Type 0} (E : Type 0) (written waiting : X → List ℕ) (faults flushes : X → ℕ) (old new : X) (fault : E) (outcome : Outcome) (left : State) → IsClosedAfter written waiting faults flushes old new (IsErr {T = Unit {0}} (Err fault)) outcome.output
-    → HasRun written waiting faults flushes old new outcome left ending.TheVariants.WriteFault
-ran_failed E written waiting faults flushes old new fault outcome left closed = record {
+pub ran_failed : (E : Type 0) (old new : OutputPast) (fault : E) (outcome : Outcome) (left : State) → IsClosedAfter old new (IsErr {T = Unit {0}} (Err fault)) outcome.output
+    → HasRun old new outcome left ending.TheVariants.WriteFault
+ran_failed E old new fault outcome left closed = record {
   output = closed_as _ _ (λ err. refl) (λ is. refl) closed;
   ends = λ other. absurd (other refl);
 }

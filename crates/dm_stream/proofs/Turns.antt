@@ -3,9 +3,9 @@ use Rattle.std.proofs.Common.{◌≡◌, ◌≤◌, ◌==◌, cond, true, false,
 use Rattle.std.specs.List.{onto_first}
 use Rattle.std.proofs.lemmas.Bool.{ltb-false}
 use Rattle.std.proofs.lemmas.List.{append-nil}
-use Rattle.dm_table.specs.DeviceIo.{Stand, Clean, Failed, Open, delivery, since, stand_of}
+use Rattle.dm_table.specs.DeviceIo.{Stand, Clean, Failed, Open, InputPast, delivery, since, stand_of}
 use Rattle.dm_stream.specs.Lines.{Answer, ALine, ALong, line_parts, next_answer, rest_answer}
-use Rattle.dm_table.specs.Progress.{MetNothing}
+use Rattle.dm_table.specs.Progress.{HasGrown, MetNothing}
 use Rattle.dm_table.proofs.ProgressLaws.{since-same}
 use Rattle.dm_stream.specs.Requests.{HasMet, IsAmong, NumberedRequest, Requests, after_requests, ends as only_ends, line_requests, next_requests, requests_from, requests_of}
 use Rattle.dm_stream.specs.declared.lines.TheConstants.{MOST_LINE_BYTES}
@@ -69,13 +69,13 @@ Told all held done n =
     (stand : Stand) (more : List ℕ) → requests_from stand 1 (line_parts (all ++ more)) ≡ after_requests done (requests_from stand n (line_parts (held ++ more)))
 
 -- the requests that were answered from the first states on, and then those of the held bytes, are those of all, whatever is still to come; no end and no fault was met
-pub record HasTurned {R H S : Type 0} (handed_of : R → List ℕ) (faults_of ends_of : R → ℕ) (AreAnswered : H → S → List NumberedRequest → H → S → Type 0) (first now : R) (h0 h1 : H) (s0 s1 : S) (held : List ℕ) (n : ℕ) : Type 0 where
+pub record HasTurned {H S : Type 0} (AreAnswered : H → S → List NumberedRequest → H → S → Type 0) (first now : InputPast) (h0 h1 : H) (s0 s1 : S) (held : List ℕ) (n : ℕ) : Type 0 where
   pub done : List NumberedRequest
   pub answered : AreAnswered h0 s0 done h1 s1
-  pub reads : handed_of now ≡ handed_of first ++ since (handed_of first) (handed_of now)
-  pub faults : faults_of now ≡ faults_of first
-  pub ends : ends_of now ≡ ends_of first
-  pub told : Told (since (handed_of first) (handed_of now)) held done n
+  pub reads : HasGrown first.handed now.handed
+  pub faults : now.faults ≡ first.faults
+  pub ends : now.ends ≡ first.ends
+  pub told : Told (since first.handed now.handed) held done n
 
 -- nothing was handed on before the first byte
 pub told_none : (handed held : List ℕ) → held ≡ [] → Told (since handed handed) held [] 1
@@ -120,23 +120,23 @@ by_answer stand held n =
     (rest, ap (requests_from stand n) s.2 ∙ ap (λ parts. next_requests n (next_answer stand parts) rest) (sym s.2))
 
 -- the requests of all that was delivered: those that were handed on, and then by what comes next
-all_requests : (h0 h1 h2 held : List ℕ) (f0 f1 f2 e0 e1 e2 n : ℕ) (done : List NumberedRequest) (answer : Answer) → Told (since h0 h1) held done n
-    → h1 ≡ h0 ++ since h0 h1 → h2 ≡ h1 ++ since h1 h2 → f1 ≡ f0 → e1 ≡ e0 → answer ≡ next_answer (stand_of f1 f2 e1 e2) (line_parts (held ++ since h1 h2))
-    → (rest : Requests) × (requests_of (record { bytes = since h0 h2; stand = stand_of f0 f2 e0 e2 }) ≡ after_requests done (next_requests n answer rest))
-all_requests h0 h1 h2 held f0 f1 f2 e0 e1 e2 n done answer told reads more faults ends next =
-    let stand = stand_of f0 f2 e0 e2 in
-    let new = since h1 h2 in
-    let same : stand_of f1 f2 e1 e2 ≡ stand = ap (λ k. stand_of k f2 e1 e2) faults ∙ ap (λ k. stand_of f0 f2 k e2) ends in
+all_requests : (p0 p1 p2 : InputPast) (held : List ℕ) (n : ℕ) (done : List NumberedRequest) (answer : Answer) → Told (since p0.handed p1.handed) held done n
+    → HasGrown p0.handed p1.handed → HasGrown p1.handed p2.handed → p1.faults ≡ p0.faults → p1.ends ≡ p0.ends → answer ≡ next_answer (stand_of p1 p2) (line_parts (held ++ since p1.handed p2.handed))
+    → (rest : Requests) × (requests_of (delivery p0 p2) ≡ after_requests done (next_requests n answer rest))
+all_requests p0 p1 p2 held n done answer told reads more faults ends next =
+    let stand = stand_of p0 p2 in
+    let new = since p1.handed p2.handed in
+    let same : stand_of p1 p2 ≡ stand = ap (λ (k : ℕ). stand_of (record p1 { faults = k }) p2) faults ∙ ap (λ (k : ℕ). stand_of (record p0 { ends = k }) p2) ends in
     let b = by_answer stand (held ++ new) n in (
       b.0,
-      ap (λ xs. requests_from stand 1 (line_parts xs)) (since_more h0 h1 h2 reads more) ∙ told stand new
+      ap (λ xs. requests_from stand 1 (line_parts xs)) (since_more p0.handed p1.handed p2.handed reads more) ∙ told stand new
           ∙ ap (after_requests done) (b.1 ∙ ap (λ a. next_requests n a b.0) (sym (next ∙ ap (λ s. next_answer s (line_parts (held ++ new))) same))),
     )
 
 -- a handler that was told of a read answered what it had answered
-pub after_waiting : {R H S : Type 0} {handed_of : R → List ℕ} {faults_of ends_of : R → ℕ} {AreAnswered : H → S → List NumberedRequest → H → S → Type 0} {first mid : R} {h0 h1 h2 : H} {s0 s1 : S} {held : List ℕ} {n : ℕ}
-    → ((a b c : H) (s t u : S) (us vs : List NumberedRequest) → AreAnswered a s us b t → AreAnswered b t vs c u → AreAnswered a s (us ++ vs) c u) → HasTurned handed_of faults_of ends_of AreAnswered first mid h0 h1 s0 s1 held n → AreAnswered h1 s1 [] h2 s1
-    → HasTurned handed_of faults_of ends_of AreAnswered first mid h0 h2 s0 s1 held n
+pub after_waiting : {H S : Type 0} {AreAnswered : H → S → List NumberedRequest → H → S → Type 0} {first mid : InputPast} {h0 h1 h2 : H} {s0 s1 : S} {held : List ℕ} {n : ℕ}
+    → ((a b c : H) (s t u : S) (us vs : List NumberedRequest) → AreAnswered a s us b t → AreAnswered b t vs c u → AreAnswered a s (us ++ vs) c u) → HasTurned AreAnswered first mid h0 h1 s0 s1 held n → AreAnswered h1 s1 [] h2 s1
+    → HasTurned AreAnswered first mid h0 h2 s0 s1 held n
 after_waiting {AreAnswered = AreAnswered} {h0 = h0} {h1 = h1} {h2 = h2} {s0 = s0} {s1 = s1} both turned waits = record {
   done = turned.done;
   answered = subst (λ (requests : List NumberedRequest). AreAnswered h0 s0 requests h2 s1) (append-nil turned.done) (both h0 h1 h2 s0 s1 s1 turned.done [] turned.answered waits);
@@ -147,27 +147,26 @@ after_waiting {AreAnswered = AreAnswered} {h0 = h0} {h1 = h1} {h2 = h2} {s0 = s0
 }
 
 -- they end with what comes next, so those that were answered are all
-pub ended : {R H S : Type 0} (handed_of : R → List ℕ) (faults_of ends_of : R → ℕ) (AreAnswered : H → S → List NumberedRequest → H → S → Type 0) {first mid last : R} {h0 h1 h2 : H} {s0 s1 : S} {held : List ℕ} {n : ℕ} (answer : Answer) (e : ending.Ending)
-    → ((a b c : H) (s t u : S) (us vs : List NumberedRequest) → AreAnswered a s us b t → AreAnswered b t vs c u → AreAnswered a s (us ++ vs) c u) → HasTurned handed_of faults_of ends_of AreAnswered first mid h0 h1 s0 s1 held n → AreAnswered h1 s1 [] h2 s1
-    → handed_of last ≡ handed_of mid ++ since (handed_of mid) (handed_of last) → answer ≡ next_answer (delivery handed_of faults_of ends_of mid last).stand (line_parts (held ++ since (handed_of mid) (handed_of last)))
-    → ((rest : Requests) → next_requests n answer rest ≡ only_ends e) → AreAnswered h0 s0 (requests_of (delivery handed_of faults_of ends_of first last)).all h2 s1
-ended handed_of faults_of ends_of AreAnswered {first = first} {mid = mid} {last = last} {h0 = h0} {h2 = h2} {s0 = s0} {s1 = s1} {held = held} {n = n} answer e both before waits more next is =
+pub ended : {H S : Type 0} (AreAnswered : H → S → List NumberedRequest → H → S → Type 0) {first mid last : InputPast} {h0 h1 h2 : H} {s0 s1 : S} {held : List ℕ} {n : ℕ} (answer : Answer) (e : ending.Ending)
+    → ((a b c : H) (s t u : S) (us vs : List NumberedRequest) → AreAnswered a s us b t → AreAnswered b t vs c u → AreAnswered a s (us ++ vs) c u) → HasTurned AreAnswered first mid h0 h1 s0 s1 held n → AreAnswered h1 s1 [] h2 s1
+    → HasGrown mid.handed last.handed → answer ≡ next_answer (stand_of mid last) (line_parts (held ++ since mid.handed last.handed))
+    → ((rest : Requests) → next_requests n answer rest ≡ only_ends e) → AreAnswered h0 s0 (requests_of (delivery first last)).all h2 s1
+ended AreAnswered {first = first} {mid = mid} {last = last} {h0 = h0} {h2 = h2} {s0 = s0} {s1 = s1} {held = held} {n = n} answer e both before waits more next is =
     let turned = after_waiting both before waits in
-    let a = all_requests (handed_of first) (handed_of mid) (handed_of last) held (faults_of first) (faults_of mid) (faults_of last) (ends_of first) (ends_of mid) (ends_of last) n turned.done answer turned.told turned.reads more turned.faults turned.ends next in
+    let a = all_requests first mid last held n turned.done answer turned.told turned.reads more turned.faults turned.ends next in
     subst (λ (requests : List NumberedRequest). AreAnswered h0 s0 requests h2 s1) (sym (ap (λ (q : Requests). q.all) (a.1 ∙ ap (after_requests turned.done) (is a.0)) ∙ append-nil turned.done)) turned.answered
 
 -- where nothing was met, a bad line may be bad by any word
-pub bad_met : {X : Type 0} (faults ends : X → ℕ) (old new : X) (number : ℕ) (w : word.RequestWord) → MetNothing faults ends old new → HasMet (ending.TheVariants.BadRequest number w) faults ends old new
-bad_met faults ends old new number word.TheVariants.Unended met = omega (arith, met.0)
-bad_met faults ends old new number w met = met
+pub bad_met : (old new : InputPast) (number : ℕ) (w : word.RequestWord) → MetNothing old new → HasMet (ending.TheVariants.BadRequest number w) old new
+bad_met old new number word.TheVariants.Unended met = omega (arith, met.0)
+bad_met old new number w met = met
 
 -- the next one is a request, which is the last that was handed on
-pub among : (h0 h1 h2 held : List ℕ) (f0 f1 f2 e0 e1 e2 n : ℕ) (done more : List NumberedRequest) (line : List ℕ) (IsFirst : List NumberedRequest → Type 0) → Told (since h0 h1) held done n
-    → h1 ≡ h0 ++ since h0 h1 → h2 ≡ h1 ++ since h1 h2 → f1 ≡ f0 → e1 ≡ e0 → ALine line ≡ next_answer (stand_of f1 f2 e1 e2) (line_parts (held ++ since h1 h2))
-    → ((rest : Requests) → line_requests n line rest ≡ after_requests more rest) → IsFirst (done ++ more)
-    → IsAmong IsFirst (requests_of (record { bytes = since h0 h2; stand = stand_of f0 f2 e0 e2 })).all
-among h0 h1 h2 held f0 f1 f2 e0 e1 e2 n done more line IsFirst told reads again faults none next is holds =
-    let a = all_requests h0 h1 h2 held f0 f1 f2 e0 e1 e2 n done (ALine line) told reads again faults none next in
+pub among : (p0 p1 p2 : InputPast) (held : List ℕ) (n : ℕ) (done more : List NumberedRequest) (line : List ℕ) (IsFirst : List NumberedRequest → Type 0) → Told (since p0.handed p1.handed) held done n
+    → HasGrown p0.handed p1.handed → HasGrown p1.handed p2.handed → p1.faults ≡ p0.faults → p1.ends ≡ p0.ends → ALine line ≡ next_answer (stand_of p1 p2) (line_parts (held ++ since p1.handed p2.handed))
+    → ((rest : Requests) → line_requests n line rest ≡ after_requests more rest) → IsFirst (done ++ more) → IsAmong IsFirst (requests_of (delivery p0 p2)).all
+among p0 p1 p2 held n done more line IsFirst told reads again faults none next is holds =
+    let a = all_requests p0 p1 p2 held n done (ALine line) told reads again faults none next in
     record {
       first = done ++ more;
       later = a.0.all;

@@ -1,6 +1,6 @@
 -- The message of each ending, and how a message is told.
 use Rattle.std.specs.Prelude.{◌≡◌, ◌≤◌, ℕ, ◌+◌, List, [], ◌++◌, codes, decimal}
-use Rattle.dm_table.specs.DeviceIo.{since}
+use Rattle.dm_table.specs.DeviceIo.{OutputPast, written_since}
 use Rattle.dm_table.specs.WriteAll.{IsBeginning}
 use Rattle.dm_table.specs.Progress.{HasGrown}
 use Rattle.dm_stream.specs.declared.ending.Ending.{Ending}
@@ -36,14 +36,14 @@ ending_message endings.ReadFault = read_message
 ending_message endings.WriteFault = write_message
 
 -- the message was written whole, or a beginning of it if its stream failed
-pub record IsTold (message written : List ℕ) (faults_old faults_new : ℕ) : Type 0 where
-  pub beginning : IsBeginning message written
-  pub whole : faults_new ≡ faults_old → written ≡ message
+pub record IsTold (message : List ℕ) (old new : OutputPast) : Type 0 where
+  pub beginning : IsBeginning message (written_since old new)
+  pub whole : new.faults ≡ old.faults → written_since old new ≡ message
 
 -- it was told on a stream, which only took more, and was not flushed; nothing is told after a write that failed
-pub record HasTold {X : Type 0} (written : X → List ℕ) (faults flushes : X → ℕ) (message : List ℕ) (old new : X) : Type 0 where
-  pub appends : HasGrown written old new
-  pub told : IsTold message (since (written old) (written new)) (faults old) (faults new)
-  pub grows : faults old ≤ faults new
-  pub fails_once : faults new ≤ faults old + 1
-  pub unflushed : flushes new ≡ flushes old
+pub record HasTold (message : List ℕ) (old new : OutputPast) : Type 0 where
+  pub appends : HasGrown old.written new.written
+  pub told : IsTold message old new
+  pub grows : old.faults ≤ new.faults
+  pub fails_once : new.faults ≤ old.faults + 1
+  pub unflushed : new.flushes ≡ old.flushes

@@ -3,7 +3,7 @@ use Rattle.std.specs.Prelude.{◌≡◌, ◌<◌, ◌≤◌, ℕ, ◌+◌, List,
 use Rattle.dm_table.specs.declared.request.Request.{Request}
 use Rattle.dm_table.specs.declared.request.RequestFault.{RequestFault}
 use Rattle.dm_table.specs.declared.request.RequestFault.TheVariants as faults
-use Rattle.dm_table.specs.DeviceIo.{Stand, Delivery}
+use Rattle.dm_table.specs.DeviceIo.{Delivery, InputPast, Stand}
 use Rattle.dm_table.specs.Progress.{MetNothing}
 use Rattle.dm_table.specs.RequestLine.{RequestValues, values_of, request_reading}
 use Rattle.dm_stream.specs.Lines.{Answer, ALine, AnEnd, AnUnended, ALong, AFault, Waits, line_parts, next_answer}
@@ -80,9 +80,9 @@ pub record IsAmong (IsFirst : List NumberedRequest → Type 0) (requests : List 
   pub holds : IsFirst first
 
 -- what the input of requests met, by how they end: nothing at a bad line, unless an end left it without its newline
-abbrev pub HasMet : {X : Type 0} → ending.Ending → (faults ends : X → ℕ) → (old new : X) → Type 0
-HasMet ending.TheVariants.Done faults ends old new = faults new ≤ faults old
-HasMet (ending.TheVariants.BadRequest number word.TheVariants.Unended) faults ends old new = faults new ≤ faults old
-HasMet (ending.TheVariants.BadRequest number w) faults ends old new = MetNothing faults ends old new
-HasMet ending.TheVariants.ReadFault faults ends old new = faults old < faults new
-HasMet ending.TheVariants.WriteFault faults ends old new = Unit {0}
+abbrev pub HasMet : ending.Ending → (old new : InputPast) → Type 0
+HasMet ending.TheVariants.Done old new = new.faults ≤ old.faults
+HasMet (ending.TheVariants.BadRequest number word.TheVariants.Unended) old new = new.faults ≤ old.faults
+HasMet (ending.TheVariants.BadRequest number w) old new = MetNothing old new
+HasMet ending.TheVariants.ReadFault old new = old.faults < new.faults
+HasMet ending.TheVariants.WriteFault old new = Unit {0}

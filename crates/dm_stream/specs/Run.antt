@@ -1,5 +1,6 @@
 -- What a run did, against the outcome of what it was given.
 use Rattle.std.specs.Prelude.{◌≡◌, ◌≢◌, ℕ, List, Some, false}
+use Rattle.dm_table.specs.DeviceIo.{OutputPast}
 use Rattle.dm_table.specs.Progress.{IsClosedAfter}
 use Rattle.dm_table.specs.WriteAll.{IsCutShort}
 use Rattle.dm_stream.specs.declared.ending.Ending as ending
@@ -39,6 +40,6 @@ pub record IsMapped (outcome : Outcome) (text : List ℕ) (left : State) (e : en
   pub cut : e ≡ ending.TheVariants.WriteFault → IsCutShort outcome.output text
 
 -- what was done by the end, with the flush: the output was closed after that of the outcome; unless it failed, the run ends as the outcome does and leaves its state
-pub record HasRun {X : Type 0} (written waiting : X → List ℕ) (faults flushes : X → ℕ) (old new : X) (outcome : Outcome) (left : State) (e : ending.Ending) : Type 0 where
-  pub output : IsClosedAfter written waiting faults flushes old new (e ≡ ending.TheVariants.WriteFault) outcome.output
+pub record HasRun (old new : OutputPast) (outcome : Outcome) (left : State) (e : ending.Ending) : Type 0 where
+  pub output : IsClosedAfter old new (e ≡ ending.TheVariants.WriteFault) outcome.output
   pub ends : e ≢ ending.TheVariants.WriteFault → (outcome.ending ≡ Some e) × (left ≡ outcome.state)

@@ -99,7 +99,7 @@ impl<'s> HeldPiece<'s> {
     /// Writes the line of the held piece, which is then held no longer. Writes nothing if none is held.
     #[inline(always)]
     pub(crate) fn write<W: Output>(&mut self, writer: &mut W) -> Result<(), OutFault>
-        ensures wrote { Wrote W.written W.waiting W.faults W.flushes writer.old writer.new result
+        ensures wrote { Wrote (W.past writer.old) (W.past writer.new) result
             (pieces_text self.old.stack self.old.number (fewest (held_units self.old.piece))) }
         ensures nothing { self.new ≡ record { stack = self.old.stack; number = self.old.number; piece = None } }
     {

@@ -60,7 +60,7 @@ impl<'s, W: Output> Join<'s, W> {
     /// many writes as the one line takes, and none if nothing is held. No memory is taken.
     #[inline(always)]
     pub fn finish(&mut self) -> Result<(), OutFault>
-        ensures wrote { Wrote W.written W.waiting W.faults W.flushes self.old.writer.now self.new.writer.now result
+        ensures wrote { Wrote (W.past self.old.writer.now) (W.past self.new.writer.now) result
             (pieces_text self.old.held.stack self.old.held.number (fewest (held_units self.old.held.piece))) }
         ensures nothing { self.new.held ≡ record { stack = self.old.held.stack; number = self.old.held.number; piece = None } }
         ensures same_reference { IsSameReference self.old.writer self.new.writer }
@@ -73,8 +73,8 @@ impl<'s, W: Output> Join<'s, W> {
     /// Has the writer hand on what it gathered. Nothing is written or flushed.
     pub(crate) fn hand_on(&mut self)
         ensures held { self.new.held ≡ self.old.held }
-        ensures moved { HasWrittenTo W.written W.waiting W.faults W.flushes self.old.writer self.new.writer 0 }
-        ensures written { W.written self.new.writer.now ≡ W.written self.old.writer.now }
+        ensures moved { HasWrittenTo W.past self.old.writer self.new.writer 0 }
+        ensures written { (W.past self.new.writer.now).written ≡ (W.past self.old.writer.now).written }
     {
         self.writer.hand_on();
     }
@@ -101,19 +101,19 @@ impl<W: Output> Sink for Join<'_, W> {
 
     ghost room = { λ join. 2 ^ 64 - 1 - held_diskless join.held.piece };
 
-    ghost faults = { λ join. W.faults join.writer.now };
+    ghost faults = { λ join. (W.past join.writer.now).faults };
 
-    ghost took = { λ old units new. HasTaken old.held new.held units (W.written old.writer.now) (W.written new.writer.now)
-        × HasWrittenTo W.written W.waiting W.faults W.flushes old.writer new.writer 0 };
+    ghost took = { λ old units new. HasTaken old.held new.held units (W.past old.writer.now).written (W.past new.writer.now).written
+        × HasWrittenTo W.past old.writer new.writer 0 };
 
-    ghost left = { λ old units new. HasLeft old.held new.held units (W.written old.writer.now) (W.written new.writer.now)
-        × HasWrittenTo W.written W.waiting W.faults W.flushes old.writer new.writer 1 };
+    ghost left = { λ old units new. HasLeft old.held new.held units (W.past old.writer.now).written (W.past new.writer.now).written
+        × HasWrittenTo W.past old.writer new.writer 1 };
 
-    ghost took_nothing = { λ s. (took_none s.held (W.written s.writer.now), written_to_none W.written W.waiting W.faults W.flushes s.writer) };
+    ghost took_nothing = { λ s. (took_none s.held (W.past s.writer.now).written, written_to_none W.past s.writer) };
 
-    ghost took_then_took = { λ a b c us vs first second. (took_more a.held b.held c.held us vs _ _ _ first.1.moved.appends second.1.moved.appends first.0 second.0, written_to_more W.written W.waiting W.faults W.flushes a.writer b.writer c.writer 0 first.1 second.1) };
+    ghost took_then_took = { λ a b c us vs first second. (took_more a.held b.held c.held us vs _ _ _ first.1.moved.appends second.1.moved.appends first.0 second.0, written_to_more W.past a.writer b.writer c.writer 0 first.1 second.1) };
 
-    ghost took_then_left = { λ a b c us vs first second. (left_more a.held b.held c.held us vs _ _ _ first.1.moved.appends second.1.moved.appends first.0 second.0, written_to_more W.written W.waiting W.faults W.flushes a.writer b.writer c.writer 1 first.1 second.1) };
+    ghost took_then_left = { λ a b c us vs first second. (left_more a.held b.held c.held us vs _ _ _ first.1.moved.appends second.1.moved.appends first.0 second.0, written_to_more W.past a.writer b.writer c.writer 1 first.1 second.1) };
 
     #[inline(always)]
     fn piece(&mut self, piece: Piece) -> Result<(), OutFault> {

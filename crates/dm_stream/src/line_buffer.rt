@@ -47,7 +47,7 @@ pub(crate) fn read_after<R: Input>(
     requires { end < length buffer.old }
     ensures within { IfOk result (λ n. end + n ≤ length buffer.new) }
     ensures kept { take end buffer.new ≡ take end buffer.old }
-    ensures read { HasRead R.handed R.faults R.ends reader.old reader.new result (given result (drop end buffer.new)) }
+    ensures read { HasRead (R.past reader.old) (R.past reader.new) result (given result (drop end buffer.new)) }
 {
     reader.read(&mut buffer[end..])
 }

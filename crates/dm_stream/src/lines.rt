@@ -131,8 +131,8 @@ impl Lines {
     /// Reads once, after the held bytes.
     fn fill<R: Input>(&mut self, reader: &mut R) -> Result<usize, InFault>
         requires { length self.old ≤ MOST_LINE_BYTES }
-        ensures read { HasRead R.handed R.faults R.ends reader.old reader.new result (since (R.handed reader.old) (R.handed reader.new)) }
-        ensures held { self.new ≡ self.old ++ since (R.handed reader.old) (R.handed reader.new) }
+        ensures read { HasRead (R.past reader.old) (R.past reader.new) result (since (R.past reader.old).handed (R.past reader.new).handed) }
+        ensures held { self.new ≡ self.old ++ since (R.past reader.old).handed (R.past reader.new).handed }
         ensures count { IfOk result (λ n. length self.new ≡ length self.old + n) }
         ensures none { IfOk result (λ n. n ≡ 0 → self.new ≡ self.old) }
         ensures err { OnErr result (self.new ≡ self.old) }
@@ -148,11 +148,11 @@ impl Lines {
 
     /// Reads until the held bytes settle what comes next. A line stays held.
     fn advance<R: Input>(&mut self, reader: &mut R) -> NextHeld
-        ensures reads { IsReadOn R.handed R.faults R.ends reader.old reader.new }
-        ensures held { self.new ≡ self.old ++ since (R.handed reader.old) (R.handed reader.new) }
+        ensures reads { IsReadOn (R.past reader.old) (R.past reader.new) }
+        ensures held { self.new ≡ self.old ++ since (R.past reader.old).handed (R.past reader.new).handed }
         ensures fits { FitsIn result self.new }
-        ensures quiet { OnHeldLine result (MetNothing R.faults R.ends reader.old reader.new) }
-        ensures answer { next_answer (delivery R.handed R.faults R.ends reader.old reader.new).stand (line_parts self.new)
+        ensures quiet { OnHeldLine result (MetNothing (R.past reader.old) (R.past reader.new)) }
+        ensures answer { next_answer (delivery (R.past reader.old) (R.past reader.new)).stand (line_parts self.new)
             ≡ held_answer result self.new }
     {
         let mut searched = 0;
@@ -180,13 +180,13 @@ impl Lines {
     /// Cost: time linear in the bytes read, however they arrive. Takes no memory.
     pub fn next<R: Input>(&mut self, reader: &mut R) -> Next<'_>
         ensures* after { sem 𝓛 (Rests the_row self.entry (λ new.
-            new ≡ left_of (answer_of result) (self.old ++ since (R.handed reader.old) (R.handed reader.new)))) }
+            new ≡ left_of (answer_of result) (self.old ++ since (R.past reader.old).handed (R.past reader.new).handed))) }
         // Nothing is read after an end or a fault.
-        ensures reads { IsReadOn R.handed R.faults R.ends reader.old reader.new }
+        ensures reads { IsReadOn (R.past reader.old) (R.past reader.new) }
         // A line is returned, or is too long, before an end or a fault is met.
-        ensures quiet { OnLine result (MetNothing R.faults R.ends reader.old reader.new) }
-        ensures answer { answer_of result ≡ next_answer (delivery R.handed R.faults R.ends reader.old reader.new).stand
-            (line_parts (self.old ++ since (R.handed reader.old) (R.handed reader.new))) }
+        ensures quiet { OnLine result (MetNothing (R.past reader.old) (R.past reader.new)) }
+        ensures answer { answer_of result ≡ next_answer (delivery (R.past reader.old) (R.past reader.new)).stand
+            (line_parts (self.old ++ since (R.past reader.old).handed (R.past reader.new).handed)) }
     {
         match self.advance(reader) {
             NextHeld::Line(n) => {

@@ -14,7 +14,7 @@ ghost use Rattle.dm_stream.specs.Requests.{HasMet};
 ghost use Rattle.dm_stream.specs.Run.{CanMap, HasRun, IsMapped, StaysMapper, ending_for, write_faults};
 ghost use Rattle.dm_stream.specs.declared.lines.TheConstants.{MOST_LINE_BYTES};
 ghost use Rattle.dm_stream.specs.declared.requests.TheConstants.{MOST_REQUESTS};
-ghost use Rattle.dm_table.specs.DeviceIo.{delivery, since};
+ghost use Rattle.dm_table.specs.DeviceIo.{OutputPast, delivery, written_since};
 ghost use Rattle.dm_table.specs.Progress.{HasWritten, HasWrittenTo, IsReadOn, Wrote};
 
 use crate::ending::{Ending, NotMapped, RequestWord};
@@ -49,11 +49,11 @@ fn map_lines<'s, T: Taken, R: Input, W: Output>(
     requires { IsReady handler.old.devices mapper.old handler.old.join.held }
     ensures mapper { StaysMapper mapper.old mapper.new result }
     ensures nothing { handler.new.join.held.piece ≡ None }
-    ensures reads { IsReadOn R.handed R.faults R.ends requests.old requests.new }
-    ensures writes { HasWrittenTo W.written W.waiting W.faults W.flushes handler.old.join.writer handler.new.join.writer (write_faults result) }
-    ensures mapped { IsMapped (requests_outcome handler.old.devices mapper.old.state (delivery R.handed R.faults R.ends requests.old requests.new))
-        (since (W.written handler.old.join.writer.now) (W.written handler.new.join.writer.now)) mapper.new.state result }
-    ensures met { HasMet result R.faults R.ends requests.old requests.new }
+    ensures reads { IsReadOn (R.past requests.old) (R.past requests.new) }
+    ensures writes { HasWrittenTo W.past handler.old.join.writer handler.new.join.writer (write_faults result) }
+    ensures mapped { IsMapped (requests_outcome handler.old.devices mapper.old.state (delivery (R.past requests.old) (R.past requests.new)))
+        (written_since (W.past handler.old.join.writer.now) (W.past handler.new.join.writer.now)) mapper.new.state result }
+    ensures met { HasMet result (R.past requests.old) (R.past requests.new) }
 {
     match handle_requests(requests, handler, mapper) {
         Ok(ending) => ending,
@@ -70,11 +70,11 @@ fn map_requests<'s, T: Taken, R: Input, W: Output>(
 ) -> Ending
     requires { CanMap stack.now mapper.old }
     ensures mapper { StaysMapper mapper.old mapper.new result }
-    ensures reads { IsReadOn R.handed R.faults R.ends requests.old requests.new }
-    ensures writes { HasWritten W.written W.waiting W.faults W.flushes output.old output.new (write_faults result) }
-    ensures mapped { IsMapped (requests_outcome stack.now mapper.old.state (delivery R.handed R.faults R.ends requests.old requests.new))
-        (since (W.written output.old) (W.written output.new)) mapper.new.state result }
-    ensures met { HasMet result R.faults R.ends requests.old requests.new }
+    ensures reads { IsReadOn (R.past requests.old) (R.past requests.new) }
+    ensures writes { HasWritten (W.past output.old) (W.past output.new) (write_faults result) }
+    ensures mapped { IsMapped (requests_outcome stack.now mapper.old.state (delivery (R.past requests.old) (R.past requests.new)))
+        (written_since (W.past output.old) (W.past output.new)) mapper.new.state result }
+    ensures met { HasMet result (R.past requests.old) (R.past requests.new) }
 {
     let mut handler = RequestMapper {
         devices: LastDevice::new(stack),
@@ -99,9 +99,9 @@ fn write_rest<T: Taken, W: Output>(
     ensures same { mapper.new ≡ with_looked mapper.old mapper.new.looked }
     ensures no_fault { OnOk result (ending ≢ Ending.WriteFault) }
     // Wherever the answers began.
-    ensures wrote { (start : W) (outcome : Outcome) → HasWritten W.written W.waiting W.faults W.flushes start output.old (write_faults ending)
-        → IsMapped outcome (since (W.written start) (W.written output.old)) mapper.old.state ending
-        → Wrote W.written W.waiting W.faults W.flushes start output.new result (with_status stack.now status outcome).output }
+    ensures wrote { (start : OutputPast) (outcome : Outcome) → HasWritten start (W.past output.old) (write_faults ending)
+        → IsMapped outcome (written_since start (W.past output.old)) mapper.old.state ending
+        → Wrote start (W.past output.new) result (with_status stack.now status outcome).output }
 {
     match ending {
         Ending::WriteFault => Err(OutFault),
@@ -121,10 +121,10 @@ fn map_and_flush<'s, T: Taken, R: Input, W: Output>(
 ) -> Ending
     requires { CanMap stack.now mapper.old }
     ensures mapper { StaysMapper mapper.old mapper.new result }
-    ensures reads { IsReadOn R.handed R.faults R.ends requests.old requests.new }
-    ensures met { HasMet result R.faults R.ends requests.old requests.new }
-    ensures ran { HasRun W.written W.waiting W.faults W.flushes output.old output.new
-        (run_outcome stack.now status mapper.old.state (delivery R.handed R.faults R.ends requests.old requests.new)) mapper.new.state result }
+    ensures reads { IsReadOn (R.past requests.old) (R.past requests.new) }
+    ensures met { HasMet result (R.past requests.old) (R.past requests.new) }
+    ensures ran { HasRun (W.past output.old) (W.past output.new)
+        (run_outcome stack.now status mapper.old.state (delivery (R.past requests.old) (R.past requests.new))) mapper.new.state result }
 {
     let ending = map_requests(stack, mapper, requests, output);
     let written = write_rest(stack, mapper, ending, status, output);
@@ -165,15 +165,15 @@ pub fn run<'s, T: Taken, R: Input, W: Output, E: Output>(
     ensures going { result ≢ Ending.WriteFault → mapper.new.stopped ≡ false }
     // What the requests delivered gives what is written, and how it ends and the state that is left unless the output failed. The
     // output was flushed once; if it failed, it had taken a beginning: all, if the flush failed, and less, if a write did.
-    ensures ran { HasRun W.written W.waiting W.faults W.flushes output.old output.new
-        (run_outcome stack.now status mapper.old.state (delivery R.handed R.faults R.ends requests.old requests.new)) mapper.new.state result }
+    ensures ran { HasRun (W.past output.old) (W.past output.new)
+        (run_outcome stack.now status mapper.old.state (delivery (R.past requests.old) (R.past requests.new))) mapper.new.state result }
     // Requests are only read on, and nothing is read after an end or a fault. It ends with `ReadFault` only where reading failed,
     // and with `Done` only where it did not. Nothing is read after a bad line: any read may fail or come to an end, and neither
     // was met, but for the end that leaves a line unended.
-    ensures reads { IsReadOn R.handed R.faults R.ends requests.old requests.new }
-    ensures met { HasMet result R.faults R.ends requests.old requests.new }
+    ensures reads { IsReadOn (R.past requests.old) (R.past requests.new) }
+    ensures met { HasMet result (R.past requests.old) (R.past requests.new) }
     // The message of the ending, or a beginning of it if its stream failed.
-    ensures told { HasTold E.written E.faults E.flushes (ending_message result) messages.old messages.new }
+    ensures told { HasTold (ending_message result) (E.past messages.old) (E.past messages.new) }
     // No other pieces of a request's units are as few.
     ensures fewest { (units : List BlockUnit) → AreFewest units (fewest units) }
     // The figures of the limits.

@@ -15,7 +15,7 @@ pub type Message = ArrayVec<u8, 64>;
 
 /// Writes a message, as far as its stream takes it. Nothing is flushed.
 pub fn tell<E: Output>(messages: &mut E, message: &[u8])
-    ensures { HasTold E.written E.faults E.flushes message.now messages.old messages.new }
+    ensures { HasTold message.now (E.past messages.old) (E.past messages.new) }
 {
     let _ = write_all(messages, message);
 }

@@ -97,7 +97,7 @@ pub(crate) fn put_piece<W: Output>(
     piece: &Piece,
 ) -> Result<(), OutFault>
     requires lies { IsOnDisks stack.now piece.now }
-    ensures { Wrote W.written W.waiting W.faults W.flushes writer.old writer.new result (piece_text stack.now prefix.now (piece_view piece.now)) }
+    ensures { Wrote (W.past writer.old) (W.past writer.new) result (piece_text stack.now prefix.now (piece_view piece.now)) }
 {
     match *piece {
         Piece::Read { disk, start, len } | Piece::Write { disk, start, len } => {

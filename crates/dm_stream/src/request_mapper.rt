@@ -39,7 +39,7 @@ fn map_request<T: Taken, W: Output>(
     ensures of_stack { join.new.held.stack ≡ join.old.held.stack }
     ensures nothing { join.new.held.piece ≡ None }
     ensures same_reference { IsSameReference join.old.writer join.new.writer }
-    ensures wrote { Wrote W.written W.waiting W.faults W.flushes join.old.writer.now join.new.writer.now result
+    ensures wrote { Wrote (W.past join.old.writer.now) (W.past join.new.writer.now) result
         (request_answer join.old.held.stack device (numbered request.now) mapper.old.state) }
 {
     join.begin(request.number);
@@ -67,35 +67,35 @@ impl<'s, T: Taken, W: Output> Handler for RequestMapper<'_, 's, T, W> {
     ghost ready = { λ h mapper. IsReady h.devices mapper h.join.held };
 
     ghost answered = { λ old before requests new after.
-        HasAnswered old.devices before.state after.state requests (W.written old.join.writer.now) (W.written new.join.writer.now)
-        × HasWrittenTo W.written W.waiting W.faults W.flushes old.join.writer new.join.writer 0
+        HasAnswered old.devices before.state after.state requests (W.past old.join.writer.now).written (W.past new.join.writer.now).written
+        × HasWrittenTo W.past old.join.writer new.join.writer 0
         × (new.devices ≡ old.devices) × (after.stack ≡ before.stack) };
 
     ghost stopped = { λ old before requests fault new after.
-        HasStopped old.devices fault before.state after requests (W.written old.join.writer.now) (W.written new.join.writer.now)
-        × HasWrittenTo W.written W.waiting W.faults W.flushes old.join.writer new.join.writer (failed_writes fault)
+        HasStopped old.devices fault before.state after requests (W.past old.join.writer.now).written (W.past new.join.writer.now).written
+        × HasWrittenTo W.past old.join.writer new.join.writer (failed_writes fault)
         × (new.devices ≡ old.devices) × (after.stack ≡ before.stack)
         × (new.join.held.piece ≡ None) };
 
     ghost answered_none = { λ h mapper. (
-      answered_none h.devices mapper.state (W.written h.join.writer.now),
-      written_to_none W.written W.waiting W.faults W.flushes h.join.writer,
+      answered_none h.devices mapper.state (W.past h.join.writer.now).written,
+      written_to_none W.past h.join.writer,
       refl,
       refl,
     ) };
 
     ghost answered_then_answered = { λ a b c s t u us vs first second. (
       answered_more a.devices s.state t.state u.state us vs _ _ _ first.1.moved.appends second.1.moved.appends first.0
-          (subst (λ stack. HasAnswered stack t.state u.state vs (W.written b.join.writer.now) (W.written c.join.writer.now)) first.2 second.0),
-      written_to_more W.written W.waiting W.faults W.flushes a.join.writer b.join.writer c.join.writer 0 first.1 second.1,
+          (subst (λ stack. HasAnswered stack t.state u.state vs (W.past b.join.writer.now).written (W.past c.join.writer.now).written) first.2 second.0),
+      written_to_more W.past a.join.writer b.join.writer c.join.writer 0 first.1 second.1,
       second.2 ∙ first.2,
       second.3 ∙ first.3,
     ) };
 
     ghost answered_then_stopped = { λ a b c s t u us vs fault first second. (
       stopped_more a.devices fault s.state t.state u us vs _ _ _ first.1.moved.appends second.1.moved.appends first.0
-          (subst (λ stack. HasStopped stack fault t.state u vs (W.written b.join.writer.now) (W.written c.join.writer.now)) first.2 second.0),
-      written_to_more W.written W.waiting W.faults W.flushes a.join.writer b.join.writer c.join.writer (failed_writes fault) first.1 second.1,
+          (subst (λ stack. HasStopped stack fault t.state u vs (W.past b.join.writer.now).written (W.past c.join.writer.now).written) first.2 second.0),
+      written_to_more W.past a.join.writer b.join.writer c.join.writer (failed_writes fault) first.1 second.1,
       second.2 ∙ first.2,
       second.3 ∙ first.3,
       second.4,

@@ -89,18 +89,18 @@ pub fn handle_requests<R: Input, H: Handler>(
     source: &mut H::Source,
 ) -> Result<Ending, H::Fault>
     requires { H.ready handler.old source.old }
-    ensures moved { IsReadOn R.handed R.faults R.ends requests.old requests.new }
+    ensures moved { IsReadOn (R.past requests.old) (R.past requests.new) }
     // Any read may fail or come to an end, so where neither was met none was asked for after the line.
-    ensures met { IfOk result (λ ending. HasMet ending R.faults R.ends requests.old requests.new) }
+    ensures met { IfOk result (λ ending. HasMet ending (R.past requests.old) (R.past requests.new)) }
     // All requests were answered, and they end by themselves.
-    ensures answered { IfOk result (λ ending. H.answered handler.old source.old (requests_of (delivery R.handed R.faults R.ends requests.old requests.new)).all handler.new source.new) }
-    ensures ending { IfOk result (λ ending. (requests_of (delivery R.handed R.faults R.ends requests.old requests.new)).ending ≡ Some ending) }
+    ensures answered { IfOk result (λ ending. H.answered handler.old source.old (requests_of (delivery (R.past requests.old) (R.past requests.new))).all handler.new source.new) }
+    ensures ending { IfOk result (λ ending. (requests_of (delivery (R.past requests.old) (R.past requests.new))).ending ≡ Some ending) }
     ensures no_write_fault { IfOk result (λ ending. ending ≢ Ending.WriteFault) }
     ensures ready { OnOk result (H.ready handler.new source.new) }
     // The handler stopped at one of them.
     ensures stopped { IfErr result (λ fault. IsAmong (λ first. H.stopped handler.old source.old first fault handler.new source.new)
-        (requests_of (delivery R.handed R.faults R.ends requests.old requests.new)).all) }
-    ensures unread { OnErr result (MetNothing R.faults R.ends requests.old requests.new) }
+        (requests_of (delivery (R.past requests.old) (R.past requests.new))).all) }
+    ensures unread { OnErr result (MetNothing (R.past requests.old) (R.past requests.new)) }
 {
     let mut lines = Lines::new();
     let mut fronts = FrontReader::new();

@@ -2,7 +2,8 @@
 use Rattle.std.proofs.Common.{Result, Ok, Err, OnErr, [], ◌∷◌, ◌≡◌, ◌<◌, ◌≤◌, ℕ, ◌+◌, ◌-◌, List, ◌++◌, length, take, drop, sym, ap, ◌∙◌, add-zero, append_assoc, take-append-drop, arith}
 use Rattle.std.proofs.Math.Seq.{take-add, drop-append_seam}
 use Rattle.std.proofs.lemmas.List.{take_rest, append-nil, drop-drop, length-drop}
-use Rattle.dm_table.specs.DeviceIo.{since}
+use Rattle.dm_table.specs.declared.device_io.OutFault.{OutFault}
+use Rattle.dm_table.specs.DeviceIo.{OutputPast, after_write, since, with_fault}
 use Rattle.dm_table.specs.Progress.{HasWritten, Wrote}
 use Rattle.dm_table.specs.WriteAll.{IsBeginning, IsCutShort}
 use Rattle.dm_table.proofs.Portions.{rest_after}
@@ -66,71 +67,73 @@ write_step old mid new bytes rest n within few is e f =
     ∙ ap (λ at. old ++ take at bytes) (sym (before_rest_after bytes rest n within few))
 
 -- how far some bytes are written: those before a rest of them, and nothing failed
-abbrev pub IsSent : {X : Type 0} (written waiting : X → List ℕ) (faults flushes : X → ℕ) (old new : X) (bytes rest : List ℕ) → Type 0
-IsSent written waiting faults flushes old new bytes rest =
+abbrev pub IsSent : (old new : OutputPast) (bytes rest : List ℕ) → Type 0
+IsSent old new bytes rest =
     let at = before bytes rest in
     record {
       within : length rest ≤ length bytes;
       rest : rest ≡ drop at bytes;
-      written : written new ≡ written old ++ take at bytes;
-      waiting : waiting new ≡ waiting old ++ take at bytes;
-      faults : faults new ≡ faults old;
-      flushes : flushes new ≡ flushes old;
+      written : new.written ≡ old.written ++ take at bytes;
+      waiting : new.waiting ≡ old.waiting ++ take at bytes;
+      faults : new.faults ≡ old.faults;
+      flushes : new.flushes ≡ old.flushes;
     }
 
 -- a write further on
-pub sent_further : {X : Type 0} (written waiting : X → List ℕ) (faults flushes : X → ℕ) (old mid new : X) (bytes rest : List ℕ) (n : ℕ) → IsSent written waiting faults flushes old mid bytes rest → n ≤ length rest
-    → written new ≡ written mid ++ take n rest → waiting new ≡ waiting mid ++ take n rest → faults new ≡ faults mid + 0 → flushes new ≡ flushes mid → IsSent written waiting faults flushes old new bytes (rest_after rest n)
-sent_further written waiting faults flushes old mid new bytes rest n so_far few more held failed flushed = record {
+pub sent_further : (old mid new : OutputPast) (bytes rest : List ℕ) (n : ℕ) → IsSent old mid bytes rest → n ≤ length rest → new ≡ after_write {E = OutFault} mid (Ok n) rest
+    → IsSent old new bytes (rest_after rest n)
+sent_further old mid new bytes rest n so_far few is = record {
   within = rest_after_within bytes rest n so_far.within;
   rest = rest_step bytes rest n so_far.within few so_far.rest;
-  written = write_step _ _ _ bytes rest n so_far.within few so_far.rest so_far.written more;
-  waiting = write_step _ _ _ bytes rest n so_far.within few so_far.rest so_far.waiting held;
-  faults = failed ∙ add-zero _ ∙ so_far.faults;
-  flushes = flushed ∙ so_far.flushes;
+  written = write_step _ _ _ bytes rest n so_far.within few so_far.rest so_far.written (ap (λ (past : OutputPast). past.written) is);
+  waiting = write_step _ _ _ bytes rest n so_far.within few so_far.rest so_far.waiting (ap (λ (past : OutputPast). past.waiting) is);
+  faults = ap (λ (past : OutputPast). past.faults) is ∙ add-zero _ ∙ so_far.faults;
+  flushes = ap (λ (past : OutputPast). past.flushes) is ∙ so_far.flushes;
 }
 
 -- what moved on then, where no write failed after that, or one did
-sent_moved : {X : Type 0} (written waiting : X → List ℕ) (faults flushes : X → ℕ) (old new : X) (sent : List ℕ) (failed : ℕ) → written new ≡ written old ++ sent → waiting new ≡ waiting old ++ sent → faults new ≡ faults old + failed → flushes new ≡ flushes old
-    → HasWritten written waiting faults flushes old new failed
-sent_moved written waiting faults flushes old new sent failed more held fails flushed =
-    let is = sym (since_is (written old) (written new) sent more) in
-    record { appends = more ∙ ap (λ xs. written old ++ xs) is; waits = held ∙ ap (λ xs. waiting old ++ xs) is; fails = fails; unflushed = flushed }
+sent_moved : (old new : OutputPast) (sent : List ℕ) (failed : ℕ) → new.written ≡ old.written ++ sent → new.waiting ≡ old.waiting ++ sent → new.faults ≡ old.faults + failed → new.flushes ≡ old.flushes
+    → HasWritten old new failed
+sent_moved old new sent failed more held fails flushed =
+    let is = sym (since_is old.written new.written sent more) in
+    record { appends = more ∙ ap (λ xs. old.written ++ xs) is; waits = held ∙ ap (λ xs. old.waiting ++ xs) is; fails = fails; unflushed = flushed }
 
 -- all of it is written
-pub sent_whole : {X E : Type 0} (written waiting : X → List ℕ) (faults flushes : X → ℕ) (old new : X) (bytes rest : List ℕ) → IsSent written waiting faults flushes old new bytes rest → length rest ≡ 0
-    → Wrote {E = E} written waiting faults flushes old new (Ok tt) bytes
-sent_whole written waiting faults flushes old new bytes [] so_far none =
+pub sent_whole : {E : Type 0} (old new : OutputPast) (bytes rest : List ℕ) → IsSent old new bytes rest → length rest ≡ 0
+    → Wrote {E = E} old new (Ok tt) bytes
+sent_whole old new bytes [] so_far none =
     let all : take (before bytes []) bytes ≡ bytes = sym (append-nil _) ∙ ap (λ xs. take (before bytes []) bytes ++ xs) so_far.rest ∙ take-append-drop (before bytes []) bytes in
     record {
-      moved = sent_moved written waiting faults flushes old new (take (before bytes []) bytes) 0 so_far.written so_far.waiting (so_far.faults ∙ sym (add-zero _)) so_far.flushes;
-      ok = since_is (written old) (written new) _ so_far.written ∙ all;
+      moved = sent_moved old new (take (before bytes []) bytes) 0 so_far.written so_far.waiting (so_far.faults ∙ sym (add-zero _)) so_far.flushes;
+      ok = since_is old.written new.written _ so_far.written ∙ all;
       left = tt;
     }
-sent_whole written waiting faults flushes old new bytes (byte ∷ more) so_far none = absurd (omega (arith, none))
+sent_whole old new bytes (byte ∷ more) so_far none = absurd (omega (arith, none))
 
 -- a write of the rest failed
-pub sent_cut : {X E : Type 0} (written waiting : X → List ℕ) (faults flushes : X → ℕ) (old mid new : X) (fault : E) (bytes rest : List ℕ) → IsSent written waiting faults flushes old mid bytes rest → 0 < length rest
-    → written new ≡ written mid ++ [] → waiting new ≡ waiting mid ++ [] → faults new ≡ faults mid + 1 → flushes new ≡ flushes mid → Wrote written waiting faults flushes old new (Err fault) bytes
-sent_cut written waiting faults flushes old mid new fault bytes rest so_far some none same failed flushed =
+pub sent_cut : {E : Type 0} (old mid new : OutputPast) (fault : E) (bytes rest : List ℕ) → IsSent old mid bytes rest → 0 < length rest → new ≡ after_write mid (Err fault) rest → Wrote old new (Err fault) bytes
+sent_cut old mid new fault bytes rest so_far some is =
     let at = before bytes rest in
-    let more = none ∙ append-nil _ ∙ so_far.written in
+    let more = ap (λ (past : OutputPast). past.written) is ∙ append-nil _ ∙ so_far.written in
     record {
-      moved = sent_moved written waiting faults flushes old new (take at bytes) 1 more (same ∙ append-nil _ ∙ so_far.waiting) (failed ∙ ap (λ n. n + 1) so_far.faults) (flushed ∙ so_far.flushes);
+      moved =
+          sent_moved old new (take at bytes) 1 more (ap (λ (past : OutputPast). past.waiting) is ∙ append-nil _ ∙ so_far.waiting)
+          (ap (λ (past : OutputPast). past.faults) is ∙ ap (λ n. n + 1) so_far.faults) (ap (λ (past : OutputPast). past.flushes) is ∙ so_far.flushes);
       ok = tt;
-      left = front_cut (written old) (written new) bytes rest at more so_far.rest some;
+      left = front_cut old.written new.written bytes rest at more so_far.rest some;
     }
 
 -- nothing of it is
-pub wrote_nothing : {X E : Type 0} (written waiting : X → List ℕ) (faults flushes : X → ℕ) (old new : X) (fault : E) (text : List ℕ) → 0 < length text → written new ≡ written old → waiting new ≡ waiting old → faults new ≡ faults old + 1 → flushes new ≡ flushes old
-    → Wrote written waiting faults flushes old new (Err fault) text
-wrote_nothing written waiting faults flushes old new fault [] some none same failed flushed = absurd (omega (arith, some))
-wrote_nothing written waiting faults flushes old new fault (byte ∷ rest) some none same failed flushed =
-    let more = none ∙ sym (append-nil (written old)) in
+pub wrote_nothing : {E : Type 0} (old new : OutputPast) (fault : E) (text : List ℕ) → 0 < length text → new ≡ with_fault {T = Unit {0}} old (Err fault) → Wrote old new (Err fault) text
+wrote_nothing old new fault [] some is = absurd (omega (arith, some))
+wrote_nothing old new fault (byte ∷ rest) some is =
+    let more = ap (λ (past : OutputPast). past.written) is ∙ sym (append-nil old.written) in
     record {
-      moved = sent_moved written waiting faults flushes old new [] 1 more (same ∙ sym (append-nil (waiting old))) failed flushed;
+      moved =
+          sent_moved old new [] 1 more (ap (λ (past : OutputPast). past.waiting) is ∙ sym (append-nil old.waiting))
+          (ap (λ (past : OutputPast). past.faults) is) (ap (λ (past : OutputPast). past.flushes) is);
       ok = tt;
-      left = (byte, rest, ap (λ (xs : List ℕ). xs ++ byte ∷ rest) (sym (since_is (written old) (written new) [] more)));
+      left = (byte, rest, ap (λ (xs : List ℕ). xs ++ byte ∷ rest) (sym (since_is old.written new.written [] more)));
     }
 
 -- a fact is one at an error

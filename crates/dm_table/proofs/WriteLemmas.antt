@@ -1,12 +1,12 @@
 -- Texts written part by part.
-use Rattle.std.proofs.Common.{◌≡◌, ℕ, ◌+◌, ◌-◌, ◌<◌, ◌≤◌, map, arith, List, [], ◌∷◌, ◌++◌, length, take, drop, get_or, Result, Ok, Err, IsErr, IsErrAnd, inl, inr, refl, sym, ap, ◌∙◌, append_assoc, take-append-drop}
+use Rattle.std.proofs.Common.{◌≡◌, ℕ, ◌+◌, ◌-◌, ◌<◌, ◌≤◌, map, arith, List, [], ◌∷◌, ◌++◌, length, take, drop, get_or, Result, Ok, Err, IsErr, IsErrAnd, inl, inr, refl, sym, ap, subst, ◌∙◌, append_assoc, take-append-drop}
 use Rattle.std.specs.List.{flat_map, join_with_byte}
 use Rattle.std.proofs.Math.Seq.{take-add}
 use Rattle.std.proofs.lemmas.Grind.{flat_map-append}
 use Rattle.std.proofs.lemmas.List.{drop_more, append-nil, take_rest}
 use Rattle.std.proofs.lemmas.Result.{err_from_is_err_and}
 use Rattle.std.specs.Prelude.{decimal}
-use Rattle.dm_table.specs.DeviceIo.{fault_of, since, unflushed}
+use Rattle.dm_table.specs.DeviceIo.{OutputPast, after_flush, since, written_since}
 use Rattle.dm_table.proofs.ProgressLaws.{written_more}
 use Rattle.dm_table.specs.Progress.{IsClosedAfter, Wrote}
 use Rattle.dm_table.specs.declared.table.Line.{Line}
@@ -17,38 +17,38 @@ use Rattle.dm_table.specs.LineHead.{target_head, body_head, columns_of}
 use Rattle.dm_table.proofs.Growth.{since_more}
 
 -- a fault in the first part
-pub wrote_stop : {X E : Type 0} (written waiting : X → List ℕ) (faults flushes : X → ℕ) (old new : X) (fault : E) (first rest text : List ℕ) → text ≡ first ++ rest
-    → Wrote written waiting faults flushes old new (Err fault) first → Wrote written waiting faults flushes old new (Err fault) text
-wrote_stop written waiting faults flushes old new fault first rest text is h = record {
+pub wrote_stop : {E : Type 0} (old new : OutputPast) (fault : E) (first rest text : List ℕ) → text ≡ first ++ rest
+    → Wrote old new (Err fault) first → Wrote old new (Err fault) text
+wrote_stop old new fault first rest text is h = record {
   moved = h.moved;
   ok = tt;
-  left = (h.left.0, h.left.1 ++ rest, is ∙ ap (λ (t : List ℕ). t ++ rest) h.left.2 ∙ append_assoc (since (written old) (written new)) (h.left.0 ∷ h.left.1) rest);
+  left = (h.left.0, h.left.1 ++ rest, is ∙ ap (λ (t : List ℕ). t ++ rest) h.left.2 ∙ append_assoc (written_since old new) (h.left.0 ∷ h.left.1) rest);
 }
 
 -- one part written, and the next
-pub wrote_then : {X E : Type 0} (written waiting : X → List ℕ) (faults flushes : X → ℕ) (old mid new : X) (result : Result (Unit {0}) E) (first next text : List ℕ) → text ≡ first ++ next
-    → Wrote {E = E} written waiting faults flushes old mid (Ok tt) first → Wrote written waiting faults flushes mid new result next → Wrote written waiting faults flushes old new result text
-wrote_then written waiting faults flushes old mid new (Ok done) first next text is a b =
-    let more = since_more (written old) (written mid) (written new) a.moved.appends b.moved.appends in
+pub wrote_then : {E : Type 0} (old mid new : OutputPast) (result : Result (Unit {0}) E) (first next text : List ℕ) → text ≡ first ++ next
+    → Wrote {E = E} old mid (Ok tt) first → Wrote mid new result next → Wrote old new result text
+wrote_then old mid new (Ok done) first next text is a b =
+    let more = since_more old.written mid.written new.written a.moved.appends b.moved.appends in
     record {
-      moved = written_more written waiting faults flushes old mid new 0 a.moved b.moved;
-      ok = more ∙ ap (λ (t : List ℕ). t ++ since (written mid) (written new)) a.ok ∙ ap (λ (t : List ℕ). first ++ t) b.ok ∙ sym is;
+      moved = written_more old mid new 0 a.moved b.moved;
+      ok = more ∙ ap (λ (t : List ℕ). t ++ written_since mid new) a.ok ∙ ap (λ (t : List ℕ). first ++ t) b.ok ∙ sym is;
       left = tt;
     }
-wrote_then written waiting faults flushes old mid new (Err fault) first next text is a b =
-    let more = since_more (written old) (written mid) (written new) a.moved.appends b.moved.appends in
+wrote_then old mid new (Err fault) first next text is a b =
+    let more = since_more old.written mid.written new.written a.moved.appends b.moved.appends in
     record {
-      moved = written_more written waiting faults flushes old mid new 1 a.moved b.moved;
+      moved = written_more old mid new 1 a.moved b.moved;
       ok = tt;
-      left = (b.left.0, b.left.1, is ∙ ap (λ (t : List ℕ). first ++ t) b.left.2 ∙ sym (append_assoc first (since (written mid) (written new)) (b.left.0 ∷ b.left.1)) ∙ ap (λ (t : List ℕ). t ++ b.left.0 ∷ b.left.1) (sym (more ∙ ap (λ (t : List ℕ). t ++ since (written mid) (written new)) a.ok)));
+      left = (b.left.0, b.left.1, is ∙ ap (λ (t : List ℕ). first ++ t) b.left.2 ∙ sym (append_assoc first (written_since mid new) (b.left.0 ∷ b.left.1)) ∙ ap (λ (t : List ℕ). t ++ b.left.0 ∷ b.left.1) (sym (more ∙ ap (λ (t : List ℕ). t ++ written_since mid new) a.ok)));
     }
 
 -- ---- an output that is closed
 
 -- a write failed, and no flush was asked for
-pub closed_unflushed : {X E : Type 0} (written waiting : X → List ℕ) (faults flushes : X → ℕ) (old new : X) (fault : E) (text : List ℕ) → Wrote written waiting faults flushes old new (Err fault) text
-    → IsClosedAfter written waiting faults flushes old new (IsErr {T = Unit {0}} (Err fault)) text
-closed_unflushed written waiting faults flushes old new fault text wrote = record {
+pub closed_unflushed : {E : Type 0} (old new : OutputPast) (fault : E) (text : List ℕ) → Wrote old new (Err fault) text
+    → IsClosedAfter old new (IsErr {T = Unit {0}} (Err fault)) text
+closed_unflushed old new fault text wrote = record {
   finished = record {
     appends = wrote.moved.appends;
     write_fault = (λ more. refl, λ err. omega (arith, wrote.moved.fails));
@@ -62,54 +62,53 @@ closed_unflushed written waiting faults flushes old new fault text wrote = recor
 }
 
 -- all was written, and a flush was asked for
-pub closed_flushed : {X E : Type 0} (written waiting : X → List ℕ) (faults flushes : X → ℕ) (old mid new : X) (result : Result (Unit {0}) E) (text : List ℕ) → Wrote {E = E} written waiting faults flushes old mid (Ok tt) text
-    → written new ≡ written mid → waiting new ≡ unflushed result (waiting mid) → faults new ≡ faults mid + fault_of result → flushes new ≡ flushes mid + 1 → IsClosedAfter written waiting faults flushes old new (IsErr result) text
-closed_flushed written waiting faults flushes old mid new (Ok done) text wrote same waits fails more =
-    let all : since (written old) (written mid) ≡ since (written old) (written new) = ap (since (written old)) (sym same) in
-    record {
+pub closed_flushed : {E : Type 0} (old mid new : OutputPast) (result : Result (Unit {0}) E) (text : List ℕ) → Wrote {E = E} old mid (Ok tt) text → new ≡ after_flush mid result → IsClosedAfter old new (IsErr result) text
+closed_flushed {E = E} old mid new result text wrote is =
+    subst (λ (past : OutputPast). IsClosedAfter old past (IsErr result) text) (sym is) (flushed result)
+  where
+    flushed : (r : Result (Unit {0}) E) → IsClosedAfter old (after_flush mid r) (IsErr r) text
+    flushed (Ok done) = record {
       finished = record {
-        appends = same ∙ wrote.moved.appends ∙ ap (λ (xs : List ℕ). written old ++ xs) all;
-        write_fault = (λ less. absurd (omega (arith, less, fails, wrote.moved.fails)), λ err. absurd cc);
-        grows = omega (arith, fails, wrote.moved.fails);
-        fails_once = omega (arith, fails, wrote.moved.fails);
-        once = omega (arith, more, wrote.moved.unflushed);
+        appends = wrote.moved.appends;
+        write_fault = (λ less. absurd (omega (arith, less, wrote.moved.fails)), λ err. absurd cc);
+        grows = omega (arith, wrote.moved.fails);
+        fails_once = omega (arith, wrote.moved.fails);
+        once = omega (arith, wrote.moved.unflushed);
         still_waiting = λ err less. absurd cc;
       };
-      whole = λ well. (sym wrote.ok ∙ all, (waits, more ∙ ap (λ (n : ℕ). n + 1) wrote.moved.unflushed));
+      whole = λ well. (sym wrote.ok, (refl, ap (λ (n : ℕ). n + 1) wrote.moved.unflushed));
       failed = λ err. absurd cc;
     }
-closed_flushed written waiting faults flushes old mid new (Err fault) text wrote same waits fails more =
-    let all : since (written old) (written mid) ≡ since (written old) (written new) = ap (since (written old)) (sym same) in
-    record {
+    flushed (Err fault) = record {
       finished = record {
-        appends = same ∙ wrote.moved.appends ∙ ap (λ (xs : List ℕ). written old ++ xs) all;
-        write_fault = (λ less. refl, λ err. omega (arith, fails, wrote.moved.fails));
-        grows = omega (arith, fails, wrote.moved.fails);
-        fails_once = omega (arith, fails, wrote.moved.fails);
-        once = omega (arith, more, wrote.moved.unflushed);
-        still_waiting = λ err less. waits ∙ wrote.moved.waits ∙ ap (λ (xs : List ℕ). waiting old ++ xs) all;
+        appends = wrote.moved.appends;
+        write_fault = (λ less. refl, λ err. omega (arith, wrote.moved.fails));
+        grows = omega (arith, wrote.moved.fails);
+        fails_once = omega (arith, wrote.moved.fails);
+        once = omega (arith, wrote.moved.unflushed);
+        still_waiting = λ err less. wrote.moved.waits;
       };
       whole = λ well. absurd (well refl);
-      failed = λ err. inr (more ∙ ap (λ (n : ℕ). n + 1) wrote.moved.unflushed, sym wrote.ok ∙ all);
+      failed = λ err. inr (ap (λ (n : ℕ). n + 1) wrote.moved.unflushed, sym wrote.ok);
     }
 
 -- The same, as answers cite them
 
 -- a part with a fault, before the rest of the text
-pub stopped : {X E : Type 0} {written waiting : X → List ℕ} {faults flushes : X → ℕ} {old new : X} {fault : E} {text : List ℕ} (first rest : List ℕ) → text ≡ first ++ rest
-    → Wrote written waiting faults flushes old new (Err fault) first → Wrote written waiting faults flushes old new (Err fault) text
-stopped {written = written} {waiting = waiting} {faults = faults} {flushes = flushes} {old = old} {new = new} {fault = fault} {text = text} first rest is h =
-    wrote_stop written waiting faults flushes old new fault first rest text is h
+pub stopped : {E : Type 0} {old new : OutputPast} {fault : E} {text : List ℕ} (first rest : List ℕ) → text ≡ first ++ rest
+    → Wrote old new (Err fault) first → Wrote old new (Err fault) text
+stopped {old = old} {new = new} {fault = fault} {text = text} first rest is h =
+    wrote_stop old new fault first rest text is h
 
 -- a part that is written, before what comes of the next
-pub and_then : {X E : Type 0} {written waiting : X → List ℕ} {faults flushes : X → ℕ} {old mid new : X} {result : Result (Unit {0}) E} {text : List ℕ} (first next : List ℕ) → text ≡ first ++ next
-    → Wrote {E = E} written waiting faults flushes old mid (Ok tt) first → Wrote written waiting faults flushes mid new result next → Wrote written waiting faults flushes old new result text
-and_then {written = written} {waiting = waiting} {faults = faults} {flushes = flushes} {old = old} {mid = mid} {new = new} {result = result} {text = text} first next is a b =
-    wrote_then written waiting faults flushes old mid new result first next text is a b
+pub and_then : {E : Type 0} {old mid new : OutputPast} {result : Result (Unit {0}) E} {text : List ℕ} (first next : List ℕ) → text ≡ first ++ next
+    → Wrote {E = E} old mid (Ok tt) first → Wrote mid new result next → Wrote old new result text
+and_then {old = old} {mid = mid} {new = new} {result = result} {text = text} first next is a b =
+    wrote_then old mid new result first next text is a b
 
 -- the fault of a part as a function returns it
-pub fault_in : {X E : Type 0} {written waiting : X → List ℕ} {faults flushes : X → ℕ} {old new : X} {fault : E} {text : List ℕ} (result : Result (Unit {0}) E) → IsErrAnd result (λ given. given ≡ fault)
-    → Wrote written waiting faults flushes old new (Err fault) text → Wrote written waiting faults flushes old new result text
+pub fault_in : {E : Type 0} {old new : OutputPast} {fault : E} {text : List ℕ} (result : Result (Unit {0}) E) → IsErrAnd result (λ given. given ≡ fault)
+    → Wrote old new (Err fault) text → Wrote old new result text
 fault_in result is h = let given = err_from_is_err_and result is in rw (given.1, given.2) h
 
 -- what is written of the elements of a list, up to one of them, of it, and of the others
@@ -125,17 +124,17 @@ flat_map_next f xs i x below is =
     ap (flat_map f) (take-add i 1 xs ∙ ap (λ ys. take i xs ++ take 1 ys) rest) ∙ flat_map-append f (take i xs) (x ∷ []) ∙ ap (λ ys. flat_map f (take i xs) ++ ys) (append-nil (f x))
 
 -- a fault at one of the elements
-pub each_stopped : {A X E : Type 0} {written waiting : X → List ℕ} {faults flushes : X → ℕ} {old mid new : X} {fault : E} (f : A → List ℕ) (xs : List A) (i : ℕ) (x : A) (result : Result (Unit {0}) E)
+pub each_stopped : {A E : Type 0} {old mid new : OutputPast} {fault : E} (f : A → List ℕ) (xs : List A) (i : ℕ) (x : A) (result : Result (Unit {0}) E)
     → i < length xs → x ≡ get_or xs i x → IsErrAnd result (λ given. given ≡ fault)
-    → Wrote {E = E} written waiting faults flushes old mid (Ok tt) (flat_map f (take i xs)) → Wrote written waiting faults flushes mid new (Err fault) (f x) → Wrote written waiting faults flushes old new result (flat_map f xs)
+    → Wrote {E = E} old mid (Ok tt) (flat_map f (take i xs)) → Wrote mid new (Err fault) (f x) → Wrote old new result (flat_map f xs)
 each_stopped f xs i x result below is given so_far h =
     let rest = flat_map f (drop (i + 1) xs) in
     fault_in result given (and_then (flat_map f (take i xs)) (f x ++ rest) (flat_map_at f xs i x below is) so_far (stopped (f x) rest refl h))
 
 -- one element more
-pub each_further : {A X E : Type 0} {written waiting : X → List ℕ} {faults flushes : X → ℕ} {old mid new : X} (f : A → List ℕ) (xs : List A) (i : ℕ) (x : A) → i < length xs → x ≡ get_or xs i x
-    → Wrote {E = E} written waiting faults flushes old mid (Ok tt) (flat_map f (take i xs)) → Wrote {E = E} written waiting faults flushes mid new (Ok tt) (f x)
-    → Wrote {E = E} written waiting faults flushes old new (Ok tt) (flat_map f (take (i + 1) xs))
+pub each_further : {A E : Type 0} {old mid new : OutputPast} (f : A → List ℕ) (xs : List A) (i : ℕ) (x : A) → i < length xs → x ≡ get_or xs i x
+    → Wrote {E = E} old mid (Ok tt) (flat_map f (take i xs)) → Wrote {E = E} mid new (Ok tt) (f x)
+    → Wrote {E = E} old new (Ok tt) (flat_map f (take (i + 1) xs))
 each_further f xs i x below is so_far h = and_then (flat_map f (take i xs)) (f x) (flat_map_next f xs i x below is) so_far h
 
 -- elements with a byte between them: the first, and each of the others after the byte
@@ -149,15 +148,15 @@ joined_slice byte f [] x h is = absurd (omega arith)
 joined_slice byte f (y ∷ ys) x h is = rw (take_rest (y ∷ ys) 1, is) (joined_first byte f y ys)
 
 -- a fault at the first of them
-pub joined_stopped : {A X E : Type 0} {written waiting : X → List ℕ} {faults flushes : X → ℕ} {old new : X} {fault : E} (byte : ℕ) (f : A → List ℕ) (xs : List A) (x : A) (result : Result (Unit {0}) E)
+pub joined_stopped : {A E : Type 0} {old new : OutputPast} {fault : E} (byte : ℕ) (f : A → List ℕ) (xs : List A) (x : A) (result : Result (Unit {0}) E)
     → 1 ≤ length xs → x ≡ get_or xs 0 x → IsErrAnd result (λ given. given ≡ fault)
-    → Wrote written waiting faults flushes old new (Err fault) (f x) → Wrote written waiting faults flushes old new result (join_with_byte byte (map f xs))
+    → Wrote old new (Err fault) (f x) → Wrote old new result (join_with_byte byte (map f xs))
 joined_stopped byte f xs x result some is given h = fault_in result given (stopped (f x) _ (joined_slice byte f xs x some is) h)
 
 -- the first, and what comes of the others
-pub joined_then : {A X E : Type 0} {written waiting : X → List ℕ} {faults flushes : X → ℕ} {old mid new : X} {result : Result (Unit {0}) E} (byte : ℕ) (f : A → List ℕ) (xs : List A) (x : A) → 1 ≤ length xs → x ≡ get_or xs 0 x
-    → Wrote {E = E} written waiting faults flushes old mid (Ok tt) (f x) → Wrote written waiting faults flushes mid new result (flat_map (λ y. byte ∷ f y) (take (length xs - 1) (drop 1 xs)))
-    → Wrote written waiting faults flushes old new result (join_with_byte byte (map f xs))
+pub joined_then : {A E : Type 0} {old mid new : OutputPast} {result : Result (Unit {0}) E} (byte : ℕ) (f : A → List ℕ) (xs : List A) (x : A) → 1 ≤ length xs → x ≡ get_or xs 0 x
+    → Wrote {E = E} old mid (Ok tt) (f x) → Wrote mid new result (flat_map (λ y. byte ∷ f y) (take (length xs - 1) (drop 1 xs)))
+    → Wrote old new result (join_with_byte byte (map f xs))
 joined_then byte f xs x some is h more = and_then (f x) _ (joined_slice byte f xs x some is) h more
 
 -- a line after its label, in the two parts that it is written in

@@ -1,34 +1,23 @@
 -- What an output took that gathers for another one.
 use Rattle.std.specs.Prelude.{◌≡◌, ◌≤◌, ◌++◌, ◌||◌, ℕ, List, Bool, true, nat_lt}
+use Rattle.dm_table.specs.DeviceIo.{OutputPast}
 
--- the output that is gathered for: what it took, what of that waits for a flush, and its counts
-pub record Behind : Type 0 where
-  pub written : List ℕ
-  pub waiting : List ℕ
-  pub faults : ℕ
-  pub flushes : ℕ
-
--- that output, what is gathered for it, whether it failed, and the counts
+-- the past of the output that is gathered for, what is gathered for it, whether it failed, and the counts of the one that gathers
 pub record Gathering : Type 0 where
-  pub behind : Behind
+  pub behind : OutputPast
   pub held : List ℕ
   pub broken : Bool
   pub faults : ℕ
   pub flushes : ℕ
 
--- the bytes that it took, passed on or not
-abbrev pub all_written : Gathering → List ℕ
-all_written g = g.behind.written ++ g.held
-
--- those of them that no flush passed on
-abbrev pub all_waiting : Gathering → List ℕ
-all_waiting g = g.behind.waiting ++ g.held
-
--- the bytes that it took are the same
-pub record HoldsSame (old new : Gathering) : Type 0 where
-  pub written : all_written new ≡ all_written old
-  pub waiting : all_waiting new ≡ all_waiting old
-  pub flushes : new.flushes ≡ old.flushes
+-- its past: what it gathers counts as taken, and waits for a flush
+abbrev pub past_of : Gathering → OutputPast
+past_of g = record {
+  written = g.behind.written ++ g.held;
+  waiting = g.behind.waiting ++ g.held;
+  faults = g.faults;
+  flushes = g.flushes;
+}
 
 -- a fault of the output behind is kept in mind, and nothing is asked of that output after it
 pub record MindsFaults (old new : Gathering) : Type 0 where

@@ -1,35 +1,30 @@
 -- What the devices over memory hold, and what a call of one does.
 use Rattle.std.specs.Prelude.{◌≡◌, ◌↔◌, ◌+◌, ◌++◌, ◌<◌, ℕ, List, [], length, min, Bool, true, false, Result, IsErr, IfOk}
-use Rattle.dm_table.specs.DeviceIo.{given}
+use Rattle.dm_table.specs.DeviceIo.{InputPast, OutputPast, given}
 
--- an input: what it handed out, what it has left, the most bytes of a read, whether it fails at the end of them, its counts
+-- an input: its past, what it has left, the most bytes of a read, and whether it fails at the end of them
 pub record Supply : Type 0 where
-  pub handed : List ℕ
+  pub past : InputPast
   pub left : List ℕ
   pub step : ℕ
   pub fails : Bool
-  pub faults : ℕ
-  pub ends : ℕ
 
 -- an input that was not read yet
 abbrev pub fresh_supply : List ℕ → ℕ → Bool → Supply
-fresh_supply bytes step fails = record { handed = []; left = bytes; step = step; fails = fails; faults = 0; ends = 0 }
+fresh_supply bytes step fails =
+    record { past = record { handed = []; faults = 0; ends = 0 }; left = bytes; step = step; fails = fails }
 
--- an output: what it took, what of it waits for a flush, the room left in bytes, the most bytes of a write,
--- whether a flush fails, its counts
+-- an output: its past, the room left in bytes, the most bytes of a write, and whether a flush fails
 pub record Intake : Type 0 where
-  pub written : List ℕ
-  pub waiting : List ℕ
+  pub past : OutputPast
   pub room : ℕ
   pub step : ℕ
   pub flush_fails : Bool
-  pub faults : ℕ
-  pub flushes : ℕ
 
 -- an output that was not written to yet
 abbrev pub fresh_intake : (step room : ℕ) → Bool → Intake
 fresh_intake step room flush_fails =
-    record { written = []; waiting = []; room = room; step = step; flush_fails = flush_fails; faults = 0; flushes = 0 }
+    record { past = record { written = []; waiting = []; faults = 0; flushes = 0 }; room = room; step = step; flush_fails = flush_fails }
 
 -- the bytes of one call: no more than a step, than one side offers, or than the other has room for
 abbrev pub portion : (step offered room : ℕ) → ℕ

@@ -21,7 +21,7 @@ use crate::table::{Column, DeviceSpec, Line, Target};
 use crate::writing::write_all;
 
 fn write_columns<W: Output>(writer: &mut W, columns: &[Column]) -> Result<(), OutFault>
-    ensures { Wrote W.written W.waiting W.faults W.flushes writer.old writer.new result (flat_map column_text columns.now) }
+    ensures { Wrote (W.past writer.old) (W.past writer.new) result (flat_map column_text columns.now) }
 {
     for column in columns {
         writer.put(&ColumnText::new(column))?;
@@ -31,7 +31,7 @@ fn write_columns<W: Output>(writer: &mut W, columns: &[Column]) -> Result<(), Ou
 
 /// Writes the columns of a target, which only a striped one has.
 fn write_columns_of<W: Output>(writer: &mut W, target: &Target) -> Result<(), OutFault>
-    ensures { Wrote W.written W.waiting W.faults W.flushes writer.old writer.new result (flat_map column_text (columns_of target.now)) }
+    ensures { Wrote (W.past writer.old) (W.past writer.new) result (flat_map column_text (columns_of target.now)) }
 {
     match target {
         Target::Striped { columns, .. } => write_columns(writer, columns.as_slice()),
@@ -48,7 +48,7 @@ fn write_body<W: Output>(
 ) -> Result<(), OutFault>
     requires name { length name.now ≤ 127 }
     requires mark { length mark.now ≤ 2 }
-    ensures { Wrote W.written W.waiting W.faults W.flushes writer.old writer.new result (name.now ++ mark.now ++ body_text line.now) }
+    ensures { Wrote (W.past writer.old) (W.past writer.new) result (name.now ++ mark.now ++ body_text line.now) }
 {
     writer.put(&LineHead::new(name, mark, line))?;
     write_columns_of(writer, &line.target)
@@ -57,7 +57,7 @@ fn write_body<W: Output>(
 /// Writes the lines of a device as table text.
 fn write_lines<W: Output>(writer: &mut W, name: &[u8], lines: &[Line]) -> Result<(), OutFault>
     requires { length name.now ≤ 127 }
-    ensures { Wrote W.written W.waiting W.faults W.flushes writer.old writer.new result (lines_text name.now lines.now) }
+    ensures { Wrote (W.past writer.old) (W.past writer.new) result (lines_text name.now lines.now) }
 {
     for line in lines {
         write_body(&mut *writer, name, b": ", line)?;
@@ -74,7 +74,7 @@ fn write_lines<W: Output>(writer: &mut W, name: &[u8], lines: &[Line]) -> Result
 pub fn write_table<W: Output>(devices: &[DeviceSpec], writer: &mut W) -> Result<(), OutFault>
     // Where some table text says the devices, places and flags aside, the text written says them.
     ensures reads_back { ReadsBack DescribesTable (as_table 1) table_text devices.now }
-    ensures wrote { Wrote W.written W.waiting W.faults W.flushes writer.old writer.new result (table_text devices.now) }
+    ensures wrote { Wrote (W.past writer.old) (W.past writer.new) result (table_text devices.now) }
 {
     write_every_line(writer, devices)
 }
@@ -82,7 +82,7 @@ pub fn write_table<W: Output>(devices: &[DeviceSpec], writer: &mut W) -> Result<
 /// Writes the lines of each device as table text.
 #[tactic(auto, using(crate::proofs::ByteLemmas::device_name_len))]
 fn write_every_line<W: Output>(writer: &mut W, devices: &[DeviceSpec]) -> Result<(), OutFault>
-    ensures { Wrote W.written W.waiting W.faults W.flushes writer.old writer.new result (table_text devices.now) }
+    ensures { Wrote (W.past writer.old) (W.past writer.new) result (table_text devices.now) }
 {
     for device in devices {
         write_lines(
@@ -96,7 +96,7 @@ fn write_every_line<W: Output>(writer: &mut W, devices: &[DeviceSpec]) -> Result
 
 /// Writes bodies, each after a comma.
 fn write_more_bodies<W: Output>(writer: &mut W, lines: &[Line]) -> Result<(), OutFault>
-    ensures { Wrote W.written W.waiting W.faults W.flushes writer.old writer.new result (flat_map (λ line. 44 ∷ body_text line) lines.now) }
+    ensures { Wrote (W.past writer.old) (W.past writer.new) result (flat_map (λ line. 44 ∷ body_text line) lines.now) }
 {
     for line in lines {
         write_body(&mut *writer, b"", b",", line)?;
@@ -106,7 +106,7 @@ fn write_more_bodies<W: Output>(writer: &mut W, lines: &[Line]) -> Result<(), Ou
 
 /// Writes bodies with commas between them.
 fn write_bodies<W: Output>(writer: &mut W, lines: &[Line]) -> Result<(), OutFault>
-    ensures { Wrote W.written W.waiting W.faults W.flushes writer.old writer.new result (join_with_byte 44 (map body_text lines.now)) }
+    ensures { Wrote (W.past writer.old) (W.past writer.new) result (join_with_byte 44 (map body_text lines.now)) }
 {
     match lines {
         [first, rest @ ..] => {
@@ -123,7 +123,7 @@ fn write_device<W: Output>(
     before: &[u8],
     device: &DeviceSpec,
 ) -> Result<(), OutFault>
-    ensures { Wrote W.written W.waiting W.faults W.flushes writer.old writer.new result (before.now ++ concise_device device.now) }
+    ensures { Wrote (W.past writer.old) (W.past writer.new) result (before.now ++ concise_device device.now) }
 {
     write_all(&mut *writer, before)?;
     write_all(&mut *writer, device.name.as_str().as_bytes())?;
@@ -144,7 +144,7 @@ fn flag_text(ro: bool) -> &'static [u8]
 
 /// Writes devices, each after a semicolon.
 fn write_more_devices<W: Output>(writer: &mut W, devices: &[DeviceSpec]) -> Result<(), OutFault>
-    ensures { Wrote W.written W.waiting W.faults W.flushes writer.old writer.new result (flat_map (λ device. 59 ∷ concise_device device) devices.now) }
+    ensures { Wrote (W.past writer.old) (W.past writer.new) result (flat_map (λ device. 59 ∷ concise_device device) devices.now) }
 {
     for device in devices {
         write_device(&mut *writer, b";", device)?;
@@ -154,7 +154,7 @@ fn write_more_devices<W: Output>(writer: &mut W, devices: &[DeviceSpec]) -> Resu
 
 /// Writes devices with semicolons between them.
 fn write_devices<W: Output>(writer: &mut W, devices: &[DeviceSpec]) -> Result<(), OutFault>
-    ensures { Wrote W.written W.waiting W.faults W.flushes writer.old writer.new result (join_with_byte 59 (map concise_device devices.now)) }
+    ensures { Wrote (W.past writer.old) (W.past writer.new) result (join_with_byte 59 (map concise_device devices.now)) }
 {
     match devices {
         [first, rest @ ..] => {
@@ -173,14 +173,14 @@ fn write_devices<W: Output>(writer: &mut W, devices: &[DeviceSpec]) -> Result<()
 pub fn write_concise<W: Output>(devices: &[DeviceSpec], writer: &mut W) -> Result<(), OutFault>
     // Where some concise text says the devices, places aside, the text written says them.
     ensures reads_back { ReadsBack DescribesConcise (as_concise 1) concise_text devices.now }
-    ensures wrote { Wrote W.written W.waiting W.faults W.flushes writer.old writer.new result (concise_text devices.now) }
+    ensures wrote { Wrote (W.past writer.old) (W.past writer.new) result (concise_text devices.now) }
 {
     write_ended(writer, devices)
 }
 
 /// Writes devices with semicolons between them, and a newline at the end.
 fn write_ended<W: Output>(writer: &mut W, devices: &[DeviceSpec]) -> Result<(), OutFault>
-    ensures { Wrote W.written W.waiting W.faults W.flushes writer.old writer.new result (concise_text devices.now) }
+    ensures { Wrote (W.past writer.old) (W.past writer.new) result (concise_text devices.now) }
 {
     write_devices(&mut *writer, devices)?;
     write_all(writer, b"\n")

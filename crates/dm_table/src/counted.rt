@@ -1,5 +1,5 @@
 //! Any reader or writer of std as an input or an output.
-//! std counts no faults and no ends, and knows the bytes of few devices, so a history beside one does.
+//! std counts no faults and no ends, and knows the bytes of few devices, so a past beside one does.
 //! What a proof knows of a real device is what is noted here: note each result where it is returned.
 ghost use Rattle.std.specs.Prelude.{◌≡◌, ◌+◌, ◌<◌, ◌≤◌, ◌++◌, [], length, IfOk};
 ghost use Rattle.std.specs.Io.KnownBytes.{Keeps, ReadConsumes, WriteAppends};
@@ -9,7 +9,7 @@ use crate::device_io::{InFault, Input, OutFault, Output};
 use crate::ghost_bytes::{GhostBytes, Tally};
 use std::io::{Read, Write};
 
-/// A reader or a writer, with a history that takes no room and no time.
+/// A reader or a writer, with a past that takes no room and no time.
 #[derive(Drop)]
 pub struct Counted<T> {
     inner: T,
@@ -45,11 +45,7 @@ impl<T> Counted<T> {
 }
 
 impl<T: Read> Input for Counted<T> {
-    ghost handed = { λ c. c.handed.bytes };
-
-    ghost faults = { λ c. c.read_faults };
-
-    ghost ends = { λ c. c.ends };
+    ghost past = { λ c. record { handed = c.handed.bytes; faults = c.read_faults; ends = c.ends } };
 
     /// One read of the reader. Each of its errors is a fault, an interrupted call too.
     fn read(&mut self, buffer: &mut [u8]) -> Result<usize, InFault>
@@ -78,13 +74,7 @@ impl<T: Read> Input for Counted<T> {
 }
 
 impl<T: Write> Output for Counted<T> {
-    ghost written = { λ c. c.written.bytes };
-
-    ghost waiting = { λ c. c.waiting.bytes };
-
-    ghost faults = { λ c. c.write_faults };
-
-    ghost flushes = { λ c. c.flushes };
+    ghost past = { λ c. record { written = c.written.bytes; waiting = c.waiting.bytes; faults = c.write_faults; flushes = c.flushes } };
 
     /// One write of the writer. Each of its errors is a fault, an interrupted call too, and so is a 0
     /// for a slice that isn't empty.

@@ -6,8 +6,8 @@
 //! limit is 0 then.
 
 ghost use Rattle.std.specs.Prelude.{◌≡◌, ◌↔◌, ◌+◌, ◌-◌, ◌<◌, ◌≤◌, ◌++◌, [], false, length, slice_range, take, true, IfOk, IsErr, OnOk, nat_lt};
-ghost use Rattle.dm_table.specs.DeviceIo.{fault_of, given, unflushed};
-ghost use Rattle.dm_table.specs.Gathered.{HoldsSame, MindsFaults, all_waiting, all_written};
+ghost use Rattle.dm_table.specs.DeviceIo.{after_flush, after_write, with_fault};
+ghost use Rattle.dm_table.specs.Gathered.{MindsFaults, past_of};
 ghost use Rattle.dm_table.specs.Progress.{Wrote};
 
 use crate::block::put_bytes;
@@ -43,12 +43,12 @@ pub struct Gathered<W: Output> {
 impl<W: Output> Model for Gathered<W> {
     ghost use Rattle.std.specs.Prelude.{◌≤◌, ◌==◌, take};
     ghost use Rattle.dm_table.specs.declared.gathered.TheConstants.{FULL, ROOM};
-    ghost use Rattle.dm_table.specs.Gathered.{Behind, Gathering};
+    ghost use Rattle.dm_table.specs.Gathered.{Gathering};
 
     ghost Value = { Gathering };
 
     ghost view = { λ g. record {
-      behind = record { written = W.written g.output; waiting = W.waiting g.output; faults = W.faults g.output; flushes = W.flushes g.output };
+      behind = W.past g.output;
       held = take g.len g.block;
       broken = g.limit == 0;
       faults = g.faults;
@@ -64,7 +64,7 @@ impl<W: Output> Gathered<W> {
     /// Nothing is gathered yet, no call failed, and no flush was asked for.
     pub fn new(output: W) -> Gathered<W>
         ensures { result ≡ record {
-          behind = record { written = W.written output; waiting = W.waiting output; faults = W.faults output; flushes = W.flushes output };
+          behind = W.past output;
           held = [];
           broken = false;
           faults = 0;
@@ -84,8 +84,7 @@ impl<W: Output> Gathered<W> {
     /// Passes on what is gathered, up to a fault of the output; the rest stays gathered. Nothing is
     /// passed on after a fault.
     fn pass_on(&mut self)
-        ensures same { HoldsSame self.old self.new }
-        ensures faults { self.new.faults ≡ self.old.faults }
+        ensures past { past_of self.new ≡ past_of self.old }
         ensures minds { MindsFaults self.old self.new }
         ensures all { self.new.broken ≡ false → self.new.held ≡ [] }
     {
@@ -102,8 +101,7 @@ impl<W: Output> Gathered<W> {
     #[cold]
     #[inline(never)]
     fn empty(&mut self) -> Result<(), OutFault>
-        ensures same { HoldsSame self.old self.new }
-        ensures faults { self.new.faults ≡ self.old.faults + fault_of result }
+        ensures past { past_of self.new ≡ with_fault (past_of self.old) result }
         ensures minds { MindsFaults self.old self.new }
         ensures fails { IsErr result ↔ (self.new.broken ≡ true) }
         ensures all { OnOk result (self.new.held ≡ []) }
@@ -119,8 +117,7 @@ impl<W: Output> Gathered<W> {
     /// Makes room for a text, unless the output failed.
     #[inline(always)]
     fn make_room(&mut self) -> Result<(), OutFault>
-        ensures same { HoldsSame self.old self.new }
-        ensures faults { self.new.faults ≡ self.old.faults + fault_of result }
+        ensures past { past_of self.new ≡ with_fault (past_of self.old) result }
         ensures minds { MindsFaults self.old self.new }
         ensures fails { IsErr result ↔ (self.new.broken ≡ true) }
         ensures room { OnOk result (length self.new.held ≤ FULL) }
@@ -136,11 +133,11 @@ impl<W: Output> Gathered<W> {
 fn write_front<W: Output>(output: &mut W, block: &[u8], len: usize) -> usize
     requires { len ≤ length block.now }
     ensures within { result ≤ len }
-    ensures bytes { W.written output.new ≡ W.written output.old ++ take result block.now }
-    ensures waiting { W.waiting output.new ≡ W.waiting output.old ++ take result block.now }
+    ensures bytes { (W.past output.new).written ≡ (W.past output.old).written ++ take result block.now }
+    ensures waiting { (W.past output.new).waiting ≡ (W.past output.old).waiting ++ take result block.now }
     // It failed exactly where not all of them were written.
-    ensures grows { W.faults output.old ≤ W.faults output.new }
-    ensures failed { nat_lt (W.faults output.old) (W.faults output.new) ≡ nat_lt result len }
+    ensures grows { (W.past output.old).faults ≤ (W.past output.new).faults }
+    ensures failed { nat_lt (W.past output.old).faults (W.past output.new).faults ≡ nat_lt result len }
 {
     let mut sent = 0;
     'rest: while sent < len {
@@ -162,21 +159,12 @@ fn move_to_front(block: &mut [u8], start: usize, end: usize)
 }
 
 impl<W: Output> Output for Gathered<W> {
-    ghost written = { all_written };
-
-    ghost waiting = { all_waiting };
-
-    ghost faults = { λ g. g.faults };
-
-    ghost flushes = { λ g. g.flushes };
+    ghost past = { past_of };
 
     fn write(&mut self, bytes: &[u8]) -> Result<usize, OutFault>
         ensures within { IfOk result (λ n. n ≤ length bytes.now) }
         ensures progress { IfOk result (λ n. 0 < length bytes.now → 0 < n) }
-        ensures bytes { all_written self.new ≡ all_written self.old ++ given result bytes.now }
-        ensures waiting { all_waiting self.new ≡ all_waiting self.old ++ given result bytes.now }
-        ensures faults { self.new.faults ≡ self.old.faults + fault_of result }
-        ensures flushes { self.new.flushes ≡ self.old.flushes }
+        ensures past { past_of self.new ≡ after_write (past_of self.old) result bytes.now }
         ensures minds { MindsFaults self.old self.new }
         ensures fails { IsErr result ↔ (self.new.broken ≡ true) }
     {
@@ -187,10 +175,7 @@ impl<W: Output> Output for Gathered<W> {
     }
 
     fn flush(&mut self) -> Result<(), OutFault>
-        ensures bytes { all_written self.new ≡ all_written self.old }
-        ensures waiting { all_waiting self.new ≡ unflushed result (all_waiting self.old) }
-        ensures faults { self.new.faults ≡ self.old.faults + fault_of result }
-        ensures flushes { self.new.flushes ≡ self.old.flushes + 1 }
+        ensures past { past_of self.new ≡ after_flush (past_of self.old) result }
         ensures minds { MindsFaults self.old self.new }
         ensures fails { IsErr result ↔ (self.new.broken ≡ true) }
     {
@@ -209,7 +194,7 @@ impl<W: Output> Output for Gathered<W> {
     #[inline(always)]
     fn put<T: Text>(&mut self, text: &T) -> Result<(), OutFault>
         requires { 0 < length (T.text text.now) }
-        ensures wrote { Wrote all_written all_waiting (λ g. g.faults) (λ g. g.flushes) self.old self.new result (T.text text.now) }
+        ensures wrote { Wrote (past_of self.old) (past_of self.new) result (T.text text.now) }
         ensures minds { MindsFaults self.old self.new }
         ensures fails { IsErr result ↔ (self.new.broken ≡ true) }
     {
@@ -220,10 +205,7 @@ impl<W: Output> Output for Gathered<W> {
 
     /// A fault is left to the next write, `put` or flush, which fails.
     fn hand_on(&mut self)
-        ensures bytes { all_written self.new ≡ all_written self.old }
-        ensures waiting { all_waiting self.new ≡ all_waiting self.old }
-        ensures faults { self.new.faults ≡ self.old.faults }
-        ensures flushes { self.new.flushes ≡ self.old.flushes }
+        ensures past { past_of self.new ≡ past_of self.old }
         ensures minds { MindsFaults self.old self.new }
     {
         self.pass_on();

@@ -2,7 +2,7 @@
 //! What each call does is said exactly, so that a test over them shows what it claims to.
 //! Where one met its end or its fault, each later call meets it too: keep that, and that calls are exact.
 ghost use Rattle.std.specs.Prelude.{◌≡◌, ◌+◌, ◌<◌, ◌≤◌, ◌++◌, length, take, drop, true, false, ◌↔◌, ◌||◌, if◌then◌else◌, is_err, IsErr, IsTrue, IfOk, vec_len, vec_capacity};
-ghost use Rattle.dm_table.specs.DeviceIo.{given, fault_of, end_of, unflushed};
+ghost use Rattle.dm_table.specs.DeviceIo.{after_flush, after_read, after_write, fault_of};
 ghost use Rattle.dm_table.specs.ShortIo.{Supply, fresh_supply, Intake, fresh_intake, HandsOut, TakesIn, PassesOn};
 
 use crate::device_io::{InFault, Input, OutFault, Output};
@@ -26,12 +26,10 @@ impl<'a> Model for ShortIn<'a> {
     ghost Value = { Supply };
 
     ghost view = { λ s. record {
-      handed = take s.at s.bytes.now;
+      past = record { handed = take s.at s.bytes.now; faults = s.faults; ends = s.ends };
       left = drop s.at s.bytes.now;
       step = s.step;
       fails = s.fails;
-      faults = s.faults;
-      ends = s.ends;
     } };
 
     ghost invariant = { λ s. (s.at ≤ length s.bytes.now) × (0 < s.step) };
@@ -74,8 +72,10 @@ impl<'a> ShortIn<'a> {
         ensures fault { IsErr result ↔ IsTrue self.old.fails }
         ensures zero { IfOk result (λ n. n ≡ 0) }
         ensures counts { self.new ≡ record self.old {
-          faults = self.old.faults + fault_of result;
-          ends = self.old.ends + (if is_err result || is_full then 0 else 1);
+          past = record self.old.past {
+            faults = self.old.past.faults + fault_of result;
+            ends = self.old.past.ends + (if is_err result || is_full then 0 else 1);
+          };
         } }
     {
         if self.fails {
@@ -90,18 +90,12 @@ impl<'a> ShortIn<'a> {
 }
 
 impl<'a> Input for ShortIn<'a> {
-    ghost handed = { λ s. s.handed };
-
-    ghost faults = { λ s. s.faults };
-
-    ghost ends = { λ s. s.ends };
+    ghost past = { λ s. s.past };
 
     /// The next bytes, as many as `step`, the slice and what is left allow.
     fn read(&mut self, buffer: &mut [u8]) -> Result<usize, InFault>
         ensures within { IfOk result (λ n. n ≤ length buffer.new) }
-        ensures bytes { self.new.handed ≡ self.old.handed ++ given result buffer.new }
-        ensures faults { self.new.faults ≡ self.old.faults + fault_of result }
-        ensures ends { self.new.ends ≡ self.old.ends + end_of result (length buffer.new) }
+        ensures past { self.new.past ≡ after_read self.old.past result buffer.new }
         ensures exact { HandsOut self.old self.new result buffer.new }
     {
         let left = &self.bytes[self.at..];
@@ -131,13 +125,10 @@ impl Model for ShortOut {
     ghost Value = { Intake };
 
     ghost view = { λ s. record {
-      written = s.taken.items;
-      waiting = s.waiting.bytes;
+      past = record { written = s.taken.items; waiting = s.waiting.bytes; faults = s.faults; flushes = s.flushes };
       room = s.room;
       step = s.step;
       flush_fails = s.flush_fails;
-      faults = s.faults;
-      flushes = s.flushes;
     } };
 
     ghost invariant = { λ s. (vec_len s.taken + s.room ≤ vec_capacity s.taken) × (0 < s.step) };
@@ -182,29 +173,20 @@ impl ShortOut {
 
     /// What was written.
     pub fn as_slice(&self) -> &[u8]
-        ensures { result.now ≡ self.now.written }
+        ensures { result.now ≡ self.now.past.written }
     {
         self.taken.as_slice()
     }
 }
 
 impl Output for ShortOut {
-    ghost written = { λ s. s.written };
-
-    ghost waiting = { λ s. s.waiting };
-
-    ghost faults = { λ s. s.faults };
-
-    ghost flushes = { λ s. s.flushes };
+    ghost past = { λ s. s.past };
 
     /// Takes the first bytes, as many as `step`, the slice and the room allow.
     fn write(&mut self, bytes: &[u8]) -> Result<usize, OutFault>
         ensures within { IfOk result (λ n. n ≤ length bytes.now) }
         ensures progress { IfOk result (λ n. 0 < length bytes.now → 0 < n) }
-        ensures bytes { self.new.written ≡ self.old.written ++ given result bytes.now }
-        ensures waiting { self.new.waiting ≡ self.old.waiting ++ given result bytes.now }
-        ensures faults { self.new.faults ≡ self.old.faults + fault_of result }
-        ensures flushes { self.new.flushes ≡ self.old.flushes }
+        ensures past { self.new.past ≡ after_write self.old.past result bytes.now }
         ensures exact { TakesIn self.old self.new result bytes.now }
     {
         if self.room == 0 {
@@ -223,10 +205,7 @@ impl Output for ShortOut {
 
     /// Fails where the output was made so.
     fn flush(&mut self) -> Result<(), OutFault>
-        ensures bytes { self.new.written ≡ self.old.written }
-        ensures waiting { self.new.waiting ≡ unflushed result self.old.waiting }
-        ensures faults { self.new.faults ≡ self.old.faults + fault_of result }
-        ensures flushes { self.new.flushes ≡ self.old.flushes + 1 }
+        ensures past { self.new.past ≡ after_flush self.old.past result }
         ensures exact { PassesOn self.old self.new result }
     {
         self.flushes.raise();

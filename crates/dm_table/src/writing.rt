@@ -2,7 +2,7 @@
 //! It loops here since an output may take less than it is given, and a byte must never go out twice.
 //! Keep what is left of the bytes as the only thing that a turn changes.
 ghost use Rattle.std.specs.Prelude.{◌≡◌, ◌+◌, ℕ, List, IsErr, OnErr, OnOk};
-ghost use Rattle.dm_table.specs.DeviceIo.{since};
+ghost use Rattle.dm_table.specs.DeviceIo.{OutputPast, written_since};
 ghost use Rattle.dm_table.specs.Progress.{IsClosedAfter, Wrote};
 ghost use Rattle.dm_table.specs.WriteAll.{IsBeginning};
 
@@ -11,8 +11,8 @@ use crate::device_io::{OutFault, Output};
 /// Writes all of the bytes, in order. After a fault a beginning of them is written, and nothing is
 /// tried again. No write is asked for where there are no bytes. Takes no memory.
 pub fn write_all<W: Output>(writer: &mut W, bytes: &[u8]) -> Result<(), OutFault>
-    ensures wrote { Wrote W.written W.waiting W.faults W.flushes writer.old writer.new result bytes.now }
-    ensures err { OnErr result (IsBeginning bytes.now (since (W.written writer.old) (W.written writer.new))) }
+    ensures wrote { Wrote (W.past writer.old) (W.past writer.new) result bytes.now }
+    ensures err { OnErr result (IsBeginning bytes.now (written_since (W.past writer.old) (W.past writer.new))) }
 {
     let mut rest = bytes;
     while !rest.is_empty() {
@@ -30,12 +30,12 @@ pub fn write_all<W: Output>(writer: &mut W, bytes: &[u8]) -> Result<(), OutFault
 #[tactic(auto, using(crate::proofs::WriteLemmas::closed_unflushed, crate::proofs::WriteLemmas::closed_flushed))]
 pub fn close<W: Output>(written: Result<(), OutFault>, output: &mut W) -> Result<(), OutFault>
     // Wherever the text began.
-    ensures closed { (start : W) (text : List ℕ) → Wrote W.written W.waiting W.faults W.flushes start output.old written text
-        → IsClosedAfter W.written W.waiting W.faults W.flushes start output.new (IsErr result) text }
+    ensures closed { (start : OutputPast) (text : List ℕ) → Wrote start (W.past output.old) written text
+        → IsClosedAfter start (W.past output.new) (IsErr result) text }
     // Nothing is asked of an output after a write that failed.
     ensures untouched { OnErr written (IsErr result × (output.new ≡ output.old)) }
-    ensures flushed { OnOk written (W.flushes output.new ≡ W.flushes output.old + 1) }
-    ensures bytes { W.written output.new ≡ W.written output.old }
+    ensures flushed { OnOk written ((W.past output.new).flushes ≡ (W.past output.old).flushes + 1) }
+    ensures bytes { (W.past output.new).written ≡ (W.past output.old).written }
 {
     match written {
         Ok(()) => output.flush(),

@@ -55,14 +55,14 @@ write_fault_is (exits.Ended endings.WriteFault) five = refl
 write_fault_is exit five = absurd (omega (arith, five))
 
 -- what was told where a command exits
-pub exits_told : {X : Type 0} {written : X → List ℕ} {faults flushes : X → ℕ} {exit : Exit} {result : ℕ} {old new : X} → Exits written faults flushes exit result old new → MessagesTold written faults flushes result old new
+pub exits_told : {X : Type 0} {written : X → List ℕ} {faults flushes : X → ℕ} {exit : Exit} {result : ℕ} {old new : X} → Exits exit result old new → MessagesTold result old new
 exits_told {exit = exit} is = record { message = exit_message exit; told = is.told; write_message = λ five. ap exit_message (write_fault_is exit (sym is.is ∙ five)) }
 
 -- ---- an output that was written to
 
 -- no write failed
-finished_well : {X : Type 0} (written waiting : X → List ℕ) (faults flushes : X → ℕ) (old new : X) (HasFailed : Type 0) → HasWritten written waiting faults flushes old new 0 → (HasFailed → ⊥) → IsFinished written waiting faults flushes old new HasFailed
-finished_well written waiting faults flushes old new HasFailed moved well = record {
+finished_well : (old new : OutputPast) (HasFailed : Type 0) → HasWritten old new 0 → (HasFailed → ⊥) → IsFinished old new HasFailed
+finished_well old new HasFailed moved well = record {
   appends = moved.appends;
   write_fault = (λ less. absurd (omega (arith, less, moved.fails)), λ failed. absurd (well failed));
   grows = omega (arith, moved.fails);
@@ -72,21 +72,21 @@ finished_well written waiting faults flushes old new HasFailed moved well = reco
 }
 
 -- the command was refused
-pub written_refused : {X : Type 0} (written waiting : X → List ℕ) (faults flushes : X → ℕ) (old new : X) (refusal : Refusal) → HasWritten written waiting faults flushes old new 0 → OutputWritten written waiting faults flushes (refusal_status refusal) old new
-written_refused written waiting faults flushes old new refusal moved = record {
-  finished = finished_well written waiting faults flushes old new _ moved (no_write_fault refusal);
+pub written_refused : (old new : OutputPast) (refusal : Refusal) → HasWritten old new 0 → OutputWritten (refusal_status refusal) old new
+written_refused old new refusal moved = record {
+  finished = finished_well old new _ moved (no_write_fault refusal);
   flushed = λ one five six. absurd (elim (of_refusal refusal) [ inl refused ↦ one refused | inr memory ↦ six memory ]);
   refused = λ one. moved.unflushed;
 }
 
 -- and nothing was asked of the output
-pub refused_output : {X : Type 0} (written waiting : X → List ℕ) (faults flushes : X → ℕ) (x : X) (refusal : Refusal) (status : ℕ) → status ≡ refusal_status refusal → OutputWritten written waiting faults flushes status x x
-refused_output written waiting faults flushes x refusal status is =
-    subst (λ (n : ℕ). OutputWritten written waiting faults flushes n x x) (sym is) (written_refused written waiting faults flushes x x refusal (written_none written waiting faults flushes x))
+pub refused_output : (x : OutputPast) (refusal : Refusal) (status : ℕ) → status ≡ refusal_status refusal → OutputWritten status x x
+refused_output x refusal status is =
+    subst (λ (n : ℕ). OutputWritten n x x) (sym is) (written_refused x x refusal (written_none x))
 
 -- a write failed
-written_failed : {X : Type 0} (written waiting : X → List ℕ) (faults flushes : X → ℕ) (old new : X) → HasWritten written waiting faults flushes old new 1 → OutputWritten written waiting faults flushes STATUS_WRITE_FAULT old new
-written_failed written waiting faults flushes old new moved = record {
+written_failed : (old new : OutputPast) → HasWritten old new 1 → OutputWritten STATUS_WRITE_FAULT old new
+written_failed old new moved = record {
   finished = record {
     appends = moved.appends;
     write_fault = (λ less. refl, λ failed. omega (arith, moved.fails));
@@ -117,31 +117,31 @@ never_refused (exits.Ended endings.Done) going one = omega (arith, one)
 never_refused exit going one = omega (arith, one)
 
 -- the command was refused
-pub closed_refused : {X : Type 0} (written waiting : X → List ℕ) (faults flushes : X → ℕ) (exit : Exit) (x : X) → is_refused exit ≡ true → IsClosedAs written waiting faults flushes exit x x exit
-closed_refused written waiting faults flushes (exits.Refused refusal) x refused = record {
+pub closed_refused : (exit : Exit) (x : OutputPast) → is_refused exit ≡ true → IsClosedAs exit x x exit
+closed_refused (exits.Refused refusal) x refused = record {
   bytes = refl;
   ends = inl (refl, λ _. refl);
-  output = λ start moved. written_refused written waiting faults flushes start x refusal moved;
+  output = λ start moved. written_refused start x refusal moved;
   flushed = λ flag start moved. absurd cc;
 }
-closed_refused written waiting faults flushes exit x refused = absurd cc
+closed_refused exit x refused = absurd cc
 
 -- what a command wrote from where it began, if no write failed
-wrote_so : {X E : Type 0} (written waiting : X → List ℕ) (faults flushes : X → ℕ) (start mid : X) (exit : Exit) → exit ≢ exits.Ended endings.WriteFault → HasWritten written waiting faults flushes start mid (failed_writes exit)
-    → Wrote {E = E} written waiting faults flushes start mid (Ok tt) (since (written start) (written mid))
-wrote_so written waiting faults flushes start mid exit other moved = record {
-  moved = subst (λ (n : ℕ). HasWritten written waiting faults flushes start mid n) (failed_none exit other) moved;
+wrote_so : {E : Type 0} (start mid : OutputPast) (exit : Exit) → exit ≢ exits.Ended endings.WriteFault → HasWritten start mid (failed_writes exit)
+    → Wrote {E = E} start mid (Ok tt) (written_since start mid)
+wrote_so start mid exit other moved = record {
+  moved = subst (λ (n : ℕ). HasWritten start mid n) (failed_none exit other) moved;
   ok = refl;
   left = tt;
 }
 
 -- all was written, and flushed
-pub closed_well : {X E : Type 0} (written waiting : X → List ℕ) (faults flushes : X → ℕ) (exit : Exit) (old new : X) (wrote : Result (Unit {0}) E) → is_refused exit ≡ false → OnOk wrote (exit ≢ exits.Ended endings.WriteFault)
-    → OnErr wrote (IsErr {T = Unit {0}} {E = E} (Ok tt) × (new ≡ old)) → written new ≡ written old
-    → ((start : X) (text : List ℕ) → Wrote written waiting faults flushes start old wrote text → IsClosedAfter written waiting faults flushes start new (IsErr {T = Unit {0}} {E = E} (Ok tt)) text)
-    → IsClosedAs written waiting faults flushes exit old new exit
-closed_well {E = E} written waiting faults flushes exit old new (Ok done) going other untouched bytes closes =
-    let closed = λ (start : _) (moved : HasWritten written waiting faults flushes start old (failed_writes exit)). closes start (since (written start) (written old)) (wrote_so written waiting faults flushes start old exit other moved) in
+pub closed_well : {E : Type 0} (exit : Exit) (old new : OutputPast) (wrote : Result (Unit {0}) E) → is_refused exit ≡ false → OnOk wrote (exit ≢ exits.Ended endings.WriteFault)
+    → OnErr wrote (IsErr {T = Unit {0}} {E = E} (Ok tt) × (new ≡ old)) → new.written ≡ old.written
+    → ((start : X) (text : List ℕ) → Wrote start old wrote text → IsClosedAfter start new (IsErr {T = Unit {0}} {E = E} (Ok tt)) text)
+    → IsClosedAs exit old new exit
+closed_well {E = E} exit old new (Ok done) going other untouched bytes closes =
+    let closed = λ (start : _) (moved : HasWritten start old (failed_writes exit)). closes start (written_since start old) (wrote_so start old exit other moved) in
     record {
       bytes = bytes;
       ends = inl (refl, λ shut. let open_still = flushes_so exit going other in absurd cc);
@@ -152,27 +152,27 @@ closed_well {E = E} written waiting faults flushes exit old new (Ok done) going 
       };
       flushed = λ flag start moved. ((closed start moved).whole (λ err. absurd cc)).1;
     }
-closed_well written waiting faults flushes exit old new (Err fault) going other untouched bytes closes = let err = untouched.0 in absurd cc
+closed_well exit old new (Err fault) going other untouched bytes closes = let err = untouched.0 in absurd cc
 
 -- a write failed before, or the flush now
-pub closed_failed : {X E : Type 0} (written waiting : X → List ℕ) (faults flushes : X → ℕ) (exit : Exit) (old new : X) (fault : E) (wrote : Result (Unit {0}) E) → is_refused exit ≡ false → OnOk wrote (exit ≢ exits.Ended endings.WriteFault) → OnErr wrote (exit ≡ exits.Ended endings.WriteFault)
-    → OnErr wrote (IsErr {T = Unit {0}} (Err fault) × (new ≡ old)) → OnOk wrote (flushes new ≡ flushes old + 1) → written new ≡ written old
-    → ((start : X) (text : List ℕ) → Wrote written waiting faults flushes start old wrote text → IsClosedAfter written waiting faults flushes start new (IsErr {T = Unit {0}} (Err fault)) text)
-    → IsClosedAs written waiting faults flushes exit old new (exits.Ended endings.WriteFault)
-closed_failed written waiting faults flushes exit old new fault (Ok done) going other is untouched more bytes closes = record {
+pub closed_failed : {E : Type 0} (exit : Exit) (old new : OutputPast) (fault : E) (wrote : Result (Unit {0}) E) → is_refused exit ≡ false → OnOk wrote (exit ≢ exits.Ended endings.WriteFault) → OnErr wrote (exit ≡ exits.Ended endings.WriteFault)
+    → OnErr wrote (IsErr {T = Unit {0}} (Err fault) × (new ≡ old)) → OnOk wrote (new.flushes ≡ old.flushes + 1) → new.written ≡ old.written
+    → ((start : X) (text : List ℕ) → Wrote start old wrote text → IsClosedAfter start new (IsErr {T = Unit {0}} (Err fault)) text)
+    → IsClosedAs exit old new (exits.Ended endings.WriteFault)
+closed_failed exit old new fault (Ok done) going other is untouched more bytes closes = record {
   bytes = bytes;
   ends = inr (refl, flushes_so exit going other, more);
   output = λ start moved. record {
-    finished = finished_as _ _ (λ err. refl) (λ five. refl) (closes start (since (written start) (written old)) (wrote_so written waiting faults flushes start old exit other moved)).finished;
+    finished = finished_as _ _ (λ err. refl) (λ five. refl) (closes start (written_since start old) (wrote_so start old exit other moved)).finished;
     flushed = λ one five six. absurd (five refl);
     refused = λ one. absurd (omega (arith, one));
   };
   flushed = λ flag start moved. absurd cc;
 }
-closed_failed written waiting faults flushes exit old new fault (Err before) going other is untouched more bytes closes = record {
+closed_failed exit old new fault (Err before) going other is untouched more bytes closes = record {
   bytes = bytes;
   ends = inl (sym is, λ shut. ap flushes untouched.1);
-  output = λ start moved. written_failed written waiting faults flushes start new (subst (λ (x : _). HasWritten written waiting faults flushes start x 1) (sym untouched.1) (subst (λ (e : Exit). HasWritten written waiting faults flushes start old (failed_writes e)) is moved));
+  output = λ start moved. written_failed start new (subst (λ (x : _). HasWritten start x 1) (sym untouched.1) (subst (λ (e : Exit). HasWritten start old (failed_writes e)) is moved));
   flushed = λ flag start moved. absurd cc;
 }
 
@@ -200,13 +200,13 @@ refused_before before after old new (inl (is, shut)) refused =
 refused_before before after old new (inr (is, flag, more)) refused =
     let not_so : is_refused after ≡ false = ap is_refused is in absurd cc
 
-pub exited : {X : Type 0} (written waiting : X → List ℕ) (faults flushes : X → ℕ) (Did : List ℕ → Exit → Type 0) (start mid new : X) (before after : Exit) → HasWritten written waiting faults flushes start mid (failed_writes before)
-    → Did (since (written start) (written mid)) before → IsClosedAs written waiting faults flushes before mid new after → HasExited written waiting flushes Did start new after
-exited written waiting faults flushes Did start mid new before after moved did closed = record {
-  given = given Did (since (written start) (written new)) (flushes start) (flushes mid) (flushes new) before after moved.unflushed closed.ends
-      (subst (λ (bytes : List ℕ). Did (since (written start) bytes) before) (sym closed.bytes) did);
+pub exited : (Did : List ℕ → Exit → Type 0) (start mid new : OutputPast) (before after : Exit) → HasWritten start mid (failed_writes before)
+    → Did (written_since start mid) before → IsClosedAs before mid new after → HasExited Did start new after
+exited Did start mid new before after moved did closed = record {
+  given = given Did (written_since start new) start.flushes mid.flushes new.flushes before after moved.unflushed closed.ends
+      (subst (λ (bytes : List ℕ). Did (since start.written bytes) before) (sym closed.bytes) did);
   flushed = λ flag. closed.flushed flag start moved;
-  refused = λ so. (refused_before before after (flushes mid) (flushes new) closed.ends so).1 ∙ moved.unflushed;
+  refused = λ so. (refused_before before after mid.flushes new.flushes closed.ends so).1 ∙ moved.unflushed;
 }
 
 -- ---- how the requests were read
@@ -221,28 +221,28 @@ four_is endings.ReadFault four = refl
 four_is ending four = absurd (omega (arith, four))
 
 -- no read failed at a bad line
-three_met : {X : Type 0} (faults ends : X → ℕ) (old new : X) (ending : Ending) → ending_status ending ≡ STATUS_BAD_REQUEST → HasMet ending faults ends old new → faults new ≤ faults old
-three_met faults ends old new (endings.BadRequest number words.Unended) three met = met
-three_met faults ends old new (endings.BadRequest number word) three met = omega (arith, met.0)
-three_met faults ends old new ending three met = absurd (omega (arith, three))
+three_met : (old new : InputPast) (ending : Ending) → ending_status ending ≡ STATUS_BAD_REQUEST → HasMet ending old new → new.faults ≤ old.faults
+three_met old new (endings.BadRequest number words.Unended) three met = met
+three_met old new (endings.BadRequest number word) three met = omega (arith, met.0)
+three_met old new ending three met = absurd (omega (arith, three))
 
 pub never_one : (ending : Ending) → ending_status ending ≡ STATUS_REFUSED → ⊥
 never_one ending one = never_refused (exits.Ended ending) refl one
 
 -- by how a run of them ended
-pub ran_requests : {X : Type 0} (handed : X → List ℕ) (faults ends : X → ℕ) (ending : Ending) (status : ℕ) (old new : X) → status ≡ ending_status ending → IsReadOn handed faults ends old new
-    → HasMet ending faults ends old new → RequestsRead handed faults ends status old new
-ran_requests handed faults ends ending status old new is read_on met = record {
+pub ran_requests : (ending : Ending) (status : ℕ) (old new : InputPast) → status ≡ ending_status ending → IsReadOn old new
+    → HasMet ending old new → RequestsRead status old new
+ran_requests ending status old new is read_on met = record {
   read_on = read_on;
-  read_fault = λ four. subst (λ (e : Ending). HasMet e faults ends old new) (four_is ending (sym is ∙ four)) met;
-  no_fault = λ zero. subst (λ (e : Ending). HasMet e faults ends old new) (zero_is ending (sym is ∙ zero)) met;
-  bad_line = λ three. three_met faults ends old new ending (sym is ∙ three) met;
+  read_fault = λ four. subst (λ (e : Ending). HasMet e old new) (four_is ending (sym is ∙ four)) met;
+  no_fault = λ zero. subst (λ (e : Ending). HasMet e old new) (zero_is ending (sym is ∙ zero)) met;
+  bad_line = λ three. three_met old new ending (sym is ∙ three) met;
   unasked = λ one. absurd (never_one ending (sym is ∙ one));
 }
 
 -- requests that are not asked for
-pub unasked_requests : {X : Type 0} (handed : X → List ℕ) (faults ends : X → ℕ) (refusal : Refusal) (status : ℕ) (old new : X) → status ≡ refusal_status refusal → IsReadOn handed faults ends old new → IsUnchanged handed faults ends old new → RequestsRead handed faults ends status old new
-unasked_requests handed faults ends refusal status old new is read_on same = record {
+pub unasked_requests : (refusal : Refusal) (status : ℕ) (old new : InputPast) → status ≡ refusal_status refusal → IsReadOn old new → IsUnchanged old new → RequestsRead status old new
+unasked_requests refusal status old new is read_on same = record {
   read_on = read_on;
   read_fault = λ four. absurd (of_two _ STATUS_READ_FAULT (of_refusal refusal) (sym is ∙ four) (λ e. omega (arith, e)) (λ e. omega (arith, e)));
   no_fault = λ _. omega (arith, same.same_faults);
@@ -251,17 +251,17 @@ unasked_requests handed faults ends refusal status old new is read_on same = rec
 }
 
 -- before the output was closed
-asked_read : {X : Type 0} (handed : X → List ℕ) (faults ends : X → ℕ) (old new : X) (exit : Exit) → AskedBy handed faults ends old new exit → RequestsRead handed faults ends (exit_status exit) old new
-asked_read handed faults ends old new (exits.Refused refusal) asked = unasked_requests handed faults ends refusal _ old new refl asked.read_on (asked.unasked refl)
-asked_read handed faults ends old new (exits.Ended ending) asked = ran_requests handed faults ends ending _ old new refl asked.read_on asked.met
-asked_read handed faults ends old new (exits.NotTop number) asked = record {
+asked_read : (old new : InputPast) (exit : Exit) → AskedBy old new exit → RequestsRead (exit_status exit) old new
+asked_read old new (exits.Refused refusal) asked = unasked_requests refusal _ old new refl asked.read_on (asked.unasked refl)
+asked_read old new (exits.Ended ending) asked = ran_requests ending _ old new refl asked.read_on asked.met
+asked_read old new (exits.NotTop number) asked = record {
   read_on = asked.read_on;
   read_fault = λ four. absurd (omega (arith, four));
   no_fault = λ zero. absurd (omega (arith, zero));
   bad_line = λ _. let same = asked.met.0 in omega (arith, same);
   unasked = λ one. absurd (omega (arith, one));
 }
-asked_read handed faults ends old new exits.Memory asked = record {
+asked_read old new exits.Memory asked = record {
   read_on = asked.read_on;
   read_fault = λ four. absurd (omega (arith, four));
   no_fault = λ zero. absurd (omega (arith, zero));
@@ -270,20 +270,20 @@ asked_read handed faults ends old new exits.Memory asked = record {
 }
 
 -- and after it, where the flush may have failed
-pub closed_requests : {X : Type 0} (handed : X → List ℕ) (faults ends : X → ℕ) (old new : X) (before after : Exit) (f0 f1 status : ℕ) → EndsAs before f0 f1 after → AskedBy handed faults ends old new before → status ≡ exit_status after → RequestsRead handed faults ends status old new
-closed_requests handed faults ends old new before after f0 f1 status ends_so asked is =
-    subst (λ (n : ℕ). RequestsRead handed faults ends n old new) (sym is) (go ends_so)
+pub closed_requests : (old new : InputPast) (before after : Exit) (f0 f1 status : ℕ) → EndsAs before f0 f1 after → AskedBy old new before → status ≡ exit_status after → RequestsRead status old new
+closed_requests old new before after f0 f1 status ends_so asked is =
+    subst (λ (n : ℕ). RequestsRead n old new) (sym is) (go ends_so)
   where
-    go : EndsAs before f0 f1 after → RequestsRead handed faults ends (exit_status after) old new
-    go (inl (same, shut)) = subst (λ (e : Exit). RequestsRead handed faults ends (exit_status e) old new) (sym same) (asked_read handed faults ends old new before asked)
-    go (inr (failed, flag, more)) = subst (λ (e : Exit). RequestsRead handed faults ends (exit_status e) old new) (sym failed) (ran_requests handed faults ends endings.WriteFault _ old new refl asked.read_on tt)
+    go : EndsAs before f0 f1 after → RequestsRead (exit_status after) old new
+    go (inl (same, shut)) = subst (λ (e : Exit). RequestsRead (exit_status e) old new) (sym same) (asked_read old new before asked)
+    go (inr (failed, flag, more)) = subst (λ (e : Exit). RequestsRead (exit_status e) old new) (sym failed) (ran_requests endings.WriteFault _ old new refl asked.read_on tt)
 
-pub closed_unasked : {X : Type 0} (handed : X → List ℕ) (faults ends : X → ℕ) (old new : X) (before after : Exit) (f0 f1 : ℕ) → EndsAs before f0 f1 after → AskedBy handed faults ends old new before → is_refused after ≡ true → IsUnchanged handed faults ends old new
-closed_unasked handed faults ends old new before after f0 f1 ends_so asked refused = asked.unasked (refused_before before after f0 f1 ends_so refused).0
+pub closed_unasked : (old new : InputPast) (before after : Exit) (f0 f1 : ℕ) → EndsAs before f0 f1 after → AskedBy old new before → is_refused after ≡ true → IsUnchanged old new
+closed_unasked old new before after f0 f1 ends_so asked refused = asked.unasked (refused_before before after f0 f1 ends_so refused).0
 
 -- an input of which nothing is asked
-pub unchanged : {X : Type 0} (handed : X → List ℕ) (faults ends : X → ℕ) (x : X) → IsUnchanged handed faults ends x x
-unchanged handed faults ends x = record { same_handed = refl; same_faults = refl; same_ends = refl }
+pub unchanged : (x : InputPast) → IsUnchanged x x
+unchanged x = record { same_handed = refl; same_faults = refl; same_ends = refl }
 
-pub read_on_none : {X : Type 0} (handed : X → List ℕ) (faults ends : X → ℕ) (x : X) → IsReadOn handed faults ends x x
-read_on_none handed faults ends x = record { grows = grows-same (handed x) (handed x); no_more = omega arith }
+pub read_on_none : (x : InputPast) → IsReadOn x x
+read_on_none x = record { grows = grows-same x.handed x.handed; no_more = omega arith }

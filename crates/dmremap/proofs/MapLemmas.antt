@@ -38,12 +38,12 @@ five_is : (ending : Ending) → ending_status ending ≡ STATUS_WRITE_FAULT → 
 five_is ending five = let same = write_fault_is (exits.Ended ending) five in cc
 
 -- a run is whole, unless the output failed
-pub ran_whole : {X : Type 0} (written waiting : X → List ℕ) (faults flushes : X → ℕ) (old new : X) (format : Format) (flag : Bool) (source disks requests : Delivery) (description : Description) (start left : State) (ending : Ending) (status : ℕ)
-    → PartsGive format source disks (SoundAs description) → start ≡ start_state description → HasRun written waiting faults flushes old new (run_outcome description flag start requests) left ending → status ≡ ending_status ending → status ≢ STATUS_WRITE_FAULT
-    → GiveWhole format flag source disks requests (record { output = since (written old) (written new); message = ending_message ending; status = status })
-ran_whole written waiting faults flushes old new format flag source disks requests description start left ending status gives starts ran is other =
+pub ran_whole : (old new : OutputPast) (format : Format) (flag : Bool) (source disks requests : Delivery) (description : Description) (start left : State) (ending : Ending) (status : ℕ)
+    → PartsGive format source disks (SoundAs description) → start ≡ start_state description → HasRun old new (run_outcome description flag start requests) left ending → status ≡ ending_status ending → status ≢ STATUS_WRITE_FAULT
+    → GiveWhole format flag source disks requests (record { output = written_since old new; message = ending_message ending; status = status })
+ran_whole old new format flag source disks requests description start left ending status gives starts ran is other =
     let outcome = outcome_of description flag requests in
-    let output = since (written old) (written new) in
+    let output = written_since old new in
     let no_fault : ending ≢ endings.WriteFault = λ failed. other (is ∙ ap ending_status failed) in
     let same_output = subst (λ (state : State). (run_outcome description flag state requests).output ≡ output) starts (ran.output.whole no_fault).0 in
     let same_ending = subst (λ (state : State). (run_outcome description flag state requests).ending ≡ Some ending) starts (ran.ends no_fault).0 in
@@ -51,16 +51,16 @@ ran_whole written waiting faults flushes old new format flag source disks reques
     record { load = SoundAs description; loaded = gives; is = ap (ended_if outcome.output) same_ending ∙ ap (λ (out : List ℕ). ended_if out (Some ending)) same_output ∙ ap whole (sym is) }
 
 -- where the output failed, it took a beginning of what there was to write
-pub ran_failed : {X : Type 0} (written waiting : X → List ℕ) (faults flushes : X → ℕ) (old new : X) (flag : Bool) (requests : Delivery) (description : Description) (start left : State) (ending : Ending) (status : ℕ) → start ≡ start_state description
-    → HasRun written waiting faults flushes old new (run_outcome description flag start requests) left ending → status ≡ ending_status ending → status ≡ STATUS_WRITE_FAULT
-    → FailedOutput (outcome_of description flag requests).output (since (written old) (written new)) (flushes old) (flushes new)
-ran_failed written waiting faults flushes old new flag requests description start left ending status starts ran is five =
-    subst (λ (state : State). FailedOutput (run_outcome description flag state requests).output (since (written old) (written new)) (flushes old) (flushes new)) starts (ran.output.failed (five_is ending (sym is ∙ five)))
+pub ran_failed : (old new : OutputPast) (flag : Bool) (requests : Delivery) (description : Description) (start left : State) (ending : Ending) (status : ℕ) → start ≡ start_state description
+    → HasRun old new (run_outcome description flag start requests) left ending → status ≡ ending_status ending → status ≡ STATUS_WRITE_FAULT
+    → FailedOutput (outcome_of description flag requests).output (written_since old new) old.flushes new.flushes
+ran_failed old new flag requests description start left ending status starts ran is five =
+    subst (λ (state : State). FailedOutput (run_outcome description flag state requests).output (written_since old new) old.flushes new.flushes) starts (ran.output.failed (five_is ending (sym is ∙ five)))
 
 -- what it wrote and flushed
-pub ran_output : {X : Type 0} (written waiting : X → List ℕ) (faults flushes : X → ℕ) (ending : Ending) (status : ℕ) (outcome : Outcome) (left : State) (old new : X) → status ≡ ending_status ending → HasRun written waiting faults flushes old new outcome left ending
-    → OutputWritten written waiting faults flushes status old new
-ran_output written waiting faults flushes ending status outcome left old new is ran = record {
+pub ran_output : (ending : Ending) (status : ℕ) (outcome : Outcome) (left : State) (old new : OutputPast) → status ≡ ending_status ending → HasRun old new outcome left ending
+    → OutputWritten status old new
+ran_output ending status outcome left old new is ran = record {
   finished = finished_as (ending ≡ endings.WriteFault) (status ≡ STATUS_WRITE_FAULT) (λ failed. is ∙ ap ending_status failed) (λ five. five_is ending (sym is ∙ five)) ran.output.finished;
   flushed = λ one five six. (ran.output.whole (λ failed. five (is ∙ ap ending_status failed))).1;
   refused = λ one. absurd (never_one ending (sym is ∙ one));

@@ -14,15 +14,15 @@ use Rattle.dmremap.specs.Load.{PartsGive, SoundAs}
 use Rattle.dmremap.specs.Printing.{CheckSays, FilesSay, IsPrinted, IsTextPrinted, Prints, ReportSays, Said, line, name_said, written_as}
 
 -- a text was written, or a write of it failed
-pub printed_after : {X E : Type 0} {written waiting : X → List ℕ} {faults flushes : X → ℕ} {old new : X} (result : Result (Unit {0}) E) (text : List ℕ) (exit : Exit) → exit ≡ exit_after result → Wrote written waiting faults flushes old new result text
-    → IsTextPrinted text (since (written old) (written new)) exit
-printed_after {written = written} {old = old} {new = new} (Ok done) text exit is wrote = subst (λ (e : Exit). IsTextPrinted text (since (written old) (written new)) e) (sym is) (sym wrote.ok)
-printed_after {written = written} {old = old} {new = new} (Err fault) text exit is wrote = subst (λ (e : Exit). IsTextPrinted text (since (written old) (written new)) e) (sym is) wrote.left
+pub printed_after : {E : Type 0} {old new : OutputPast} (result : Result (Unit {0}) E) (text : List ℕ) (exit : Exit) → exit ≡ exit_after result → Wrote old new result text
+    → IsTextPrinted text (written_since old new) exit
+printed_after {written = written} {old = old} {new = new} (Ok done) text exit is wrote = subst (λ (e : Exit). IsTextPrinted text (written_since old new) e) (sym is) (sym wrote.ok)
+printed_after {written = written} {old = old} {new = new} (Err fault) text exit is wrote = subst (λ (e : Exit). IsTextPrinted text (written_since old new) e) (sym is) wrote.left
 
-pub writes_after : {X E : Type 0} {written waiting : X → List ℕ} {faults flushes : X → ℕ} {old new : X} (result : Result (Unit {0}) E) (text : List ℕ) (exit : Exit) → exit ≡ exit_after result → Wrote written waiting faults flushes old new result text
-    → HasWritten written waiting faults flushes old new (failed_writes exit)
-writes_after {written = written} {waiting = waiting} {faults = faults} {flushes = flushes} {old = old} {new = new} (Ok done) text exit is wrote = subst (λ (e : Exit). HasWritten written waiting faults flushes old new (failed_writes e)) (sym is) wrote.moved
-writes_after {written = written} {waiting = waiting} {faults = faults} {flushes = flushes} {old = old} {new = new} (Err fault) text exit is wrote = subst (λ (e : Exit). HasWritten written waiting faults flushes old new (failed_writes e)) (sym is) wrote.moved
+pub writes_after : {E : Type 0} {old new : OutputPast} (result : Result (Unit {0}) E) (text : List ℕ) (exit : Exit) → exit ≡ exit_after result → Wrote old new result text
+    → HasWritten old new (failed_writes exit)
+writes_after {old = old} {new = new} (Ok done) text exit is wrote = subst (λ (e : Exit). HasWritten old new (failed_writes e)) (sym is) wrote.moved
+writes_after {old = old} {new = new} (Err fault) text exit is wrote = subst (λ (e : Exit). HasWritten old new (failed_writes e)) (sym is) wrote.moved
 
 -- what was printed of a text, where that is what is said
 pub says_printed : (Says : Said → Type 0) (text output : List ℕ) (exit : Exit) → Says (Prints text) → IsTextPrinted text output exit → IsPrinted Says output exit

@@ -91,11 +91,11 @@ pub part_played : (stack : Description) (exit : Exit) (requests : Requests) (tex
 part_played stack exit requests text Stopped stopped among = stopped_among stack exit requests among.first among.later text among.is (stopped among.first among.holds)
 
 -- nothing more is read where it stopped
-pub stopped_met : {X : Type 0} (faults ends : X → ℕ) (old new : X) (stack : Description) (exit : Exit) (asked : List Asked) (requests : List NumberedRequest) (text : List ℕ) → HasStopped stack exit asked requests text → MetNothing faults ends old new → HasMetBy exit faults ends old new
-stopped_met faults ends old new stack (exits.NotTop number) asked requests text stopped met = met
-stopped_met faults ends old new stack exits.Memory asked requests text stopped met = tt
-stopped_met faults ends old new stack (exits.Ended endings.WriteFault) asked requests text stopped met = tt
-stopped_met faults ends old new stack exit asked requests text stopped met = absurd stopped
+pub stopped_met : (old new : InputPast) (stack : Description) (exit : Exit) (asked : List Asked) (requests : List NumberedRequest) (text : List ℕ) → HasStopped stack exit asked requests text → MetNothing old new → HasMetBy exit old new
+stopped_met old new stack (exits.NotTop number) asked requests text stopped met = met
+stopped_met old new stack exits.Memory asked requests text stopped met = tt
+stopped_met old new stack (exits.Ended endings.WriteFault) asked requests text stopped met = tt
+stopped_met old new stack exit asked requests text stopped met = absurd stopped
 
 -- ---- the stack
 
@@ -104,7 +104,7 @@ pub played_stack : (stack : Description) (requests : Delivery) (text : List ℕ)
 played_stack stack requests text (exits.Refused refusal) tidy played = absurd played
 played_stack stack requests text exit tidy played = (tidy, played)
 
-pub played_asked : {X : Type 0} (handed : X → List ℕ) (faults ends : X → ℕ) (old new : X) (stack : Description) (requests : Requests) (text : List ℕ) (exit : Exit) → IsPlayed stack requests text exit → IsReadOn handed faults ends old new → HasMetBy exit faults ends old new
-    → AskedBy handed faults ends old new exit
-played_asked handed faults ends old new stack requests text (exits.Refused refusal) played read_on met = absurd played
-played_asked handed faults ends old new stack requests text exit played read_on met = record { read_on = read_on; met = met; unasked = λ refused. absurd cc }
+pub played_asked : (old new : InputPast) (stack : Description) (requests : Requests) (text : List ℕ) (exit : Exit) → IsPlayed stack requests text exit → IsReadOn old new → HasMetBy exit old new
+    → AskedBy old new exit
+played_asked old new stack requests text (exits.Refused refusal) played read_on met = absurd played
+played_asked old new stack requests text exit played read_on met = record { read_on = read_on; met = met; unasked = λ refused. absurd cc }

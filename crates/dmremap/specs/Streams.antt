@@ -1,6 +1,6 @@
 -- What became of the streams of a command until it exited.
 use Rattle.std.specs.Prelude.{◌≡◌, ◌≢◌, ◌⊎◌, ◌+◌, ℕ, ◌<◌, ◌≤◌, true, false, List}
-use Rattle.dm_table.specs.DeviceIo.{since}
+use Rattle.dm_table.specs.DeviceIo.{InputPast, OutputPast, written_since}
 use Rattle.dm_table.specs.Progress.{FailedWhere, HasWritten, IsFinished, IsFlushed, IsReadOn, MetNothing}
 use Rattle.dm_stream.specs.declared.ending.Ending.TheVariants.{WriteFault}
 use Rattle.dm_stream.specs.Requests.{HasMet}
@@ -9,56 +9,55 @@ use Rattle.dmremap.specs.declared.exit.Exit.{Exit}
 use Rattle.dmremap.specs.declared.exit.Exit.TheVariants as exits
 use Rattle.dmremap.specs.declared.status.TheConstants.{STATUS_BAD_REQUEST, STATUS_DONE, STATUS_MEMORY, STATUS_READ_FAULT, STATUS_REFUSED, STATUS_WRITE_FAULT}
 use Rattle.dmremap.specs.Exit.{exit_message, exit_status, failed_writes, is_flushed, is_refused}
-use Rattle.dmremap.specs.Inputs.{IsUnchanged}
 
 -- ---- by the status
 
 -- how the requests were read
-pub record RequestsRead {X : Type 0} (handed : X → List ℕ) (faults ends : X → ℕ) (status : ℕ) (old new : X) : Type 0 where
+pub record RequestsRead (status : ℕ) (old new : InputPast) : Type 0 where
   -- they are only read on, and nothing is asked of them after an end or a fault
-  pub read_on : IsReadOn handed faults ends old new
+  pub read_on : IsReadOn old new
   -- reading them failed; and where it did, and the output did not, only a request that was not answered takes precedence over that
-  pub read_fault : status ≡ STATUS_READ_FAULT → faults old < faults new
-  pub no_fault : status ≡ STATUS_DONE → faults new ≤ faults old
+  pub read_fault : status ≡ STATUS_READ_FAULT → old.faults < new.faults
+  pub no_fault : status ≡ STATUS_DONE → new.faults ≤ old.faults
   -- nothing is asked of them after a request that was bad: any read may fail, and none did
-  pub bad_line : status ≡ STATUS_BAD_REQUEST → faults new ≤ faults old
+  pub bad_line : status ≡ STATUS_BAD_REQUEST → new.faults ≤ old.faults
   -- they are not asked for where the command was refused before the first of them
-  pub unasked : status ≡ STATUS_REFUSED → IsUnchanged handed faults ends old new
+  pub unasked : status ≡ STATUS_REFUSED → new ≡ old
 
 -- what was written, and flushed
-pub record OutputWritten {X : Type 0} (written waiting : X → List ℕ) (faults flushes : X → ℕ) (status : ℕ) (old new : X) : Type 0 where
+pub record OutputWritten (status : ℕ) (old new : OutputPast) : Type 0 where
   -- it only took more, and it failed where the status says so: that takes precedence over all else
-  pub finished : IsFinished written waiting faults flushes old new (status ≡ STATUS_WRITE_FAULT)
+  pub finished : IsFinished old new (status ≡ STATUS_WRITE_FAULT)
   -- it is flushed once, at the end; not at all where the command was refused
-  pub flushed : status ≢ STATUS_REFUSED → status ≢ STATUS_WRITE_FAULT → status ≢ STATUS_MEMORY → IsFlushed waiting flushes old new
-  pub refused : status ≡ STATUS_REFUSED → flushes new ≡ flushes old
+  pub flushed : status ≢ STATUS_REFUSED → status ≢ STATUS_WRITE_FAULT → status ≢ STATUS_MEMORY → IsFlushed old new
+  pub refused : status ≡ STATUS_REFUSED → new.flushes ≡ old.flushes
 
 -- what was told
-pub record MessagesTold {X : Type 0} (written : X → List ℕ) (faults flushes : X → ℕ) (status : ℕ) (old new : X) : Type 0 where
+pub record MessagesTold (status : ℕ) (old new : OutputPast) : Type 0 where
   -- some message: which one, other clauses say
   pub message : List ℕ
-  pub told : HasTold written faults flushes message old new
+  pub told : HasTold message old new
   -- a failed output is told
   pub write_message : status ≡ STATUS_WRITE_FAULT → message ≡ write_message
 
 -- ---- by the exit
 
 -- the command exits so: this is its status, and its message was told
-pub record Exits {X : Type 0} (written : X → List ℕ) (faults flushes : X → ℕ) (exit : Exit) (result : ℕ) (old new : X) : Type 0 where
+pub record Exits (exit : Exit) (result : ℕ) (old new : OutputPast) : Type 0 where
   pub is : result ≡ exit_status exit
-  pub told : HasTold written faults flushes (exit_message exit) old new
+  pub told : HasTold (exit_message exit) old new
 
 -- what the input of requests met until then
-abbrev pub HasMetBy : {X : Type 0} → Exit → (faults ends : X → ℕ) → (old new : X) → Type 0
-HasMetBy (exits.Ended ending) faults ends old new = HasMet ending faults ends old new
-HasMetBy (exits.NotTop number) faults ends old new = MetNothing faults ends old new
-HasMetBy _ faults ends old new = Unit {0}
+abbrev pub HasMetBy : Exit → (old new : InputPast) → Type 0
+HasMetBy (exits.Ended ending) old new = HasMet ending old new
+HasMetBy (exits.NotTop number) old new = MetNothing old new
+HasMetBy _ old new = Unit {0}
 
 -- how requests were asked for until then: only read on, and not at all where the command was refused
-pub record AskedBy {X : Type 0} (handed : X → List ℕ) (faults ends : X → ℕ) (old new : X) (exit : Exit) : Type 0 where
-  pub read_on : IsReadOn handed faults ends old new
-  pub met : HasMetBy exit faults ends old new
-  pub unasked : is_refused exit ≡ true → IsUnchanged handed faults ends old new
+pub record AskedBy (old new : InputPast) (exit : Exit) : Type 0 where
+  pub read_on : IsReadOn old new
+  pub met : HasMetBy exit old new
+  pub unasked : is_refused exit ≡ true → new ≡ old
 
 -- a command that would exit as before exits as after, since it does, or since the flush failed
 abbrev pub EndsAs : (before : Exit) → (flushes_old flushes_new : ℕ) → (after : Exit) → Type 0
@@ -67,12 +66,12 @@ EndsAs before old new after =
     ⊎ ((after ≡ exits.Ended WriteFault) × (is_flushed before ≡ true) × (new ≡ old + 1))
 
 -- the output of a command that would exit as before was closed, so that it exits as after
-pub record IsClosedAs {X : Type 0} (written waiting : X → List ℕ) (faults flushes : X → ℕ) (before : Exit) (old new : X) (after : Exit) : Type 0 where
-  pub bytes : written new ≡ written old
-  pub ends : EndsAs before (flushes old) (flushes new) after
+pub record IsClosedAs (before : Exit) (old new : OutputPast) (after : Exit) : Type 0 where
+  pub bytes : new.written ≡ old.written
+  pub ends : EndsAs before old.flushes new.flushes after
   -- wherever the command began
-  pub output : (start : X) → HasWritten written waiting faults flushes start old (failed_writes before) → OutputWritten written waiting faults flushes (exit_status after) start new
-  pub flushed : is_flushed after ≡ true → (start : X) → HasWritten written waiting faults flushes start old (failed_writes before) → IsFlushed waiting flushes start new
+  pub output : (start : OutputPast) → HasWritten start old (failed_writes before) → OutputWritten (exit_status after) start new
+  pub flushed : is_flushed after ≡ true → (start : OutputPast) → HasWritten start old (failed_writes before) → IsFlushed start new
 
 -- what a command gave that did this before its output was closed. The output failed at a write, or at the flush, after all that there was to write
 abbrev pub HasGiven : (Did : List ℕ → Exit → Type 0) → List ℕ → (flushes_old flushes_new : ℕ) → Exit → Type 0
@@ -81,7 +80,7 @@ HasGiven Did text old new (exits.Ended WriteFault) =
 HasGiven Did text old new exit = Did text exit
 
 -- the same of its output, which is flushed once, at the end; not at all where the command was refused
-pub record HasExited {X : Type 0} (written waiting : X → List ℕ) (flushes : X → ℕ) (Did : List ℕ → Exit → Type 0) (old new : X) (exit : Exit) : Type 0 where
-  pub given : HasGiven Did (since (written old) (written new)) (flushes old) (flushes new) exit
-  pub flushed : is_flushed exit ≡ true → IsFlushed waiting flushes old new
-  pub refused : is_refused exit ≡ true → flushes new ≡ flushes old
+pub record HasExited (Did : List ℕ → Exit → Type 0) (old new : OutputPast) (exit : Exit) : Type 0 where
+  pub given : HasGiven Did (written_since old new) old.flushes new.flushes exit
+  pub flushed : is_flushed exit ≡ true → IsFlushed old new
+  pub refused : is_refused exit ≡ true → new.flushes ≡ old.flushes

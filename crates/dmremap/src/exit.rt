@@ -60,7 +60,7 @@ impl Refusal {
 
     /// Tells why on the message stream.
     fn tell<M: Output>(self, messages: &mut M)
-        ensures { HasTold M.written M.faults M.flushes (refusal_message self) messages.old messages.new }
+        ensures { HasTold (refusal_message self) (M.past messages.old) (M.past messages.new) }
     {
         match self {
             Refusal::Load(fault) => tell(messages, fault.message().as_slice()),
@@ -123,7 +123,7 @@ impl Exit {
 
     /// Tells why a command exits so, if not all was done, and returns the exit status.
     pub(crate) fn tell<M: Output>(self, messages: &mut M) -> u8
-        ensures { Exits M.written M.faults M.flushes self result messages.old messages.new }
+        ensures { Exits self result (M.past messages.old) (M.past messages.new) }
     {
         match self {
             Exit::Refused(refusal) => refusal.tell(messages),
@@ -158,7 +158,7 @@ impl Exit {
     /// Closes the output of a command that would exit so: flushes it, unless the command was refused or a
     /// write failed. It returns how the command exits then.
     fn close<W: Output>(self, output: &mut W) -> Exit
-        ensures { IsClosedAs W.written W.waiting W.faults W.flushes self output.old output.new result }
+        ensures { IsClosedAs self (W.past output.old) (W.past output.new) result }
     {
         if self.is_refused() {
             return self;
@@ -172,8 +172,8 @@ impl Exit {
     /// Closes the output of a command that would exit so, then tells why not all was done, and returns the
     /// exit status.
     pub(crate) fn finish<W: Output, M: Output>(self, output: &mut W, messages: &mut M) -> u8
-        ensures { (exit : Exit) × IsClosedAs W.written W.waiting W.faults W.flushes self output.old output.new exit
-            × Exits M.written M.faults M.flushes exit result messages.old messages.new }
+        ensures { (exit : Exit) × IsClosedAs self (W.past output.old) (W.past output.new) exit
+            × Exits exit result (M.past messages.old) (M.past messages.new) }
     {
         self.close(output).tell(messages)
     }

@@ -35,10 +35,10 @@ pub(crate) fn load<S: Input, D: Input>(
     disks: &mut Option<D>,
 ) -> Result<Stack, LoadFault>
     requires { is_some disks.old ≡ has_disk_list format }
-    ensures gives { Loads (PartsGive format (delivery S.handed S.faults S.ends source.old source.new)
-        (delivery_if D.handed D.faults D.ends disks.old disks.new)) result }
-    ensures source { IsReadOn S.handed S.faults S.ends source.old source.new }
-    ensures disks { IsReadOnIf D.handed D.faults D.ends disks.old disks.new }
+    ensures gives { Loads (PartsGive format (delivery (S.past source.old) (S.past source.new))
+        (delivery_if D.past disks.old disks.new)) result }
+    ensures source { IsReadOn (S.past source.old) (S.past source.new) }
+    ensures disks { IsReadOnIf D.past disks.old disks.new }
 {
     match format {
         Format::Lvm => load_metadata(alloc, source),
@@ -54,10 +54,10 @@ fn load_tables<S: Input, D: Input>(
     disks: &mut Option<D>,
 ) -> Result<Stack, LoadFault>
     requires { IsSome disks.old }
-    ensures gives { Loads (TextPartsGive form (part_read Source (delivery S.handed S.faults S.ends source.old source.new))
-        (part_read Disks (delivery_if D.handed D.faults D.ends disks.old disks.new))) result }
-    ensures source { IsReadOn S.handed S.faults S.ends source.old source.new }
-    ensures disks { IsReadOnIf D.handed D.faults D.ends disks.old disks.new }
+    ensures gives { Loads (TextPartsGive form (part_read Source (delivery (S.past source.old) (S.past source.new)))
+        (part_read Disks (delivery_if D.past disks.old disks.new))) result }
+    ensures source { IsReadOn (S.past source.old) (S.past source.new) }
+    ensures disks { IsReadOnIf D.past disks.old disks.new }
 {
     let source = read_part(alloc, Part::Source, source)?;
     let disks = read_disks(alloc, disks)?;
@@ -67,9 +67,9 @@ fn load_tables<S: Input, D: Input>(
 /// The text of a disk list that is there.
 fn read_disks<D: Input>(alloc: Global, disks: &mut Option<D>) -> Result<Vec<u8>, LoadFault>
     requires { IsSome disks.old }
-    ensures text { IfOk result (λ text. part_read Disks (delivery_if D.handed D.faults D.ends disks.old disks.new) ≡ TextOf text.items) }
-    ensures refused { IfErr result (λ fault. fault.kind ≢ Memory → part_read Disks (delivery_if D.handed D.faults D.ends disks.old disks.new) ≡ Refuses fault) }
-    ensures read_on { IsReadOnIf D.handed D.faults D.ends disks.old disks.new }
+    ensures text { IfOk result (λ text. part_read Disks (delivery_if D.past disks.old disks.new) ≡ TextOf text.items) }
+    ensures refused { IfErr result (λ fault. fault.kind ≢ Memory → part_read Disks (delivery_if D.past disks.old disks.new) ≡ Refuses fault) }
+    ensures read_on { IsReadOnIf D.past disks.old disks.new }
 {
     match disks {
         Some(input) => read_part(alloc, Part::Disks, input),
@@ -119,8 +119,8 @@ fn parse_devices(alloc: Global, form: TableForm, text: &[u8]) -> Result<Vec<Devi
 
 /// What a text of LVM2 metadata gives, which describes its disks too.
 fn load_metadata<S: Input>(alloc: Global, source: &mut S) -> Result<Stack, LoadFault>
-    ensures gives { Loads (MetadataPartGives (part_read Source (delivery S.handed S.faults S.ends source.old source.new))) result }
-    ensures source { IsReadOn S.handed S.faults S.ends source.old source.new }
+    ensures gives { Loads (MetadataPartGives (part_read Source (delivery (S.past source.old) (S.past source.new)))) result }
+    ensures source { IsReadOn (S.past source.old) (S.past source.new) }
 {
     let source = read_part(alloc, Part::Source, source)?;
     load_group(alloc, &source)

@@ -5,7 +5,7 @@
 //! tests hand in memory.
 
 ghost use Rattle.std.specs.Prelude.{◌≡◌, ◌≢◌, ◌+◌, ◌^◌, [], Bool, List, ℕ, is_some};
-ghost use Rattle.dm_table.specs.DeviceIo.{Delivery, delivery, since};
+ghost use Rattle.dm_table.specs.DeviceIo.{Delivery, delivery, written_since};
 ghost use Rattle.dm_table.specs.declared.part_input.TheConstants.{MOST_PART_BYTES};
 ghost use Rattle.dm_table.specs.declared.request.Op.TheVariants as Op;
 ghost use Rattle.dm_table.specs.LoadMessage.{memory_message};
@@ -23,7 +23,7 @@ ghost use Rattle.dm_stream.specs.Messages.{IsTold};
 ghost use Rattle.dm_stream.specs.Pieces.{AreFewest, fewest};
 ghost use Rattle.dmremap.specs.declared.job.Format.{Format};
 ghost use Rattle.dmremap.specs.declared.status.TheConstants.{STATUS_MEMORY, STATUS_WRITE_FAULT};
-ghost use Rattle.dmremap.specs.Inputs.{IsReadOnIf, IsUnchanged, delivery_if};
+ghost use Rattle.dmremap.specs.Inputs.{IsReadOnIf, delivery_if};
 ghost use Rattle.dmremap.specs.Job.{has_disk_list};
 ghost use Rattle.dmremap.specs.Load.{PartsGive, SoundAs};
 ghost use Rattle.dmremap.specs.Streams.{MessagesTold, OutputWritten, RequestsRead};
@@ -83,33 +83,32 @@ pub fn map_whole<S: Input, D: Input, Q: Input, W: Output, M: Output>(
 
     // Unless the output failed or memory ran out, the deliveries determine everything.
     ensures whole { result ≢ STATUS_WRITE_FAULT → result ≢ STATUS_MEMORY → (message : List ℕ) × GiveWhole format status
-        (delivery S.handed S.faults S.ends source.old source.new)
-        (delivery_if D.handed D.faults D.ends disks.old disks.new)
-        (delivery Q.handed Q.faults Q.ends requests.old requests.new)
-        (record { output = since (W.written output.old) (W.written output.new); message = message; status = result })
-        × IsTold message (since (M.written messages.old) (M.written messages.new)) (M.faults messages.old) (M.faults messages.new) }
+        (delivery (S.past source.old) (S.past source.new))
+        (delivery_if D.past disks.old disks.new)
+        (delivery (Q.past requests.old) (Q.past requests.new))
+        (record { output = written_since (W.past output.old) (W.past output.new); message = message; status = result })
+        × IsTold message (M.past messages.old) (M.past messages.new) }
 
     // The output failed: a beginning of it was written, that of the bytes which the requests delivered. Something was left to
     // write where no flush was asked, and nothing where the flush failed. So an empty output asks nothing of it but a flush.
     ensures beginning { result ≡ STATUS_WRITE_FAULT → (description : Description) × PartsGive format
-        (delivery S.handed S.faults S.ends source.old source.new)
-        (delivery_if D.handed D.faults D.ends disks.old disks.new) (SoundAs description)
-        × FailedOutput (outcome_of description status (delivery Q.handed Q.faults Q.ends requests.old requests.new)).output
-        (since (W.written output.old) (W.written output.new)) (W.flushes output.old) (W.flushes output.new) }
+        (delivery (S.past source.old) (S.past source.new))
+        (delivery_if D.past disks.old disks.new) (SoundAs description)
+        × FailedOutput (outcome_of description status (delivery (Q.past requests.old) (Q.past requests.new))).output (W.past output.old) (W.past output.new) }
 
     // Memory ran out: nothing was written or flushed, and requests were not asked for.
-    ensures memory { result ≡ STATUS_MEMORY → (since (W.written output.old) (W.written output.new) ≡ [])
-        × IsTold memory_message (since (M.written messages.old) (M.written messages.new)) (M.faults messages.old) (M.faults messages.new) }
-    ensures unloaded { result ≡ STATUS_MEMORY → W.flushes output.new ≡ W.flushes output.old }
-    ensures unasked_memory { result ≡ STATUS_MEMORY → IsUnchanged Q.handed Q.faults Q.ends requests.old requests.new }
+    ensures memory { result ≡ STATUS_MEMORY → (written_since (W.past output.old) (W.past output.new) ≡ [])
+        × IsTold memory_message (M.past messages.old) (M.past messages.new) }
+    ensures unloaded { result ≡ STATUS_MEMORY → (W.past output.new).flushes ≡ (W.past output.old).flushes }
+    ensures unasked_memory { result ≡ STATUS_MEMORY → Q.past requests.new ≡ Q.past requests.old }
 
     // Each input is only read on, and nothing is asked of it after an end or a fault.
-    ensures source_read_on { IsReadOn S.handed S.faults S.ends source.old source.new }
-    ensures disks_read_on { IsReadOnIf D.handed D.faults D.ends disks.old disks.new }
+    ensures source_read_on { IsReadOn (S.past source.old) (S.past source.new) }
+    ensures disks_read_on { IsReadOnIf D.past disks.old disks.new }
     // The status says how requests were read, what came of the output, and that a failed output was told.
-    ensures requests { RequestsRead Q.handed Q.faults Q.ends result requests.old requests.new }
-    ensures output { OutputWritten W.written W.waiting W.faults W.flushes result output.old output.new }
-    ensures messages { MessagesTold M.written M.faults M.flushes result messages.old messages.new }
+    ensures requests { RequestsRead result (Q.past requests.old) (Q.past requests.new) }
+    ensures output { OutputWritten result (W.past output.old) (W.past output.new) }
+    ensures messages { MessagesTold result (M.past messages.old) (M.past messages.new) }
 
     // The figures of the limits.
     ensures limits { (MOST_PART_BYTES ≡ 1048576) × (MOST_LINE_BYTES ≡ 4096) × (MOST_REQUESTS ≡ 1000000000000)

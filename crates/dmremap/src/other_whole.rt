@@ -6,7 +6,7 @@
 //! in `specs/OtherWhole.antt`.
 
 ghost use Rattle.std.specs.Prelude.{◌≡◌, List, ℕ, IsSome, false, true, is_some};
-ghost use Rattle.dm_table.specs.DeviceIo.{Delivery, delivery, since};
+ghost use Rattle.dm_table.specs.DeviceIo.{Delivery, delivery, written_since};
 ghost use Rattle.dm_table.specs.Progress.{HasWritten};
 ghost use Rattle.dmremap.specs.declared.exit.Exit.{Exit};
 ghost use Rattle.dmremap.specs.Exit.{IsPlain, failed_writes, is_refused};
@@ -67,27 +67,27 @@ pub fn other_whole<S: Input, D: Input, Q: Input, W: Output, M: Output>(
     // It exits as the words and the deliveries say, and so goes what it wrote, its status and its message. The output failed at a
     // write or at the flush: then what was written is a beginning of what there was to write, or all of it. Where the command was
     // refused, also since there was no memory to begin, nothing was written or flushed, and requests were not asked for.
-    ensures exits { (exit : Exit) × HasExited W.written W.waiting W.flushes (TaskDoes (words_of job.now.task)
-        (delivery_if S.handed S.faults S.ends source.old source.new)
-        (delivery_if D.handed D.faults D.ends disks.old disks.new)
-        (delivery Q.handed Q.faults Q.ends requests.old requests.new)) output.old output.new exit
-        × Exits M.written M.faults M.flushes exit result messages.old messages.new
-        × (is_refused exit ≡ true → IsUnchanged Q.handed Q.faults Q.ends requests.old requests.new) }
+    ensures exits { (exit : Exit) × HasExited (TaskDoes (words_of job.now.task)
+        (delivery_if S.past source.old source.new)
+        (delivery_if D.past disks.old disks.new)
+        (delivery (Q.past requests.old) (Q.past requests.new))) (W.past output.old) (W.past output.new) exit
+        × Exits exit result (M.past messages.old) (M.past messages.new)
+        × (is_refused exit ≡ true → Q.past requests.new ≡ Q.past requests.old) }
 
     // Unless the output failed or memory ran out, the words and the deliveries determine the exit and what is written.
     ensures one { (asked : TaskWords) (s d q : Delivery) (a b : Exit) (x y : List ℕ) → IsPlain a → IsPlain b
         → TaskDoes asked s d q x a → TaskDoes asked s d q y b → (a ≡ b) × (x ≡ y) }
 
     // Each input is only read on, and nothing is asked of it after an end or a fault.
-    ensures source_read_on { IsReadOnIf S.handed S.faults S.ends source.old source.new }
-    ensures disks_read_on { IsReadOnIf D.handed D.faults D.ends disks.old disks.new }
+    ensures source_read_on { IsReadOnIf S.past source.old source.new }
+    ensures disks_read_on { IsReadOnIf D.past disks.old disks.new }
     // Only `replay` asks for requests.
     ensures unasked { has_requests (words_of job.now.task) ≡ false
-        → IsUnchanged Q.handed Q.faults Q.ends requests.old requests.new }
+        → Q.past requests.new ≡ Q.past requests.old }
     // The status says how requests were read, what came of the output, and that a failed output was told.
-    ensures requests { RequestsRead Q.handed Q.faults Q.ends result requests.old requests.new }
-    ensures output { OutputWritten W.written W.waiting W.faults W.flushes result output.old output.new }
-    ensures messages { MessagesTold M.written M.faults M.flushes result messages.old messages.new }
+    ensures requests { RequestsRead result (Q.past requests.old) (Q.past requests.new) }
+    ensures output { OutputWritten result (W.past output.old) (W.past output.new) }
+    ensures messages { MessagesTold result (M.past messages.old) (M.past messages.new) }
 {
     let exit = answer(alloc, job.task, source, disks, requests, &mut *output);
     exit.finish(output, messages)
@@ -106,16 +106,16 @@ fn answer<S: Input, D: Input, Q: Input, W: Output>(
     requires source { is_some source.old ≡ has_source (words_of task) }
     requires disks { is_some disks.old ≡ has_list (words_of task) }
     ensures did { TaskDoes (words_of task.entry)
-        (delivery_if S.handed S.faults S.ends source.old source.new)
-        (delivery_if D.handed D.faults D.ends disks.old disks.new)
-        (delivery Q.handed Q.faults Q.ends requests.old requests.new)
-        (since (W.written output.old) (W.written output.new)) result }
-    ensures writes { HasWritten W.written W.waiting W.faults W.flushes output.old output.new (failed_writes result) }
-    ensures asked { AskedBy Q.handed Q.faults Q.ends requests.old requests.new result }
+        (delivery_if S.past source.old source.new)
+        (delivery_if D.past disks.old disks.new)
+        (delivery (Q.past requests.old) (Q.past requests.new))
+        (written_since (W.past output.old) (W.past output.new)) result }
+    ensures writes { HasWritten (W.past output.old) (W.past output.new) (failed_writes result) }
+    ensures asked { AskedBy (Q.past requests.old) (Q.past requests.new) result }
     ensures unasked { has_requests (words_of task.entry) ≡ false
-        → IsUnchanged Q.handed Q.faults Q.ends requests.old requests.new }
-    ensures source { IsReadOnIf S.handed S.faults S.ends source.old source.new }
-    ensures disks { IsReadOnIf D.handed D.faults D.ends disks.old disks.new }
+        → Q.past requests.new ≡ Q.past requests.old }
+    ensures source { IsReadOnIf S.past source.old source.new }
+    ensures disks { IsReadOnIf D.past disks.old disks.new }
 {
     match task {
         Task::Replay(files) => replay(alloc, files.format, source, disks, requests, output),
@@ -135,14 +135,14 @@ fn replay<S: Input, D: Input, Q: Input, W: Output>(
     requires source { IsSome source.old }
     requires disks { is_some disks.old ≡ has_disk_list format }
     ensures did { ReplaysFiles format
-        (delivery_if S.handed S.faults S.ends source.old source.new)
-        (delivery_if D.handed D.faults D.ends disks.old disks.new)
-        (delivery Q.handed Q.faults Q.ends requests.old requests.new)
-        (since (W.written output.old) (W.written output.new)) result }
-    ensures writes { HasWritten W.written W.waiting W.faults W.flushes output.old output.new (failed_writes result) }
-    ensures asked { AskedBy Q.handed Q.faults Q.ends requests.old requests.new result }
-    ensures source { IsReadOnIf S.handed S.faults S.ends source.old source.new }
-    ensures disks { IsReadOnIf D.handed D.faults D.ends disks.old disks.new }
+        (delivery_if S.past source.old source.new)
+        (delivery_if D.past disks.old disks.new)
+        (delivery (Q.past requests.old) (Q.past requests.new))
+        (written_since (W.past output.old) (W.past output.new)) result }
+    ensures writes { HasWritten (W.past output.old) (W.past output.new) (failed_writes result) }
+    ensures asked { AskedBy (Q.past requests.old) (Q.past requests.new) result }
+    ensures source { IsReadOnIf S.past source.old source.new }
+    ensures disks { IsReadOnIf D.past disks.old disks.new }
 {
     match load_source(alloc, format, source, disks) {
         Ok(stack) => replay_stack(alloc, &stack, requests, output),
@@ -162,12 +162,12 @@ fn print<S: Input, D: Input, W: Output>(
     requires source { is_some source.old ≡ has_source (words_of task) }
     requires disks { is_some disks.old ≡ has_list (words_of task) }
     ensures printed { IsPrinted (TaskSays (words_of task.entry)
-        (delivery_if S.handed S.faults S.ends source.old source.new)
-        (delivery_if D.handed D.faults D.ends disks.old disks.new))
-        (since (W.written output.old) (W.written output.new)) result }
-    ensures writes { HasWritten W.written W.waiting W.faults W.flushes output.old output.new (failed_writes result) }
-    ensures source { IsReadOnIf S.handed S.faults S.ends source.old source.new }
-    ensures disks { IsReadOnIf D.handed D.faults D.ends disks.old disks.new }
+        (delivery_if S.past source.old source.new)
+        (delivery_if D.past disks.old disks.new))
+        (written_since (W.past output.old) (W.past output.new)) result }
+    ensures writes { HasWritten (W.past output.old) (W.past output.new) (failed_writes result) }
+    ensures source { IsReadOnIf S.past source.old source.new }
+    ensures disks { IsReadOnIf D.past disks.old disks.new }
 {
     match task {
         Task::Map(_) | Task::Replay(_) => unreachable!(),
@@ -193,10 +193,10 @@ fn load_source<S: Input, D: Input>(
 ) -> Result<Stack, LoadFault>
     requires source { IsSome source.old }
     requires disks { is_some disks.old ≡ has_disk_list format }
-    ensures gives { Loads (PartsGive format (delivery_if S.handed S.faults S.ends source.old source.new)
-        (delivery_if D.handed D.faults D.ends disks.old disks.new)) result }
-    ensures source { IsReadOnIf S.handed S.faults S.ends source.old source.new }
-    ensures disks { IsReadOnIf D.handed D.faults D.ends disks.old disks.new }
+    ensures gives { Loads (PartsGive format (delivery_if S.past source.old source.new)
+        (delivery_if D.past disks.old disks.new)) result }
+    ensures source { IsReadOnIf S.past source.old source.new }
+    ensures disks { IsReadOnIf D.past disks.old disks.new }
 {
     match source {
         Some(source) => load(alloc, format, source, disks),

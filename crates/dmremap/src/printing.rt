@@ -4,7 +4,7 @@
 //! is said in `specs/Printing.antt`.
 
 ghost use Rattle.std.specs.Prelude.{◌≡◌, option_map};
-ghost use Rattle.dm_table.specs.DeviceIo.{since};
+ghost use Rattle.dm_table.specs.DeviceIo.{written_since};
 ghost use Rattle.dm_table.specs.Progress.{HasWritten, Wrote};
 ghost use Rattle.lvm_volume.specs.Names.{built};
 ghost use Rattle.dmremap.specs.Exit.{failed_writes};
@@ -23,8 +23,8 @@ use std::alloc::Global;
 /// Prints the devices of a stack in a form.
 pub(crate) fn print_stack<W: Output>(form: TableForm, stack: Stack, output: &mut W) -> Exit
     ensures printed { IsTextPrinted (written_as form stack.devices)
-        (since (W.written output.old) (W.written output.new)) result }
-    ensures writes { HasWritten W.written W.waiting W.faults W.flushes output.old output.new (failed_writes result) }
+        (written_since (W.past output.old) (W.past output.new)) result }
+    ensures writes { HasWritten (W.past output.old) (W.past output.new) (failed_writes result) }
 {
     let (devices, _) = stack.into_parts();
     Exit::after(write_devices(form, &devices, output))
@@ -36,7 +36,7 @@ fn write_devices<W: Output>(
     devices: &[DeviceSpec],
     output: &mut W,
 ) -> Result<(), OutFault>
-    ensures { Wrote W.written W.waiting W.faults W.flushes output.old output.new result (written_as form devices.now) }
+    ensures { Wrote (W.past output.old) (W.past output.new) result (written_as form devices.now) }
 {
     match form {
         TableForm::Table => write_table(devices, output),
@@ -47,8 +47,8 @@ fn write_devices<W: Output>(
 /// Prints the report of a stack.
 pub(crate) fn print_report<W: Output>(alloc: Global, stack: &Stack, output: &mut W) -> Exit
     ensures printed { IsPrinted (ReportSays (SoundAs stack.now))
-        (since (W.written output.old) (W.written output.new)) result }
-    ensures writes { HasWritten W.written W.waiting W.faults W.flushes output.old output.new (failed_writes result) }
+        (written_since (W.past output.old) (W.past output.new)) result }
+    ensures writes { HasWritten (W.past output.old) (W.past output.new) (failed_writes result) }
 {
     match check_report(alloc, stack) {
         Ok(text) => print_text(text.as_str().as_bytes(), output),
@@ -65,8 +65,8 @@ pub(crate) fn print_name<W: Output>(
     output: &mut W,
 ) -> Exit
     ensures printed { IsPrinted (λ said. name_said (built (record { vg = vg.now; lv = lv.now; layer = option_map (λ l. l.now) layer.entry })) ≡ said)
-        (since (W.written output.old) (W.written output.new)) result }
-    ensures writes { HasWritten W.written W.waiting W.faults W.flushes output.old output.new (failed_writes result) }
+        (written_since (W.past output.old) (W.past output.new)) result }
+    ensures writes { HasWritten (W.past output.old) (W.past output.new) (failed_writes result) }
 {
     match build_name(alloc, vg, lv, layer) {
         Ok(name) => print_line(name.as_str().as_bytes(), output),
@@ -77,8 +77,8 @@ pub(crate) fn print_name<W: Output>(
 /// Prints the parts of the name of a volume.
 pub(crate) fn print_parts<W: Output>(alloc: Global, name: &str, output: &mut W) -> Exit
     ensures printed { IsPrinted (SplitSays name.now)
-        (since (W.written output.old) (W.written output.new)) result }
-    ensures writes { HasWritten W.written W.waiting W.faults W.flushes output.old output.new (failed_writes result) }
+        (written_since (W.past output.old) (W.past output.new)) result }
+    ensures writes { HasWritten (W.past output.old) (W.past output.new) (failed_writes result) }
 {
     match spaced_parts(alloc, name) {
         Ok(Some(parts)) => print_line(parts.as_bytes(), output),
@@ -89,22 +89,22 @@ pub(crate) fn print_parts<W: Output>(alloc: Global, name: &str, output: &mut W) 
 
 /// Prints a text of whole lines.
 fn print_text<W: Output>(text: &[u8], output: &mut W) -> Exit
-    ensures printed { IsTextPrinted text.now (since (W.written output.old) (W.written output.new)) result }
-    ensures writes { HasWritten W.written W.waiting W.faults W.flushes output.old output.new (failed_writes result) }
+    ensures printed { IsTextPrinted text.now (written_since (W.past output.old) (W.past output.new)) result }
+    ensures writes { HasWritten (W.past output.old) (W.past output.new) (failed_writes result) }
 {
     Exit::after(write_all(output, text))
 }
 
 /// Prints a line.
 fn print_line<W: Output>(text: &[u8], output: &mut W) -> Exit
-    ensures printed { IsTextPrinted (line text.now) (since (W.written output.old) (W.written output.new)) result }
-    ensures writes { HasWritten W.written W.waiting W.faults W.flushes output.old output.new (failed_writes result) }
+    ensures printed { IsTextPrinted (line text.now) (written_since (W.past output.old) (W.past output.new)) result }
+    ensures writes { HasWritten (W.past output.old) (W.past output.new) (failed_writes result) }
 {
     Exit::after(write_line(text, output))
 }
 
 fn write_line<W: Output>(text: &[u8], output: &mut W) -> Result<(), OutFault>
-    ensures { Wrote W.written W.waiting W.faults W.flushes output.old output.new result (line text.now) }
+    ensures { Wrote (W.past output.old) (W.past output.new) result (line text.now) }
 {
     write_all(&mut *output, text)?;
     write_all(output, b"\n")

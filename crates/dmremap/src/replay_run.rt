@@ -3,7 +3,7 @@
 //! `specs/ReplayOutcome.antt` says what is written for the requests, and what one request adds to it.
 
 ghost use Rattle.std.specs.Prelude.{◌≡◌, false};
-ghost use Rattle.dm_table.specs.DeviceIo.{delivery, since};
+ghost use Rattle.dm_table.specs.DeviceIo.{delivery, written_since};
 ghost use Rattle.dm_table.specs.Progress.{HasWritten, HasWrittenTo, IsReadOn};
 ghost use Rattle.dm_table.proofs.ProgressLaws.{written_to_none, written_to_more};
 ghost use Rattle.dm_stream.specs.Requests.{requests_of};
@@ -39,31 +39,31 @@ impl<'s, W: Output> Handler for RequestPlayer<'_, 's, W> {
     ghost ready = { λ h replay. (replay.stack ≡ h.stack.now) × (replay.stopped ≡ false) };
 
     ghost answered = { λ old before requests new after.
-        HasPlayed before.stack before.asked after.asked requests (W.written old.output.now) (W.written new.output.now)
-        × HasWrittenTo W.written W.waiting W.faults W.flushes old.output new.output 0
+        HasPlayed before.stack before.asked after.asked requests (W.past old.output.now).written (W.past new.output.now).written
+        × HasWrittenTo W.past old.output new.output 0
         × (after.stack ≡ before.stack) };
 
     ghost stopped = { λ old before requests exit new after.
-        HasStopped before.stack exit before.asked requests (since (W.written old.output.now) (W.written new.output.now))
-        × HasWrittenTo W.written W.waiting W.faults W.flushes old.output new.output (failed_writes exit) };
+        HasStopped before.stack exit before.asked requests (written_since (W.past old.output.now) (W.past new.output.now))
+        × HasWrittenTo W.past old.output new.output (failed_writes exit) };
 
     ghost answered_none = { λ h replay. (
-      played_none replay.stack replay.asked (W.written h.output.now),
-      written_to_none W.written W.waiting W.faults W.flushes h.output,
+      played_none replay.stack replay.asked (W.past h.output.now).written,
+      written_to_none W.past h.output,
       refl,
     ) };
 
     ghost answered_then_answered = { λ a b c s t u us vs first second. (
       played_more s.stack s.asked t.asked u.asked us vs _ _ _ first.1.moved.appends second.1.moved.appends first.0
-          (subst (λ stack. HasPlayed stack t.asked u.asked vs (W.written b.output.now) (W.written c.output.now)) first.2 second.0),
-      written_to_more W.written W.waiting W.faults W.flushes a.output b.output c.output 0 first.1 second.1,
+          (subst (λ stack. HasPlayed stack t.asked u.asked vs (W.past b.output.now).written (W.past c.output.now).written) first.2 second.0),
+      written_to_more W.past a.output b.output c.output 0 first.1 second.1,
       second.2 ∙ first.2,
     ) };
 
     ghost answered_then_stopped = { λ a b c s t u us vs exit first second. (
       stopped_more s.stack exit s.asked t.asked us vs _ _ _ first.1.moved.appends second.1.moved.appends first.0
-          (subst (λ stack. HasStopped stack exit t.asked vs (since (W.written b.output.now) (W.written c.output.now))) first.2 second.0),
-      written_to_more W.written W.waiting W.faults W.flushes a.output b.output c.output (failed_writes exit) first.1 second.1,
+          (subst (λ stack. HasStopped stack exit t.asked vs (written_since (W.past b.output.now) (W.past c.output.now))) first.2 second.0),
+      written_to_more W.past a.output b.output c.output (failed_writes exit) first.1 second.1,
     ) };
 
     fn handle(
@@ -94,11 +94,11 @@ fn play_lines<'s, Q: Input, W: Output>(
     player: &mut RequestPlayer<'_, 's, W>,
 ) -> Exit
     requires new { replay.old ≡ new_replay player.old.stack.now }
-    ensures reads { IsReadOn Q.handed Q.faults Q.ends requests.old requests.new }
-    ensures met { HasMetBy result Q.faults Q.ends requests.old requests.new }
-    ensures writes { HasWrittenTo W.written W.waiting W.faults W.flushes player.old.output player.new.output (failed_writes result) }
-    ensures played { IsPlayed player.old.stack.now (requests_of (delivery Q.handed Q.faults Q.ends requests.old requests.new))
-        (since (W.written player.old.output.now) (W.written player.new.output.now)) result }
+    ensures reads { IsReadOn (Q.past requests.old) (Q.past requests.new) }
+    ensures met { HasMetBy result (Q.past requests.old) (Q.past requests.new) }
+    ensures writes { HasWrittenTo W.past player.old.output player.new.output (failed_writes result) }
+    ensures played { IsPlayed player.old.stack.now (requests_of (delivery (Q.past requests.old) (Q.past requests.new)))
+        (written_since (W.past player.old.output.now) (W.past player.new.output.now)) result }
 {
     match handle_requests(requests, player, replay) {
         Ok(ending) => Exit::Ended(ending),
@@ -115,11 +115,11 @@ fn play_requests<'s, Q: Input, W: Output>(
     output: &mut W,
 ) -> Exit
     requires new { replay.old ≡ new_replay stack.now }
-    ensures reads { IsReadOn Q.handed Q.faults Q.ends requests.old requests.new }
-    ensures met { HasMetBy result Q.faults Q.ends requests.old requests.new }
-    ensures writes { HasWritten W.written W.waiting W.faults W.flushes output.old output.new (failed_writes result) }
-    ensures played { IsPlayed stack.now (requests_of (delivery Q.handed Q.faults Q.ends requests.old requests.new))
-        (since (W.written output.old) (W.written output.new)) result }
+    ensures reads { IsReadOn (Q.past requests.old) (Q.past requests.new) }
+    ensures met { HasMetBy result (Q.past requests.old) (Q.past requests.new) }
+    ensures writes { HasWritten (W.past output.old) (W.past output.new) (failed_writes result) }
+    ensures played { IsPlayed stack.now (requests_of (delivery (Q.past requests.old) (Q.past requests.new)))
+        (written_since (W.past output.old) (W.past output.new)) result }
 {
     let mut player = RequestPlayer {
         alloc,
@@ -141,10 +141,10 @@ pub(crate) fn replay_stack<Q: Input, W: Output>(
     requests: &mut Q,
     output: &mut W,
 ) -> Exit
-    ensures did { ReplaysStack stack.now (delivery Q.handed Q.faults Q.ends requests.old requests.new)
-        (since (W.written output.old) (W.written output.new)) result }
-    ensures writes { HasWritten W.written W.waiting W.faults W.flushes output.old output.new (failed_writes result) }
-    ensures asked { AskedBy Q.handed Q.faults Q.ends requests.old requests.new result }
+    ensures did { ReplaysStack stack.now (delivery (Q.past requests.old) (Q.past requests.new))
+        (written_since (W.past output.old) (W.past output.new)) result }
+    ensures writes { HasWritten (W.past output.old) (W.past output.new) (failed_writes result) }
+    ensures asked { AskedBy (Q.past requests.old) (Q.past requests.new) result }
 {
     match Replay::<RunTaken>::new(alloc, stack) {
         Ok(mut replay) => play_requests(alloc, stack, &mut replay, requests, output),

@@ -7,4 +7,4 @@ use Rattle.dm_replay.proofs.run_text.write_runs.Given as goal
 
 abbrev pub invariant-loop-run : goal.invariant-loop-run
 invariant-loop-run g l =
-    Wrote {E = OutFault} g.W.Output.written g.W.Output.waiting g.W.Output.faults g.W.Output.flushes l.fn.writer l.writer (Ok tt) (runs_text l.stack l.number (take l.run-index l.runs))
+    Wrote {E = OutFault} (g.W.Output.past l.fn.writer) (g.W.Output.past l.writer) (Ok tt) (runs_text l.stack l.number (take l.run-index l.runs))

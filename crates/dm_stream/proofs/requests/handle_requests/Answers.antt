@@ -18,10 +18,10 @@ lines-init g c = record {
   turned = record {
     done = [];
     answered = g.met.H.Handler.answered_none c.args.handler.now c.args.source.now;
-    reads = grows-same (g.R.Input.handed c.args.requests.now) (g.R.Input.handed c.args.requests.now);
+    reads = grows-same (g.R.Input.past c.args.requests.now).handed (g.R.Input.past c.args.requests.now).handed;
     faults = refl;
     ends = refl;
-    told = told_none (g.R.Input.handed c.args.requests.now) c.new-lines.result c.new-lines.ensures;
+    told = told_none (g.R.Input.past c.args.requests.now).handed c.new-lines.result c.new-lines.ensures;
   };
 }
 
@@ -42,24 +42,23 @@ lines-preserved-in-Some g c =
         faults = so_far.faults;
         ends = so_far.ends;
         told =
-            told_front (g.R.Input.handed c.args.requests.now) (g.R.Input.handed c.lines.requests) c.lines.lines c.held.result.now c.skip.new.self front.len (c.lines.number + 1) so_far.done more so_far.told so_far.reads
+            told_front (g.R.Input.past c.args.requests.now).handed (g.R.Input.past c.lines.requests).handed c.lines.lines c.held.result.now c.skip.new.self front.len (c.lines.number + 1) so_far.done more so_far.told so_far.reads
             c.held.ensures front.ensures.within front.ensures.short front.ensures.line front.ensures.good c.skip.ensures;
       };
     }
 
 pub returns-in-Err-clause-stopped : goal.returns-in-Err-clause-stopped
 returns-in-Err-clause-stopped g c =
-    let input = g.R.Input in
     let so_far = c.lines.invariant.turned in
     let front = c.in-Some in
     let read = c.held.result.now in
-    let first = c.args.requests.now in
-    let mid = c.lines.requests in
+    let first = g.R.Input.past c.args.requests.now in
+    let mid = g.R.Input.past c.lines.requests in
     let more = numbered front.request ∷ [] in
-    among (input.handed first) (input.handed mid) (input.handed mid) read (input.faults first) (input.faults mid) (input.faults mid) (input.ends first) (input.ends mid) (input.ends mid) (c.lines.number + 1) so_far.done more (take front.len read) _
-    (subst (λ (xs : List ℕ). Told (since (input.handed first) (input.handed mid)) xs so_far.done (c.lines.number + 1)) (sym c.held.ensures) so_far.told)
-    so_far.reads (grows-same (input.handed mid) (input.handed mid)) so_far.faults so_far.ends
-    (held_next (stand_of (input.faults mid) (input.faults mid) (input.ends mid) (input.ends mid)) (input.handed mid) read front.len front.ensures.within front.ensures.short front.ensures.line)
+    among first mid mid read (c.lines.number + 1) so_far.done more (take front.len read) _
+    (subst (λ (xs : List ℕ). Told (since first.handed mid.handed) xs so_far.done (c.lines.number + 1)) (sym c.held.ensures) so_far.told)
+    so_far.reads (grows-same mid.handed mid.handed) so_far.faults so_far.ends
+    (held_next (stand_of mid mid) mid.handed read front.len front.ensures.within front.ensures.short front.ensures.line)
     front.ensures.good
     (g.met.H.Handler.answered_then_stopped c.args.handler.now c.lines.handler c.handle.new.self c.args.source.now c.lines.source c.handle.new.source so_far.done more _ so_far.answered c.in-Err.ensures.stopped)
 
@@ -68,9 +67,9 @@ returns-in-Err-clause-stopped g c =
 pub lines-preserved : goal.lines-preserved
 lines-preserved g c =
     let so_far = after_waiting g.met.H.Handler.answered_then_answered c.lines.invariant.turned (c.before_read.ensures.answered c.lines.source) in
-    let h0 = g.R.Input.handed c.args.requests.now in
-    let h1 = g.R.Input.handed c.lines.requests in
-    let h2 = g.R.Input.handed c.next.new.reader in
+    let h0 = (g.R.Input.past c.args.requests.now).handed in
+    let h1 = (g.R.Input.past c.lines.requests).handed in
+    let h2 = (g.R.Input.past c.next.new.reader).handed in
     let more = numbered c.in-Ok.request ∷ [] in
     record {
       ready = c.in_default-handle-2.ensures.ready;
@@ -90,38 +89,37 @@ lines-preserved g c =
 
 pub returns-in-Err-request_of-clause-answered : goal.returns-in-Err-request_of-clause-answered
 returns-in-Err-request_of-clause-answered g c =
-    ended g.R.Input.handed g.R.Input.faults g.R.Input.ends g.H.Handler.answered (ALine c.in-Line.line.now) (ending.TheVariants.BadRequest (c.lines.number + 1) c.in-Err-request_of.word) g.met.H.Handler.answered_then_answered c.lines.invariant.turned (c.before_read.ensures.answered c.lines.source) c.in-Line.ensures.reads.grows c.in-Line.ensures.answer c.in-Err-request_of.ensures.bad
+    ended g.H.Handler.answered (ALine c.in-Line.line.now) (ending.TheVariants.BadRequest (c.lines.number + 1) c.in-Err-request_of.word) g.met.H.Handler.answered_then_answered c.lines.invariant.turned (c.before_read.ensures.answered c.lines.source) c.in-Line.ensures.reads.grows c.in-Line.ensures.answer c.in-Err-request_of.ensures.bad
 
 pub returns-in-Err-request_of-clause-met : goal.returns-in-Err-request_of-clause-met
 returns-in-Err-request_of-clause-met g c =
     let turned = c.lines.invariant.turned in
-    bad_met g.R.Input.faults g.R.Input.ends c.args.requests.now c.next.new.reader (c.lines.number + 1) c.in-Err-request_of.word
+    bad_met (g.R.Input.past c.args.requests.now) (g.R.Input.past c.next.new.reader) (c.lines.number + 1) c.in-Err-request_of.word
     (c.in-Line.ensures.quiet.0 ∙ turned.faults, c.in-Line.ensures.quiet.1 ∙ turned.ends)
 
 pub returns-in-End-clause-answered : goal.returns-in-End-clause-answered
 returns-in-End-clause-answered g c =
-    ended g.R.Input.handed g.R.Input.faults g.R.Input.ends g.H.Handler.answered AnEnd ending.TheVariants.Done g.met.H.Handler.answered_then_answered c.lines.invariant.turned (c.before_read.ensures.answered c.lines.source) c.in-End.ensures.reads.grows c.in-End.ensures.answer (λ rest. refl)
+    ended g.H.Handler.answered AnEnd ending.TheVariants.Done g.met.H.Handler.answered_then_answered c.lines.invariant.turned (c.before_read.ensures.answered c.lines.source) c.in-End.ensures.reads.grows c.in-End.ensures.answer (λ rest. refl)
 
 pub returns-in-Unended-clause-answered : goal.returns-in-Unended-clause-answered
 returns-in-Unended-clause-answered g c =
-    ended g.R.Input.handed g.R.Input.faults g.R.Input.ends g.H.Handler.answered AnUnended (ending.TheVariants.BadRequest (c.lines.number + 1) word.TheVariants.Unended) g.met.H.Handler.answered_then_answered c.lines.invariant.turned (c.before_read.ensures.answered c.lines.source) c.in-Unended.ensures.reads.grows c.in-Unended.ensures.answer (λ rest. refl)
+    ended g.H.Handler.answered AnUnended (ending.TheVariants.BadRequest (c.lines.number + 1) word.TheVariants.Unended) g.met.H.Handler.answered_then_answered c.lines.invariant.turned (c.before_read.ensures.answered c.lines.source) c.in-Unended.ensures.reads.grows c.in-Unended.ensures.answer (λ rest. refl)
 
 pub returns-in-Long-clause-answered : goal.returns-in-Long-clause-answered
 returns-in-Long-clause-answered g c =
-    ended g.R.Input.handed g.R.Input.faults g.R.Input.ends g.H.Handler.answered ALong (ending.TheVariants.BadRequest (c.lines.number + 1) word.TheVariants.Long) g.met.H.Handler.answered_then_answered c.lines.invariant.turned (c.before_read.ensures.answered c.lines.source) c.in-Long.ensures.reads.grows c.in-Long.ensures.answer (λ rest. refl)
+    ended g.H.Handler.answered ALong (ending.TheVariants.BadRequest (c.lines.number + 1) word.TheVariants.Long) g.met.H.Handler.answered_then_answered c.lines.invariant.turned (c.before_read.ensures.answered c.lines.source) c.in-Long.ensures.reads.grows c.in-Long.ensures.answer (λ rest. refl)
 
 pub returns-in-ReadFault-clause-answered : goal.returns-in-ReadFault-clause-answered
 returns-in-ReadFault-clause-answered g c =
-    ended g.R.Input.handed g.R.Input.faults g.R.Input.ends g.H.Handler.answered AFault ending.TheVariants.ReadFault g.met.H.Handler.answered_then_answered c.lines.invariant.turned (c.before_read.ensures.answered c.lines.source) c.in-ReadFault.ensures.reads.grows c.in-ReadFault.ensures.answer (λ rest. refl)
+    ended g.H.Handler.answered AFault ending.TheVariants.ReadFault g.met.H.Handler.answered_then_answered c.lines.invariant.turned (c.before_read.ensures.answered c.lines.source) c.in-ReadFault.ensures.reads.grows c.in-ReadFault.ensures.answer (λ rest. refl)
 
 pub returns-in-Err-handle-clause-stopped : goal.returns-in-Err-handle-clause-stopped
 returns-in-Err-handle-clause-stopped g c =
-    let input = g.R.Input in
     let so_far = after_waiting g.met.H.Handler.answered_then_answered c.lines.invariant.turned (c.before_read.ensures.answered c.lines.source) in
-    let first = c.args.requests.now in
-    let mid = c.lines.requests in
-    let last = c.next.new.reader in
+    let first = g.R.Input.past c.args.requests.now in
+    let mid = g.R.Input.past c.lines.requests in
+    let last = g.R.Input.past c.next.new.reader in
     let more = numbered c.in-Ok.request ∷ [] in
-    among (input.handed first) (input.handed mid) (input.handed last) c.lines.lines (input.faults first) (input.faults mid) (input.faults last) (input.ends first) (input.ends mid) (input.ends last) (c.lines.number + 1) so_far.done more c.in-Line.line.now _
+    among first mid last c.lines.lines (c.lines.number + 1) so_far.done more c.in-Line.line.now _
     so_far.told so_far.reads c.in-Line.ensures.reads.grows so_far.faults so_far.ends c.in-Line.ensures.answer c.in-Ok.ensures.good
     (g.met.H.Handler.answered_then_stopped c.args.handler.now c.before_read.new.handler c.handle-in-Ok.new.self c.args.source.now c.lines.source c.handle-in-Ok.new.source so_far.done more _ so_far.answered c.in-Err-handle.ensures.stopped)

@@ -7,7 +7,7 @@ abbrev pub invariant-lines : goal.invariant-lines
 invariant-lines g l = record {
   ready : g.H.Handler.ready l.handler l.source;
   few : l.number ≤ MOST_REQUESTS;
-  turned : HasTurned g.R.Input.handed g.R.Input.faults g.R.Input.ends g.H.Handler.answered l.fn.requests l.requests l.fn.handler l.handler l.fn.source l.source l.lines (l.number + 1);
+  turned : HasTurned g.H.Handler.answered (g.R.Input.past l.fn.requests) (g.R.Input.past l.requests) l.fn.handler l.handler l.fn.source l.source l.lines (l.number + 1);
 }
 
 abbrev pub decreases-lines : goal.decreases-lines

@@ -9,4 +9,4 @@ use Rattle.dm_stream.proofs.status_lines.write_status.Given as goal
 
 abbrev pub invariant-loop-device : goal.invariant-loop-device
 invariant-loop-device g l = (l.mapper ≡ with_looked l.fn.mapper l.mapper.looked)
-    × Wrote {E = OutFault} g.W.Output.written g.W.Output.waiting g.W.Output.faults g.W.Output.flushes l.fn.output l.output (Ok tt) (flat_map (status_line l.stack l.fn.mapper.state) (take l.device-index l.device-items))
+    × Wrote {E = OutFault} (g.W.Output.past l.fn.output) (g.W.Output.past l.output) (Ok tt) (flat_map (status_line l.stack l.fn.mapper.state) (take l.device-index l.device-items))

@@ -8,4 +8,4 @@ use Rattle.dm_table.proofs.canonical_text.write_columns.Given as goal
 
 abbrev pub invariant-loop-column : goal.invariant-loop-column
 invariant-loop-column g l =
-    Wrote {E = OutFault} g.W.Output.written g.W.Output.waiting g.W.Output.faults g.W.Output.flushes l.fn.writer l.writer (Ok tt) (flat_map column_text (take l.column-index l.columns))
+    Wrote {E = OutFault} (g.W.Output.past l.fn.writer) (g.W.Output.past l.writer) (Ok tt) (flat_map column_text (take l.column-index l.columns))

@@ -7,4 +7,4 @@ use Rattle.dm_table.proofs.canonical_text.write_every_line.Given as goal
 
 abbrev pub invariant-loop-device : goal.invariant-loop-device
 invariant-loop-device g l =
-    Wrote {E = OutFault} g.W.Output.written g.W.Output.waiting g.W.Output.faults g.W.Output.flushes l.fn.writer l.writer (Ok tt) (table_text (take l.device-index l.devices))
+    Wrote {E = OutFault} (g.W.Output.past l.fn.writer) (g.W.Output.past l.writer) (Ok tt) (table_text (take l.device-index l.devices))

@@ -8,4 +8,4 @@ use Rattle.dm_table.proofs.canonical_text.write_more_bodies.Given as goal
 
 abbrev pub invariant-loop-line : goal.invariant-loop-line
 invariant-loop-line g l =
-    Wrote {E = OutFault} g.W.Output.written g.W.Output.waiting g.W.Output.faults g.W.Output.flushes l.fn.writer l.writer (Ok tt) (flat_map (λ line. 44 ∷ body_text line) (take l.line-index l.lines))
+    Wrote {E = OutFault} (g.W.Output.past l.fn.writer) (g.W.Output.past l.writer) (Ok tt) (flat_map (λ line. 44 ∷ body_text line) (take l.line-index l.lines))

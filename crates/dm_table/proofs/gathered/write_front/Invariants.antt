@@ -5,9 +5,9 @@ use Rattle.dm_table.proofs.gathered.write_front.Given as goal
 abbrev pub invariant-rest : goal.invariant-rest
 invariant-rest g l = record {
   within : l.sent ≤ l.len;
-  written : g.W.Output.written l.output ≡ g.W.Output.written l.fn.output ++ take l.sent l.block;
-  waiting : g.W.Output.waiting l.output ≡ g.W.Output.waiting l.fn.output ++ take l.sent l.block;
-  faults : g.W.Output.faults l.output ≡ g.W.Output.faults l.fn.output;
+  written : (g.W.Output.past l.output).written ≡ (g.W.Output.past l.fn.output).written ++ take l.sent l.block;
+  waiting : (g.W.Output.past l.output).waiting ≡ (g.W.Output.past l.fn.output).waiting ++ take l.sent l.block;
+  faults : (g.W.Output.past l.output).faults ≡ (g.W.Output.past l.fn.output).faults;
 }
 
 abbrev pub decreases-rest : goal.decreases-rest

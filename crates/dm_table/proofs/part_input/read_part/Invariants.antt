@@ -5,9 +5,9 @@ use Rattle.dm_table.proofs.part_input.read_part.Given as goal
 -- the text is what was handed out, and neither an end nor a fault was met
 abbrev pub invariant-chunks : goal.invariant-chunks
 invariant-chunks g l = record {
-  handed : g.I.Input.handed l.input ≡ g.I.Input.handed l.fn.input ++ l.text.items;
-  faults : g.I.Input.faults l.input ≡ g.I.Input.faults l.fn.input;
-  ends : g.I.Input.ends l.input ≡ g.I.Input.ends l.fn.input;
+  handed : (g.I.Input.past l.input).handed ≡ (g.I.Input.past l.fn.input).handed ++ l.text.items;
+  faults : (g.I.Input.past l.input).faults ≡ (g.I.Input.past l.fn.input).faults;
+  ends : (g.I.Input.past l.input).ends ≡ (g.I.Input.past l.fn.input).ends;
 }
 
 abbrev pub decreases-chunks : goal.decreases-chunks

@@ -18,7 +18,7 @@ use Rattle.dmremap.proofs.map_whole.map_whole.Goals as goal
 pub returns-in-Err-clause-whole : goal.returns-in-Err-clause-whole
 returns-in-Err-clause-whole g c = λ five six. (
   exit_message c.unloaded.result,
-  refused_whole _ _ _ _ _ _ c.in-Err.fault c.unloaded.result _ c.unloaded.ensures c.in-Err.ensures.gives.refused (since-same (g.W.Output.written c.args.output.now)) c.tell.ensures.is six,
+  refused_whole _ _ _ _ _ _ c.in-Err.fault c.unloaded.result _ c.unloaded.ensures c.in-Err.ensures.gives.refused (since-same (g.W.Output.past c.args.output.now).written) c.tell.ensures.is six,
   c.tell.ensures.told.told,
 )
 
@@ -34,7 +34,7 @@ returns-in-Ok-new-clause-whole g c = λ five six.
 
 pub returns-in-Ok-new-clause-beginning : goal.returns-in-Ok-new-clause-beginning
 returns-in-Ok-new-clause-beginning g c = λ five.
-    let requests = delivery g.Q.Input.handed g.Q.Input.faults g.Q.Input.ends c.args.requests.now c.run.new.requests in
+    let requests = delivery (g.Q.Input.past c.args.requests.now) (g.Q.Input.past c.run.new.requests) in
     let starts : c.in-Ok-new.mapper.state ≡ start_state c.in-Ok.stack = c.in-Ok-new.ensures.state ∙ ap start_state c.looker.ensures.stack in (
       c.in-Ok.stack,
       c.in-Ok.ensures.gives.sound,

@@ -8,7 +8,7 @@ use Rattle.dmremap.proofs.printing.print_stack.Goals as goal
 pub returns-clause-printed : goal.returns-clause-printed
 returns-clause-printed g c =
     let same : c.deref.result.now ≡ c.args.stack.devices = search rules in
-    subst (λ (devices : List DeviceSpec). IsTextPrinted (written_as c.args.form devices) (since (g.W.Output.written c.args.output.now) (g.W.Output.written c.write_devices.new.output)) c.after.result) same
+    subst (λ (devices : List DeviceSpec). IsTextPrinted (written_as c.args.form devices) (written_since (g.W.Output.past c.args.output.now) (g.W.Output.past c.write_devices.new.output)) c.after.result) same
     (printed_after c.write_devices.result _ c.after.result c.after.ensures c.write_devices.ensures)
 
 pub returns-clause-writes : goal.returns-clause-writes

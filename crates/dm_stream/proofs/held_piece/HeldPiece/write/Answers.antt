@@ -14,4 +14,4 @@ line_is inside held piece line same is fits text = held_line inside piece line i
 
 pub returns-clause-wrote : goal.returns-clause-wrote
 returns-clause-wrote g c =
-    subst (λ (text : List ℕ). Wrote g.W.Output.written g.W.Output.waiting g.W.Output.faults g.W.Output.flushes c.args.writer.now c.put_piece-wrote.new.writer c.put_piece-wrote.result text) (line_is _ c.args.self.now _ _ c.self.view_is c.in-Some.is c.self.invariant refl) c.put_piece-wrote.ensures
+    subst (λ (text : List ℕ). Wrote (g.W.Output.past c.args.writer.now) (g.W.Output.past c.put_piece-wrote.new.writer) c.put_piece-wrote.result text) (line_is _ c.args.self.now _ _ c.self.view_is c.in-Some.is c.self.invariant refl) c.put_piece-wrote.ensures

@@ -6,9 +6,9 @@ pub returns-in_err-finish-clause-left : goal.returns-in_err-finish-clause-left
 returns-in_err-finish-clause-left g c =
     let apart = c.if-lengthen.ensures in
     let failed = c.in_err-finish.ensures in
-    let written = g.W.Output.written in
+    let past = g.W.Output.past in
     on_err c.from_residual.result _ (
-      left_apart c.args.self.now.held c.lengthen.new.self c.finish.new.self.held c.args.piece (written c.args.self.now.writer.now) (written c.finish.new.self.writer.now)
+      left_apart c.args.self.now.held c.lengthen.new.self c.finish.new.self.held c.args.piece (past c.args.self.now.writer.now).written (past c.finish.new.self.writer.now).written
           c.requires.some apart.same failed.nothing apart.apart failed.wrote.left,
       record { moved = failed.wrote.moved; same_reference = failed.same_reference },
     )

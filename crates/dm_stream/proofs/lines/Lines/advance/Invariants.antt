@@ -7,14 +7,15 @@ use Rattle.dm_stream.proofs.lines.Lines.advance.Given as goal
 -- what came is held, its front was searched, and neither an end nor a fault was met
 abbrev pub invariant-turns : goal.invariant-turns
 invariant-turns g l =
-    let handed = g.R.Input.handed in
+    let old = g.R.Input.past l.fn.reader in
+    let new = g.R.Input.past l.reader in
     record {
       within : l.searched ≤ length l.self;
       clear : line_parts (take l.searched l.self) ≡ take l.searched l.self ∷ [];
-      held : l.self ≡ l.fn.self ++ since (handed l.fn.reader) (handed l.reader);
-      bytes : handed l.reader ≡ handed l.fn.reader ++ since (handed l.fn.reader) (handed l.reader);
-      faults : g.R.Input.faults l.reader ≡ g.R.Input.faults l.fn.reader;
-      ends : g.R.Input.ends l.reader ≡ g.R.Input.ends l.fn.reader;
+      held : l.self ≡ l.fn.self ++ since old.handed new.handed;
+      bytes : new.handed ≡ old.handed ++ since old.handed new.handed;
+      faults : new.faults ≡ old.faults;
+      ends : new.ends ≡ old.ends;
     }
 
 abbrev pub decreases-turns : goal.decreases-turns

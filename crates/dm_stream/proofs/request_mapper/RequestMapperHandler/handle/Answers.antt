@@ -12,8 +12,8 @@ returns-in-Err-clause-stopped g c =
     let old = c.args.self.now in
     let request = numbered c.args.request.now in
     let failed = c.in-Err.ensures in
-    let w0 = g.W.Output.written old.join.writer.now in
-    let w1 = g.W.Output.written c.map_request.new.join.writer.now in (
+    let w0 = (g.W.Output.past old.join.writer.now).written in
+    let w1 = (g.W.Output.past c.map_request.new.join.writer.now).written in (
       request_cut old.devices c.in-Some.device request c.find.result c.args.mapper.now.state c.map_request.new.mapper w0 w1 (sym c.find.ensures.found) c.in-Some.is
           (subst (λ (stack : Description). IsCutShort (request_answer stack c.in-Some.device request c.args.mapper.now.state) (since w0 w1)) c.requires.joined failed.wrote.left),
       record { moved = failed.wrote.moved; same_reference = failed.same_reference },

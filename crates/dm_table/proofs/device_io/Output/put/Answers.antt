@@ -8,14 +8,14 @@ returns-in_err-taken g c =
     let some : 0 < length c.rest.rest.now = search rules in
     let is = err_from_is_err_and c.from_residual.result c.from_residual.ensures.1 in
     let failed = c.in_err-taken.ensures in
-    rw (is.1, is.2) (sent_cut g.Self.Output.written g.Self.Output.waiting g.Self.Output.faults g.Self.Output.flushes _ _ _ is.0 (g.T.Text.text c.args.text.now) c.rest.rest.now c.rest.invariant some failed.bytes failed.waiting failed.faults failed.flushes)
+    rw (is.1, is.2) (sent_cut _ _ _ is.0 (g.T.Text.text c.args.text.now) c.rest.rest.now c.rest.invariant some failed.past)
 
 pub returns : goal.returns
 returns g c =
     let none : length c.rest.rest.now ≡ 0 = search rules in
-    sent_whole g.Self.Output.written g.Self.Output.waiting g.Self.Output.faults g.Self.Output.flushes _ _ (g.T.Text.text c.args.text.now) c.rest.rest.now c.rest.invariant none
+    sent_whole _ _ (g.T.Text.text c.args.text.now) c.rest.rest.now c.rest.invariant none
 
 pub rest-preserved : goal.rest-preserved
 rest-preserved g c =
     let taken = c.in_ok-taken.ensures in
-    sent_further g.Self.Output.written g.Self.Output.waiting g.Self.Output.faults g.Self.Output.flushes _ _ _ (g.T.Text.text c.args.text.now) c.rest.rest.now c.in_ok-taken.taken c.rest.invariant taken.within taken.bytes taken.waiting taken.faults taken.flushes
+    sent_further _ _ _ (g.T.Text.text c.args.text.now) c.rest.rest.now c.in_ok-taken.taken c.rest.invariant taken.within taken.past

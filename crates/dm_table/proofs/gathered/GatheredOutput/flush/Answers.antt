@@ -1,5 +1,6 @@
 use Rattle.std.proofs.Common.{◌≡◌, ◌+◌, ◌<◌, ◌≤◌, ◌||◌, ℕ, Bool, true, false, nat_lt, refl, sym, ap, ◌∙◌, arith}
 use Rattle.std.proofs.lemmas.Bool.{lt-ltb}
+use Rattle.dm_table.specs.DeviceIo.{OutputPast}
 use Rattle.dm_table.specs.Gathered.{Gathering}
 use Rattle.dm_table.proofs.gathered.GatheredOutput.flush.Goals as goal
 
@@ -21,8 +22,8 @@ pub returns-in-Err-clause-minds : goal.returns-in-Err-clause-minds
 returns-in-Err-clause-minds g c =
     let old = c.args.self.now in
     let minds = c.empty.ensures.minds in
-    let after = g.W.Output.faults c.flush.new.self in
-    let more : after ≡ c.empty.new.self.behind.faults + 1 = c.in-Err.ensures.faults ∙ ap (λ (g : Gathering). g.behind.faults + 1) c.self-2.view_is in
+    let after = (g.W.Output.past c.flush.new.self).faults in
+    let more : after ≡ c.empty.new.self.behind.faults + 1 = ap (λ (past : OutputPast). past.faults) c.in-Err.ensures ∙ ap (λ (g : Gathering). g.behind.faults + 1) c.self-2.view_is in
     let first = first_fault old c.empty.new.self _ _ after (ap (λ (g : Gathering). g.broken) c.self.view_is) (ap (λ (g : Gathering). g.behind.faults) c.self.view_is) minds.broken minds.grows (not_true _ c.in_ok-empty.ensures.fails.1) more in
     record {
       grows = omega (arith, first.1);

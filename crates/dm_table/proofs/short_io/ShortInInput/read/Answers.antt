@@ -1,6 +1,10 @@
-use Rattle.std.proofs.Common.{rules, ◌≡◌, ◌<◌, ◌++◌, ℕ, List, length, take, drop, sym, ap, ◌∙◌, arith, length-append, length-drop, length-take}
+use Rattle.std.proofs.Common.{rules, ◌≡◌, ◌<◌, ◌+◌, ◌++◌, ℕ, zero, suc, Bool, ◌&&◌, nat_lt, if◌then◌else◌, Ok, refl, add-zero, List, length, take, drop, sym, ap, ◌∙◌, arith, length-append, length-drop, length-take}
+use Rattle.std.proofs.Math.Dec.{eqb-suc-zero}
 use Rattle.std.proofs.lemmas.Bool.{eqb-false}
+use Rattle.dm_table.specs.DeviceIo.{end_of}
+use Rattle.dm_table.specs.declared.device_io.InFault.{InFault}
 use Rattle.dm_table.specs.ShortIo.{Supply, portion}
+use Rattle.dm_table.proofs.ProgressLaws.{same_input}
 use Rattle.dm_table.proofs.Portions.{rest_after, rest_after_is, front_is, handed_grows, left_shrinks}
 use Rattle.dm_table.proofs.short_io.ShortInInput.read.Goals as goal
 
@@ -35,14 +39,25 @@ count_is c =
 
 -- a portion of what is left is a byte at least
 moves : (c : goal.After-self-1) → c.min-n.result ≡ 0 → 0 < length (filled c) → ⊥
-moves c zero roomy =
+moves c none roomy =
     let some_left = eqb-false (length (rest_after (bytes c) (at c))) 0 (sym c.is_empty.ensures ∙ c.if-is_empty.false) in
     omega (arith, room_is c, c.min-n.ensures, c.min.ensures, c.self.invariant.1)
 
-pub returns-clause-bytes : goal.returns-clause-bytes
-returns-clause-bytes c =
-    handed_grows (bytes c) _ (at c) c.min-n.result (given_is c)
-    ∙ ap (λ (s : Supply). s.handed ++ take c.min-n.result (filled c)) c.self.view_is
+-- bytes came, so no end was met
+no_end : (n room : ℕ) → (n ≡ 0 → 0 < room → ⊥) → end_of {E = InFault} (Ok n) room ≡ 0
+no_end zero zero moving = refl
+no_end zero (suc room) moving = absurd (moving refl (omega arith))
+no_end (suc n) room moving = ap (λ (b : Bool). if b && nat_lt 0 room then 1 else 0) (eqb-suc-zero n)
+
+pub returns-clause-past : goal.returns-clause-past
+returns-clause-past c =
+    let n = c.min-n.result in
+    let given = filled c in
+    let old = c.args.self.now.past in
+    same_input _ _
+    (handed_grows (bytes c) _ (at c) n (given_is c) ∙ ap (λ (s : Supply). s.past.handed ++ take n given) c.self.view_is)
+    (ap (λ (s : Supply). s.past.faults) c.self.view_is ∙ sym (add-zero old.faults))
+    (ap (λ (s : Supply). s.past.ends) c.self.view_is ∙ sym (add-zero old.ends) ∙ ap (λ (e : ℕ). old.ends + e) (sym (no_end n (length given) (moves c))))
 
 pub returns-clause-exact : goal.returns-clause-exact
 returns-clause-exact c = record {
