@@ -1,7 +1,7 @@
 -- What the requests mapped so far say of the outcome of a run.
 use Rattle.std.proofs.Common.{◌≡◌, ◌≢◌, ℕ, Bool, List, [], ◌++◌, Option, Some, Result, Ok, Err, IsErr, OnErr, OnOk, sym, ap, subst, ◌∙◌, refl}
 use Rattle.std.proofs.lemmas.List.{append-nil}
-use Rattle.dm_table.specs.DeviceIo.{Delivery, since}
+use Rattle.dm_table.specs.DeviceIo.{Delivery, InputPast, OutputPast, since, written_since}
 use Rattle.dm_stack.specs.Description.{Description}
 use Rattle.dm_map.specs.Mapper.{MapperView}
 use Rattle.dm_stream.specs.Mapped.{HasAnswered, HasStopped}

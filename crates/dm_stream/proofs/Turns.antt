@@ -3,7 +3,7 @@ use Rattle.std.proofs.Common.{◌≡◌, ◌≤◌, ◌==◌, cond, true, false,
 use Rattle.std.specs.List.{onto_first}
 use Rattle.std.proofs.lemmas.Bool.{ltb-false}
 use Rattle.std.proofs.lemmas.List.{append-nil}
-use Rattle.dm_table.specs.DeviceIo.{Stand, Clean, Failed, Open, InputPast, delivery, since, stand_of}
+use Rattle.dm_table.specs.DeviceIo.{Clean, Failed, InputPast, Open, Stand, delivery, since, stand_of}
 use Rattle.dm_stream.specs.Lines.{Answer, ALine, ALong, line_parts, next_answer, rest_answer}
 use Rattle.dm_table.specs.Progress.{HasGrown, MetNothing}
 use Rattle.dm_table.proofs.ProgressLaws.{since-same}
@@ -147,11 +147,11 @@ after_waiting {AreAnswered = AreAnswered} {h0 = h0} {h1 = h1} {h2 = h2} {s0 = s0
 }
 
 -- they end with what comes next, so those that were answered are all
-pub ended : {H S : Type 0} (AreAnswered : H → S → List NumberedRequest → H → S → Type 0) {first mid last : InputPast} {h0 h1 h2 : H} {s0 s1 : S} {held : List ℕ} {n : ℕ} (answer : Answer) (e : ending.Ending)
+pub ended : {H S : Type 0} (AreAnswered : H → S → List NumberedRequest → H → S → Type 0) (last : InputPast) {first mid : InputPast} {h0 h1 h2 : H} {s0 s1 : S} {held : List ℕ} {n : ℕ} (answer : Answer) (e : ending.Ending)
     → ((a b c : H) (s t u : S) (us vs : List NumberedRequest) → AreAnswered a s us b t → AreAnswered b t vs c u → AreAnswered a s (us ++ vs) c u) → HasTurned AreAnswered first mid h0 h1 s0 s1 held n → AreAnswered h1 s1 [] h2 s1
     → HasGrown mid.handed last.handed → answer ≡ next_answer (stand_of mid last) (line_parts (held ++ since mid.handed last.handed))
     → ((rest : Requests) → next_requests n answer rest ≡ only_ends e) → AreAnswered h0 s0 (requests_of (delivery first last)).all h2 s1
-ended AreAnswered {first = first} {mid = mid} {last = last} {h0 = h0} {h2 = h2} {s0 = s0} {s1 = s1} {held = held} {n = n} answer e both before waits more next is =
+ended AreAnswered last {first = first} {mid = mid} {h0 = h0} {h2 = h2} {s0 = s0} {s1 = s1} {held = held} {n = n} answer e both before waits more next is =
     let turned = after_waiting both before waits in
     let a = all_requests first mid last held n turned.done answer turned.told turned.reads more turned.faults turned.ends next in
     subst (λ (requests : List NumberedRequest). AreAnswered h0 s0 requests h2 s1) (sym (ap (λ (q : Requests). q.all) (a.1 ∙ ap (after_requests turned.done) (is a.0)) ∙ append-nil turned.done)) turned.answered

@@ -2,7 +2,7 @@
 use Rattle.std.proofs.Common.{◌≡◌, ◌≢◌, ◌≤◌, ◌⊎◌, true, false, ℕ, ◌+◌, List, Result, Ok, Err, IsErr, OnErr, OnOk, inl, inr, refl, sym, ap, subst, ◌∙◌, arith}
 use Rattle.dm_table.specs.declared.load_fault.LoadKind.{LoadKind}
 use Rattle.dm_table.specs.declared.load_fault.LoadKind.TheVariants as kinds
-use Rattle.dm_table.specs.DeviceIo.{since}
+use Rattle.dm_table.specs.DeviceIo.{InputPast, OutputPast, since, written_since}
 use Rattle.dm_table.specs.Progress.{HasWritten, IsClosedAfter, IsFinished, IsReadOn, Wrote}
 use Rattle.dm_table.proofs.ProgressLaws.{finished_as, grows-same, written_none}
 use Rattle.dm_stream.specs.declared.ending.Ending.{Ending}
@@ -17,7 +17,6 @@ use Rattle.dmremap.specs.declared.exit.Refusal.{Refusal}
 use Rattle.dmremap.specs.declared.exit.Refusal.TheVariants as refusals
 use Rattle.dmremap.specs.declared.status.TheConstants.{STATUS_BAD_REQUEST, STATUS_DONE, STATUS_MEMORY, STATUS_READ_FAULT, STATUS_REFUSED, STATUS_WRITE_FAULT}
 use Rattle.dmremap.specs.Exit.{ending_status, exit_message, exit_status, failed_writes, is_flushed, is_refused, load_status, name_status, refusal_status}
-use Rattle.dmremap.specs.Inputs.{IsUnchanged}
 use Rattle.dmremap.specs.Streams.{AskedBy, EndsAs, Exits, HasExited, HasGiven, IsClosedAs, MessagesTold, OutputWritten, RequestsRead}
 
 -- ---- the status
@@ -55,7 +54,7 @@ write_fault_is (exits.Ended endings.WriteFault) five = refl
 write_fault_is exit five = absurd (omega (arith, five))
 
 -- what was told where a command exits
-pub exits_told : {X : Type 0} {written : X → List ℕ} {faults flushes : X → ℕ} {exit : Exit} {result : ℕ} {old new : X} → Exits exit result old new → MessagesTold result old new
+pub exits_told : {exit : Exit} {result : ℕ} {old new : OutputPast} → Exits exit result old new → MessagesTold result old new
 exits_told {exit = exit} is = record { message = exit_message exit; told = is.told; write_message = λ five. ap exit_message (write_fault_is exit (sym is.is ∙ five)) }
 
 -- ---- an output that was written to
@@ -136,9 +135,9 @@ wrote_so start mid exit other moved = record {
 }
 
 -- all was written, and flushed
-pub closed_well : {E : Type 0} (exit : Exit) (old new : OutputPast) (wrote : Result (Unit {0}) E) → is_refused exit ≡ false → OnOk wrote (exit ≢ exits.Ended endings.WriteFault)
-    → OnErr wrote (IsErr {T = Unit {0}} {E = E} (Ok tt) × (new ≡ old)) → new.written ≡ old.written
-    → ((start : X) (text : List ℕ) → Wrote start old wrote text → IsClosedAfter start new (IsErr {T = Unit {0}} {E = E} (Ok tt)) text)
+pub closed_well : {E Same : Type 0} (exit : Exit) (old new : OutputPast) (wrote : Result (Unit {0}) E) → is_refused exit ≡ false → OnOk wrote (exit ≢ exits.Ended endings.WriteFault)
+    → OnErr wrote (IsErr {T = Unit {0}} {E = E} (Ok tt) × Same) → new.written ≡ old.written
+    → ((start : OutputPast) (text : List ℕ) → Wrote start old wrote text → IsClosedAfter start new (IsErr {T = Unit {0}} {E = E} (Ok tt)) text)
     → IsClosedAs exit old new exit
 closed_well {E = E} exit old new (Ok done) going other untouched bytes closes =
     let closed = λ (start : _) (moved : HasWritten start old (failed_writes exit)). closes start (written_since start old) (wrote_so start old exit other moved) in
@@ -155,24 +154,24 @@ closed_well {E = E} exit old new (Ok done) going other untouched bytes closes =
 closed_well exit old new (Err fault) going other untouched bytes closes = let err = untouched.0 in absurd cc
 
 -- a write failed before, or the flush now
-pub closed_failed : {E : Type 0} (exit : Exit) (old new : OutputPast) (fault : E) (wrote : Result (Unit {0}) E) → is_refused exit ≡ false → OnOk wrote (exit ≢ exits.Ended endings.WriteFault) → OnErr wrote (exit ≡ exits.Ended endings.WriteFault)
-    → OnErr wrote (IsErr {T = Unit {0}} (Err fault) × (new ≡ old)) → OnOk wrote (new.flushes ≡ old.flushes + 1) → new.written ≡ old.written
-    → ((start : X) (text : List ℕ) → Wrote start old wrote text → IsClosedAfter start new (IsErr {T = Unit {0}} (Err fault)) text)
-    → IsClosedAs exit old new (exits.Ended endings.WriteFault)
-closed_failed exit old new fault (Ok done) going other is untouched more bytes closes = record {
+pub closed_failed : {X E : Type 0} (past : X → OutputPast) (exit : Exit) (old new : X) (fault : E) (wrote : Result (Unit {0}) E) → is_refused exit ≡ false → OnOk wrote (exit ≢ exits.Ended endings.WriteFault) → OnErr wrote (exit ≡ exits.Ended endings.WriteFault)
+    → OnErr wrote (IsErr {T = Unit {0}} (Err fault) × (new ≡ old)) → OnOk wrote ((past new).flushes ≡ (past old).flushes + 1) → (past new).written ≡ (past old).written
+    → ((start : OutputPast) (text : List ℕ) → Wrote start (past old) wrote text → IsClosedAfter start (past new) (IsErr {T = Unit {0}} (Err fault)) text)
+    → IsClosedAs exit (past old) (past new) (exits.Ended endings.WriteFault)
+closed_failed past exit old new fault (Ok done) going other is untouched more bytes closes = record {
   bytes = bytes;
   ends = inr (refl, flushes_so exit going other, more);
   output = λ start moved. record {
-    finished = finished_as _ _ (λ err. refl) (λ five. refl) (closes start (written_since start old) (wrote_so start old exit other moved)).finished;
+    finished = finished_as _ _ (λ err. refl) (λ five. refl) (closes start (written_since start (past old)) (wrote_so start (past old) exit other moved)).finished;
     flushed = λ one five six. absurd (five refl);
     refused = λ one. absurd (omega (arith, one));
   };
   flushed = λ flag start moved. absurd cc;
 }
-closed_failed exit old new fault (Err before) going other is untouched more bytes closes = record {
+closed_failed past exit old new fault (Err before) going other is untouched more bytes closes = record {
   bytes = bytes;
-  ends = inl (sym is, λ shut. ap flushes untouched.1);
-  output = λ start moved. written_failed start new (subst (λ (x : _). HasWritten start x 1) (sym untouched.1) (subst (λ (e : Exit). HasWritten start old (failed_writes e)) is moved));
+  ends = inl (sym is, λ shut. ap (λ x. (past x).flushes) untouched.1);
+  output = λ start moved. written_failed start (past new) (subst (λ x. HasWritten start (past x) 1) (sym untouched.1) (subst (λ (e : Exit). HasWritten start (past old) (failed_writes e)) is moved));
   flushed = λ flag start moved. absurd cc;
 }
 
@@ -241,7 +240,7 @@ ran_requests ending status old new is read_on met = record {
 }
 
 -- requests that are not asked for
-pub unasked_requests : (refusal : Refusal) (status : ℕ) (old new : InputPast) → status ≡ refusal_status refusal → IsReadOn old new → IsUnchanged old new → RequestsRead status old new
+pub unasked_requests : (refusal : Refusal) (status : ℕ) (old new : InputPast) → status ≡ refusal_status refusal → IsReadOn old new → new ≡ old → RequestsRead status old new
 unasked_requests refusal status old new is read_on same = record {
   read_on = read_on;
   read_fault = λ four. absurd (of_two _ STATUS_READ_FAULT (of_refusal refusal) (sym is ∙ four) (λ e. omega (arith, e)) (λ e. omega (arith, e)));
@@ -278,12 +277,9 @@ closed_requests old new before after f0 f1 status ends_so asked is =
     go (inl (same, shut)) = subst (λ (e : Exit). RequestsRead (exit_status e) old new) (sym same) (asked_read old new before asked)
     go (inr (failed, flag, more)) = subst (λ (e : Exit). RequestsRead (exit_status e) old new) (sym failed) (ran_requests endings.WriteFault _ old new refl asked.read_on tt)
 
-pub closed_unasked : (old new : InputPast) (before after : Exit) (f0 f1 : ℕ) → EndsAs before f0 f1 after → AskedBy old new before → is_refused after ≡ true → IsUnchanged old new
+pub closed_unasked : (old new : InputPast) (before after : Exit) (f0 f1 : ℕ) → EndsAs before f0 f1 after → AskedBy old new before → is_refused after ≡ true → new ≡ old
 closed_unasked old new before after f0 f1 ends_so asked refused = asked.unasked (refused_before before after f0 f1 ends_so refused).0
 
 -- an input of which nothing is asked
-pub unchanged : (x : InputPast) → IsUnchanged x x
-unchanged x = record { same_handed = refl; same_faults = refl; same_ends = refl }
-
 pub read_on_none : (x : InputPast) → IsReadOn x x
 read_on_none x = record { grows = grows-same x.handed x.handed; no_more = omega arith }

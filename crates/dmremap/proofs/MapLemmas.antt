@@ -2,7 +2,7 @@
 use Rattle.std.proofs.Common.{◌≡◌, ◌≢◌, Bool, ℕ, List, [], Option, Some, sym, ap, subst, ◌∙◌}
 use Rattle.dm_table.specs.declared.load_fault.LoadFault.{LoadFault}
 use Rattle.dm_table.specs.declared.load_fault.LoadKind.TheVariants as kinds
-use Rattle.dm_table.specs.DeviceIo.{Delivery, since}
+use Rattle.dm_table.specs.DeviceIo.{Delivery, OutputPast, written_since}
 use Rattle.dm_table.specs.Progress.{FailedOutput}
 use Rattle.dm_table.proofs.ProgressLaws.{finished_as}
 use Rattle.dm_stack.specs.Description.{Description}

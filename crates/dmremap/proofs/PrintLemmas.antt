@@ -1,6 +1,6 @@
 -- What a command that prints wrote, and how it would exit.
 use Rattle.std.proofs.Common.{◌≡◌, ℕ, List, Result, Ok, Err, refl, sym, ap, subst}
-use Rattle.dm_table.specs.DeviceIo.{Delivery, since}
+use Rattle.dm_table.specs.DeviceIo.{Delivery, OutputPast, written_since}
 use Rattle.dm_table.specs.Progress.{HasWritten, Wrote}
 use Rattle.dm_stack.specs.Description.{Description}
 use Rattle.dm_stream.specs.declared.ending.Ending.TheVariants as endings
@@ -16,8 +16,8 @@ use Rattle.dmremap.specs.Printing.{CheckSays, FilesSay, IsPrinted, IsTextPrinted
 -- a text was written, or a write of it failed
 pub printed_after : {E : Type 0} {old new : OutputPast} (result : Result (Unit {0}) E) (text : List ℕ) (exit : Exit) → exit ≡ exit_after result → Wrote old new result text
     → IsTextPrinted text (written_since old new) exit
-printed_after {written = written} {old = old} {new = new} (Ok done) text exit is wrote = subst (λ (e : Exit). IsTextPrinted text (written_since old new) e) (sym is) (sym wrote.ok)
-printed_after {written = written} {old = old} {new = new} (Err fault) text exit is wrote = subst (λ (e : Exit). IsTextPrinted text (written_since old new) e) (sym is) wrote.left
+printed_after {old = old} {new = new} (Ok done) text exit is wrote = subst (λ (e : Exit). IsTextPrinted text (written_since old new) e) (sym is) (sym wrote.ok)
+printed_after {old = old} {new = new} (Err fault) text exit is wrote = subst (λ (e : Exit). IsTextPrinted text (written_since old new) e) (sym is) wrote.left
 
 pub writes_after : {E : Type 0} {old new : OutputPast} (result : Result (Unit {0}) E) (text : List ℕ) (exit : Exit) → exit ≡ exit_after result → Wrote old new result text
     → HasWritten old new (failed_writes exit)

@@ -1,7 +1,7 @@
 -- What the requests that a player was handed say of a replay.
 use Rattle.std.proofs.Common.{◌≡◌, ℕ, List, [], ◌∷◌, ◌++◌, Result, Err, IfErr, refl, sym, ap, subst, ◌∙◌, append_assoc}
 use Rattle.std.proofs.lemmas.List.{append-nil}
-use Rattle.dm_table.specs.DeviceIo.{Delivery, since}
+use Rattle.dm_table.specs.DeviceIo.{Delivery, InputPast, since}
 use Rattle.dm_table.specs.Progress.{IsReadOn, MetNothing}
 use Rattle.dm_table.specs.WriteAll.{IsCutShort}
 use Rattle.dm_table.proofs.ProgressLaws.{since-same}

@@ -8,13 +8,13 @@ pub returns-in-Ok-clause-ran : goal.returns-in-Ok-clause-ran
 returns-in-Ok-clause-ran g c =
     let requests = c.map_requests-ending in
     let wrote = c.write_rest-written.ensures in
-    ran_whole OutFault _ _ _ _ c.args.output.now c.close.new.output c.args.stack.now c.args.status _ _ requests.new.mapper.state c.write_rest-written.new.mapper.state requests.result
+    ran_whole OutFault _ _ c.args.stack.now c.args.status _ _ requests.new.mapper.state c.write_rest-written.new.mapper.state requests.result
     (closed_after c.write_rest-written.result _ _ c.in-Ok.ensures.untouched wrote.no_fault)
     (ap (λ (m : MapperView). m.state) wrote.same) requests.ensures.mapped
-    (c.in-Ok.ensures.closed c.args.output.now _ (wrote.wrote c.args.output.now _ requests.ensures.writes requests.ensures.mapped))
+    (c.in-Ok.ensures.closed _ _ (wrote.wrote _ _ requests.ensures.writes requests.ensures.mapped))
 
 pub returns-in-Err-clause-ran : goal.returns-in-Err-clause-ran
 returns-in-Err-clause-ran g c =
     let requests = c.map_requests-ending in
-    ran_failed OutFault _ _ _ _ c.args.output.now c.close.new.output (record {}) _ c.write_rest-written.new.mapper.state
-    (c.in-Err.ensures.closed c.args.output.now _ (c.write_rest-written.ensures.wrote c.args.output.now _ requests.ensures.writes requests.ensures.mapped))
+    ran_failed OutFault _ _ (record {}) _ c.write_rest-written.new.mapper.state
+    (c.in-Err.ensures.closed _ _ (c.write_rest-written.ensures.wrote _ _ requests.ensures.writes requests.ensures.mapped))

@@ -2,4 +2,4 @@ use Rattle.dm_stream.proofs.Runs.{rest_cut}
 use Rattle.dm_stream.proofs.map_run.write_rest.Goals as goal
 
 pub returns-in-WriteFault-clause-wrote : goal.returns-in-WriteFault-clause-wrote
-returns-in-WriteFault-clause-wrote g c = λ start outcome moved mapped. rest_cut _ _ _ _ _ start c.args.output.now c.args.stack.now c.args.status outcome _ c.args.ending c.in-WriteFault.is moved mapped
+returns-in-WriteFault-clause-wrote g c = λ start outcome moved mapped. rest_cut _ start _ c.args.stack.now c.args.status outcome _ c.args.ending c.in-WriteFault.is moved mapped

@@ -89,7 +89,7 @@ lines-preserved g c =
 
 pub returns-in-Err-request_of-clause-answered : goal.returns-in-Err-request_of-clause-answered
 returns-in-Err-request_of-clause-answered g c =
-    ended g.H.Handler.answered (ALine c.in-Line.line.now) (ending.TheVariants.BadRequest (c.lines.number + 1) c.in-Err-request_of.word) g.met.H.Handler.answered_then_answered c.lines.invariant.turned (c.before_read.ensures.answered c.lines.source) c.in-Line.ensures.reads.grows c.in-Line.ensures.answer c.in-Err-request_of.ensures.bad
+    ended g.H.Handler.answered (g.R.Input.past c.next.new.reader) (ALine c.in-Line.line.now) (ending.TheVariants.BadRequest (c.lines.number + 1) c.in-Err-request_of.word) g.met.H.Handler.answered_then_answered c.lines.invariant.turned (c.before_read.ensures.answered c.lines.source) c.in-Line.ensures.reads.grows c.in-Line.ensures.answer c.in-Err-request_of.ensures.bad
 
 pub returns-in-Err-request_of-clause-met : goal.returns-in-Err-request_of-clause-met
 returns-in-Err-request_of-clause-met g c =
@@ -99,19 +99,19 @@ returns-in-Err-request_of-clause-met g c =
 
 pub returns-in-End-clause-answered : goal.returns-in-End-clause-answered
 returns-in-End-clause-answered g c =
-    ended g.H.Handler.answered AnEnd ending.TheVariants.Done g.met.H.Handler.answered_then_answered c.lines.invariant.turned (c.before_read.ensures.answered c.lines.source) c.in-End.ensures.reads.grows c.in-End.ensures.answer (λ rest. refl)
+    ended g.H.Handler.answered (g.R.Input.past c.next.new.reader) AnEnd ending.TheVariants.Done g.met.H.Handler.answered_then_answered c.lines.invariant.turned (c.before_read.ensures.answered c.lines.source) c.in-End.ensures.reads.grows c.in-End.ensures.answer (λ rest. refl)
 
 pub returns-in-Unended-clause-answered : goal.returns-in-Unended-clause-answered
 returns-in-Unended-clause-answered g c =
-    ended g.H.Handler.answered AnUnended (ending.TheVariants.BadRequest (c.lines.number + 1) word.TheVariants.Unended) g.met.H.Handler.answered_then_answered c.lines.invariant.turned (c.before_read.ensures.answered c.lines.source) c.in-Unended.ensures.reads.grows c.in-Unended.ensures.answer (λ rest. refl)
+    ended g.H.Handler.answered (g.R.Input.past c.next.new.reader) AnUnended (ending.TheVariants.BadRequest (c.lines.number + 1) word.TheVariants.Unended) g.met.H.Handler.answered_then_answered c.lines.invariant.turned (c.before_read.ensures.answered c.lines.source) c.in-Unended.ensures.reads.grows c.in-Unended.ensures.answer (λ rest. refl)
 
 pub returns-in-Long-clause-answered : goal.returns-in-Long-clause-answered
 returns-in-Long-clause-answered g c =
-    ended g.H.Handler.answered ALong (ending.TheVariants.BadRequest (c.lines.number + 1) word.TheVariants.Long) g.met.H.Handler.answered_then_answered c.lines.invariant.turned (c.before_read.ensures.answered c.lines.source) c.in-Long.ensures.reads.grows c.in-Long.ensures.answer (λ rest. refl)
+    ended g.H.Handler.answered (g.R.Input.past c.next.new.reader) ALong (ending.TheVariants.BadRequest (c.lines.number + 1) word.TheVariants.Long) g.met.H.Handler.answered_then_answered c.lines.invariant.turned (c.before_read.ensures.answered c.lines.source) c.in-Long.ensures.reads.grows c.in-Long.ensures.answer (λ rest. refl)
 
 pub returns-in-ReadFault-clause-answered : goal.returns-in-ReadFault-clause-answered
 returns-in-ReadFault-clause-answered g c =
-    ended g.H.Handler.answered AFault ending.TheVariants.ReadFault g.met.H.Handler.answered_then_answered c.lines.invariant.turned (c.before_read.ensures.answered c.lines.source) c.in-ReadFault.ensures.reads.grows c.in-ReadFault.ensures.answer (λ rest. refl)
+    ended g.H.Handler.answered (g.R.Input.past c.next.new.reader) AFault ending.TheVariants.ReadFault g.met.H.Handler.answered_then_answered c.lines.invariant.turned (c.before_read.ensures.answered c.lines.source) c.in-ReadFault.ensures.reads.grows c.in-ReadFault.ensures.answer (λ rest. refl)
 
 pub returns-in-Err-handle-clause-stopped : goal.returns-in-Err-handle-clause-stopped
 returns-in-Err-handle-clause-stopped g c =

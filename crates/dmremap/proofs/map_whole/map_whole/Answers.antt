@@ -1,4 +1,4 @@
-use Rattle.std.proofs.Common.{ap, ◌≡◌, ◌∙◌}
+use Rattle.std.proofs.Common.{ap, refl, ◌≡◌, ◌∙◌}
 use Rattle.dm_table.specs.DeviceIo.{delivery}
 use Rattle.dm_map.specs.State.{start_state}
 use Rattle.dm_map.proofs.LevelLemmas.{homes_free, reads_free, writes_free}
@@ -8,7 +8,7 @@ use Rattle.dm_stream.proofs.FewestLemmas.{fewest_is}
 use Rattle.dmremap.specs.declared.exit.Exit.TheVariants as exits
 use Rattle.dmremap.specs.declared.exit.Refusal.TheVariants as refusals
 use Rattle.dmremap.specs.Exit.{exit_message, exit_status}
-use Rattle.dmremap.proofs.ExitLemmas.{exits_told, ran_requests, read_on_none, refused_output, unasked_requests, unchanged}
+use Rattle.dmremap.proofs.ExitLemmas.{exits_told, ran_requests, read_on_none, refused_output, unasked_requests}
 use Rattle.dmremap.proofs.MapLemmas.{ran_failed, ran_output, ran_whole, refused_whole}
 use Rattle.dmremap.proofs.OneWhole.{one_whole}
 use Rattle.dmremap.proofs.map_whole.map_whole.Goals as goal
@@ -28,7 +28,7 @@ pub returns-in-Ok-new-clause-whole : goal.returns-in-Ok-new-clause-whole
 returns-in-Ok-new-clause-whole g c = λ five six.
     let starts : c.in-Ok-new.mapper.state ≡ start_state c.in-Ok.stack = c.in-Ok-new.ensures.state ∙ ap start_state c.looker.ensures.stack in (
       ending_message c.run.result,
-      ran_whole _ _ _ _ _ _ _ _ _ _ _ c.in-Ok.stack c.in-Ok-new.mapper.state _ c.run.result _ c.in-Ok.ensures.gives.sound starts c.run.ensures.ran c.status.ensures five,
+      ran_whole _ _ _ _ _ _ _ c.in-Ok.stack c.in-Ok-new.mapper.state _ c.run.result _ c.in-Ok.ensures.gives.sound starts c.run.ensures.ran c.status.ensures five,
       c.run.ensures.told.told,
     )
 
@@ -38,14 +38,14 @@ returns-in-Ok-new-clause-beginning g c = λ five.
     let starts : c.in-Ok-new.mapper.state ≡ start_state c.in-Ok.stack = c.in-Ok-new.ensures.state ∙ ap start_state c.looker.ensures.stack in (
       c.in-Ok.stack,
       c.in-Ok.ensures.gives.sound,
-      ran_failed _ _ _ _ _ _ c.args.status requests c.in-Ok.stack c.in-Ok-new.mapper.state _ c.run.result _ starts c.run.ensures.ran c.status.ensures five,
+      ran_failed _ _ c.args.status requests c.in-Ok.stack c.in-Ok-new.mapper.state _ c.run.result _ starts c.run.ensures.ran c.status.ensures five,
     )
 
 pub returns-in-Ok-new-clause-requests : goal.returns-in-Ok-new-clause-requests
-returns-in-Ok-new-clause-requests g c = ran_requests _ _ _ c.run.result _ _ _ c.status.ensures c.run.ensures.reads c.run.ensures.met
+returns-in-Ok-new-clause-requests g c = ran_requests c.run.result _ _ _ c.status.ensures c.run.ensures.reads c.run.ensures.met
 
 pub returns-in-Ok-new-clause-output : goal.returns-in-Ok-new-clause-output
-returns-in-Ok-new-clause-output g c = ran_output _ _ _ _ c.run.result _ _ _ _ _ c.status.ensures c.run.ensures.ran
+returns-in-Ok-new-clause-output g c = ran_output c.run.result _ _ _ _ _ c.status.ensures c.run.ensures.ran
 
 pub returns-in-Ok-new-clause-messages : goal.returns-in-Ok-new-clause-messages
 returns-in-Ok-new-clause-messages g c = exits_told {exit = exits.Ended c.run.result} (record { is = c.status.ensures; told = c.run.ensures.told })
@@ -54,12 +54,12 @@ returns-in-Ok-new-clause-messages g c = exits_told {exit = exits.Ended c.run.res
 
 pub returns-clause-requests : goal.returns-clause-requests
 returns-clause-requests g c =
-    unasked_requests _ _ _ (refusals.Load c.memory.result) _ _ _ (c.tell-in-Err-new.ensures.is ∙ ap exit_status c.unloaded-in-Err-new.ensures)
-    (read_on_none _ _ _ c.args.requests.now) (unchanged _ _ _ c.args.requests.now)
+    unasked_requests (refusals.Load c.memory.result) _ _ _ (c.tell-in-Err-new.ensures.is ∙ ap exit_status c.unloaded-in-Err-new.ensures)
+    (read_on_none _) refl
 
 pub returns-clause-output : goal.returns-clause-output
 returns-clause-output g c =
-    refused_output _ _ _ _ c.args.output.now (refusals.Load c.memory.result) _ (c.tell-in-Err-new.ensures.is ∙ ap exit_status c.unloaded-in-Err-new.ensures)
+    refused_output _ (refusals.Load c.memory.result) _ (c.tell-in-Err-new.ensures.is ∙ ap exit_status c.unloaded-in-Err-new.ensures)
 
 -- ---- the clauses that speak of no run are laws of the definitions
 

@@ -7,16 +7,16 @@ returns-clause-exits g c =
     let end = c.finish.ensures in
     let done = c.answer-exit.ensures in (
       end.0,
-      exited _ _ _ _ _ _ _ _ c.answer-exit.result end.0 done.writes done.did end.1,
+      exited _ _ _ _ c.answer-exit.result end.0 done.writes done.did end.1,
       end.2,
-      closed_unasked _ _ _ _ _ c.answer-exit.result end.0 _ _ end.1.ends done.asked,
+      closed_unasked _ _ c.answer-exit.result end.0 _ _ end.1.ends done.asked,
     )
 
 pub returns-clause-one : goal.returns-clause-one
 returns-clause-one g c = one_other
 
 pub returns-clause-requests : goal.returns-clause-requests
-returns-clause-requests g c = let end = c.finish.ensures in closed_requests _ _ _ _ _ c.answer-exit.result end.0 _ _ _ end.1.ends c.answer-exit.ensures.asked end.2.is
+returns-clause-requests g c = let end = c.finish.ensures in closed_requests _ _ c.answer-exit.result end.0 _ _ _ end.1.ends c.answer-exit.ensures.asked end.2.is
 
 pub returns-clause-output : goal.returns-clause-output
 returns-clause-output g c =

@@ -8,4 +8,4 @@ returns-in-Ok-clause-did g c =
     c.play_requests.ensures.played
 
 pub returns-in-Ok-clause-asked : goal.returns-in-Ok-clause-asked
-returns-in-Ok-clause-asked g c = played_asked _ _ _ _ _ _ _ _ c.play_requests.result c.play_requests.ensures.played c.play_requests.ensures.reads c.play_requests.ensures.met
+returns-in-Ok-clause-asked g c = played_asked _ _ _ _ _ c.play_requests.result c.play_requests.ensures.played c.play_requests.ensures.reads c.play_requests.ensures.met
