@@ -3,6 +3,7 @@
 pub mod Bound
 pub mod Chunk
 pub mod Homes
+pub mod Levels
 pub mod Mapping
 pub mod Path
 pub mod Range

@@ -72,7 +72,9 @@ impl DiskValues {
         range: RangeValues,
     ) -> Result<(), AllocError>
         requires { start + range.len < 2 ^ 64 }
-        ensures { OnOk result ((on sector : ℕ) → values_in self.new.patches.items on sector ≡ ranged (values_in self.old.patches.items) disk start range.len range.first on sector) }
+        ensures { OnOk result
+            ((on sector : ℕ) → values_in self.new.patches.items on sector
+            ≡ ranged (values_in self.old.patches.items) disk start range.len range.first on sector) }
     {
         let first: Value = range.first;
         self.patches.push(Patch {

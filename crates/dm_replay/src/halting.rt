@@ -46,7 +46,8 @@ impl<'s> Halting<'s> {
         requires some { 1 ≤ piece_len piece }
         requires lies { IsOnDisks self.old.player.stack.now piece }
         ensures took { OnOk result (HasTaken self.old (units_of piece) self.new) }
-        ensures left { OnErr result (self.old.halted ≡ false → self.new.halted ≡ true → HasHalted self.old (units_of piece) self.new) }
+        ensures left { OnErr result (self.old.halted ≡ false → self.new.halted ≡ true
+            → HasHalted self.old (units_of piece) self.new) }
         ensures faults { self.new.player.faults ≡ self.old.player.faults }
     {
         if self.left < piece.len() {
@@ -65,7 +66,8 @@ impl<'s> Halting<'s> {
     fn halt(&mut self, piece: Piece)
         requires lies { IsOnDisks self.old.player.stack.now piece }
         requires more { self.old.left < piece_len piece }
-        ensures halted { self.old.halted ≡ false → self.new.halted ≡ true → HasHalted self.old (units_of piece) self.new }
+        ensures halted { self.old.halted ≡ false → self.new.halted ≡ true
+            → HasHalted self.old (units_of piece) self.new }
         ensures faults { self.new.player.faults ≡ self.old.player.faults }
     {
         if self.left == 0 {
@@ -113,5 +115,6 @@ impl Sink for Halting<'_> {
 
     ghost took_then_took = { λ a b c us vs first second. taken_both a b c us vs first second };
 
-    ghost took_then_left = { λ a b c us vs first second. λ going halted. taken_halted a b c us vs first (second (first.halted ∙ going) halted) };
+    ghost took_then_left = { λ a b c us vs first second. λ going halted. taken_halted a b c us vs first
+        (second (first.halted ∙ going) halted) };
 }

@@ -33,7 +33,8 @@ impl Patch {
         requires out { is_within self.now.disk self.now.start self.now.len disk start ≡ false }
         ensures some { 1 ≤ result }
         ensures most { result ≤ len }
-        ensures out { (i : ℕ) → i < result → is_within self.now.disk self.now.start self.now.len disk (start + i) ≡ false }
+        ensures out { (i : ℕ) → i < result
+            → is_within self.now.disk self.now.start self.now.len disk (start + i) ≡ false }
     {
         if disk == self.disk && start < self.start {
             len.min(self.start - start)

@@ -34,18 +34,28 @@ pub(crate) fn play_request<T: Taken>(
     requires going { mapper.old.stopped ≡ false }
     requires stack { player.old.stack.now ≡ mapper.old.stack }
     requires device { device < length mapper.old.stack.devices }
-    requires disks { AreValuesOf (length mapper.old.stack.disks) (values_in player.old.playing.values.patches.items) }
+    requires disks { AreValuesOf (length mapper.old.stack.disks)
+        (values_in player.old.playing.values.patches.items) }
     ensures stack { mapper.new.stack ≡ mapper.old.stack }
     ensures same_stack { OnOk result (player.new.stack.now ≡ player.old.stack.now) }
     ensures going { OnOk result (mapper.new.stopped ≡ false) }
-    ensures state { OnOk result (mapper.new.state ≡ (request_step mapper.old.stack request.now.op device request.now.start request.now.len mapper.old.state).state) }
-    ensures values { OnOk result ((disk sector : ℕ) → values_in player.new.playing.values.patches.items disk sector
-        ≡ played request.now.number request.now.start (request_step mapper.old.stack request.now.op device request.now.start request.now.len mapper.old.state).units (values_in player.old.playing.values.patches.items) disk sector) }
+    ensures state { OnOk result
+        (mapper.new.state ≡ (request_step mapper.old.stack request.now.op device request.now.start
+        request.now.len mapper.old.state).state) }
+    ensures values { OnOk result
+        ((disk sector : ℕ) → values_in player.new.playing.values.patches.items disk sector
+        ≡ played request.now.number request.now.start
+        (request_step mapper.old.stack request.now.op device request.now.start request.now.len
+        mapper.old.state).units (values_in player.old.playing.values.patches.items) disk sector) }
     ensures answers { IfOk result (λ runs. flat runs.items
-        ≡ played_answers request.now.number request.now.start (request_step mapper.old.stack request.now.op device request.now.start request.now.len mapper.old.state).units (values_in player.old.playing.values.patches.items)) }
+        ≡ played_answers request.now.number request.now.start
+        (request_step mapper.old.stack request.now.op device request.now.start request.now.len
+        mapper.old.state).units (values_in player.old.playing.values.patches.items)) }
     ensures maximal { IfOk result (λ runs. AreMaximal runs.items) }
-    ensures disks { OnOk result (AreValuesOf (length mapper.old.stack.disks) (values_in player.new.playing.values.patches.items)) }
-    ensures runs_disks { IfOk result (λ runs. AllByRecursion (IsRunOf (length mapper.old.stack.disks)) runs.items) }
+    ensures disks { OnOk result
+        (AreValuesOf (length mapper.old.stack.disks) (values_in player.new.playing.values.patches.items)) }
+    ensures runs_disks { IfOk result
+        (λ runs. AllByRecursion (IsRunOf (length mapper.old.stack.disks)) runs.items) }
 {
     let first = request.start.min(player.stack.len(device));
     player.begin(alloc, request.number, first);
@@ -75,10 +85,17 @@ pub(crate) fn play_front<'s, T: Taken>(
     requires disks { AreValuesOf (length mapper.stack.disks) (values_in player.playing.values.patches.items) }
     ensures stack { IfOk result (λ later. later.stack.now ≡ player.entry.stack.now) }
     ensures next { IfOk result (λ later. later.playing.next
-        ≡ sector_past (stopped_units mapper.entry.stack request.now.op device request.now.start request.now.len units mapper.entry.state) (min request.now.start (device_len mapper.entry.stack device))) }
-    ensures values { IfOk result (λ later. (disk sector : ℕ) → values_in later.playing.values.patches.items disk sector
-        ≡ played request.now.number request.now.start (stopped_units mapper.entry.stack request.now.op device request.now.start request.now.len units mapper.entry.state) (values_in player.entry.playing.values.patches.items) disk sector) }
-    ensures disks { IfOk result (λ later. AreValuesOf (length mapper.entry.stack.disks) (values_in later.playing.values.patches.items)) }
+        ≡ sector_past (stopped_units mapper.entry.stack request.now.op device request.now.start
+        request.now.len units mapper.entry.state)
+        (min request.now.start (device_len mapper.entry.stack device))) }
+    ensures values { IfOk result
+        (λ later. (disk sector : ℕ) → values_in later.playing.values.patches.items disk sector
+        ≡ played request.now.number request.now.start
+        (stopped_units mapper.entry.stack request.now.op device request.now.start request.now.len units
+        mapper.entry.state) (values_in player.entry.playing.values.patches.items) disk sector) }
+    ensures disks { IfOk result
+        (λ later. AreValuesOf (length mapper.entry.stack.disks)
+        (values_in later.playing.values.patches.items)) }
 {
     let first = request.start.min(player.stack.len(device));
     player.begin(alloc, request.number, first);

@@ -47,7 +47,8 @@ impl<'s> Player<'s> {
     /// Sets the number of the request that comes next, and the sector of its device that is answered
     /// first. Nothing is answered yet.
     pub(crate) fn begin(&mut self, alloc: Global, number: u64, first: u64)
-        ensures playing { self.new.playing ≡ record { values = self.old.playing.values; number = number; next = first; runs = [] } }
+        ensures playing { self.new.playing
+            ≡ record { values = self.old.playing.values; number = number; next = first; runs = [] } }
         ensures stack { self.new.stack ≡ self.old.stack }
     {
         self.playing.number = number;
@@ -159,7 +160,8 @@ impl Sink for Player<'_> {
 
     ghost took_then_took = { λ a b c us vs first second. (
       played_both a.playing b.playing c.playing us vs first.0 second.0,
-      units_of-append (length a.stack.now.disks) us vs first.1 (subst (λ (stack : Description). AreUnitsOf (length stack.disks) vs) first.2 second.1),
+      units_of-append (length a.stack.now.disks) us vs first.1
+      (subst (λ (stack : Description). AreUnitsOf (length stack.disks) vs) first.2 second.1),
       second.2 ∙ first.2,
     ) };
 

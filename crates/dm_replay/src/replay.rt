@@ -48,9 +48,11 @@ impl<'s, T: Taken> Model for Replay<'s, T> {
 
     ghost Value = { Replaying };
 
-    ghost view = { λ replay. record { stack = replay.stack.now; asked = all_asked replay.asked.items; stopped = replay.stopped } };
+    ghost view = { λ replay.
+        record { stack = replay.stack.now; asked = all_asked replay.asked.items; stopped = replay.stopped } };
 
-    ghost invariant = { λ replay. IsReplay replay.stack.now replay.mapper replay.player.stack.now replay.player.playing.values.patches.items replay.asked.items replay.stopped };
+    ghost invariant = { λ replay. IsReplay replay.stack.now replay.mapper replay.player.stack.now
+        replay.player.playing.values.patches.items replay.asked.items replay.stopped };
 }
 
 impl<'s, T: Taken> Replay<'s, T> {
@@ -96,13 +98,21 @@ impl<'s, T: Taken> Replay<'s, T> {
         request: &Request<'_>,
     ) -> Result<Vec<ValueRun>, ReplayFault>
         ensures stack { self.new.stack ≡ self.old.stack }
-        ensures answers { IfOk result (λ runs. flat runs.items ≡ asked_answers self.old.stack (world_after self.old.stack self.old.asked) (asked_request self.old.stack request.now)) }
-        ensures own { IfOk result (λ runs. request.now.op ≡ Read → AreOfRow (rows_after self.old.stack self.old.asked) (device_id self.old.stack request.now.device.now) request.now.start (flat runs.items)) }
+        ensures answers { IfOk result
+            (λ runs. flat runs.items
+            ≡ asked_answers self.old.stack (world_after self.old.stack self.old.asked)
+            (asked_request self.old.stack request.now)) }
+        ensures own { IfOk result (λ runs. request.now.op ≡ Read
+            → AreOfRow (rows_after self.old.stack self.old.asked)
+            (device_id self.old.stack request.now.device.now) request.now.start (flat runs.items)) }
         ensures runs { IfOk result (λ runs. AreMaximal runs.items) }
-        ensures one { IfOk result (λ runs. (others : List ValueRun) → AreMaximal others → flat others ≡ flat runs.items → others ≡ runs.items) }
-        ensures disks { IfOk result (λ runs. AllByRecursion (IsRunOf (length self.old.stack.disks)) runs.items) }
+        ensures one { IfOk result (λ runs. (others : List ValueRun) → AreMaximal others
+            → flat others ≡ flat runs.items → others ≡ runs.items) }
+        ensures disks { IfOk result
+            (λ runs. AllByRecursion (IsRunOf (length self.old.stack.disks)) runs.items) }
         ensures top { OnOk result (HasTop self.old.stack request.now.device.now) }
-        ensures asked { OnOk result (self.new.asked ≡ self.old.asked ++ asked_request self.old.stack request.now ∷ []) }
+        ensures asked { OnOk result
+            (self.new.asked ≡ self.old.asked ++ asked_request self.old.stack request.now ∷ []) }
         ensures going { OnOk result ((self.old.stopped ≡ false) × (self.new.stopped ≡ false)) }
         ensures fault { IfErr result (λ fault. IsNotAnswered fault request.now.device.now self.old self.new) }
     {
@@ -149,7 +159,9 @@ impl<'s, T: Taken> Replay<'s, T> {
         units: u64,
     ) -> Result<Replay<'s, T>, ReplayFault>
         ensures stack { IfOk result (λ later. later.stack ≡ self.entry.stack) }
-        ensures asked { IfOk result (λ later. later.asked ≡ self.entry.asked ++ halted_request self.entry.stack request.now units ∷ []) }
+        ensures asked { IfOk result
+            (λ later. later.asked
+            ≡ self.entry.asked ++ halted_request self.entry.stack request.now units ∷ []) }
         ensures going { IfOk result (λ later. (self.entry.stopped ≡ false) × (later.stopped ≡ false)) }
         ensures top { OnOk result (HasTop self.entry.stack request.now.device.now) }
         ensures fault { IfErr result (λ fault. IsNotHalted fault request.now.device.now self.entry) }
@@ -192,8 +204,10 @@ impl<'s, T: Taken> Replay<'s, T> {
 /// that passes the device's end.
 fn whole_sectors(stack: &Stack, device: DeviceId, request: &Request<'_>, next: u64) -> u64
     requires device { device < length stack.now.devices }
-    requires next { request.now.start + request.now.len ≤ device_len stack.now device → request.now.start ≤ next }
-    ensures { result ≡ (if nat_lt (device_len stack.now device) (request.now.start + request.now.len) then 0 else (next - request.now.start)) }
+    requires next { request.now.start + request.now.len ≤ device_len stack.now device
+        → request.now.start ≤ next }
+    ensures { result ≡ (if nat_lt (device_len stack.now device) (request.now.start + request.now.len) then 0
+        else (next - request.now.start)) }
 {
     let end = stack.len(device);
     if end < request.start || end - request.start < request.len {
@@ -217,7 +231,9 @@ fn refuse_clash(alloc: Global, stack: &Stack) -> Result<(), ReplayFault>
 
 /// The top device of a name.
 fn top_device(stack: &Stack, name: &str) -> Option<DeviceId>
-    ensures some { IfSome result (λ device. (position (λ other. is_same other.name name.now) stack.now.devices ≡ Some device) × IsTop stack.now device) }
+    ensures some { IfSome result
+        (λ device. (position (λ other. is_same other.name name.now) stack.now.devices ≡ Some device)
+        × IsTop stack.now device) }
     ensures none { result ≡ None → HasTop stack.now name.now → ⊥ }
 {
     let device = stack.device(name)?;

@@ -63,7 +63,8 @@ pub(crate) fn rerun<'s, T: Taken>(
     requires { AllByRecursion (IsKept stack.now) all.now }
     ensures stack { IfOk result (λ mapper. mapper.stack ≡ stack.now) }
     ensures going { IfOk result (λ mapper. mapper.stopped ≡ false) }
-    ensures state { IfOk result (λ mapper. mapper.state ≡ rerun_from stack.now (start_state stack.now) all.now) }
+    ensures state { IfOk result
+        (λ mapper. mapper.state ≡ rerun_from stack.now (start_state stack.now) all.now) }
 {
     let mut mapper = Mapper::new(alloc, stack.looker())?;
     let mut discard = Discard { stack };

@@ -33,9 +33,11 @@ pub trait Handler {
         request: &Request<'_>,
     ) -> Result<(), Self::Fault>
         requires { ready self.old source.old }
-        ensures answered { OnOk result (answered self.old source.old (numbered request.now ∷ []) self.new source.new) }
+        ensures answered { OnOk result
+            (answered self.old source.old (numbered request.now ∷ []) self.new source.new) }
         ensures ready { OnOk result (ready self.new source.new) }
-        ensures stopped { IfErr result (λ fault. stopped self.old source.old (numbered request.now ∷ []) fault self.new source.new) };
+        ensures stopped { IfErr result
+            (λ fault. stopped self.old source.old (numbered request.now ∷ []) fault self.new source.new) };
 
     /// No request is at hand, and reading one may have to wait: the answers gathered so far can be passed on.
     /// Nothing is answered.
@@ -47,8 +49,12 @@ pub trait Handler {
     ghost answered_none: { (h : Self) (s : Self.Source) → answered h s [] h s };
 
     /// Requests that were answered one after the other were answered.
-    ghost answered_then_answered: { (a b c : Self) (s t u : Self.Source) (us vs : List NumberedRequest) → answered a s us b t → answered b t vs c u → answered a s (us ++ vs) c u };
+    ghost answered_then_answered: { (a b c : Self) (s t u : Self.Source) (us vs : List NumberedRequest)
+        → answered a s us b t → answered b t vs c u → answered a s (us ++ vs) c u };
 
-    /// It stopped at the last of requests where it answered the first of them and stopped at the last of the others.
-    ghost answered_then_stopped: { (a b c : Self) (s t u : Self.Source) (us vs : List NumberedRequest) (fault : Self.Fault) → answered a s us b t → stopped b t vs fault c u → stopped a s (us ++ vs) fault c u };
+    /// It stopped at the last of requests where it answered the first of them and stopped at the last
+    /// of the others.
+    ghost answered_then_stopped:
+        { (a b c : Self) (s t u : Self.Source) (us vs : List NumberedRequest) (fault : Self.Fault)
+        → answered a s us b t → stopped b t vs fault c u → stopped a s (us ++ vs) fault c u };
 }

@@ -68,12 +68,16 @@ impl<'s> HeldPiece<'s> {
         requires some { 1 ≤ piece_len piece.now }
         requires lies { IsOnDisks self.old.stack piece.now }
         requires room { diskless_len piece.now ≤ 2 ^ 64 - 1 - held_diskless self.old.piece }
-        ensures joined { OnTrue result (held_units self.new.piece ≡ held_units self.old.piece ++ units_of piece.now) }
-        ensures diskless { OnTrue result (held_diskless self.new.piece ≡ held_diskless self.old.piece + diskless_len piece.now) }
-        ensures others { OnTrue result ((self.new.stack ≡ self.old.stack) × (self.new.number ≡ self.old.number)) }
+        ensures joined { OnTrue result
+            (held_units self.new.piece ≡ held_units self.old.piece ++ units_of piece.now) }
+        ensures diskless { OnTrue result
+            (held_diskless self.new.piece ≡ held_diskless self.old.piece + diskless_len piece.now) }
+        ensures others { OnTrue result ((self.new.stack ≡ self.old.stack)
+            × (self.new.number ≡ self.old.number)) }
         ensures same { OnFalse result (self.new ≡ self.old) }
         // Whatever units follow, the held piece is complete.
-        ensures apart { OnFalse result ((rest : List BlockUnit) → fewest (held_units self.old.piece ++ units_of piece.now ++ rest)
+        ensures apart { OnFalse result ((rest : List BlockUnit)
+            → fewest (held_units self.old.piece ++ units_of piece.now ++ rest)
             ≡ fewest (held_units self.old.piece) ++ fewest (units_of piece.now ++ rest)) }
     {
         let Some(held) = &self.piece else {
@@ -101,7 +105,8 @@ impl<'s> HeldPiece<'s> {
     pub(crate) fn write<W: Output>(&mut self, writer: &mut W) -> Result<(), OutFault>
         ensures wrote { Wrote (W.past writer.old) (W.past writer.new) result
             (pieces_text self.old.stack self.old.number (fewest (held_units self.old.piece))) }
-        ensures nothing { self.new ≡ record { stack = self.old.stack; number = self.old.number; piece = None } }
+        ensures nothing { self.new
+            ≡ record { stack = self.old.stack; number = self.old.number; piece = None } }
     {
         let Some(piece) = &self.piece else {
             return Ok(());

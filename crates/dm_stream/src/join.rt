@@ -47,7 +47,8 @@ impl<'s, W: Output> Join<'s, W> {
     #[inline(always)]
     pub fn begin(&mut self, number: u64)
         requires { self.old.held.piece ≡ None }
-        ensures number { self.new.held ≡ record { stack = self.old.held.stack; number = number; piece = None } }
+        ensures number { self.new.held
+            ≡ record { stack = self.old.held.stack; number = number; piece = None } }
         ensures writer { self.new.writer.now ≡ self.old.writer.now }
         ensures same_reference { IsSameReference self.old.writer self.new.writer }
     {
@@ -62,9 +63,11 @@ impl<'s, W: Output> Join<'s, W> {
     pub fn finish(&mut self) -> Result<(), OutFault>
         ensures wrote { Wrote (W.past self.old.writer.now) (W.past self.new.writer.now) result
             (pieces_text self.old.held.stack self.old.held.number (fewest (held_units self.old.held.piece))) }
-        ensures nothing { self.new.held ≡ record { stack = self.old.held.stack; number = self.old.held.number; piece = None } }
+        ensures nothing { self.new.held
+            ≡ record { stack = self.old.held.stack; number = self.old.held.number; piece = None } }
         ensures same_reference { IsSameReference self.old.writer self.new.writer }
-        // They are the only pieces of the units of which none continues the one before, and no others are fewer.
+        // They are the only pieces of the units of which none continues the one before, and no others
+        // are fewer.
         ensures fewest { (units : List BlockUnit) → AreFewest units (fewest units) }
     {
         self.held.write(&mut *self.writer)
@@ -103,17 +106,24 @@ impl<W: Output> Sink for Join<'_, W> {
 
     ghost faults = { λ join. (W.past join.writer.now).faults };
 
-    ghost took = { λ old units new. HasTaken old.held new.held units (W.past old.writer.now).written (W.past new.writer.now).written
+    ghost took = { λ old units new. HasTaken old.held new.held units (W.past old.writer.now).written
+        (W.past new.writer.now).written
         × HasWrittenTo W.past old.writer new.writer 0 };
 
-    ghost left = { λ old units new. HasLeft old.held new.held units (W.past old.writer.now).written (W.past new.writer.now).written
+    ghost left = { λ old units new. HasLeft old.held new.held units (W.past old.writer.now).written
+        (W.past new.writer.now).written
         × HasWrittenTo W.past old.writer new.writer 1 };
 
-    ghost took_nothing = { λ s. (took_none s.held (W.past s.writer.now).written, written_to_none W.past s.writer) };
+    ghost took_nothing = { λ s.
+        (took_none s.held (W.past s.writer.now).written, written_to_none W.past s.writer) };
 
-    ghost took_then_took = { λ a b c us vs first second. (took_more a.held b.held c.held us vs _ _ _ first.1.moved.appends second.1.moved.appends first.0 second.0, written_to_more W.past a.writer b.writer c.writer 0 first.1 second.1) };
+    ghost took_then_took = { λ a b c us vs first second.
+        (took_more a.held b.held c.held us vs _ _ _ first.1.moved.appends second.1.moved.appends first.0
+        second.0, written_to_more W.past a.writer b.writer c.writer 0 first.1 second.1) };
 
-    ghost took_then_left = { λ a b c us vs first second. (left_more a.held b.held c.held us vs _ _ _ first.1.moved.appends second.1.moved.appends first.0 second.0, written_to_more W.past a.writer b.writer c.writer 1 first.1 second.1) };
+    ghost took_then_left = { λ a b c us vs first second.
+        (left_more a.held b.held c.held us vs _ _ _ first.1.moved.appends second.1.moved.appends first.0
+        second.0, written_to_more W.past a.writer b.writer c.writer 1 first.1 second.1) };
 
     #[inline(always)]
     fn piece(&mut self, piece: Piece) -> Result<(), OutFault> {

@@ -34,7 +34,8 @@ impl Model for KeptRange {
 
     ghost view = { λ range. take range.end range.text };
 
-    ghost invariant = { λ range. (range.end ≤ 48) × (0 < range.end → take range.end range.text ≡ range_text range.start range.len) };
+    ghost invariant = { λ range. (range.end ≤ 48)
+        × (0 < range.end → take range.end range.text ≡ range_text range.start range.len) };
 }
 
 impl KeptRange {

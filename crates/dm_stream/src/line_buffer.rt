@@ -16,7 +16,8 @@ pub(crate) fn line_len(held: &[u8], searched: usize) -> Option<usize>
     requires clear { parts_at 10 (take searched held.now) ≡ take searched held.now ∷ [] }
     ensures { MatchOption result
         (parts_at 10 held.now ≡ held.now ∷ [])
-        (λ n. (n < length held.now) × (parts_at 10 held.now ≡ take n held.now ∷ parts_at 10 (drop (n + 1) held.now))) }
+        (λ n. (n < length held.now)
+        × (parts_at 10 held.now ≡ take n held.now ∷ parts_at 10 (drop (n + 1) held.now))) }
 {
     let n = memchr(b'\n', &held[searched..])?;
     Some(searched + n)
@@ -47,7 +48,8 @@ pub(crate) fn read_after<R: Input>(
     requires { end < length buffer.old }
     ensures within { IfOk result (λ n. end + n ≤ length buffer.new) }
     ensures kept { take end buffer.new ≡ take end buffer.old }
-    ensures read { HasRead (R.past reader.old) (R.past reader.new) result (given result (drop end buffer.new)) }
+    ensures read { HasRead (R.past reader.old) (R.past reader.new) result
+        (given result (drop end buffer.new)) }
 {
     reader.read(&mut buffer[end..])
 }

@@ -1,6 +1,7 @@
 //! The lines of an input, from a buffer that holds what was read and not yet returned.
 //! Clauses see only those bytes, so lines depend on the bytes and never on how reads cut them.
-//! No memory is taken, and the search for a newline continues where the last one stopped: each byte is searched once.
+//! No memory is taken, and the search for a newline continues where the last one stopped: each byte is
+//! searched once.
 ghost use Rattle.std.specs.Prelude.{◌≡◌, ◌+◌, ◌≤◌, ◌++◌, [], ◌∷◌, length, take, drop, IfOk, OnErr};
 ghost use Rattle.std.specs.Borrow.{sem};
 ghost use Rattle.std.specs.Io.BufRead.{Rests};
@@ -131,7 +132,8 @@ impl Lines {
     /// Reads once, after the held bytes.
     fn fill<R: Input>(&mut self, reader: &mut R) -> Result<usize, InFault>
         requires { length self.old ≤ MOST_LINE_BYTES }
-        ensures read { HasRead (R.past reader.old) (R.past reader.new) result (since (R.past reader.old).handed (R.past reader.new).handed) }
+        ensures read { HasRead (R.past reader.old) (R.past reader.new) result
+            (since (R.past reader.old).handed (R.past reader.new).handed) }
         ensures held { self.new ≡ self.old ++ since (R.past reader.old).handed (R.past reader.new).handed }
         ensures count { IfOk result (λ n. length self.new ≡ length self.old + n) }
         ensures none { IfOk result (λ n. n ≡ 0 → self.new ≡ self.old) }
@@ -152,7 +154,8 @@ impl Lines {
         ensures held { self.new ≡ self.old ++ since (R.past reader.old).handed (R.past reader.new).handed }
         ensures fits { FitsIn result self.new }
         ensures quiet { OnHeldLine result (MetNothing (R.past reader.old) (R.past reader.new)) }
-        ensures answer { next_answer (delivery (R.past reader.old) (R.past reader.new)).stand (line_parts self.new)
+        ensures answer { next_answer (delivery (R.past reader.old) (R.past reader.new)).stand
+            (line_parts self.new)
             ≡ held_answer result self.new }
     {
         let mut searched = 0;
@@ -180,12 +183,14 @@ impl Lines {
     /// Cost: time linear in the bytes read, however they arrive. Takes no memory.
     pub fn next<R: Input>(&mut self, reader: &mut R) -> Next<'_>
         ensures* after { sem 𝓛 (Rests the_row self.entry (λ new.
-            new ≡ left_of (answer_of result) (self.old ++ since (R.past reader.old).handed (R.past reader.new).handed))) }
+            new ≡ left_of (answer_of result)
+            (self.old ++ since (R.past reader.old).handed (R.past reader.new).handed))) }
         // Nothing is read after an end or a fault.
         ensures reads { IsReadOn (R.past reader.old) (R.past reader.new) }
         // A line is returned, or is too long, before an end or a fault is met.
         ensures quiet { OnLine result (MetNothing (R.past reader.old) (R.past reader.new)) }
-        ensures answer { answer_of result ≡ next_answer (delivery (R.past reader.old) (R.past reader.new)).stand
+        ensures answer { answer_of result
+            ≡ next_answer (delivery (R.past reader.old) (R.past reader.new)).stand
             (line_parts (self.old ++ since (R.past reader.old).handed (R.past reader.new).handed)) }
     {
         match self.advance(reader) {

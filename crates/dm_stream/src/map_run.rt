@@ -50,9 +50,13 @@ fn map_lines<'s, T: Taken, R: Input, W: Output>(
     ensures mapper { StaysMapper mapper.old mapper.new result }
     ensures nothing { handler.new.join.held.piece ≡ None }
     ensures reads { IsReadOn (R.past requests.old) (R.past requests.new) }
-    ensures writes { HasWrittenTo W.past handler.old.join.writer handler.new.join.writer (write_faults result) }
-    ensures mapped { IsMapped (requests_outcome handler.old.devices mapper.old.state (delivery (R.past requests.old) (R.past requests.new)))
-        (written_since (W.past handler.old.join.writer.now) (W.past handler.new.join.writer.now)) mapper.new.state result }
+    ensures writes { HasWrittenTo W.past handler.old.join.writer handler.new.join.writer
+        (write_faults result) }
+    ensures mapped { IsMapped
+        (requests_outcome handler.old.devices mapper.old.state
+        (delivery (R.past requests.old) (R.past requests.new)))
+        (written_since (W.past handler.old.join.writer.now) (W.past handler.new.join.writer.now))
+        mapper.new.state result }
     ensures met { HasMet result (R.past requests.old) (R.past requests.new) }
 {
     match handle_requests(requests, handler, mapper) {
@@ -72,7 +76,8 @@ fn map_requests<'s, T: Taken, R: Input, W: Output>(
     ensures mapper { StaysMapper mapper.old mapper.new result }
     ensures reads { IsReadOn (R.past requests.old) (R.past requests.new) }
     ensures writes { HasWritten (W.past output.old) (W.past output.new) (write_faults result) }
-    ensures mapped { IsMapped (requests_outcome stack.now mapper.old.state (delivery (R.past requests.old) (R.past requests.new)))
+    ensures mapped { IsMapped
+        (requests_outcome stack.now mapper.old.state (delivery (R.past requests.old) (R.past requests.new)))
         (written_since (W.past output.old) (W.past output.new)) mapper.new.state result }
     ensures met { HasMet result (R.past requests.old) (R.past requests.new) }
 {
@@ -99,7 +104,8 @@ fn write_rest<T: Taken, W: Output>(
     ensures same { mapper.new ≡ with_looked mapper.old mapper.new.looked }
     ensures no_fault { OnOk result (ending ≢ Ending.WriteFault) }
     // Wherever the answers began.
-    ensures wrote { (start : OutputPast) (outcome : Outcome) → HasWritten start (W.past output.old) (write_faults ending)
+    ensures wrote { (start : OutputPast) (outcome : Outcome)
+        → HasWritten start (W.past output.old) (write_faults ending)
         → IsMapped outcome (written_since start (W.past output.old)) mapper.old.state ending
         → Wrote start (W.past output.new) result (with_status stack.now status outcome).output }
 {
@@ -124,7 +130,8 @@ fn map_and_flush<'s, T: Taken, R: Input, W: Output>(
     ensures reads { IsReadOn (R.past requests.old) (R.past requests.new) }
     ensures met { HasMet result (R.past requests.old) (R.past requests.new) }
     ensures ran { HasRun (W.past output.old) (W.past output.new)
-        (run_outcome stack.now status mapper.old.state (delivery (R.past requests.old) (R.past requests.new))) mapper.new.state result }
+        (run_outcome stack.now status mapper.old.state (delivery (R.past requests.old) (R.past requests.new)))
+        mapper.new.state result }
 {
     let ending = map_requests(stack, mapper, requests, output);
     let written = write_rest(stack, mapper, ending, status, output);
@@ -163,13 +170,16 @@ pub fn run<'s, T: Taken, R: Input, W: Output, E: Output>(
     // The mapper stays one of its stack, and can go on unless the output failed.
     ensures stack { mapper.new.stack ≡ mapper.old.stack }
     ensures going { result ≢ Ending.WriteFault → mapper.new.stopped ≡ false }
-    // What the requests delivered gives what is written, and how it ends and the state that is left unless the output failed. The
-    // output was flushed once; if it failed, it had taken a beginning: all, if the flush failed, and less, if a write did.
+    // What the requests delivered gives what is written, and how it ends and the state that is left
+    // unless the output failed. The output was flushed once; if it failed, it had taken a beginning:
+    // all, if the flush failed, and less, if a write did.
     ensures ran { HasRun (W.past output.old) (W.past output.new)
-        (run_outcome stack.now status mapper.old.state (delivery (R.past requests.old) (R.past requests.new))) mapper.new.state result }
-    // Requests are only read on, and nothing is read after an end or a fault. It ends with `ReadFault` only where reading failed,
-    // and with `Done` only where it did not. Nothing is read after a bad line: any read may fail or come to an end, and neither
-    // was met, but for the end that leaves a line unended.
+        (run_outcome stack.now status mapper.old.state (delivery (R.past requests.old) (R.past requests.new)))
+        mapper.new.state result }
+    // Requests are only read on, and nothing is read after an end or a fault. It ends with `ReadFault`
+    // only where reading failed, and with `Done` only where it did not. Nothing is read after a bad
+    // line: any read may fail or come to an end, and neither was met, but for the end that leaves a
+    // line unended.
     ensures reads { IsReadOn (R.past requests.old) (R.past requests.new) }
     ensures met { HasMet result (R.past requests.old) (R.past requests.new) }
     // The message of the ending, or a beginning of it if its stream failed.

@@ -30,7 +30,8 @@ impl Model for NumberPrefix {
 
     ghost view = { λ prefix. prefix.number };
 
-    ghost invariant = { λ prefix. (prefix.last + 2 ≤ 32) × (take (prefix.last + 2) prefix.text ≡ number_prefix prefix.number) };
+    ghost invariant = { λ prefix. (prefix.last + 2 ≤ 32)
+        × (take (prefix.last + 2) prefix.text ≡ number_prefix prefix.number) };
 }
 
 impl NumberPrefix {

@@ -40,9 +40,11 @@ impl<'a> Model for RangeLine<'a> {
 
     ghost Value = { List ℕ };
 
-    ghost view = { λ line. range_line line.stack.now line.prefix.now line.letter line.disk line.start line.len };
+    ghost view = { λ line. range_line line.stack.now line.prefix.now line.letter line.disk line.start
+        line.len };
 
-    ghost invariant = { λ line. (line.disk < length line.stack.now.disks) × IsKept line.range.now line.start line.len };
+    ghost invariant = { λ line. (line.disk < length line.stack.now.disks)
+        × IsKept line.range.now line.start line.len };
 }
 
 impl<'a> Text for RangeLine<'a> {
@@ -97,7 +99,8 @@ pub(crate) fn put_piece<W: Output>(
     piece: &Piece,
 ) -> Result<(), OutFault>
     requires lies { IsOnDisks stack.now piece.now }
-    ensures { Wrote (W.past writer.old) (W.past writer.new) result (piece_text stack.now prefix.now (piece_view piece.now)) }
+    ensures { Wrote (W.past writer.old) (W.past writer.new) result
+        (piece_text stack.now prefix.now (piece_view piece.now)) }
 {
     match *piece {
         Piece::Read { disk, start, len } | Piece::Write { disk, start, len } => {
@@ -146,7 +149,8 @@ fn put_other(block: &mut [u8], at: usize, stack: &Stack, piece: &Piece) -> usize
     requires room { at + 800 ≤ length block.old }
     requires lies { IsOnDisks stack.now piece.now }
     requires other { IsOther piece.now }
-    ensures put { IsPut (unit_text stack.now (first_unit piece.now) (piece_len piece.now) ++ 10 ∷ []) at block.old block.new result }
+    ensures put { IsPut (unit_text stack.now (first_unit piece.now) (piece_len piece.now) ++ 10 ∷ []) at
+        block.old block.new result }
     ensures few { result ≤ at + 800 }
 {
     match *piece {
@@ -179,7 +183,8 @@ fn put_copy(
     requires room { at + 800 ≤ length block.old }
     requires there { disk < length stack.now.disks }
     requires target { to < length stack.now.disks }
-    ensures put { IsPut (unit_text stack.now (CopyOf disk start to to_start) len ++ 10 ∷ []) at block.old block.new result }
+    ensures put { IsPut (unit_text stack.now (CopyOf disk start to to_start) len ++ 10 ∷ []) at block.old
+        block.new result }
     ensures few { result ≤ at + 800 }
 {
     let at = put_bytes(block, at, b"copy ");
@@ -195,7 +200,8 @@ fn put_copy(
 fn put_fill(block: &mut [u8], at: usize, stack: &Stack, disk: DiskId, start: u64, len: u64) -> usize
     requires room { at + 800 ≤ length block.old }
     requires there { disk < length stack.now.disks }
-    ensures put { IsPut (unit_text stack.now (FillOf disk start) len ++ 10 ∷ []) at block.old block.new result }
+    ensures put { IsPut (unit_text stack.now (FillOf disk start) len ++ 10 ∷ []) at block.old block.new
+        result }
     ensures few { result ≤ at + 400 }
 {
     let at = put_bytes(block, at, b"fill ");

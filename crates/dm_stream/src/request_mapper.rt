@@ -35,7 +35,9 @@ fn map_request<T: Taken, W: Output>(
     requires nothing { join.old.held.piece ≡ None }
     ensures stack { mapper.new.stack ≡ mapper.old.stack }
     ensures going { OnOk result (mapper.new.stopped ≡ false) }
-    ensures state { OnOk result (mapper.new.state ≡ (step_of join.old.held.stack device (numbered request.now) mapper.old.state).state) }
+    ensures state { OnOk result
+        (mapper.new.state ≡ (step_of join.old.held.stack device (numbered request.now)
+        mapper.old.state).state) }
     ensures of_stack { join.new.held.stack ≡ join.old.held.stack }
     ensures nothing { join.new.held.piece ≡ None }
     ensures same_reference { IsSameReference join.old.writer join.new.writer }
@@ -67,12 +69,14 @@ impl<'s, T: Taken, W: Output> Handler for RequestMapper<'_, 's, T, W> {
     ghost ready = { λ h mapper. IsReady h.devices mapper h.join.held };
 
     ghost answered = { λ old before requests new after.
-        HasAnswered old.devices before.state after.state requests (W.past old.join.writer.now).written (W.past new.join.writer.now).written
+        HasAnswered old.devices before.state after.state requests (W.past old.join.writer.now).written
+        (W.past new.join.writer.now).written
         × HasWrittenTo W.past old.join.writer new.join.writer 0
         × (new.devices ≡ old.devices) × (after.stack ≡ before.stack) };
 
     ghost stopped = { λ old before requests fault new after.
-        HasStopped old.devices fault before.state after requests (W.past old.join.writer.now).written (W.past new.join.writer.now).written
+        HasStopped old.devices fault before.state after requests (W.past old.join.writer.now).written
+        (W.past new.join.writer.now).written
         × HasWrittenTo W.past old.join.writer new.join.writer (failed_writes fault)
         × (new.devices ≡ old.devices) × (after.stack ≡ before.stack)
         × (new.join.held.piece ≡ None) };
@@ -85,16 +89,20 @@ impl<'s, T: Taken, W: Output> Handler for RequestMapper<'_, 's, T, W> {
     ) };
 
     ghost answered_then_answered = { λ a b c s t u us vs first second. (
-      answered_more a.devices s.state t.state u.state us vs _ _ _ first.1.moved.appends second.1.moved.appends first.0
-          (subst (λ stack. HasAnswered stack t.state u.state vs (W.past b.join.writer.now).written (W.past c.join.writer.now).written) first.2 second.0),
+      answered_more a.devices s.state t.state u.state us vs _ _ _ first.1.moved.appends second.1.moved.appends
+      first.0
+          (subst (λ stack. HasAnswered stack t.state u.state vs (W.past b.join.writer.now).written
+          (W.past c.join.writer.now).written) first.2 second.0),
       written_to_more W.past a.join.writer b.join.writer c.join.writer 0 first.1 second.1,
       second.2 ∙ first.2,
       second.3 ∙ first.3,
     ) };
 
     ghost answered_then_stopped = { λ a b c s t u us vs fault first second. (
-      stopped_more a.devices fault s.state t.state u us vs _ _ _ first.1.moved.appends second.1.moved.appends first.0
-          (subst (λ stack. HasStopped stack fault t.state u vs (W.past b.join.writer.now).written (W.past c.join.writer.now).written) first.2 second.0),
+      stopped_more a.devices fault s.state t.state u us vs _ _ _ first.1.moved.appends second.1.moved.appends
+      first.0
+          (subst (λ stack. HasStopped stack fault t.state u vs (W.past b.join.writer.now).written
+          (W.past c.join.writer.now).written) first.2 second.0),
       written_to_more W.past a.join.writer b.join.writer c.join.writer (failed_writes fault) first.1 second.1,
       second.2 ∙ first.2,
       second.3 ∙ first.3,

@@ -31,8 +31,11 @@ fn word_of(fault: RequestFault) -> RequestWord
 
 /// The request of the line of this number, or the word by which the line is bad.
 fn request_of(line: &[u8], number: u64) -> Result<Request<'_>, RequestWord>
-    ensures good { IfOk result (λ request. (rest : Requests) → line_requests number line.now rest ≡ after_requests (numbered request ∷ []) rest) }
-    ensures bad { IfErr result (λ word. (rest : Requests) → line_requests number line.now rest ≡ is_bad number word) }
+    ensures good { IfOk result
+        (λ request. (rest : Requests) → line_requests number line.now rest
+        ≡ after_requests (numbered request ∷ []) rest) }
+    ensures bad { IfErr result
+        (λ word. (rest : Requests) → line_requests number line.now rest ≡ is_bad number word) }
     ensures few { OnOk result (number ≤ MOST_REQUESTS) }
 {
     if number > MOST_REQUESTS {
@@ -51,8 +54,11 @@ fn front_of<'a>(
     held: &'a [u8],
     number: u64,
 ) -> Option<(Request<'a>, usize)>
-    ensures good { IfSome result (λ front. (rest : Requests) → line_requests number (take front.1 held.now) rest ≡ after_requests (numbered front.0 ∷ []) rest) }
-    ensures line { IfSome result (λ front. line_parts held.now ≡ take front.1 held.now ∷ line_parts (drop (front.1 + 1) held.now)) }
+    ensures good { IfSome result
+        (λ front. (rest : Requests) → line_requests number (take front.1 held.now) rest
+        ≡ after_requests (numbered front.0 ∷ []) rest) }
+    ensures line { IfSome result
+        (λ front. line_parts held.now ≡ take front.1 held.now ∷ line_parts (drop (front.1 + 1) held.now)) }
     ensures within { IfSome result (λ front. front.1 < length held.now) }
     ensures short { IfSome result (λ front. front.1 ≤ MOST_LINE_BYTES) }
     ensures few { IfSome result (λ front. number ≤ MOST_REQUESTS) }
@@ -93,12 +99,17 @@ pub fn handle_requests<R: Input, H: Handler>(
     // Any read may fail or come to an end, so where neither was met none was asked for after the line.
     ensures met { IfOk result (λ ending. HasMet ending (R.past requests.old) (R.past requests.new)) }
     // All requests were answered, and they end by themselves.
-    ensures answered { IfOk result (λ ending. H.answered handler.old source.old (requests_of (delivery (R.past requests.old) (R.past requests.new))).all handler.new source.new) }
-    ensures ending { IfOk result (λ ending. (requests_of (delivery (R.past requests.old) (R.past requests.new))).ending ≡ Some ending) }
+    ensures answered { IfOk result
+        (λ ending. H.answered handler.old source.old
+        (requests_of (delivery (R.past requests.old) (R.past requests.new))).all handler.new source.new) }
+    ensures ending { IfOk result
+        (λ ending. (requests_of (delivery (R.past requests.old) (R.past requests.new))).ending
+        ≡ Some ending) }
     ensures no_write_fault { IfOk result (λ ending. ending ≢ Ending.WriteFault) }
     ensures ready { OnOk result (H.ready handler.new source.new) }
     // The handler stopped at one of them.
-    ensures stopped { IfErr result (λ fault. IsAmong (λ first. H.stopped handler.old source.old first fault handler.new source.new)
+    ensures stopped { IfErr result
+        (λ fault. IsAmong (λ first. H.stopped handler.old source.old first fault handler.new source.new)
         (requests_of (delivery (R.past requests.old) (R.past requests.new))).all) }
     ensures unread { OnErr result (MetNothing (R.past requests.old) (R.past requests.new)) }
 {

@@ -28,7 +28,8 @@ pub(crate) fn write_status<T: Taken, W: Output>(
 ) -> Result<(), OutFault>
     requires { mapper.old.stack ≡ stack.now }
     ensures same { mapper.new ≡ with_looked mapper.old mapper.new.looked }
-    ensures wrote { Wrote (W.past output.old) (W.past output.new) result (status_text stack.now mapper.old.state) }
+    ensures wrote { Wrote (W.past output.old) (W.past output.new) result
+        (status_text stack.now mapper.old.state) }
 {
     for device in stack.snapshots() {
         let usage = mapper.usage(*device);
@@ -45,7 +46,8 @@ fn write_line<W: Output>(
     output: &mut W,
 ) -> Result<(), OutFault>
     requires { device < length stack.now.devices }
-    ensures { Wrote (W.past output.old) (W.past output.new) result (name_at stack.now device ++ after_name (device_len stack.now device) usage) }
+    ensures { Wrote (W.past output.old) (W.past output.new) result
+        (name_at stack.now device ++ after_name (device_len stack.now device) usage) }
 {
     write_all(&mut *output, stack.name(device).as_bytes())?;
     write_all(output, after_name(stack.len(device), usage).as_slice())

@@ -31,7 +31,8 @@ fn write_columns<W: Output>(writer: &mut W, columns: &[Column]) -> Result<(), Ou
 
 /// Writes the columns of a target, which only a striped one has.
 fn write_columns_of<W: Output>(writer: &mut W, target: &Target) -> Result<(), OutFault>
-    ensures { Wrote (W.past writer.old) (W.past writer.new) result (flat_map column_text (columns_of target.now)) }
+    ensures { Wrote (W.past writer.old) (W.past writer.new) result
+        (flat_map column_text (columns_of target.now)) }
 {
     match target {
         Target::Striped { columns, .. } => write_columns(writer, columns.as_slice()),
@@ -48,7 +49,8 @@ fn write_body<W: Output>(
 ) -> Result<(), OutFault>
     requires name { length name.now ≤ 127 }
     requires mark { length mark.now ≤ 2 }
-    ensures { Wrote (W.past writer.old) (W.past writer.new) result (name.now ++ mark.now ++ body_text line.now) }
+    ensures { Wrote (W.past writer.old) (W.past writer.new) result
+        (name.now ++ mark.now ++ body_text line.now) }
 {
     writer.put(&LineHead::new(name, mark, line))?;
     write_columns_of(writer, &line.target)
@@ -96,7 +98,8 @@ fn write_every_line<W: Output>(writer: &mut W, devices: &[DeviceSpec]) -> Result
 
 /// Writes bodies, each after a comma.
 fn write_more_bodies<W: Output>(writer: &mut W, lines: &[Line]) -> Result<(), OutFault>
-    ensures { Wrote (W.past writer.old) (W.past writer.new) result (flat_map (λ line. 44 ∷ body_text line) lines.now) }
+    ensures { Wrote (W.past writer.old) (W.past writer.new) result
+        (flat_map (λ line. 44 ∷ body_text line) lines.now) }
 {
     for line in lines {
         write_body(&mut *writer, b"", b",", line)?;
@@ -106,7 +109,8 @@ fn write_more_bodies<W: Output>(writer: &mut W, lines: &[Line]) -> Result<(), Ou
 
 /// Writes bodies with commas between them.
 fn write_bodies<W: Output>(writer: &mut W, lines: &[Line]) -> Result<(), OutFault>
-    ensures { Wrote (W.past writer.old) (W.past writer.new) result (join_with_byte 44 (map body_text lines.now)) }
+    ensures { Wrote (W.past writer.old) (W.past writer.new) result
+        (join_with_byte 44 (map body_text lines.now)) }
 {
     match lines {
         [first, rest @ ..] => {
@@ -144,7 +148,8 @@ fn flag_text(ro: bool) -> &'static [u8]
 
 /// Writes devices, each after a semicolon.
 fn write_more_devices<W: Output>(writer: &mut W, devices: &[DeviceSpec]) -> Result<(), OutFault>
-    ensures { Wrote (W.past writer.old) (W.past writer.new) result (flat_map (λ device. 59 ∷ concise_device device) devices.now) }
+    ensures { Wrote (W.past writer.old) (W.past writer.new) result
+        (flat_map (λ device. 59 ∷ concise_device device) devices.now) }
 {
     for device in devices {
         write_device(&mut *writer, b";", device)?;
@@ -154,7 +159,8 @@ fn write_more_devices<W: Output>(writer: &mut W, devices: &[DeviceSpec]) -> Resu
 
 /// Writes devices with semicolons between them.
 fn write_devices<W: Output>(writer: &mut W, devices: &[DeviceSpec]) -> Result<(), OutFault>
-    ensures { Wrote (W.past writer.old) (W.past writer.new) result (join_with_byte 59 (map concise_device devices.now)) }
+    ensures { Wrote (W.past writer.old) (W.past writer.new) result
+        (join_with_byte 59 (map concise_device devices.now)) }
 {
     match devices {
         [first, rest @ ..] => {

@@ -40,8 +40,8 @@ use std::alloc::{AllocError, Global};
 /// disk, or no uuid, which has up to 128 of the bytes of a device's name. Or `Memory`, with number
 /// 0, if an allocation was refused. The time is linear in the text.
 pub fn parse_concise(alloc: Global, text: &[u8]) -> Result<Vec<DeviceSpec>, LoadFault>
-    // A text is accepted as the devices that it describes, and a refusal is the first fault of the first check
-    // that finds any.
+    // A text is accepted as the devices that it describes, and a refusal is the first fault of the
+    // first check that finds any.
     ensures { IsParsed Source (DescribesConcise text.now) (concise_checks text.now) result }
 {
     let text = without_newline(text);

@@ -74,7 +74,8 @@ impl<T: Read> Input for Counted<T> {
 }
 
 impl<T: Write> Output for Counted<T> {
-    ghost past = { λ c. record { written = c.written.bytes; waiting = c.waiting.bytes; faults = c.write_faults; flushes = c.flushes } };
+    ghost past = { λ c. record { written = c.written.bytes; waiting = c.waiting.bytes;
+        faults = c.write_faults; flushes = c.flushes } };
 
     /// One write of the writer. Each of its errors is a fault, an interrupted call too, and so is a 0
     /// for a slice that isn't empty.

@@ -41,7 +41,8 @@ pub(crate) fn is_device_name(bytes: &[u8]) -> bool
 pub(crate) fn leading_name(text: &[u8]) -> Option<usize>
     ensures len { IfSome result (λ len. len ≡ prefix_len is_device_byte text.now) }
     ensures name { IfSome result (λ len. IsTrue (is_device_name (take len text.now))) }
-    ensures other { IfNone result (is_device_name (take (prefix_len is_device_byte text.now) text.now) ≡ false) }
+    ensures other { IfNone result
+        (is_device_name (take (prefix_len is_device_byte text.now) text.now) ≡ false) }
 {
     let len = leading_bytes(text);
     if 1 <= len && len <= 127 {

@@ -36,7 +36,9 @@ impl Model for FrontReader {
 
     ghost view = { λ reader. tt };
 
-    ghost invariant = { λ reader. (reader.len < 128) × ((name : List ℕ) × (take (reader.len + 1) reader.text ≡ name ++ 32 ∷ []) × (is_device_name name ≡ true)) };
+    ghost invariant = { λ reader. (reader.len < 128)
+        × ((name : List ℕ) × (take (reader.len + 1) reader.text ≡ name ++ 32 ∷ [])
+        × (is_device_name name ≡ true)) };
 }
 
 impl FrontReader {

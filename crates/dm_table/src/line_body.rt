@@ -90,7 +90,8 @@ fn read_target(alloc: Global, target: &[&[u8]]) -> Result<Target, RowFault>
 }
 
 fn read_linear(alloc: Global, arguments: &[&[u8]]) -> Result<Target, RowFault>
-    ensures { (len : ℕ) → Reads (λ target. target) result (reading_of (has_target_names len) (linear_in (texts arguments.now))) }
+    ensures { (len : ℕ) → Reads (λ target. target) result
+        (reading_of (has_target_names len) (linear_in (texts arguments.now))) }
 {
     let [to, offset] = arguments else {
         return Err(RowFault::Field);
@@ -103,7 +104,8 @@ fn read_linear(alloc: Global, arguments: &[&[u8]]) -> Result<Target, RowFault>
 }
 
 fn read_striped(alloc: Global, arguments: &[&[u8]]) -> Result<Target, RowFault>
-    ensures { (len : ℕ) → Reads (λ target. target) result (reading_of (has_target_names len) (striped_in (texts arguments.now))) }
+    ensures { (len : ℕ) → Reads (λ target. target) result
+        (reading_of (has_target_names len) (striped_in (texts arguments.now))) }
 {
     let [count, chunk, columns @ ..] = arguments else {
         return Err(RowFault::Field);
@@ -120,7 +122,8 @@ fn read_striped(alloc: Global, arguments: &[&[u8]]) -> Result<Target, RowFault>
 
 /// A snapshot's origin and store, the kind of the store, and the sectors of a chunk.
 fn read_snapshot(alloc: Global, arguments: &[&[u8]]) -> Result<Target, RowFault>
-    ensures { (len : ℕ) → Reads (λ target. target) result (reading_of (has_target_names len) (snapshot_in (texts arguments.now))) }
+    ensures { (len : ℕ) → Reads (λ target. target) result
+        (reading_of (has_target_names len) (snapshot_in (texts arguments.now))) }
 {
     let [origin, store, flag, chunk] = arguments else {
         return Err(RowFault::Field);
@@ -157,7 +160,8 @@ fn kind_of(flag: &[u8]) -> Option<StoreKind>
 }
 
 fn read_origin(alloc: Global, arguments: &[&[u8]]) -> Result<Target, RowFault>
-    ensures { (len : ℕ) → Reads (λ target. target) result (reading_of (has_target_names len) (origin_in (texts arguments.now))) }
+    ensures { (len : ℕ) → Reads (λ target. target) result
+        (reading_of (has_target_names len) (origin_in (texts arguments.now))) }
 {
     let [origin] = arguments else {
         return Err(RowFault::Field);

@@ -33,8 +33,10 @@ const CHUNK: usize = 16384;
 /// The input isn't read again after an end or a fault. Cost: linear in the bytes read, which are
 /// at most 16,384 more than the limit.
 pub fn read_part<I: Input>(alloc: Global, part: Part, input: &mut I) -> Result<Vec<u8>, LoadFault>
-    ensures text { IfOk result (λ text. part_read part (delivery (I.past input.old) (I.past input.new)) ≡ TextOf text.items) }
-    ensures refused { IfErr result (λ fault. fault.kind ≢ Memory → part_read part (delivery (I.past input.old) (I.past input.new)) ≡ Refuses fault) }
+    ensures text { IfOk result
+        (λ text. part_read part (delivery (I.past input.old) (I.past input.new)) ≡ TextOf text.items) }
+    ensures refused { IfErr result (λ fault. fault.kind ≢ Memory
+        → part_read part (delivery (I.past input.old) (I.past input.new)) ≡ Refuses fault) }
     ensures memory { IfErr result (λ fault. fault.kind ≡ Memory → IsMemoryFault part fault) }
     ensures read_on { IsReadOn (I.past input.old) (I.past input.new) }
 {

@@ -77,7 +77,8 @@ pub(crate) trait FromRows: Drop {
         number: u64,
     ) -> Result<(), RowFault>
         ensures values { OnOk result (values.new.items ≡ with_row values.old.items number (texts row.now)) }
-        ensures fault { Reads (λ done. done) result (unless (row_fault is_row has_values has_names (texts row.now)) tt) };
+        ensures fault { Reads (λ done. done) result
+            (unless (row_fault is_row has_values has_names (texts row.now)) tt) };
 }
 
 /// The values of the lines of a text, or the first fault of the first check that finds any. One pass
@@ -87,7 +88,9 @@ pub(crate) fn read_lines<T: FromRows>(
     part: Part,
     text: &[u8],
 ) -> Result<Vec<T>, LoadFault>
-    ensures { Answers part (λ v. v.items) result (unless (first_fault (line_checks part T.row_of T.is_row T.has_values T.has_names text.now)) (with_rows T.with_row [] 1 (map T.row_of (lines_of text.now)))) }
+    ensures { Answers part (λ v. v.items) result
+        (unless (first_fault (line_checks part T.row_of T.is_row T.has_values T.has_names text.now))
+        (with_rows T.with_row [] 1 (map T.row_of (lines_of text.now)))) }
 {
     if let Err(fault) = check_text(alloc, part, b'\n', text) {
         return Err(fault);
@@ -101,9 +104,11 @@ pub(crate) fn read_lines<T: FromRows>(
 /// Reads each line where it stands, with one list of fields for all of them, and then what stands
 /// after the last newline.
 fn read_each<T: FromRows>(alloc: Global, part: Part, text: &[u8]) -> Result<Reading<T>, AllocError>
-    ensures values { IfOk result (λ reading. first_noted reading.faults ≡ None → reading.values.items ≡ with_rows T.with_row [] 1 (map T.row_of (lines_of text.now))) }
+    ensures values { IfOk result (λ reading. first_noted reading.faults ≡ None
+        → reading.values.items ≡ with_rows T.with_row [] 1 (map T.row_of (lines_of text.now))) }
     ensures faults { IfOk result (λ reading. reading.faults ≡ noted_rest part
-        (noted_rows part (row_fault T.is_row T.has_values T.has_names) no_faults 1 (map T.row_of (lines_of text.now))) (length (lines_of text.now) + 1) (rest_of text.now)) }
+        (noted_rows part (row_fault T.is_row T.has_values T.has_names) no_faults 1
+        (map T.row_of (lines_of text.now))) (length (lines_of text.now) + 1) (rest_of text.now)) }
 {
     let mut reading = Reading::new(alloc);
     let mut row = Vec::new(alloc);

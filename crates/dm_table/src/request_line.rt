@@ -76,7 +76,8 @@ fn first_name<'a>(text: &'a [u8]) -> Option<(&'a str, &'a [u8])>
     ensures cut { IfSome result (λ cut. fields text.now ≡ cut.0.now ∷ fields cut.1.now) }
     ensures text { IfSome result (λ cut. text.now ≡ cut.0.now ++ 32 ∷ cut.1.now) }
     ensures named { IfSome result (λ cut. is_device_name cut.0.now ≡ true) }
-    ensures other { IfNone result ((name next : List ℕ) (more : List (List ℕ)) → fields text.now ≡ name ∷ next ∷ more → is_device_name name ≢ true) }
+    ensures other { IfNone result ((name next : List ℕ) (more : List (List ℕ))
+        → fields text.now ≡ name ∷ next ∷ more → is_device_name name ≢ true) }
 {
     let len = leading_name(text)?;
     let rest = after_space(text, len)?;
@@ -86,9 +87,12 @@ fn first_name<'a>(text: &'a [u8]) -> Option<(&'a str, &'a [u8])>
 /// The number in the first field of a text, and what follows its space.
 #[inline(always)]
 fn first_number<'a>(text: &'a [u8]) -> Option<(u64, &'a [u8])>
-    ensures cut { IfSome result (λ cut. (field : List ℕ) × (fields text.now ≡ field ∷ fields cut.1.now) × (number_of field ≡ Some cut.0)) }
-    ensures text { IfSome result (λ cut. (field : List ℕ) × (text.now ≡ field ++ 32 ∷ cut.1.now) × (number_of field ≡ Some cut.0)) }
-    ensures other { IfNone result ((field next : List ℕ) (more : List (List ℕ)) (n : ℕ) → fields text.now ≡ field ∷ next ∷ more → number_of field ≢ Some n) }
+    ensures cut { IfSome result (λ cut. (field : List ℕ) × (fields text.now ≡ field ∷ fields cut.1.now)
+        × (number_of field ≡ Some cut.0)) }
+    ensures text { IfSome result (λ cut. (field : List ℕ) × (text.now ≡ field ++ 32 ∷ cut.1.now)
+        × (number_of field ≡ Some cut.0)) }
+    ensures other { IfNone result ((field next : List ℕ) (more : List (List ℕ)) (n : ℕ)
+        → fields text.now ≡ field ∷ next ∷ more → number_of field ≢ Some n) }
 {
     let (number, len) = number::leading(text)?;
     let rest = after_space(text, len)?;
@@ -98,7 +102,8 @@ fn first_number<'a>(text: &'a [u8]) -> Option<(u64, &'a [u8])>
 /// The operation and the device that a line begins with, and what follows the device's space.
 #[inline(always)]
 fn head<'a>(line: &'a [u8]) -> Option<(Op, &'a str, &'a [u8])>
-    ensures cut { IfSome result (λ cut. fields line.now ≡ (op_text cut.0 ∷ []) ∷ cut.1.now ∷ fields cut.2.now) }
+    ensures cut { IfSome result
+        (λ cut. fields line.now ≡ (op_text cut.0 ∷ []) ∷ cut.1.now ∷ fields cut.2.now) }
     ensures text { IfSome result (λ cut. line.now ≡ op_text cut.0 ∷ 32 ∷ (cut.1.now ++ 32 ∷ cut.2.now)) }
     ensures named { IfSome result (λ cut. is_device_name cut.1.now ≡ true) }
     ensures other { IfNone result (has_form (fields line.now) ≡ false) }
@@ -150,8 +155,10 @@ pub fn parse_request<'a>(line: &'a [u8], number: u64) -> Result<Request<'a>, Req
     ensures numbered { IfOk result (λ request. request.number ≡ number) }
     ensures read { IfOk result (λ request. request_reading line.now ≡ Ok (values_of request)) }
     // What the line says is accepted, and it says one thing at most.
-    ensures only { (values : RequestValues) → DescribesRequest line.now values → IsOkAnd result (λ request. values_of request ≡ values) }
-    ensures unique { (a b : RequestValues) → DescribesRequest line.now a → DescribesRequest line.now b → a ≡ b }
+    ensures only { (values : RequestValues) → DescribesRequest line.now values
+        → IsOkAnd result (λ request. values_of request ≡ values) }
+    ensures unique { (a b : RequestValues) → DescribesRequest line.now a → DescribesRequest line.now b
+        → a ≡ b }
     // Else it is the first fault that applies.
     ensures fault { IfErr result (λ fault. request_reading line.now ≡ Err fault) }
     // The figure of the limit.
@@ -179,7 +186,8 @@ pub fn parse_request<'a>(line: &'a [u8], number: u64) -> Result<Request<'a>, Req
 #[inline(always)]
 fn front_number<'a>(text: &'a [u8]) -> Option<(u64, &'a [u8])>
     requires { WINDOW ≤ length text.now }
-    ensures text { IfSome result (λ cut. (field : List ℕ) × (text.now ≡ field ++ 32 ∷ cut.1.now) × (number_of field ≡ Some cut.0)) }
+    ensures text { IfSome result (λ cut. (field : List ℕ) × (text.now ≡ field ++ 32 ∷ cut.1.now)
+        × (number_of field ≡ Some cut.0)) }
     ensures short { IfSome result (λ cut. length text.now ≤ length cut.1.now + WINDOW) }
 {
     let (number, len) = number::leading_within(text)?;
@@ -192,7 +200,8 @@ fn front_number<'a>(text: &'a [u8]) -> Option<(u64, &'a [u8])>
 fn last_number(text: &[u8]) -> Option<(u64, usize)>
     requires { WINDOW ≤ length text.now }
     ensures within { IfSome result (λ read. read.1 < length text.now) }
-    ensures newline { IfSome result (λ read. text.now ≡ take read.1 text.now ++ 10 ∷ drop (read.1 + 1) text.now) }
+    ensures newline { IfSome result
+        (λ read. text.now ≡ take read.1 text.now ++ 10 ∷ drop (read.1 + 1) text.now) }
     ensures number { IfSome result (λ read. number_of (take read.1 text.now) ≡ Some read.0) }
 {
     let (number, len) = number::leading_within(text)?;

@@ -125,7 +125,8 @@ impl Model for ShortOut {
     ghost Value = { Intake };
 
     ghost view = { λ s. record {
-      past = record { written = s.taken.items; waiting = s.waiting.bytes; faults = s.faults; flushes = s.flushes };
+      past = record { written = s.taken.items; waiting = s.waiting.bytes; faults = s.faults;
+      flushes = s.flushes };
       room = s.room;
       step = s.step;
       flush_fails = s.flush_fails;

@@ -33,8 +33,8 @@ use std::alloc::{AllocError, Global};
 /// number that isn't one, an unknown target type or wrong arguments; `Name`, no name of a device or a
 /// disk. Or `Memory`, with number 0, if an allocation was refused. The time is linear in the text.
 pub fn parse_table(alloc: Global, text: &[u8]) -> Result<Vec<DeviceSpec>, LoadFault>
-    // A text is accepted as the devices that it describes, and a refusal is the first fault of the first check
-    // that finds any.
+    // A text is accepted as the devices that it describes, and a refusal is the first fault of the
+    // first check that finds any.
     ensures { IsParsed Source (DescribesTable text.now) (table_checks text.now) result }
 {
     read_lines(alloc, Part::Source, text)

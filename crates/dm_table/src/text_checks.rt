@@ -16,7 +16,8 @@ use std::alloc::Global;
 /// Refuses a text with a byte that is no text. The fault has the number of the piece with that byte; the
 /// text is cut at each byte `at`. One pass, and some more over a text that is refused.
 pub(crate) fn check_text(alloc: Global, part: Part, at: u8, text: &[u8]) -> Result<(), LoadFault>
-    ensures { Answers part (λ done. done) result (unless (first_or (not_text part (parts_at at text.now)) None) tt) }
+    ensures { Answers part (λ done. done) result
+        (unless (first_or (not_text part (parts_at at text.now)) None) tt) }
 {
     // Most texts have no such byte, and the whole is asked faster than piece after piece.
     if is_printable(text) {

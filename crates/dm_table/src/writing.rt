@@ -12,7 +12,8 @@ use crate::device_io::{OutFault, Output};
 /// tried again. No write is asked for where there are no bytes. Takes no memory.
 pub fn write_all<W: Output>(writer: &mut W, bytes: &[u8]) -> Result<(), OutFault>
     ensures wrote { Wrote (W.past writer.old) (W.past writer.new) result bytes.now }
-    ensures err { OnErr result (IsBeginning bytes.now (written_since (W.past writer.old) (W.past writer.new))) }
+    ensures err { OnErr result
+        (IsBeginning bytes.now (written_since (W.past writer.old) (W.past writer.new))) }
 {
     let mut rest = bytes;
     while !rest.is_empty() {
@@ -27,7 +28,8 @@ pub fn write_all<W: Output>(writer: &mut W, bytes: &[u8]) -> Result<(), OutFault
 /// # Errors
 ///
 /// `OutFault` if a write failed before, or if the flush fails.
-#[tactic(auto, using(crate::proofs::WriteLemmas::closed_unflushed, crate::proofs::WriteLemmas::closed_flushed))]
+#[tactic(auto, using(crate::proofs::WriteLemmas::closed_unflushed,
+crate::proofs::WriteLemmas::closed_flushed))]
 pub fn close<W: Output>(written: Result<(), OutFault>, output: &mut W) -> Result<(), OutFault>
     // Wherever the text began.
     ensures closed { (start : OutputPast) (text : List ℕ) → Wrote start (W.past output.old) written text

@@ -53,9 +53,9 @@ ran_whole old new format flag source disks requests description start left endin
 -- where the output failed, it took a beginning of what there was to write
 pub ran_failed : (old new : OutputPast) (flag : Bool) (requests : Delivery) (description : Description) (start left : State) (ending : Ending) (status : ℕ) → start ≡ start_state description
     → HasRun old new (run_outcome description flag start requests) left ending → status ≡ ending_status ending → status ≡ STATUS_WRITE_FAULT
-    → FailedOutput (outcome_of description flag requests).output (written_since old new) old.flushes new.flushes
+    → FailedOutput (outcome_of description flag requests).output old new
 ran_failed old new flag requests description start left ending status starts ran is five =
-    subst (λ (state : State). FailedOutput (run_outcome description flag state requests).output (written_since old new) old.flushes new.flushes) starts (ran.output.failed (five_is ending (sym is ∙ five)))
+    subst (λ (state : State). FailedOutput (run_outcome description flag state requests).output old new) starts (ran.output.failed (five_is ending (sym is ∙ five)))
 
 -- what it wrote and flushed
 pub ran_output : (ending : Ending) (status : ℕ) (outcome : Outcome) (left : State) (old new : OutputPast) → status ≡ ending_status ending → HasRun old new outcome left ending

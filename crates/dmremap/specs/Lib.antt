@@ -1,6 +1,7 @@
 pub mod Exit
 pub mod Inputs
 pub mod Job
+pub mod Limits
 pub mod Load
 pub mod OtherWhole
 pub mod PartFile

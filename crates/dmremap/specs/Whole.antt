@@ -1,9 +1,11 @@
 -- The whole run: what it writes, its message and its exit status, by what was delivered.
 use Rattle.std.specs.Prelude.{◌≡◌, ℕ, Bool, List, [], Option, None, Some}
-use Rattle.dm_table.specs.DeviceIo.{Delivery}
+use Rattle.dm_table.specs.DeviceIo.{Delivery, OutputPast, written_since}
+use Rattle.dm_table.specs.Progress.{FailedOutput}
 use Rattle.dm_stream.specs.declared.ending.Ending.{Ending}
 use Rattle.dm_map.specs.State.{start_state}
 use Rattle.dm_stack.specs.Description.{Description}
+use Rattle.dm_stream.specs.Messages.{IsTold}
 use Rattle.dm_stream.specs.Outcome.{Outcome, run_outcome}
 use Rattle.dmremap.specs.declared.exit.Exit.{Exit}
 use Rattle.dmremap.specs.declared.exit.Exit.TheVariants.{Ended, Refused}
@@ -42,3 +44,18 @@ pub record GiveWhole (format : Format) (flag : Bool) (source disks requests : De
   pub load : Load
   pub loaded : PartsGive format source disks load
   pub is : whole_of load flag requests ≡ Some whole
+
+-- ---- by what became of the streams
+
+-- the deliveries gave this run: it wrote its output, told its message, and exits with this status
+pub record IsWholeRun (format : Format) (flag : Bool) (source disks requests : Delivery) (status : ℕ) (output_old output_new messages_old messages_new : OutputPast) : Type 0 where
+  pub message : List ℕ
+  pub gives : GiveWhole format flag source disks requests (record { output = written_since output_old output_new; message = message; status = status })
+  pub told : IsTold message messages_old messages_new
+
+-- the output failed: a beginning was written of what the requests give that were delivered. Something was left to write where no flush was asked for,
+-- and nothing where the flush failed.
+pub record IsFailedRun (format : Format) (flag : Bool) (source disks requests : Delivery) (old new : OutputPast) : Type 0 where
+  pub description : Description
+  pub loaded : PartsGive format source disks (SoundAs description)
+  pub output : FailedOutput (outcome_of description flag requests).output old new

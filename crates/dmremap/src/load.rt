@@ -54,7 +54,8 @@ fn load_tables<S: Input, D: Input>(
     disks: &mut Option<D>,
 ) -> Result<Stack, LoadFault>
     requires { IsSome disks.old }
-    ensures gives { Loads (TextPartsGive form (part_read Source (delivery (S.past source.old) (S.past source.new)))
+    ensures gives { Loads
+        (TextPartsGive form (part_read Source (delivery (S.past source.old) (S.past source.new)))
         (part_read Disks (delivery_if D.past disks.old disks.new))) result }
     ensures source { IsReadOn (S.past source.old) (S.past source.new) }
     ensures disks { IsReadOnIf D.past disks.old disks.new }
@@ -67,8 +68,10 @@ fn load_tables<S: Input, D: Input>(
 /// The text of a disk list that is there.
 fn read_disks<D: Input>(alloc: Global, disks: &mut Option<D>) -> Result<Vec<u8>, LoadFault>
     requires { IsSome disks.old }
-    ensures text { IfOk result (λ text. part_read Disks (delivery_if D.past disks.old disks.new) ≡ TextOf text.items) }
-    ensures refused { IfErr result (λ fault. fault.kind ≢ Memory → part_read Disks (delivery_if D.past disks.old disks.new) ≡ Refuses fault) }
+    ensures text { IfOk result
+        (λ text. part_read Disks (delivery_if D.past disks.old disks.new) ≡ TextOf text.items) }
+    ensures refused { IfErr result (λ fault. fault.kind ≢ Memory
+        → part_read Disks (delivery_if D.past disks.old disks.new) ≡ Refuses fault) }
     ensures read_on { IsReadOnIf D.past disks.old disks.new }
 {
     match disks {
@@ -97,8 +100,11 @@ fn parse_texts(
     source: &[u8],
     list: &[u8],
 ) -> Result<(Vec<DeviceSpec>, Vec<Disk>), LoadFault>
-    ensures described { IfOk result (λ said. Describes form source.now list.now (record { devices = said.0.items; disks = said.1.items })) }
-    ensures refused { IfErr result (λ fault. fault.kind ≢ Memory → first_fault (device_checks form source.now ++ disk_checks list.now) ≡ Some fault) }
+    ensures described { IfOk result
+        (λ said. Describes form source.now list.now
+        (record { devices = said.0.items; disks = said.1.items })) }
+    ensures refused { IfErr result (λ fault. fault.kind ≢ Memory
+        → first_fault (device_checks form source.now ++ disk_checks list.now) ≡ Some fault) }
 {
     let devices = parse_devices(alloc, form, source)?;
     let disks = parse_disks(alloc, list)?;
@@ -109,7 +115,8 @@ fn parse_texts(
 fn parse_devices(alloc: Global, form: TableForm, text: &[u8]) -> Result<Vec<DeviceSpec>, LoadFault>
     ensures described { IfOk result (λ devices. DescribesDevices form text.now devices.items) }
     ensures sound { OnOk result (first_fault (device_checks form text.now) ≡ None) }
-    ensures refused { IfErr result (λ fault. fault.kind ≢ Memory → first_fault (device_checks form text.now) ≡ Some fault) }
+    ensures refused { IfErr result (λ fault. fault.kind ≢ Memory
+        → first_fault (device_checks form text.now) ≡ Some fault) }
 {
     match form {
         TableForm::Table => parse_table(alloc, text),
@@ -119,7 +126,8 @@ fn parse_devices(alloc: Global, form: TableForm, text: &[u8]) -> Result<Vec<Devi
 
 /// What a text of LVM2 metadata gives, which describes its disks too.
 fn load_metadata<S: Input>(alloc: Global, source: &mut S) -> Result<Stack, LoadFault>
-    ensures gives { Loads (MetadataPartGives (part_read Source (delivery (S.past source.old) (S.past source.new)))) result }
+    ensures gives { Loads
+        (MetadataPartGives (part_read Source (delivery (S.past source.old) (S.past source.new)))) result }
     ensures source { IsReadOn (S.past source.old) (S.past source.new) }
 {
     let source = read_part(alloc, Part::Source, source)?;

@@ -4,30 +4,23 @@
 //! `map_whole` is the promise that the program makes. `main` hands in the real files and streams,
 //! tests hand in memory.
 
-ghost use Rattle.std.specs.Prelude.{◌≡◌, ◌≢◌, ◌+◌, ◌^◌, [], Bool, List, ℕ, is_some};
-ghost use Rattle.dm_table.specs.DeviceIo.{Delivery, delivery, written_since};
-ghost use Rattle.dm_table.specs.declared.part_input.TheConstants.{MOST_PART_BYTES};
-ghost use Rattle.dm_table.specs.declared.request.Op.TheVariants as Op;
+ghost use Rattle.std.specs.Prelude.{◌≡◌, ◌≢◌, Bool, List, is_some};
+ghost use Rattle.dm_table.specs.DeviceIo.{Delivery, delivery};
 ghost use Rattle.dm_table.specs.LoadMessage.{memory_message};
-ghost use Rattle.dm_table.specs.Progress.{IsReadOn, FailedOutput};
+ghost use Rattle.dm_table.specs.Progress.{IsReadOn};
 ghost use Rattle.dm_stack.specs.Description.{Description};
-ghost use Rattle.dm_stack.specs.declared.graph.TheConstants.{MOST_DEPTH};
-ghost use Rattle.dm_stack.specs.declared.limits.TheConstants.{MOST_CHUNK, MOST_DEVICES, MOST_DISKS, MOST_LENGTH, MOST_LINES, MOST_STRIPES};
 ghost use Rattle.dm_stack.specs.Soundness.{IsSound};
-ghost use Rattle.dm_map.specs.Homes.{AreHomesFreeOfLevels};
-ghost use Rattle.dm_map.specs.Mapping.{IsFreeOfLevels};
+ghost use Rattle.dm_map.specs.Levels.{AreLevelsEnough};
 ghost use Rattle.dm_map.specs.Units.{BlockUnit};
-ghost use Rattle.dm_stream.specs.declared.lines.TheConstants.{MOST_LINE_BYTES};
-ghost use Rattle.dm_stream.specs.declared.requests.TheConstants.{MOST_REQUESTS};
 ghost use Rattle.dm_stream.specs.Messages.{IsTold};
 ghost use Rattle.dm_stream.specs.Pieces.{AreFewest, fewest};
 ghost use Rattle.dmremap.specs.declared.job.Format.{Format};
 ghost use Rattle.dmremap.specs.declared.status.TheConstants.{STATUS_MEMORY, STATUS_WRITE_FAULT};
 ghost use Rattle.dmremap.specs.Inputs.{IsReadOnIf, delivery_if};
 ghost use Rattle.dmremap.specs.Job.{has_disk_list};
-ghost use Rattle.dmremap.specs.Load.{PartsGive, SoundAs};
+ghost use Rattle.dmremap.specs.Limits.{AreLimits};
 ghost use Rattle.dmremap.specs.Streams.{MessagesTold, OutputWritten, RequestsRead};
-ghost use Rattle.dmremap.specs.Whole.{GiveWhole, Whole, outcome_of};
+ghost use Rattle.dmremap.specs.Whole.{GiveWhole, IsFailedRun, IsWholeRun, Whole};
 
 #[cfg(test)]
 mod tests;
@@ -72,35 +65,27 @@ pub fn map_whole<S: Input, D: Input, Q: Input, W: Output, M: Output>(
     requires disks { is_some disks.old ≡ has_disk_list format }
 
     // What the deliveries give is one run.
-    ensures one { (f : Format) (flag : Bool) (s d q : Delivery) (a b : Whole) → GiveWhole f flag s d q a → GiveWhole f flag s d q b → a ≡ b }
+    ensures one { (f : Format) (flag : Bool) (s d q : Delivery) (a b : Whole)
+        → GiveWhole f flag s d q a → GiveWhole f flag s d q b → a ≡ b }
     // The pieces of an answer are the fewest that its units can be made of.
     ensures fewest { (units : List BlockUnit) → AreFewest units (fewest units) }
-
-    // The number of levels of devices that a sector is followed through never truncates a lookup,
-    // be it of a read, of a write or of where a store keeps a sector.
-    ensures levels { (description : Description) → IsSound description
-        → IsFreeOfLevels description Op.Read × IsFreeOfLevels description Op.Write × AreHomesFreeOfLevels description }
+    // The number of levels of devices that a sector is followed through never truncates a lookup.
+    ensures levels { (stack : Description) → IsSound stack → AreLevelsEnough stack }
+    ensures limits { AreLimits }
 
     // Unless the output failed or memory ran out, the deliveries determine everything.
-    ensures whole { result ≢ STATUS_WRITE_FAULT → result ≢ STATUS_MEMORY → (message : List ℕ) × GiveWhole format status
-        (delivery (S.past source.old) (S.past source.new))
-        (delivery_if D.past disks.old disks.new)
-        (delivery (Q.past requests.old) (Q.past requests.new))
-        (record { output = written_since (W.past output.old) (W.past output.new); message = message; status = result })
-        × IsTold message (M.past messages.old) (M.past messages.new) }
-
-    // The output failed: a beginning of it was written, that of the bytes which the requests delivered. Something was left to
-    // write where no flush was asked, and nothing where the flush failed. So an empty output asks nothing of it but a flush.
-    ensures beginning { result ≡ STATUS_WRITE_FAULT → (description : Description) × PartsGive format
-        (delivery (S.past source.old) (S.past source.new))
-        (delivery_if D.past disks.old disks.new) (SoundAs description)
-        × FailedOutput (outcome_of description status (delivery (Q.past requests.old) (Q.past requests.new))).output (W.past output.old) (W.past output.new) }
-
-    // Memory ran out: nothing was written or flushed, and requests were not asked for.
-    ensures memory { result ≡ STATUS_MEMORY → (written_since (W.past output.old) (W.past output.new) ≡ [])
+    ensures whole { result ≢ STATUS_WRITE_FAULT → result ≢ STATUS_MEMORY → IsWholeRun format status
+        (delivery (S.past source.old) (S.past source.new)) (delivery_if D.past disks.old disks.new)
+        (delivery (Q.past requests.old) (Q.past requests.new)) result
+        (W.past output.old) (W.past output.new) (M.past messages.old) (M.past messages.new) }
+    // Where the output failed, they determine what a beginning was written of.
+    ensures beginning { result ≡ STATUS_WRITE_FAULT → IsFailedRun format status
+        (delivery (S.past source.old) (S.past source.new)) (delivery_if D.past disks.old disks.new)
+        (delivery (Q.past requests.old) (Q.past requests.new)) (W.past output.old) (W.past output.new) }
+    // Where memory ran out, nothing was asked of the output or of the requests.
+    ensures memory { result ≡ STATUS_MEMORY → (W.past output.new ≡ W.past output.old)
+        × (Q.past requests.new ≡ Q.past requests.old)
         × IsTold memory_message (M.past messages.old) (M.past messages.new) }
-    ensures unloaded { result ≡ STATUS_MEMORY → (W.past output.new).flushes ≡ (W.past output.old).flushes }
-    ensures unasked_memory { result ≡ STATUS_MEMORY → Q.past requests.new ≡ Q.past requests.old }
 
     // Each input is only read on, and nothing is asked of it after an end or a fault.
     ensures source_read_on { IsReadOn (S.past source.old) (S.past source.new) }
@@ -109,11 +94,6 @@ pub fn map_whole<S: Input, D: Input, Q: Input, W: Output, M: Output>(
     ensures requests { RequestsRead result (Q.past requests.old) (Q.past requests.new) }
     ensures output { OutputWritten result (W.past output.old) (W.past output.new) }
     ensures messages { MessagesTold result (M.past messages.old) (M.past messages.new) }
-
-    // The figures of the limits.
-    ensures limits { (MOST_PART_BYTES ≡ 1048576) × (MOST_LINE_BYTES ≡ 4096) × (MOST_REQUESTS ≡ 1000000000000)
-        × (MOST_DEVICES ≡ 1024) × (MOST_DISKS ≡ 1024) × (MOST_LINES ≡ 65536) × (MOST_DEPTH ≡ 32) × (MOST_LENGTH ≡ 2 ^ 50)
-        × (MOST_STRIPES ≡ 128) × (MOST_CHUNK + 1 ≡ 2 ^ 32) }
 {
     let stack = match load(alloc, format, source, disks) {
         Ok(stack) => stack,

@@ -10,7 +10,7 @@ ghost use Rattle.dm_table.specs.DeviceIo.{Delivery, delivery, written_since};
 ghost use Rattle.dm_table.specs.Progress.{HasWritten};
 ghost use Rattle.dmremap.specs.declared.exit.Exit.{Exit};
 ghost use Rattle.dmremap.specs.Exit.{IsPlain, failed_writes, is_refused};
-ghost use Rattle.dmremap.specs.Inputs.{IsReadOnIf, IsUnchanged, delivery_if};
+ghost use Rattle.dmremap.specs.Inputs.{IsReadOnIf, delivery_if};
 ghost use Rattle.dmremap.specs.Job.{TaskWords, has_disk_list, words_of};
 ghost use Rattle.dmremap.specs.Load.{Loads, PartsGive};
 ghost use Rattle.dmremap.specs.OtherWhole.{ReplaysFiles, TaskDoes, has_list, has_requests, has_source, is_other};
@@ -64,9 +64,10 @@ pub fn other_whole<S: Input, D: Input, Q: Input, W: Output, M: Output>(
     requires source { is_some source.old ≡ has_source (words_of job.now.task) }
     requires disks { is_some disks.old ≡ has_list (words_of job.now.task) }
 
-    // It exits as the words and the deliveries say, and so goes what it wrote, its status and its message. The output failed at a
-    // write or at the flush: then what was written is a beginning of what there was to write, or all of it. Where the command was
-    // refused, also since there was no memory to begin, nothing was written or flushed, and requests were not asked for.
+    // It exits as the words and the deliveries say, and so goes what it wrote, its status and its
+    // message. The output failed at a write or at the flush: then what was written is a beginning of
+    // what there was to write, or all of it. Where the command was refused, also since there was no
+    // memory to begin, nothing was written or flushed, and requests were not asked for.
     ensures exits { (exit : Exit) × HasExited (TaskDoes (words_of job.now.task)
         (delivery_if S.past source.old source.new)
         (delivery_if D.past disks.old disks.new)
@@ -74,7 +75,8 @@ pub fn other_whole<S: Input, D: Input, Q: Input, W: Output, M: Output>(
         × Exits exit result (M.past messages.old) (M.past messages.new)
         × (is_refused exit ≡ true → Q.past requests.new ≡ Q.past requests.old) }
 
-    // Unless the output failed or memory ran out, the words and the deliveries determine the exit and what is written.
+    // Unless the output failed or memory ran out, the words and the deliveries determine the exit and
+    // what is written.
     ensures one { (asked : TaskWords) (s d q : Delivery) (a b : Exit) (x y : List ℕ) → IsPlain a → IsPlain b
         → TaskDoes asked s d q x a → TaskDoes asked s d q y b → (a ≡ b) × (x ≡ y) }
 

@@ -64,7 +64,9 @@ pub(crate) fn print_name<W: Output>(
     layer: Option<&str>,
     output: &mut W,
 ) -> Exit
-    ensures printed { IsPrinted (λ said. name_said (built (record { vg = vg.now; lv = lv.now; layer = option_map (λ l. l.now) layer.entry })) ≡ said)
+    ensures printed { IsPrinted
+        (λ said. name_said (built
+        (record { vg = vg.now; lv = lv.now; layer = option_map (λ l. l.now) layer.entry })) ≡ said)
         (written_since (W.past output.old) (W.past output.new)) result }
     ensures writes { HasWritten (W.past output.old) (W.past output.new) (failed_writes result) }
 {
@@ -97,7 +99,8 @@ fn print_text<W: Output>(text: &[u8], output: &mut W) -> Exit
 
 /// Prints a line.
 fn print_line<W: Output>(text: &[u8], output: &mut W) -> Exit
-    ensures printed { IsTextPrinted (line text.now) (written_since (W.past output.old) (W.past output.new)) result }
+    ensures printed { IsTextPrinted (line text.now) (written_since (W.past output.old) (W.past output.new))
+        result }
     ensures writes { HasWritten (W.past output.old) (W.past output.new) (failed_writes result) }
 {
     Exit::after(write_line(text, output))

@@ -39,12 +39,14 @@ impl<'s, W: Output> Handler for RequestPlayer<'_, 's, W> {
     ghost ready = { λ h replay. (replay.stack ≡ h.stack.now) × (replay.stopped ≡ false) };
 
     ghost answered = { λ old before requests new after.
-        HasPlayed before.stack before.asked after.asked requests (W.past old.output.now).written (W.past new.output.now).written
+        HasPlayed before.stack before.asked after.asked requests (W.past old.output.now).written
+        (W.past new.output.now).written
         × HasWrittenTo W.past old.output new.output 0
         × (after.stack ≡ before.stack) };
 
     ghost stopped = { λ old before requests exit new after.
-        HasStopped before.stack exit before.asked requests (written_since (W.past old.output.now) (W.past new.output.now))
+        HasStopped before.stack exit before.asked requests
+        (written_since (W.past old.output.now) (W.past new.output.now))
         × HasWrittenTo W.past old.output new.output (failed_writes exit) };
 
     ghost answered_none = { λ h replay. (
@@ -54,15 +56,19 @@ impl<'s, W: Output> Handler for RequestPlayer<'_, 's, W> {
     ) };
 
     ghost answered_then_answered = { λ a b c s t u us vs first second. (
-      played_more s.stack s.asked t.asked u.asked us vs _ _ _ first.1.moved.appends second.1.moved.appends first.0
-          (subst (λ stack. HasPlayed stack t.asked u.asked vs (W.past b.output.now).written (W.past c.output.now).written) first.2 second.0),
+      played_more s.stack s.asked t.asked u.asked us vs _ _ _ first.1.moved.appends second.1.moved.appends
+      first.0
+          (subst (λ stack. HasPlayed stack t.asked u.asked vs (W.past b.output.now).written
+          (W.past c.output.now).written) first.2 second.0),
       written_to_more W.past a.output b.output c.output 0 first.1 second.1,
       second.2 ∙ first.2,
     ) };
 
     ghost answered_then_stopped = { λ a b c s t u us vs exit first second. (
-      stopped_more s.stack exit s.asked t.asked us vs _ _ _ first.1.moved.appends second.1.moved.appends first.0
-          (subst (λ stack. HasStopped stack exit t.asked vs (written_since (W.past b.output.now) (W.past c.output.now))) first.2 second.0),
+      stopped_more s.stack exit s.asked t.asked us vs _ _ _ first.1.moved.appends second.1.moved.appends
+      first.0
+          (subst (λ stack. HasStopped stack exit t.asked vs
+          (written_since (W.past b.output.now) (W.past c.output.now))) first.2 second.0),
       written_to_more W.past a.output b.output c.output (failed_writes exit) first.1 second.1,
     ) };
 
@@ -97,7 +103,8 @@ fn play_lines<'s, Q: Input, W: Output>(
     ensures reads { IsReadOn (Q.past requests.old) (Q.past requests.new) }
     ensures met { HasMetBy result (Q.past requests.old) (Q.past requests.new) }
     ensures writes { HasWrittenTo W.past player.old.output player.new.output (failed_writes result) }
-    ensures played { IsPlayed player.old.stack.now (requests_of (delivery (Q.past requests.old) (Q.past requests.new)))
+    ensures played { IsPlayed player.old.stack.now
+        (requests_of (delivery (Q.past requests.old) (Q.past requests.new)))
         (written_since (W.past player.old.output.now) (W.past player.new.output.now)) result }
 {
     match handle_requests(requests, player, replay) {

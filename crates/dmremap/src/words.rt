@@ -112,7 +112,8 @@ fn split_in<'a>(given: &ArgMatches<'a>) -> Option<Task<'a>>
 // The job of the command that clap found, unless the flag before it does not go with it.
 fn job_in<'a>(matches: &ArgMatches<'a>) -> Option<Job<'a>>
     ensures { option_map job_words result
-        ≡ option_and_then (λ met. job_of (has_status (rows_of (found_of matches.now))) met.0 met.1) (subcommand_rows_of matches.now) }
+        ≡ option_and_then (λ met. job_of (has_status (rows_of (found_of matches.now))) met.0 met.1)
+        (subcommand_rows_of matches.now) }
 {
     let (command, given) = matches.subcommand()?;
     job_of(has_status(matches), command, given)
@@ -286,7 +287,9 @@ fn three_command<'a>(
     third: Arg<'a>,
 ) -> Result<Command<'a>, AllocError>
     requires local { (first.global ≡ false) × (second.global ≡ false) × (third.global ≡ false) }
-    ensures { IfOk result (IsCommand (three_app name.entry.now (rule_of first.entry) (rule_of second.entry) (rule_of third.entry))) }
+    ensures { IfOk result
+        (IsCommand (three_app name.entry.now (rule_of first.entry) (rule_of second.entry)
+        (rule_of third.entry))) }
 {
     Ok(
         Command::new(alloc, name)

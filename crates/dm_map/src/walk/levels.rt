@@ -4,9 +4,7 @@
 //! contains. In a stack that passed its checks that number plays no part. A change of the mapping
 //! has to keep this true.
 
-ghost use Rattle.dm_table.specs.declared.request.Op.TheVariants.{Read, Write};
-ghost use Rattle.dm_map.specs.walk.Homes.{AreHomesFreeOfLevels};
-ghost use Rattle.dm_map.specs.walk.Mapping.{IsFreeOfLevels};
+ghost use Rattle.dm_map.specs.walk.Levels.{AreLevelsEnough};
 
 use dm_stack::Stack;
 
@@ -15,9 +13,7 @@ use dm_stack::Stack;
 /// nothing and returns nothing: its contract is the law.
 #[tactic(auto, using(crate::proofs::walk::LevelLemmas::reads_free, crate::proofs::walk::LevelLemmas::writes_free, crate::proofs::walk::LevelLemmas::homes_free))]
 pub fn levels_are_enough(stack: &Stack)
-    ensures reads { IsFreeOfLevels stack.now Read }
-    ensures writes { IsFreeOfLevels stack.now Write }
-    ensures homes { AreHomesFreeOfLevels stack.now }
+    ensures { AreLevelsEnough stack.now }
 {
     // Called because its contract says that the stack is sound.
     stack.depth();

@@ -16,30 +16,32 @@ use Rattle.dmremap.proofs.map_whole.map_whole.Goals as goal
 -- ---- the load was refused
 
 pub returns-in-Err-clause-whole : goal.returns-in-Err-clause-whole
-returns-in-Err-clause-whole g c = λ five six. (
-  exit_message c.unloaded.result,
-  refused_whole _ _ _ _ _ _ c.in-Err.fault c.unloaded.result _ c.unloaded.ensures c.in-Err.ensures.gives.refused (since-same (g.W.Output.past c.args.output.now).written) c.tell.ensures.is six,
-  c.tell.ensures.told.told,
-)
+returns-in-Err-clause-whole g c = λ five six. record {
+  message = exit_message c.unloaded.result;
+  gives = refused_whole _ _ _ _ _ _ c.in-Err.fault c.unloaded.result _ c.unloaded.ensures c.in-Err.ensures.gives.refused (since-same (g.W.Output.past c.args.output.now).written) c.tell.ensures.is six;
+  told = c.tell.ensures.told.told;
+}
 
 -- ---- the requests were run
 
 pub returns-in-Ok-new-clause-whole : goal.returns-in-Ok-new-clause-whole
 returns-in-Ok-new-clause-whole g c = λ five six.
-    let starts : c.in-Ok-new.mapper.state ≡ start_state c.in-Ok.stack = c.in-Ok-new.ensures.state ∙ ap start_state c.looker.ensures.stack in (
-      ending_message c.run.result,
-      ran_whole _ _ _ _ _ _ _ c.in-Ok.stack c.in-Ok-new.mapper.state _ c.run.result _ c.in-Ok.ensures.gives.sound starts c.run.ensures.ran c.status.ensures five,
-      c.run.ensures.told.told,
-    )
+    let starts : c.in-Ok-new.mapper.state ≡ start_state c.in-Ok.stack = c.in-Ok-new.ensures.state ∙ ap start_state c.looker.ensures.stack in
+    record {
+      message = ending_message c.run.result;
+      gives = ran_whole _ _ _ _ _ _ _ c.in-Ok.stack c.in-Ok-new.mapper.state _ c.run.result _ c.in-Ok.ensures.gives.sound starts c.run.ensures.ran c.status.ensures five;
+      told = c.run.ensures.told.told;
+    }
 
 pub returns-in-Ok-new-clause-beginning : goal.returns-in-Ok-new-clause-beginning
 returns-in-Ok-new-clause-beginning g c = λ five.
     let requests = delivery (g.Q.Input.past c.args.requests.now) (g.Q.Input.past c.run.new.requests) in
-    let starts : c.in-Ok-new.mapper.state ≡ start_state c.in-Ok.stack = c.in-Ok-new.ensures.state ∙ ap start_state c.looker.ensures.stack in (
-      c.in-Ok.stack,
-      c.in-Ok.ensures.gives.sound,
-      ran_failed _ _ c.args.status requests c.in-Ok.stack c.in-Ok-new.mapper.state _ c.run.result _ starts c.run.ensures.ran c.status.ensures five,
-    )
+    let starts : c.in-Ok-new.mapper.state ≡ start_state c.in-Ok.stack = c.in-Ok-new.ensures.state ∙ ap start_state c.looker.ensures.stack in
+    record {
+      description = c.in-Ok.stack;
+      loaded = c.in-Ok.ensures.gives.sound;
+      output = ran_failed _ _ c.args.status requests c.in-Ok.stack c.in-Ok-new.mapper.state _ c.run.result _ starts c.run.ensures.ran c.status.ensures five;
+    }
 
 pub returns-in-Ok-new-clause-requests : goal.returns-in-Ok-new-clause-requests
 returns-in-Ok-new-clause-requests g c = ran_requests c.run.result _ _ _ c.status.ensures c.run.ensures.reads c.run.ensures.met
