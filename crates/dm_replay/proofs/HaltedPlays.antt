@@ -2,10 +2,10 @@
 use Rattle.std.proofs.Common.{◌≡◌, ℕ, zero, suc, ◌+◌, ◌<◌, ◌≤◌, true, false, List, [], ◌∷◌, length, take, refl, sym, ap, subst, ◌∙◌, arith}
 use Rattle.std.proofs.lemmas.List.{take_all, take-append-le}
 use Rattle.dm_stack.specs.Description.{Description}
-use Rattle.dm_map.specs.declared.piece.Piece.{Piece}
-use Rattle.dm_map.specs.declared.piece.Piece.TheVariants as pieces
-use Rattle.dm_map.specs.Sink.{OfBeginning}
-use Rattle.dm_map.specs.Units.{BlockUnit, ReadOf, WriteOf, Zeros, Drops, Fails, CopyOf, FillOf, IsOnDisk, IsOnDisks, first_unit, next_unit, piece_len, units_in, units_of}
+use Rattle.dm_map.specs.declared.pieces.piece.Piece.{Piece}
+use Rattle.dm_map.specs.declared.pieces.piece.Piece.TheVariants as pieces
+use Rattle.dm_map.specs.pieces.Sink.{OfBeginning}
+use Rattle.dm_map.specs.pieces.Units.{BlockUnit, ReadOf, WriteOf, Zeros, Drops, Fails, CopyOf, FillOf, IsOnDisk, IsOnDisks, first_unit, next_unit, piece_len, units_in, units_of}
 use Rattle.dm_replay.specs.declared.halting.Halting.{Halting}
 use Rattle.dm_replay.specs.declared.player.Player.{Player}
 use Rattle.dm_replay.specs.Halting.{HasHalted, HasTaken}

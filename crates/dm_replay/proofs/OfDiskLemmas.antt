@@ -3,10 +3,10 @@ use Rattle.std.proofs.Common.{◌≡◌, ℕ, zero, suc, ◌<◌, Bool, true, fa
 use Rattle.std.specs.Prelude.{◌==◌, ◌&&◌}
 use Rattle.std.specs.List.{AllByRecursion}
 use Rattle.dm_stack.specs.Description.{Description}
-use Rattle.dm_map.specs.declared.piece.Piece.{Piece}
-use Rattle.dm_map.specs.declared.piece.Piece.TheVariants as pieces
-use Rattle.dm_map.specs.Contents.{stored, sector_after, played as contents_played}
-use Rattle.dm_map.specs.Units.{BlockUnit, ReadOf, WriteOf, CopyOf, FillOf, IsOnDisks, first_unit, next_unit, piece_len, units_in, units_of}
+use Rattle.dm_map.specs.declared.pieces.piece.Piece.{Piece}
+use Rattle.dm_map.specs.declared.pieces.piece.Piece.TheVariants as pieces
+use Rattle.dm_map.specs.own.Contents.{stored, sector_after, played as contents_played}
+use Rattle.dm_map.specs.pieces.Units.{BlockUnit, ReadOf, WriteOf, CopyOf, FillOf, IsOnDisks, first_unit, next_unit, piece_len, units_in, units_of}
 use Rattle.dm_replay.specs.declared.value.Value.{Value}
 use Rattle.dm_replay.specs.declared.value.Value.TheVariants as value
 use Rattle.dm_replay.specs.declared.value_run.ValueRun.{ValueRun}

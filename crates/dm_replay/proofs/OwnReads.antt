@@ -6,13 +6,13 @@ use Rattle.dm_stack.specs.declared.graph.TheConstants.{MOST_DEPTH}
 use Rattle.dm_stack.specs.declared.id.Lower.TheVariants.{Device}
 use Rattle.dm_stack.specs.Claims.{IsTidy, IsTop}
 use Rattle.dm_stack.specs.Description.{Description, device_len}
-use Rattle.dm_map.specs.Contents.{Stays, content}
-use Rattle.dm_map.specs.Mapping.{request_step, sector_step}
-use Rattle.dm_map.specs.SnapshotWrites.{read}
-use Rattle.dm_map.specs.State.{State}
-use Rattle.dm_map.specs.Steps.{keep, steps}
-use Rattle.dm_map.specs.Units.{BlockUnit, ReadOf, Zeros, Fails}
-use Rattle.dm_map.proofs.Made.{IsRead, Sector, Nothing, Fault, is_read}
+use Rattle.dm_map.specs.own.Contents.{Stays, content}
+use Rattle.dm_map.specs.walk.Mapping.{request_step, sector_step}
+use Rattle.dm_map.specs.walk.SnapshotWrites.{read}
+use Rattle.dm_map.specs.state.State.{State}
+use Rattle.dm_map.specs.walk.Steps.{keep, steps}
+use Rattle.dm_map.specs.pieces.Units.{BlockUnit, ReadOf, Zeros, Fails}
+use Rattle.dm_map.proofs.own.ChunkOutcomes.{IsRead, Sector, Nothing, Fault, is_read}
 use Rattle.dm_replay.specs.declared.asked_request.AskedRequest.{AskedRequest}
 use Rattle.dm_replay.specs.declared.value.Value.{Value}
 use Rattle.dm_replay.specs.declared.value.Value.TheVariants as value

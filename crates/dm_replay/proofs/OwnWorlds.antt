@@ -5,13 +5,13 @@ use Rattle.dm_table.specs.declared.request.Op.{Op}
 use Rattle.dm_stack.specs.declared.id.Lower.TheVariants.{Device}
 use Rattle.dm_stack.specs.Claims.{IsTidy, IsTop}
 use Rattle.dm_stack.specs.Description.{Description}
-use Rattle.dm_map.specs.Contents.{played, sector_after, sector_past, value_read}
-use Rattle.dm_map.specs.Mapping.{request_step}
-use Rattle.dm_map.specs.OwnRows.{AreOwn, Rows as Kept, first_rows as first_kept, row_unit as kept_unit, rows_played}
-use Rattle.dm_map.specs.SnapshotWrites.{read}
-use Rattle.dm_map.specs.State.{State, start_state}
-use Rattle.dm_map.specs.Stops.{stopped_state, stopped_units}
-use Rattle.dm_map.specs.Units.{BlockUnit, ReadOf, WriteOf}
+use Rattle.dm_map.specs.own.Contents.{played, sector_after, sector_past, value_read}
+use Rattle.dm_map.specs.walk.Mapping.{request_step}
+use Rattle.dm_map.specs.own.Rows.{AreOwn, Rows as Kept, first_rows as first_kept, row_unit as kept_unit, rows_played}
+use Rattle.dm_map.specs.walk.SnapshotWrites.{read}
+use Rattle.dm_map.specs.state.State.{State, start_state}
+use Rattle.dm_map.specs.own.Stops.{stopped_state, stopped_units}
+use Rattle.dm_map.specs.pieces.Units.{BlockUnit, ReadOf, WriteOf}
 use Rattle.dm_replay.specs.declared.asked_request.AskedRequest.{AskedRequest}
 use Rattle.dm_replay.specs.declared.value.Value.{Value}
 use Rattle.dm_replay.specs.declared.value.Value.TheVariants as value

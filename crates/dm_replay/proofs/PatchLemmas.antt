@@ -3,7 +3,7 @@ use Rattle.std.proofs.Common.{◌≡◌, ℕ, suc, ◌+◌, ◌-◌, ◌<◌, �
 use Rattle.std.proofs.Math.Seq.{take-suc}
 use Rattle.std.specs.Prelude.{◌==◌, ◌&&◌, nat_le, nat_lt}
 use Rattle.std.proofs.lemmas.Bool.Decides.{nat_tests}
-use Rattle.dm_map.specs.Contents.{stored}
+use Rattle.dm_map.specs.own.Contents.{stored}
 use Rattle.dm_replay.specs.declared.patch.Patch.{Patch}
 use Rattle.dm_replay.specs.declared.value.Value.{Value}
 use Rattle.dm_replay.specs.declared.value.Value.TheVariants as value

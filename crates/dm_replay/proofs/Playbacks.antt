@@ -6,13 +6,13 @@ use Rattle.std.proofs.lemmas.Bool.Decides.{nat_tests}
 use Rattle.dm_table.specs.declared.request.Op.{Op}
 use Rattle.dm_table.specs.declared.request.Request.{Request}
 use Rattle.dm_stack.specs.Description.{Description, device_len}
-use Rattle.dm_map.specs.Contents.{sector_past}
-use Rattle.dm_map.specs.Mapping.{request_step}
-use Rattle.dm_map.specs.State.{State}
-use Rattle.dm_map.specs.Steps.{Step}
-use Rattle.dm_map.specs.Stops.{stopped_units}
-use Rattle.dm_map.specs.Units.{BlockUnit, Fails, units_in}
-use Rattle.dm_map.proofs.Rows.{step_past_end}
+use Rattle.dm_map.specs.own.Contents.{sector_past}
+use Rattle.dm_map.specs.walk.Mapping.{request_step}
+use Rattle.dm_map.specs.state.State.{State}
+use Rattle.dm_map.specs.walk.Steps.{Step}
+use Rattle.dm_map.specs.own.Stops.{stopped_units}
+use Rattle.dm_map.specs.pieces.Units.{BlockUnit, Fails, units_in}
+use Rattle.dm_map.proofs.walk.Rows.{step_past_end}
 use Rattle.dm_replay.specs.declared.disk_values.DiskValues.{DiskValues}
 use Rattle.dm_replay.specs.declared.halting.Halting.{Halting}
 use Rattle.dm_replay.specs.declared.player.Player.{Player}

@@ -7,13 +7,13 @@ use Rattle.dm_table.specs.declared.request.Op.TheVariants as ops
 use Rattle.dm_stack.specs.declared.graph.TheConstants.{MOST_DEPTH}
 use Rattle.dm_stack.specs.declared.id.Lower.TheVariants.{Device}
 use Rattle.dm_stack.specs.Description.{Description, device_len}
-use Rattle.dm_map.specs.Contents.{answers, sector_after, sector_past}
+use Rattle.dm_map.specs.own.Contents.{answers, sector_after, sector_past}
 use Rattle.dm_map.specs.Mapper.{MapperView}
-use Rattle.dm_map.specs.Mapping.{request_step, sector_step}
-use Rattle.dm_map.specs.State.{State, start_state}
-use Rattle.dm_map.specs.Steps.{keep, steps}
-use Rattle.dm_map.specs.Stops.{stopped_state, stopped_units}
-use Rattle.dm_map.specs.Units.{BlockUnit, Fails}
+use Rattle.dm_map.specs.walk.Mapping.{request_step, sector_step}
+use Rattle.dm_map.specs.state.State.{State, start_state}
+use Rattle.dm_map.specs.walk.Steps.{keep, steps}
+use Rattle.dm_map.specs.own.Stops.{stopped_state, stopped_units}
+use Rattle.dm_map.specs.pieces.Units.{BlockUnit, Fails}
 use Rattle.dm_replay.specs.declared.asked_request.AskedRequest.{AskedRequest}
 use Rattle.dm_replay.specs.Reruns.{rerun_from, rerun_step}
 

@@ -1,7 +1,7 @@
 -- What units in a row do to the values of disks, and answer.
 use Rattle.std.proofs.Common.{◌≡◌, ℕ, zero, suc, ◌+◌, ◌<◌, ◌≤◌, List, [], ◌∷◌, refl, sym, ap, ◌∙◌, arith}
-use Rattle.dm_map.specs.Contents.{sector_past, stored, played as contents_played}
-use Rattle.dm_map.specs.Units.{ReadOf, WriteOf, Zeros, Drops, Fails, CopyOf, FillOf, units_in}
+use Rattle.dm_map.specs.own.Contents.{sector_past, stored, played as contents_played}
+use Rattle.dm_map.specs.pieces.Units.{ReadOf, WriteOf, Zeros, Drops, Fails, CopyOf, FillOf, units_in}
 use Rattle.dm_replay.specs.declared.value.Value.{Value}
 use Rattle.dm_replay.specs.declared.value.Value.TheVariants as value
 use Rattle.dm_replay.specs.Ranges.{CanCopyAtOnce, HoldOn, ranged}

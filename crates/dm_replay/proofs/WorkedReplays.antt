@@ -6,10 +6,10 @@ use Rattle.dm_table.specs.declared.table.DevRef.TheVariants as refs
 use Rattle.dm_table.specs.declared.table.StoreKind.TheVariants.{Persistent}
 use Rattle.dm_table.specs.declared.table.Target.TheVariants as targets
 use Rattle.dm_stack.specs.Description.{Description}
-use Rattle.dm_map.specs.Homes.{home_to}
-use Rattle.dm_map.specs.Contents.{sector_past, played as contents_played}
-use Rattle.dm_map.specs.Mapping.{write_step}
-use Rattle.dm_map.specs.Reads.{read_unit}
+use Rattle.dm_map.specs.walk.Homes.{home_to}
+use Rattle.dm_map.specs.own.Contents.{sector_past, played as contents_played}
+use Rattle.dm_map.specs.walk.Mapping.{write_step}
+use Rattle.dm_map.specs.walk.Reads.{read_unit}
 use Rattle.dm_map.proofs.WorkedRows.{device, disk, line}
 use Rattle.dm_replay.specs.declared.value.Value.TheVariants as value
 use Rattle.dm_replay.specs.Histories.{Asked, asked_answers, world_after, world_from}

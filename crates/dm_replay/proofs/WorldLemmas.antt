@@ -6,11 +6,11 @@ use Rattle.dm_stack.specs.Claims.{IsTidy, IsTop}
 use Rattle.dm_stack.specs.Description.{Description, device_len}
 use Rattle.dm_stack.proofs.HandedOn.{all_append}
 use Rattle.dm_map.specs.Mapper.{MapperView}
-use Rattle.dm_map.specs.Mapping.{request_step}
-use Rattle.dm_map.specs.State.{State, start_state}
-use Rattle.dm_map.specs.Contents.{sector_past}
-use Rattle.dm_map.specs.Stops.{stopped_units}
-use Rattle.dm_map.specs.Units.{BlockUnit}
+use Rattle.dm_map.specs.walk.Mapping.{request_step}
+use Rattle.dm_map.specs.state.State.{State, start_state}
+use Rattle.dm_map.specs.own.Contents.{sector_past}
+use Rattle.dm_map.specs.own.Stops.{stopped_units}
+use Rattle.dm_map.specs.pieces.Units.{BlockUnit}
 use Rattle.dm_replay.specs.declared.asked_request.AskedRequest.{AskedRequest}
 use Rattle.dm_replay.specs.declared.patch.Patch.{Patch}
 use Rattle.dm_replay.specs.declared.value_run.ValueRun.{ValueRun}

@@ -3,7 +3,7 @@ use Rattle.std.proofs.Common.{◌≡◌, ℕ, ◌+◌, List, [], ◌++◌, lengt
 use Rattle.std.proofs.Math.Seq.{take-append-add}
 use Rattle.std.proofs.lemmas.List.{length-append}
 use Rattle.dm_stack.specs.Description.{Description}
-use Rattle.dm_map.specs.Units.{BlockUnit}
+use Rattle.dm_map.specs.pieces.Units.{BlockUnit}
 use Rattle.dm_replay.specs.declared.halting.Halting.{Halting}
 use Rattle.dm_replay.specs.Halting.{HasHalted, HasTaken}
 use Rattle.dm_replay.specs.OfDiskLaws.{units_of-append}

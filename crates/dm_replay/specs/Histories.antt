@@ -2,11 +2,11 @@
 use Rattle.std.specs.Prelude.{ℕ, List, [], ◌∷◌, Option, Some, None, take}
 use Rattle.dm_table.specs.declared.request.Op.{Op}
 use Rattle.dm_stack.specs.Description.{Description}
-use Rattle.dm_map.specs.Mapping.{request_step}
-use Rattle.dm_map.specs.State.{State, start_state}
-use Rattle.dm_map.specs.Steps.{Step}
-use Rattle.dm_map.specs.Stops.{stopped_state}
-use Rattle.dm_map.specs.Units.{BlockUnit}
+use Rattle.dm_map.specs.walk.Mapping.{request_step}
+use Rattle.dm_map.specs.state.State.{State, start_state}
+use Rattle.dm_map.specs.walk.Steps.{Step}
+use Rattle.dm_map.specs.own.Stops.{stopped_state}
+use Rattle.dm_map.specs.pieces.Units.{BlockUnit}
 use Rattle.dm_replay.specs.Values.{Answer, Values, old_values, played, played_answers}
 
 -- a request that was accepted, of a device by its id; it was played whole, or stopped after this many of its units

@@ -1,7 +1,7 @@
 -- Units, values and answers that name only disks of a stack, which has the given number of them.
 use Rattle.std.specs.Prelude.{ℕ, ◌<◌, List}
 use Rattle.std.specs.List.{AllByRecursion}
-use Rattle.dm_map.specs.Units.{BlockUnit, ReadOf, CopyOf}
+use Rattle.dm_map.specs.pieces.Units.{BlockUnit, ReadOf, CopyOf}
 use Rattle.dm_replay.specs.declared.value.Value.{Value}
 use Rattle.dm_replay.specs.declared.value.Value.TheVariants as value
 use Rattle.dm_replay.specs.declared.value_run.ValueRun.{ValueRun}

@@ -1,7 +1,7 @@
 -- What a player of units has played.
 use Rattle.std.specs.Prelude.{◌≡◌, ℕ, List, ◌++◌}
-use Rattle.dm_map.specs.Contents.{sector_past}
-use Rattle.dm_map.specs.Units.{BlockUnit}
+use Rattle.dm_map.specs.own.Contents.{sector_past}
+use Rattle.dm_map.specs.pieces.Units.{BlockUnit}
 use Rattle.dm_replay.specs.declared.playing.Playing.{Playing}
 use Rattle.dm_replay.specs.Patches.{values_in}
 use Rattle.dm_replay.specs.Runs.{flat}

@@ -7,7 +7,7 @@ use Rattle.dm_stack.specs.declared.clash.Clash.{Clash}
 use Rattle.dm_stack.specs.Claims.{IsClash, IsTidy, IsTop, claims}
 use Rattle.dm_stack.specs.Description.{Description, device_id, is_same}
 use Rattle.dm_map.specs.Mapper.{MapperView}
-use Rattle.dm_map.specs.State.{start_state}
+use Rattle.dm_map.specs.state.State.{start_state}
 use Rattle.dm_replay.specs.declared.asked_request.AskedRequest.{AskedRequest}
 use Rattle.dm_replay.specs.declared.patch.Patch.{Patch}
 use Rattle.dm_replay.specs.declared.replay_fault.ReplayFault.{ReplayFault}

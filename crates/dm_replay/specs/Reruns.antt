@@ -2,8 +2,8 @@
 use Rattle.std.specs.Prelude.{ℕ, List, [], ◌∷◌, Option, map}
 use Rattle.dm_table.specs.declared.request.Request.{Request}
 use Rattle.dm_stack.specs.Description.{Description}
-use Rattle.dm_map.specs.Mapping.{request_step}
-use Rattle.dm_map.specs.State.{State}
+use Rattle.dm_map.specs.walk.Mapping.{request_step}
+use Rattle.dm_map.specs.state.State.{State}
 use Rattle.dm_replay.specs.declared.asked_request.AskedRequest.{AskedRequest}
 use Rattle.dm_replay.specs.Histories.{Asked}
 

@@ -2,10 +2,10 @@
 use Rattle.std.specs.Prelude.{◌≡◌, ◌⊎◌, ℕ, suc, List, [], ◌∷◌}
 use Rattle.dm_stack.specs.declared.id.Lower.TheVariants.{Device}
 use Rattle.dm_stack.specs.Description.{Description}
-use Rattle.dm_map.specs.Contents.{sector_after, stored}
-use Rattle.dm_map.specs.SnapshotWrites.{read}
-use Rattle.dm_map.specs.State.{start_state}
-use Rattle.dm_map.specs.Units.{BlockUnit, ReadOf, WriteOf, Zeros, Drops}
+use Rattle.dm_map.specs.own.Contents.{sector_after, stored}
+use Rattle.dm_map.specs.walk.SnapshotWrites.{read}
+use Rattle.dm_map.specs.state.State.{start_state}
+use Rattle.dm_map.specs.pieces.Units.{BlockUnit, ReadOf, WriteOf, Zeros, Drops}
 use Rattle.dm_replay.specs.declared.value.Value.TheVariants as value
 use Rattle.dm_replay.specs.Histories.{Asked, World, asked_units, first_world, next_world}
 use Rattle.dm_replay.specs.Values.{Answer, Gives, Failed, Values, old_values}

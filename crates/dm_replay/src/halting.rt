@@ -4,7 +4,7 @@
 //! was played, so what it says then has to speak of the values of its own player.
 
 ghost use Rattle.std.specs.Prelude.{◌≡◌, ◌<◌, ◌≤◌, true, false, OnErr, OnOk};
-ghost use Rattle.dm_map.specs.Units.{IsOnDisks, piece_len, units_of};
+ghost use Rattle.dm_map.specs.pieces.Units.{IsOnDisks, piece_len, units_of};
 ghost use Rattle.dm_replay.specs.Halting.{HasHalted, HasTaken};
 
 use crate::player::Player;

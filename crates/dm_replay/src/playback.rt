@@ -3,9 +3,9 @@
 ghost use Rattle.std.specs.Prelude.{◌≡◌, ℕ, ◌<◌, false, length, min, IfOk, OnOk};
 ghost use Rattle.std.specs.List.{AllByRecursion};
 ghost use Rattle.dm_stack.specs.Description.{device_len};
-ghost use Rattle.dm_map.specs.Contents.{sector_past};
-ghost use Rattle.dm_map.specs.Mapping.{request_step};
-ghost use Rattle.dm_map.specs.Stops.{stopped_units};
+ghost use Rattle.dm_map.specs.own.Contents.{sector_past};
+ghost use Rattle.dm_map.specs.walk.Mapping.{request_step};
+ghost use Rattle.dm_map.specs.own.Stops.{stopped_units};
 ghost use Rattle.dm_replay.specs.OfDisks.{AreValuesOf, IsRunOf};
 ghost use Rattle.dm_replay.specs.Patches.{values_in};
 ghost use Rattle.dm_replay.specs.Runs.{AreMaximal, flat};

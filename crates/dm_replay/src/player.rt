@@ -4,7 +4,7 @@
 //! ranges. Nothing is said of a player that failed.
 
 ghost use Rattle.std.specs.Prelude.{◌≡◌, ◌+◌, ◌<◌, ◌≤◌, ◌^◌, [], OnOk};
-ghost use Rattle.dm_map.specs.Units.{IsOnDisk, IsOnDisks, piece_len, units_of};
+ghost use Rattle.dm_map.specs.pieces.Units.{IsOnDisk, IsOnDisks, piece_len, units_of};
 ghost use Rattle.dm_replay.specs.Player.{HasPlayed};
 ghost use Rattle.dm_replay.specs.Runs.{AreMaximal};
 

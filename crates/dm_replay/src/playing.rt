@@ -1,7 +1,7 @@
 //! Playing: what the pieces of a request do to the values of disks, and answer.
 
 ghost use Rattle.std.specs.Prelude.{◌≡◌, ◌+◌, ◌<◌, ◌≤◌, ◌^◌, ◌++◌, OnOk};
-ghost use Rattle.dm_map.specs.Units.{ReadOf, WriteOf, CopyOf, FillOf, units_in};
+ghost use Rattle.dm_map.specs.pieces.Units.{ReadOf, WriteOf, CopyOf, FillOf, units_in};
 ghost use Rattle.dm_replay.specs.Ranges.{CanCopyAtOnce};
 ghost use Rattle.dm_replay.specs.Player.{HasPlayed};
 ghost use Rattle.dm_replay.specs.Runs.{flat, run_answers, run_len};

@@ -5,7 +5,7 @@
 
 ghost use Rattle.std.specs.Prelude.{◌≡◌, false, IfOk};
 ghost use Rattle.std.specs.List.{AllByRecursion};
-ghost use Rattle.dm_map.specs.State.{start_state};
+ghost use Rattle.dm_map.specs.state.State.{start_state};
 ghost use Rattle.dm_replay.specs.Replay.{IsKept};
 ghost use Rattle.dm_replay.specs.Reruns.{rerun_from, rerun_step};
 

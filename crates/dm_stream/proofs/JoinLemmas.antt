@@ -4,8 +4,8 @@ use Rattle.std.proofs.lemmas.List.{append-nil}
 use Rattle.std.proofs.lemmas.Grind.{flat_map-append}
 use Rattle.dm_table.specs.DeviceIo.{since}
 use Rattle.dm_stack.specs.Description.{Description}
-use Rattle.dm_map.specs.declared.piece.Piece as code
-use Rattle.dm_map.specs.Units.{BlockUnit, first_unit, next_unit, piece_len, units_in, units_of}
+use Rattle.dm_map.specs.declared.pieces.piece.Piece as code
+use Rattle.dm_map.specs.pieces.Units.{BlockUnit, first_unit, next_unit, piece_len, units_in, units_of}
 use Rattle.dm_stream.specs.Pending.{Pending, IsHeld, held_units, piece_view}
 use Rattle.dm_stream.specs.Join.{HasUnits, HasLeft}
 use Rattle.dm_stream.specs.JoinLaws.{last_of_units, some_before, beginning-before}

@@ -7,7 +7,7 @@ use Rattle.std.proofs.lemmas.List.Quantifiers.{position-Some}
 use Rattle.dm_table.specs.DeviceIo.{OutputPast, since, written_since}
 use Rattle.dm_stack.specs.Description.{Description}
 use Rattle.dm_map.specs.Mapper.{OnSinkFault}
-use Rattle.dm_map.specs.Units.{BlockUnit}
+use Rattle.dm_map.specs.pieces.Units.{BlockUnit}
 use Rattle.dm_map.specs.declared.mapper.MapFault.{MapFault}
 use Rattle.dm_map.specs.declared.mapper.MapFault.TheVariants as faults
 use Rattle.dm_stream.specs.Pending.{Pending, held_units}
@@ -17,7 +17,7 @@ use Rattle.dm_map.specs.Mapper.{MapperView}
 use Rattle.dm_stream.specs.Mapped.{HasStopped}
 use Rattle.dm_stream.specs.Outcome.{device_of, of_device, outcome_from, request_answer}
 use Rattle.dm_stream.specs.Requests.{NumberedRequest}
-use Rattle.dm_map.specs.State.{State}
+use Rattle.dm_map.specs.state.State.{State}
 use Rattle.dm_stream.specs.declared.ending.NotMapped.TheVariants as causes
 use Rattle.dm_stream.specs.Pieces.{UnitRun, fewest}
 use Rattle.dm_table.specs.Fields.{all_but_last}

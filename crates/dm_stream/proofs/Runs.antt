@@ -12,7 +12,7 @@ use Rattle.dm_stream.specs.StatusLines.{status_text}
 use Rattle.dm_stream.proofs.RequestMapped.{cut_of_more}
 use Rattle.dm_stream.specs.Requests.{HasMet, IsAmong, NumberedRequest, requests_of}
 use Rattle.dm_stream.specs.Run.{HasRun, IsMapped, ending_for, write_faults}
-use Rattle.dm_map.specs.State.{State}
+use Rattle.dm_map.specs.state.State.{State}
 use Rattle.dm_stream.specs.declared.ending.Ending as ending
 use Rattle.dm_stream.specs.declared.ending.NotMapped.{NotMapped}
 use Rattle.dm_stream.specs.declared.ending.NotMapped.TheVariants as causes

@@ -1,7 +1,7 @@
 -- What a join took, and what it left, by what is held and what was written.
 use Rattle.std.specs.Prelude.{◌≡◌, ℕ, List, [], ◌∷◌, ◌++◌, None}
 use Rattle.dm_table.specs.DeviceIo.{since}
-use Rattle.dm_map.specs.Units.{BlockUnit}
+use Rattle.dm_map.specs.pieces.Units.{BlockUnit}
 use Rattle.dm_stream.specs.Pending.{Pending, held_units}
 use Rattle.dm_stream.specs.Pieces.{UnitRun, fewest}
 use Rattle.dm_table.specs.Fields.{all_but_last}

@@ -5,7 +5,7 @@ use Rattle.std.proofs.lemmas.Grind.{flat_map-append}
 use Rattle.dm_table.specs.DeviceIo.{since}
 use Rattle.dm_table.proofs.Growth.{since_more}
 use Rattle.dm_stack.specs.Description.{Description}
-use Rattle.dm_map.specs.Units.{BlockUnit}
+use Rattle.dm_map.specs.pieces.Units.{BlockUnit}
 use Rattle.dm_stream.specs.Pending.{Pending, held_units}
 use Rattle.dm_stream.specs.Join.{HasUnits, HasTaken, HasLeft}
 use Rattle.dm_stream.specs.Pieces.{UnitRun, fewest, joins, onto}

@@ -4,7 +4,7 @@ use Rattle.dm_table.specs.DeviceIo.{since}
 use Rattle.dm_table.specs.WriteAll.{IsCutShort}
 use Rattle.dm_stack.specs.Description.{Description}
 use Rattle.dm_map.specs.Mapper.{MapperView}
-use Rattle.dm_map.specs.State.{State}
+use Rattle.dm_map.specs.state.State.{State}
 use Rattle.dm_stream.specs.Pending.{Pending}
 use Rattle.dm_stream.specs.Outcome.{after_text, outcome_from}
 use Rattle.dm_stream.specs.Requests.{NumberedRequest}

@@ -4,7 +4,7 @@ use Rattle.dm_table.specs.DeviceIo.{since}
 use Rattle.dm_table.proofs.Growth.{since_more}
 use Rattle.dm_stack.specs.Description.{Description}
 use Rattle.dm_map.specs.Mapper.{MapperView}
-use Rattle.dm_map.specs.State.{State}
+use Rattle.dm_map.specs.state.State.{State}
 use Rattle.dm_stream.specs.Mapped.{HasAnswered, HasStopped}
 use Rattle.dm_stream.specs.Outcome.{Outcome, after_text, outcome_from}
 use Rattle.dm_table.proofs.ProgressLaws.{since-same}

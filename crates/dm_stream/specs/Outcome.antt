@@ -2,9 +2,9 @@
 use Rattle.std.specs.Prelude.{ℕ, Bool, List, [], ◌∷◌, ◌++◌, Option, None, Some, position, if◌then◌else◌}
 use Rattle.dm_table.specs.DeviceIo.{Delivery}
 use Rattle.dm_stack.specs.Description.{Description, is_same}
-use Rattle.dm_map.specs.Mapping.{request_step}
-use Rattle.dm_map.specs.State.{State}
-use Rattle.dm_map.specs.Steps.{Step}
+use Rattle.dm_map.specs.walk.Mapping.{request_step}
+use Rattle.dm_map.specs.state.State.{State}
+use Rattle.dm_map.specs.walk.Steps.{Step}
 use Rattle.dm_stream.specs.PieceText.{pieces_text}
 use Rattle.dm_stream.specs.Pieces.{fewest}
 use Rattle.dm_stream.specs.Requests.{NumberedRequest, requests_of}

@@ -1,8 +1,8 @@
 -- What is held of a request: the piece that is still to be written.
 use Rattle.std.specs.Prelude.{ℕ, ◌<◌, ◌≤◌, ◌^◌, List, [], Option, Some, None}
 use Rattle.dm_stack.specs.Description.{Description}
-use Rattle.dm_map.specs.declared.piece.Piece.{Piece}
-use Rattle.dm_map.specs.Units.{BlockUnit, ReadOf, WriteOf, Zeros, Drops, Fails, CopyOf, FillOf, units_of, first_unit, piece_len, diskless_len, IsOnDisk, IsOnDisks}
+use Rattle.dm_map.specs.declared.pieces.piece.Piece.{Piece}
+use Rattle.dm_map.specs.pieces.Units.{BlockUnit, ReadOf, WriteOf, Zeros, Drops, Fails, CopyOf, FillOf, units_of, first_unit, piece_len, diskless_len, IsOnDisk, IsOnDisks}
 use Rattle.dm_stream.specs.Pieces as pieces
 
 -- the stack whose names are written, the request's number, and the piece that is held, if any

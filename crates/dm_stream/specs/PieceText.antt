@@ -2,8 +2,8 @@
 use Rattle.std.specs.Prelude.{ℕ, List, [], ◌∷◌, ◌++◌, codes, decimal}
 use Rattle.std.specs.List.{flat_map}
 use Rattle.dm_stack.specs.Description.{Description, disk_name_at}
-use Rattle.dm_map.specs.Units.{BlockUnit, ReadOf, WriteOf, Zeros, Drops, Fails, CopyOf, FillOf}
-use Rattle.dm_map.specs.declared.piece.Piece as code
+use Rattle.dm_map.specs.pieces.Units.{BlockUnit, ReadOf, WriteOf, Zeros, Drops, Fails, CopyOf, FillOf}
+use Rattle.dm_map.specs.declared.pieces.piece.Piece as code
 use Rattle.dm_stream.specs.Pieces.{UnitRun}
 
 -- a place on a disk: its name and a sector

@@ -9,7 +9,7 @@ use Rattle.dm_stream.specs.declared.ending.NotMapped.TheVariants as causes
 use Rattle.dm_stream.specs.declared.ending.RequestWord as word
 use Rattle.dm_stream.specs.Outcome.{Outcome}
 use Rattle.dm_map.specs.Mapper.{MapperView}
-use Rattle.dm_map.specs.State.{State}
+use Rattle.dm_map.specs.state.State.{State}
 use Rattle.dm_stack.specs.Description.{Description}
 
 -- how a run ends where not all was mapped

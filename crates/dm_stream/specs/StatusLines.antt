@@ -2,12 +2,12 @@
 use Rattle.std.specs.Prelude.{ℕ, List, [], ◌∷◌, ◌++◌, Option, None, Some, codes, decimal, if◌then◌else◌}
 use Rattle.std.specs.List.{flat_map}
 use Rattle.dm_stack.specs.Description.{Description, device_len, name_at}
-use Rattle.dm_stack.specs.Loaded.{snapshots}
+use Rattle.dm_stack.specs.Snapshots.{snapshots}
 use Rattle.dm_stack.specs.declared.found_line.FoundSnapshot.{FoundSnapshot}
-use Rattle.dm_map.specs.declared.usage.Usage.{Usage}
-use Rattle.dm_map.specs.State.{State, taken_at}
-use Rattle.dm_map.specs.Tables.{snapshot_at}
-use Rattle.dm_map.specs.Usage.{usage_of}
+use Rattle.dm_map.specs.declared.state.usage.Usage.{Usage}
+use Rattle.dm_map.specs.state.State.{State, taken_at}
+use Rattle.dm_map.specs.state.Tables.{snapshot_at}
+use Rattle.dm_map.specs.state.Usage.{usage_of}
 
 -- how much of a store is used, in sectors, or that its snapshot is not valid
 abbrev pub usage_text : Usage → List ℕ

@@ -5,7 +5,7 @@
 
 ghost use Rattle.std.specs.Bool.{OnTrue, OnFalse};
 ghost use Rattle.std.specs.Prelude.{◌≡◌, ◌+◌, ◌-◌, ◌≤◌, ◌==◌, ◌++◌, ◌^◌, List, Some, None};
-ghost use Rattle.dm_map.specs.Units.{BlockUnit, IsOnDisks, diskless_len, first_unit, piece_len, units_of};
+ghost use Rattle.dm_map.specs.pieces.Units.{BlockUnit, IsOnDisks, diskless_len, first_unit, piece_len, units_of};
 ghost use Rattle.dm_stream.specs.Pending.{Fits, IsHeld, held_diskless, held_units};
 ghost use Rattle.dm_stream.specs.PieceText.{pieces_text};
 ghost use Rattle.dm_stream.specs.Pieces.{fewest, is_after};

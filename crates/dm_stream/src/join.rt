@@ -4,7 +4,7 @@
 //! a join took is stated in whole pieces, whatever units follow; keep that when you change it.
 
 ghost use Rattle.std.specs.Prelude.{◌≡◌, ◌-◌, ◌^◌, List, None};
-ghost use Rattle.dm_map.specs.Units.{BlockUnit};
+ghost use Rattle.dm_map.specs.pieces.Units.{BlockUnit};
 ghost use Rattle.dm_stream.specs.Pending.{held_diskless, held_units};
 ghost use Rattle.dm_stream.specs.Join.{HasTaken, HasLeft};
 ghost use Rattle.dm_stream.specs.Pieces.{AreFewest, fewest};

@@ -5,7 +5,7 @@
 
 ghost use Rattle.std.specs.Prelude.{◌≡◌, ◌≢◌, List, None, false, OnOk};
 ghost use Rattle.dm_map.specs.Mapper.{with_looked};
-ghost use Rattle.dm_map.specs.Units.{BlockUnit};
+ghost use Rattle.dm_map.specs.pieces.Units.{BlockUnit};
 ghost use Rattle.dm_stream.specs.Mapped.{IsReady};
 ghost use Rattle.dm_stream.specs.Messages.{HasTold, ending_message};
 ghost use Rattle.dm_stream.specs.Outcome.{Outcome, requests_outcome, run_outcome, with_status};

@@ -7,8 +7,8 @@
 ghost use Rattle.std.specs.Prelude.{◌≡◌, ◌++◌, ◌+◌, ◌<◌, ◌≤◌, ◌∷◌, [], length, decimal};
 ghost use Rattle.dm_table.specs.Block.{IsPut};
 ghost use Rattle.dm_stack.specs.Description.{disk_name_at};
-ghost use Rattle.dm_stack.specs.Loaded.{disk_text};
-ghost use Rattle.dm_map.specs.Units.{CopyOf, FillOf, IsOnDisks, first_unit, piece_len};
+ghost use Rattle.dm_stack.specs.DiskText.{disk_text};
+ghost use Rattle.dm_map.specs.pieces.Units.{CopyOf, FillOf, IsOnDisks, first_unit, piece_len};
 ghost use Rattle.dm_stream.specs.KeptRange.{IsKept};
 ghost use Rattle.dm_stream.specs.Pending.{piece_view};
 ghost use Rattle.dm_stream.specs.PieceText.{IsOther, letter_of, piece_text, place_text, range_line, unit_text};
@@ -68,7 +68,7 @@ struct OtherLine<'a> {
 
 impl<'a> Model for OtherLine<'a> {
     ghost use Rattle.std.specs.Prelude.{ℕ, List};
-    ghost use Rattle.dm_map.specs.Units.{IsOnDisks};
+    ghost use Rattle.dm_map.specs.pieces.Units.{IsOnDisks};
     ghost use Rattle.dm_stream.specs.Pending.{piece_view};
     ghost use Rattle.dm_stream.specs.PieceText.{IsOther, piece_text};
 

@@ -6,7 +6,7 @@ use Rattle.dm_table.specs.DeviceIo.{Delivery, OutputPast, written_since}
 use Rattle.dm_table.specs.Progress.{FailedOutput}
 use Rattle.dm_table.proofs.ProgressLaws.{finished_as}
 use Rattle.dm_stack.specs.Description.{Description}
-use Rattle.dm_map.specs.State.{State, start_state}
+use Rattle.dm_map.specs.state.State.{State, start_state}
 use Rattle.dm_stream.specs.declared.ending.Ending.{Ending}
 use Rattle.dm_stream.specs.declared.ending.Ending.TheVariants as endings
 use Rattle.dm_stream.specs.Messages.{ending_message}

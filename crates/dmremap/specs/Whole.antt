@@ -3,7 +3,7 @@ use Rattle.std.specs.Prelude.{◌≡◌, ℕ, Bool, List, [], Option, None, Some
 use Rattle.dm_table.specs.DeviceIo.{Delivery, OutputPast, written_since}
 use Rattle.dm_table.specs.Progress.{FailedOutput}
 use Rattle.dm_stream.specs.declared.ending.Ending.{Ending}
-use Rattle.dm_map.specs.State.{start_state}
+use Rattle.dm_map.specs.state.State.{start_state}
 use Rattle.dm_stack.specs.Description.{Description}
 use Rattle.dm_stream.specs.Messages.{IsTold}
 use Rattle.dm_stream.specs.Outcome.{Outcome, run_outcome}

@@ -9,7 +9,7 @@ use Rattle.dm_stack.specs.declared.id.Lower.TheVariants.{Device, Disk}
 use Rattle.dm_stack.specs.Below.{Below, Lies, IsZero, IsError, below, found_at}
 use Rattle.dm_stack.specs.Claims.{IsTidy}
 use Rattle.dm_stack.specs.Description.{Description, lower_len}
-use Rattle.dm_stack.specs.Loaded.{lower_depth}
+use Rattle.dm_stack.specs.Depth.{lower_depth}
 use Rattle.dm_stack.specs.StoreLayout.{place}
 use Rattle.dm_stack.specs.Soundness.{IsSound}
 use Rattle.dm_map.specs.own.Contents.{Values, content, played, value_read}

@@ -20,7 +20,7 @@ use Rattle.dm_stack.specs.declared.found_line.FoundTarget.{FoundTarget}
 use Rattle.dm_stack.specs.declared.found_line.FoundTarget.TheVariants as founds
 use Rattle.dm_stack.specs.Below.{found_at, found_line, found_target, holds, line_of}
 use Rattle.dm_stack.specs.Description.{Description, device_id, disk_id, is_same, lines_at, lines_or_none, lower_len, lower_of}
-use Rattle.dm_stack.specs.Loaded.{has_snapshot, is_snapshot, snapshots}
+use Rattle.dm_stack.specs.Snapshots.{has_snapshot, is_snapshot, snapshots}
 use Rattle.dm_stack.specs.StoreLayout.{place}
 use Rattle.dm_stack.specs.Over.{found_snapshot}
 use Rattle.dm_stack.specs.Soundness.{IsSound, all_lines, is_unknown, is_unknown_ref}

@@ -4,7 +4,7 @@ use Rattle.std.specs.Prelude.{slice_get}
 use Rattle.std.proofs.lemmas.Bool.{lt-ltb}
 use Rattle.dm_stack.specs.declared.found_line.FoundSnapshot.{FoundSnapshot}
 use Rattle.dm_stack.specs.Description.{Description, lower_len}
-use Rattle.dm_stack.specs.StoreLayout.{places}
+use Rattle.dm_stack.specs.StoreLayout.{place_count}
 use Rattle.dm_stack.specs.Soundness.{IsSound}
 use Rattle.dm_stack.proofs.StoreLayoutLemmas.{has_place}
 use Rattle.dm_stack.proofs.SoundLines.{there}
@@ -21,7 +21,7 @@ most_within (suc count) most each = let last = each count (omega arith) in omega
 
 -- a table has as many places as its store
 within_store : {T : Type 0} (places_of : T → ℕ) (stack : Description) (tables : List T) (device number : ℕ) (table : T) (snapshot : FoundSnapshot) → IsSound stack → AreTables places_of stack tables → snapshot_at stack device ≡ Some snapshot
-    → slice_get tables device ≡ Some table → number < places_of table → number < places snapshot.kind snapshot.chunk (lower_len stack snapshot.store)
+    → slice_get tables device ≡ Some table → number < places_of table → number < place_count snapshot.kind snapshot.chunk (lower_len stack snapshot.store)
 within_store places_of stack tables device number table snapshot sound are is got less =
     let over = snapshot_sound stack device snapshot sound is in
     let room = sym (are.room device number table got) ∙ lt-ltb number (places_of table) less in
@@ -33,6 +33,6 @@ within_places chunks valid places_of stack tables sound are fits device snapshot
     let over = snapshot_sound stack device snapshot sound is in
     let table = there tables device (omega (arith, are.count, over.there)) in
     let kept = state_at chunks valid tables device table.it table.at in
-    let few = most_within (length (chunks table.it)) (places snapshot.kind snapshot.chunk (lower_len stack snapshot.store)) (λ number less.
+    let few = most_within (length (chunks table.it)) (place_count snapshot.kind snapshot.chunk (lower_len stack snapshot.store)) (λ number less.
     within_store places_of stack tables device number table.it snapshot sound are is table.at (let fit = fits table.it in omega (arith, less, fit))) in
-    subst (λ (taken : Taken). length taken.chunks ≤ places snapshot.kind snapshot.chunk (lower_len stack snapshot.store)) (sym kept) few
+    subst (λ (taken : Taken). length taken.chunks ≤ place_count snapshot.kind snapshot.chunk (lower_len stack snapshot.store)) (sym kept) few

@@ -11,7 +11,7 @@ use Rattle.dm_stack.specs.declared.id.Lower.TheVariants.{Device, Disk}
 use Rattle.dm_stack.specs.Below.{Below, Lies, below_target, found_at, found_line, holds, line_of}
 use Rattle.dm_stack.specs.Description.{Description, device_links, line_links, lines_at, links}
 use Rattle.dm_stack.specs.Graph.{depth_to, greatest, links_of}
-use Rattle.dm_stack.specs.Loaded.{lower_depth, stack_depth}
+use Rattle.dm_stack.specs.Depth.{lower_depth, stack_depth}
 use Rattle.dm_stack.specs.Soundness.{IsSound, depth_of}
 use Rattle.dm_stack.proofs.DepthLemmas.{depth_to-deeper}
 use Rattle.dm_stack.proofs.DepthRule.{shallow_device}

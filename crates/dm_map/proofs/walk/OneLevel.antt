@@ -11,7 +11,7 @@ use Rattle.dm_stack.specs.declared.found_line.FoundLine.{FoundLine}
 use Rattle.dm_stack.specs.Below.{Below, Lies, IsError, below, below_line, found_at, found_line, line_of}
 use Rattle.dm_stack.specs.Description.{Description, is_ro_at, links, lines_or_none}
 use Rattle.dm_stack.specs.Graph.{links_of}
-use Rattle.dm_stack.specs.Loaded.{lower_depth}
+use Rattle.dm_stack.specs.Depth.{lower_depth}
 use Rattle.dm_stack.specs.Soundness.{IsSound, depth_of}
 use Rattle.dm_map.specs.walk.Mapping.{write_line, write_step}
 use Rattle.dm_map.specs.walk.Reads.{by_below, read_below, read_unit}

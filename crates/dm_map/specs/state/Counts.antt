@@ -1,6 +1,6 @@
 -- What a looker counted while something was done with it.
 use Rattle.std.specs.Prelude.{ℕ, ◌+◌, ◌-◌, ◌*◌, ◌≤◌}
-use Rattle.dm_stack.specs.Loaded.{Looking}
+use Rattle.dm_stack.specs.Looker.{Looking}
 
 -- the counts of a looker: its searches, and their comparisons of a line's start with a sector
 pub record Counts : Type 0 where

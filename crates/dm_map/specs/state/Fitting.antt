@@ -2,7 +2,7 @@
 use Rattle.std.specs.Prelude.{ℕ, ◌≡◌, ◌<◌, ◌≤◌, true, Some, length}
 use Rattle.dm_stack.specs.declared.found_line.FoundSnapshot.{FoundSnapshot}
 use Rattle.dm_stack.specs.Description.{Description, lower_len}
-use Rattle.dm_stack.specs.StoreLayout.{places}
+use Rattle.dm_stack.specs.StoreLayout.{place_count}
 use Rattle.dm_map.specs.state.Snapshots.{has_place}
 use Rattle.dm_map.specs.state.State.{State, taken_at}
 use Rattle.dm_map.specs.state.Tables.{snapshot_at}
@@ -15,4 +15,4 @@ pub record IsFitting (stack : Description) (state : State) : Type 0 where
 -- no snapshot took more chunks than its store has places
 abbrev pub IsWithinPlaces : Description → State → Type 0
 IsWithinPlaces stack state =
-    (device : ℕ) (snapshot : FoundSnapshot) → snapshot_at stack device ≡ Some snapshot → length (taken_at state device).chunks ≤ places snapshot.kind snapshot.chunk (lower_len stack snapshot.store)
+    (device : ℕ) (snapshot : FoundSnapshot) → snapshot_at stack device ≡ Some snapshot → length (taken_at state device).chunks ≤ place_count snapshot.kind snapshot.chunk (lower_len stack snapshot.store)

@@ -1,6 +1,6 @@
 -- Where the sectors of a striped line lie in its columns.
 use Rattle.std.specs.Prelude.{ℕ, ◌≡◌, ◌+◌, ◌*◌, ◌/◌, ◌%◌, ◌≤◌, List}
-use Rattle.dm_stack.specs.declared.found_line.FoundColumn.{FoundColumn}
+use Rattle.dm_stack.specs.declared.found_columns.FoundColumn.{FoundColumn}
 use Rattle.dm_stack.specs.Description.{Description}
 use Rattle.dm_stack.specs.Below.{column_of, AreStripes}
 use Rattle.dm_stack.specs.declared.limits.TheConstants.{MOST_LENGTH}

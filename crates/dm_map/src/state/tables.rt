@@ -3,13 +3,13 @@
 //! All memory for taken chunks is reserved here, before the first request.
 
 ghost use Rattle.std.specs.Prelude.{◌≡◌, ℕ, ◌+◌, ◌<◌, ◌≤◌, Some, length, nat_lt, replicate, slice_get, IfOk};
-ghost use Rattle.dm_stack.specs.Loaded.{snapshots};
+ghost use Rattle.dm_stack.specs.Snapshots.{snapshots};
 ghost use Rattle.dm_map.specs.state.State.{none_taken, start_state};
 ghost use Rattle.dm_map.specs.state.Tables.{AreTables, has_room, state_of};
 
 use crate::state::taken::Taken;
 use crate::state::walker::lower_len;
-use dm_stack::{DeviceId, FoundTarget, Looker, places};
+use dm_stack::{DeviceId, FoundTarget, Looker, place_count};
 use std::alloc::{AllocError, Global};
 
 /// A table for each device of the looker's stack, with nothing taken: for a snapshot with the places
@@ -65,7 +65,7 @@ fn places_of(looker: &mut Looker<'_>, device: DeviceId) -> usize
     match &looker.look(device, 0).target {
         FoundTarget::Snapshot(snapshot) => {
             let len = lower_len(looker, snapshot.store);
-            places(snapshot.kind, snapshot.chunk as u64, len) as usize
+            place_count(snapshot.kind, snapshot.chunk as u64, len) as usize
         }
         _ => 0,
     }

@@ -1,7 +1,7 @@
 //! Usage: how much of a snapshot's store is used.
 
 ghost use Rattle.std.specs.Prelude.{◌≡◌, ◌+◌, ◌<◌, ◌≤◌, ◌^◌, IfSome};
-ghost use Rattle.dm_stack.specs.Loaded.{IsSnapshot};
+ghost use Rattle.dm_stack.specs.Snapshots.{IsSnapshot};
 ghost use Rattle.dm_stack.specs.StoreLayout.{allocated, metadata};
 ghost use Rattle.dm_stack.specs.declared.limits.TheConstants.{MOST_SNAPSHOT_CHUNK};
 ghost use Rattle.dm_map.specs.state.Counts.{AreAdded};

@@ -12,7 +12,7 @@ ghost use Rattle.std.specs.Prelude.{◌≡◌, ℕ, ◌+◌, ◌-◌, ◌<◌, �
 ghost use Rattle.dm_table.specs.declared.request.Op.TheVariants.{Write};
 ghost use Rattle.dm_stack.specs.Below.{found_at, IsTargetSound};
 ghost use Rattle.dm_stack.specs.Description.{Description, device_len, lower_len};
-ghost use Rattle.dm_stack.specs.Loaded.{lower_depth};
+ghost use Rattle.dm_stack.specs.Depth.{lower_depth};
 ghost use Rattle.dm_stack.specs.Soundness.{depth_of};
 ghost use Rattle.dm_stack.specs.declared.found_line.FoundTarget.TheVariants.{Origin, Snapshot, Striped};
 ghost use Rattle.dm_stack.specs.declared.id.Lower.TheVariants.{Device};

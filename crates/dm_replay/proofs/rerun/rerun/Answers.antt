@@ -1,5 +1,5 @@
 use Rattle.std.proofs.Common.{refl, sym, ap, subst, ◌∙◌}
-use Rattle.dm_map.specs.State.{start_state}
+use Rattle.dm_map.specs.state.State.{start_state}
 use Rattle.dm_stack.specs.Description.{Description}
 use Rattle.dm_replay.specs.Replay.{IsKept}
 use Rattle.dm_replay.proofs.RunTextLemmas.{each_at}

@@ -2,10 +2,10 @@ use Rattle.std.proofs.Common.{◌+◌, ◌<◌, ◌^◌, ℕ, sym, subst, ◌∙
 use Rattle.dm_stack.specs.Description.{Description}
 use Rattle.dm_stack.specs.Soundness.{IsSound}
 use Rattle.dm_stack.specs.declared.id.Lower.TheVariants as lowers
-use Rattle.dm_map.specs.Units.{BlockUnit, CopyOf, Drops, Fails, FillOf, ReadOf, WriteOf, Zeros, IsOnDisk, IsOnDisks, first_unit, piece_len}
-use Rattle.dm_map.specs.declared.piece.Piece.{Piece}
-use Rattle.dm_map.specs.declared.piece.Piece.TheVariants as code
-use Rattle.dm_map.proofs.There.{lower_small}
+use Rattle.dm_map.specs.pieces.Units.{BlockUnit, CopyOf, Drops, Fails, FillOf, ReadOf, WriteOf, Zeros, IsOnDisk, IsOnDisks, first_unit, piece_len}
+use Rattle.dm_map.specs.declared.pieces.piece.Piece.{Piece}
+use Rattle.dm_map.specs.declared.pieces.piece.Piece.TheVariants as code
+use Rattle.dm_map.proofs.state.InStack.{lower_small}
 use Rattle.dm_stream.specs.Pending.{Fits}
 use Rattle.dm_stream.proofs.held_piece.longer.Goals as goal
 

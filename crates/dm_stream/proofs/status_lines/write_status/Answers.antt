@@ -5,12 +5,12 @@ use Rattle.std.proofs.lemmas.Result.{err_from_is_err_and}
 use Rattle.dm_table.proofs.WriteLemmas.{stopped, and_then, flat_map_at}
 use Rattle.dm_stack.specs.declared.found_line.FoundSnapshot.{FoundSnapshot}
 use Rattle.dm_stack.specs.Description.{Description, device_len, name_at}
-use Rattle.dm_stack.specs.Loaded.{IsSnapshot}
-use Rattle.dm_map.specs.declared.usage.Usage.{Usage}
+use Rattle.dm_stack.specs.Snapshots.{IsSnapshot}
+use Rattle.dm_map.specs.declared.state.usage.Usage.{Usage}
 use Rattle.dm_map.specs.Mapper.{MapperView, with_looked}
-use Rattle.dm_map.specs.State.{taken_at}
-use Rattle.dm_map.specs.Tables.{snapshot_at, snapshot_of_line}
-use Rattle.dm_map.specs.Usage.{usage_of}
+use Rattle.dm_map.specs.state.State.{taken_at}
+use Rattle.dm_map.specs.state.Tables.{snapshot_at, snapshot_of_line}
+use Rattle.dm_map.specs.state.Usage.{usage_of}
 use Rattle.dm_stream.specs.StatusLines.{after_name, line_if, status_line}
 use Rattle.dm_stream.proofs.status_lines.write_status.Goals as goal
 

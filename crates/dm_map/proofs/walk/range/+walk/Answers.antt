@@ -2,7 +2,7 @@ use Rattle.std.proofs.Common.{rules, ◌≡◌, ℕ, suc, ◌+◌, ◌-◌, ◌^
 use Rattle.std.specs.Prelude.{Result}
 use Rattle.dm_table.specs.declared.request.Op.{Op}
 use Rattle.dm_table.specs.declared.request.Op.TheVariants.{Write}
-use Rattle.dm_stack.specs.declared.found_line.FoundColumn.{FoundColumn}
+use Rattle.dm_stack.specs.declared.found_columns.FoundColumn.{FoundColumn}
 use Rattle.dm_stack.specs.declared.found_line.FoundLine.{FoundLine}
 use Rattle.dm_stack.specs.declared.found_line.FoundOrigin.{FoundOrigin}
 use Rattle.dm_stack.specs.declared.found_line.FoundTarget.{FoundTarget}
@@ -12,7 +12,7 @@ use Rattle.dm_stack.specs.declared.id.Lower.{Lower}
 use Rattle.dm_stack.specs.declared.id.Lower.TheVariants.{Device, Disk}
 use Rattle.dm_stack.specs.Below.{HoldsSoundly, IsOriginSound, IsTargetSound, below_stripes, found_at}
 use Rattle.dm_stack.specs.Description.{Description, lower_len}
-use Rattle.dm_stack.specs.Loaded.{lower_depth}
+use Rattle.dm_stack.specs.Depth.{lower_depth}
 use Rattle.dm_stack.specs.Soundness.{depth_of}
 use Rattle.dm_map.specs.declared.walk.stripe.StripePosition.{StripePosition}
 use Rattle.dm_map.specs.walk.Bound.{IsBounded, IsLineBounded, IsTargetBounded, line_paths}

@@ -1,5 +1,5 @@
 use Rattle.std.proofs.Common.{◌≡◌, ◌+◌, ◌-◌, ℕ, refl, subst, arith}
-use Rattle.dm_map.specs.Units.{CopyOf, units_in}
+use Rattle.dm_map.specs.pieces.Units.{CopyOf, units_in}
 use Rattle.dm_replay.specs.declared.playing.Playing.{Playing}
 use Rattle.dm_replay.specs.Player.{HasPlayed}
 use Rattle.dm_replay.specs.PlayLaws.{played_nothing}

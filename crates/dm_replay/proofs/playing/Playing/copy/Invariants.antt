@@ -1,5 +1,5 @@
 use Rattle.std.proofs.Common.{◌≡◌, ◌+◌, ◌-◌, ◌≤◌}
-use Rattle.dm_map.specs.Units.{CopyOf, units_in}
+use Rattle.dm_map.specs.pieces.Units.{CopyOf, units_in}
 use Rattle.dm_replay.specs.Player.{HasPlayed}
 use Rattle.dm_replay.proofs.playing.Playing.copy.Given as goal
 

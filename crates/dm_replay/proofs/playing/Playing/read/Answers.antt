@@ -1,5 +1,5 @@
 use Rattle.std.proofs.Common.{◌≡◌, ◌+◌, ◌-◌, ℕ, refl, subst, arith}
-use Rattle.dm_map.specs.Units.{ReadOf, units_in}
+use Rattle.dm_map.specs.pieces.Units.{ReadOf, units_in}
 use Rattle.dm_replay.specs.Player.{HasPlayed}
 use Rattle.dm_replay.specs.PlayLaws.{played_nothing}
 use Rattle.dm_replay.specs.Values.{Gives}

@@ -1,5 +1,5 @@
 use Rattle.std.proofs.Common.{◌≡◌, ◌+◌, ◌-◌, ◌≤◌}
-use Rattle.dm_map.specs.Units.{ReadOf, units_in}
+use Rattle.dm_map.specs.pieces.Units.{ReadOf, units_in}
 use Rattle.dm_replay.specs.Player.{HasPlayed}
 use Rattle.dm_replay.proofs.playing.Playing.read.Given as goal
 

@@ -1,7 +1,7 @@
 use Rattle.std.proofs.Common.{◌∷◌, [], ℕ, List, Some, sym, ap, ◌∙◌, subst}
 use Rattle.std.specs.List.{AllByRecursion}
 use Rattle.dm_stack.proofs.HandedOn.{all_append}
-use Rattle.dm_map.specs.State.{start_state}
+use Rattle.dm_map.specs.state.State.{start_state}
 use Rattle.dm_replay.specs.declared.asked_request.AskedRequest.{AskedRequest}
 use Rattle.dm_replay.specs.Replay.{HasTop, IsGoing, IsKept, Replaying, halted_request}
 use Rattle.dm_replay.specs.Reruns.{kept_request, rerun_from}

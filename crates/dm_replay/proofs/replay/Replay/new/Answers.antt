@@ -1,5 +1,5 @@
 use Rattle.std.proofs.Common.{List, sym, ap, ◌∙◌, subst}
-use Rattle.dm_map.specs.State.{start_state}
+use Rattle.dm_map.specs.state.State.{start_state}
 use Rattle.dm_replay.specs.declared.asked_request.AskedRequest.{AskedRequest}
 use Rattle.dm_replay.specs.Replay.{IsGoing}
 use Rattle.dm_replay.proofs.WorldLemmas.{going_first}

@@ -1,5 +1,5 @@
 use Rattle.std.proofs.Common.{◌≡◌, ◌∙◌, ◌+◌, ℕ, Some, sym, ap, subst}
-use Rattle.dm_map.specs.Units.{piece_len}
+use Rattle.dm_map.specs.pieces.Units.{piece_len}
 use Rattle.dm_stream.specs.Pending.{Pending, IsHeld}
 use Rattle.dm_stream.proofs.JoinLemmas.{held_apart, held_joined}
 use Rattle.dm_stream.proofs.held_piece.HeldPiece.lengthen.Goals as goal

@@ -1,5 +1,5 @@
 use Rattle.std.proofs.Common.{refl, ◌≡◌, ◌∙◌, List, ℕ, Some, ap, subst}
-use Rattle.dm_map.specs.declared.piece.Piece as code
+use Rattle.dm_map.specs.declared.pieces.piece.Piece as code
 use Rattle.dm_stream.specs.Pending.{Pending, IsHeld, held_units, piece_view}
 use Rattle.dm_stream.specs.Pieces.{fewest}
 use Rattle.dm_stream.specs.PieceText.{piece_text, pieces_text}
