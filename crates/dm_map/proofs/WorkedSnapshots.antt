@@ -1,10 +1,10 @@
 -- Writes of snapshots worked by hand, against which the definitions are checked.
 use Rattle.std.proofs.Common.{◌≡◌, ℕ, true, false, List, [], ◌∷◌, refl}
-use Rattle.dm_table.specs.declared.table.DevRef.TheVariants as refs
-use Rattle.dm_table.specs.declared.request.Op.TheVariants.{Read, Write}
-use Rattle.dm_table.specs.declared.table.StoreKind.{StoreKind}
-use Rattle.dm_table.specs.declared.table.StoreKind.TheVariants.{Persistent, Transient, Keeping}
-use Rattle.dm_table.specs.declared.table.Target.TheVariants as targets
+use Rattle.dm_table.specs.declared.tables.table.DevRef.TheVariants as refs
+use Rattle.dm_table.specs.declared.requests.request.Op.TheVariants.{Read, Write}
+use Rattle.dm_table.specs.declared.tables.table.StoreKind.{StoreKind}
+use Rattle.dm_table.specs.declared.tables.table.StoreKind.TheVariants.{Persistent, Transient, Keeping}
+use Rattle.dm_table.specs.declared.tables.table.Target.TheVariants as targets
 use Rattle.dm_stack.specs.declared.found_line.FoundSnapshot.{FoundSnapshot}
 use Rattle.dm_stack.specs.Description.{Description}
 use Rattle.dm_stack.specs.Over.{all_over, snapshots_over}

@@ -5,7 +5,7 @@
 //! `walker` keeps what one request leaves for the next.
 
 ghost use Rattle.std.specs.Prelude.{◌≡◌, ◌+◌, ◌*◌, ◌<◌, ◌≤◌, false, true, length, nat_lt, IfOk, IfSome, OnOk};
-ghost use Rattle.dm_table.specs.declared.request.Op.TheVariants.{Read};
+ghost use Rattle.dm_table.specs.declared.requests.request.Op.TheVariants.{Read};
 ghost use Rattle.dm_stack.specs.Snapshots.{snapshots, IsSnapshot};
 ghost use Rattle.dm_stack.specs.Depth.{stack_depth};
 ghost use Rattle.dm_map.specs.walk.Mapping.{request_step};

@@ -10,7 +10,7 @@ use Rattle.dm_replay.specs.declared.halting.Halting.{Halting}
 use Rattle.dm_replay.specs.declared.player.Player.{Player}
 use Rattle.dm_replay.specs.Halting.{HasHalted, HasTaken}
 use Rattle.dm_replay.specs.OfDisks.{AreUnitsOf}
-use Rattle.dm_replay.specs.PlayLaws.{played_nothing}
+use Rattle.dm_replay.specs.laws.Play.{played_nothing}
 use Rattle.dm_replay.specs.Player.{HasPlayed}
 use Rattle.dm_replay.proofs.OfDiskLemmas.{piece_of}
 

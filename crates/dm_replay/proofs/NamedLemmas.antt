@@ -3,7 +3,7 @@ use Rattle.std.proofs.Common.{◌≡◌, ℕ, ◌<◌, List, [], ◌∷◌, Some
 use Rattle.std.specs.Prelude.{position}
 use Rattle.std.proofs.lemmas.Grind.{common_steps}
 use Rattle.std.proofs.lemmas.List.Quantifiers.{position-Some}
-use Rattle.dm_table.specs.declared.table.DeviceSpec.{DeviceSpec}
+use Rattle.dm_table.specs.declared.tables.table.DeviceSpec.{DeviceSpec}
 use Rattle.dm_stack.specs.Description.{Description, device_id, is_same}
 
 pub named_id : (stack : Description) (name : List ℕ) (id : ℕ) → position (λ device. is_same device.name name) stack.devices ≡ Some id → id ≡ device_id stack name

@@ -10,7 +10,7 @@ use Rattle.dm_replay.specs.declared.value.Value.TheVariants as value
 use Rattle.dm_replay.specs.declared.value_run.ValueRun.{ValueRun}
 use Rattle.dm_replay.specs.Patches.{values_in}
 use Rattle.dm_replay.specs.Player.{HasPlayed}
-use Rattle.dm_replay.specs.PlayLaws.{played_both}
+use Rattle.dm_replay.specs.laws.Play.{played_both}
 use Rattle.dm_replay.specs.Ranges.{CanCopyAtOnce, HoldOn, ranged}
 use Rattle.dm_replay.specs.Runs.{answers_in, first_answer, flat, run_answers, run_len}
 use Rattle.dm_replay.specs.Values.{Answer, Gives, Failed, Values, played, played_answers}

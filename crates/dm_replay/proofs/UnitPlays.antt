@@ -5,7 +5,7 @@ use Rattle.dm_map.specs.pieces.Units.{ReadOf, WriteOf, Zeros, Drops, Fails, Copy
 use Rattle.dm_replay.specs.declared.value.Value.{Value}
 use Rattle.dm_replay.specs.declared.value.Value.TheVariants as value
 use Rattle.dm_replay.specs.Ranges.{CanCopyAtOnce, HoldOn, ranged}
-use Rattle.dm_replay.specs.PlayLaws.{AreSame}
+use Rattle.dm_replay.specs.laws.Play.{AreSame}
 use Rattle.dm_replay.specs.Runs.{answers_in}
 use Rattle.dm_replay.specs.Values.{Answer, Gives, Failed, Values, next_value, played, played_answers}
 use Rattle.dm_replay.proofs.PatchLemmas.{hold_here, hold_later, ranged_none, ranged_step, stored_other}

@@ -1,10 +1,10 @@
 -- Replays worked by hand, against which the definitions are checked.
 use Rattle.std.proofs.Common.{◌≡◌, ℕ, false, List, [], ◌∷◌, Option, None, Some, refl}
-use Rattle.dm_table.specs.declared.request.Op.{Op}
-use Rattle.dm_table.specs.declared.request.Op.TheVariants.{Read, Write}
-use Rattle.dm_table.specs.declared.table.DevRef.TheVariants as refs
-use Rattle.dm_table.specs.declared.table.StoreKind.TheVariants.{Persistent}
-use Rattle.dm_table.specs.declared.table.Target.TheVariants as targets
+use Rattle.dm_table.specs.declared.requests.request.Op.{Op}
+use Rattle.dm_table.specs.declared.requests.request.Op.TheVariants.{Read, Write}
+use Rattle.dm_table.specs.declared.tables.table.DevRef.TheVariants as refs
+use Rattle.dm_table.specs.declared.tables.table.StoreKind.TheVariants.{Persistent}
+use Rattle.dm_table.specs.declared.tables.table.Target.TheVariants as targets
 use Rattle.dm_stack.specs.Description.{Description}
 use Rattle.dm_map.specs.walk.Homes.{home_to}
 use Rattle.dm_map.specs.own.Contents.{sector_past, played as contents_played}

@@ -1,7 +1,7 @@
 -- Worlds after one request more, played to its end or stopped.
 use Rattle.std.proofs.Common.{◌≡◌, ℕ, ◌+◌, ◌-◌, ◌<◌, ◌≤◌, false, cond, List, [], ◌∷◌, ◌++◌, length, min, nat_lt, Option, Some, None, refl, sym, ap, subst, ◌∙◌, arith}
 use Rattle.std.specs.List.{AllByRecursion}
-use Rattle.dm_table.specs.declared.request.Request.{Request}
+use Rattle.dm_table.specs.declared.requests.request.Request.{Request}
 use Rattle.dm_stack.specs.Claims.{IsTidy, IsTop}
 use Rattle.dm_stack.specs.Description.{Description, device_len}
 use Rattle.dm_stack.proofs.HandedOn.{all_append}
@@ -17,7 +17,7 @@ use Rattle.dm_replay.specs.declared.value_run.ValueRun.{ValueRun}
 use Rattle.dm_replay.specs.Histories.{Asked, World, asked_answers, first_world, left_state, next_world, played_of, world_after, world_from}
 use Rattle.dm_replay.specs.OfDisks.{AreValuesOf}
 use Rattle.dm_replay.specs.Patches.{values_in}
-use Rattle.dm_replay.specs.PlayLaws.{answers_cong, played_cong}
+use Rattle.dm_replay.specs.laws.Play.{answers_cong, played_cong}
 use Rattle.dm_replay.specs.Replay.{IsGoing, IsKept, whole_request}
 use Rattle.dm_replay.specs.Reruns.{all_asked, asked_of, kept_request, rerun_from, rerun_step}
 use Rattle.dm_replay.specs.Runs.{flat}

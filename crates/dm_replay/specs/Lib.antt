@@ -1,10 +1,7 @@
-pub mod HaltLaws
 pub mod Halting
 pub mod Histories
-pub mod OfDiskLaws
 pub mod OfDisks
 pub mod Patches
-pub mod PlayLaws
 pub mod Player
 pub mod Ranges
 pub mod Replay
@@ -13,3 +10,4 @@ pub mod Rows
 pub mod RunText
 pub mod Runs
 pub mod Values
+pub mod laws

@@ -1,8 +1,8 @@
 -- A replay, and what its results say.
 use Rattle.std.specs.Prelude.{◌≡◌, ℕ, ◌<◌, ◌≤◌, Bool, true, false, List, [], None, Some, length, position}
 use Rattle.std.specs.List.{AllByRecursion}
-use Rattle.dm_table.specs.declared.request.Request.{Request}
-use Rattle.dm_table.specs.declared.request.TheConstants.{MOST_SECTORS}
+use Rattle.dm_table.specs.declared.requests.request.Request.{Request}
+use Rattle.dm_table.specs.declared.requests.request.TheConstants.{MOST_SECTORS}
 use Rattle.dm_stack.specs.declared.clash.Clash.{Clash}
 use Rattle.dm_stack.specs.Claims.{IsClash, IsTidy, IsTop, claims}
 use Rattle.dm_stack.specs.Description.{Description, device_id, is_same}

@@ -1,6 +1,6 @@
 -- The requests that a replay keeps, and the state that they leave where they are mapped once more.
 use Rattle.std.specs.Prelude.{ℕ, List, [], ◌∷◌, Option, map}
-use Rattle.dm_table.specs.declared.request.Request.{Request}
+use Rattle.dm_table.specs.declared.requests.request.Request.{Request}
 use Rattle.dm_stack.specs.Description.{Description}
 use Rattle.dm_map.specs.walk.Mapping.{request_step}
 use Rattle.dm_map.specs.state.State.{State}

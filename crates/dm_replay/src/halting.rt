@@ -86,7 +86,7 @@ impl Sink for Halting<'_> {
     ghost use Rattle.std.specs.Prelude.{◌^◌, ◌≡◌, true, false};
     ghost use Rattle.std.proofs.Common.{◌∙◌};
     ghost use Rattle.dm_replay.specs.Halting.{HasHalted, HasTaken};
-    ghost use Rattle.dm_replay.specs.HaltLaws.{taken_both, taken_halted, taken_nothing};
+    ghost use Rattle.dm_replay.specs.laws.Halt.{taken_both, taken_halted, taken_nothing};
 
     type Fault = ();
 

@@ -129,8 +129,8 @@ impl Sink for Player<'_> {
     ghost use Rattle.std.proofs.Common.{refl, subst, ◌∙◌};
     ghost use Rattle.dm_stack.specs.Description.{Description};
     ghost use Rattle.dm_replay.specs.OfDisks.{AreUnitsOf};
-    ghost use Rattle.dm_replay.specs.OfDiskLaws.{units_of-append};
-    ghost use Rattle.dm_replay.specs.PlayLaws.{played_nothing, played_both};
+    ghost use Rattle.dm_replay.specs.laws.OfDisks.{units_of-append};
+    ghost use Rattle.dm_replay.specs.laws.Play.{played_nothing, played_both};
 
     type Fault = AllocError;
 
@@ -161,7 +161,7 @@ impl Sink for Player<'_> {
     ghost took_then_took = { λ a b c us vs first second. (
       played_both a.playing b.playing c.playing us vs first.0 second.0,
       units_of-append (length a.stack.now.disks) us vs first.1
-      (subst (λ (stack : Description). AreUnitsOf (length stack.disks) vs) first.2 second.1),
+          (subst (λ (stack : Description). AreUnitsOf (length stack.disks) vs) first.2 second.1),
       second.2 ∙ first.2,
     ) };
 

@@ -5,8 +5,8 @@ use Rattle.std.specs.List.{flat_map, range_with_len}
 use Rattle.std.proofs.lemmas.Grind.{flat_map-append}
 use Rattle.std.proofs.lemmas.List.{append-nil}
 use Rattle.std.proofs.lemmas.Option.{slice_get_read}
-use Rattle.dm_table.specs.declared.table.Line.{Line}
-use Rattle.dm_table.specs.declared.table.DeviceSpec.{DeviceSpec}
+use Rattle.dm_table.specs.declared.tables.table.Line.{Line}
+use Rattle.dm_table.specs.declared.tables.table.DeviceSpec.{DeviceSpec}
 use Rattle.dm_stack.specs.Description.{Description, lines_at, lines_or_none}
 use Rattle.dm_stack.proofs.SnapshotIds.{range_more}
 

@@ -6,11 +6,11 @@ use Rattle.std.specs.List.{All, AllByRecursion, flat_map}
 use Rattle.std.proofs.lemmas.Bool.{eqb-true, ltb-false, not-false, or_parts}
 use Rattle.std.proofs.lemmas.List.Elements.{All-from_recursion}
 use Rattle.std.proofs.lemmas.Nat.{ones_le_self}
-use Rattle.dm_table.specs.declared.load_fault.LoadKind.TheVariants.{Snapshot}
-use Rattle.dm_table.specs.declared.table.DeviceSpec.{DeviceSpec}
-use Rattle.dm_table.specs.declared.table.Line.{Line}
-use Rattle.dm_table.specs.declared.table.Target.{Target}
-use Rattle.dm_table.specs.declared.table.Target.TheVariants as targets
+use Rattle.dm_table.specs.declared.load.load_fault.LoadKind.TheVariants.{Snapshot}
+use Rattle.dm_table.specs.declared.tables.table.DeviceSpec.{DeviceSpec}
+use Rattle.dm_table.specs.declared.tables.table.Line.{Line}
+use Rattle.dm_table.specs.declared.tables.table.Target.{Target}
+use Rattle.dm_table.specs.declared.tables.table.Target.TheVariants as targets
 use Rattle.dm_stack.specs.Description.{Description, lower_len, lower_of}
 use Rattle.dm_stack.specs.Soundness.{HasGoodChunk, HaveGoodChunks, is_bad_chunk, is_bad_snapshot, snapshot, bad_snapshots_in}
 use Rattle.dm_stack.proofs.Passes.{append_none, faults_by_none}

@@ -3,16 +3,16 @@ use Rattle.std.proofs.Common.{◌≡◌, ℕ, ◌+◌, ◌<◌, ◌≤◌, Bool,
 use Rattle.std.specs.List.{sum_by}
 use Rattle.std.proofs.lemmas.Bool.{le-ltb, ltb-false}
 use Rattle.std.proofs.lemmas.List.Sums.{sum_by-cons}
-use Rattle.dm_table.specs.declared.place.Place.{Place}
-use Rattle.dm_table.specs.declared.table.Line.{Line}
-use Rattle.dm_table.specs.declared.load_fault.LoadKind.{LoadKind}
-use Rattle.dm_table.specs.declared.load_fault.LoadKind.TheVariants.{Limit}
-use Rattle.dm_table.specs.declared.load_fault.LoadFault.{LoadFault}
-use Rattle.dm_table.specs.LoadFault.{fault, faults_by, first_or}
+use Rattle.dm_table.specs.declared.load.place.Place.{Place}
+use Rattle.dm_table.specs.declared.tables.table.Line.{Line}
+use Rattle.dm_table.specs.declared.load.load_fault.LoadKind.{LoadKind}
+use Rattle.dm_table.specs.declared.load.load_fault.LoadKind.TheVariants.{Limit}
+use Rattle.dm_table.specs.declared.load.load_fault.LoadFault.{LoadFault}
+use Rattle.dm_table.specs.load.LoadFault.{fault, faults_by, first_or}
 use Rattle.dm_stack.specs.Description.{Description}
 use Rattle.dm_stack.specs.StoreLimit.{all_places}
 use Rattle.dm_stack.specs.Soundness.{IsSound, WithBefore, all_lines, checks_after, is_crowded, target_places, with_before}
-use Rattle.dm_table.proofs.FaultLemmas.{first_fault-none}
+use Rattle.dm_table.proofs.load.FaultLemmas.{first_fault-none}
 use Rattle.dm_stack.proofs.Passes.{cond_none}
 use Rattle.dm_stack.proofs.PlacedLemmas.{next_of}
 use Rattle.dm_stack.proofs.WithBefore.{further_on}

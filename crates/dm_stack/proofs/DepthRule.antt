@@ -5,17 +5,17 @@ use Rattle.std.specs.List.{flat_map}
 use Rattle.std.proofs.lemmas.Bool.{ltb-false}
 use Rattle.std.proofs.lemmas.Grind.{flat_map-append}
 use Rattle.std.proofs.lemmas.Option.{get_or_from_slice_get, slice_get-map}
-use Rattle.dm_table.specs.declared.load_fault.LoadKind.{LoadKind}
-use Rattle.dm_table.specs.declared.load_fault.LoadKind.TheVariants.{Deep}
-use Rattle.dm_table.specs.declared.table.DevRef.{DevRef}
-use Rattle.dm_table.specs.declared.table.DevRef.TheVariants as refs
-use Rattle.dm_table.specs.declared.table.DeviceSpec.{DeviceSpec}
-use Rattle.dm_table.specs.declared.table.Line.{Line}
+use Rattle.dm_table.specs.declared.load.load_fault.LoadKind.{LoadKind}
+use Rattle.dm_table.specs.declared.load.load_fault.LoadKind.TheVariants.{Deep}
+use Rattle.dm_table.specs.declared.tables.table.DevRef.{DevRef}
+use Rattle.dm_table.specs.declared.tables.table.DevRef.TheVariants as refs
+use Rattle.dm_table.specs.declared.tables.table.DeviceSpec.{DeviceSpec}
+use Rattle.dm_table.specs.declared.tables.table.Line.{Line}
 use Rattle.dm_stack.specs.Description.{Description, device_links, line_links, links, lower_of, ref_link}
 use Rattle.dm_stack.specs.Graph.{greatest, links_of}
 use Rattle.dm_stack.specs.Depth.{IsDeeperByOne, lower_depth}
 use Rattle.dm_stack.specs.Soundness.{IsSound, depth_of, faults_by_id}
-use Rattle.dm_table.specs.Span.{Span, spans}
+use Rattle.dm_table.specs.tables.Span.{Span, spans}
 use Rattle.dm_stack.proofs.DepthLemmas.{depth_to-deeper}
 use Rattle.dm_stack.proofs.Passes.{cond_none, passes_all}
 use Rattle.dm_stack.proofs.SoundLines.{lines_there, there}

@@ -4,10 +4,10 @@ use Rattle.std.specs.Prelude.{filter}
 use Rattle.std.specs.List.{AllByRecursion}
 use Rattle.std.proofs.lemmas.Bool.{eq-eqb, eqb-true, ne_eqb, lt-ltb, le-ltb, not-false}
 use Rattle.std.proofs.lemmas.List.{append-nil, take_more}
-use Rattle.dm_table.specs.LoadFault.{fault, first_or}
-use Rattle.dm_table.specs.declared.load_fault.LoadFault.{LoadFault}
-use Rattle.dm_table.specs.declared.load_fault.LoadKind.TheVariants.{Gap, Overlap}
-use Rattle.dm_table.specs.declared.table.Line.{Line}
+use Rattle.dm_table.specs.load.LoadFault.{fault, first_or}
+use Rattle.dm_table.specs.declared.load.load_fault.LoadFault.{LoadFault}
+use Rattle.dm_table.specs.declared.load.load_fault.LoadKind.TheVariants.{Gap, Overlap}
+use Rattle.dm_table.specs.declared.tables.table.Line.{Line}
 use Rattle.dm_stack.specs.Description.{end_of}
 use Rattle.dm_stack.specs.Soundness.{WithBefore, is_misplaced, misplaced_in, misplaced_kind, with_before}
 use Rattle.dm_stack.proofs.Passes.{filter_none, map_none}

@@ -5,22 +5,22 @@ use Rattle.std.specs.List.{AllByRecursion, flat_map, list_any, position_or_len, 
 use Rattle.std.proofs.lemmas.Bool.{or_parts}
 use Rattle.std.proofs.lemmas.List.{drop_more, length-map, length-take-le, take-append-drop}
 use Rattle.std.proofs.lemmas.List.Elements.{All-from_recursion}
-use Rattle.dm_table.specs.declared.table.DevRef.{DevRef}
-use Rattle.dm_table.specs.declared.table.DevRef.TheVariants as refs
-use Rattle.dm_table.specs.declared.table.DeviceSpec.{DeviceSpec}
-use Rattle.dm_table.specs.declared.table.Line.{Line}
-use Rattle.dm_table.specs.declared.load_fault.LoadKind.{LoadKind}
-use Rattle.dm_table.specs.declared.load_fault.LoadKind.TheVariants.{Cycle, Memory, Unknown}
-use Rattle.dm_table.specs.declared.load_fault.LoadFault.{LoadFault}
-use Rattle.dm_table.specs.declared.place.Part.TheVariants.{Source}
-use Rattle.dm_table.specs.LoadFault.{IsMemoryFault, fault, first_or, first_fault}
+use Rattle.dm_table.specs.declared.tables.table.DevRef.{DevRef}
+use Rattle.dm_table.specs.declared.tables.table.DevRef.TheVariants as refs
+use Rattle.dm_table.specs.declared.tables.table.DeviceSpec.{DeviceSpec}
+use Rattle.dm_table.specs.declared.tables.table.Line.{Line}
+use Rattle.dm_table.specs.declared.load.load_fault.LoadKind.{LoadKind}
+use Rattle.dm_table.specs.declared.load.load_fault.LoadKind.TheVariants.{Cycle, Memory, Unknown}
+use Rattle.dm_table.specs.declared.load.load_fault.LoadFault.{LoadFault}
+use Rattle.dm_table.specs.declared.load.place.Part.TheVariants.{Source}
+use Rattle.dm_table.specs.load.LoadFault.{IsMemoryFault, fault, first_or, first_fault}
 use Rattle.dm_stack.specs.Description.{Description, device_links, is_same, line_links, links, ref_link}
 use Rattle.dm_stack.specs.Graph.{IsClosed, IsFirstRing, Reaches, depths_to, greatest, links_in, links_of}
 use Rattle.dm_stack.specs.Depth.{stack_depth}
 use Rattle.dm_stack.specs.Soundness.{Early, HasNoCycle, IsFirstCycle, IsRefusedBy, IsSound, Late, all_lines, checks_after, checks_before, depth_of, is_unknown, is_unknown_ref, unknown}
-use Rattle.dm_table.specs.Span.{Span, spans}
+use Rattle.dm_table.specs.tables.Span.{Span, spans}
 use Rattle.dm_stack.proofs.HandedOn.{all_append, refused_not_memory}
-use Rattle.dm_table.proofs.FaultLemmas.{first_or-found, first_or-none, first_or-passed}
+use Rattle.dm_table.proofs.load.FaultLemmas.{first_or-found, first_or-none, first_or-passed}
 use Rattle.dm_stack.proofs.Passes.{all_parts, faults_by_none}
 
 -- Checks in a row

@@ -7,11 +7,11 @@ use Rattle.std.proofs.lemmas.Bool.{ltb-false}
 use Rattle.std.proofs.lemmas.Iterator.Adapters.{position_from-zero}
 use Rattle.std.proofs.lemmas.List.Sums.{prefix_len-le-length}
 use Rattle.std.proofs.lemmas.Slice.Eq.{bytes_eq-Decides}
-use Rattle.dm_table.specs.declared.place.Part.{Part}
-use Rattle.dm_table.specs.declared.place.Place.{Place}
-use Rattle.dm_table.specs.declared.load_fault.LoadFault.{LoadFault}
-use Rattle.dm_table.specs.declared.load_fault.LoadKind.TheVariants.{Memory, Twice}
-use Rattle.dm_table.specs.LoadFault.{fault, faults_by, IsMemoryFault, first_or, unless}
+use Rattle.dm_table.specs.declared.load.place.Part.{Part}
+use Rattle.dm_table.specs.declared.load.place.Place.{Place}
+use Rattle.dm_table.specs.declared.load.load_fault.LoadFault.{LoadFault}
+use Rattle.dm_table.specs.declared.load.load_fault.LoadKind.TheVariants.{Memory, Twice}
+use Rattle.dm_table.specs.load.LoadFault.{fault, faults_by, IsMemoryFault, first_or, unless}
 use Rattle.dm_stack.specs.Description.{is_same}
 use Rattle.dm_stack.specs.Soundness.{is_repeated, with_before}
 use Rattle.dm_stack.proofs.WithBefore.{drop-with_before, none-with_before}

@@ -1,13 +1,13 @@
 -- A walk over a list by what a test says of its next element.
 use Rattle.std.proofs.Common.{◌≡◌, ℕ, ◌+◌, ◌<◌, Bool, true, false, List, ◌∷◌, Some, None, sym, ap, ◌∙◌, refl, drop, get_or, length}
 use Rattle.std.proofs.lemmas.List.{drop_more}
-use Rattle.dm_table.specs.declared.load_fault.LoadFault.{LoadFault}
-use Rattle.dm_table.specs.declared.load_fault.LoadKind.{LoadKind}
-use Rattle.dm_table.specs.declared.place.Place.{Place}
-use Rattle.dm_table.specs.declared.table.DeviceSpec.{DeviceSpec}
-use Rattle.dm_table.specs.declared.table.Line.{Line}
-use Rattle.dm_table.specs.LoadFault.{fault, faults_by, first_or}
-use Rattle.dm_table.proofs.FaultLemmas.{first_or-passed, first_or-found}
+use Rattle.dm_table.specs.declared.load.load_fault.LoadFault.{LoadFault}
+use Rattle.dm_table.specs.declared.load.load_fault.LoadKind.{LoadKind}
+use Rattle.dm_table.specs.declared.load.place.Place.{Place}
+use Rattle.dm_table.specs.declared.tables.table.DeviceSpec.{DeviceSpec}
+use Rattle.dm_table.specs.declared.tables.table.Line.{Line}
+use Rattle.dm_table.specs.load.LoadFault.{fault, faults_by, first_or}
+use Rattle.dm_table.proofs.load.FaultLemmas.{first_or-passed, first_or-found}
 use Rattle.dm_stack.specs.Soundness.{all_lines}
 use Rattle.dm_stack.proofs.FirstFaults.{by_append, first_append}
 

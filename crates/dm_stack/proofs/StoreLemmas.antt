@@ -8,19 +8,19 @@ use Rattle.std.proofs.lemmas.List.Elements.{Contains-append_cases}
 use Rattle.std.proofs.lemmas.Option.{slice_get_past, slice_get_read}
 use Rattle.std.proofs.lemmas.List.Folds.{list_all-append}
 use Rattle.std.proofs.lemmas.List.FromFn.{get_or-map-range_with_len, length-map-range_with_len, map-range_with_len_more}
-use Rattle.dm_table.specs.declared.table.DevRef.{DevRef}
-use Rattle.dm_table.specs.declared.table.DevRef.TheVariants as refs
-use Rattle.dm_table.specs.declared.table.DeviceSpec.{DeviceSpec}
-use Rattle.dm_table.specs.declared.table.Line.{Line}
-use Rattle.dm_table.specs.declared.table.Target.{Target}
-use Rattle.dm_table.specs.declared.table.Target.TheVariants as targets
-use Rattle.dm_table.specs.declared.load_fault.LoadKind.TheVariants.{Store}
-use Rattle.dm_table.specs.LoadFault.{faults_by}
+use Rattle.dm_table.specs.declared.tables.table.DevRef.{DevRef}
+use Rattle.dm_table.specs.declared.tables.table.DevRef.TheVariants as refs
+use Rattle.dm_table.specs.declared.tables.table.DeviceSpec.{DeviceSpec}
+use Rattle.dm_table.specs.declared.tables.table.Line.{Line}
+use Rattle.dm_table.specs.declared.tables.table.Target.{Target}
+use Rattle.dm_table.specs.declared.tables.table.Target.TheVariants as targets
+use Rattle.dm_table.specs.declared.load.load_fault.LoadKind.TheVariants.{Store}
+use Rattle.dm_table.specs.load.LoadFault.{faults_by}
 use Rattle.dm_stack.specs.declared.id.Lower.{Lower}
 use Rattle.dm_stack.specs.declared.id.Lower.TheVariants.{Device, Disk}
 use Rattle.dm_stack.specs.Description.{Description, device_links, is_read_only, is_ro_at, line_links, lines_at, lines_or_none, links, lower_of, ref_link}
 use Rattle.dm_stack.specs.Graph.{IsClosed, depth_to, depths_to, greatest, links_in, links_of}
-use Rattle.dm_table.specs.Span.{Span, spans}
+use Rattle.dm_table.specs.tables.Span.{Span, spans}
 use Rattle.dm_stack.specs.Soundness.{all_lines, has_bad_store, store}
 use Rattle.dm_stack.specs.Store.{has_deep_store, is_plain, is_shallow, is_store_to, may_store, store_links, store_links_at, store_links_of}
 use Rattle.dm_stack.proofs.CrowdLemmas.{by_same}

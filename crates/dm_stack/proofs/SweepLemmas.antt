@@ -8,8 +8,8 @@ use Rattle.std.proofs.lemmas.Bool.{le-ltb, lt-ltb}
 use Rattle.std.proofs.lemmas.List.{get_or-take, get_or_default, length-take, take_more}
 use Rattle.std.proofs.lemmas.List.Elements.{recursion_from_All}
 use Rattle.std.proofs.lemmas.List.Sums.{fold-append}
-use Rattle.dm_table.specs.declared.table.Use.{Use}
-use Rattle.dm_table.specs.declared.table.Use.TheVariants.{Own, Reading, Serving}
+use Rattle.dm_table.specs.declared.tables.table.Use.{Use}
+use Rattle.dm_table.specs.declared.tables.table.Use.TheVariants.{Own, Reading, Serving}
 use Rattle.dm_stack.specs.declared.id.Lower.{Lower}
 use Rattle.dm_stack.specs.declared.reach.Reach.{Reach}
 use Rattle.dm_stack.specs.declared.tidy.Numbered.{Numbered}

@@ -10,10 +10,10 @@ use Rattle.std.proofs.lemmas.List.{append_assoc, get_or_default, get_or_append_l
 use Rattle.std.proofs.lemmas.List.Elements.{All-from_recursion}
 use Rattle.std.proofs.lemmas.List.Folds.{Any-from_list_any}
 use Rattle.std.proofs.lemmas.Option.{slice_get_past, slice_get_read}
-use Rattle.dm_table.specs.declared.table.DevRef.{DevRef}
-use Rattle.dm_table.specs.declared.table.DevRef.TheVariants as refs
-use Rattle.dm_table.specs.declared.table.DeviceSpec.{DeviceSpec}
-use Rattle.dm_table.specs.declared.table.Line.{Line}
+use Rattle.dm_table.specs.declared.tables.table.DevRef.{DevRef}
+use Rattle.dm_table.specs.declared.tables.table.DevRef.TheVariants as refs
+use Rattle.dm_table.specs.declared.tables.table.DeviceSpec.{DeviceSpec}
+use Rattle.dm_table.specs.declared.tables.table.Line.{Line}
 use Rattle.dm_stack.specs.declared.claim.Claim.{Claim}
 use Rattle.dm_stack.specs.declared.clash.Clash.{Clash}
 use Rattle.dm_stack.specs.declared.id.Lower.{Lower}
@@ -23,7 +23,7 @@ use Rattle.dm_stack.specs.Description.{Description, end_of, is_same, len_or_none
 use Rattle.dm_stack.specs.Naming.{is_device, is_named, line_names}
 use Rattle.dm_stack.specs.Report.{IsReport, report_text}
 use Rattle.dm_stack.specs.Soundness.{IsSound, is_past, passes, passes_end}
-use Rattle.dm_table.specs.Span.{Span, spans}
+use Rattle.dm_table.specs.tables.Span.{Span, spans}
 use Rattle.dm_stack.specs.Sweep.{IsCounted}
 use Rattle.dm_stack.proofs.HandedOn.{all_append, all_each}
 use Rattle.dm_stack.proofs.PairLemmas.{none_before}

@@ -1,14 +1,14 @@
 -- A stack with an origin, worked by hand, against which the definitions are checked.
 use Rattle.std.proofs.Common.{◌≡◌, ℕ, true, false, List, [], ◌∷◌, None, Some, refl}
-use Rattle.dm_table.specs.declared.disk.Disk as disks
-use Rattle.dm_table.specs.declared.place.Part.TheVariants as parts
-use Rattle.dm_table.specs.declared.place.Place.{Place}
-use Rattle.dm_table.specs.declared.table.DevRef.TheVariants as refs
-use Rattle.dm_table.specs.declared.table.DeviceSpec.{DeviceSpec}
-use Rattle.dm_table.specs.declared.table.StoreKind.TheVariants.{Persistent}
-use Rattle.dm_table.specs.declared.table.Target.{Target}
-use Rattle.dm_table.specs.declared.table.Target.TheVariants as targets
-use Rattle.dm_table.specs.declared.table.Use.TheVariants.{Own, Reading, Serving}
+use Rattle.dm_table.specs.declared.tables.disk.Disk as disks
+use Rattle.dm_table.specs.declared.load.place.Part.TheVariants as parts
+use Rattle.dm_table.specs.declared.load.place.Place.{Place}
+use Rattle.dm_table.specs.declared.tables.table.DevRef.TheVariants as refs
+use Rattle.dm_table.specs.declared.tables.table.DeviceSpec.{DeviceSpec}
+use Rattle.dm_table.specs.declared.tables.table.StoreKind.TheVariants.{Persistent}
+use Rattle.dm_table.specs.declared.tables.table.Target.{Target}
+use Rattle.dm_table.specs.declared.tables.table.Target.TheVariants as targets
+use Rattle.dm_table.specs.declared.tables.table.Use.TheVariants.{Own, Reading, Serving}
 use Rattle.dm_stack.specs.declared.claim.Claim.{Claim}
 use Rattle.dm_stack.specs.declared.found_line.FoundOver.{FoundOver}
 use Rattle.dm_stack.specs.declared.found_line.FoundTarget.TheVariants as found

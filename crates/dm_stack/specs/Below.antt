@@ -1,10 +1,10 @@
 -- The line of a sector, and what lies below it (the kernel's admin guide, device-mapper/linear and striped).
 use Rattle.std.specs.Prelude.{ℕ, ◌+◌, ◌-◌, ◌*◌, ◌/◌, ◌%◌, ◌&&◌, ◌≡◌, ◌≤◌, ◌<◌, Bool, List, Option, Some, None, find, length, map, nat_le, nat_lt, option_map, slice_get}
 use Rattle.std.specs.List.{AllByRecursion}
-use Rattle.dm_table.specs.declared.table.Column.{Column}
-use Rattle.dm_table.specs.declared.table.Target.{Target}
-use Rattle.dm_table.specs.declared.table.Target.TheVariants as targets
-use Rattle.dm_table.specs.declared.table.Line.{Line}
+use Rattle.dm_table.specs.declared.tables.table.Column.{Column}
+use Rattle.dm_table.specs.declared.tables.table.Target.{Target}
+use Rattle.dm_table.specs.declared.tables.table.Target.TheVariants as targets
+use Rattle.dm_table.specs.declared.tables.table.Line.{Line}
 use Rattle.dm_stack.specs.declared.id.Lower.{Lower}
 use Rattle.dm_stack.specs.declared.found_columns.FoundColumn.{FoundColumn}
 use Rattle.dm_stack.specs.declared.found_line.FoundOrigin.{FoundOrigin}

@@ -1,15 +1,15 @@
 -- Claims: which sectors below each line of a stack relies on, and where two lines get in each other's way.
 use Rattle.std.specs.Prelude.{◌≡◌, ℕ, ◌+◌, ◌≤◌, ◌<◌, Bool, true, false, List, ◌∷◌, ◌++◌, Option, Some, None, length, map}
 use Rattle.std.specs.List.{All, AllPairs, flat_map, range_with_len}
-use Rattle.dm_table.specs.declared.table.Line.{Line}
-use Rattle.dm_table.specs.declared.table.Use.{Use}
-use Rattle.dm_table.specs.declared.table.Use.TheVariants.{Reading, Serving}
+use Rattle.dm_table.specs.declared.tables.table.Line.{Line}
+use Rattle.dm_table.specs.declared.tables.table.Use.{Use}
+use Rattle.dm_table.specs.declared.tables.table.Use.TheVariants.{Reading, Serving}
 use Rattle.dm_stack.specs.declared.claim.Claim.{Claim}
 use Rattle.dm_stack.specs.declared.clash.Clash.{Clash}
 use Rattle.dm_stack.specs.declared.id.Lower.{Lower}
 use Rattle.dm_stack.specs.declared.id.Lower.TheVariants.{Device, Disk}
 use Rattle.dm_stack.specs.Description.{Description, lines_at, lower_len, lower_of}
-use Rattle.dm_table.specs.Span.{Span, spans}
+use Rattle.dm_table.specs.tables.Span.{Span, spans}
 
 -- where a span ends: what is named whole is claimed to its end
 abbrev pub span_end : (whole offset : ℕ) → Option ℕ → ℕ

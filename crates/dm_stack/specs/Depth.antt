@@ -4,7 +4,7 @@ use Rattle.std.specs.List.{flat_map, range_with_len}
 use Rattle.dm_stack.specs.declared.id.Lower.{Lower}
 use Rattle.dm_stack.specs.declared.id.Lower.TheVariants as lowers
 use Rattle.dm_stack.specs.Description.{Description, lines_at, lower_of}
-use Rattle.dm_table.specs.Span.{spans}
+use Rattle.dm_table.specs.tables.Span.{spans}
 use Rattle.dm_stack.specs.Graph.{greatest}
 use Rattle.dm_stack.specs.Soundness.{depth_of}
 

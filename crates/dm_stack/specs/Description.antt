@@ -2,14 +2,14 @@
 use Rattle.std.specs.Prelude.{ℕ, ◌+◌, ◌==◌, Bool, false, List, [], ◌∷◌, Option, Some, None, find, map, nat_eq, slice_get}
 use Rattle.std.specs.List.{flat_map, position_or_len}
 use Rattle.std.specs.Cmp.Lexicographic.{pointwise}
-use Rattle.dm_table.specs.declared.table.DevRef.{DevRef}
-use Rattle.dm_table.specs.declared.table.DevRef.TheVariants as refs
-use Rattle.dm_table.specs.declared.table.Line.{Line}
-use Rattle.dm_table.specs.declared.table.DeviceSpec.{DeviceSpec}
-use Rattle.dm_table.specs.declared.disk.Disk.{Disk}
+use Rattle.dm_table.specs.declared.tables.table.DevRef.{DevRef}
+use Rattle.dm_table.specs.declared.tables.table.DevRef.TheVariants as refs
+use Rattle.dm_table.specs.declared.tables.table.Line.{Line}
+use Rattle.dm_table.specs.declared.tables.table.DeviceSpec.{DeviceSpec}
+use Rattle.dm_table.specs.declared.tables.disk.Disk.{Disk}
 use Rattle.dm_stack.specs.declared.id.Lower.{Lower}
 use Rattle.dm_stack.specs.declared.id.Lower.TheVariants as lowers
-use Rattle.dm_table.specs.Span.{spans}
+use Rattle.dm_table.specs.tables.Span.{spans}
 
 -- the devices of one list, and the disks of the other
 pub record Description : Type 0 where

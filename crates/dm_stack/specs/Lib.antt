@@ -1,5 +1,4 @@
 pub mod Below
-pub mod Bytes
 pub mod Claims
 pub mod Depth
 pub mod Description

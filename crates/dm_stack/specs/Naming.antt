@@ -1,11 +1,11 @@
 -- Which lines name a device, as the code looks for it.
 use Rattle.std.specs.Prelude.{ℕ, Bool, false, ◌==◌}
 use Rattle.std.specs.List.{list_any}
-use Rattle.dm_table.specs.declared.table.Line.{Line}
+use Rattle.dm_table.specs.declared.tables.table.Line.{Line}
 use Rattle.dm_stack.specs.declared.id.Lower.{Lower}
 use Rattle.dm_stack.specs.declared.id.Lower.TheVariants.{Device, Disk}
 use Rattle.dm_stack.specs.Description.{Description, lower_of}
-use Rattle.dm_table.specs.Span.{spans}
+use Rattle.dm_table.specs.tables.Span.{spans}
 
 abbrev pub is_device : ℕ → Lower → Bool
 is_device device (Device id) = id == device

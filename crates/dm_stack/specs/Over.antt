@@ -1,10 +1,10 @@
 -- The snapshots of an origin (the kernel's admin guide, device-mapper/snapshot).
 use Rattle.std.specs.Prelude.{ℕ, List, [], ◌∷◌, filter, length}
 use Rattle.std.specs.List.{flat_map, range_with_len}
-use Rattle.dm_table.specs.declared.table.DevRef.{DevRef}
-use Rattle.dm_table.specs.declared.table.StoreKind.{StoreKind}
-use Rattle.dm_table.specs.declared.table.Target.{Target}
-use Rattle.dm_table.specs.declared.table.Target.TheVariants as targets
+use Rattle.dm_table.specs.declared.tables.table.DevRef.{DevRef}
+use Rattle.dm_table.specs.declared.tables.table.StoreKind.{StoreKind}
+use Rattle.dm_table.specs.declared.tables.table.Target.{Target}
+use Rattle.dm_table.specs.declared.tables.table.Target.TheVariants as targets
 use Rattle.dm_stack.specs.declared.found_line.FoundOver.{FoundOver}
 use Rattle.dm_stack.specs.declared.found_line.FoundSnapshot.{FoundSnapshot}
 use Rattle.dm_stack.specs.declared.id.Lower.{Lower}

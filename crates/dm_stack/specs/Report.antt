@@ -3,7 +3,7 @@ use Rattle.std.specs.Prelude.{◌≡◌, ℕ, List, [], ◌∷◌, ◌++◌, Opt
 use Rattle.dm_stack.specs.declared.clash.Clash.{Clash}
 use Rattle.dm_stack.specs.declared.id.Lower.{Lower}
 use Rattle.dm_stack.specs.declared.id.Lower.TheVariants.{Device, Disk}
-use Rattle.dm_stack.specs.Bytes.{newline, space}
+use Rattle.dm_table.specs.words.Bytes.{newline, space}
 use Rattle.dm_stack.specs.Claims.{IsFirstClash, claims}
 use Rattle.dm_stack.specs.Description.{Description, disk_name_at, name_at}
 use Rattle.dm_stack.specs.Depth.{stack_depth}

@@ -1,9 +1,9 @@
 -- Which devices are snapshots.
 use Rattle.std.specs.Prelude.{◌≡◌, ℕ, ◌<◌, Bool, true, false, List, Some, filter, length}
 use Rattle.std.specs.List.{All, Contains, list_any, range_with_len}
-use Rattle.dm_table.specs.declared.table.Line.{Line}
-use Rattle.dm_table.specs.declared.table.Target.{Target}
-use Rattle.dm_table.specs.declared.table.Target.TheVariants as targets
+use Rattle.dm_table.specs.declared.tables.table.Line.{Line}
+use Rattle.dm_table.specs.declared.tables.table.Target.{Target}
+use Rattle.dm_table.specs.declared.tables.table.Target.TheVariants as targets
 use Rattle.dm_stack.specs.declared.found_line.FoundLine.{FoundLine}
 use Rattle.dm_stack.specs.declared.found_line.FoundSnapshot.{FoundSnapshot}
 use Rattle.dm_stack.specs.declared.found_line.FoundTarget.TheVariants as found

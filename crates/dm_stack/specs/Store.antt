@@ -1,15 +1,15 @@
 -- What the store of a snapshot may be: a disk, or what linear and striped lines of writable devices make of disks.
 use Rattle.std.specs.Prelude.{◌≡◌, ℕ, zero, suc, ◌&&◌, Bool, true, false, not, List, [], ◌∷◌, ◌++◌, length, map, nat_le, if◌then◌else◌}
 use Rattle.std.specs.List.{list_all, range_with_len, slice_index_or}
-use Rattle.dm_table.specs.declared.table.Line.{Line}
-use Rattle.dm_table.specs.declared.table.Target.{Target}
-use Rattle.dm_table.specs.declared.table.Target.TheVariants as targets
+use Rattle.dm_table.specs.declared.tables.table.Line.{Line}
+use Rattle.dm_table.specs.declared.tables.table.Target.{Target}
+use Rattle.dm_table.specs.declared.tables.table.Target.TheVariants as targets
 use Rattle.dm_stack.specs.declared.graph.TheConstants.{MOST_DEPTH}
 use Rattle.dm_stack.specs.declared.id.Lower.{Lower}
 use Rattle.dm_stack.specs.declared.id.Lower.TheVariants.{Device, Disk}
 use Rattle.dm_stack.specs.Description.{Description, is_ro_at, lines_at, links, lower_of}
 use Rattle.dm_stack.specs.Graph.{links_of}
-use Rattle.dm_table.specs.Span.{spans}
+use Rattle.dm_table.specs.tables.Span.{spans}
 
 -- each sector of the line is one of what it names
 abbrev pub is_plain : Target → Bool

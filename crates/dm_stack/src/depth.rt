@@ -6,8 +6,8 @@
 ghost use Rattle.std.specs.Prelude.{◌≡◌, None, length, nat_lt};
 ghost use Rattle.std.specs.List.{slice_index_or};
 ghost use Rattle.std.specs.Result.{result_err};
-ghost use Rattle.dm_table.specs.LoadFault.{first_or};
-ghost use Rattle.dm_table.specs.declared.load_fault.LoadKind.TheVariants.{Deep};
+ghost use Rattle.dm_table.specs.load.LoadFault.{first_or};
+ghost use Rattle.dm_table.specs.declared.load.load_fault.LoadKind.TheVariants.{Deep};
 ghost use Rattle.dm_stack.specs.Graph.{greatest};
 ghost use Rattle.dm_stack.specs.Soundness.{faults_by_id};
 

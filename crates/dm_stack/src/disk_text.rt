@@ -4,7 +4,7 @@
 //! A name is mostly short, and then a room of a fixed size is copied, past the end of its text.
 
 ghost use Rattle.std.specs.Prelude.{◌≡◌, ◌+◌, ◌≤◌, IfOk, length, map, take};
-ghost use Rattle.dm_table.specs.Block.{IsPut};
+ghost use Rattle.dm_table.specs.io.Block.{IsPut};
 ghost use Rattle.dm_stack.specs.DiskText.{disk_text};
 
 use dm_table::{Disk, DiskName, put_bytes, put_room};

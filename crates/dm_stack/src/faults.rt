@@ -5,10 +5,10 @@
 ghost use Rattle.std.specs.Prelude.{◌≡◌, Bool, IfErr, IfOk, None};
 ghost use Rattle.std.specs.Fn.{FnReturnsAt};
 ghost use Rattle.std.specs.Result.{result_err};
-ghost use Rattle.dm_table.specs.LoadFault.{IsMemoryFault, faults_by, first_or};
-ghost use Rattle.dm_table.specs.declared.place.Part.TheVariants.{Source};
-ghost use Rattle.dm_table.specs.declared.place.Place.{Place};
-ghost use Rattle.dm_table.specs.declared.table.Line.{Line};
+ghost use Rattle.dm_table.specs.load.LoadFault.{IsMemoryFault, faults_by, first_or};
+ghost use Rattle.dm_table.specs.declared.load.place.Part.TheVariants.{Source};
+ghost use Rattle.dm_table.specs.declared.load.place.Place.{Place};
+ghost use Rattle.dm_table.specs.declared.tables.table.Line.{Line};
 ghost use Rattle.dm_stack.specs.Soundness.{all_lines};
 
 use dm_table::{DeviceSpec, Disk, Line, LoadFault, LoadKind, Part, Place};

@@ -6,9 +6,9 @@
 ghost use Rattle.std.specs.Prelude.{◌≡◌, None, option_copied, slice_get};
 ghost use Rattle.std.specs.List.{list_any};
 ghost use Rattle.std.specs.Result.{result_err};
-ghost use Rattle.dm_table.specs.LoadFault.{first_or};
+ghost use Rattle.dm_table.specs.load.LoadFault.{first_or};
 ghost use Rattle.dm_stack.specs.Soundness.{all_lines, is_far, is_large, past, too_large, too_many};
-ghost use Rattle.dm_table.specs.Span.{spans};
+ghost use Rattle.dm_table.specs.tables.Span.{spans};
 ghost use Rattle.dm_stack.specs.Description.{described};
 
 use crate::faults::{Placed, check_each, check_lines};

@@ -4,8 +4,8 @@
 //! rely on what earlier ones passed. A new check takes its place here and in `specs/Soundness.antt`.
 
 ghost use Rattle.std.specs.Prelude.{◌≡◌, ◌⊎◌, IfErr, IfOk, OnOk};
-ghost use Rattle.dm_table.specs.LoadFault.{IsMemoryFault};
-ghost use Rattle.dm_table.specs.declared.place.Part.TheVariants.{Source};
+ghost use Rattle.dm_table.specs.load.LoadFault.{IsMemoryFault};
+ghost use Rattle.dm_table.specs.declared.load.place.Part.TheVariants.{Source};
 ghost use Rattle.dm_stack.specs.Description.{described, links};
 ghost use Rattle.dm_stack.specs.Graph.{IsClosed, IsFirstRing, depths_to};
 ghost use Rattle.dm_stack.specs.Stack.{IsLoaded};

@@ -5,7 +5,7 @@
 
 ghost use Rattle.std.specs.Prelude.{◌≡◌, None};
 ghost use Rattle.std.specs.Result.{result_err};
-ghost use Rattle.dm_table.specs.LoadFault.{first_or};
+ghost use Rattle.dm_table.specs.load.LoadFault.{first_or};
 ghost use Rattle.dm_stack.specs.Soundness.{is_past, passes_end, range};
 
 use crate::faults::check_lines;

@@ -6,7 +6,7 @@
 ghost use Rattle.std.specs.Prelude.{◌≡◌, IfOk, None, map};
 ghost use Rattle.std.specs.List.{All};
 ghost use Rattle.std.specs.Result.{result_err};
-ghost use Rattle.dm_table.specs.LoadFault.{first_or};
+ghost use Rattle.dm_table.specs.load.LoadFault.{first_or};
 ghost use Rattle.dm_stack.specs.Below.{found_columns, found_line, found_target};
 ghost use Rattle.dm_stack.specs.Stack.{found_table};
 ghost use Rattle.dm_stack.specs.Over.{all_over};

@@ -6,7 +6,7 @@
 
 ghost use Rattle.std.specs.Prelude.{◌≡◌, ◌∷◌, ◌++◌, [], IfOk, None, OnOk, if◌then◌else◌};
 ghost use Rattle.std.specs.Result.{result_err};
-ghost use Rattle.dm_table.specs.LoadFault.{first_or};
+ghost use Rattle.dm_table.specs.load.LoadFault.{first_or};
 ghost use Rattle.dm_stack.specs.Description.{described};
 ghost use Rattle.dm_stack.specs.Snapshots.{has_snapshot, snapshots};
 ghost use Rattle.dm_stack.specs.Soundness.{is_bad_chunk, is_bad_snapshot, snapshot, bad_snapshots_in};

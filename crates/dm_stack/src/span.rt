@@ -6,7 +6,7 @@
 
 ghost use Rattle.std.specs.Prelude.{◌≡◌, ◌+◌, ◌/◌, ◌<◌, ◌^◌, IfSome, drop, length, map, slice_get};
 ghost use Rattle.std.specs.Iterator.{YieldsFirst, item_count};
-ghost use Rattle.dm_table.specs.Span.{column_span, spans, whole_span};
+ghost use Rattle.dm_table.specs.tables.Span.{column_span, spans, whole_span};
 
 use dm_table::{Column, DevRef, Line, Target, Use};
 use std::marker::Model;
@@ -22,7 +22,7 @@ pub(crate) struct Span<'a> {
 }
 
 impl<'a> Model for Span<'a> {
-    ghost use Rattle.dm_table.specs.Span.{Span};
+    ghost use Rattle.dm_table.specs.tables.Span.{Span};
 
     ghost Value = { Span };
 

@@ -5,7 +5,7 @@
 
 ghost use Rattle.std.specs.Prelude.{◌≡◌, ◌≢◌, ℕ, ◌+◌, ◌<◌, ◌≤◌, ◌^◌, ◌↔◌, IfErr, IfOk, IfSome, IsTrue, OnOk};
 ghost use Rattle.std.specs.Prelude.{List, Option, Some, is_none, length, position, slice_get};
-ghost use Rattle.dm_table.specs.Name.{is_disk_name};
+ghost use Rattle.dm_table.specs.words.Name.{is_disk_name};
 ghost use Rattle.dm_stack.specs.Below.{HoldsSoundly, found_at, found_lines};
 ghost use Rattle.dm_stack.specs.Claims.{IsFirstClash, IsThere, IsTidy, IsTop, claims};
 ghost use Rattle.dm_stack.specs.Description.{Description, described, device_len, disk_len, is_ro_at, is_same};
@@ -25,10 +25,10 @@ ghost use Rattle.dm_stack.specs.declared.graph.TheConstants.{MOST_DEPTH};
 ghost use Rattle.dm_stack.specs.declared.limits.TheConstants.{MOST_CHUNK, MOST_DEVICES, MOST_DISKS};
 ghost use Rattle.dm_stack.specs.declared.limits.TheConstants.{MOST_LENGTH, MOST_LINES, MOST_PLACES};
 ghost use Rattle.dm_stack.specs.declared.limits.TheConstants.{MOST_SNAPSHOT_CHUNK, MOST_STRIPES};
-ghost use Rattle.dm_table.specs.LoadFault.{IsMemoryFault};
-ghost use Rattle.dm_table.specs.declared.load_fault.LoadFault.{LoadFault};
-ghost use Rattle.dm_table.specs.declared.load_fault.LoadKind.TheVariants.{Memory};
-ghost use Rattle.dm_table.specs.declared.place.Part.TheVariants.{Source};
+ghost use Rattle.dm_table.specs.load.LoadFault.{IsMemoryFault};
+ghost use Rattle.dm_table.specs.declared.load.load_fault.LoadFault.{LoadFault};
+ghost use Rattle.dm_table.specs.declared.load.load_fault.LoadKind.TheVariants.{Memory};
+ghost use Rattle.dm_table.specs.declared.load.place.Part.TheVariants.{Source};
 
 use crate::claim::{claims, is_named};
 use crate::clash::Clash;

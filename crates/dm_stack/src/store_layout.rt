@@ -7,7 +7,7 @@
 //! of stores apart to find a place.
 
 ghost use Rattle.std.specs.Prelude.{◌≡◌, ◌↔◌, ℕ, ◌+◌, ◌*◌, ◌<◌, ◌≤◌, ◌^◌, false};
-ghost use Rattle.dm_table.specs.declared.table.StoreKind.{StoreKind};
+ghost use Rattle.dm_table.specs.declared.tables.table.StoreKind.{StoreKind};
 ghost use Rattle.dm_stack.specs.StoreLayout.{allocated, is_metadata, metadata, place, place_count};
 ghost use Rattle.dm_stack.specs.declared.limits.TheConstants.{MOST_SNAPSHOT_CHUNK};
 

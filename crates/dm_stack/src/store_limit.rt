@@ -3,7 +3,7 @@
 ghost use Rattle.std.specs.Prelude.{◌≡◌, None};
 ghost use Rattle.std.specs.List.{All};
 ghost use Rattle.std.specs.Result.{result_err};
-ghost use Rattle.dm_table.specs.LoadFault.{first_or};
+ghost use Rattle.dm_table.specs.load.LoadFault.{first_or};
 ghost use Rattle.dm_stack.specs.Soundness.{HasGoodChunk, HaveGoodChunks, crowded, target_places};
 
 use crate::indexed::Indexed;

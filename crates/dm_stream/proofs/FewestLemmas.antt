@@ -3,7 +3,7 @@ use Rattle.std.proofs.Common.{◌≡◌, ℕ, zero, suc, ◌<◌, ◌≤◌, Boo
 use Rattle.std.specs.List.{flat_map, AllByRecursion}
 use Rattle.std.proofs.lemmas.List.{append-nil}
 use Rattle.dm_map.specs.pieces.Units.{BlockUnit, next_unit, units_in}
-use Rattle.dm_stream.specs.JoinLaws.{onto_begins}
+use Rattle.dm_stream.specs.laws.Join.{onto_begins}
 use Rattle.dm_stream.specs.Pieces.{UnitRun, piece_units, joins, is_after, onto, fewest, ArePiecesOf, NoneContinues, AreFewest}
 use Rattle.dm_stream.proofs.PieceLemmas.{joins-next, joined_next, is_after-one, is_after-more, onto-joined, fewest-apart, fewest-run}
 

@@ -3,12 +3,12 @@ use Rattle.std.proofs.Common.{◌≡◌, ℕ, ◌+◌, ◌<◌, ◌≤◌, cond,
 use Rattle.std.specs.Prelude.{Result}
 use Rattle.std.proofs.lemmas.Bool.{le-ltb}
 use Rattle.std.proofs.lemmas.List.{append-nil}
-use Rattle.dm_table.specs.DeviceIo.{Stand, Open, since}
-use Rattle.dm_table.specs.RequestLine.{RequestValues, DescribesRequest, request_reading}
-use Rattle.dm_table.specs.declared.request.RequestFault.{RequestFault}
-use Rattle.dm_table.proofs.RequestLemmas.{read-said}
+use Rattle.dm_table.specs.io.DeviceIo.{Stand, Open, since}
+use Rattle.dm_table.specs.requests.RequestLine.{RequestValues, DescribesRequest, request_reading}
+use Rattle.dm_table.specs.declared.requests.request.RequestFault.{RequestFault}
+use Rattle.dm_table.proofs.requests.RequestLemmas.{read-said}
 use Rattle.dm_stream.specs.Lines.{ALine, line_parts, next_answer}
-use Rattle.dm_table.proofs.ProgressLaws.{since-same, grows-same}
+use Rattle.dm_table.specs.laws.Progress.{since-same, grows-same}
 use Rattle.dm_stream.specs.Requests.{NumberedRequest, Requests, after_requests, by_reading, is_bad, line_requests}
 use Rattle.dm_stream.specs.declared.ending.RequestWord as word
 use Rattle.dm_stream.specs.declared.lines.TheConstants.{MOST_LINE_BYTES}

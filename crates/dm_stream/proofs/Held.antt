@@ -2,8 +2,8 @@
 use Rattle.std.proofs.Common.{◌≡◌, ℕ, ◌+◌, ◌-◌, ◌<◌, ◌≤◌, ◌++◌, List, length, take, drop, slice_range, sym, ap, ◌∙◌, arith, length-take, length-take-le}
 use Rattle.std.proofs.Math.Seq.{take-add}
 use Rattle.std.proofs.lemmas.List.{take-take, drop-drop, drop-take}
-use Rattle.dm_table.specs.DeviceIo.{since}
-use Rattle.dm_table.proofs.Growth.{since_is}
+use Rattle.dm_table.specs.io.DeviceIo.{since}
+use Rattle.dm_table.specs.laws.Progress.{since_is}
 
 -- a range keeps its bytes where all before its end keep theirs
 pub same_range : (new old held : List ℕ) (start len : ℕ) → take (start + len) new ≡ take (start + len) old → slice_range old start (start + len) ≡ held → slice_range new start (start + len) ≡ held

@@ -2,17 +2,17 @@
 use Rattle.std.proofs.Common.{◌≡◌, ℕ, zero, suc, ◌+◌, ◌≤◌, true, false, List, ◌∷◌, ◌++◌, Option, Some, None, sym, ap, subst, ◌∙◌, append_assoc, arith}
 use Rattle.std.proofs.lemmas.List.{append-nil}
 use Rattle.std.proofs.lemmas.Grind.{flat_map-append}
-use Rattle.dm_table.specs.DeviceIo.{since}
+use Rattle.dm_table.specs.io.DeviceIo.{since}
 use Rattle.dm_stack.specs.Description.{Description}
 use Rattle.dm_map.specs.declared.pieces.piece.Piece as code
 use Rattle.dm_map.specs.pieces.Units.{BlockUnit, first_unit, next_unit, piece_len, units_in, units_of}
 use Rattle.dm_stream.specs.Pending.{Pending, IsHeld, held_units, piece_view}
 use Rattle.dm_stream.specs.Join.{HasUnits, HasLeft}
-use Rattle.dm_stream.specs.JoinLaws.{last_of_units, some_before, beginning-before}
+use Rattle.dm_stream.specs.laws.Join.{last_of_units, some_before, beginning-before}
 use Rattle.dm_stream.specs.Pieces.{UnitRun, fewest, is_after}
-use Rattle.dm_table.specs.Fields.{all_but_last}
+use Rattle.dm_table.specs.words.Fields.{all_but_last}
 use Rattle.dm_stream.specs.PieceText.{piece_text, pieces_text}
-use Rattle.dm_table.specs.WriteAll.{IsBeginning, IsCutShort}
+use Rattle.dm_table.specs.io.WriteAll.{IsBeginning, IsCutShort}
 use Rattle.dm_stream.proofs.PieceLemmas.{fewest-apart, fewest-run, units_joined}
 
 -- where a piece does not go on from another, that one is whole

@@ -5,7 +5,7 @@ use Rattle.std.proofs.lemmas.List.Splits.{slice_split-cons_yes, slice_split-cons
 use Rattle.std.proofs.lemmas.Bool.{le-ltb}
 use Rattle.std.proofs.lemmas.List.{drop-drop}
 use Rattle.std.proofs.Math.Seq.{take-add}
-use Rattle.dm_table.specs.DeviceIo.{Stand}
+use Rattle.dm_table.specs.io.DeviceIo.{Stand}
 use Rattle.dm_stream.specs.declared.lines.TheConstants.{MOST_LINE_BYTES}
 use Rattle.dm_stream.specs.Lines.{line_parts, next_answer, ALine, ALong}
 

@@ -3,7 +3,7 @@ use Rattle.std.proofs.Common.{◌≡◌, ℕ, zero, suc, ◌+◌, true, false, e
 use Rattle.std.specs.Prelude.{◌&&◌}
 use Rattle.std.proofs.lemmas.Bool.{and_parts, and_from, eqb-true, eq-eqb}
 use Rattle.dm_map.specs.pieces.Units.{BlockUnit, ReadOf, WriteOf, Zeros, Drops, Fails, CopyOf, FillOf, next_unit, units_in}
-use Rattle.dm_stream.specs.JoinLaws.{onto_begins}
+use Rattle.dm_stream.specs.laws.Join.{onto_begins}
 use Rattle.dm_stream.specs.Pieces.{UnitRun, is_unit, joins, further, is_after, onto, fewest}
 
 -- two numbers that equal two others make the same unit, and numbers equal themselves

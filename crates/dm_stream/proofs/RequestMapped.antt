@@ -4,7 +4,7 @@ use Rattle.std.specs.List.{position}
 use Rattle.std.proofs.lemmas.Grind.{flat_map-append}
 use Rattle.std.proofs.lemmas.List.{append-nil}
 use Rattle.std.proofs.lemmas.List.Quantifiers.{position-Some}
-use Rattle.dm_table.specs.DeviceIo.{OutputPast, since, written_since}
+use Rattle.dm_table.specs.io.DeviceIo.{OutputPast, since, written_since}
 use Rattle.dm_stack.specs.Description.{Description}
 use Rattle.dm_map.specs.Mapper.{OnSinkFault}
 use Rattle.dm_map.specs.pieces.Units.{BlockUnit}
@@ -12,7 +12,7 @@ use Rattle.dm_map.specs.declared.mapper.MapFault.{MapFault}
 use Rattle.dm_map.specs.declared.mapper.MapFault.TheVariants as faults
 use Rattle.dm_stream.specs.Pending.{Pending, held_units}
 use Rattle.dm_stream.specs.Join.{HasTaken, HasLeft, HasUnits}
-use Rattle.dm_stream.specs.JoinLaws.{onto_begins, some_before}
+use Rattle.dm_stream.specs.laws.Join.{onto_begins, some_before}
 use Rattle.dm_map.specs.Mapper.{MapperView}
 use Rattle.dm_stream.specs.Mapped.{HasStopped}
 use Rattle.dm_stream.specs.Outcome.{device_of, of_device, outcome_from, request_answer}
@@ -20,11 +20,11 @@ use Rattle.dm_stream.specs.Requests.{NumberedRequest}
 use Rattle.dm_map.specs.state.State.{State}
 use Rattle.dm_stream.specs.declared.ending.NotMapped.TheVariants as causes
 use Rattle.dm_stream.specs.Pieces.{UnitRun, fewest}
-use Rattle.dm_table.specs.Fields.{all_but_last}
+use Rattle.dm_table.specs.words.Fields.{all_but_last}
 use Rattle.dm_stream.specs.PieceText.{piece_text, pieces_text, unit_text}
-use Rattle.dm_table.specs.WriteAll.{IsBeginning, IsCutShort}
-use Rattle.dm_table.proofs.WriteLemmas.{and_then}
-use Rattle.dm_table.specs.Progress.{HasWritten, Wrote}
+use Rattle.dm_table.specs.io.WriteAll.{IsBeginning, IsCutShort}
+use Rattle.dm_table.proofs.io.WriteLemmas.{and_then}
+use Rattle.dm_table.specs.io.Progress.{HasWritten, Wrote}
 
 -- what follows at an answer
 pub on_ok : {T E : Type 0} (r : Result T E) (P Q : Type 0) → (P → Q) → OnOk r P → OnOk r Q

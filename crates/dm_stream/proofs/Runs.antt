@@ -1,13 +1,13 @@
 -- What the requests mapped so far say of the outcome of a run.
 use Rattle.std.proofs.Common.{◌≡◌, ◌≢◌, ℕ, Bool, List, [], ◌++◌, Option, Some, Result, Ok, Err, IsErr, OnErr, OnOk, sym, ap, subst, ◌∙◌, refl}
 use Rattle.std.proofs.lemmas.List.{append-nil}
-use Rattle.dm_table.specs.DeviceIo.{Delivery, InputPast, OutputPast, since, written_since}
+use Rattle.dm_table.specs.io.DeviceIo.{Delivery, InputPast, OutputPast, since, written_since}
 use Rattle.dm_stack.specs.Description.{Description}
 use Rattle.dm_map.specs.Mapper.{MapperView}
 use Rattle.dm_stream.specs.Mapped.{HasAnswered, HasStopped}
 use Rattle.dm_stream.specs.Outcome.{Outcome, if_done, outcome_from, requests_outcome, with_status}
-use Rattle.dm_table.specs.Progress.{HasWritten, IsClosedAfter, MetNothing, Wrote}
-use Rattle.dm_table.proofs.ProgressLaws.{closed_as}
+use Rattle.dm_table.specs.io.Progress.{HasWritten, IsClosedAfter, MetNothing, Wrote}
+use Rattle.dm_table.specs.laws.Progress.{closed_as}
 use Rattle.dm_stream.specs.StatusLines.{status_text}
 use Rattle.dm_stream.proofs.RequestMapped.{cut_of_more}
 use Rattle.dm_stream.specs.Requests.{HasMet, IsAmong, NumberedRequest, requests_of}

@@ -3,15 +3,15 @@ use Rattle.std.proofs.Common.{◌≡◌, ◌≤◌, ◌==◌, cond, true, false,
 use Rattle.std.specs.List.{onto_first}
 use Rattle.std.proofs.lemmas.Bool.{ltb-false}
 use Rattle.std.proofs.lemmas.List.{append-nil}
-use Rattle.dm_table.specs.DeviceIo.{Clean, Failed, InputPast, Open, Stand, delivery, since, stand_of}
+use Rattle.dm_table.specs.io.DeviceIo.{Clean, Failed, InputPast, Open, Stand, delivery, since, stand_of}
 use Rattle.dm_stream.specs.Lines.{Answer, ALine, ALong, line_parts, next_answer, rest_answer}
-use Rattle.dm_table.specs.Progress.{HasGrown, MetNothing}
-use Rattle.dm_table.proofs.ProgressLaws.{since-same}
+use Rattle.dm_table.specs.io.Progress.{HasGrown, MetNothing}
+use Rattle.dm_table.specs.laws.Progress.{since-same}
 use Rattle.dm_stream.specs.Requests.{HasMet, IsAmong, NumberedRequest, Requests, after_requests, ends as only_ends, line_requests, next_requests, requests_from, requests_of}
 use Rattle.dm_stream.specs.declared.lines.TheConstants.{MOST_LINE_BYTES}
 use Rattle.dm_stream.specs.declared.ending.Ending as ending
 use Rattle.dm_stream.specs.declared.ending.RequestWord as word
-use Rattle.dm_table.proofs.Growth.{since_more}
+use Rattle.dm_table.specs.laws.Progress.{since_more}
 use Rattle.dm_stream.proofs.LineParts.{some_part, next_line}
 
 -- The first part

@@ -1,12 +1,12 @@
 -- What a join took, and what it left, by what is held and what was written.
 use Rattle.std.specs.Prelude.{◌≡◌, ℕ, List, [], ◌∷◌, ◌++◌, None}
-use Rattle.dm_table.specs.DeviceIo.{since}
+use Rattle.dm_table.specs.io.DeviceIo.{since}
 use Rattle.dm_map.specs.pieces.Units.{BlockUnit}
 use Rattle.dm_stream.specs.Pending.{Pending, held_units}
 use Rattle.dm_stream.specs.Pieces.{UnitRun, fewest}
-use Rattle.dm_table.specs.Fields.{all_but_last}
+use Rattle.dm_table.specs.words.Fields.{all_but_last}
 use Rattle.dm_stream.specs.PieceText.{pieces_text}
-use Rattle.dm_table.specs.WriteAll.{IsBeginning}
+use Rattle.dm_table.specs.io.WriteAll.{IsBeginning}
 
 -- whatever units follow, some pieces are settled, and what is held stands for the others; the settled ones were written
 pub record HasTaken (old new : Pending) (units : List BlockUnit) (before after : List ℕ) : Type 0 where

@@ -1,9 +1,10 @@
 -- The range that a line ends with.
 use Rattle.std.specs.Prelude.{◌≡◌, ◌<◌, ℕ, List, [], ◌∷◌, ◌++◌, length, decimal}
+use Rattle.dm_table.specs.words.Bytes.{newline, space}
 
 -- its start, its length and a newline
 abbrev pub range_text : ℕ → ℕ → List ℕ
-range_text start len = decimal start ++ 32 ∷ decimal len ++ 10 ∷ []
+range_text start len = decimal start ++ space ∷ decimal len ++ newline ∷ []
 
 -- what is kept, if anything, is this range
 abbrev pub IsKept : List ℕ → ℕ → ℕ → Type 0

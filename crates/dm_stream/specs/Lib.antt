@@ -1,10 +1,8 @@
 pub mod Join
-pub mod JoinLaws
 pub mod KeptRange
 pub mod LastDevice
 pub mod Lines
 pub mod Mapped
-pub mod MappedLaws
 pub mod Messages
 pub mod NextHeld
 pub mod NumberPrefix
@@ -15,3 +13,4 @@ pub mod Pieces
 pub mod Requests
 pub mod Run
 pub mod StatusLines
+pub mod laws

@@ -1,7 +1,7 @@
 -- What a request mapper answered to the requests that it was handed, and why it stopped.
 use Rattle.std.specs.Prelude.{◌≡◌, ℕ, List, ◌++◌, Option, None, Some, false}
-use Rattle.dm_table.specs.DeviceIo.{since}
-use Rattle.dm_table.specs.WriteAll.{IsCutShort}
+use Rattle.dm_table.specs.io.DeviceIo.{since}
+use Rattle.dm_table.specs.io.WriteAll.{IsCutShort}
 use Rattle.dm_stack.specs.Description.{Description}
 use Rattle.dm_map.specs.Mapper.{MapperView}
 use Rattle.dm_map.specs.state.State.{State}

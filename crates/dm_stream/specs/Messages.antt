@@ -1,8 +1,8 @@
 -- The message of each ending, and how a message is told.
 use Rattle.std.specs.Prelude.{◌≡◌, ◌≤◌, ℕ, ◌+◌, List, [], ◌++◌, codes, decimal}
-use Rattle.dm_table.specs.DeviceIo.{OutputPast, written_since}
-use Rattle.dm_table.specs.WriteAll.{IsBeginning}
-use Rattle.dm_table.specs.Progress.{HasGrown}
+use Rattle.dm_table.specs.io.DeviceIo.{OutputPast, written_since}
+use Rattle.dm_table.specs.io.WriteAll.{IsBeginning}
+use Rattle.dm_table.specs.io.Progress.{HasGrown}
 use Rattle.dm_stream.specs.declared.ending.Ending.{Ending}
 use Rattle.dm_stream.specs.declared.ending.Ending.TheVariants as endings
 use Rattle.dm_stream.specs.declared.ending.RequestWord.{RequestWord}

@@ -1,6 +1,6 @@
 -- What the held bytes alone say of what comes next.
 use Rattle.std.specs.Prelude.{◌≡◌, ◌<◌, ◌≤◌, ℕ, List, [], ◌∷◌, length, take, Option, None, Some}
-use Rattle.dm_table.specs.DeviceIo.{Stand}
+use Rattle.dm_table.specs.io.DeviceIo.{Stand}
 use Rattle.dm_stream.specs.declared.lines.TheConstants.{MOST_LINE_BYTES}
 use Rattle.dm_stream.specs.Lines.{Answer, ALine, AnEnd, AnUnended, ALong, AFault, next_answer, line_parts}
 use Rattle.dm_stream.specs.declared.lines.NextHeld as found

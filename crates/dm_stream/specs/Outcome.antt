@@ -1,6 +1,6 @@
 -- What a run writes for what its requests delivered, the state that they leave, and how it ends.
 use Rattle.std.specs.Prelude.{ℕ, Bool, List, [], ◌∷◌, ◌++◌, Option, None, Some, position, if◌then◌else◌}
-use Rattle.dm_table.specs.DeviceIo.{Delivery}
+use Rattle.dm_table.specs.io.DeviceIo.{Delivery}
 use Rattle.dm_stack.specs.Description.{Description, is_same}
 use Rattle.dm_map.specs.walk.Mapping.{request_step}
 use Rattle.dm_map.specs.state.State.{State}

@@ -1,11 +1,11 @@
 -- The requests that an input delivered, and how they end.
 use Rattle.std.specs.Prelude.{◌≡◌, ◌<◌, ◌≤◌, ℕ, ◌+◌, List, [], ◌∷◌, ◌++◌, Option, None, Some, Result, Ok, Err, nat_lt, if◌then◌else◌}
-use Rattle.dm_table.specs.declared.request.Request.{Request}
-use Rattle.dm_table.specs.declared.request.RequestFault.{RequestFault}
-use Rattle.dm_table.specs.declared.request.RequestFault.TheVariants as faults
-use Rattle.dm_table.specs.DeviceIo.{Delivery, InputPast, Stand}
-use Rattle.dm_table.specs.Progress.{MetNothing}
-use Rattle.dm_table.specs.RequestLine.{RequestValues, values_of, request_reading}
+use Rattle.dm_table.specs.declared.requests.request.Request.{Request}
+use Rattle.dm_table.specs.declared.requests.request.RequestFault.{RequestFault}
+use Rattle.dm_table.specs.declared.requests.request.RequestFault.TheVariants as faults
+use Rattle.dm_table.specs.io.DeviceIo.{Delivery, InputPast, Stand}
+use Rattle.dm_table.specs.io.Progress.{MetNothing}
+use Rattle.dm_table.specs.requests.RequestLine.{RequestValues, values_of, request_reading}
 use Rattle.dm_stream.specs.Lines.{Answer, ALine, AnEnd, AnUnended, ALong, AFault, Waits, line_parts, next_answer}
 use Rattle.dm_stream.specs.declared.ending.Ending as ending
 use Rattle.dm_stream.specs.declared.ending.RequestWord as word

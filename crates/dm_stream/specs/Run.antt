@@ -1,8 +1,8 @@
 -- What a run did, against the outcome of what it was given.
 use Rattle.std.specs.Prelude.{◌≡◌, ◌≢◌, ℕ, List, Some, false}
-use Rattle.dm_table.specs.DeviceIo.{OutputPast}
-use Rattle.dm_table.specs.Progress.{IsClosedAfter}
-use Rattle.dm_table.specs.WriteAll.{IsCutShort}
+use Rattle.dm_table.specs.io.DeviceIo.{OutputPast}
+use Rattle.dm_table.specs.io.Progress.{IsClosedAfter}
+use Rattle.dm_table.specs.io.WriteAll.{IsCutShort}
 use Rattle.dm_stream.specs.declared.ending.Ending as ending
 use Rattle.dm_stream.specs.declared.ending.NotMapped.{NotMapped}
 use Rattle.dm_stream.specs.declared.ending.NotMapped.TheVariants as causes

@@ -9,7 +9,7 @@ ghost use Rattle.dm_map.specs.pieces.Units.{BlockUnit, IsOnDisks, diskless_len, 
 ghost use Rattle.dm_stream.specs.Pending.{Fits, IsHeld, held_diskless, held_units};
 ghost use Rattle.dm_stream.specs.PieceText.{pieces_text};
 ghost use Rattle.dm_stream.specs.Pieces.{fewest, is_after};
-ghost use Rattle.dm_table.specs.Progress.{Wrote};
+ghost use Rattle.dm_table.specs.io.Progress.{Wrote};
 
 use crate::kept_range::KeptRange;
 use crate::number_prefix::NumberPrefix;

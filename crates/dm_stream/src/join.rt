@@ -9,9 +9,9 @@ ghost use Rattle.dm_stream.specs.Pending.{held_diskless, held_units};
 ghost use Rattle.dm_stream.specs.Join.{HasTaken, HasLeft};
 ghost use Rattle.dm_stream.specs.Pieces.{AreFewest, fewest};
 ghost use Rattle.dm_stream.specs.PieceText.{pieces_text};
-ghost use Rattle.dm_stream.specs.JoinLaws.{took_none, took_more, left_more};
-ghost use Rattle.dm_table.specs.Progress.{HasWrittenTo, IsSameReference, Wrote};
-ghost use Rattle.dm_table.proofs.ProgressLaws.{written_to_none, written_to_more};
+ghost use Rattle.dm_stream.specs.laws.Join.{took_none, took_more, left_more};
+ghost use Rattle.dm_table.specs.io.Progress.{HasWrittenTo, IsSameReference, Wrote};
+ghost use Rattle.dm_table.specs.laws.Progress.{written_to_none, written_to_more};
 
 use crate::held_piece::HeldPiece;
 use dm_map::{Piece, Sink};
@@ -117,13 +117,17 @@ impl<W: Output> Sink for Join<'_, W> {
     ghost took_nothing = { λ s.
         (took_none s.held (W.past s.writer.now).written, written_to_none W.past s.writer) };
 
-    ghost took_then_took = { λ a b c us vs first second.
-        (took_more a.held b.held c.held us vs _ _ _ first.1.moved.appends second.1.moved.appends first.0
-        second.0, written_to_more W.past a.writer b.writer c.writer 0 first.1 second.1) };
+    ghost took_then_took = { λ a b c us vs first second. (
+      took_more a.held b.held c.held us vs _ _ _ first.1.moved.appends second.1.moved.appends first.0
+          second.0,
+      written_to_more W.past a.writer b.writer c.writer 0 first.1 second.1,
+    ) };
 
-    ghost took_then_left = { λ a b c us vs first second.
-        (left_more a.held b.held c.held us vs _ _ _ first.1.moved.appends second.1.moved.appends first.0
-        second.0, written_to_more W.past a.writer b.writer c.writer 1 first.1 second.1) };
+    ghost took_then_left = { λ a b c us vs first second. (
+      left_more a.held b.held c.held us vs _ _ _ first.1.moved.appends second.1.moved.appends first.0
+          second.0,
+      written_to_more W.past a.writer b.writer c.writer 1 first.1 second.1,
+    ) };
 
     #[inline(always)]
     fn piece(&mut self, piece: Piece) -> Result<(), OutFault> {

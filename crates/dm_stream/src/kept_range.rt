@@ -5,7 +5,7 @@
 //! has its digits written where they belong.
 
 ghost use Rattle.std.specs.Prelude.{◌≡◌, ◌+◌, ◌≤◌, length};
-ghost use Rattle.dm_table.specs.Block.{IsPut};
+ghost use Rattle.dm_table.specs.io.Block.{IsPut};
 ghost use Rattle.dm_stream.specs.KeptRange.{range_text, IsKept};
 
 use dm_table::{put_bytes, put_digits, put_room};

@@ -2,9 +2,10 @@
 //! These work on a plain slice and two places in it, so that `lines` deals only with its value.
 //! Held bytes move only when there is too little room after them: a buffer full of short lines stays put.
 ghost use Rattle.std.specs.Prelude.{◌≡◌, ◌+◌, ◌-◌, ◌<◌, ◌≤◌, ◌∷◌, [], length, take, drop, slice_range, IfOk, MatchOption};
-ghost use Rattle.dm_table.specs.DeviceIo.{given};
-ghost use Rattle.dm_table.specs.Fields.{parts_at};
-ghost use Rattle.dm_table.specs.Progress.{HasRead};
+ghost use Rattle.dm_table.specs.io.DeviceIo.{given};
+ghost use Rattle.dm_table.specs.words.Fields.{parts_at};
+ghost use Rattle.dm_table.specs.io.Progress.{HasRead};
+ghost use Rattle.dm_table.specs.words.Bytes.{newline};
 
 use dm_table::{InFault, Input};
 use memchr::memchr;
@@ -13,11 +14,11 @@ use memchr::memchr;
 /// and are not searched again.
 pub(crate) fn line_len(held: &[u8], searched: usize) -> Option<usize>
     requires within { searched ≤ length held.now }
-    requires clear { parts_at 10 (take searched held.now) ≡ take searched held.now ∷ [] }
+    requires clear { parts_at newline (take searched held.now) ≡ take searched held.now ∷ [] }
     ensures { MatchOption result
-        (parts_at 10 held.now ≡ held.now ∷ [])
+        (parts_at newline held.now ≡ held.now ∷ [])
         (λ n. (n < length held.now)
-        × (parts_at 10 held.now ≡ take n held.now ∷ parts_at 10 (drop (n + 1) held.now))) }
+        × (parts_at newline held.now ≡ take n held.now ∷ parts_at newline (drop (n + 1) held.now))) }
 {
     let n = memchr(b'\n', &held[searched..])?;
     Some(searched + n)

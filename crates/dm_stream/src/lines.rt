@@ -5,8 +5,8 @@
 ghost use Rattle.std.specs.Prelude.{◌≡◌, ◌+◌, ◌≤◌, ◌++◌, [], ◌∷◌, length, take, drop, IfOk, OnErr};
 ghost use Rattle.std.specs.Borrow.{sem};
 ghost use Rattle.std.specs.Io.BufRead.{Rests};
-ghost use Rattle.dm_table.specs.DeviceIo.{delivery, since};
-ghost use Rattle.dm_table.specs.Progress.{HasRead, IsReadOn, MetNothing};
+ghost use Rattle.dm_table.specs.io.DeviceIo.{delivery, since};
+ghost use Rattle.dm_table.specs.io.Progress.{HasRead, IsReadOn, MetNothing};
 
 use crate::line_buffer::{line_len, make_room, read_after};
 use dm_table::{InFault, Input};

@@ -14,8 +14,8 @@ ghost use Rattle.dm_stream.specs.Requests.{HasMet};
 ghost use Rattle.dm_stream.specs.Run.{CanMap, HasRun, IsMapped, StaysMapper, ending_for, write_faults};
 ghost use Rattle.dm_stream.specs.declared.lines.TheConstants.{MOST_LINE_BYTES};
 ghost use Rattle.dm_stream.specs.declared.requests.TheConstants.{MOST_REQUESTS};
-ghost use Rattle.dm_table.specs.DeviceIo.{OutputPast, delivery, written_since};
-ghost use Rattle.dm_table.specs.Progress.{HasWritten, HasWrittenTo, IsReadOn, Wrote};
+ghost use Rattle.dm_table.specs.io.DeviceIo.{OutputPast, delivery, written_since};
+ghost use Rattle.dm_table.specs.io.Progress.{HasWritten, HasWrittenTo, IsReadOn, Wrote};
 
 use crate::ending::{Ending, NotMapped, RequestWord};
 use crate::join::Join;

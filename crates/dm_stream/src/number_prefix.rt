@@ -4,7 +4,7 @@
 //! place. The room is copied whole.
 
 ghost use Rattle.std.specs.Prelude.{◌≡◌, ◌+◌, ◌≤◌, length, take};
-ghost use Rattle.dm_table.specs.Block.{IsPut};
+ghost use Rattle.dm_table.specs.io.Block.{IsPut};
 ghost use Rattle.dm_stream.specs.NumberPrefix.{number_prefix};
 
 use dm_table::{put_bytes, put_digits, put_room};

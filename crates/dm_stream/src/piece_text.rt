@@ -5,14 +5,15 @@
 //! `unit_text` in `specs/PieceText`.
 
 ghost use Rattle.std.specs.Prelude.{◌≡◌, ◌++◌, ◌+◌, ◌<◌, ◌≤◌, ◌∷◌, [], length, decimal};
-ghost use Rattle.dm_table.specs.Block.{IsPut};
+ghost use Rattle.dm_table.specs.io.Block.{IsPut};
 ghost use Rattle.dm_stack.specs.Description.{disk_name_at};
 ghost use Rattle.dm_stack.specs.DiskText.{disk_text};
 ghost use Rattle.dm_map.specs.pieces.Units.{CopyOf, FillOf, IsOnDisks, first_unit, piece_len};
 ghost use Rattle.dm_stream.specs.KeptRange.{IsKept};
 ghost use Rattle.dm_stream.specs.Pending.{piece_view};
 ghost use Rattle.dm_stream.specs.PieceText.{IsOther, letter_of, piece_text, place_text, range_line, unit_text};
-ghost use Rattle.dm_table.specs.Progress.{Wrote};
+ghost use Rattle.dm_table.specs.io.Progress.{Wrote};
+ghost use Rattle.dm_table.specs.words.Bytes.{newline};
 
 use crate::kept_range::KeptRange;
 use crate::number_prefix::NumberPrefix;
@@ -149,7 +150,7 @@ fn put_other(block: &mut [u8], at: usize, stack: &Stack, piece: &Piece) -> usize
     requires room { at + 800 ≤ length block.old }
     requires lies { IsOnDisks stack.now piece.now }
     requires other { IsOther piece.now }
-    ensures put { IsPut (unit_text stack.now (first_unit piece.now) (piece_len piece.now) ++ 10 ∷ []) at
+    ensures put { IsPut (unit_text stack.now (first_unit piece.now) (piece_len piece.now) ++ newline ∷ []) at
         block.old block.new result }
     ensures few { result ≤ at + 800 }
 {
@@ -183,7 +184,7 @@ fn put_copy(
     requires room { at + 800 ≤ length block.old }
     requires there { disk < length stack.now.disks }
     requires target { to < length stack.now.disks }
-    ensures put { IsPut (unit_text stack.now (CopyOf disk start to to_start) len ++ 10 ∷ []) at block.old
+    ensures put { IsPut (unit_text stack.now (CopyOf disk start to to_start) len ++ newline ∷ []) at block.old
         block.new result }
     ensures few { result ≤ at + 800 }
 {
@@ -200,7 +201,7 @@ fn put_copy(
 fn put_fill(block: &mut [u8], at: usize, stack: &Stack, disk: DiskId, start: u64, len: u64) -> usize
     requires room { at + 800 ≤ length block.old }
     requires there { disk < length stack.now.disks }
-    ensures put { IsPut (unit_text stack.now (FillOf disk start) len ++ 10 ∷ []) at block.old block.new
+    ensures put { IsPut (unit_text stack.now (FillOf disk start) len ++ newline ∷ []) at block.old block.new
         result }
     ensures few { result ≤ at + 400 }
 {
@@ -228,7 +229,7 @@ fn put_named(block: &mut [u8], at: usize, word: &[u8], stack: &Stack, disk: Disk
 fn put_counted(block: &mut [u8], at: usize, word: &[u8], number: u64) -> usize
     requires room { at + 300 ≤ length block.old }
     requires short { length word.now ≤ 9 }
-    ensures put { IsPut (word.now ++ decimal number ++ 10 ∷ []) at block.old block.new result }
+    ensures put { IsPut (word.now ++ decimal number ++ newline ∷ []) at block.old block.new result }
     ensures few { result ≤ at + 30 }
 {
     let at = put_bytes(block, at, word);

@@ -5,10 +5,10 @@
 
 ghost use Rattle.std.specs.Prelude.{◌≡◌, ◌<◌, None, false, length, OnOk};
 ghost use Rattle.dm_stream.specs.Mapped.{IsReady, HasAnswered, HasStopped, failed_writes};
-ghost use Rattle.dm_stream.specs.MappedLaws.{answered_none, answered_more, stopped_more};
+ghost use Rattle.dm_stream.specs.laws.Mapped.{answered_none, answered_more, stopped_more};
 ghost use Rattle.dm_stream.specs.Outcome.{request_answer, step_of};
-ghost use Rattle.dm_table.specs.Progress.{HasWrittenTo, IsSameReference, Wrote};
-ghost use Rattle.dm_table.proofs.ProgressLaws.{written_to_none, written_to_more};
+ghost use Rattle.dm_table.specs.io.Progress.{HasWrittenTo, IsSameReference, Wrote};
+ghost use Rattle.dm_table.specs.laws.Progress.{written_to_none, written_to_more};
 ghost use Rattle.dm_stream.specs.Requests.{numbered};
 ghost use Rattle.std.proofs.Common.{refl, subst, ◌∙◌};
 
@@ -90,7 +90,7 @@ impl<'s, T: Taken, W: Output> Handler for RequestMapper<'_, 's, T, W> {
 
     ghost answered_then_answered = { λ a b c s t u us vs first second. (
       answered_more a.devices s.state t.state u.state us vs _ _ _ first.1.moved.appends second.1.moved.appends
-      first.0
+          first.0
           (subst (λ stack. HasAnswered stack t.state u.state vs (W.past b.join.writer.now).written
           (W.past c.join.writer.now).written) first.2 second.0),
       written_to_more W.past a.join.writer b.join.writer c.join.writer 0 first.1 second.1,
@@ -100,7 +100,7 @@ impl<'s, T: Taken, W: Output> Handler for RequestMapper<'_, 's, T, W> {
 
     ghost answered_then_stopped = { λ a b c s t u us vs fault first second. (
       stopped_more a.devices fault s.state t.state u us vs _ _ _ first.1.moved.appends second.1.moved.appends
-      first.0
+          first.0
           (subst (λ stack. HasStopped stack fault t.state u vs (W.past b.join.writer.now).written
           (W.past c.join.writer.now).written) first.2 second.0),
       written_to_more W.past a.join.writer b.join.writer c.join.writer (failed_writes fault) first.1 second.1,

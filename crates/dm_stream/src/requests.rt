@@ -4,10 +4,10 @@
 //! new check of a line goes into `request_of`, in the order in which `specs/Requests.antt` has it.
 
 ghost use Rattle.std.specs.Prelude.{◌≡◌, ◌≢◌, ◌+◌, ◌<◌, ◌≤◌, ◌∷◌, [], length, take, drop, Ok, Some, IfOk, IfErr, IfSome, OnErr, OnOk};
-ghost use Rattle.dm_table.specs.DeviceIo.{delivery};
+ghost use Rattle.dm_table.specs.io.DeviceIo.{delivery};
 ghost use Rattle.dm_stream.specs.Lines.{line_parts};
 ghost use Rattle.dm_stream.specs.declared.lines.TheConstants.{MOST_LINE_BYTES};
-ghost use Rattle.dm_table.specs.Progress.{IsReadOn, MetNothing};
+ghost use Rattle.dm_table.specs.io.Progress.{IsReadOn, MetNothing};
 ghost use Rattle.dm_stream.specs.Requests.{HasMet, IsAmong, Requests, after_requests, is_bad, line_requests, numbered, requests_of, word_for};
 
 use crate::ending::{Ending, RequestWord};

@@ -1,10 +1,10 @@
 -- What the exit of a command says of its status and of its streams.
 use Rattle.std.proofs.Common.{◌≡◌, ◌≢◌, ◌≤◌, ◌⊎◌, true, false, ℕ, ◌+◌, List, Result, Ok, Err, IsErr, OnErr, OnOk, inl, inr, refl, sym, ap, subst, ◌∙◌, arith}
-use Rattle.dm_table.specs.declared.load_fault.LoadKind.{LoadKind}
-use Rattle.dm_table.specs.declared.load_fault.LoadKind.TheVariants as kinds
-use Rattle.dm_table.specs.DeviceIo.{InputPast, OutputPast, since, written_since}
-use Rattle.dm_table.specs.Progress.{HasWritten, IsClosedAfter, IsFinished, IsReadOn, Wrote}
-use Rattle.dm_table.proofs.ProgressLaws.{finished_as, grows-same, written_none}
+use Rattle.dm_table.specs.declared.load.load_fault.LoadKind.{LoadKind}
+use Rattle.dm_table.specs.declared.load.load_fault.LoadKind.TheVariants as kinds
+use Rattle.dm_table.specs.io.DeviceIo.{InputPast, OutputPast, since, written_since}
+use Rattle.dm_table.specs.io.Progress.{HasWritten, IsClosedAfter, IsFinished, IsReadOn, Wrote}
+use Rattle.dm_table.specs.laws.Progress.{finished_as, grows-same, written_none}
 use Rattle.dm_stream.specs.declared.ending.Ending.{Ending}
 use Rattle.dm_stream.specs.declared.ending.Ending.TheVariants as endings
 use Rattle.dm_stream.specs.declared.ending.RequestWord.TheVariants as words
@@ -135,11 +135,11 @@ wrote_so start mid exit other moved = record {
 }
 
 -- all was written, and flushed
-pub closed_well : {E Same : Type 0} (exit : Exit) (old new : OutputPast) (wrote : Result (Unit {0}) E) → is_refused exit ≡ false → OnOk wrote (exit ≢ exits.Ended endings.WriteFault)
+pub closed_well : {E : Type 0} (Same : Type 0) (exit : Exit) (old new : OutputPast) (wrote : Result (Unit {0}) E) → is_refused exit ≡ false → OnOk wrote (exit ≢ exits.Ended endings.WriteFault)
     → OnErr wrote (IsErr {T = Unit {0}} {E = E} (Ok tt) × Same) → new.written ≡ old.written
     → ((start : OutputPast) (text : List ℕ) → Wrote start old wrote text → IsClosedAfter start new (IsErr {T = Unit {0}} {E = E} (Ok tt)) text)
     → IsClosedAs exit old new exit
-closed_well {E = E} exit old new (Ok done) going other untouched bytes closes =
+closed_well {E = E} Same exit old new (Ok done) going other untouched bytes closes =
     let closed = λ (start : _) (moved : HasWritten start old (failed_writes exit)). closes start (written_since start old) (wrote_so start old exit other moved) in
     record {
       bytes = bytes;
@@ -151,7 +151,7 @@ closed_well {E = E} exit old new (Ok done) going other untouched bytes closes =
       };
       flushed = λ flag start moved. ((closed start moved).whole (λ err. absurd cc)).1;
     }
-closed_well exit old new (Err fault) going other untouched bytes closes = let err = untouched.0 in absurd cc
+closed_well Same exit old new (Err fault) going other untouched bytes closes = let err = untouched.0 in absurd cc
 
 -- a write failed before, or the flush now
 pub closed_failed : {X E : Type 0} (past : X → OutputPast) (exit : Exit) (old new : X) (fault : E) (wrote : Result (Unit {0}) E) → is_refused exit ≡ false → OnOk wrote (exit ≢ exits.Ended endings.WriteFault) → OnErr wrote (exit ≡ exits.Ended endings.WriteFault)
@@ -244,8 +244,8 @@ pub unasked_requests : (refusal : Refusal) (status : ℕ) (old new : InputPast) 
 unasked_requests refusal status old new is read_on same = record {
   read_on = read_on;
   read_fault = λ four. absurd (of_two _ STATUS_READ_FAULT (of_refusal refusal) (sym is ∙ four) (λ e. omega (arith, e)) (λ e. omega (arith, e)));
-  no_fault = λ _. omega (arith, same.same_faults);
-  bad_line = λ _. omega (arith, same.same_faults);
+  no_fault = λ _. omega (arith, ap (λ (past : InputPast). past.faults) same);
+  bad_line = λ _. omega (arith, ap (λ (past : InputPast). past.faults) same);
   unasked = λ _. same;
 }
 

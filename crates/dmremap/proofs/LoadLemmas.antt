@@ -1,7 +1,7 @@
 -- The first fault of checks that run before others.
 use Rattle.std.proofs.Common.{◌≡◌, List, [], ◌∷◌, ◌++◌, Some, None}
-use Rattle.dm_table.specs.declared.load_fault.LoadFault.{LoadFault}
-use Rattle.dm_table.specs.LoadFault.{first_fault}
+use Rattle.dm_table.specs.declared.load.load_fault.LoadFault.{LoadFault}
+use Rattle.dm_table.specs.load.LoadFault.{first_fault}
 
 -- a fault of the first checks
 pub first_before : (checks more : List (List LoadFault)) (fault : LoadFault) → first_fault checks ≡ Some fault → first_fault (checks ++ more) ≡ Some fault

@@ -1,9 +1,9 @@
 -- What the words and the deliveries give is one, save where the output failed or memory ran out.
 use Rattle.std.proofs.Common.{◌≡◌, ◌≢◌, ℕ, List, [], ◌∷◌, ◌++◌, Some, None, refl, sym, ap, subst, ◌∙◌}
 use Rattle.std.specs.List.{AllByRecursion}
-use Rattle.dm_table.specs.declared.load_fault.LoadFault.{LoadFault}
-use Rattle.dm_table.specs.declared.load_fault.LoadKind.TheVariants.{Memory}
-use Rattle.dm_table.specs.DeviceIo.{Delivery}
+use Rattle.dm_table.specs.declared.load.load_fault.LoadFault.{LoadFault}
+use Rattle.dm_table.specs.declared.load.load_fault.LoadKind.TheVariants.{Memory}
+use Rattle.dm_table.specs.io.DeviceIo.{Delivery}
 use Rattle.dm_stack.specs.declared.clash.Clash.{Clash}
 use Rattle.dm_stack.specs.Claims.{IsClash, IsTidy, claims}
 use Rattle.dm_stack.specs.Description.{Description}

@@ -1,17 +1,17 @@
 -- What is delivered gives one run: the texts describe one description at the most, and none where a check of the texts finds a fault.
 use Rattle.std.proofs.Common.{◌≡◌, inl, inr, Bool, ℕ, List, [], ◌∷◌, ◌++◌, Some, None, sym, ap, subst, ◌∙◌}
-use Rattle.dm_table.specs.declared.table.DeviceSpec.{DeviceSpec}
-use Rattle.dm_table.specs.declared.disk.Disk.{Disk}
-use Rattle.dm_table.specs.declared.place.Part.TheVariants.{Source, Disks}
-use Rattle.dm_table.specs.declared.load_fault.LoadFault.{LoadFault}
-use Rattle.dm_table.specs.LoadFault.{first_or, first_fault}
-use Rattle.dm_table.specs.DiskList.{disk_checks}
-use Rattle.dm_table.specs.DeviceIo.{Delivery}
-use Rattle.dm_table.proofs.FaultLemmas.{first_or-none}
-use Rattle.dm_table.proofs.ConciseDescribed.{again as again_concise}
-use Rattle.dm_table.proofs.TableDescribed.{again}
-use Rattle.dm_table.proofs.DiskLemmas.{again as again_disks, DescribesDisks-unique}
-use Rattle.dm_table.specs.PartInput.{PartRead, TextOf, Refuses, Unread, part_read}
+use Rattle.dm_table.specs.declared.tables.table.DeviceSpec.{DeviceSpec}
+use Rattle.dm_table.specs.declared.tables.disk.Disk.{Disk}
+use Rattle.dm_table.specs.declared.load.place.Part.TheVariants.{Source, Disks}
+use Rattle.dm_table.specs.declared.load.load_fault.LoadFault.{LoadFault}
+use Rattle.dm_table.specs.load.LoadFault.{first_or, first_fault}
+use Rattle.dm_table.specs.tables.DiskList.{disk_checks}
+use Rattle.dm_table.specs.io.DeviceIo.{Delivery}
+use Rattle.dm_table.proofs.load.FaultLemmas.{first_or-none}
+use Rattle.dm_table.proofs.tables.ConciseDescribed.{again as again_concise}
+use Rattle.dm_table.proofs.tables.TableDescribed.{again}
+use Rattle.dm_table.proofs.tables.DiskLemmas.{again as again_disks, DescribesDisks-unique}
+use Rattle.dm_table.specs.load.PartInput.{PartRead, TextOf, Refuses, Unread, part_read}
 use Rattle.dmremap.specs.declared.job.Format.{Format}
 use Rattle.dmremap.specs.declared.job.Format.TheVariants.{Lvm, Tables}
 use Rattle.dmremap.specs.declared.job.TableForm.{TableForm}

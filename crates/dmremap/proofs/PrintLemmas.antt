@@ -1,7 +1,7 @@
 -- What a command that prints wrote, and how it would exit.
 use Rattle.std.proofs.Common.{◌≡◌, ℕ, List, Result, Ok, Err, refl, sym, ap, subst}
-use Rattle.dm_table.specs.DeviceIo.{Delivery, OutputPast, written_since}
-use Rattle.dm_table.specs.Progress.{HasWritten, Wrote}
+use Rattle.dm_table.specs.io.DeviceIo.{Delivery, OutputPast, written_since}
+use Rattle.dm_table.specs.io.Progress.{HasWritten, Wrote}
 use Rattle.dm_stack.specs.Description.{Description}
 use Rattle.dm_stream.specs.declared.ending.Ending.TheVariants as endings
 use Rattle.lvm_volume.specs.Names.{NameParts, built}

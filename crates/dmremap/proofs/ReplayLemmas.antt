@@ -1,10 +1,10 @@
 -- What the requests that a player was handed say of a replay.
 use Rattle.std.proofs.Common.{◌≡◌, ℕ, List, [], ◌∷◌, ◌++◌, Result, Err, IfErr, refl, sym, ap, subst, ◌∙◌, append_assoc}
 use Rattle.std.proofs.lemmas.List.{append-nil}
-use Rattle.dm_table.specs.DeviceIo.{Delivery, InputPast, since}
-use Rattle.dm_table.specs.Progress.{IsReadOn, MetNothing}
-use Rattle.dm_table.specs.WriteAll.{IsCutShort}
-use Rattle.dm_table.proofs.ProgressLaws.{since-same}
+use Rattle.dm_table.specs.io.DeviceIo.{Delivery, InputPast, since}
+use Rattle.dm_table.specs.io.Progress.{IsReadOn, MetNothing}
+use Rattle.dm_table.specs.io.WriteAll.{IsCutShort}
+use Rattle.dm_table.specs.laws.Progress.{since-same}
 use Rattle.dm_stack.specs.Claims.{IsTidy}
 use Rattle.dm_stack.specs.Description.{Description}
 use Rattle.dm_stream.specs.declared.ending.Ending.TheVariants as endings

@@ -1,8 +1,8 @@
 -- How a command exits: its status and its message.
 use Rattle.std.specs.Prelude.{◌≢◌, ℕ, Bool, true, false, List, Result, Ok, Err, codes}
-use Rattle.dm_table.specs.declared.load_fault.LoadKind.{LoadKind}
-use Rattle.dm_table.specs.declared.load_fault.LoadKind.TheVariants as kinds
-use Rattle.dm_table.specs.LoadMessage.{load_message, memory_message}
+use Rattle.dm_table.specs.declared.load.load_fault.LoadKind.{LoadKind}
+use Rattle.dm_table.specs.declared.load.load_fault.LoadKind.TheVariants as kinds
+use Rattle.dm_table.specs.load.LoadMessage.{load_message, memory_message}
 use Rattle.dm_stream.specs.declared.ending.Ending.{Ending}
 use Rattle.dm_stream.specs.declared.ending.Ending.TheVariants as endings
 use Rattle.dm_stream.specs.Messages.{ending_message, refused_request}

@@ -1,7 +1,7 @@
 -- What the inputs of a run delivered, where the disk list may be missing.
 use Rattle.std.specs.Prelude.{[], Option, None, Some}
-use Rattle.dm_table.specs.DeviceIo.{Open, Delivery, InputPast, delivery}
-use Rattle.dm_table.specs.Progress.{IsReadOn}
+use Rattle.dm_table.specs.io.DeviceIo.{Open, Delivery, InputPast, delivery}
+use Rattle.dm_table.specs.io.Progress.{IsReadOn}
 
 -- the delivery of an input that may be missing: nothing, where there is none
 abbrev pub delivery_if : {X : Type 0} → (past : X → InputPast) → (old new : Option X) → Delivery

@@ -5,9 +5,9 @@ pub mod Limits
 pub mod Load
 pub mod OtherWhole
 pub mod PartFile
-pub mod PlayedLaws
 pub mod Printing
 pub mod ReplayOutcome
 pub mod Streams
 pub mod Whole
 pub mod Words
+pub mod laws

@@ -1,6 +1,6 @@
 -- The figures of the limits.
 use Rattle.std.specs.Prelude.{◌≡◌, ◌+◌, ◌^◌}
-use Rattle.dm_table.specs.declared.part_input.TheConstants.{MOST_PART_BYTES}
+use Rattle.dm_table.specs.declared.load.part_input.TheConstants.{MOST_PART_BYTES}
 use Rattle.dm_stack.specs.declared.graph.TheConstants.{MOST_DEPTH}
 use Rattle.dm_stack.specs.declared.limits.TheConstants.{MOST_CHUNK, MOST_DEVICES, MOST_DISKS, MOST_LENGTH, MOST_LINES, MOST_STRIPES}
 use Rattle.dm_stream.specs.declared.lines.TheConstants.{MOST_LINE_BYTES}

@@ -1,8 +1,8 @@
 -- What the commands but `map` do until their output is closed, by their words and by what was delivered.
 use Rattle.std.specs.Prelude.{◌≡◌, ◌≢◌, Bool, true, false, ℕ, List, [], is_some}
 use Rattle.std.specs.Option.{option_map_or}
-use Rattle.dm_table.specs.declared.load_fault.LoadKind.TheVariants.{Memory}
-use Rattle.dm_table.specs.DeviceIo.{Delivery}
+use Rattle.dm_table.specs.declared.load.load_fault.LoadKind.TheVariants.{Memory}
+use Rattle.dm_table.specs.io.DeviceIo.{Delivery}
 use Rattle.dm_stack.specs.declared.clash.Clash.{Clash}
 use Rattle.dm_stack.specs.Claims.{IsClash, IsTidy, claims}
 use Rattle.dm_stack.specs.Description.{Description}

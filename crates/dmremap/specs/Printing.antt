@@ -1,9 +1,10 @@
 -- What the commands print that read no requests, by their words and by what was delivered.
 use Rattle.std.specs.Prelude.{◌≡◌, ◌≢◌, ℕ, List, [], ◌∷◌, ◌++◌, Result, Ok, Err}
-use Rattle.dm_table.specs.declared.table.DeviceSpec.{DeviceSpec}
-use Rattle.dm_table.specs.CanonicalText.{concise_text, table_text}
-use Rattle.dm_table.specs.DeviceIo.{Delivery}
-use Rattle.dm_table.specs.WriteAll.{IsCutShort}
+use Rattle.dm_table.specs.declared.tables.table.DeviceSpec.{DeviceSpec}
+use Rattle.dm_table.specs.tables.CanonicalText.{concise_text, table_text}
+use Rattle.dm_table.specs.io.DeviceIo.{Delivery}
+use Rattle.dm_table.specs.io.WriteAll.{IsCutShort}
+use Rattle.dm_table.specs.words.Bytes.{newline}
 use Rattle.dm_stack.specs.Report.{IsReport}
 use Rattle.dm_stream.specs.declared.ending.Ending.TheVariants as endings
 use Rattle.lvm_volume.specs.declared.fault.NameFault.{NameFault}
@@ -29,7 +30,7 @@ pub data Said : Type 0 where
 
 -- a line of its own
 abbrev pub line : List ℕ → List ℕ
-line text = text ++ 10 ∷ []
+line text = text ++ newline ∷ []
 
 -- the one text of some devices in a form
 abbrev pub written_as : TableForm → List DeviceSpec → List ℕ

@@ -1,7 +1,7 @@
 -- What a replay of the requests that were delivered writes, and how it exits.
 use Rattle.std.specs.Prelude.{◌≡◌, ℕ, List, [], ◌∷◌, ◌++◌, None, Some, map}
-use Rattle.dm_table.specs.DeviceIo.{since}
-use Rattle.dm_table.specs.WriteAll.{IsCutShort}
+use Rattle.dm_table.specs.io.DeviceIo.{since}
+use Rattle.dm_table.specs.io.WriteAll.{IsCutShort}
 use Rattle.dm_stack.specs.Description.{Description, device_id}
 use Rattle.dm_stream.specs.declared.ending.Ending.{Ending}
 use Rattle.dm_stream.specs.declared.ending.Ending.TheVariants as endings

@@ -1,7 +1,7 @@
 -- What became of the streams of a command until it exited.
 use Rattle.std.specs.Prelude.{◌≡◌, ◌≢◌, ◌⊎◌, ◌+◌, ℕ, ◌<◌, ◌≤◌, true, false, List}
-use Rattle.dm_table.specs.DeviceIo.{InputPast, OutputPast, written_since}
-use Rattle.dm_table.specs.Progress.{FailedWhere, HasWritten, IsFinished, IsFlushed, IsReadOn, MetNothing}
+use Rattle.dm_table.specs.io.DeviceIo.{InputPast, OutputPast, written_since}
+use Rattle.dm_table.specs.io.Progress.{FailedWhere, HasWritten, IsFinished, IsFlushed, IsReadOn, MetNothing}
 use Rattle.dm_stream.specs.declared.ending.Ending.TheVariants.{WriteFault}
 use Rattle.dm_stream.specs.Requests.{HasMet}
 use Rattle.dm_stream.specs.Messages.{HasTold, write_message}

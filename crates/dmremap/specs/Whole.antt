@@ -1,7 +1,7 @@
 -- The whole run: what it writes, its message and its exit status, by what was delivered.
 use Rattle.std.specs.Prelude.{◌≡◌, ℕ, Bool, List, [], Option, None, Some}
-use Rattle.dm_table.specs.DeviceIo.{Delivery, OutputPast, written_since}
-use Rattle.dm_table.specs.Progress.{FailedOutput}
+use Rattle.dm_table.specs.io.DeviceIo.{Delivery, OutputPast, written_since}
+use Rattle.dm_table.specs.io.Progress.{FailedOutput}
 use Rattle.dm_stream.specs.declared.ending.Ending.{Ending}
 use Rattle.dm_map.specs.state.State.{start_state}
 use Rattle.dm_stack.specs.Description.{Description}

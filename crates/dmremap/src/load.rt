@@ -6,13 +6,13 @@
 //! `specs/Load.antt`, and takes the parts that it has.
 
 ghost use Rattle.std.specs.Prelude.{◌≡◌, ◌≢◌, ◌++◌, IfOk, IfErr, IsSome, None, OnOk, Some, is_some};
-ghost use Rattle.dm_table.specs.DeviceIo.{delivery};
-ghost use Rattle.dm_table.specs.declared.place.Part.TheVariants.{Disks, Source};
-ghost use Rattle.dm_table.specs.declared.load_fault.LoadKind.TheVariants.{Memory};
-ghost use Rattle.dm_table.specs.DiskList.{disk_checks};
-ghost use Rattle.dm_table.specs.LoadFault.{first_fault};
-ghost use Rattle.dm_table.specs.PartInput.{Refuses, TextOf, part_read};
-ghost use Rattle.dm_table.specs.Progress.{IsReadOn};
+ghost use Rattle.dm_table.specs.io.DeviceIo.{delivery};
+ghost use Rattle.dm_table.specs.declared.load.place.Part.TheVariants.{Disks, Source};
+ghost use Rattle.dm_table.specs.declared.load.load_fault.LoadKind.TheVariants.{Memory};
+ghost use Rattle.dm_table.specs.tables.DiskList.{disk_checks};
+ghost use Rattle.dm_table.specs.load.LoadFault.{first_fault};
+ghost use Rattle.dm_table.specs.load.PartInput.{Refuses, TextOf, part_read};
+ghost use Rattle.dm_table.specs.io.Progress.{IsReadOn};
 ghost use Rattle.dmremap.specs.Inputs.{IsReadOnIf, delivery_if};
 ghost use Rattle.dmremap.specs.Load.{Describes, DescribesDevices, Loads, device_checks, MetadataGives, MetadataPartGives, PartsGive, TextPartsGive, TextsGive};
 ghost use Rattle.dmremap.specs.Job.{has_disk_list};

@@ -5,9 +5,9 @@
 //! tests hand in memory.
 
 ghost use Rattle.std.specs.Prelude.{◌≡◌, ◌≢◌, Bool, List, is_some};
-ghost use Rattle.dm_table.specs.DeviceIo.{Delivery, delivery};
-ghost use Rattle.dm_table.specs.LoadMessage.{memory_message};
-ghost use Rattle.dm_table.specs.Progress.{IsReadOn};
+ghost use Rattle.dm_table.specs.io.DeviceIo.{Delivery, delivery};
+ghost use Rattle.dm_table.specs.load.LoadMessage.{memory_message};
+ghost use Rattle.dm_table.specs.io.Progress.{IsReadOn};
 ghost use Rattle.dm_stack.specs.Description.{Description};
 ghost use Rattle.dm_stack.specs.Soundness.{IsSound};
 ghost use Rattle.dm_map.specs.walk.Levels.{AreLevelsEnough};

@@ -6,8 +6,8 @@
 //! in `specs/OtherWhole.antt`.
 
 ghost use Rattle.std.specs.Prelude.{◌≡◌, List, ℕ, IsSome, false, true, is_some};
-ghost use Rattle.dm_table.specs.DeviceIo.{Delivery, delivery, written_since};
-ghost use Rattle.dm_table.specs.Progress.{HasWritten};
+ghost use Rattle.dm_table.specs.io.DeviceIo.{Delivery, delivery, written_since};
+ghost use Rattle.dm_table.specs.io.Progress.{HasWritten};
 ghost use Rattle.dmremap.specs.declared.exit.Exit.{Exit};
 ghost use Rattle.dmremap.specs.Exit.{IsPlain, failed_writes, is_refused};
 ghost use Rattle.dmremap.specs.Inputs.{IsReadOnIf, delivery_if};

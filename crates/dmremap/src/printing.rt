@@ -4,8 +4,8 @@
 //! is said in `specs/Printing.antt`.
 
 ghost use Rattle.std.specs.Prelude.{◌≡◌, option_map};
-ghost use Rattle.dm_table.specs.DeviceIo.{written_since};
-ghost use Rattle.dm_table.specs.Progress.{HasWritten, Wrote};
+ghost use Rattle.dm_table.specs.io.DeviceIo.{written_since};
+ghost use Rattle.dm_table.specs.io.Progress.{HasWritten, Wrote};
 ghost use Rattle.lvm_volume.specs.Names.{built};
 ghost use Rattle.dmremap.specs.Exit.{failed_writes};
 ghost use Rattle.dmremap.specs.Load.{SoundAs};

@@ -3,14 +3,14 @@
 //! `specs/ReplayOutcome.antt` says what is written for the requests, and what one request adds to it.
 
 ghost use Rattle.std.specs.Prelude.{◌≡◌, false};
-ghost use Rattle.dm_table.specs.DeviceIo.{delivery, written_since};
-ghost use Rattle.dm_table.specs.Progress.{HasWritten, HasWrittenTo, IsReadOn};
-ghost use Rattle.dm_table.proofs.ProgressLaws.{written_to_none, written_to_more};
+ghost use Rattle.dm_table.specs.io.DeviceIo.{delivery, written_since};
+ghost use Rattle.dm_table.specs.io.Progress.{HasWritten, HasWrittenTo, IsReadOn};
+ghost use Rattle.dm_table.specs.laws.Progress.{written_to_none, written_to_more};
 ghost use Rattle.dm_stream.specs.Requests.{requests_of};
 ghost use Rattle.dm_replay.specs.Replay.{new_replay};
 ghost use Rattle.dmremap.specs.Exit.{failed_writes};
 ghost use Rattle.dmremap.specs.OtherWhole.{ReplaysStack};
-ghost use Rattle.dmremap.specs.PlayedLaws.{played_none, played_more, stopped_more};
+ghost use Rattle.dmremap.specs.laws.Played.{played_none, played_more, stopped_more};
 ghost use Rattle.dmremap.specs.ReplayOutcome.{HasPlayed, HasStopped, IsPlayed};
 ghost use Rattle.dmremap.specs.Streams.{AskedBy, HasMetBy};
 ghost use Rattle.std.proofs.Common.{refl, subst, ◌∙◌};
@@ -57,7 +57,7 @@ impl<'s, W: Output> Handler for RequestPlayer<'_, 's, W> {
 
     ghost answered_then_answered = { λ a b c s t u us vs first second. (
       played_more s.stack s.asked t.asked u.asked us vs _ _ _ first.1.moved.appends second.1.moved.appends
-      first.0
+          first.0
           (subst (λ stack. HasPlayed stack t.asked u.asked vs (W.past b.output.now).written
           (W.past c.output.now).written) first.2 second.0),
       written_to_more W.past a.output b.output c.output 0 first.1 second.1,
@@ -66,7 +66,7 @@ impl<'s, W: Output> Handler for RequestPlayer<'_, 's, W> {
 
     ghost answered_then_stopped = { λ a b c s t u us vs exit first second. (
       stopped_more s.stack exit s.asked t.asked us vs _ _ _ first.1.moved.appends second.1.moved.appends
-      first.0
+          first.0
           (subst (λ stack. HasStopped stack exit t.asked vs
           (written_since (W.past b.output.now) (W.past c.output.now))) first.2 second.0),
       written_to_more W.past a.output b.output c.output (failed_writes exit) first.1 second.1,

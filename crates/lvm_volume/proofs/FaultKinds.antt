@@ -3,12 +3,12 @@ use Rattle.std.proofs.Common.{◌≡◌, ◌≢◌, ℕ, Bool, true, false, List
 use Rattle.std.specs.Prelude.{is_some}
 use Rattle.std.specs.List.{AllByRecursion, flat_map, range_with_len}
 use Rattle.lvm_text.specs.Tree.{Tree, Shown, node_of, sections_of}
-use Rattle.dm_table.specs.declared.load_fault.LoadKind.{LoadKind}
-use Rattle.dm_table.specs.declared.load_fault.LoadKind.TheVariants.{Memory, Name, Unknown, Extents}
-use Rattle.dm_table.specs.declared.load_fault.LoadKind.TheVariants as loads
-use Rattle.dm_table.specs.declared.load_fault.LoadFault.{LoadFault}
-use Rattle.dm_table.specs.declared.place.Place.{Place}
-use Rattle.dm_table.specs.LoadFault.{fault, faults_by, first_or}
+use Rattle.dm_table.specs.declared.load.load_fault.LoadKind.{LoadKind}
+use Rattle.dm_table.specs.declared.load.load_fault.LoadKind.TheVariants.{Memory, Name, Unknown, Extents}
+use Rattle.dm_table.specs.declared.load.load_fault.LoadKind.TheVariants as loads
+use Rattle.dm_table.specs.declared.load.load_fault.LoadFault.{LoadFault}
+use Rattle.dm_table.specs.declared.load.place.Place.{Place}
+use Rattle.dm_table.specs.load.LoadFault.{fault, faults_by, first_or}
 use Rattle.lvm_volume.specs.declared.check.Check.{Check}
 use Rattle.lvm_volume.specs.declared.check.Check.TheVariants.{Fields, Limits}
 use Rattle.lvm_volume.specs.declared.field.Kind.{Kind}

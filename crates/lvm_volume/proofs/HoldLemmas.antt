@@ -11,7 +11,7 @@ use Rattle.std.proofs.lemmas.List.{get_or-set_same, get_or-set_other, get_or_app
 use Rattle.std.proofs.Math.Seq.{get_or-append_seam}
 use Rattle.lvm_volume.specs.Extents.{Claim, meets, segment_faults, used_after, volume_faults}
 use Rattle.std.proofs.lemmas.List.{drop_more}
-use Rattle.dm_table.specs.LoadFault.{first_or}
+use Rattle.dm_table.specs.load.LoadFault.{first_or}
 use Rattle.lvm_volume.specs.declared.physical.Physical.{Physical}
 use Rattle.lvm_volume.specs.declared.segment.Segment.{Segment}
 use Rattle.lvm_volume.specs.declared.volume.Volume.{Volume}

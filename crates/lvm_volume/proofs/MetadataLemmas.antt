@@ -5,12 +5,12 @@ use Rattle.lvm_text.specs.Reading.{HasFault}
 use Rattle.lvm_text.specs.declared.fault.TextFault.{TextFault}
 use Rattle.lvm_text.specs.declared.fault.TextFault.TheVariants as texts
 use Rattle.std.specs.Str.{IsUtf8}
-use Rattle.dm_table.specs.declared.place.Part.TheVariants.{Source}
-use Rattle.dm_table.specs.declared.load_fault.LoadKind.TheVariants.{Memory}
-use Rattle.dm_table.specs.declared.load_fault.LoadFault.{LoadFault}
-use Rattle.dm_table.specs.declared.table.DeviceSpec.{DeviceSpec}
-use Rattle.dm_table.specs.declared.disk.Disk.{Disk}
-use Rattle.dm_table.specs.LoadFault.{Answers, first_fault, first_or, unless}
+use Rattle.dm_table.specs.declared.load.place.Part.TheVariants.{Source}
+use Rattle.dm_table.specs.declared.load.load_fault.LoadKind.TheVariants.{Memory}
+use Rattle.dm_table.specs.declared.load.load_fault.LoadFault.{LoadFault}
+use Rattle.dm_table.specs.declared.tables.table.DeviceSpec.{DeviceSpec}
+use Rattle.dm_table.specs.declared.tables.disk.Disk.{Disk}
+use Rattle.dm_table.specs.load.LoadFault.{Answers, first_fault, first_or, unless}
 use Rattle.lvm_volume.specs.Group.{Group, group_of}
 use Rattle.lvm_volume.specs.Metadata.{SaysTree, IsRefusedText, OfText, OfGroup, metadata_checks}
 use Rattle.lvm_volume.specs.Tables.{group_checks, tables_of, text_fault, unnamed}

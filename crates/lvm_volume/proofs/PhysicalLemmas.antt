@@ -3,15 +3,15 @@ use Rattle.std.proofs.Common.{◌≡◌, ℕ, ◌+◌, ◌<◌, Bool, true, fals
 use Rattle.std.proofs.lemmas.List.{drop_more}
 use Rattle.lvm_text.specs.Tree.{Tree}
 use Rattle.lvm_text.specs.Iterate.{item_view}
-use Rattle.dm_table.specs.Name.{is_disk_name}
-use Rattle.dm_table.specs.declared.load_fault.LoadFault.{LoadFault}
-use Rattle.dm_table.specs.LoadFault.{first_or, unless}
+use Rattle.dm_table.specs.words.Name.{is_disk_name}
+use Rattle.dm_table.specs.declared.load.load_fault.LoadFault.{LoadFault}
+use Rattle.dm_table.specs.load.LoadFault.{first_or, unless}
 use Rattle.lvm_volume.specs.declared.physical.Physical.{Physical}
 use Rattle.lvm_volume.specs.Extents.{name_faults}
 use Rattle.lvm_volume.specs.Group.{Keyed, chosen, device_of, disk_name, is_shared}
-use Rattle.dm_table.specs.declared.load_fault.LoadKind.TheVariants.{Name}
-use Rattle.dm_table.specs.LoadFault.{fault_at}
-use Rattle.dm_table.specs.declared.place.Part.TheVariants.{Source}
+use Rattle.dm_table.specs.declared.load.load_fault.LoadKind.TheVariants.{Name}
+use Rattle.dm_table.specs.load.LoadFault.{fault_at}
+use Rattle.dm_table.specs.declared.load.place.Part.TheVariants.{Source}
 use denote.Ref.{Bor}
 
 pub disk_is : (devices : List (List ℕ)) (physical : Keyed) (shared : Bool) (device : List ℕ) → device ≡ device_of physical → shared ≡ is_shared devices device → chosen shared physical.0 device ≡ disk_name devices physical

@@ -4,11 +4,11 @@ use Rattle.std.specs.Prelude.{nat_lt, codes}
 use Rattle.std.specs.List.{AllByRecursion, flat_map, list_any, range_with_len}
 use Rattle.std.proofs.lemmas.Bool.{ltb-false, ltb-true}
 use Rattle.lvm_text.specs.Tree.{Tree, Shown, Content, Inner, Whole, Items, Int, Text, node_of, sections_of}
-use Rattle.dm_table.specs.declared.load_fault.LoadKind.{LoadKind}
-use Rattle.dm_table.specs.declared.load_fault.LoadKind.TheVariants.{Extents, Unknown}
-use Rattle.dm_table.specs.declared.load_fault.LoadKind.TheVariants as loads
-use Rattle.dm_table.specs.declared.load_fault.LoadFault.{LoadFault}
-use Rattle.dm_table.specs.LoadFault.{first_or, first_fault}
+use Rattle.dm_table.specs.declared.load.load_fault.LoadKind.{LoadKind}
+use Rattle.dm_table.specs.declared.load.load_fault.LoadKind.TheVariants.{Extents, Unknown}
+use Rattle.dm_table.specs.declared.load.load_fault.LoadKind.TheVariants as loads
+use Rattle.dm_table.specs.declared.load.load_fault.LoadFault.{LoadFault}
+use Rattle.dm_table.specs.load.LoadFault.{first_or, first_fault}
 use Rattle.lvm_volume.specs.declared.check.Check.TheVariants.{Fields, Limits}
 use Rattle.lvm_volume.specs.declared.field.Kind.{Kind}
 use Rattle.lvm_volume.specs.declared.field.Kind.TheVariants as kinds

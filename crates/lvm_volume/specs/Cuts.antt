@@ -1,6 +1,6 @@
 -- Where a name is cut: at a hyphen that has no neighbour left to pair with.
 use Rattle.std.specs.Prelude.{ℕ, suc, ◌==◌, List, [], ◌∷◌, take, drop, Option, Some, None, is_none, option_and_then, if◌then◌else◌}
-use Rattle.lvm_volume.specs.Bytes.{hyphen}
+use Rattle.dm_table.specs.words.Bytes.{hyphen}
 use Rattle.lvm_volume.specs.Names.{NameParts}
 
 -- up to a hyphen that no hyphen follows, where pairs of them are passed over

@@ -1,14 +1,14 @@
 -- The checks of a group beyond its fields: names of disks, segments that name nothing, how extents lie, and snapshots.
 use Rattle.std.specs.Prelude.{ℕ, ◌+◌, ◌*◌, ◌/◌, ◌%◌, Bool, false, not, ◌&&◌, ◌||◌, ◌==◌, List, [], ◌∷◌, ◌++◌, Option, Some, None, nat_lt, length, map, min, slice_index, if◌then◌else◌}
 use Rattle.std.specs.List.{list_any}
-use Rattle.dm_table.specs.declared.place.Part.TheVariants.{Source}
-use Rattle.dm_table.specs.declared.place.Place.{Place}
-use Rattle.dm_table.specs.declared.load_fault.LoadKind.{LoadKind}
-use Rattle.dm_table.specs.declared.load_fault.LoadKind.TheVariants.{Name, Unknown, Extents}
-use Rattle.dm_table.specs.declared.load_fault.LoadKind.TheVariants as loads
-use Rattle.dm_table.specs.declared.load_fault.LoadFault.{LoadFault}
-use Rattle.dm_table.specs.LoadFault.{faults_by}
-use Rattle.dm_table.specs.Name.{is_disk_name}
+use Rattle.dm_table.specs.declared.load.place.Part.TheVariants.{Source}
+use Rattle.dm_table.specs.declared.load.place.Place.{Place}
+use Rattle.dm_table.specs.declared.load.load_fault.LoadKind.{LoadKind}
+use Rattle.dm_table.specs.declared.load.load_fault.LoadKind.TheVariants.{Name, Unknown, Extents}
+use Rattle.dm_table.specs.declared.load.load_fault.LoadKind.TheVariants as loads
+use Rattle.dm_table.specs.declared.load.load_fault.LoadFault.{LoadFault}
+use Rattle.dm_table.specs.load.LoadFault.{faults_by}
+use Rattle.dm_table.specs.words.Name.{is_disk_name}
 use Rattle.lvm_volume.specs.declared.segment.Stripe.{Stripe}
 use Rattle.lvm_volume.specs.declared.segment.SegmentType.{SegmentType}
 use Rattle.lvm_volume.specs.declared.segment.SegmentType.TheVariants.{Zero, Error, Striped, Snapshot}

@@ -2,11 +2,11 @@
 use Rattle.std.specs.Prelude.{ℕ, ◌*◌, Bool, true, false, not, ◌&&◌, ◌||◌, ◌==◌, List, [], ◌∷◌, ◌++◌, Option, Some, None, nat_lt, is_some, bytes_eq, codes, decimal, length, map, if◌then◌else◌}
 use Rattle.std.specs.List.{flat_map, list_any, list_all, range_with_len}
 use Rattle.lvm_text.specs.Tree.{Tree, Content, Inner, Whole, Items, Scalar, Int, Text, Shown, node_of, sections_of}
-use Rattle.dm_table.specs.declared.place.Part.TheVariants.{Source}
-use Rattle.dm_table.specs.declared.load_fault.LoadKind.{LoadKind}
-use Rattle.dm_table.specs.declared.load_fault.LoadKind.TheVariants as loads
-use Rattle.dm_table.specs.declared.load_fault.LoadFault.{LoadFault}
-use Rattle.dm_table.specs.LoadFault.{fault_at, first_or}
+use Rattle.dm_table.specs.declared.load.place.Part.TheVariants.{Source}
+use Rattle.dm_table.specs.declared.load.load_fault.LoadKind.{LoadKind}
+use Rattle.dm_table.specs.declared.load.load_fault.LoadKind.TheVariants as loads
+use Rattle.dm_table.specs.declared.load.load_fault.LoadFault.{LoadFault}
+use Rattle.dm_table.specs.load.LoadFault.{fault_at, first_or}
 use Rattle.lvm_volume.specs.declared.field.Kind.{Kind}
 use Rattle.lvm_volume.specs.declared.field.Kind.TheVariants as kinds
 use Rattle.lvm_volume.specs.declared.field.Condition.{Condition}

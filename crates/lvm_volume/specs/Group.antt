@@ -1,9 +1,9 @@
 -- What a group's metadata says: the group, its physical volumes, and its volumes with their segments.
 use Rattle.std.specs.Prelude.{ℕ, Bool, false, not, ◌&&◌, ◌||◌, ◌==◌, List, [], ◌∷◌, nat_lt, bytes_eq, codes, count_by, map, if◌then◌else◌}
 use Rattle.std.specs.List.{list_any, position_or_len}
-use Rattle.lvm_volume.specs.Bytes.{slash}
+use Rattle.dm_table.specs.words.Bytes.{slash}
 use Rattle.lvm_text.specs.Tree.{Tree, Scalar, Int, Text, Nothing, sections_of}
-use Rattle.dm_table.specs.Name.{is_disk_name}
+use Rattle.dm_table.specs.words.Name.{is_disk_name}
 use Rattle.lvm_volume.specs.declared.positions.GroupPositions.{GroupPositions}
 use Rattle.lvm_volume.specs.declared.segment.Stripe.{Stripe}
 use Rattle.lvm_volume.specs.declared.segment.SegmentType.{SegmentType}

@@ -1,4 +1,3 @@
-pub mod Bytes
 pub mod Names
 pub mod NameMessage
 pub mod Fields

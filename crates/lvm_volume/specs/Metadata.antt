@@ -6,12 +6,12 @@ use Rattle.lvm_text.specs.Tree.{Tree}
 use Rattle.lvm_text.specs.Spelling.{newlines}
 use Rattle.lvm_text.specs.Reading.{Describes, HasFault}
 use Rattle.lvm_text.specs.declared.fault.TextFault.{TextFault}
-use Rattle.dm_table.specs.declared.place.Part.TheVariants.{Source}
-use Rattle.dm_table.specs.declared.load_fault.LoadKind.TheVariants.{NotText}
-use Rattle.dm_table.specs.declared.load_fault.LoadFault.{LoadFault}
-use Rattle.dm_table.specs.declared.table.DeviceSpec.{DeviceSpec}
-use Rattle.dm_table.specs.declared.disk.Disk.{Disk}
-use Rattle.dm_table.specs.LoadFault.{fault_at, first_fault}
+use Rattle.dm_table.specs.declared.load.place.Part.TheVariants.{Source}
+use Rattle.dm_table.specs.declared.load.load_fault.LoadKind.TheVariants.{NotText}
+use Rattle.dm_table.specs.declared.load.load_fault.LoadFault.{LoadFault}
+use Rattle.dm_table.specs.declared.tables.table.DeviceSpec.{DeviceSpec}
+use Rattle.dm_table.specs.declared.tables.disk.Disk.{Disk}
+use Rattle.dm_table.specs.load.LoadFault.{fault_at, first_fault}
 use Rattle.lvm_volume.specs.Group.{group_of}
 use Rattle.lvm_volume.specs.Tables.{group_checks, tables_of, text_fault, unnamed}
 

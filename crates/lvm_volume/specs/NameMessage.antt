@@ -1,6 +1,6 @@
 -- The messages of names that are not built, or have no parts.
 use Rattle.std.specs.Prelude.{ℕ, List, ◌++◌, codes}
-use Rattle.dm_table.specs.LoadMessage.{memory_message}
+use Rattle.dm_table.specs.load.LoadMessage.{memory_message}
 use Rattle.lvm_volume.specs.declared.fault.NameFault.{NameFault}
 use Rattle.lvm_volume.specs.declared.fault.NameFault.TheVariants.{Letter, HyphenFirst, Empty, Long, Memory}
 

@@ -5,9 +5,9 @@
 
 ghost use Rattle.std.specs.Prelude.{◌≡◌, ◌≢◌, ◌∷◌, [], None, Some, IfOk};
 ghost use Rattle.std.specs.List.{flat_map, zip};
-ghost use Rattle.dm_table.specs.LoadFault.{fault_at};
-ghost use Rattle.dm_table.specs.declared.load_fault.LoadKind.TheVariants as loads;
-ghost use Rattle.dm_table.specs.declared.place.Part.TheVariants.{Source};
+ghost use Rattle.dm_table.specs.load.LoadFault.{fault_at};
+ghost use Rattle.dm_table.specs.declared.load.load_fault.LoadKind.TheVariants as loads;
+ghost use Rattle.dm_table.specs.declared.load.place.Part.TheVariants.{Source};
 ghost use Rattle.lvm_volume.specs.Fields.{first_of};
 ghost use Rattle.lvm_volume.specs.declared.fault.NameFault.TheVariants as names;
 ghost use Rattle.lvm_volume.specs.Names.{Returns, built};

@@ -5,9 +5,9 @@
 
 ghost use Rattle.std.specs.Prelude.{◌≡◌, ◌≢◌, IfErr, IfOk};
 ghost use Rattle.std.specs.Str.{IsUtf8};
-ghost use Rattle.dm_table.specs.LoadFault.{Answers, IsMemoryFault, fault_at, first_fault, unless};
-ghost use Rattle.dm_table.specs.declared.load_fault.LoadKind.TheVariants.{Memory, NotText};
-ghost use Rattle.dm_table.specs.declared.place.Part.TheVariants.{Source};
+ghost use Rattle.dm_table.specs.load.LoadFault.{Answers, IsMemoryFault, fault_at, first_fault, unless};
+ghost use Rattle.dm_table.specs.declared.load.load_fault.LoadKind.TheVariants.{Memory, NotText};
+ghost use Rattle.dm_table.specs.declared.load.place.Part.TheVariants.{Source};
 ghost use Rattle.lvm_volume.specs.Group.{group_of};
 ghost use Rattle.lvm_volume.specs.Metadata.{DescribesGroup, IsRefusedText, SaysOneThing, bad_byte_line};
 ghost use Rattle.lvm_volume.specs.Metadata.{metadata_checks};

@@ -4,8 +4,8 @@
 //! memory has no line.
 
 ghost use Rattle.std.specs.Prelude.{◌≡◌};
-ghost use Rattle.dm_table.specs.LoadFault.{IsMemoryFault, fault_at};
-ghost use Rattle.dm_table.specs.declared.place.Part.TheVariants.{Source};
+ghost use Rattle.dm_table.specs.load.LoadFault.{IsMemoryFault, fault_at};
+ghost use Rattle.dm_table.specs.declared.load.place.Part.TheVariants.{Source};
 ghost use Rattle.lvm_volume.specs.Extents.{source_line};
 
 use dm_table::{LoadFault, LoadKind, Part, Place};

@@ -4,8 +4,8 @@
 //! a name can still be refused.
 
 ghost use Rattle.std.specs.Prelude.{◌≡◌, None};
-ghost use Rattle.dm_table.specs.LoadFault.{Answers, unless};
-ghost use Rattle.dm_table.specs.declared.place.Part.TheVariants.{Source};
+ghost use Rattle.dm_table.specs.load.LoadFault.{Answers, unless};
+ghost use Rattle.dm_table.specs.declared.load.place.Part.TheVariants.{Source};
 ghost use Rattle.lvm_volume.specs.Fields.{first_of};
 ghost use Rattle.lvm_volume.specs.Tables.{tables_of, unnamed};
 

@@ -7,8 +7,8 @@
 ghost use Rattle.std.specs.Prelude.{◌≡◌, ◌∷◌, [], ℕ, List, None, IfOk, codes, length, map};
 ghost use Rattle.lvm_text.specs.Tree as tree;
 ghost use Rattle.lvm_text.specs.Iterate.{item_view};
-ghost use Rattle.dm_table.specs.LoadFault.{Answers, first_fault, unless};
-ghost use Rattle.dm_table.specs.declared.place.Part.TheVariants.{Source};
+ghost use Rattle.dm_table.specs.load.LoadFault.{Answers, first_fault, unless};
+ghost use Rattle.dm_table.specs.declared.load.place.Part.TheVariants.{Source};
 ghost use Rattle.lvm_volume.specs.declared.check.Check.TheVariants.{Fields};
 ghost use Rattle.lvm_volume.specs.Extents.{name_faults};
 ghost use Rattle.lvm_volume.specs.Fields.{faults_of_fields, first_of};

@@ -9,7 +9,7 @@ ghost use Rattle.std.specs.List.{flat_map, range_with_len};
 ghost use Rattle.lvm_text.specs.Iterate.{item_view};
 ghost use Rattle.lvm_text.specs.View.{node_view, content_view};
 ghost use Rattle.lvm_text.specs.Tree as tree;
-ghost use Rattle.dm_table.specs.declared.load_fault.LoadKind.TheVariants as loads;
+ghost use Rattle.dm_table.specs.declared.load.load_fault.LoadKind.TheVariants as loads;
 ghost use Rattle.lvm_volume.specs.Fields as spec;
 ghost use Rattle.lvm_volume.specs.Fields.{faults_of_fields, field_faults, field_view, field_views};
 ghost use Rattle.lvm_volume.specs.Fields.{fields_faults, first_of, group_faults, is_wrong, keys_faults};

@@ -4,13 +4,13 @@ use Rattle.std.specs.Prelude.{option_map, slice_get}
 use Rattle.std.proofs.lemmas.List.{length-map}
 use Rattle.std.proofs.lemmas.Option.{slice_get-map}
 use Rattle.std.proofs.Math.Nat.{mul-div_cancel_left}
-use Rattle.dm_table.specs.declared.table.Column.{Column}
-use Rattle.dm_table.specs.declared.table.DevRef.{DevRef}
-use Rattle.dm_table.specs.declared.table.Line.{Line}
-use Rattle.dm_table.specs.declared.table.Target.{Target}
-use Rattle.dm_table.specs.declared.table.Target.TheVariants as targets
-use Rattle.dm_table.specs.declared.table.Use.{Use}
-use Rattle.dm_table.specs.declared.table.Use.TheVariants.{Own, Reading, Serving}
+use Rattle.dm_table.specs.declared.tables.table.Column.{Column}
+use Rattle.dm_table.specs.declared.tables.table.DevRef.{DevRef}
+use Rattle.dm_table.specs.declared.tables.table.Line.{Line}
+use Rattle.dm_table.specs.declared.tables.table.Target.{Target}
+use Rattle.dm_table.specs.declared.tables.table.Target.TheVariants as targets
+use Rattle.dm_table.specs.declared.tables.table.Use.{Use}
+use Rattle.dm_table.specs.declared.tables.table.Use.TheVariants.{Own, Reading, Serving}
 use Rattle.dm_stack.specs.declared.found_columns.FoundColumn.{FoundColumn}
 use Rattle.dm_stack.specs.declared.found_line.FoundLine.{FoundLine}
 use Rattle.dm_stack.specs.declared.found_line.FoundOrigin.{FoundOrigin}
@@ -23,7 +23,7 @@ use Rattle.dm_stack.specs.Claims.{span_end}
 use Rattle.dm_stack.specs.Description.{Description, lines_at, lower_len, lower_of}
 use Rattle.dm_stack.specs.Over.{found_snapshot, snapshots_over}
 use Rattle.dm_stack.specs.Soundness.{IsSound}
-use Rattle.dm_table.specs.Span.{Span, column_span, target_spans, whole_span}
+use Rattle.dm_table.specs.tables.Span.{Span, column_span, target_spans, whole_span}
 use Rattle.dm_stack.proofs.Apart.{IsNamed, IsVia}
 use Rattle.dm_stack.proofs.Parts.{found_place}
 use Rattle.dm_map.specs.state.Tables.{origin_at, snapshot_at}

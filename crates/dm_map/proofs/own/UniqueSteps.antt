@@ -2,9 +2,9 @@
 use Rattle.std.proofs.Common.{◌≡◌, ℕ, ◌+◌, ◌-◌, ◌*◌, ◌/◌, ◌%◌, ◌<◌, true, false, List, Option, Some, None, length, refl, sym, ap, subst, ◌∙◌, arith}
 use Rattle.std.specs.Prelude.{slice_get}
 use Rattle.std.proofs.lemmas.Bool.{leb-true}
-use Rattle.dm_table.specs.declared.table.Line.{Line}
-use Rattle.dm_table.specs.declared.table.Use.{Use}
-use Rattle.dm_table.specs.declared.table.Use.TheVariants.{Own, Reading, Serving}
+use Rattle.dm_table.specs.declared.tables.table.Line.{Line}
+use Rattle.dm_table.specs.declared.tables.table.Use.{Use}
+use Rattle.dm_table.specs.declared.tables.table.Use.TheVariants.{Own, Reading, Serving}
 use Rattle.dm_stack.specs.declared.found_columns.FoundColumn.{FoundColumn}
 use Rattle.dm_stack.specs.declared.found_line.FoundLine.{FoundLine}
 use Rattle.dm_stack.specs.declared.found_line.FoundOrigin.{FoundOrigin}

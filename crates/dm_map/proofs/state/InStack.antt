@@ -3,7 +3,7 @@ use Rattle.std.proofs.Common.{◌≡◌, ℕ, ◌^◌, ◌<◌, ◌≤◌, inl, 
 use Rattle.std.specs.Prelude.{slice_get}
 use Rattle.std.proofs.lemmas.Bool.{cases_lt}
 use Rattle.std.proofs.lemmas.Option.{slice_get_past}
-use Rattle.dm_table.specs.declared.disk.Disk.{Disk}
+use Rattle.dm_table.specs.declared.tables.disk.Disk.{Disk}
 use Rattle.dm_stack.specs.declared.id.Lower.{Lower}
 use Rattle.dm_stack.specs.declared.id.Lower.TheVariants as lowers
 use Rattle.dm_stack.specs.Description.{Description, device_len, disk_len, lower_len, len_or_none, lines_or_none, end_of}

@@ -6,14 +6,14 @@ use Rattle.std.proofs.lemmas.Bool.{cases_eq, eq-eqb, leb-true, le-leb, ne_eqb, l
 use Rattle.std.proofs.lemmas.List.Folds.{find_at}
 use Rattle.std.proofs.lemmas.List.{get_or-replicate, length-set, replicate-append-replicate, set-get_or}
 use Rattle.std.proofs.lemmas.Option.{slice_get_read, slice_get_within}
-use Rattle.dm_table.specs.declared.load_fault.LoadKind.TheVariants.{Unknown}
-use Rattle.dm_table.specs.declared.table.DevRef.{DevRef}
-use Rattle.dm_table.specs.declared.table.DevRef.TheVariants as refs
-use Rattle.dm_table.specs.declared.table.DeviceSpec.{DeviceSpec}
-use Rattle.dm_table.specs.declared.table.Line.{Line}
-use Rattle.dm_table.specs.declared.table.Target.{Target}
-use Rattle.dm_table.specs.declared.table.Target.TheVariants as targets
-use Rattle.dm_table.specs.declared.table.Use.TheVariants.{Reading}
+use Rattle.dm_table.specs.declared.load.load_fault.LoadKind.TheVariants.{Unknown}
+use Rattle.dm_table.specs.declared.tables.table.DevRef.{DevRef}
+use Rattle.dm_table.specs.declared.tables.table.DevRef.TheVariants as refs
+use Rattle.dm_table.specs.declared.tables.table.DeviceSpec.{DeviceSpec}
+use Rattle.dm_table.specs.declared.tables.table.Line.{Line}
+use Rattle.dm_table.specs.declared.tables.table.Target.{Target}
+use Rattle.dm_table.specs.declared.tables.table.Target.TheVariants as targets
+use Rattle.dm_table.specs.declared.tables.table.Use.TheVariants.{Reading}
 use Rattle.dm_stack.specs.declared.found_line.FoundLine.{FoundLine}
 use Rattle.dm_stack.specs.declared.found_line.FoundSnapshot.{FoundSnapshot}
 use Rattle.dm_stack.specs.declared.found_line.FoundTarget.{FoundTarget}
@@ -24,7 +24,7 @@ use Rattle.dm_stack.specs.Snapshots.{has_snapshot, is_snapshot, snapshots}
 use Rattle.dm_stack.specs.StoreLayout.{place}
 use Rattle.dm_stack.specs.Over.{found_snapshot}
 use Rattle.dm_stack.specs.Soundness.{IsSound, all_lines, is_unknown, is_unknown_ref}
-use Rattle.dm_table.specs.Span.{target_spans, whole_span}
+use Rattle.dm_table.specs.tables.Span.{target_spans, whole_span}
 use Rattle.dm_stack.proofs.Passes.{faults_by_none, passes_all}
 use Rattle.dm_stack.proofs.SoundLines.{device_some, disk_some, found, of_device, there}
 use Rattle.dm_map.specs.state.Snapshots.{number_in}

@@ -1,6 +1,6 @@
 -- The sectors of a chunk in a store, their copies and their writes.
 use Rattle.std.proofs.Common.{◌≡◌, ℕ, ◌+◌, ◌-◌, ◌%◌, ◌<◌, ◌≤◌, sym, ap, ◌∙◌, arith}
-use Rattle.dm_table.specs.declared.request.Op.TheVariants.{Read}
+use Rattle.dm_table.specs.declared.requests.request.Op.TheVariants.{Read}
 use Rattle.dm_stack.specs.declared.found_line.FoundSnapshot.{FoundSnapshot}
 use Rattle.dm_stack.specs.declared.graph.TheConstants.{MOST_DEPTH}
 use Rattle.dm_stack.specs.declared.id.Lower.{Lower}

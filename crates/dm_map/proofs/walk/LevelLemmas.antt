@@ -4,17 +4,17 @@ use Rattle.std.specs.Prelude.{option_map, slice_get, nat_lt}
 use Rattle.std.specs.List.{AllByRecursion, flat_map}
 use Rattle.std.proofs.lemmas.Bool.{ltb-false}
 use Rattle.std.proofs.lemmas.Option.{get_or_from_slice_get, slice_get-map}
-use Rattle.dm_table.specs.declared.table.DevRef.{DevRef}
-use Rattle.dm_table.specs.declared.table.DevRef.TheVariants as refs
-use Rattle.dm_table.specs.declared.table.Column.{Column}
-use Rattle.dm_table.specs.declared.table.Target.{Target}
-use Rattle.dm_table.specs.declared.table.Target.TheVariants as targets
-use Rattle.dm_table.specs.declared.table.Use.TheVariants.{Reading}
-use Rattle.dm_table.specs.declared.table.Line.{Line}
-use Rattle.dm_table.specs.declared.table.DeviceSpec.{DeviceSpec}
-use Rattle.dm_table.specs.declared.load_fault.LoadKind.{LoadKind}
-use Rattle.dm_table.specs.declared.load_fault.LoadFault.{LoadFault}
-use Rattle.dm_table.specs.declared.request.Op.TheVariants as ops
+use Rattle.dm_table.specs.declared.tables.table.DevRef.{DevRef}
+use Rattle.dm_table.specs.declared.tables.table.DevRef.TheVariants as refs
+use Rattle.dm_table.specs.declared.tables.table.Column.{Column}
+use Rattle.dm_table.specs.declared.tables.table.Target.{Target}
+use Rattle.dm_table.specs.declared.tables.table.Target.TheVariants as targets
+use Rattle.dm_table.specs.declared.tables.table.Use.TheVariants.{Reading}
+use Rattle.dm_table.specs.declared.tables.table.Line.{Line}
+use Rattle.dm_table.specs.declared.tables.table.DeviceSpec.{DeviceSpec}
+use Rattle.dm_table.specs.declared.load.load_fault.LoadKind.{LoadKind}
+use Rattle.dm_table.specs.declared.load.load_fault.LoadFault.{LoadFault}
+use Rattle.dm_table.specs.declared.requests.request.Op.TheVariants as ops
 use Rattle.dm_stack.specs.declared.id.Lower.{Lower}
 use Rattle.dm_stack.specs.declared.id.Lower.TheVariants.{Device, Disk}
 use Rattle.dm_stack.specs.declared.graph.TheConstants.{MOST_DEPTH}
@@ -23,7 +23,7 @@ use Rattle.dm_stack.specs.declared.found_line.FoundLine.{FoundLine}
 use Rattle.dm_stack.specs.declared.found_line.FoundTarget.{FoundTarget}
 use Rattle.dm_stack.specs.declared.found_line.FoundTarget.TheVariants as founds
 use Rattle.dm_stack.specs.Description.{Description, is_ro_at, lower_of, ref_link, line_links, device_links, links, lines_or_none}
-use Rattle.dm_table.specs.Span.{Span, column_span, target_spans, whole_span}
+use Rattle.dm_table.specs.tables.Span.{Span, column_span, target_spans, whole_span}
 use Rattle.dm_stack.specs.Graph.{links_of, greatest, depth_to}
 use Rattle.dm_stack.specs.declared.found_line.FoundSnapshot.{FoundSnapshot}
 use Rattle.dm_stack.specs.Below.{Below, Lies, IsZero, IsError, below, below_line, below_stripes, below_target, below_column, column_of, in_column, found_line, found_target, found_columns, found_at, holds, line_of}

@@ -1,7 +1,7 @@
 -- The steps of ranges and of lines, by what lies below their sectors.
 use Rattle.std.proofs.Common.{◌≡◌, ℕ, zero, suc, ◌+◌, ◌-◌, ◌<◌, ◌≤◌, true, false, List, [], ◌∷◌, Some, length, get_or, refl, ap, ◌∙◌, arith}
-use Rattle.dm_table.specs.declared.request.Op.{Op}
-use Rattle.dm_table.specs.declared.request.Op.TheVariants as ops
+use Rattle.dm_table.specs.declared.requests.request.Op.{Op}
+use Rattle.dm_table.specs.declared.requests.request.Op.TheVariants as ops
 use Rattle.dm_stack.specs.declared.id.Lower.{Lower}
 use Rattle.dm_stack.specs.declared.id.Lower.TheVariants.{Device, Disk}
 use Rattle.dm_stack.specs.declared.found_columns.FoundColumn.{FoundColumn}

@@ -3,8 +3,8 @@ use Rattle.std.proofs.Common.{◌≡◌, ℕ, zero, suc, ◌+◌, ◌<◌, List,
 use Rattle.std.proofs.lemmas.List.{append-nil}
 use Rattle.std.specs.Result.{IsErr}
 use Rattle.std.specs.Prelude.{nat_lt, true, ◌≤◌, replicate, Result, Ok, Err, OnOk, OnErr}
-use Rattle.dm_table.specs.declared.request.Op.{Op}
-use Rattle.dm_table.specs.DeviceIo.{fault_of}
+use Rattle.dm_table.specs.declared.requests.request.Op.{Op}
+use Rattle.dm_table.specs.io.DeviceIo.{fault_of}
 use Rattle.dm_stack.specs.Description.{Description, device_len}
 use Rattle.dm_map.specs.state.Counts.{AreAdded, Counts}
 use Rattle.dm_map.specs.pieces.Units.{BlockUnit, Fails, next_unit, units_in}

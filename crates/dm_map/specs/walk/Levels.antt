@@ -1,5 +1,5 @@
 -- That the number of levels of devices that a sector is followed through plays no part.
-use Rattle.dm_table.specs.declared.request.Op.TheVariants.{Read, Write}
+use Rattle.dm_table.specs.declared.requests.request.Op.TheVariants.{Read, Write}
 use Rattle.dm_stack.specs.Description.{Description}
 use Rattle.dm_map.specs.walk.Homes.{AreHomesFreeOfLevels}
 use Rattle.dm_map.specs.walk.Mapping.{IsFreeOfLevels}

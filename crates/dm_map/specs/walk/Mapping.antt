@@ -1,7 +1,7 @@
 -- What becomes of each sector of a request (the kernel's admin guide, device-mapper/linear, striped, zero and snapshot).
 use Rattle.std.specs.Prelude.{ℕ, zero, suc, ◌+◌, ◌-◌, ◌≡◌, ◌≤◌, ◌<◌, [], ◌∷◌, Option, Some, None, length, nat_lt, replicate, if◌then◌else◌}
-use Rattle.dm_table.specs.declared.request.Op.{Op}
-use Rattle.dm_table.specs.declared.request.Op.TheVariants as ops
+use Rattle.dm_table.specs.declared.requests.request.Op.{Op}
+use Rattle.dm_table.specs.declared.requests.request.Op.TheVariants as ops
 use Rattle.dm_stack.specs.declared.id.Lower.{Lower}
 use Rattle.dm_stack.specs.declared.id.Lower.TheVariants.{Device, Disk}
 use Rattle.dm_stack.specs.declared.found_line.FoundLine.{FoundLine}

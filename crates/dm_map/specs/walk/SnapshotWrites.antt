@@ -1,7 +1,7 @@
 -- What a write of a snapshot's sector does (the kernel's admin guide, device-mapper/snapshot): its chunk is taken, and then the sector is written.
 use Rattle.std.specs.Prelude.{ℕ, zero, suc, ◌-◌, ◌*◌, ◌/◌, Bool, true, false, ◌&&◌, ◌||◌, not, List, [], ◌∷◌, length, Option, Some, None, is_some, min, if◌then◌else◌}
-use Rattle.dm_table.specs.declared.table.StoreKind.{StoreKind}
-use Rattle.dm_table.specs.declared.table.StoreKind.TheVariants.{Keeping}
+use Rattle.dm_table.specs.declared.tables.table.StoreKind.{StoreKind}
+use Rattle.dm_table.specs.declared.tables.table.StoreKind.TheVariants.{Keeping}
 use Rattle.dm_stack.specs.declared.graph.TheConstants.{MOST_DEPTH}
 use Rattle.dm_stack.specs.declared.id.Lower.{Lower}
 use Rattle.dm_stack.specs.declared.found_line.FoundSnapshot.{FoundSnapshot}

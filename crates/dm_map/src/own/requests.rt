@@ -1,7 +1,7 @@
 //! The law that each top device is like a disk of its own, whatever is asked of any of them.
 
 ghost use Rattle.std.specs.Prelude.{ℕ, ◌≤◌};
-ghost use Rattle.dm_table.specs.declared.request.Op.{Op};
+ghost use Rattle.dm_table.specs.declared.requests.request.Op.{Op};
 ghost use Rattle.dm_stack.specs.Claims.{IsTidy, IsTop};
 ghost use Rattle.dm_map.specs.own.Contents.{Values, played, sector_past};
 ghost use Rattle.dm_map.specs.walk.Mapping.{request_step};

@@ -4,7 +4,7 @@
 //! join pieces as it likes: its relations speak of units, which are the same however they are cut.
 
 ghost use Rattle.std.specs.Prelude.{◌≡◌, ℕ, ◌+◌, ◌≤◌, List, [], ◌++◌, OnOk, OnErr};
-ghost use Rattle.dm_table.specs.DeviceIo.{fault_of};
+ghost use Rattle.dm_table.specs.io.DeviceIo.{fault_of};
 ghost use Rattle.dm_stack.specs.Description.{Description};
 ghost use Rattle.dm_map.specs.pieces.Units.{BlockUnit, units_of, piece_len, diskless_len, IsOnDisks};
 

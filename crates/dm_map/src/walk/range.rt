@@ -9,7 +9,7 @@
 //! (`specs/walk/Path`).
 
 ghost use Rattle.std.specs.Prelude.{◌≡◌, ℕ, ◌+◌, ◌-◌, ◌<◌, ◌≤◌, Some, length};
-ghost use Rattle.dm_table.specs.declared.request.Op.TheVariants.{Write};
+ghost use Rattle.dm_table.specs.declared.requests.request.Op.TheVariants.{Write};
 ghost use Rattle.dm_stack.specs.Below.{found_at, IsTargetSound};
 ghost use Rattle.dm_stack.specs.Description.{Description, device_len, lower_len};
 ghost use Rattle.dm_stack.specs.Depth.{lower_depth};

@@ -6,7 +6,7 @@
 //! `line_stretch`, as it is one of `map_line`.
 
 ghost use Rattle.std.specs.Prelude.{◌≡◌, ◌+◌, ◌≤◌, Some};
-ghost use Rattle.dm_table.specs.declared.request.Op.TheVariants.{Read};
+ghost use Rattle.dm_table.specs.declared.requests.request.Op.TheVariants.{Read};
 ghost use Rattle.dm_stack.specs.Below.{found_at, IsTargetSound};
 ghost use Rattle.dm_stack.specs.Description.{lower_len};
 ghost use Rattle.dm_stack.specs.declared.limits.TheConstants.{MOST_LENGTH};

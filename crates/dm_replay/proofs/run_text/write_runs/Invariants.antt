@@ -1,7 +1,7 @@
 -- the lines so far are written, and nothing failed
 use Rattle.std.proofs.Common.{take, Ok}
-use Rattle.dm_table.specs.Progress.{Wrote}
-use Rattle.dm_table.specs.declared.device_io.OutFault.{OutFault}
+use Rattle.dm_table.specs.io.Progress.{Wrote}
+use Rattle.dm_table.specs.declared.io.device_io.OutFault.{OutFault}
 use Rattle.dm_replay.specs.RunText.{runs_text}
 use Rattle.dm_replay.proofs.run_text.write_runs.Given as goal
 

@@ -1,6 +1,6 @@
 use Rattle.std.proofs.Common.{◌≡◌, None, drop, get_or, nat_lt}
-use Rattle.dm_table.specs.LoadFault.{first_or}
-use Rattle.dm_table.specs.declared.load_fault.LoadKind.TheVariants.{Deep}
+use Rattle.dm_table.specs.load.LoadFault.{first_or}
+use Rattle.dm_table.specs.declared.load.load_fault.LoadKind.TheVariants.{Deep}
 use Rattle.dm_stack.specs.Soundness.{faults_by_id}
 use Rattle.dm_stack.proofs.depth.check_depths.Given as goal
 

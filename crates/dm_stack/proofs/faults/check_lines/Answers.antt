@@ -1,8 +1,8 @@
 -- The lines of a device give its fault, or none.
 use Rattle.std.proofs.Common.{◌≡◌, List, Some, None, sym, ap, ◌∙◌}
 use Rattle.std.proofs.lemmas.Result.{err_from_is_err_and}
-use Rattle.dm_table.specs.LoadFault.{faults_by, first_or}
-use Rattle.dm_table.specs.declared.table.Line.{Line}
+use Rattle.dm_table.specs.load.LoadFault.{faults_by, first_or}
+use Rattle.dm_table.specs.declared.tables.table.Line.{Line}
 use Rattle.dm_stack.proofs.PlacedLemmas.{device_passes, device_stops}
 use Rattle.dm_stack.proofs.faults.check_lines.Goals as goal
 

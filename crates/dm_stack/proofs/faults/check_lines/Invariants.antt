@@ -1,8 +1,8 @@
 -- by each test that the closure computes, the rest has the first fault of all lines
 use Rattle.std.proofs.Common.{◌≡◌, Bool, None, drop}
 use Rattle.std.specs.Fn.{FnReturnsAt}
-use Rattle.dm_table.specs.LoadFault.{faults_by, first_or}
-use Rattle.dm_table.specs.declared.table.Line.{Line}
+use Rattle.dm_table.specs.load.LoadFault.{faults_by, first_or}
+use Rattle.dm_table.specs.declared.tables.table.Line.{Line}
 use Rattle.dm_stack.specs.Soundness.{all_lines}
 use Rattle.dm_stack.proofs.faults.check_lines.Given as goal
 

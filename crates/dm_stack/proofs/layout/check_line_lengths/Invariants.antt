@@ -1,6 +1,6 @@
 use Rattle.std.proofs.Common.{◌≡◌, None, drop}
 use Rattle.std.specs.List.{flat_map}
-use Rattle.dm_table.specs.LoadFault.{first_or}
+use Rattle.dm_table.specs.load.LoadFault.{first_or}
 use Rattle.dm_stack.specs.Soundness.{empty_in}
 use Rattle.dm_stack.proofs.layout.check_line_lengths.Given as goal
 

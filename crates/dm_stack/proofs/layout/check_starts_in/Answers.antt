@@ -1,5 +1,5 @@
 use Rattle.std.proofs.Common.{None, ap, sym, ◌∙◌}
-use Rattle.dm_table.specs.LoadFault.{first_or}
+use Rattle.dm_table.specs.load.LoadFault.{first_or}
 use Rattle.dm_stack.proofs.LayoutLemmas.{end_of-next, gap_here, overlap_here, placed_all, placed_here}
 use Rattle.dm_stack.proofs.layout.check_starts_in.Goals as goal
 

@@ -1,6 +1,6 @@
 -- the lines so far end here, and the rest has the first fault of all
 use Rattle.std.proofs.Common.{◌≡◌, None, take}
-use Rattle.dm_table.specs.LoadFault.{first_or}
+use Rattle.dm_table.specs.load.LoadFault.{first_or}
 use Rattle.dm_stack.specs.Description.{end_of}
 use Rattle.dm_stack.specs.Soundness.{misplaced_in}
 use Rattle.dm_stack.proofs.LayoutLemmas.{misplaced_from}

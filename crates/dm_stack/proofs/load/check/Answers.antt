@@ -2,9 +2,9 @@
 use Rattle.std.proofs.Common.{◌≡◌, ℕ, List, [], None, refl, sym, ap, subst, ◌∙◌, get_or, inl, inr, length, map}
 use Rattle.std.specs.Prelude.{nat_lt}
 use Rattle.std.proofs.lemmas.Result.{err_from_is_err_and}
-use Rattle.dm_table.specs.declared.load_fault.LoadKind.TheVariants.{Deep}
-use Rattle.dm_table.specs.LoadFault.{first_or, first_fault}
-use Rattle.dm_table.proofs.FaultLemmas.{first_or-none}
+use Rattle.dm_table.specs.declared.load.load_fault.LoadKind.TheVariants.{Deep}
+use Rattle.dm_table.specs.load.LoadFault.{first_or, first_fault}
+use Rattle.dm_table.proofs.load.FaultLemmas.{first_or-none}
 use Rattle.dm_stack.specs.Description.{Description, links}
 use Rattle.dm_stack.specs.Graph.{IsFirstRing, depths_to, greatest}
 use Rattle.dm_stack.specs.DiskText.{disk_text}

@@ -1,5 +1,5 @@
 use Rattle.std.proofs.Common.{ℕ, List, Option, ap, subst, get_or}
-use Rattle.dm_table.specs.declared.table.DeviceSpec.{DeviceSpec}
+use Rattle.dm_table.specs.declared.tables.table.DeviceSpec.{DeviceSpec}
 use Rattle.dm_stack.specs.Description.{links}
 use Rattle.dm_stack.specs.Graph.{IsFirstRing}
 use Rattle.dm_stack.proofs.LoadLemmas.{no_ring, ring_fault}

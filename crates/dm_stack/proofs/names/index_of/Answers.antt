@@ -2,9 +2,9 @@
 use Rattle.std.proofs.Common.{◌≡◌, ℕ, Bool, List, [], ◌∷◌, ◌++◌, Option, None, Ok, true, false, cond, sym, ap, ◌∙◌, map}
 use Rattle.std.proofs.lemmas.Bool.{not-true, not-false}
 use Rattle.std.proofs.lemmas.List.{take_all}
-use Rattle.dm_table.specs.LoadFault.{first_or, unless}
-use Rattle.dm_table.specs.declared.load_fault.LoadFault.{LoadFault}
-use Rattle.dm_table.specs.declared.place.Part.TheVariants.{Source}
+use Rattle.dm_table.specs.load.LoadFault.{first_or, unless}
+use Rattle.dm_table.specs.declared.load.load_fault.LoadFault.{LoadFault}
+use Rattle.dm_table.specs.declared.load.place.Part.TheVariants.{Source}
 use Rattle.dm_stack.specs.Soundness.{twice_in}
 use Rattle.dm_stack.proofs.NameLemmas.{names_more, refused_twice, seen_in, stands_nowhere, stands_once, stands_twice}
 use Rattle.dm_stack.proofs.names.index_of.Goals as goal

@@ -1,6 +1,6 @@
 -- the rest has the first fault of the list, and the names so far are indexed
 use Rattle.std.proofs.Common.{◌≡◌, None, map, take}
-use Rattle.dm_table.specs.LoadFault.{first_or}
+use Rattle.dm_table.specs.load.LoadFault.{first_or}
 use Rattle.dm_stack.specs.Soundness.{twice_in}
 use Rattle.dm_stack.proofs.NameLemmas.{twice_from}
 use Rattle.dm_stack.proofs.names.index_of.Given as goal

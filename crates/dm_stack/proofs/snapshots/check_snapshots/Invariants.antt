@@ -1,6 +1,6 @@
 use Rattle.std.proofs.Common.{◌≡◌, None, drop}
 use Rattle.std.specs.List.{flat_map}
-use Rattle.dm_table.specs.LoadFault.{first_or}
+use Rattle.dm_table.specs.load.LoadFault.{first_or}
 use Rattle.dm_stack.specs.Soundness.{bad_snapshots_in}
 use Rattle.dm_stack.proofs.snapshots.check_snapshots.Given as goal
 

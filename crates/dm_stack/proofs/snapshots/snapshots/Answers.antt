@@ -1,5 +1,5 @@
 use Rattle.std.proofs.Common.{List, ℕ, [], ◌∷◌, ◌++◌, cond, sym, ap, ◌∙◌}
-use Rattle.dm_table.specs.declared.table.Line.{Line}
+use Rattle.dm_table.specs.declared.tables.table.Line.{Line}
 use Rattle.dm_stack.specs.Snapshots.{has_snapshot}
 use Rattle.dm_stack.proofs.SnapshotIds.{ids_next}
 use Rattle.dm_stack.proofs.snapshots.snapshots.Goals as goal

@@ -1,8 +1,8 @@
 use Rattle.std.proofs.Common.{None, List, ap, ◌∙◌, rules, tests}
-use Rattle.dm_table.specs.LoadFault.{faults_by, first_or}
-use Rattle.dm_table.specs.declared.load_fault.LoadFault.{LoadFault}
-use Rattle.dm_table.specs.declared.load_fault.LoadKind.TheVariants.{Store}
-use Rattle.dm_table.specs.declared.table.DeviceSpec.{DeviceSpec}
+use Rattle.dm_table.specs.load.LoadFault.{faults_by, first_or}
+use Rattle.dm_table.specs.declared.load.load_fault.LoadFault.{LoadFault}
+use Rattle.dm_table.specs.declared.load.load_fault.LoadKind.TheVariants.{Store}
+use Rattle.dm_table.specs.declared.tables.table.DeviceSpec.{DeviceSpec}
 use Rattle.dm_stack.specs.Soundness.{all_lines}
 use Rattle.dm_stack.specs.Store.{has_deep_store}
 use Rattle.dm_stack.proofs.StoreLemmas.{deep_stores}

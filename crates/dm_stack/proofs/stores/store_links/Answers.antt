@@ -1,5 +1,5 @@
 use Rattle.std.proofs.Common.{◌≡◌, ◌<◌, Bool, List, ap, ◌∙◌, arith, get_or, length}
-use Rattle.dm_table.specs.declared.table.DeviceSpec.{DeviceSpec}
+use Rattle.dm_table.specs.declared.tables.table.DeviceSpec.{DeviceSpec}
 use Rattle.dm_stack.specs.Graph.{links_in}
 use Rattle.dm_stack.specs.Store.{store_links_of}
 use Rattle.dm_stack.proofs.StoreLemmas.{links_length, store_links_next}

@@ -1,5 +1,5 @@
 use Rattle.std.proofs.Common.{ap}
-use Rattle.dm_table.specs.declared.device_io.OutFault.{OutFault}
+use Rattle.dm_table.specs.declared.io.device_io.OutFault.{OutFault}
 use Rattle.dm_map.specs.Mapper.{MapperView}
 use Rattle.dm_stream.proofs.Runs.{closed_after, ran_failed, ran_whole}
 use Rattle.dm_stream.proofs.map_run.map_and_flush.Goals as goal

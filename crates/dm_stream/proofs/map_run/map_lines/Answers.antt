@@ -1,4 +1,4 @@
-use Rattle.dm_table.specs.DeviceIo.{delivery}
+use Rattle.dm_table.specs.io.DeviceIo.{delivery}
 use Rattle.dm_stream.proofs.Runs.{all_mapped, part_mapped, stopped_met}
 use Rattle.dm_stream.proofs.map_run.map_lines.Goals as goal
 

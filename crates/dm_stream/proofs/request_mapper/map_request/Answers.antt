@@ -4,8 +4,8 @@ use Rattle.dm_stream.specs.Outcome.{step_of}
 use Rattle.dm_stream.specs.Requests.{numbered}
 use Rattle.dm_stream.specs.Pieces.{fewest}
 use Rattle.dm_stream.specs.PieceText.{pieces_text}
-use Rattle.dm_table.specs.Progress.{Wrote}
-use Rattle.dm_table.specs.declared.device_io.OutFault.{OutFault}
+use Rattle.dm_table.specs.io.Progress.{Wrote}
+use Rattle.dm_table.specs.declared.io.device_io.OutFault.{OutFault}
 use Rattle.dm_stream.proofs.RequestMapped.{cut_short, on_sink, taken_wrote}
 use Rattle.dm_stream.proofs.request_mapper.map_request.Goals as goal
 

@@ -1,5 +1,5 @@
 use Rattle.std.proofs.Common.{ℕ, [], ◌∷◌, take, sym, ap, ◌∙◌, arith}
-use Rattle.dm_table.specs.RequestLine.{values_of}
+use Rattle.dm_table.specs.requests.RequestLine.{values_of}
 use Rattle.dm_stream.specs.Requests.{after_requests}
 use Rattle.dm_stream.proofs.Fronts.{said_first}
 use Rattle.dm_stream.proofs.requests.front_of.Goals as goal

@@ -1,7 +1,7 @@
-use Rattle.dm_table.proofs.ProgressLaws.{grows-same}
+use Rattle.dm_table.specs.laws.Progress.{grows-same}
 use Rattle.std.proofs.Common.{rules, ℕ, List, ◌+◌, ◌++◌, ◌∙◌, ap, sym, subst, refl, [], ◌∷◌, take}
-use Rattle.dm_table.specs.DeviceIo.{since, stand_of}
-use Rattle.dm_table.proofs.Growth.{grows_more}
+use Rattle.dm_table.specs.io.DeviceIo.{since, stand_of}
+use Rattle.dm_table.specs.laws.Progress.{grows_more}
 use Rattle.dm_stream.specs.Lines.{ALine, AnEnd, AnUnended, ALong, AFault, answer_of, left_of}
 use Rattle.dm_stream.specs.Requests.{numbered}
 use Rattle.dm_stream.specs.declared.ending.Ending as ending

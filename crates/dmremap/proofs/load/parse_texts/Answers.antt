@@ -1,5 +1,5 @@
 use Rattle.std.proofs.lemmas.Result.{err_from_is_err_and}
-use Rattle.dm_table.specs.DiskList.{disk_checks}
+use Rattle.dm_table.specs.tables.DiskList.{disk_checks}
 use Rattle.dmremap.specs.Load.{device_checks}
 use Rattle.dmremap.proofs.LoadLemmas.{first_after, first_before}
 use Rattle.dmremap.proofs.load.parse_texts.Goals as goal

@@ -1,6 +1,6 @@
 use Rattle.std.proofs.Common.{List, rules, subst, ◌≡◌}
-use Rattle.dm_table.specs.declared.table.DeviceSpec.{DeviceSpec}
-use Rattle.dm_table.specs.DeviceIo.{since}
+use Rattle.dm_table.specs.declared.tables.table.DeviceSpec.{DeviceSpec}
+use Rattle.dm_table.specs.io.DeviceIo.{written_since}
 use Rattle.dmremap.specs.Printing.{IsTextPrinted, written_as}
 use Rattle.dmremap.proofs.PrintLemmas.{printed_after, writes_after}
 use Rattle.dmremap.proofs.printing.print_stack.Goals as goal

@@ -1,5 +1,5 @@
 use Rattle.std.proofs.Common.{subst}
-use Rattle.dm_table.specs.DeviceIo.{delivery, since}
+use Rattle.dm_table.specs.io.DeviceIo.{delivery, written_since}
 use Rattle.dm_stream.specs.Requests.{requests_of}
 use Rattle.dm_replay.specs.Replay.{Replaying}
 use Rattle.dmremap.specs.ReplayOutcome.{HasStopped}

@@ -1,4 +1,4 @@
-use Rattle.dm_table.specs.DeviceIo.{delivery}
+use Rattle.dm_table.specs.io.DeviceIo.{delivery}
 use Rattle.dmremap.proofs.ReplayLemmas.{played_asked, played_stack}
 use Rattle.dmremap.proofs.replay_run.replay_stack.Goals as goal
 

@@ -1,9 +1,9 @@
 use Rattle.std.proofs.Common.{◌≡◌, List, ℕ, Option, None, Ok, Err, Result, sym, subst}
 use Rattle.std.specs.Prelude.{IfOk, is_some}
 use Rattle.std.specs.declared.alloc.AllocError.{AllocError}
-use Rattle.dm_table.specs.declared.load_fault.LoadFault.{LoadFault}
-use Rattle.dm_table.specs.declared.load_fault.LoadKind.TheVariants.{Name}
-use Rattle.dm_table.specs.LoadFault.{first_or}
+use Rattle.dm_table.specs.declared.load.load_fault.LoadFault.{LoadFault}
+use Rattle.dm_table.specs.declared.load.load_fault.LoadKind.TheVariants.{Name}
+use Rattle.dm_table.specs.load.LoadFault.{first_or}
 use Rattle.lvm_volume.specs.Names.{NameParts, Returns, built, fault_of, joined}
 use Rattle.lvm_volume.specs.Extents.{hit}
 use Rattle.lvm_volume.specs.Tables.{device_parts}

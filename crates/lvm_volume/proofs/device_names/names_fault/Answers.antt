@@ -1,7 +1,7 @@
 use Rattle.std.proofs.Common.{List, None, sym, ap, ◌∙◌}
 use Rattle.std.specs.List.{flat_map}
 use Rattle.std.proofs.lemmas.Slice.Zip.{either_empty_from_Zip}
-use Rattle.dm_table.specs.LoadFault.{first_or}
+use Rattle.dm_table.specs.load.LoadFault.{first_or}
 use Rattle.lvm_volume.specs.declared.roles.Role.{Role}
 use Rattle.lvm_volume.specs.declared.volume.Volume.{Volume}
 use Rattle.lvm_volume.specs.Tables.{unnamed_volume}

@@ -3,7 +3,7 @@ use Rattle.std.proofs.Common.{◌≡◌, None}
 use Rattle.std.specs.Iterator.Adapters.{zip_first, zip_second}
 use Rattle.std.specs.List.{flat_map, zip}
 use Rattle.std.specs.Slice.Iter.{iter_rest}
-use Rattle.dm_table.specs.LoadFault.{first_or}
+use Rattle.dm_table.specs.load.LoadFault.{first_or}
 use Rattle.lvm_volume.specs.Tables.{unnamed_volume}
 use Rattle.lvm_volume.proofs.device_names.names_fault.Given as goal
 

@@ -1,6 +1,6 @@
 -- what is used is held, and the volumes that are left tell the same as all did
 use Rattle.std.proofs.Common.{◌≡◌, List, [], None, drop, length}
-use Rattle.dm_table.specs.LoadFault.{first_or}
+use Rattle.dm_table.specs.load.LoadFault.{first_or}
 use Rattle.lvm_volume.specs.Extents.{Claim, volume_faults}
 use Rattle.lvm_volume.specs.Used.{Holds}
 use Rattle.lvm_volume.proofs.extents.each_fault.Given as goal

@@ -1,6 +1,6 @@
 -- what was used is now used with the segments so far, and those that are left tell the same as all did
 use Rattle.std.proofs.Common.{◌≡◌, List, None, drop, length}
-use Rattle.dm_table.specs.LoadFault.{first_or}
+use Rattle.dm_table.specs.load.LoadFault.{first_or}
 use Rattle.lvm_volume.specs.Extents.{Claim, segment_faults, used_after}
 use Rattle.lvm_volume.specs.Used.{Holds}
 use Rattle.lvm_volume.proofs.extents.segments_fault.Given as goal

@@ -1,6 +1,6 @@
 use Rattle.std.proofs.Common.{subst}
-use Rattle.dm_table.specs.LoadFault.{Answers}
-use Rattle.dm_table.specs.declared.place.Part.TheVariants.{Source}
+use Rattle.dm_table.specs.load.LoadFault.{Answers}
+use Rattle.dm_table.specs.declared.load.place.Part.TheVariants.{Source}
 use Rattle.lvm_volume.proofs.MetadataLemmas.{named_group, refused_group}
 use Rattle.lvm_volume.proofs.metadata.group_tables.Goals as goal
 

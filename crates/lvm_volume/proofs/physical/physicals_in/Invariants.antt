@@ -1,7 +1,7 @@
 -- the physical volumes so far, with those of the sections that are left, are all, and no name so far was refused
 use Rattle.std.proofs.Common.{◌≡◌, ◌++◌, None, drop, map}
 use Rattle.lvm_text.specs.Iterate.{item_view}
-use Rattle.dm_table.specs.LoadFault.{first_or}
+use Rattle.dm_table.specs.load.LoadFault.{first_or}
 use Rattle.lvm_volume.specs.Extents.{name_faults}
 use Rattle.lvm_volume.specs.Group.{device_of, physical_of}
 use Rattle.lvm_volume.proofs.physical.physicals_in.Given as goal

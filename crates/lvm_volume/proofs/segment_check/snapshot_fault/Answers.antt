@@ -1,5 +1,5 @@
 use Rattle.std.proofs.Common.{List, Some, sym, ap, ◌∙◌}
-use Rattle.dm_table.specs.declared.load_fault.LoadKind.TheVariants as loads
+use Rattle.dm_table.specs.declared.load.load_fault.LoadKind.TheVariants as loads
 use Rattle.lvm_volume.specs.declared.roles.Role.{Role}
 use Rattle.lvm_volume.specs.Extents.{least_line_of}
 use Rattle.lvm_volume.specs.Roles.{is_bad_snapshot, roles_of}

@@ -1,5 +1,5 @@
 use Rattle.std.proofs.Common.{◌≡◌, ◌+◌, List, ℕ, None, sym, ap, ◌∙◌}
-use Rattle.dm_table.specs.LoadFault.{first_or}
+use Rattle.dm_table.specs.load.LoadFault.{first_or}
 use Rattle.lvm_volume.specs.declared.field.Kind.TheVariants as kinds
 use Rattle.lvm_volume.specs.Fields.{Field, always, field_faults, segment_field}
 use Rattle.lvm_volume.proofs.Faults.{number_goes_on}

@@ -1,6 +1,6 @@
 use Rattle.std.proofs.Common.{◌≡◌, ◌+◌, ◌-◌, None}
 use Rattle.std.specs.List.{flat_map, range_with_len}
-use Rattle.dm_table.specs.LoadFault.{first_or}
+use Rattle.dm_table.specs.load.LoadFault.{first_or}
 use Rattle.lvm_volume.specs.Fields.{field_faults, segment_field}
 use Rattle.lvm_volume.proofs.walk.keys_fault.Given as goal
 

@@ -1,6 +1,6 @@
 use Rattle.std.proofs.Common.{◌≡◌, None, drop, map}
 use Rattle.std.specs.List.{flat_map}
-use Rattle.dm_table.specs.LoadFault.{first_or}
+use Rattle.dm_table.specs.load.LoadFault.{first_or}
 use Rattle.lvm_volume.specs.Fields.{fields_faults, section_view, segment_fields}
 use Rattle.lvm_volume.proofs.walk.segments_fault.Given as goal
 

@@ -1,5 +1,5 @@
 use Rattle.std.proofs.Common.{◌≡◌, ℕ, ◌+◌, ◌-◌, ◌*◌, ◌<◌, ◌≤◌, length}
-use Rattle.dm_table.specs.declared.request.Op.TheVariants.{Write}
+use Rattle.dm_table.specs.declared.requests.request.Op.TheVariants.{Write}
 use Rattle.dm_stack.specs.declared.found_line.FoundTarget.TheVariants.{Snapshot, Striped}
 use Rattle.dm_stack.specs.declared.id.Lower.TheVariants.{Device}
 use Rattle.dm_stack.specs.Soundness.{depth_of}

@@ -2,7 +2,7 @@ use Rattle.std.proofs.Common.{◌≡◌, ◌+◌, ◌-◌, ℕ, refl, subst, ari
 use Rattle.dm_map.specs.pieces.Units.{CopyOf, units_in}
 use Rattle.dm_replay.specs.declared.playing.Playing.{Playing}
 use Rattle.dm_replay.specs.Player.{HasPlayed}
-use Rattle.dm_replay.specs.PlayLaws.{played_nothing}
+use Rattle.dm_replay.specs.laws.Play.{played_nothing}
 use Rattle.dm_replay.proofs.PlayedLemmas.{copy_more, copy_played, none_played}
 use Rattle.dm_replay.proofs.playing.Playing.copy.Goals as goal
 

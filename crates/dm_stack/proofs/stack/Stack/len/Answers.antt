@@ -1,5 +1,5 @@
 use Rattle.std.proofs.Common.{◌≡◌, ◌<◌, ◌≤◌, ℕ, List, sym, ap, subst, ◌∙◌}
-use Rattle.dm_table.specs.declared.table.Line.{Line}
+use Rattle.dm_table.specs.declared.tables.table.Line.{Line}
 use Rattle.dm_stack.specs.Description.{end_of, device_len}
 use Rattle.dm_stack.specs.Soundness.{HaveSmallEnds}
 use Rattle.dm_stack.proofs.SoundLines.{device_sound, device_some, device_small, lines_there, small_ends}

@@ -3,7 +3,7 @@ use Rattle.dm_map.specs.declared.pieces.piece.Piece as code
 use Rattle.dm_stream.specs.Pending.{Pending, IsHeld, held_units, piece_view}
 use Rattle.dm_stream.specs.Pieces.{fewest}
 use Rattle.dm_stream.specs.PieceText.{piece_text, pieces_text}
-use Rattle.dm_table.specs.Progress.{Wrote}
+use Rattle.dm_table.specs.io.Progress.{Wrote}
 use Rattle.dm_stream.proofs.JoinLemmas.{held_line}
 use Rattle.dm_stream.proofs.held_piece.HeldPiece.write.Goals as goal
 

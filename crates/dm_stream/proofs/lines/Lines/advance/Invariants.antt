@@ -1,5 +1,5 @@
 use Rattle.std.proofs.Common.{◌≡◌, ◌-◌, ◌≤◌, ◌++◌, [], ◌∷◌, length, take}
-use Rattle.dm_table.specs.DeviceIo.{since}
+use Rattle.dm_table.specs.io.DeviceIo.{since}
 use Rattle.dm_stream.specs.Lines.{line_parts}
 use Rattle.dm_stream.specs.declared.lines.TheConstants.{ROOM}
 use Rattle.dm_stream.proofs.lines.Lines.advance.Given as goal

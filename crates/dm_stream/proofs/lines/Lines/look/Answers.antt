@@ -1,5 +1,5 @@
 use Rattle.std.proofs.Common.{◌≡◌, ◌<◌, List, ℕ, length, take, subst}
-use Rattle.dm_table.specs.DeviceIo.{Stand}
+use Rattle.dm_table.specs.io.DeviceIo.{Stand}
 use Rattle.dm_stream.specs.Lines.{next_answer, line_parts, ALine}
 use Rattle.dm_stream.proofs.LineParts.{next_held}
 use Rattle.dm_stream.proofs.lines.Lines.look.Goals as goal

@@ -1,6 +1,6 @@
 use Rattle.std.proofs.Common.{◌∙◌, sym, ap, List, ℕ, drop, refl}
 use Rattle.dm_stream.specs.Lines.{next_answer, line_parts, ALine}
-use Rattle.dm_table.specs.DeviceIo.{delivery}
+use Rattle.dm_table.specs.io.DeviceIo.{delivery}
 use Rattle.dm_stream.proofs.Held.{line_at, after_bytes}
 use Rattle.dm_stream.proofs.lines.Lines.next.Goals as goal
 

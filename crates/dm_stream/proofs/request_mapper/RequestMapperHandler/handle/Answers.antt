@@ -1,6 +1,6 @@
 use Rattle.std.proofs.Common.{subst, sym}
-use Rattle.dm_table.specs.DeviceIo.{since}
-use Rattle.dm_table.specs.WriteAll.{IsCutShort}
+use Rattle.dm_table.specs.io.DeviceIo.{since}
+use Rattle.dm_table.specs.io.WriteAll.{IsCutShort}
 use Rattle.dm_stack.specs.Description.{Description}
 use Rattle.dm_stream.specs.Outcome.{request_answer}
 use Rattle.dm_stream.specs.Requests.{numbered}

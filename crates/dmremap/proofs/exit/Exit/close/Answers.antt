@@ -7,7 +7,7 @@ returns-then-is_refused g c = closed_refused c.args.self _ (sym c.is_refused.ens
 
 pub returns-in-Ok : goal.returns-in-Ok
 returns-in-Ok g c =
-    closed_well c.args.self _ _ c.written.result (sym c.is_refused.ensures ∙ c.if-is_refused.false)
+    closed_well _ c.args.self _ _ c.written.result (sym c.is_refused.ensures ∙ c.if-is_refused.false)
     c.written.ensures.ok c.in-Ok.ensures.untouched c.in-Ok.ensures.bytes c.in-Ok.ensures.closed
 
 pub returns-in-Err : goal.returns-in-Err

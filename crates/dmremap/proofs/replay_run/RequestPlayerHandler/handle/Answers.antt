@@ -1,9 +1,9 @@
 use Rattle.std.proofs.Common.{◌≡◌, ◌∙◌, refl, sym, ap, subst, rules, Err}
 use Rattle.dm_stack.specs.Description.{Description}
-use Rattle.dm_table.proofs.ProgressLaws.{written_to_none}
+use Rattle.dm_table.specs.laws.Progress.{written_to_none}
 use Rattle.dm_stream.specs.Requests.{numbered}
-use Rattle.dm_table.specs.DeviceIo.{since}
-use Rattle.dm_table.specs.WriteAll.{IsCutShort}
+use Rattle.dm_table.specs.io.DeviceIo.{written_since}
+use Rattle.dm_table.specs.io.WriteAll.{IsCutShort}
 use Rattle.dm_replay.specs.declared.replay_fault.ReplayFault.TheVariants as faults
 use Rattle.dm_replay.specs.Replay.{IsNotAnswered}
 use Rattle.dm_replay.specs.RunText.{runs_text}

@@ -1,5 +1,5 @@
 use Rattle.std.proofs.Common.{None, sym, ap, ◌∙◌}
-use Rattle.dm_table.specs.LoadFault.{first_or}
+use Rattle.dm_table.specs.load.LoadFault.{first_or}
 use Rattle.lvm_volume.specs.Group.{Group}
 use Rattle.lvm_volume.specs.Roles.{roles_of}
 use Rattle.lvm_volume.specs.Tables.{tables_of, unnamed}

@@ -3,9 +3,9 @@ use Rattle.std.specs.Prelude.{IfOk}
 use Rattle.std.specs.List.{flat_map}
 use Rattle.lvm_text.specs.Tree.{Tree}
 use Rattle.lvm_text.specs.Iterate.{item_view}
-use Rattle.dm_table.specs.LoadFault.{first_or}
+use Rattle.dm_table.specs.load.LoadFault.{first_or}
 use Rattle.lvm_volume.specs.Fields.{Field, fields_faults, group_fields, group_faults, physical_fields, volume_faults}
-use Rattle.dm_table.specs.declared.load_fault.LoadFault.{LoadFault}
+use Rattle.dm_table.specs.declared.load.load_fault.LoadFault.{LoadFault}
 use Rattle.lvm_volume.specs.declared.check.Check.{Check}
 use Rattle.lvm_volume.proofs.Faults.{then_here, then_after}
 use Rattle.lvm_volume.proofs.walk.FieldWalk.group_fault.Goals as goal

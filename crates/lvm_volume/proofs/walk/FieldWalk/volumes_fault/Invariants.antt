@@ -1,6 +1,6 @@
 use Rattle.std.proofs.Common.{◌≡◌, None, drop, map}
 use Rattle.std.specs.List.{flat_map}
-use Rattle.dm_table.specs.LoadFault.{first_or}
+use Rattle.dm_table.specs.load.LoadFault.{first_or}
 use Rattle.lvm_text.specs.Iterate.{item_view}
 use Rattle.lvm_volume.specs.Fields.{volume_faults}
 use Rattle.lvm_volume.proofs.walk.FieldWalk.volumes_fault.Given as goal

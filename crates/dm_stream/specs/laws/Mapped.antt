@@ -1,0 +1,57 @@
+-- The laws of a request mapper as a handler: what it answered, and then answered or stopped at, is one.
+use Rattle.std.proofs.Common.{◌≡◌, ℕ, List, [], ◌∷◌, ◌++◌, Option, Some, sym, ap, ◌∙◌, append_assoc}
+use Rattle.dm_table.specs.io.DeviceIo.{since}
+use Rattle.dm_table.specs.laws.Progress.{since_more}
+use Rattle.dm_stack.specs.Description.{Description}
+use Rattle.dm_map.specs.Mapper.{MapperView}
+use Rattle.dm_map.specs.state.State.{State}
+use Rattle.dm_stream.specs.Mapped.{HasAnswered, HasStopped}
+use Rattle.dm_stream.specs.Outcome.{Outcome, after_text, outcome_from}
+use Rattle.dm_table.specs.laws.Progress.{since-same}
+use Rattle.dm_stream.specs.Requests.{NumberedRequest}
+use Rattle.dm_stream.specs.declared.ending.Ending as ending
+use Rattle.dm_stream.specs.declared.ending.NotMapped.{NotMapped}
+use Rattle.dm_stream.specs.declared.ending.NotMapped.TheVariants as causes
+use Rattle.dm_stream.specs.declared.ending.RequestWord as word
+
+pub answered_none : (stack : Description) (state : State) (w : List ℕ) → HasAnswered stack state state [] w w
+answered_none stack state w = record {
+  told = λ rest e. ap (λ (text : List ℕ). after_text text (outcome_from stack state rest e)) (sym (since-same w));
+}
+
+-- one text and then another
+texts_more : (w0 w1 w2 : List ℕ) (o : Outcome) → w1 ≡ w0 ++ since w0 w1 → w2 ≡ w1 ++ since w1 w2 → after_text (since w0 w1) (after_text (since w1 w2) o) ≡ after_text (since w0 w2) o
+texts_more w0 w1 w2 o e f =
+    ap (λ (text : List ℕ). record { output = text; state = o.state; ending = o.ending }) (sym (append_assoc (since w0 w1) (since w1 w2) o.output))
+    ∙ ap (λ (text : List ℕ). after_text text o) (sym (since_more w0 w1 w2 e f))
+
+-- requests of which the first are answered
+first_answered : (stack : Description) (a b : State) (us vs rest : List NumberedRequest) (e : Option ending.Ending) (w0 w1 : List ℕ) → HasAnswered stack a b us w0 w1
+    → outcome_from stack a ((us ++ vs) ++ rest) e ≡ after_text (since w0 w1) (outcome_from stack b (vs ++ rest) e)
+first_answered stack a b us vs rest e w0 w1 first =
+    ap (λ (requests : List NumberedRequest). outcome_from stack a requests e) (append_assoc us vs rest) ∙ first.told (vs ++ rest) e
+
+pub answered_more : (stack : Description) (a b c : State) (us vs : List NumberedRequest) (w0 w1 w2 : List ℕ) → w1 ≡ w0 ++ since w0 w1 → w2 ≡ w1 ++ since w1 w2
+    → HasAnswered stack a b us w0 w1 → HasAnswered stack b c vs w1 w2 → HasAnswered stack a c (us ++ vs) w0 w2
+answered_more stack a b c us vs w0 w1 w2 more again first second = record {
+  told = λ rest e.
+      first_answered stack a b us vs rest e w0 w1 first ∙ ap (after_text (since w0 w1)) (second.told rest e)
+      ∙ texts_more w0 w1 w2 (outcome_from stack c rest e) more again;
+}
+
+pub stopped_more : (stack : Description) (fault : NotMapped) (a b : State) (c : MapperView) (us vs : List NumberedRequest) (w0 w1 w2 : List ℕ) → w1 ≡ w0 ++ since w0 w1 → w2 ≡ w1 ++ since w1 w2
+    → HasAnswered stack a b us w0 w1 → HasStopped stack fault b c vs w1 w2 → HasStopped stack fault a c (us ++ vs) w0 w2
+stopped_more stack (causes.Unknown number) a b c us vs w0 w1 w2 more again first second = (
+  second.0,
+  λ rest e.
+      first_answered stack a b us vs rest e w0 w1 first ∙ ap (after_text (since w0 w1)) (second.1 rest e)
+      ∙ ap (λ (text : List ℕ). record { output = text; state = c.state; ending = Some (ending.TheVariants.BadRequest number word.TheVariants.Unknown) }) (sym (since_more w0 w1 w2 more again)),
+)
+stopped_more stack causes.Output a b c us vs w0 w1 w2 more again first second = λ rest e.
+    let cut = second rest e in (
+      cut.0,
+      cut.1,
+      ap (λ (o : Outcome). o.output) (first_answered stack a b us vs rest e w0 w1 first) ∙ ap (λ (text : List ℕ). since w0 w1 ++ text) cut.2
+          ∙ sym (append_assoc (since w0 w1) (since w1 w2) (cut.0 ∷ cut.1))
+          ∙ ap (λ (text : List ℕ). text ++ cut.0 ∷ cut.1) (sym (since_more w0 w1 w2 more again)),
+    )

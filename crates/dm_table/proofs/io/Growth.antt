@@ -1,0 +1,129 @@
+-- Lists that only grow, told by what is new.
+use Rattle.std.proofs.Common.{Result, Ok, Err, OnErr, [], ◌∷◌, ◌≡◌, ◌<◌, ◌≤◌, ℕ, ◌+◌, ◌-◌, List, ◌++◌, length, take, drop, sym, ap, ◌∙◌, add-zero, append_assoc, take-append-drop, arith}
+use Rattle.std.proofs.Math.Seq.{take-add}
+use Rattle.std.proofs.lemmas.List.{take_rest, append-nil, drop-drop, length-drop}
+use Rattle.dm_table.specs.declared.io.device_io.OutFault.{OutFault}
+use Rattle.dm_table.specs.io.DeviceIo.{OutputPast, after_write, since, with_fault}
+use Rattle.dm_table.specs.io.Progress.{HasWritten, Wrote}
+use Rattle.dm_table.specs.io.WriteAll.{IsBeginning, IsCutShort}
+use Rattle.dm_table.specs.laws.Progress.{since_is}
+use Rattle.dm_table.proofs.io.Portions.{rest_after}
+
+-- a list after which nothing was added
+pub quiet_since : (old new held : List ℕ) → new ≡ old ++ [] → held ≡ held ++ since old new
+quiet_since old new held e = sym (append-nil held) ∙ ap (λ xs. held ++ xs) (sym (since_is old new [] e))
+
+-- the first of some bytes are a beginning of them
+pub front_beginning : (old new bytes : List ℕ) (at : ℕ) → new ≡ old ++ take at bytes → IsBeginning bytes (since old new)
+front_beginning old new bytes at e =
+    (drop at bytes, sym (take-append-drop at bytes) ∙ ap (λ xs. xs ++ drop at bytes) (sym (since_is old new (take at bytes) e)))
+
+-- where others are left, they cut the text short
+pub front_cut : (old new bytes rest : List ℕ) (at : ℕ) → new ≡ old ++ take at bytes → rest ≡ drop at bytes → 0 < length rest → IsCutShort bytes (since old new)
+front_cut old new bytes [] at e is some = absurd (omega (arith, some))
+front_cut old new bytes (byte ∷ more) at e is some = (
+  byte,
+  more,
+  sym (take-append-drop at bytes) ∙ ap (λ xs. xs ++ drop at bytes) (sym (since_is old new (take at bytes) e)) ∙ ap (λ xs. since old new ++ xs) (sym is),
+)
+
+-- how many bytes stand before a rest of them
+abbrev pub before : List ℕ → List ℕ → ℕ
+before bytes rest = length bytes - length rest
+
+rest_after_len : (rest : List ℕ) (n : ℕ) → length (rest_after rest n) ≡ length rest - n
+rest_after_len rest n = ap length (take_rest rest n) ∙ length-drop n rest
+
+pub rest_after_within : (bytes rest : List ℕ) (n : ℕ) → length rest ≤ length bytes → length (rest_after rest n) ≤ length bytes
+rest_after_within bytes rest n within = let len = rest_after_len rest n in omega (arith, len, within)
+
+before_rest_after : (bytes rest : List ℕ) (n : ℕ) → length rest ≤ length bytes → n ≤ length rest → before bytes (rest_after rest n) ≡ before bytes rest + n
+before_rest_after bytes rest n within few = let len = rest_after_len rest n in omega (arith, len, within, few)
+
+-- a rest of some bytes, a write further on
+pub rest_step : (bytes rest : List ℕ) (n : ℕ) → length rest ≤ length bytes → n ≤ length rest → rest ≡ drop (before bytes rest) bytes → rest_after rest n ≡ drop (before bytes (rest_after rest n)) bytes
+rest_step bytes rest n within few is =
+    take_rest rest n ∙ ap (drop n) is ∙ drop-drop n (before bytes rest) bytes ∙ ap (λ at. drop at bytes) (sym (before_rest_after bytes rest n within few))
+
+-- the bytes before it are written then
+pub write_step : (old mid new bytes rest : List ℕ) (n : ℕ) → length rest ≤ length bytes → n ≤ length rest → rest ≡ drop (before bytes rest) bytes → mid ≡ old ++ take (before bytes rest) bytes → new ≡ mid ++ take n rest → new ≡ old ++ take (before bytes (rest_after rest n)) bytes
+write_step old mid new bytes rest n within few is e f =
+    let at = before bytes rest in
+    f ∙ ap (λ xs. mid ++ take n xs) is ∙ ap (λ xs. xs ++ take n (drop at bytes)) e
+    ∙ append_assoc old (take at bytes) (take n (drop at bytes)) ∙ ap (λ xs. old ++ xs) (sym (take-add at n bytes))
+    ∙ ap (λ at. old ++ take at bytes) (sym (before_rest_after bytes rest n within few))
+
+-- how far some bytes are written: those before a rest of them, and nothing failed
+abbrev pub IsSent : (old new : OutputPast) (bytes rest : List ℕ) → Type 0
+IsSent old new bytes rest =
+    let at = before bytes rest in
+    record {
+      within : length rest ≤ length bytes;
+      rest : rest ≡ drop at bytes;
+      written : new.written ≡ old.written ++ take at bytes;
+      waiting : new.waiting ≡ old.waiting ++ take at bytes;
+      faults : new.faults ≡ old.faults;
+      flushes : new.flushes ≡ old.flushes;
+    }
+
+-- a write further on
+pub sent_further : (old mid new : OutputPast) (bytes rest : List ℕ) (n : ℕ) → IsSent old mid bytes rest → n ≤ length rest → new ≡ after_write {E = OutFault} mid (Ok n) rest
+    → IsSent old new bytes (rest_after rest n)
+sent_further old mid new bytes rest n so_far few is = record {
+  within = rest_after_within bytes rest n so_far.within;
+  rest = rest_step bytes rest n so_far.within few so_far.rest;
+  written = write_step _ _ _ bytes rest n so_far.within few so_far.rest so_far.written (ap (λ (past : OutputPast). past.written) is);
+  waiting = write_step _ _ _ bytes rest n so_far.within few so_far.rest so_far.waiting (ap (λ (past : OutputPast). past.waiting) is);
+  faults = ap (λ (past : OutputPast). past.faults) is ∙ add-zero _ ∙ so_far.faults;
+  flushes = ap (λ (past : OutputPast). past.flushes) is ∙ so_far.flushes;
+}
+
+-- what moved on then, where no write failed after that, or one did
+sent_moved : (old new : OutputPast) (sent : List ℕ) (failed : ℕ) → new.written ≡ old.written ++ sent → new.waiting ≡ old.waiting ++ sent → new.faults ≡ old.faults + failed → new.flushes ≡ old.flushes
+    → HasWritten old new failed
+sent_moved old new sent failed more held fails flushed =
+    let is = sym (since_is old.written new.written sent more) in
+    record { appends = more ∙ ap (λ xs. old.written ++ xs) is; waits = held ∙ ap (λ xs. old.waiting ++ xs) is; fails = fails; unflushed = flushed }
+
+-- all of it is written
+pub sent_whole : {E : Type 0} (old new : OutputPast) (bytes rest : List ℕ) → IsSent old new bytes rest → length rest ≡ 0
+    → Wrote {E = E} old new (Ok tt) bytes
+sent_whole old new bytes [] so_far none =
+    let all : take (before bytes []) bytes ≡ bytes = sym (append-nil _) ∙ ap (λ xs. take (before bytes []) bytes ++ xs) so_far.rest ∙ take-append-drop (before bytes []) bytes in
+    record {
+      moved = sent_moved old new (take (before bytes []) bytes) 0 so_far.written so_far.waiting (so_far.faults ∙ sym (add-zero _)) so_far.flushes;
+      ok = since_is old.written new.written _ so_far.written ∙ all;
+      left = tt;
+    }
+sent_whole old new bytes (byte ∷ more) so_far none = absurd (omega (arith, none))
+
+-- a write of the rest failed
+pub sent_cut : {E : Type 0} (old mid new : OutputPast) (fault : E) (bytes rest : List ℕ) → IsSent old mid bytes rest → 0 < length rest → new ≡ after_write mid (Err fault) rest → Wrote old new (Err fault) bytes
+sent_cut old mid new fault bytes rest so_far some is =
+    let at = before bytes rest in
+    let more = ap (λ (past : OutputPast). past.written) is ∙ append-nil _ ∙ so_far.written in
+    record {
+      moved =
+          sent_moved old new (take at bytes) 1 more (ap (λ (past : OutputPast). past.waiting) is ∙ append-nil _ ∙ so_far.waiting)
+          (ap (λ (past : OutputPast). past.faults) is ∙ ap (λ n. n + 1) so_far.faults) (ap (λ (past : OutputPast). past.flushes) is ∙ so_far.flushes);
+      ok = tt;
+      left = front_cut old.written new.written bytes rest at more so_far.rest some;
+    }
+
+-- nothing of it is
+pub wrote_nothing : {E : Type 0} (old new : OutputPast) (fault : E) (text : List ℕ) → 0 < length text → new ≡ with_fault {T = Unit {0}} old (Err fault) → Wrote old new (Err fault) text
+wrote_nothing old new fault [] some is = absurd (omega (arith, some))
+wrote_nothing old new fault (byte ∷ rest) some is =
+    let more = ap (λ (past : OutputPast). past.written) is ∙ sym (append-nil old.written) in
+    record {
+      moved =
+          sent_moved old new [] 1 more (ap (λ (past : OutputPast). past.waiting) is ∙ sym (append-nil old.waiting))
+          (ap (λ (past : OutputPast). past.faults) is) (ap (λ (past : OutputPast). past.flushes) is);
+      ok = tt;
+      left = (byte, rest, ap (λ (xs : List ℕ). xs ++ byte ∷ rest) (sym (since_is old.written new.written [] more)));
+    }
+
+-- a fact is one at an error
+pub on_err : {T E : Type 0} (r : Result T E) (P : Type 0) → P → OnErr r P
+on_err (Ok x) P fact = tt
+on_err (Err e) P fact = fact

@@ -1,0 +1,176 @@
+-- Texts written part by part.
+use Rattle.std.proofs.Common.{◌≡◌, ℕ, ◌+◌, ◌-◌, ◌<◌, ◌≤◌, map, arith, List, [], ◌∷◌, ◌++◌, length, take, drop, get_or, Result, Ok, Err, IsErr, IsErrAnd, inl, inr, refl, sym, ap, subst, ◌∙◌, append_assoc, take-append-drop}
+use Rattle.std.specs.List.{flat_map, join_with_byte}
+use Rattle.std.proofs.Math.Seq.{take-add}
+use Rattle.std.proofs.lemmas.Grind.{flat_map-append}
+use Rattle.std.proofs.lemmas.List.{drop_more, append-nil, take_rest}
+use Rattle.std.proofs.lemmas.Result.{err_from_is_err_and}
+use Rattle.std.specs.Prelude.{decimal}
+use Rattle.dm_table.specs.io.DeviceIo.{OutputPast, after_flush, since, written_since}
+use Rattle.dm_table.specs.laws.Progress.{written_more}
+use Rattle.dm_table.specs.io.Progress.{IsClosedAfter, Wrote}
+use Rattle.dm_table.specs.declared.tables.table.Line.{Line}
+use Rattle.dm_table.specs.declared.tables.table.Target.{Target}
+use Rattle.dm_table.specs.declared.tables.table.Target.TheVariants.{Linear, Striped, Zero, Error, Snapshot, Origin}
+use Rattle.dm_table.specs.tables.LineBody.{column_text, target_text, body_text}
+use Rattle.dm_table.specs.tables.LineHead.{target_head, body_head, columns_of}
+use Rattle.dm_table.specs.laws.Progress.{since_more}
+
+-- a fault in the first part
+pub wrote_stop : {E : Type 0} (old new : OutputPast) (fault : E) (first rest text : List ℕ) → text ≡ first ++ rest
+    → Wrote old new (Err fault) first → Wrote old new (Err fault) text
+wrote_stop old new fault first rest text is h = record {
+  moved = h.moved;
+  ok = tt;
+  left = (h.left.0, h.left.1 ++ rest, is ∙ ap (λ (t : List ℕ). t ++ rest) h.left.2 ∙ append_assoc (written_since old new) (h.left.0 ∷ h.left.1) rest);
+}
+
+-- one part written, and the next
+pub wrote_then : {E : Type 0} (old mid new : OutputPast) (result : Result (Unit {0}) E) (first next text : List ℕ) → text ≡ first ++ next
+    → Wrote {E = E} old mid (Ok tt) first → Wrote mid new result next → Wrote old new result text
+wrote_then old mid new (Ok done) first next text is a b =
+    let more = since_more old.written mid.written new.written a.moved.appends b.moved.appends in
+    record {
+      moved = written_more old mid new 0 a.moved b.moved;
+      ok = more ∙ ap (λ (t : List ℕ). t ++ written_since mid new) a.ok ∙ ap (λ (t : List ℕ). first ++ t) b.ok ∙ sym is;
+      left = tt;
+    }
+wrote_then old mid new (Err fault) first next text is a b =
+    let more = since_more old.written mid.written new.written a.moved.appends b.moved.appends in
+    record {
+      moved = written_more old mid new 1 a.moved b.moved;
+      ok = tt;
+      left = (b.left.0, b.left.1, is ∙ ap (λ (t : List ℕ). first ++ t) b.left.2 ∙ sym (append_assoc first (written_since mid new) (b.left.0 ∷ b.left.1)) ∙ ap (λ (t : List ℕ). t ++ b.left.0 ∷ b.left.1) (sym (more ∙ ap (λ (t : List ℕ). t ++ written_since mid new) a.ok)));
+    }
+
+-- ---- an output that is closed
+
+-- a write failed, and no flush was asked for
+pub closed_unflushed : {E : Type 0} (old new : OutputPast) (fault : E) (text : List ℕ) → Wrote old new (Err fault) text
+    → IsClosedAfter old new (IsErr {T = Unit {0}} (Err fault)) text
+closed_unflushed old new fault text wrote = record {
+  finished = record {
+    appends = wrote.moved.appends;
+    write_fault = (λ more. refl, λ err. omega (arith, wrote.moved.fails));
+    grows = omega (arith, wrote.moved.fails);
+    fails_once = omega (arith, wrote.moved.fails);
+    once = omega (arith, wrote.moved.unflushed);
+    still_waiting = λ err less. absurd (omega (arith, less, wrote.moved.unflushed));
+  };
+  whole = λ well. absurd (well refl);
+  failed = λ err. inl (wrote.moved.unflushed, wrote.left);
+}
+
+-- all was written, and a flush was asked for
+pub closed_flushed : {E : Type 0} (old mid new : OutputPast) (result : Result (Unit {0}) E) (text : List ℕ) → Wrote {E = E} old mid (Ok tt) text → new ≡ after_flush mid result → IsClosedAfter old new (IsErr result) text
+closed_flushed {E = E} old mid new result text wrote is =
+    subst (λ (past : OutputPast). IsClosedAfter old past (IsErr result) text) (sym is) (flushed result)
+  where
+    flushed : (r : Result (Unit {0}) E) → IsClosedAfter old (after_flush mid r) (IsErr r) text
+    flushed (Ok done) = record {
+      finished = record {
+        appends = wrote.moved.appends;
+        write_fault = (λ less. absurd (omega (arith, less, wrote.moved.fails)), λ err. absurd cc);
+        grows = omega (arith, wrote.moved.fails);
+        fails_once = omega (arith, wrote.moved.fails);
+        once = omega (arith, wrote.moved.unflushed);
+        still_waiting = λ err less. absurd cc;
+      };
+      whole = λ well. (sym wrote.ok, (refl, ap (λ (n : ℕ). n + 1) wrote.moved.unflushed));
+      failed = λ err. absurd cc;
+    }
+    flushed (Err fault) = record {
+      finished = record {
+        appends = wrote.moved.appends;
+        write_fault = (λ less. refl, λ err. omega (arith, wrote.moved.fails));
+        grows = omega (arith, wrote.moved.fails);
+        fails_once = omega (arith, wrote.moved.fails);
+        once = omega (arith, wrote.moved.unflushed);
+        still_waiting = λ err less. wrote.moved.waits;
+      };
+      whole = λ well. absurd (well refl);
+      failed = λ err. inr (ap (λ (n : ℕ). n + 1) wrote.moved.unflushed, sym wrote.ok);
+    }
+
+-- The same, as answers cite them
+
+-- a part with a fault, before the rest of the text
+pub stopped : {E : Type 0} {old new : OutputPast} {fault : E} {text : List ℕ} (first rest : List ℕ) → text ≡ first ++ rest
+    → Wrote old new (Err fault) first → Wrote old new (Err fault) text
+stopped {old = old} {new = new} {fault = fault} {text = text} first rest is h =
+    wrote_stop old new fault first rest text is h
+
+-- a part that is written, before what comes of the next
+pub and_then : {E : Type 0} {old mid new : OutputPast} {result : Result (Unit {0}) E} {text : List ℕ} (first next : List ℕ) → text ≡ first ++ next
+    → Wrote {E = E} old mid (Ok tt) first → Wrote mid new result next → Wrote old new result text
+and_then {old = old} {mid = mid} {new = new} {result = result} {text = text} first next is a b =
+    wrote_then old mid new result first next text is a b
+
+-- the fault of a part as a function returns it
+pub fault_in : {E : Type 0} {old new : OutputPast} {fault : E} {text : List ℕ} (result : Result (Unit {0}) E) → IsErrAnd result (λ given. given ≡ fault)
+    → Wrote old new (Err fault) text → Wrote old new result text
+fault_in result is h = let given = err_from_is_err_and result is in rw (given.1, given.2) h
+
+-- what is written of the elements of a list, up to one of them, of it, and of the others
+pub flat_map_at : {X : Type 0} (f : X → List ℕ) (xs : List X) (i : ℕ) (x : X) → i < length xs → x ≡ get_or xs i x → flat_map f xs ≡ flat_map f (take i xs) ++ (f x ++ flat_map f (drop (i + 1) xs))
+flat_map_at f xs i x below is =
+    let rest : drop i xs ≡ x ∷ drop (i + 1) xs = drop_more xs i x below ∙ ap (λ y. y ∷ drop (i + 1) xs) (sym is) in
+    ap (flat_map f) (sym (take-append-drop i xs)) ∙ flat_map-append f (take i xs) (drop i xs) ∙ ap (λ ys. flat_map f (take i xs) ++ flat_map f ys) rest
+
+-- up to the next one
+pub flat_map_next : {X : Type 0} (f : X → List ℕ) (xs : List X) (i : ℕ) (x : X) → i < length xs → x ≡ get_or xs i x → flat_map f (take (i + 1) xs) ≡ flat_map f (take i xs) ++ f x
+flat_map_next f xs i x below is =
+    let rest : drop i xs ≡ x ∷ drop (i + 1) xs = drop_more xs i x below ∙ ap (λ y. y ∷ drop (i + 1) xs) (sym is) in
+    ap (flat_map f) (take-add i 1 xs ∙ ap (λ ys. take i xs ++ take 1 ys) rest) ∙ flat_map-append f (take i xs) (x ∷ []) ∙ ap (λ ys. flat_map f (take i xs) ++ ys) (append-nil (f x))
+
+-- a fault at one of the elements
+pub each_stopped : {A E : Type 0} {old mid new : OutputPast} {fault : E} (f : A → List ℕ) (xs : List A) (i : ℕ) (x : A) (result : Result (Unit {0}) E)
+    → i < length xs → x ≡ get_or xs i x → IsErrAnd result (λ given. given ≡ fault)
+    → Wrote {E = E} old mid (Ok tt) (flat_map f (take i xs)) → Wrote mid new (Err fault) (f x) → Wrote old new result (flat_map f xs)
+each_stopped f xs i x result below is given so_far h =
+    let rest = flat_map f (drop (i + 1) xs) in
+    fault_in result given (and_then (flat_map f (take i xs)) (f x ++ rest) (flat_map_at f xs i x below is) so_far (stopped (f x) rest refl h))
+
+-- one element more
+pub each_further : {A E : Type 0} {old mid new : OutputPast} (f : A → List ℕ) (xs : List A) (i : ℕ) (x : A) → i < length xs → x ≡ get_or xs i x
+    → Wrote {E = E} old mid (Ok tt) (flat_map f (take i xs)) → Wrote {E = E} mid new (Ok tt) (f x)
+    → Wrote {E = E} old new (Ok tt) (flat_map f (take (i + 1) xs))
+each_further f xs i x below is so_far h = and_then (flat_map f (take i xs)) (f x) (flat_map_next f xs i x below is) so_far h
+
+-- elements with a byte between them: the first, and each of the others after the byte
+pub joined_first : {X : Type 0} (byte : ℕ) (f : X → List ℕ) (x : X) (xs : List X) → join_with_byte byte (map f (x ∷ xs)) ≡ f x ++ flat_map (λ y. byte ∷ f y) xs
+joined_first byte f x [] = sym (append-nil (f x))
+joined_first byte f x (y ∷ xs) = ap (λ (rest : List ℕ). f x ++ (byte ∷ rest)) (joined_first byte f y xs)
+
+-- the same of a slice's elements
+pub joined_slice : {X : Type 0} (byte : ℕ) (f : X → List ℕ) (xs : List X) (x : X) → 1 ≤ length xs → x ≡ get_or xs 0 x → join_with_byte byte (map f xs) ≡ f x ++ flat_map (λ y. byte ∷ f y) (take (length xs - 1) (drop 1 xs))
+joined_slice byte f [] x h is = absurd (omega arith)
+joined_slice byte f (y ∷ ys) x h is = rw (take_rest (y ∷ ys) 1, is) (joined_first byte f y ys)
+
+-- a fault at the first of them
+pub joined_stopped : {A E : Type 0} {old new : OutputPast} {fault : E} (byte : ℕ) (f : A → List ℕ) (xs : List A) (x : A) (result : Result (Unit {0}) E)
+    → 1 ≤ length xs → x ≡ get_or xs 0 x → IsErrAnd result (λ given. given ≡ fault)
+    → Wrote old new (Err fault) (f x) → Wrote old new result (join_with_byte byte (map f xs))
+joined_stopped byte f xs x result some is given h = fault_in result given (stopped (f x) _ (joined_slice byte f xs x some is) h)
+
+-- the first, and what comes of the others
+pub joined_then : {A E : Type 0} {old mid new : OutputPast} {result : Result (Unit {0}) E} (byte : ℕ) (f : A → List ℕ) (xs : List A) (x : A) → 1 ≤ length xs → x ≡ get_or xs 0 x
+    → Wrote {E = E} old mid (Ok tt) (f x) → Wrote mid new result (flat_map (λ y. byte ∷ f y) (take (length xs - 1) (drop 1 xs)))
+    → Wrote old new result (join_with_byte byte (map f xs))
+joined_then byte f xs x some is h more = and_then (f x) _ (joined_slice byte f xs x some is) h more
+
+-- a line after its label, in the two parts that it is written in
+body_split : (before : List ℕ) (target : Target) → before ++ target_text target ≡ (before ++ target_head target) ++ flat_map column_text (columns_of target)
+body_split before (Linear to offset) = sym (append-nil _)
+body_split before (Striped chunk columns) = simp append_assoc
+body_split before Zero = sym (append-nil _)
+body_split before Error = sym (append-nil _)
+body_split before (Snapshot origin store kind chunk) = sym (append-nil _)
+body_split before (Origin origin) = sym (append-nil _)
+
+pub line_split : (name mark : List ℕ) (line : Line) → name ++ mark ++ body_text line ≡ (name ++ mark ++ body_head line) ++ flat_map column_text (columns_of line.target)
+line_split name mark line =
+    let before = name ++ mark ++ decimal line.start ++ 32 ∷ decimal line.len ++ 32 ∷ [] in
+    let whole : name ++ mark ++ body_text line ≡ before ++ target_text line.target = simp append_assoc in
+    let head : before ++ target_head line.target ≡ name ++ mark ++ body_head line = simp append_assoc in
+    whole ∙ body_split before line.target ∙ ap (λ (t : List ℕ). t ++ flat_map column_text (columns_of line.target)) head

@@ -1,0 +1,34 @@
+use Rattle.std.proofs.Common.{refl, ◌≡◌, ◌+◌, ◌-◌, ◌++◌, List, ℕ, drop, take, length, rules, subst, arith}
+use Rattle.dm_table.proofs.io.BlockLemmas.{next_part, room_text}
+use Rattle.dm_table.proofs.io.block.put_room.Goals as goal
+
+pub sixteens-preserved : goal.sixteens-preserved
+sixteens-preserved g c =
+    let front = take c.args.at c.args.block.now in
+    let bytes = c.as_slice-bytes.result.now in
+    let first = next_part (c.args.at + c.sixteens.done) c.put_known-middle.result c.sixteens.done (c.sixteens.done + 8) c.put_known-middle.new.block c.sixteens.block front c.as_room.result.now bytes
+    (omega arith) c.sixteens.invariant.put c.put_known-middle.ensures.holds c.as_room.ensures in
+    let second = next_part c.put_known-middle.result c.put_known-end.result (c.sixteens.done + 8) (c.sixteens.done + 16) c.put_known-end.new.block c.put_known-middle.new.block front c.as_room-in-sixteens.result.now bytes
+    (omega arith) first c.put_known-end.ensures.holds c.as_room-in-sixteens.ensures in
+    let eight : length c.as_room.result.now ≡ 8 = search (rules, c.as_room.ensures, c.told-room, c.as_slice-bytes.ensures, c.sixteens-test.true) in
+    let others : length c.as_room-in-sixteens.result.now ≡ 8 = search (rules, c.as_room-in-sixteens.ensures, c.told-room, c.as_slice-bytes.ensures, c.sixteens-test.true) in
+    let ends : c.put_known-end.result ≡ c.args.at + (c.sixteens.done + 16) = omega (arith, c.put_known-middle.ensures.ends, c.put_known-end.ensures.ends, eight, others) in
+    record {
+      within = omega (arith, c.sixteens-test.true);
+      put = subst (λ (n : ℕ). take n c.put_known-end.new.block ≡ front ++ take (c.sixteens.done + 16) bytes) ends second;
+    }
+
+pub returns-clause-put : goal.returns-clause-put
+returns-clause-put g c =
+    let front = take c.args.at c.args.block.now in
+    let bytes = c.as_slice-bytes.result.now in
+    let whole = next_part (c.args.at + c.sixteens.done) c.put_any-end.result c.sixteens.done g.row.ROOM c.put_any-end.new.block c.sixteens.block front (take (g.row.ROOM - c.sixteens.done) (drop c.sixteens.done bytes)) bytes
+    c.sixteens.invariant.within c.sixteens.invariant.put c.put_any-end.ensures.holds refl in
+    let before : length front ≡ c.args.at = search (rules, c.requires.within) in
+    let rest : length (take (g.row.ROOM - c.sixteens.done) (drop c.sixteens.done bytes)) ≡ g.row.ROOM - c.sixteens.done = search (rules, c.told-room, c.as_slice-bytes.ensures) in
+    let ends : c.put_any-end.result ≡ c.args.at + g.row.ROOM = omega (arith, rest, c.put_any-end.ensures.ends, c.sixteens.invariant.within) in
+    record {
+      ends = search (rules, c.requires.text);
+      holds = subst (λ (room : List ℕ). take (c.args.at + c.args.len) c.put_any-end.new.block ≡ front ++ take c.args.len room) c.as_slice-bytes.ensures
+          (room_text c.args.at c.put_any-end.result g.row.ROOM c.args.len c.put_any-end.new.block front bytes before ends c.requires.text whole);
+    }

@@ -1,0 +1,32 @@
+use Rattle.std.proofs.Common.{◌≡◌, ◌+◌, ◌<◌, ◌≤◌, ◌||◌, ℕ, Bool, true, false, nat_lt, refl, sym, ap, ◌∙◌, arith}
+use Rattle.std.proofs.lemmas.Bool.{lt-ltb}
+use Rattle.dm_table.specs.io.DeviceIo.{OutputPast}
+use Rattle.dm_table.specs.io.Gathered.{Gathering}
+use Rattle.dm_table.proofs.io.gathered.GatheredOutput.flush.Goals as goal
+
+first_false : (a b : Bool) → false ≡ (a || b) → a ≡ false
+first_false false b e = refl
+first_false true b e = sym e
+
+not_true : (b : Bool) → (b ≡ true → false ≡ true) → b ≡ false
+not_true false not = refl
+not_true true not = sym (not refl)
+
+-- where neither had failed after the first calls, a fault is the first one
+first_fault : (old mid : Gathering) (broken : Bool) (before after : ℕ) → broken ≡ old.broken → before ≡ old.behind.faults → mid.broken ≡ (broken || nat_lt before mid.behind.faults) → before ≤ mid.behind.faults → mid.broken ≡ false → after ≡ mid.behind.faults + 1
+    → (old.broken ≡ false) × (old.behind.faults < after)
+first_fault old mid broken before after same at minds grows well more =
+    (sym same ∙ first_false broken _ (sym well ∙ minds), omega arith)
+
+pub returns-in-Err-clause-minds : goal.returns-in-Err-clause-minds
+returns-in-Err-clause-minds g c =
+    let old = c.args.self.now in
+    let minds = c.empty.ensures.minds in
+    let after = (g.W.Output.past c.flush.new.self).faults in
+    let more : after ≡ c.empty.new.self.behind.faults + 1 = ap (λ (past : OutputPast). past.faults) c.in-Err.ensures ∙ ap (λ (g : Gathering). g.behind.faults + 1) c.self-2.view_is in
+    let first = first_fault old c.empty.new.self _ _ after (ap (λ (g : Gathering). g.broken) c.self.view_is) (ap (λ (g : Gathering). g.behind.faults) c.self.view_is) minds.broken minds.grows (not_true _ c.in_ok-empty.ensures.fails.1) more in
+    record {
+      grows = omega (arith, first.1);
+      broken = sym (ap (λ (b : Bool). b || nat_lt old.behind.faults after) first.0 ∙ lt-ltb old.behind.faults after first.1);
+      left_alone = λ broken. absurd (cc (first.0, broken));
+    }

@@ -1,0 +1,135 @@
+-- Checks that find something, and checks that find nothing.
+use Rattle.std.proofs.Common.{◌≡◌, ◌≢◌, ◌≤◌, length, arith, inl, inr, ℕ, suc, Bool, true, false, cond, List, [], ◌∷◌, ◌++◌, Option, Some, None, Result, Ok, Err, refl, ap, ◌∙◌}
+use Rattle.std.specs.List.{AllByRecursion}
+use Rattle.std.proofs.lemmas.Bool.{cases_Bool}
+use Rattle.dm_table.specs.declared.load.place.Part.{Part}
+use Rattle.dm_table.specs.declared.load.place.Part.TheVariants.{Source, Disks}
+use Rattle.dm_table.specs.declared.load.load_fault.LoadKind.{LoadKind}
+use Rattle.dm_table.specs.declared.load.load_fault.LoadKind.TheVariants.{Memory}
+use Rattle.dm_table.specs.declared.load.load_fault.LoadFault.{LoadFault}
+use Rattle.dm_table.specs.load.LoadMessage.{part_word}
+use Rattle.dm_table.specs.load.LoadFault.{Answers, fault_at, first_or, first_fault, faults_from, unless, unended}
+
+-- One check before others
+
+-- a check that finds a fault is the last that runs
+pub first_or-found : (faults : List LoadFault) (later : Option LoadFault) (fault : LoadFault) → first_or faults None ≡ Some fault → first_or faults later ≡ Some fault
+first_or-found [] later fault h = absurd cc
+first_or-found (other ∷ faults) later fault h = h
+
+-- a check that finds nothing leaves the result to those after it
+pub first_or-passed : (faults : List LoadFault) (later : Option LoadFault) → first_or faults None ≡ None → first_or faults later ≡ later
+first_or-passed [] later h = refl
+first_or-passed (fault ∷ faults) later h = absurd cc
+
+-- where no check finds anything, this one finds nothing and the later ones neither
+pub first_or-none : (faults : List LoadFault) (later : Option LoadFault) → first_or faults later ≡ None → (faults ≡ []) × (later ≡ None)
+first_or-none [] later h = (refl, h)
+first_or-none (fault ∷ faults) later h = absurd cc
+
+-- checks that find nothing, in a row
+pub first_fault-none : (checks : List (List LoadFault)) → first_fault checks ≡ None → AllByRecursion (λ check. check ≡ []) checks
+first_fault-none [] h = tt
+first_fault-none (check ∷ checks) h = let a = first_or-none check (first_fault checks) h in (a.0, first_fault-none checks a.1)
+
+pub first_fault-all : (checks : List (List LoadFault)) → AllByRecursion (λ check. check ≡ []) checks → first_fault checks ≡ None
+first_fault-all [] h = refl
+first_fault-all (check ∷ checks) h = ap (λ (found : List LoadFault). first_or found (first_fault checks)) h.0 ∙ first_fault-all checks h.1
+
+-- What one check finds
+
+cond-nil : (b : Bool) (fault : LoadFault) (faults : List LoadFault) → cond b (fault ∷ faults) faults ≡ [] → (b ≡ false) × (faults ≡ [])
+cond-nil true fault faults e = absurd cc
+cond-nil false fault faults e = (refl, e)
+
+-- nothing found: no element is bad
+pub faults_from-nil : {X : Type 0} (part : Part) (kind : LoadKind) (bad : X → Bool) (n : ℕ) (xs : List X) → faults_from part kind bad n xs ≡ [] → AllByRecursion (λ x. bad x ≡ false) xs
+faults_from-nil part kind bad n [] e = tt
+faults_from-nil part kind bad n (x ∷ xs) e =
+    let a = cond-nil (bad x) (fault_at part kind n) (faults_from part kind bad (suc n) xs) e in
+    (a.0, faults_from-nil part kind bad (suc n) xs a.1)
+
+-- no element is bad: nothing is found
+pub faults_from-good : {X : Type 0} (part : Part) (kind : LoadKind) (bad : X → Bool) (n : ℕ) (xs : List X) → AllByRecursion (λ x. bad x ≡ false) xs → faults_from part kind bad n xs ≡ []
+faults_from-good part kind bad n [] h = refl
+faults_from-good part kind bad n (x ∷ xs) h = rw (h.0, faults_from-good part kind bad (suc n) xs h.1) refl
+
+-- two halves of a check that together find nothing
+pub append-nil_both : (a b : List LoadFault) → a ++ b ≡ [] → (a ≡ []) × (b ≡ [])
+append-nil_both [] b e = (refl, e)
+append-nil_both (fault ∷ a) b e = absurd cc
+
+-- the second half runs where the first finds nothing
+pub first_or-append : (a b : List LoadFault) → first_or (a ++ b) None ≡ first_or a (first_or b None)
+first_or-append [] b = refl
+first_or-append (fault ∷ a) b = refl
+
+-- a newline ends the last line
+pub unended-nil : (part : Part) (n : ℕ) (rest : List ℕ) → unended part n rest ≡ [] → rest ≡ []
+unended-nil part n [] e = refl
+unended-nil part n (byte ∷ bytes) e = absurd cc
+
+-- What is returned
+
+-- a value is returned where nothing was found, and otherwise the fault
+pub unless-ok : {F X : Type 0} (found : Option F) (x y : X) → unless found x ≡ Ok y → (found ≡ None) × (x ≡ y)
+unless-ok None x y h = (refl, cc)
+unless-ok (Some fault) x y h = absurd cc
+
+pub unless-err : {F X : Type 0} (found : Option F) (x : X) (fault : F) → unless found x ≡ Err fault → found ≡ Some fault
+unless-err None x fault h = absurd cc
+unless-err (Some other) x fault h = let same : other ≡ fault = cc in ap Some same
+
+-- what a first step refuses, the whole call refuses
+pub Answers-refused : {X Y V W : Type 0} (part : Part) (view : X → Y) (whole : V → W) (fault : LoadFault) (faults : List LoadFault) (later : Option LoadFault) (y : Y) (w : W)
+    → Answers {X = X} {Y = Y} part view (Err fault) (unless (first_or faults None) y) → Answers {X = V} {Y = W} part whole (Err fault) (unless (first_or faults later) w)
+Answers-refused part view whole fault faults later y w h = (
+  h.0,
+  λ other. let found = first_or-found faults later fault (unless-err (first_or faults None) y fault (h.1 other)) in rw found refl,
+)
+
+-- what is returned unless a fault was found is the reading that this fault refuses, and that none takes
+pub Answers-unless : {X Y : Type 0} (part : Part) (view : X → Y) (found : Option LoadFault) (x : X) (answer : Result X LoadFault) (reading : Result Y LoadFault) → answer ≡ unless found x
+    → ((fault : LoadFault) → found ≡ Some fault → (fault.kind ≢ Memory) × (reading ≡ Err fault)) → (found ≡ None → reading ≡ Ok (view x)) → Answers part view answer reading
+Answers-unless part view None x answer reading is refused taken = rw is (taken refl)
+Answers-unless part view (Some fault) x answer reading is refused taken = let r = refused fault refl in rw is (λ memory. absurd (r.0 memory), λ other. r.1)
+
+-- what a first step takes, the whole call returns what the steps after it do
+pub unless-passed : {Y W : Type 0} (faults : List LoadFault) (later : Option LoadFault) (y taken : Y) (w : W)
+    → unless (first_or faults None) y ≡ Ok taken → (y ≡ taken) × (unless (first_or faults later) w ≡ unless later w)
+unless-passed faults later y taken w h =
+    let a = unless-ok (first_or faults None) y taken h in
+    (a.1, rw (first_or-passed faults later a.0) refl)
+
+-- Which kinds are found
+
+-- a fault that is not of memory
+abbrev pub IsOfText : LoadFault → Type 0
+IsOfText fault = fault.kind ≢ Memory
+
+pub faults_from-text : {X : Type 0} (part : Part) (kind : LoadKind) (bad : X → Bool) (n : ℕ) (xs : List X) → kind ≢ Memory → AllByRecursion IsOfText (faults_from part kind bad n xs)
+faults_from-text part kind bad n [] h = tt
+faults_from-text part kind bad n (x ∷ xs) h = elim (cases_Bool (bad x)) [
+  | inl e ↦ rw e (h, faults_from-text part kind bad (suc n) xs h)
+  | inr e ↦ rw e (faults_from-text part kind bad (suc n) xs h)
+]
+
+pub text-append : (a b : List LoadFault) → AllByRecursion IsOfText a → AllByRecursion IsOfText b → AllByRecursion IsOfText (a ++ b)
+text-append [] b h k = k
+text-append (fault ∷ a) b h k = (h.0, text-append a b h.1 k)
+
+pub unended-text : (part : Part) (n : ℕ) (rest : List ℕ) → AllByRecursion IsOfText (unended part n rest)
+unended-text part n [] = tt
+unended-text part n (byte ∷ bytes) = (λ e. cc, tt)
+
+-- the first fault of checks that find none of memory is none of memory
+pub first_fault-text : (checks : List (List LoadFault)) (fault : LoadFault) → AllByRecursion (AllByRecursion IsOfText) checks → first_fault checks ≡ Some fault → fault.kind ≢ Memory
+first_fault-text [] fault h e = absurd cc
+first_fault-text ([] ∷ checks) fault h e = first_fault-text checks fault h.1 e
+first_fault-text ((other ∷ faults) ∷ checks) fault h e = let same : other ≡ fault = cc in rw (← same) h.0.0
+
+-- The words of a message
+
+pub part_short : (part : Part) → length (part_word part) ≤ 6
+part_short Source = omega arith
+part_short Disks = omega arith

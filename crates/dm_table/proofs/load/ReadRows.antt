@@ -1,0 +1,26 @@
+-- A row that was read, and those that are left.
+use Rattle.std.proofs.Common.{◌≡◌, ◌≢◌, OnOk, ℕ, suc, List, ◌∷◌, Option, Some, None, Result, sym, ap, ◌∙◌}
+use Rattle.dm_table.specs.declared.load.place.Part.{Part}
+use Rattle.dm_table.specs.declared.load.row_faults.RowFault.{RowFault}
+use Rattle.dm_table.specs.declared.load.row_faults.RowFault.TheVariants.{Memory}
+use Rattle.dm_table.specs.declared.load.row_faults.FirstFaults.{FirstFaults}
+use Rattle.dm_table.specs.load.LoadFault.{unless}
+use Rattle.dm_table.specs.load.Reading.{with_rows}
+use Rattle.dm_table.specs.load.RowFaults.{Reads, fault_in, noted_at, noted_rows, first_noted}
+use Rattle.dm_table.proofs.load.RowFaultLemmas.{found_read, read_clear}
+
+-- the values, where nothing is wrong so far
+pub values_left : {X : Type 0} (add : List X → ℕ → List (List ℕ) → List X) (part : Part) (rows more : List (List (List ℕ))) (row cut : List (List ℕ)) (n m : ℕ) (read : Result (Unit {0}) RowFault) (seen new : FirstFaults) (old values all : List X)
+    → rows ≡ row ∷ more → m ≡ suc n → cut ≡ row → OnOk read (values ≡ add old n cut) → fault_in read ≢ Some Memory → new ≡ noted_at part seen n (fault_in read)
+    → (first_noted seen ≡ None → with_rows add old n rows ≡ all) → first_noted new ≡ None → with_rows add values m more ≡ all
+values_left add part rows more row cut n m read seen new old values all is_first is_next is_cut taken text noted so_far clear =
+    let here = read_clear read part seen n taken text (sym (ap first_noted noted) ∙ clear) in
+    rw (is_next, here.0, is_cut) (rw is_first at (so_far here.1))
+
+-- and the faults
+pub faults_left : {X : Type 0} (part : Part) (fault_of : X → Option RowFault) (rows more : List X) (row cut : X) (n m : ℕ) (read : Result (Unit {0}) RowFault) (seen new all : FirstFaults)
+    → rows ≡ row ∷ more → m ≡ suc n → cut ≡ row → Reads (λ done. done) read (unless (fault_of cut) tt) → fault_in read ≢ Some Memory → new ≡ noted_at part seen n (fault_in read)
+    → noted_rows part fault_of seen n rows ≡ all → noted_rows part fault_of new m more ≡ all
+faults_left part fault_of rows more row cut n m read seen new all is_first is_next is_cut reads text noted so_far =
+    let found : fault_of row ≡ fault_in read = ap fault_of (sym is_cut) ∙ found_read read (fault_of cut) reads text in
+    rw (is_next, noted, sym found) (rw is_first at so_far)

@@ -1,0 +1,114 @@
+-- Rows read once, and the checks that run over all of them one after another: the first fault is the same.
+use Rattle.std.proofs.Common.{◌≡◌, ◌≢◌, OnOk, inl, inr, ℕ, suc, ◌+◌, Bool, true, false, not, List, [], ◌∷◌, ◌++◌, length, Option, Some, None, Result, Ok, Err, refl, sym, ap, ◌∙◌, arith}
+use Rattle.std.specs.Global.{Vec}
+use Rattle.std.proofs.lemmas.Bool.{cases_Bool}
+use Rattle.dm_table.specs.declared.load.place.Part.{Part}
+use Rattle.dm_table.specs.declared.load.load_fault.LoadKind.TheVariants.{Syntax, Field, Name, Memory}
+use Rattle.dm_table.specs.declared.load.load_fault.LoadFault.{LoadFault}
+use Rattle.dm_table.specs.declared.load.row_faults.RowFault.{RowFault}
+use Rattle.dm_table.specs.declared.load.row_faults.RowFault.TheVariants as rows
+use Rattle.dm_table.specs.declared.load.row_faults.FirstFaults.{FirstFaults}
+use Rattle.dm_table.specs.load.LoadFault.{Answers, fault_at, first_or, first_fault, faults_from, row_checks, unended, unless}
+use Rattle.dm_table.specs.load.RowFaults.{Reads, first_failed, row_fault, fault_in, no_faults, either, noted, noted_at, noted_rows, noted_rest, first_noted}
+use Rattle.dm_table.proofs.load.FaultLemmas.{Answers-unless, faults_from-text, first_fault-text, text-append, unended-text, unless-ok, unless-err}
+
+-- one more fault of a kind, before what comes later
+either_more : (first : Option LoadFault) (fault : LoadFault) (later : Option LoadFault) → either (either first (Some fault)) later ≡ either first (Some fault)
+either_more None fault later = refl
+either_more (Some other) fault later = refl
+
+either_none : (first : Option LoadFault) → either first None ≡ first
+either_none None = refl
+either_none (Some fault) = refl
+
+-- what the three kinds give that were kept, and those that checks find after them
+abbrev joined_faults : FirstFaults → (syntax field name : List LoadFault) → Option LoadFault
+joined_faults seen syntax field name = either seen.syntax (first_or syntax (either seen.field (first_or field (either seen.name (first_or name None)))))
+
+last_rest : (part : Part) (seen : FirstFaults) (n : ℕ) (rest : List ℕ) → first_noted (noted_rest part seen n rest) ≡ joined_faults seen (unended part n rest) [] []
+last_rest part seen n [] = rw (either_none seen.name) refl
+last_rest part seen n (byte ∷ bytes) = either_more seen.syntax (fault_at part Syntax n) (either seen.field seen.name)
+
+-- the tests of rows: that a row is one, its values, and its names
+pub noted_all : {X : Type 0} (part : Part) (is_row has_values has_names : X → Bool) (seen : FirstFaults) (n : ℕ) (rows : List X) (rest : List ℕ)
+    → first_noted (noted_rest part (noted_rows part (row_fault is_row has_values has_names) seen n rows) (n + length rows) rest)
+    ≡ joined_faults seen (faults_from part Syntax (λ x. not (is_row x)) n rows ++ unended part (n + length rows) rest) (faults_from part Field (λ x. not (has_values x)) n rows) (faults_from part Name (λ x. not (has_names x)) n rows)
+noted_all part is_row has_values has_names seen n [] rest = last_rest part seen (n + 0) rest
+noted_all part is_row has_values has_names seen n (x ∷ xs) rest =
+    let place : n + suc (length xs) ≡ suc n + length xs = omega arith in
+    let more = noted_all part is_row has_values has_names (noted_at part seen n (row_fault is_row has_values has_names x)) (suc n) xs rest in
+    let syntax = faults_from part Syntax (λ x. not (is_row x)) (suc n) xs ++ unended part (suc n + length xs) rest in
+    let field = faults_from part Field (λ x. not (has_values x)) (suc n) xs in
+    let name = faults_from part Name (λ x. not (has_names x)) (suc n) xs in
+    rw place (elim (cases_Bool (is_row x)) [
+      | inr r ↦ rw r (rw r at more ∙ either_more seen.syntax (fault_at part Syntax n) _)
+      | inl r ↦ elim (cases_Bool (has_values x)) [
+        | inr l ↦ rw (r, l) (rw (r, l) at more ∙ ap (λ (later : Option LoadFault). either seen.syntax (first_or syntax later)) (either_more seen.field (fault_at part Field n) _))
+        | inl l ↦ elim (cases_Bool (has_names x)) [
+          | inr h ↦ rw (r, l, h) (rw (r, l, h) at more ∙ ap (λ (later : Option LoadFault). either seen.syntax (first_or syntax (either seen.field (first_or field later)))) (either_more seen.name (fault_at part Name n) _))
+          | inl h ↦ rw (r, l, h) (rw (r, l, h) at more)
+        ]
+      ]
+    ])
+
+-- from the first row on, with nothing kept before
+pub noted_checks : {X : Type 0} (part : Part) (is_row has_values has_names : X → Bool) (rows : List X) (rest : List ℕ)
+    → first_noted (noted_rest part (noted_rows part (row_fault is_row has_values has_names) no_faults 1 rows) (length rows + 1) rest)
+    ≡ first_fault (row_checks part is_row has_values has_names rows rest)
+noted_checks part is_row has_values has_names rows rest =
+    let place : length rows + 1 ≡ 1 + length rows = omega arith in
+    rw place (noted_all part is_row has_values has_names no_faults 1 rows rest)
+
+-- What the kept faults say: none of them is of memory, and the first of them is that of the checks
+
+pub noted_refused : {X : Type 0} (part : Part) (is_row has_values has_names : X → Bool) (rows : List X) (rest : List ℕ) (fault : LoadFault)
+    → first_noted (noted_rest part (noted_rows part (row_fault is_row has_values has_names) no_faults 1 rows) (length rows + 1) rest) ≡ Some fault
+    → (fault.kind ≢ Memory) × (first_fault (row_checks part is_row has_values has_names rows rest) ≡ Some fault)
+noted_refused part is_row has_values has_names rows rest fault h =
+    let found : first_fault (row_checks part is_row has_values has_names rows rest) ≡ Some fault = sym (noted_checks part is_row has_values has_names rows rest) ∙ h in
+    let syntax = text-append (faults_from part Syntax (λ x. not (is_row x)) 1 rows) (unended part (length rows + 1) rest) (faults_from-text part Syntax (λ x. not (is_row x)) 1 rows (λ e. cc)) (unended-text part (length rows + 1) rest) in
+    let field = faults_from-text part Field (λ x. not (has_values x)) 1 rows (λ e. cc) in
+    let name = faults_from-text part Name (λ x. not (has_names x)) 1 rows (λ e. cc) in
+    (first_fault-text (row_checks part is_row has_values has_names rows rest) fault (syntax, (field, (name, tt))) found, found)
+
+-- what is read of rows one by one is what their checks and their values give
+pub rows_answer : {X Y : Type 0} (part : Part) (is_row has_values has_names : X → Bool) (rows : List X) (rest : List ℕ) (seen : FirstFaults) (values : Vec Y) (all : List Y) (answer : Result (Vec Y) LoadFault)
+    → answer ≡ unless (first_noted seen) values → seen ≡ noted_rest part (noted_rows part (row_fault is_row has_values has_names) no_faults 1 rows) (length rows + 1) rest
+    → (first_noted seen ≡ None → values.items ≡ all) → Answers part (λ v. v.items) answer (unless (first_fault (row_checks part is_row has_values has_names rows rest)) all)
+rows_answer {Y = Y} part is_row has_values has_names rows rest seen values all answer is kept read =
+    let noted = ap first_noted kept in
+    Answers-unless part (λ (v : Vec Y). v.items) (first_noted seen) values answer _ is
+    (λ fault found. let a = noted_refused part is_row has_values has_names rows rest fault (sym noted ∙ found) in (a.0, rw a.1 refl))
+    (λ none. let clear : first_fault (row_checks part is_row has_values has_names rows rest) ≡ None = sym (noted_checks part is_row has_values has_names rows rest) ∙ sym noted ∙ none in rw (clear, read none) refl)
+
+-- One row
+
+-- a row without a fault has its names
+pub names_true : (is_row has_values has_names : Bool) → first_failed is_row has_values has_names ≡ None → has_names ≡ true
+names_true true true true h = refl
+names_true true true false h = absurd cc
+names_true true false has_names h = absurd cc
+names_true false has_values has_names h = absurd cc
+
+-- what is wrong with a row is why it was not read, where memory is left
+pub found_read : (read : Result (Unit {0}) RowFault) (found : Option RowFault) → Reads (λ done. done) read (unless found tt) → fault_in read ≢ Some rows.Memory → found ≡ fault_in read
+found_read (Ok done) found reads text = (unless-ok found tt done reads).0
+found_read (Err fault) found reads text = unless-err found tt fault (reads (λ e. text (ap Some e)))
+
+-- nothing is clear in which a fault was noted
+either_none-both : (first later : Option LoadFault) → either first later ≡ None → (first ≡ None) × (later ≡ None)
+either_none-both None later h = (refl, h)
+either_none-both (Some fault) later h = absurd cc
+
+some_noted : (first : Option LoadFault) (fault : LoadFault) → either first (Some fault) ≢ None
+some_noted first fault h = absurd (let none = (either_none-both first (Some fault) h).1 in cc)
+
+noted_some : (part : Part) (seen : FirstFaults) (n : ℕ) (fault : RowFault) → fault ≢ rows.Memory → first_noted (noted part seen n fault) ≢ None
+noted_some part seen n rows.Memory text h = text refl
+noted_some part seen n rows.Syntax text h = some_noted seen.syntax (fault_at part Syntax n) (either_none-both _ _ h).0
+noted_some part seen n rows.Field text h = some_noted seen.field (fault_at part Field n) (either_none-both _ _ (either_none-both _ _ h).1).0
+noted_some part seen n rows.Name text h = some_noted seen.name (fault_at part Name n) (either_none-both _ _ (either_none-both _ _ h).1).1
+
+pub read_clear : {P : Type 0} (read : Result (Unit {0}) RowFault) (part : Part) (seen : FirstFaults) (n : ℕ) → OnOk read P → fault_in read ≢ Some rows.Memory → first_noted (noted_at part seen n (fault_in read)) ≡ None → P × (first_noted seen ≡ None)
+read_clear (Ok done) part seen n taken text none = (taken, none)
+read_clear (Err fault) part seen n taken text none = absurd (noted_some part seen n fault (λ e. text (ap Some e)) none)

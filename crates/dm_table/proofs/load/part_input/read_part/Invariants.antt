@@ -1,0 +1,14 @@
+use Rattle.std.proofs.Common.{◌≡◌, ◌-◌, ◌+◌, ◌++◌, vec_len}
+use Rattle.dm_table.specs.declared.load.part_input.TheConstants.{MOST_PART_BYTES}
+use Rattle.dm_table.proofs.load.part_input.read_part.Given as goal
+
+-- the text is what was handed out, and neither an end nor a fault was met
+abbrev pub invariant-chunks : goal.invariant-chunks
+invariant-chunks g l = record {
+  handed : (g.I.Input.past l.input).handed ≡ (g.I.Input.past l.fn.input).handed ++ l.text.items;
+  faults : (g.I.Input.past l.input).faults ≡ (g.I.Input.past l.fn.input).faults;
+  ends : (g.I.Input.past l.input).ends ≡ (g.I.Input.past l.fn.input).ends;
+}
+
+abbrev pub decreases-chunks : goal.decreases-chunks
+decreases-chunks g l = MOST_PART_BYTES + 1 - vec_len l.text

@@ -1,0 +1,4 @@
+-- Of request lines.
+pub mod FrontNames
+pub mod FrontRequest
+pub mod RequestLemmas

@@ -1,0 +1,16 @@
+-- Of tables and lists of disks, and of their texts.
+pub mod BodyRows
+pub mod CanonicalConcise
+pub mod CanonicalTable
+pub mod ConciseDescribed
+pub mod ConciseFaults
+pub mod ConciseRows
+mod ConciseWorked
+pub mod DiskLemmas
+mod KindsWorked
+pub mod TableDescribed
+pub mod TableFields
+pub mod TableGroups
+pub mod TableLines
+pub mod TableRows
+pub mod TargetRows

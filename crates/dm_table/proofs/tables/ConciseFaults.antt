@@ -1,0 +1,189 @@
+-- What is wrong with the parts of a device of the concise form, and with the device.
+use Rattle.std.proofs.Common.{◌≡◌, ◌≢◌, OnOk, ℕ, suc, ◌+◌, ◌-◌, ◌<◌, ◌≤◌, Bool, true, false, ◌&&◌, List, [], ◌∷◌, ◌++◌, length, take, drop, get_or, Option, Some, None, Result, Ok, Err, refl, sym, ap, subst, ◌∙◌, append_assoc, arith}
+use Rattle.std.specs.Prelude.{slice_index_or}
+use Rattle.std.specs.List.{cons_option, list_all}
+use Rattle.std.specs.Option.{option_to_list}
+use Rattle.std.proofs.lemmas.Bool.{and_parts}
+use Rattle.std.proofs.lemmas.List.{take_rest, append-nil, drop_more}
+use denote.Ref.{Bor}
+use Rattle.dm_table.specs.declared.tables.table.Line.{Line}
+use Rattle.dm_table.specs.declared.tables.table.DeviceSpec.{DeviceSpec}
+use Rattle.dm_table.specs.declared.load.place.Place.{Place}
+use Rattle.dm_table.specs.declared.load.place.Part.TheVariants.{Source}
+use Rattle.dm_table.specs.declared.load.row_faults.RowFault.{RowFault}
+use Rattle.dm_table.specs.declared.load.row_faults.RowFault.TheVariants.{Syntax, Field, Name, Memory}
+use Rattle.dm_table.specs.declared.load.row_faults.FirstFaults.{FirstFaults}
+use Rattle.dm_table.specs.words.Fields.{texts}
+use Rattle.dm_table.specs.words.Name.{is_device_name}
+use Rattle.dm_table.specs.load.RowFaults.{first_failed, Reads, fault_in, noted_at, first_noted}
+use Rattle.dm_table.specs.tables.LineBody.{is_body_row, is_body, has_body_names}
+use Rattle.dm_table.specs.tables.LineReading.{line_in}
+use Rattle.dm_table.specs.tables.ConciseText.{place_of, lacks, is_uuid, is_ro, entries, body_fields, is_label, has_label_values, has_label_names}
+use Rattle.dm_table.specs.tables.ConciseReading.{earlier_of, fault_of_body, fault_of_bodies, fault_of_label, fault_of_entries, fault_of_device, lines_in, device_in, device_unless, entries_reading, device_reading, bodies_reading, devices_from}
+use Rattle.dm_table.proofs.load.FaultLemmas.{unless-ok, unless-err}
+use Rattle.dm_table.proofs.load.RowFaultLemmas.{names_true, read_clear}
+use Rattle.dm_table.proofs.tables.TargetRows.{and_false}
+
+-- The earlier of two
+
+pub earlier_of-none : (fault : Option RowFault) → earlier_of fault None ≡ fault
+earlier_of-none None = refl
+earlier_of-none (Some Syntax) = refl
+earlier_of-none (Some Field) = refl
+earlier_of-none (Some Name) = refl
+earlier_of-none (Some Memory) = refl
+
+-- one more fault of a field or of a name changes nothing before one of a field
+field_again : (c : Option RowFault) → (earlier_of (Some Field) (earlier_of (Some Field) c) ≡ earlier_of (Some Field) c) × (earlier_of (Some Name) (earlier_of (Some Field) c) ≡ earlier_of (Some Field) c)
+field_again None = (refl, refl)
+field_again (Some Syntax) = (refl, refl)
+field_again (Some Field) = (refl, refl)
+field_again (Some Name) = (refl, refl)
+field_again (Some Memory) = (refl, refl)
+
+pub earlier_of-more : (a b c : Option RowFault) → b ≢ Some Memory → earlier_of (earlier_of a b) c ≡ earlier_of a (earlier_of b c)
+earlier_of-more None b c h = refl
+earlier_of-more (Some a) None c h = rw (earlier_of-none (Some a)) refl
+earlier_of-more (Some a) (Some Memory) c h = absurd (h refl)
+earlier_of-more (Some Syntax) (Some b) c h = refl
+earlier_of-more (Some Memory) (Some b) c h = refl
+earlier_of-more (Some Field) (Some Syntax) c h = refl
+earlier_of-more (Some Field) (Some Field) c h = sym (field_again c).0
+earlier_of-more (Some Field) (Some Name) None h = refl
+earlier_of-more (Some Field) (Some Name) (Some other) h = refl
+earlier_of-more (Some Name) (Some Syntax) c h = refl
+earlier_of-more (Some Name) (Some Field) c h = sym (field_again c).1
+earlier_of-more (Some Name) (Some Name) None h = refl
+earlier_of-more (Some Name) (Some Name) (Some other) h = refl
+
+never_memory : (row known named : Bool) → first_failed row known named ≢ Some Memory
+never_memory true true true e = absurd cc
+never_memory true true false e = absurd cc
+never_memory true false named e = absurd cc
+never_memory false known named e = absurd cc
+
+-- where there is no earlier of two, there is neither
+pub earlier_of-clear : (a b : Option RowFault) → earlier_of a b ≡ None → (a ≡ None) × (b ≡ None)
+earlier_of-clear None b h = (refl, h)
+earlier_of-clear (Some Syntax) b h = absurd cc
+earlier_of-clear (Some Memory) b h = absurd cc
+earlier_of-clear (Some Field) None h = absurd cc
+earlier_of-clear (Some Field) (Some Syntax) h = absurd cc
+earlier_of-clear (Some Field) (Some Field) h = absurd cc
+earlier_of-clear (Some Field) (Some Name) h = absurd cc
+earlier_of-clear (Some Field) (Some Memory) h = absurd cc
+earlier_of-clear (Some Name) None h = absurd cc
+earlier_of-clear (Some Name) (Some other) h = absurd cc
+
+-- the tests of two parts are those of both together
+earlier_of_rows : (r1 l1 h1 r2 l2 h2 : Bool) → earlier_of (first_failed r1 l1 h1) (first_failed r2 l2 h2) ≡ first_failed (r1 && r2) (l1 && l2) (h1 && h2)
+earlier_of_rows false l1 h1 r2 l2 h2 = refl
+earlier_of_rows true false h1 false l2 h2 = refl
+earlier_of_rows true true true false l2 h2 = refl
+earlier_of_rows true true false false l2 h2 = refl
+earlier_of_rows true false h1 true false h2 = refl
+earlier_of_rows true false h1 true true true = refl
+earlier_of_rows true false h1 true true false = refl
+earlier_of_rows true true true true l2 h2 = refl
+earlier_of_rows true true false true false h2 = refl
+earlier_of_rows true true false true true true = refl
+earlier_of_rows true true false true true false = refl
+
+bodies_fault : (bodies : List (List ℕ)) → fault_of_bodies bodies
+    ≡ first_failed (list_all (λ body. is_body_row (body_fields body)) bodies) (list_all (λ body. is_body (body_fields body)) bodies) (list_all (λ body. has_body_names (body_fields body)) bodies)
+bodies_fault [] = refl
+bodies_fault (body ∷ bodies) =
+    rw (bodies_fault bodies) (earlier_of_rows (is_body_row (body_fields body)) (is_body (body_fields body)) (has_body_names (body_fields body)) _ _ _)
+
+device_fault : (text : List ℕ) → fault_of_entries (lacks 10 text) (entries text) ≡ fault_of_device text
+device_fault text =
+    rw (bodies_fault (drop 4 (entries text))) (earlier_of_rows (lacks 10 text && is_label (entries text)) (has_label_values (entries text)) (has_label_names (entries text)) _ _ _)
+
+-- What is read of entries is what is read of the device
+pub device_read : (r : Result DeviceSpec RowFault) (n : ℕ) (text : List ℕ) (es : List (List ℕ)) (on_a_line : Bool) → on_a_line ≡ lacks 10 text → es ≡ entries text
+    → Reads (λ device. device) r (entries_reading n on_a_line es) → Reads (λ device. device) r (device_reading n text)
+device_read r n text es on_a_line line cut h =
+    let same : entries_reading n on_a_line es ≡ device_reading n text =
+    rw (line, cut) (ap (λ (fault : Option RowFault). device_unless fault (device_in n (entries text))) (device_fault text)) in
+    subst (λ (x : Result DeviceSpec RowFault). Reads (λ device. device) r x) same h
+
+-- Entries in hand
+
+pub few_entries : (n : ℕ) (on_a_line : Bool) (es : List (Bor (List ℕ))) → length es < 4 → entries_reading n on_a_line (texts es) ≡ Err Syntax
+few_entries n on_a_line [] h = rw (and_false on_a_line) refl
+few_entries n on_a_line (a ∷ []) h = rw (and_false on_a_line) refl
+few_entries n on_a_line (a ∷ b ∷ []) h = rw (and_false on_a_line) refl
+few_entries n on_a_line (a ∷ b ∷ c ∷ []) h = rw (and_false on_a_line) refl
+few_entries n on_a_line (a ∷ b ∷ c ∷ d ∷ es) h = absurd (omega arith)
+
+pub entries_fault : (n : ℕ) (on_a_line : Bool) (es : List (Bor (List ℕ))) (fault : RowFault) (label : Option RowFault) → 4 ≤ length es → label ≡ fault_of_label on_a_line (texts es)
+    → bodies_reading (place_of n) label (texts (take (length es - 4) (drop 4 es))) ≡ Err fault → entries_reading n on_a_line (texts es) ≡ Err fault
+entries_fault n on_a_line [] fault label h is r = absurd (omega arith)
+entries_fault n on_a_line (a ∷ []) fault label h is r = absurd (omega arith)
+entries_fault n on_a_line (a ∷ b ∷ []) fault label h is r = absurd (omega arith)
+entries_fault n on_a_line (a ∷ b ∷ c ∷ []) fault label h is r = absurd (omega arith)
+entries_fault n on_a_line (a ∷ b ∷ c ∷ d ∷ es) fault label h is r =
+    let found = unless-err (earlier_of (fault_of_label on_a_line (texts (a ∷ b ∷ c ∷ d ∷ es))) (fault_of_bodies (texts es))) (lines_in (place_of n) (texts es)) fault (rw (take_rest (a ∷ b ∷ c ∷ d ∷ es) 4, is) at r) in
+    ap (λ (x : Option RowFault). device_unless x (device_in n (texts (a ∷ b ∷ c ∷ d ∷ es)))) found
+
+pub entries_read : (n : ℕ) (on_a_line : Bool) (es : List (Bor (List ℕ))) (k e : Bor (List ℕ)) (lines : List Line) (label : Option RowFault) → 4 ≤ length es → label ≡ fault_of_label on_a_line (texts es)
+    → bodies_reading (place_of n) label (texts (take (length es - 4) (drop 4 es))) ≡ Ok lines
+    → entries_reading n on_a_line (texts es) ≡ Ok (record { name = (slice_index_or es 0 k).now; ro = is_ro (slice_index_or es 3 e).now; lines = lines; at = place_of n })
+entries_read n on_a_line [] k e lines label h is r = absurd (omega arith)
+entries_read n on_a_line (a ∷ []) k e lines label h is r = absurd (omega arith)
+entries_read n on_a_line (a ∷ b ∷ []) k e lines label h is r = absurd (omega arith)
+entries_read n on_a_line (a ∷ b ∷ c ∷ []) k e lines label h is r = absurd (omega arith)
+entries_read n on_a_line (a ∷ b ∷ c ∷ d ∷ es) k e lines label h is r =
+    let v = unless-ok (earlier_of (fault_of_label on_a_line (texts (a ∷ b ∷ c ∷ d ∷ es))) (fault_of_bodies (texts es))) (lines_in (place_of n) (texts es)) lines (rw (take_rest (a ∷ b ∷ c ∷ d ∷ es) 4, is) at r) in
+    rw (v.0, v.1) refl
+
+-- the first entry is a name where lines are read
+pub entries_named : (n : ℕ) (on_a_line : Bool) (es : List (Bor (List ℕ))) (k : Bor (List ℕ)) (bodies : List (List ℕ)) (lines : List Line) (label : Option RowFault) → 4 ≤ length es → label ≡ fault_of_label on_a_line (texts es)
+    → bodies_reading (place_of n) label bodies ≡ Ok lines → is_device_name (slice_index_or es 0 k).now ≡ true
+entries_named n on_a_line [] k bodies lines label h is r = absurd (omega arith)
+entries_named n on_a_line (a ∷ []) k bodies lines label h is r = absurd (omega arith)
+entries_named n on_a_line (a ∷ b ∷ es) k bodies lines label h is r =
+    let v = unless-ok (earlier_of label (fault_of_bodies bodies)) (lines_in (place_of n) bodies) lines r in
+    let clear = (earlier_of-clear label (fault_of_bodies bodies) v.0).0 in
+    let named = names_true (on_a_line && is_label (texts (a ∷ b ∷ es))) (has_label_values (texts (a ∷ b ∷ es))) (has_label_names (texts (a ∷ b ∷ es))) (sym is ∙ clear) in
+    (and_parts (is_device_name a.now) (is_uuid b.now) named).0
+
+-- Devices one after the other
+
+-- what is said, if it is, after what was said so far
+one_more : {X : Type 0} (old : List X) (said : Option X) (more : List X) → (old ++ option_to_list said) ++ more ≡ old ++ cons_option said more
+one_more old None more = ap (λ xs. xs ++ more) (append-nil old)
+one_more old (Some x) more = append_assoc old (x ∷ []) more
+
+-- one device further, where nothing is wrong so far
+pub devices_further : (parts : List (Bor (List ℕ))) (i : ℕ) (d : Bor (List ℕ)) (read : Result (Unit {0}) RowFault) (seen new : FirstFaults) (old devices : List DeviceSpec) → i < length parts → OnOk read (devices ≡ old ++ option_to_list (device_in (i + 1) (entries (get_or parts i d).now))) → fault_in read ≢ Some Memory
+    → new ≡ noted_at Source seen (i + 1) (fault_in read) → (first_noted seen ≡ None → old ++ devices_from (i + 1) (texts (drop i parts)) ≡ devices_from 1 (texts parts))
+    → first_noted new ≡ None → devices ++ devices_from (i + 1 + 1) (texts (drop (i + 1) parts)) ≡ devices_from 1 (texts parts)
+devices_further parts i d read seen new old devices below taken text is so_far clear =
+    let next : drop i parts ≡ get_or parts i d ∷ drop (i + 1) parts = drop_more parts i d below in
+    let number : i + 1 + 1 ≡ suc (i + 1) = omega arith in
+    let here = read_clear read Source seen (i + 1) taken text (sym (ap first_noted is) ∙ clear) in
+    rw (number, here.0) (one_more old (device_in (i + 1) (entries (get_or parts i d).now)) (devices_from (suc (i + 1)) (texts (drop (i + 1) parts))) ∙ (rw next at (so_far here.1)))
+
+-- Bodies one after the other
+
+-- one body further
+pub record IsBodyFurther (bodies : List (Bor (List ℕ))) (i : ℕ) (at : Place) (label fault found : Option RowFault) (old new : List Line) : Type 0 where
+  pub known : earlier_of (earlier_of fault found) (fault_of_bodies (texts (drop (i + 1) bodies))) ≡ earlier_of label (fault_of_bodies (texts bodies))
+  pub made : earlier_of fault found ≡ None → new ++ lines_in at (texts (drop (i + 1) bodies)) ≡ lines_in at (texts bodies)
+
+pub body_further : (bodies : List (Bor (List ℕ))) (i : ℕ) (d : Bor (List ℕ)) (at : Place) (label fault found : Option RowFault) (old new : List Line)
+    → i < length bodies → found ≡ fault_of_body (get_or bodies i d).now → (fault_of_body (get_or bodies i d).now ≡ None → new ≡ old ++ option_to_list (line_in at (body_fields (get_or bodies i d).now)))
+    → earlier_of fault (fault_of_bodies (texts (drop i bodies))) ≡ earlier_of label (fault_of_bodies (texts bodies))
+    → (fault ≡ None → old ++ lines_in at (texts (drop i bodies)) ≡ lines_in at (texts bodies)) → IsBodyFurther bodies i at label fault found old new
+body_further bodies i d at label fault found old new below is added known made =
+    let body = get_or bodies i d in
+    let next : drop i bodies ≡ body ∷ drop (i + 1) bodies = drop_more bodies i d below in
+    let fields = body_fields body.now in
+    let text : found ≢ Some Memory = λ e. never_memory (is_body_row fields) (is_body fields) (has_body_names fields) (sym is ∙ e) in
+    record {
+      known = earlier_of-more fault found _ text ∙ ap (λ (x : Option RowFault). earlier_of fault (earlier_of x (fault_of_bodies (texts (drop (i + 1) bodies))))) is ∙ (rw next at known);
+      made = λ clear.
+          let both = earlier_of-clear fault found clear in
+          rw (added (sym is ∙ both.1)) (one_more old (line_in at fields) (lines_in at (texts (drop (i + 1) bodies))) ∙ (rw next at (made both.0)));
+    }

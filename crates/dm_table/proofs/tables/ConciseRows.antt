@@ -1,0 +1,331 @@
+-- The text of a body in the concise form and its fields, and the text of a device and its entries.
+use Rattle.std.proofs.Common.{◌≡◌, ◌⊎◌, inl, inr, ℕ, ◌≤◌, Bool, true, false, not, eqb, nat_le, nat_lt, ◌&&◌, ◌||◌, List, [], ◌∷◌, ◌++◌, length, drop, Option, Some, refl, sym, ap, ◌∙◌, arith}
+use Rattle.std.specs.Prelude.{codes, decimal}
+use Rattle.std.specs.List.{cons_option, list_all, join_with_byte, AllByRecursion}
+use Rattle.std.proofs.lemmas.Bool.{and_parts, and_from, cases_Bool, eqb-true}
+use Rattle.std.proofs.lemmas.Bool.Decides.{nat_tests}
+use Rattle.std.proofs.lemmas.List.{length-append}
+use Rattle.dm_table.specs.declared.tables.table.Line.{Line}
+use Rattle.dm_table.specs.declared.tables.table.DeviceSpec.{DeviceSpec}
+use Rattle.dm_table.specs.declared.load.place.Place.{Place}
+use Rattle.dm_table.specs.words.Name.{is_device_byte, is_device_name}
+use Rattle.dm_table.specs.words.Number.{number_in}
+use Rattle.dm_table.specs.words.Fields.{fields, row_fields, without_last_space}
+use Rattle.dm_table.specs.tables.LineBody.{body_text, IsBody, is_body_row, is_body, has_body_names}
+use Rattle.dm_table.specs.tables.LineReading.{line_in}
+use Rattle.dm_table.specs.tables.ConciseText.{is_uuid, is_minor, is_ro, is_flags, place_of, WritesBody, SaysLines, SaysDevice, lacks, entries, without_first_space, body_fields, is_label, has_label_values, has_label_names, is_device, has_values, has_names}
+use Rattle.dm_table.specs.tables.ConciseReading.{lines_in, device_in}
+use Rattle.dm_table.specs.laws.NameLaws.{All-list_all}
+use Rattle.dm_table.proofs.words.ByteLemmas.{list_all-weaker, list_all-both}
+use Rattle.dm_table.proofs.words.FieldLemmas.{IsClearOf, parts_at-join, join-parts_at}
+use Rattle.dm_table.proofs.tables.BodyRows.{body_alone, body_there, body_again, body_said, body_placed, body_inked, body_row_passes, body_passes, body_names_pass, line_again, is_ink, IsInked, name_inked, number_inked, number_spelled, device_ink}
+use Rattle.dm_table.proofs.tables.BodyRows as body
+use Rattle.dm_table.proofs.tables.TableGroups.{same_name}
+use Rattle.dm_table.proofs.tables.TableRows.{space_cases, space_dropped, space_joined, fields_joined, inks, inks_and_space, no_space, row_kept, row_kept_spaced}
+
+-- Bodies: from their fields
+
+first_cases : (fs : List (List ℕ)) → (without_first_space fs ≡ fs) ⊎ ([] ∷ without_first_space fs ≡ fs)
+first_cases [] = inl refl
+first_cases ([] ∷ fs) = inr refl
+first_cases ((b ∷ bs) ∷ fs) = inl refl
+
+spaced_before : (fs : List (List ℕ)) → is_body_row fs ≡ true → join_with_byte 32 ([] ∷ fs) ≡ 32 ∷ join_with_byte 32 fs
+spaced_before [] r = absurd cc
+spaced_before (f ∷ fs) r = refl
+
+spaced_after : (fs : List (List ℕ)) → is_body_row fs ≡ true → join_with_byte 32 (fs ++ [] ∷ []) ≡ join_with_byte 32 fs ++ 32 ∷ []
+spaced_after [] r = absurd cc
+spaced_after (f ∷ fs) r = space_joined f fs
+
+-- a body whose fields are in order is written as the line that they say
+pub body_writes : (at : Place) (text : List ℕ) (line : Line) → is_body_row (body_fields text) ≡ true → line_in at (body_fields text) ≡ Some line → WritesBody text line
+body_writes at text line r l =
+    let bs = body_fields text in
+    let whole : text ≡ join_with_byte 32 (fields text) = sym (join-parts_at 32 text) in
+    let spelled : join_with_byte 32 bs ≡ body_text line = ap (join_with_byte 32) (sym (body_again at bs line l)) ∙ body_alone line in
+    let led : join_with_byte 32 ([] ∷ bs) ≡ 32 ∷ body_text line = spaced_before bs r ∙ ap (λ (t : List ℕ). 32 ∷ t) spelled in
+    elim (space_cases (fields text)) [
+      | inl e ↦ elim (first_cases (row_fields text)) [
+        | inl f ↦ inl (inl (whole ∙ ap (join_with_byte 32) (sym (f ∙ e)) ∙ spelled))
+        | inr f ↦ inr (inl (whole ∙ ap (join_with_byte 32) (sym (f ∙ e)) ∙ led))
+      ]
+      | inr e ↦ elim (first_cases (row_fields text)) [
+        | inl f ↦ inl (inr (whole ∙ ap (join_with_byte 32) (sym (ap (λ (fs : List (List ℕ)). fs ++ [] ∷ []) f ∙ e)) ∙ spaced_after bs r ∙ ap (λ (t : List ℕ). t ++ 32 ∷ []) spelled))
+        | inr f ↦ inr (inr (whole ∙ ap (join_with_byte 32) (sym (ap (λ (fs : List (List ℕ)). fs ++ [] ∷ []) f ∙ e)) ∙ space_joined [] bs ∙ ap (λ (t : List ℕ). t ++ 32 ∷ []) led))
+      ]
+    ]
+
+-- and to their fields
+
+no_first : (f : List ℕ) (fs : List (List ℕ)) → nat_lt 0 (length f) ≡ true → without_first_space (f ∷ fs) ≡ f ∷ fs
+no_first [] fs h = absurd cc
+no_first (b ∷ bs) fs h = refl
+
+-- fields that are there, with a space before them
+led_kept : (f : List ℕ) (fs : List (List ℕ)) → AllByRecursion IsInked (f ∷ fs) → row_fields (32 ∷ join_with_byte 32 (f ∷ fs)) ≡ [] ∷ f ∷ fs
+led_kept f fs h =
+    ap without_last_space (fields_joined [] (f ∷ fs) (refl, inks (f ∷ fs) h)) ∙ ap (λ (rest : List (List ℕ)). [] ∷ rest) (no_space (f ∷ fs) h)
+
+led_kept_spaced : (f : List ℕ) (fs : List (List ℕ)) → AllByRecursion IsInked (f ∷ fs) → row_fields (32 ∷ join_with_byte 32 (f ∷ fs) ++ 32 ∷ []) ≡ [] ∷ f ∷ fs
+led_kept_spaced f fs h =
+    ap row_fields (sym (space_joined [] (f ∷ fs))) ∙ ap without_last_space (fields_joined [] (f ∷ fs ++ [] ∷ []) (refl, inks_and_space (f ∷ fs) h)) ∙ space_dropped ([] ∷ f ∷ fs)
+
+fields_again : (text whole : List ℕ) (f : List ℕ) (fs : List (List ℕ)) → join_with_byte 32 (f ∷ fs) ≡ whole → AllByRecursion IsInked (f ∷ fs)
+    → ((text ≡ whole) ⊎ (text ≡ whole ++ 32 ∷ [])) ⊎ ((text ≡ 32 ∷ whole) ⊎ (text ≡ 32 ∷ whole ++ 32 ∷ [])) → body_fields text ≡ f ∷ fs
+fields_again text whole f fs is h w =
+    let kept = no_first f fs h.0.0 in
+    elim w [
+      | inl a ↦ elim a [
+        | inl e ↦ ap body_fields (e ∙ sym is) ∙ ap without_first_space (row_kept f fs h) ∙ kept
+        | inr e ↦ ap body_fields (e ∙ ap (λ (t : List ℕ). t ++ 32 ∷ []) (sym is)) ∙ ap without_first_space (row_kept_spaced f fs h) ∙ kept
+      ]
+      | inr a ↦ elim a [
+        | inl e ↦ ap body_fields (e ∙ ap (λ (t : List ℕ). 32 ∷ t) (sym is)) ∙ ap without_first_space (led_kept f fs h)
+        | inr e ↦ ap body_fields (e ∙ ap (λ (t : List ℕ). 32 ∷ t ++ 32 ∷ []) (sym is)) ∙ ap without_first_space (led_kept_spaced f fs h)
+      ]
+    ]
+
+-- a text that writes a line has its fields
+pub body_read : (text : List ℕ) (line : Line) → WritesBody text line → IsBody line → body_fields text ≡ body.body_fields line
+body_read text line w h = fields_again text (body_text line) (decimal line.start) (decimal line.len ∷ body.target_fields line.target) (body_alone line) (body_inked line h) w
+
+-- Bytes
+
+-- a byte of a body, of a label
+abbrev pub is_line_byte : ℕ → Bool
+is_line_byte b = eqb b 32 || is_ink b
+
+-- a byte of a device
+abbrev pub is_entry_byte : ℕ → Bool
+is_entry_byte b = eqb b 44 || is_line_byte b
+
+ink_line : (b : ℕ) → is_ink b ≡ true → is_line_byte b ≡ true
+ink_line b h = grind (arith, nat_tests)
+
+line_entry : (b : ℕ) → is_line_byte b ≡ true → is_entry_byte b ≡ true
+line_entry b h = grind (arith, nat_tests)
+
+line_comma : (b : ℕ) → is_line_byte b ≡ true → eqb b 44 ≡ false
+line_comma b h = grind (arith, nat_tests)
+
+ink_space : (b : ℕ) → is_ink b ≡ true → not (eqb b 32) ≡ true
+ink_space b h = grind (arith, nat_tests)
+
+pub entry_semicolon : (b : ℕ) → is_entry_byte b ≡ true → eqb b 59 ≡ false
+entry_semicolon b h = grind (arith, nat_tests)
+
+pub entry_newline : (b : ℕ) → is_entry_byte b ≡ true → not (eqb b 10) ≡ true
+entry_newline b h = grind (arith, nat_tests)
+
+pub entry_printed : (b : ℕ) → is_entry_byte b ≡ true → (eqb b 10 || (nat_le 32 b && nat_le b 126)) ≡ true
+entry_printed b h = grind (arith, nat_tests)
+
+-- parts that pass a test, joined by a byte that does
+pub join_passes : (test : ℕ → Bool) (c : ℕ) (part : List ℕ) (parts : List (List ℕ)) → test c ≡ true → AllByRecursion (λ p. list_all test p ≡ true) (part ∷ parts) → list_all test (join_with_byte c (part ∷ parts)) ≡ true
+join_passes test c part [] b h = h.0
+join_passes test c part (next ∷ parts) b h = list_all-both test part (c ∷ join_with_byte c (next ∷ parts)) h.0 (and_from _ _ b (join_passes test c next parts b h.1))
+
+abbrev AreLines : List (List ℕ) → Type 0
+AreLines = AllByRecursion (λ text. list_all is_line_byte text ≡ true)
+
+inked_lines : (fs : List (List ℕ)) → AllByRecursion IsInked fs → AreLines fs
+inked_lines [] h = tt
+inked_lines (f ∷ fs) h = (list_all-weaker is_ink is_line_byte ink_line f h.0.1, inked_lines fs h.1)
+
+body_bytes : (line : Line) → IsBody line → list_all is_line_byte (body_text line) ≡ true
+body_bytes line h =
+    ap (list_all is_line_byte) (sym (body_alone line)) ∙ join_passes is_line_byte 32 (decimal line.start) (decimal line.len ∷ body.target_fields line.target) refl (inked_lines (body.body_fields line) (body_inked line h))
+
+written_bytes : (text : List ℕ) (line : Line) → WritesBody text line → IsBody line → list_all is_line_byte text ≡ true
+written_bytes text line w h =
+    let bytes = body_bytes line h in
+    let after : list_all is_line_byte (body_text line ++ 32 ∷ []) ≡ true = list_all-both is_line_byte (body_text line) (32 ∷ []) bytes refl in
+    elim w [
+      | inl a ↦ elim a [
+        | inl e ↦ ap (list_all is_line_byte) e ∙ bytes
+        | inr e ↦ ap (list_all is_line_byte) e ∙ after
+      ]
+      | inr a ↦ elim a [
+        | inl e ↦ ap (list_all is_line_byte) e ∙ bytes
+        | inr e ↦ ap (list_all is_line_byte) e ∙ after
+      ]
+    ]
+
+lines_bytes : (n : ℕ) (texts : List (List ℕ)) (lines : List Line) → SaysLines n texts lines → AreLines texts
+lines_bytes n [] [] s = tt
+lines_bytes n [] (line ∷ lines) s = absurd s
+lines_bytes n (text ∷ texts) [] s = absurd s
+lines_bytes n (text ∷ texts) (line ∷ lines) s = (written_bytes text line s.0 s.1, lines_bytes n texts lines s.3)
+
+-- Labels
+
+no_length : (text : List ℕ) → eqb (length text) 0 ≡ true → text ≡ []
+no_length [] h = refl
+no_length (b ∷ text) h = let none : length (b ∷ text) ≡ 0 = eqb-true (length (b ∷ text)) 0 h in absurd (omega arith)
+
+uuid_ink : (text : List ℕ) → is_uuid text ≡ true → list_all is_ink text ≡ true
+uuid_ink text h = list_all-weaker is_device_byte is_ink device_ink text (and_parts (nat_le (length text) 128) (list_all is_device_byte text) h).1
+
+minor_ink : (text : List ℕ) → is_minor text ≡ true → list_all is_ink text ≡ true
+minor_ink text h = elim (cases_Bool (eqb (length text) 0)) [
+  | inl e ↦ rw (no_length text e) refl
+  | inr e ↦ let spelled = number_spelled text (rw e at h) in ap (list_all is_ink) spelled.digits ∙ (number_inked (number_in text) spelled.short).1
+]
+
+flags_ink : (text : List ℕ) → is_flags text ≡ true → list_all is_ink text ≡ true
+flags_ink text h = elim (cases_Bool (eqb (length text) 0)) [
+  | inl e ↦ rw (no_length text e) refl
+  | inr e ↦ elim (cases_Bool (is_ro text)) [
+    | inl r ↦ rw (same_name text (codes "ro") r) refl
+    | inr r ↦ rw (same_name text (codes "rw") (rw (e, r) at h)) refl
+  ]
+]
+
+ink_lacks : (text : List ℕ) → list_all is_ink text ≡ true → lacks 32 text ≡ true
+ink_lacks text h = list_all-weaker is_ink (λ b. not (eqb b 32)) ink_space text h
+
+label_passes : (name uuid minor flags : List ℕ) (bodies : List (List ℕ)) → 1 ≤ length bodies → lacks 32 name ≡ true → lacks 32 uuid ≡ true → lacks 32 minor ≡ true → lacks 32 flags ≡ true
+    → is_label (name ∷ uuid ∷ minor ∷ flags ∷ bodies) ≡ true
+label_passes name uuid minor flags [] some a b c d = absurd (omega arith)
+label_passes name uuid minor flags (body ∷ bodies) some a b c d = and_from _ _ a (and_from _ _ b (and_from _ _ c d))
+
+-- Devices: from what is read to what is said
+
+lines_said : (n : ℕ) (texts : List (List ℕ)) → list_all (λ text. is_body_row (body_fields text)) texts ≡ true → list_all (λ text. is_body (body_fields text)) texts ≡ true
+    → list_all (λ text. has_body_names (body_fields text)) texts ≡ true → SaysLines n texts (lines_in (place_of n) texts)
+lines_said n [] r l h = tt
+lines_said n (text ∷ texts) r l h =
+    let a = and_parts (is_body_row (body_fields text)) _ r in
+    let b = and_parts (is_body (body_fields text)) _ l in
+    let c = and_parts (has_body_names (body_fields text)) _ h in
+    let said = body_there (place_of n) (body_fields text) b.0 in
+    rw said.1 (
+      body_writes (place_of n) text said.0 a.0 said.1,
+      body_said (place_of n) (body_fields text) said.0 said.1 c.0,
+      body_placed (place_of n) (body_fields text) said.0 said.1,
+      lines_said n texts a.1 b.1 c.1,
+    )
+
+-- entries say a device that the text says
+pub record IsDeviceSaid (n : ℕ) (text : List ℕ) (es : List (List ℕ)) : Type 0 where
+  pub device : DeviceSpec
+  pub is : device_in n es ≡ Some device
+  pub says : SaysDevice n text device
+
+entries_said : (n : ℕ) (text : List ℕ) (es : List (List ℕ)) → text ≡ join_with_byte 44 es → is_label es ≡ true → has_label_values es ≡ true → has_label_names es ≡ true
+    → list_all (λ text. is_body_row (body_fields text)) (drop 4 es) ≡ true → list_all (λ text. is_body (body_fields text)) (drop 4 es) ≡ true
+    → list_all (λ text. has_body_names (body_fields text)) (drop 4 es) ≡ true → IsDeviceSaid n text es
+entries_said n text [] is a k m r l h = absurd cc
+entries_said n text (name ∷ []) is a k m r l h = absurd cc
+entries_said n text (name ∷ uuid ∷ []) is a k m r l h = absurd cc
+entries_said n text (name ∷ uuid ∷ minor ∷ []) is a k m r l h = absurd cc
+entries_said n text (name ∷ uuid ∷ minor ∷ flags ∷ []) is a k m r l h = absurd cc
+entries_said n text (name ∷ uuid ∷ minor ∷ flags ∷ first ∷ bodies) is a k m r l h =
+    let known = and_parts (is_minor minor) (is_flags flags) k in
+    let named = and_parts (is_device_name name) (is_uuid uuid) m in
+    record {
+      device = record { name = name; ro = is_ro flags; lines = lines_in (place_of n) (first ∷ bodies); at = place_of n };
+      is = refl;
+      says = record {
+        uuid = uuid;
+        minor = minor;
+        flags = flags;
+        bodies = first ∷ bodies;
+        spelled = is;
+        named = named.0;
+        with_uuid = named.1;
+        with_minor = known.0;
+        with_flags = known.1;
+        ro = refl;
+        some = omega arith;
+        said = lines_said n (first ∷ bodies) r l h;
+        at = refl;
+      };
+    }
+
+-- a device in which no check finds anything is said by its text
+pub device_said : (n : ℕ) (text : List ℕ) → is_device text ≡ true → has_values text ≡ true → has_names text ≡ true → IsDeviceSaid n text (entries text)
+device_said n text r l h =
+    let a = and_parts (lacks 10 text && is_label (entries text)) _ r in
+    let label = and_parts (lacks 10 text) (is_label (entries text)) a.0 in
+    let values = and_parts (has_label_values (entries text)) _ l in
+    let names = and_parts (has_label_names (entries text)) _ h in
+    entries_said n text (entries text) (sym (join-parts_at 44 text)) label.1 values.0 names.0 a.1 values.1 names.1
+
+-- and back
+
+record Passes (n : ℕ) (texts : List (List ℕ)) (lines : List Line) : Type 0 where
+  pub rows : list_all (λ text. is_body_row (body_fields text)) texts ≡ true
+  pub values : list_all (λ text. is_body (body_fields text)) texts ≡ true
+  pub names : list_all (λ text. has_body_names (body_fields text)) texts ≡ true
+  pub again : lines_in (place_of n) texts ≡ lines
+
+lines_pass : (n : ℕ) (texts : List (List ℕ)) (lines : List Line) → SaysLines n texts lines → Passes n texts lines
+lines_pass n [] [] s = record { rows = refl; values = refl; names = refl; again = refl }
+lines_pass n [] (line ∷ lines) s = absurd s
+lines_pass n (text ∷ texts) [] s = absurd s
+lines_pass n (text ∷ texts) (line ∷ lines) s =
+    let more = lines_pass n texts lines s.3 in
+    let read = body_read text line s.0 s.1 in
+    record {
+      rows = and_from _ _ (ap is_body_row read ∙ body_row_passes line s.1) more.rows;
+      values = and_from _ _ (ap is_body read ∙ body_passes line s.1) more.values;
+      names = and_from _ _ (ap has_body_names read ∙ body_names_pass line s.1) more.names;
+      again = rw more.again (ap (λ (said : Option Line). cons_option said lines) (ap (line_in (place_of n)) read ∙ line_again (place_of n) line s.1 s.2));
+    }
+
+said_lines : (n : ℕ) (text : List ℕ) (device : DeviceSpec) (s : SaysDevice n text device) → AreLines (device.name ∷ s.uuid ∷ s.minor ∷ s.flags ∷ s.bodies)
+said_lines n text device s = (
+  list_all-weaker is_ink is_line_byte ink_line device.name (name_inked device.name s.named).1,
+  (
+    list_all-weaker is_ink is_line_byte ink_line s.uuid (uuid_ink s.uuid s.with_uuid),
+    (
+      list_all-weaker is_ink is_line_byte ink_line s.minor (minor_ink s.minor s.with_minor),
+      (
+        list_all-weaker is_ink is_line_byte ink_line s.flags (flags_ink s.flags s.with_flags),
+        lines_bytes n s.bodies device.lines s.said,
+      ),
+    ),
+  ),
+)
+
+without_commas : (texts : List (List ℕ)) → AreLines texts → AllByRecursion (IsClearOf 44) texts
+without_commas [] h = tt
+without_commas (text ∷ texts) h = (All-list_all is_line_byte (λ b. eqb b 44 ≡ false) line_comma text h.0, without_commas texts h.1)
+
+entry_bytes : (texts : List (List ℕ)) → AreLines texts → AllByRecursion (λ text. list_all is_entry_byte text ≡ true) texts
+entry_bytes [] h = tt
+entry_bytes (text ∷ texts) h = (list_all-weaker is_line_byte is_entry_byte line_entry text h.0, entry_bytes texts h.1)
+
+-- the bytes of a device, of which there are some
+pub device_bytes : (n : ℕ) (text : List ℕ) (device : DeviceSpec) → SaysDevice n text device → list_all is_entry_byte text ≡ true
+device_bytes n text device s =
+    let es = device.name ∷ s.uuid ∷ s.minor ∷ s.flags ∷ s.bodies in
+    ap (list_all is_entry_byte) s.spelled ∙ join_passes is_entry_byte 44 device.name (s.uuid ∷ s.minor ∷ s.flags ∷ s.bodies) refl (entry_bytes es (said_lines n text device s))
+
+pub device_some : (n : ℕ) (text : List ℕ) (device : DeviceSpec) → SaysDevice n text device → 1 ≤ length text
+device_some n text device s =
+    rw s.spelled (omega (arith, length-append device.name (44 ∷ join_with_byte 44 (s.uuid ∷ s.minor ∷ s.flags ∷ s.bodies))))
+
+-- what a device's text says passes the tests, and is read as it
+pub record IsRead (n : ℕ) (text : List ℕ) (device : DeviceSpec) : Type 0 where
+  pub row : is_device text ≡ true
+  pub values : has_values text ≡ true
+  pub names : has_names text ≡ true
+  pub again : device_in n (entries text) ≡ Some device
+
+pub device_again : (n : ℕ) (text : List ℕ) (device : DeviceSpec) → SaysDevice n text device → IsRead n text device
+device_again n text device s =
+    let es = device.name ∷ s.uuid ∷ s.minor ∷ s.flags ∷ s.bodies in
+    let lines = said_lines n text device s in
+    let cut : entries text ≡ es = ap entries s.spelled ∙ parts_at-join 44 device.name (s.uuid ∷ s.minor ∷ s.flags ∷ s.bodies) (without_commas es lines) in
+    let newlines : lacks 10 text ≡ true = list_all-weaker is_entry_byte (λ b. not (eqb b 10)) entry_newline text (device_bytes n text device s) in
+    let pass = lines_pass n s.bodies device.lines s.said in
+    let label = label_passes device.name s.uuid s.minor s.flags s.bodies s.some (ink_lacks device.name (name_inked device.name s.named).1) (ink_lacks s.uuid (uuid_ink s.uuid s.with_uuid)) (ink_lacks s.minor (minor_ink s.minor s.with_minor)) (ink_lacks s.flags (flags_ink s.flags s.with_flags)) in
+    record {
+      row = rw cut (and_from _ _ (and_from _ _ newlines label) pass.rows);
+      values = rw cut (and_from _ _ (and_from _ _ s.with_minor s.with_flags) pass.values);
+      names = rw cut (and_from _ _ (and_from _ _ s.named s.with_uuid) pass.names);
+      again = rw (cut, pass.again, ← s.ro, ← s.at) refl;
+    }

@@ -1,0 +1,124 @@
+-- What the tests of rows say, by places: the last field, and all before it.
+use Rattle.std.proofs.Common.{◌≡◌, ℕ, suc, ◌-◌, ◌≤◌, true, false, eqb, List, [], ◌∷◌, length, get_or, take, refl, ap, arith}
+use Rattle.std.proofs.lemmas.Bool.{lt-ltb, ne_eqb}
+use Rattle.dm_table.specs.words.Fields.{texts, all_but_last, last_or, without_last_space, ends_empty}
+use Rattle.dm_table.specs.tables.TableText.{is_label}
+use Rattle.std.proofs.lemmas.List.{take_rest}
+use Rattle.std.proofs.Common.{inl, inr, Option, Some, None, Ok, Err, sym, ◌∙◌}
+use Rattle.std.specs.Prelude.{◌&&◌, slice_index_or, drop, unwrap_or, is_some, if◌then◌else◌, Bool, Result}
+use Rattle.std.specs.Option.{option_map}
+use Rattle.dm_table.specs.declared.tables.table.Line.{Line}
+use Rattle.dm_table.specs.declared.load.place.Place.{Place}
+use Rattle.dm_table.specs.declared.load.place.Part.TheVariants.{Source}
+use Rattle.dm_table.specs.declared.load.row_faults.RowFault.{RowFault}
+use Rattle.dm_table.specs.declared.load.row_faults.RowFault.TheVariants.{Syntax, Name}
+use Rattle.dm_table.specs.words.Name.{is_device_name}
+use Rattle.dm_table.specs.load.RowFaults.{first_failed, fault_in}
+use Rattle.dm_table.specs.tables.LineBody.{is_body_row, Body, body_in, has_target_names}
+use Rattle.dm_table.specs.tables.LineReading.{line_at, line_in, reading_of, body_reading}
+use Rattle.dm_table.specs.tables.TableText.{NamedLine, name_in, is_row}
+use Rattle.dm_table.specs.tables.TableReading.{named_in, has_line_names, table_row_fault, row_reading}
+use Rattle.dm_table.proofs.tables.TargetRows.{made_fault, and_false}
+use Rattle.std.proofs.lemmas.Bool.{cases_Bool}
+use denote.Ref.{Bor}
+
+last_place : {X : Type 0} (x y : X) (xs : List X) → length (x ∷ y ∷ xs) - 1 ≡ suc (length (y ∷ xs) - 1)
+last_place x y xs = omega arith
+
+-- all but the last, by places
+pub take-all_but_last : {X : Type 0} (xs : List X) → take (length xs - 1) xs ≡ all_but_last xs
+take-all_but_last [] = refl
+take-all_but_last (x ∷ []) = refl
+take-all_but_last (x ∷ y ∷ xs) = rw (last_place x y xs, take-all_but_last (y ∷ xs)) refl
+
+-- the last, by its place
+pub get_or-last_or : {X : Type 0} (d e : X) (xs : List X) → 1 ≤ length xs → get_or xs (length xs - 1) d ≡ last_or e xs
+get_or-last_or d e [] h = absurd (omega arith)
+get_or-last_or d e (x ∷ []) h = refl
+get_or-last_or d e (x ∷ y ∷ xs) h = rw (last_place x y xs) (get_or-last_or d e (y ∷ xs) (omega arith))
+
+pub label_by_place : (field : List ℕ) → 2 ≤ length field → eqb (get_or field (length field - 1) 0) 58 ≡ is_label field
+label_by_place field h = rw (lt-ltb 1 (length field) (omega arith), get_or-last_or 0 0 field (omega arith)) refl
+
+empty_alone : (field : List ℕ) → eqb (length field) 0 ≡ ends_empty (field ∷ [])
+empty_alone [] = refl
+empty_alone (byte ∷ bytes) = ne_eqb _ _ (λ e. omega arith)
+
+pub ends_empty_by_place : (fs : List (Bor (List ℕ))) (d : Bor (List ℕ)) → 1 ≤ length fs → eqb (length (get_or fs (length fs - 1) d).now) 0 ≡ ends_empty (texts fs)
+ends_empty_by_place [] d h = absurd (omega arith)
+ends_empty_by_place (f ∷ []) d h = empty_alone f.now
+ends_empty_by_place (f ∷ g ∷ fs) d h = rw (last_place f g fs) (ends_empty_by_place (g ∷ fs) d (omega arith))
+
+-- the last field goes where it is empty, and stays where it is not
+pub spaced : (fs : List (List ℕ)) → ends_empty fs ≡ true → without_last_space fs ≡ all_but_last fs
+spaced [] e = refl
+spaced ([] ∷ []) e = refl
+spaced ((b ∷ bs) ∷ []) e = absurd cc
+spaced (f ∷ g ∷ fs) e = ap (λ (rest : List (List ℕ)). f ∷ rest) (spaced (g ∷ fs) e)
+
+pub not_spaced : (fs : List (List ℕ)) → ends_empty fs ≡ false → without_last_space fs ≡ fs
+not_spaced [] e = refl
+not_spaced ([] ∷ []) e = absurd cc
+not_spaced ((b ∷ bs) ∷ []) e = refl
+not_spaced (f ∷ g ∷ fs) e = ap (λ (rest : List (List ℕ)). f ∷ rest) (not_spaced (g ∷ fs) e)
+
+-- Rows
+
+-- the place of line number n
+abbrev pub place : ℕ → Place
+place n = record { part = Source; number = n }
+
+-- a line under a label
+abbrev pub with_label : List ℕ → Line → NamedLine
+with_label label line = record { name = name_in label; line = line }
+
+-- what is wrong with a row is what its tests say
+label_found : (n : ℕ) (label : List ℕ) (o : Option Body) → fault_in (reading_of has_line_names (option_map (with_label label) (option_map (line_at (place n)) o)))
+    ≡ first_failed true (is_some o) (is_device_name (name_in label) && unwrap_or (option_map (λ body. has_target_names body.len body.target) o) true)
+label_found n label None = refl
+label_found n label (Some body) = elim (cases_Bool (is_device_name (name_in label) && has_target_names body.len body.target)) [
+  | inl e ↦ rw e refl
+  | inr e ↦ rw e refl
+]
+
+row_found : (n : ℕ) (row : List (List ℕ)) → fault_in (row_reading n row) ≡ table_row_fault row
+row_found n [] = refl
+row_found n (label ∷ fs) = elim (cases_Bool (is_row (label ∷ fs))) [
+  | inl e ↦ rw e (label_found n label (body_in fs))
+  | inr e ↦ rw e refl
+]
+
+pub row_fault_is : (n : ℕ) (row : List (List ℕ)) (reading : Result NamedLine RowFault) → row_reading n row ≡ reading → table_row_fault row ≡ fault_in reading
+row_fault_is n row reading h = sym (row_found n row) ∙ ap fault_in h
+
+-- a line that was read is the row's, and its names are valid
+pub record IsTaken (n : ℕ) (row : List (List ℕ)) : Type 0 where
+  pub named : NamedLine
+  pub said : named_in n row ≡ Some named
+  pub read : row_reading n row ≡ Ok named
+  pub names : has_line_names named ≡ true
+
+taken_by : (r : Bool) (o : Option NamedLine) → fault_in (if r then reading_of has_line_names o else Err Syntax) ≡ None
+    → (named : NamedLine) × (o ≡ Some named) × ((if r then reading_of has_line_names o else Err Syntax) ≡ Ok named) × (has_line_names named ≡ true)
+taken_by false o h = absurd cc
+taken_by true None h = absurd cc
+taken_by true (Some named) h = elim (cases_Bool (has_line_names named)) [
+  | inl e ↦ (named, refl, rw e refl, e)
+  | inr e ↦ absurd (let no : Some Name ≡ None = rw e at h in cc)
+]
+
+pub row_taken : (n : ℕ) (row : List (List ℕ)) → table_row_fault row ≡ None → IsTaken n row
+row_taken n row h =
+    let a = taken_by (is_row row) (named_in n row) (row_found n row ∙ h) in
+    record { named = a.0; said = a.1; read = a.2; names = a.3 }
+
+-- a body with a fault, in a row
+pub row_body_fault : (n : ℕ) (row : List (Bor (List ℕ))) (d : Bor (List ℕ)) (fault : RowFault) → 1 ≤ length row → is_label (slice_index_or row 0 d).now ≡ true → is_body_row (texts (take (length row - 1) (drop 1 row))) ≡ true
+    → body_reading (record { part = Source; number = n }) (texts (take (length row - 1) (drop 1 row))) ≡ Err fault → row_reading n (texts row) ≡ Err fault
+row_body_fault n [] d fault h l b r = absurd (omega arith)
+row_body_fault n (f ∷ fs) d fault h l b r =
+    let is_row : is_body_row (texts fs) ≡ true = rw (take_rest (f ∷ fs) 1) at b in
+    rw (l, is_row) (
+    made_fault (λ (line : Line). has_target_names line.len line.target) has_line_names (with_label f.now) (λ line unnamed. rw unnamed (and_false (is_device_name (name_in f.now)))) (line_in (place n) (texts fs)) fault
+    (rw (take_rest (f ∷ fs) 1) at r)
+    )

@@ -1,0 +1,109 @@
+-- Neighbouring lines of one name, joined into devices: what they say, and that nothing else says it.
+use Rattle.std.proofs.Common.{◌≡◌, ◌≢◌, inl, inr, ℕ, Bool, true, false, nat_eq, List, [], ◌∷◌, ◌++◌, map, refl, sym, ap, ◌∙◌}
+use Rattle.std.specs.Cmp.Lexicographic.{pointwise}
+use Rattle.std.specs.List.{AllByRecursion}
+use Rattle.std.proofs.lemmas.Slice.Eq.{bytes_eq-Decides}
+use Rattle.std.proofs.lemmas.Bool.{cases_Bool, false_from_ne_true}
+use Rattle.dm_table.specs.declared.tables.table.Line.{Line}
+use Rattle.dm_table.specs.declared.tables.table.DeviceSpec.{DeviceSpec}
+use Rattle.dm_table.specs.declared.load.place.Place.{Place}
+use Rattle.dm_table.specs.tables.TableText.{NamedLine, named_lines, HasPlaceOf, IsDescribed, DifferInName}
+use Rattle.dm_table.specs.tables.TableReading.{alone, join_line, joined}
+
+-- the test of names, and what it says
+
+pub same_name : (a b : List ℕ) → pointwise nat_eq a b ≡ true → a ≡ b
+same_name a b e = (bytes_eq-Decides a b).0 e
+
+pub is_same_name : (a b : List ℕ) → a ≡ b → pointwise nat_eq a b ≡ true
+is_same_name a b e = (bytes_eq-Decides a b).1 e
+
+pub other_name : (a b : List ℕ) → pointwise nat_eq a b ≡ false → a ≢ b
+other_name a b e h = absurd (let t : true ≡ false = sym (is_same_name a b h) ∙ e in cc)
+
+pub is_other_name : (a b : List ℕ) → a ≢ b → pointwise nat_eq a b ≡ false
+is_other_name a b h = false_from_ne_true _ (λ e. h (same_name a b e))
+
+-- the lines of a device, each with its name
+abbrev pub named_of : List ℕ → List Line → List NamedLine
+named_of name lines = map (λ line. record { name = name; line = line }) lines
+
+-- What joined lines say
+
+name_taken : (named : NamedLine) (name : List ℕ) (lines : List Line) (b : Bool) → pointwise nat_eq named.name name ≡ b → b ≡ true → named_of name (named.line ∷ lines) ≡ named ∷ named_of name lines
+name_taken named name lines b e t = ap (λ (x : List ℕ). let n : NamedLine = record { name = x; line = named.line } in n ∷ named_of name lines) (sym (same_name named.name name (e ∙ t)))
+
+lines_of_join : (named : NamedLine) (ds : List DeviceSpec) → named_lines (join_line named ds) ≡ named ∷ named_lines ds
+lines_of_join named [] = refl
+lines_of_join named (d ∷ ds) = elim (cases_Bool (pointwise nat_eq named.name d.name)) [
+  | inl e ↦ rw e (ap (λ (ns : List NamedLine). ns ++ named_lines ds) (name_taken named d.name d.lines true e refl))
+  | inr e ↦ rw e refl
+]
+
+pub lines_of_joined : (ns : List NamedLine) → named_lines (joined ns) ≡ ns
+lines_of_joined [] = refl
+lines_of_joined (n ∷ ns) = lines_of_join n (joined ns) ∙ ap (λ (ms : List NamedLine). n ∷ ms) (lines_of_joined ns)
+
+each_join : (named : NamedLine) (ds : List DeviceSpec) → AllByRecursion IsDescribed ds → AllByRecursion IsDescribed (join_line named ds)
+each_join named [] h = (record { writable = refl; at = refl }, tt)
+each_join named (d ∷ ds) h = elim (cases_Bool (pointwise nat_eq named.name d.name)) [
+  | inl e ↦ rw e (record { writable = h.0.writable; at = refl }, h.1)
+  | inr e ↦ rw e (record { writable = refl; at = refl }, h)
+]
+
+pub each_joined : (ns : List NamedLine) → AllByRecursion IsDescribed (joined ns)
+each_joined [] = tt
+each_joined (n ∷ ns) = each_join n (joined ns) (each_joined ns)
+
+apart_join : (named : NamedLine) (ds : List DeviceSpec) → DifferInName ds → DifferInName (join_line named ds)
+apart_join named [] h = tt
+apart_join named (d ∷ []) h = elim (cases_Bool (pointwise nat_eq named.name d.name)) [
+  | inl e ↦ rw e tt
+  | inr e ↦ rw e (other_name named.name d.name e, tt)
+]
+apart_join named (d ∷ next ∷ ds) h = elim (cases_Bool (pointwise nat_eq named.name d.name)) [
+  | inl e ↦ rw e h
+  | inr e ↦ rw e (other_name named.name d.name e, h)
+]
+
+pub apart_joined : (ns : List NamedLine) → DifferInName (joined ns)
+apart_joined [] = tt
+apart_joined (n ∷ ns) = apart_join n (joined ns) (apart_joined ns)
+
+-- Lines of one name, before devices that do not begin with that name
+
+abbrev pub BeginsOther : List ℕ → List DeviceSpec → Type 0
+BeginsOther name [] = Unit {0}
+BeginsOther name (device ∷ devices) = name ≢ device.name
+
+first_joins : (name : List ℕ) (line : Line) (ds : List DeviceSpec) → BeginsOther name ds → join_line (record { name = name; line = line }) ds ≡ alone (record { name = name; line = line }) ∷ ds
+first_joins name line [] h = refl
+first_joins name line (d ∷ ds) h = rw (is_other_name name d.name h) refl
+
+pub run_joins : (name : List ℕ) (line : Line) (lines : List Line) (rest : List NamedLine) → BeginsOther name (joined rest)
+    → joined (named_of name (line ∷ lines) ++ rest) ≡ record { name = name; ro = false; lines = line ∷ lines; at = line.at } ∷ joined rest
+run_joins name line [] rest h = first_joins name line (joined rest) h
+run_joins name line (next ∷ lines) rest h =
+    ap (join_line (record { name = name; line = line })) (run_joins name next lines rest h) ∙ rw (is_same_name name name refl) refl
+
+-- a device is what its lines give
+device_again : (name : List ℕ) (ro : Bool) (lines : List Line) (at : Place) (rest : List NamedLine) → ro ≡ false → HasPlaceOf lines at → BeginsOther name (joined rest)
+    → joined (named_of name lines ++ rest) ≡ record { name = name; ro = ro; lines = lines; at = at } ∷ joined rest
+device_again name ro [] at rest w h other = absurd h
+device_again name ro (line ∷ lines) at rest w h other = run_joins name line lines rest other ∙ rw (w, h) refl
+
+begins_other : (device : DeviceSpec) (ds : List DeviceSpec) → DifferInName (device ∷ ds) → BeginsOther device.name ds
+begins_other device [] h = tt
+begins_other device (d ∷ ds) h = h.0
+
+apart_rest : (device : DeviceSpec) (ds : List DeviceSpec) → DifferInName (device ∷ ds) → DifferInName ds
+apart_rest device [] h = tt
+apart_rest device (d ∷ ds) h = h.1
+
+-- devices that are described and apart are those that their lines give
+pub devices_again : (ds : List DeviceSpec) → AllByRecursion IsDescribed ds → DifferInName ds → joined (named_lines ds) ≡ ds
+devices_again [] each apart = refl
+devices_again (d ∷ ds) each apart =
+    let rest : joined (named_lines ds) ≡ ds = devices_again ds each.1 (apart_rest d ds apart) in
+    device_again d.name d.ro d.lines d.at (named_lines ds) each.0.writable each.0.at (rw rest (begins_other d ds apart))
+    ∙ ap (λ (more : List DeviceSpec). d ∷ more) rest

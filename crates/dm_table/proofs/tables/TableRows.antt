@@ -1,0 +1,180 @@
+-- A line of table text and its row of fields: a row that the tests pass is that of a line, and the row of a line passes them.
+use Rattle.std.proofs.Common.{◌≡◌, ◌⊎◌, inl, inr, ℕ, ◌<◌, true, false, eqb, nat_lt, List, [], ◌∷◌, ◌++◌, length, Some, refl, sym, ap, ◌∙◌, append_assoc, arith}
+use Rattle.std.specs.List.{list_all, join_with_byte, AllByRecursion}
+use Rattle.std.specs.Option.{option_map}
+use Rattle.std.proofs.lemmas.Bool.{and_parts, and_from, ltb-true, lt-ltb, eqb-true, eq-eqb}
+use Rattle.std.proofs.lemmas.List.{length-append}
+use Rattle.dm_table.specs.words.Name.{is_device_name}
+use Rattle.dm_table.specs.words.Fields.{all_but_last, last_or, fields, row_fields, without_last_space}
+use Rattle.dm_table.specs.tables.LineBody.{is_body_row, has_body_names}
+use Rattle.dm_table.specs.tables.TableText.{NamedLine, line_text, Writes, IsSaid, is_label, name_in, is_row, has_values, has_names}
+use Rattle.dm_table.specs.tables.LineReading.{line_in}
+use Rattle.dm_table.specs.tables.TableReading.{named_in}
+use Rattle.dm_table.proofs.words.ByteLemmas.{is_shown, list_all-weaker, list_all-both}
+use Rattle.dm_table.proofs.tables.TableFields.{place, with_label}
+use Rattle.dm_table.proofs.words.FieldLemmas.{parts_at-first, parts_at-clear, join-parts_at, all_but_last-push, last_or-push}
+use Rattle.dm_table.proofs.tables.BodyRows.{body_fields, body_joined, mapped, body_there, body_again, body_said, body_placed, is_ink, IsInked, ink_clear, ink_text, name_inked, body_inked, body_row_passes, body_passes, body_names_pass}
+use Rattle.dm_table.proofs.tables.BodyRows as body
+
+-- The fields that a line is written with
+
+abbrev label_for : NamedLine → List ℕ
+label_for named = named.name ++ 58 ∷ []
+
+abbrev pub row_for : NamedLine → List (List ℕ)
+row_for named = label_for named ∷ body_fields named.line
+
+pub line_joined : (named : NamedLine) → join_with_byte 32 (row_for named) ≡ line_text named
+line_joined named = body_joined (label_for named) named.line ∙ simp append_assoc
+
+-- The last field, where a space ends the line
+
+pub space_cases : (fs : List (List ℕ)) → (without_last_space fs ≡ fs) ⊎ (without_last_space fs ++ [] ∷ [] ≡ fs)
+space_cases [] = inl refl
+space_cases ([] ∷ []) = inr refl
+space_cases ((b ∷ bs) ∷ []) = inl refl
+space_cases (f ∷ g ∷ fs) = elim (space_cases (g ∷ fs)) [
+  | inl e ↦ inl (ap (λ (rest : List (List ℕ)). f ∷ rest) e)
+  | inr e ↦ inr (ap (λ (rest : List (List ℕ)). f ∷ rest) e)
+]
+
+pub space_dropped : (fs : List (List ℕ)) → without_last_space (fs ++ [] ∷ []) ≡ fs
+space_dropped [] = refl
+space_dropped (f ∷ []) = refl
+space_dropped (f ∷ g ∷ fs) = ap (λ (rest : List (List ℕ)). f ∷ rest) (space_dropped (g ∷ fs))
+
+pub space_joined : (f : List ℕ) (fs : List (List ℕ)) → join_with_byte 32 (f ∷ fs ++ [] ∷ []) ≡ join_with_byte 32 (f ∷ fs) ++ 32 ∷ []
+space_joined f [] = refl
+space_joined f (g ∷ fs) = rw (space_joined g fs) (sym (append_assoc f (32 ∷ join_with_byte 32 (g ∷ fs)) (32 ∷ [])))
+
+-- From a row that the tests pass to its line
+
+last_split : (xs : List ℕ) → 0 < length xs → xs ≡ all_but_last xs ++ last_or 0 xs ∷ []
+last_split [] h = absurd (omega arith)
+last_split (x ∷ []) h = refl
+last_split (x ∷ y ∷ xs) h = ap (λ (rest : List ℕ). x ∷ rest) (last_split (y ∷ xs) (omega arith))
+
+label_spelled : (label : List ℕ) → is_label label ≡ true → name_in label ++ 58 ∷ [] ≡ label
+label_spelled label h =
+    let a = and_parts (nat_lt 1 (length label)) (eqb (last_or 0 label) 58) h in
+    let long : 1 < length label = ltb-true 1 (length label) a.0 in
+    sym (last_split label (omega arith) ∙ ap (λ (b : ℕ). all_but_last label ++ b ∷ []) (eqb-true (last_or 0 label) 58 a.1))
+
+-- the line that a row says, where its values are valid
+pub row_there : (n : ℕ) (row : List (List ℕ)) → has_values row ≡ true → (named : NamedLine) × (named_in n row ≡ Some named)
+row_there n [] l = absurd cc
+row_there n (label ∷ fs) l =
+    let line = body_there (place n) fs l in
+    (record { name = name_in label; line = line.0 }, rw line.1 refl)
+
+-- a row in order is that of its line
+pub row_again : (n : ℕ) (row : List (List ℕ)) (named : NamedLine) → is_row row ≡ true → named_in n row ≡ Some named → row_for named ≡ row
+row_again n [] named r l = absurd cc
+row_again n (label ∷ fs) named r l =
+    let a = and_parts (is_label label) (is_body_row fs) r in
+    let m = mapped (with_label label) (line_in (place n) fs) named l in
+    rw (← m.2) (rw (label_spelled label a.0, body_again (place n) fs m.0 m.1) refl)
+
+pub row_said : (n : ℕ) (row : List (List ℕ)) (named : NamedLine) → named_in n row ≡ Some named → has_names row ≡ true → IsSaid n named
+row_said n [] named l h = absurd cc
+row_said n (label ∷ fs) named l h =
+    let a = and_parts (is_device_name (name_in label)) (has_body_names fs) h in
+    let m = mapped (with_label label) (line_in (place n) fs) named l in
+    rw (← m.2) record {
+      name = a.0;
+      body = body_said (place n) fs m.0 m.1 a.1;
+      at = body_placed (place n) fs m.0 m.1;
+    }
+
+row_begins : (row : List (List ℕ)) → is_row row ≡ true → join_with_byte 32 (row ++ [] ∷ []) ≡ join_with_byte 32 row ++ 32 ∷ []
+row_begins [] r = absurd cc
+row_begins (f ∷ fs) r = space_joined f fs
+
+-- a line whose row is in order is written as what its row says
+pub line_writes : (n : ℕ) (line : List ℕ) (named : NamedLine) → is_row (row_fields line) ≡ true → named_in n (row_fields line) ≡ Some named → Writes line named
+line_writes n line named r l =
+    let whole : line ≡ join_with_byte 32 (fields line) = sym (join-parts_at 32 line) in
+    let spelled : join_with_byte 32 (row_fields line) ≡ line_text named = ap (join_with_byte 32) (sym (row_again n (row_fields line) named r l)) ∙ line_joined named in
+    elim (space_cases (fields line)) [
+      | inl e ↦ inl (whole ∙ ap (join_with_byte 32) (sym e) ∙ spelled)
+      | inr e ↦ inr (whole ∙ ap (join_with_byte 32) (sym e) ∙ row_begins (row_fields line) r ∙ ap (λ (t : List ℕ). t ++ 32 ∷ []) spelled)
+    ]
+
+-- From a line to its row
+
+label_inked : (name : List ℕ) → is_device_name name ≡ true → IsInked (name ++ 58 ∷ [])
+label_inked name h = (lt-ltb _ _ (omega (arith, length-append name (58 ∷ []))), list_all-both is_ink name (58 ∷ []) (name_inked name h).1 refl)
+
+row_inked : (n : ℕ) (named : NamedLine) → IsSaid n named → AllByRecursion IsInked (row_for named)
+row_inked n named h = (label_inked named.name h.name, body_inked named.line h.body)
+
+-- fields that are there, and at most one last empty one, are those of the line that they make
+pub fields_joined : (f : List ℕ) (fs : List (List ℕ)) → AllByRecursion (λ g. list_all is_ink g ≡ true) (f ∷ fs) → fields (join_with_byte 32 (f ∷ fs)) ≡ f ∷ fs
+fields_joined f [] h = parts_at-clear 32 f (ink_clear f h.0)
+fields_joined f (g ∷ fs) h =
+    parts_at-first 32 f (join_with_byte 32 (g ∷ fs)) (ink_clear f h.0)
+    ∙ ap (λ (rest : List (List ℕ)). f ∷ rest) (fields_joined g fs h.1)
+
+pub inks : (fs : List (List ℕ)) → AllByRecursion IsInked fs → AllByRecursion (λ g. list_all is_ink g ≡ true) fs
+inks [] h = tt
+inks (f ∷ fs) h = (h.0.1, inks fs h.1)
+
+pub inks_and_space : (fs : List (List ℕ)) → AllByRecursion IsInked fs → AllByRecursion (λ g. list_all is_ink g ≡ true) (fs ++ [] ∷ [])
+inks_and_space [] h = (refl, tt)
+inks_and_space (f ∷ fs) h = (h.0.1, inks_and_space fs h.1)
+
+pub no_space : (fs : List (List ℕ)) → AllByRecursion IsInked fs → without_last_space fs ≡ fs
+no_space [] h = refl
+no_space ([] ∷ []) h = absurd (let e : false ≡ true = h.0.0 in cc)
+no_space ((b ∷ bs) ∷ []) h = refl
+no_space (f ∷ g ∷ fs) h = ap (λ (rest : List (List ℕ)). f ∷ rest) (no_space (g ∷ fs) h.1)
+
+pub row_kept : (f : List ℕ) (fs : List (List ℕ)) → AllByRecursion IsInked (f ∷ fs) → row_fields (join_with_byte 32 (f ∷ fs)) ≡ f ∷ fs
+row_kept f fs h = ap without_last_space (fields_joined f fs (inks (f ∷ fs) h)) ∙ no_space (f ∷ fs) h
+
+pub row_kept_spaced : (f : List ℕ) (fs : List (List ℕ)) → AllByRecursion IsInked (f ∷ fs) → row_fields (join_with_byte 32 (f ∷ fs) ++ 32 ∷ []) ≡ f ∷ fs
+row_kept_spaced f fs h =
+    ap row_fields (sym (space_joined f fs)) ∙ ap without_last_space (fields_joined f (fs ++ [] ∷ []) (inks_and_space (f ∷ fs) h)) ∙ space_dropped (f ∷ fs)
+
+-- a line that is written so has that row
+pub row_written : (n : ℕ) (text : List ℕ) (named : NamedLine) → Writes text named → IsSaid n named → row_fields text ≡ row_for named
+row_written n text named w h =
+    let inked = row_inked n named h in
+    elim w [
+      | inl e ↦ ap row_fields (e ∙ sym (line_joined named)) ∙ row_kept (label_for named) (body_fields named.line) inked
+      | inr e ↦ ap row_fields (e ∙ ap (λ (t : List ℕ). t ++ 32 ∷ []) (sym (line_joined named))) ∙ row_kept_spaced (label_for named) (body_fields named.line) inked
+    ]
+
+joined_text : (f : List ℕ) (fs : List (List ℕ)) → AllByRecursion IsInked (f ∷ fs) → is_shown (join_with_byte 32 (f ∷ fs)) ≡ true
+joined_text f [] h = list_all-weaker is_ink _ ink_text f h.0.1
+joined_text f (g ∷ fs) h = list_all-both _ f (32 ∷ join_with_byte 32 (g ∷ fs)) (list_all-weaker is_ink _ ink_text f h.0.1) (joined_text g fs h.1)
+
+-- and its bytes are shown
+pub text_written : (n : ℕ) (text : List ℕ) (named : NamedLine) → Writes text named → IsSaid n named → is_shown text ≡ true
+text_written n text named w h =
+    let clean : is_shown (line_text named) ≡ true = ap is_shown (sym (line_joined named)) ∙ joined_text (label_for named) (body_fields named.line) (row_inked n named h) in
+    elim w [
+      | inl e ↦ ap is_shown e ∙ clean
+      | inr e ↦ ap is_shown e ∙ list_all-both _ (line_text named) (32 ∷ []) clean refl
+    ]
+
+-- The row of a line passes the tests
+
+label_passes : (name : List ℕ) → is_device_name name ≡ true → is_label (name ++ 58 ∷ []) ≡ true
+label_passes name h =
+    let long : 0 < length name = ltb-true 0 (length name) (name_inked name h).0 in
+    and_from _ _ (lt-ltb 1 _ (omega (arith, length-append name (58 ∷ [])))) (eq-eqb _ _ (last_or-push 0 name 58))
+
+pub row_passes : (n : ℕ) (named : NamedLine) → IsSaid n named → is_row (row_for named) ≡ true
+row_passes n named h = and_from _ _ (label_passes named.name h.name) (body_row_passes named.line h.body)
+
+pub line_passes : (n : ℕ) (named : NamedLine) → IsSaid n named → has_values (row_for named) ≡ true
+line_passes n named h = body_passes named.line h.body
+
+pub names_pass : (n : ℕ) (named : NamedLine) → IsSaid n named → has_names (row_for named) ≡ true
+names_pass n named h = and_from _ _ (ap is_device_name (all_but_last-push named.name 58) ∙ h.name) (body_names_pass named.line h.body)
+
+-- and is read as that line
+pub line_again : (n : ℕ) (named : NamedLine) → IsSaid n named → named_in n (row_for named) ≡ Some named
+line_again n named h =
+    ap (option_map (with_label (label_for named))) (body.line_again (place n) named.line h.body h.at) ∙ rw (all_but_last-push named.name 58) refl

@@ -1,0 +1,11 @@
+-- the text of the items so far is written, and nothing failed
+use Rattle.std.proofs.Common.{◌∷◌, take, Ok}
+use Rattle.std.specs.List.{flat_map}
+use Rattle.dm_table.specs.tables.CanonicalText.{concise_device}
+use Rattle.dm_table.specs.io.Progress.{Wrote}
+use Rattle.dm_table.specs.declared.io.device_io.OutFault.{OutFault}
+use Rattle.dm_table.proofs.tables.canonical_text.write_more_devices.Given as goal
+
+abbrev pub invariant-loop-device : goal.invariant-loop-device
+invariant-loop-device g l =
+    Wrote {E = OutFault} (g.W.Output.past l.fn.writer) (g.W.Output.past l.writer) (Ok tt) (flat_map (λ device. 59 ∷ concise_device device) (take l.device-index l.devices))

@@ -1,0 +1,12 @@
+-- the fault so far and those of the bodies that are left are that of all; where there is none, so are the lines
+use Rattle.std.proofs.Common.{◌≡◌, ◌++◌, drop, None}
+use Rattle.dm_table.specs.words.Fields.{texts}
+use Rattle.dm_table.specs.tables.ConciseReading.{earlier_of, fault_of_bodies, lines_in}
+use Rattle.dm_table.proofs.tables.concise_device.read_bodies.Given as goal
+
+abbrev pub invariant-loop-body : goal.invariant-loop-body
+invariant-loop-body l =
+    record {
+      known : earlier_of l.fault (fault_of_bodies (texts (drop l.body-index l.bodies))) ≡ earlier_of l.fn.label (fault_of_bodies (texts l.bodies));
+      made : l.fault ≡ None → l.lines.items ++ lines_in l.at (texts (drop l.body-index l.bodies)) ≡ lines_in l.at (texts l.bodies);
+    }

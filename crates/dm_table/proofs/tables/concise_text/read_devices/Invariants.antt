@@ -1,0 +1,14 @@
+-- the devices and the faults so far, and the parts that are left, give those of all parts
+use Rattle.std.proofs.Common.{◌≡◌, ◌+◌, ◌++◌, None, drop}
+use Rattle.dm_table.specs.declared.load.place.Part.TheVariants.{Source}
+use Rattle.dm_table.specs.words.Fields.{texts}
+use Rattle.dm_table.specs.load.RowFaults.{first_noted, no_faults, noted_rows}
+use Rattle.dm_table.specs.tables.ConciseReading.{fault_of_device, devices_from}
+use Rattle.dm_table.proofs.tables.concise_text.read_devices.Given as goal
+
+abbrev pub invariant-loop-index : goal.invariant-loop-index
+invariant-loop-index l =
+    record {
+      devices : first_noted l.reading.faults ≡ None → l.reading.values.items ++ devices_from (l.index + 1) (texts (drop l.index l.parts)) ≡ devices_from 1 (texts l.parts);
+      faults : noted_rows Source fault_of_device l.reading.faults (l.index + 1) (texts (drop l.index l.parts)) ≡ noted_rows Source fault_of_device no_faults 1 (texts l.parts);
+    }

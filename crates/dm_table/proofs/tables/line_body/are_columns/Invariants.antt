@@ -1,0 +1,11 @@
+use Rattle.std.proofs.Common.{◌≡◌, length}
+use Rattle.std.specs.Prelude.{is_some}
+use Rattle.dm_table.specs.words.Fields.{texts}
+use Rattle.dm_table.specs.tables.LineBody.{columns_in}
+use Rattle.dm_table.proofs.tables.line_body.are_columns.Given as goal
+
+abbrev pub invariant-loop-rest : goal.invariant-loop-rest
+invariant-loop-rest l = is_some (columns_in (texts l.rest)) ≡ is_some (columns_in (texts l.fields))
+
+abbrev pub decreases-loop-rest : goal.decreases-loop-rest
+decreases-loop-rest l = length l.rest

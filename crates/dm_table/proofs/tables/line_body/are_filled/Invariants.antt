@@ -1,0 +1,7 @@
+use Rattle.std.proofs.Common.{◌≡◌, nat_lt, length, drop}
+use Rattle.std.specs.List.{list_all}
+use Rattle.dm_table.specs.words.Fields.{texts}
+use Rattle.dm_table.proofs.tables.line_body.are_filled.Given as goal
+
+abbrev pub invariant-loop-field : goal.invariant-loop-field
+invariant-loop-field l = list_all (λ field. nat_lt 0 (length field)) (texts (drop l.field-index l.fields)) ≡ list_all (λ field. nat_lt 0 (length field)) (texts l.fields)

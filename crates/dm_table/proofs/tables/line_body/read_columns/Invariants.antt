@@ -1,0 +1,12 @@
+-- what is read of the fields that are left, after the columns so far, is what is read of all
+use Rattle.std.proofs.Common.{◌≡◌, length}
+use Rattle.dm_table.specs.words.Fields.{texts}
+use Rattle.dm_table.specs.tables.LineReading.{columns_reading}
+use Rattle.dm_table.proofs.tables.TargetRows.{after_columns}
+use Rattle.dm_table.proofs.tables.line_body.read_columns.Given as goal
+
+abbrev pub invariant-loop-rest : goal.invariant-loop-rest
+invariant-loop-rest l = after_columns l.columns.items (columns_reading (texts l.rest)) ≡ columns_reading (texts l.fields)
+
+abbrev pub decreases-loop-rest : goal.decreases-loop-rest
+decreases-loop-rest l = length l.rest

@@ -1,0 +1,4 @@
+-- Of the words of the texts.
+pub mod ByteLemmas
+pub mod FieldLemmas
+pub mod NumberLemmas

@@ -1,0 +1,11 @@
+-- what is left has the rest of the bytes
+use Rattle.std.proofs.Common.{◌≡◌, ◌≤◌, ◌+◌, ◌-◌, length, drop}
+use Rattle.std.specs.List.{prefix_len}
+use Rattle.dm_table.specs.words.Name.{is_device_byte}
+use Rattle.dm_table.proofs.words.device_name.leading_bytes.Given as goal
+
+abbrev pub invariant-loop-len : goal.invariant-loop-len
+invariant-loop-len l = (l.len ≤ length l.text) × (l.len + prefix_len is_device_byte (drop l.len l.text) ≡ prefix_len is_device_byte l.text)
+
+abbrev pub decreases-loop-len : goal.decreases-loop-len
+decreases-loop-len l = length l.text - l.len

@@ -1,0 +1,26 @@
+-- Texts with the same first bytes and the same last bytes, of which there are enough for all.
+use Rattle.std.proofs.Common.{◌≡◌, ◌-◌, ◌≤◌, ◌++◌, ℕ, Bool, true, false, ◌&&◌, List, length, take, drop, sym, ap, ◌∙◌, arith}
+use Rattle.std.specs.Bool.{OnTrue}
+use Rattle.std.proofs.lemmas.List.{take-take, take-append-drop, take_rest}
+use Rattle.dm_table.proofs.words.same_bytes.ends_same.Goals as goal
+
+-- the last bytes begin where the first ones end, or before
+joined : (left right : List ℕ) (len from : ℕ) → from ≤ len → take len left ≡ take len right → drop from left ≡ drop from right → left ≡ right
+joined left right len from meet fronts ends =
+    let front : take from left ≡ take from right = sym (take-take from len left meet) ∙ ap (take from) fronts ∙ take-take from len right meet in
+    sym (take-append-drop from left) ∙ ap (λ (text : List ℕ). text ++ drop from left) front ∙ ap (λ (text : List ℕ). take from right ++ text) ends ∙ take-append-drop from right
+
+both : {A B C : Type 0} (a b : Bool) → OnTrue a A → OnTrue b B → (A → B → C) → OnTrue (a && b) C
+both true true x y from = from x y
+both true false x y from = tt
+both false b x y from = tt
+
+pub returns-clause-same : goal.returns-clause-same
+returns-clause-same g c =
+    let left = c.args.left.now in
+    let right = c.args.right.now in
+    let from = length left - g.row.LEN in
+    both c.known_same-fronts.result c.known_same-ends.result c.known_same-fronts.ensures.same c.known_same-ends.ensures.same (λ fronts ends.
+    let other : length left - from ≡ length right - from = omega arith in
+    let last : drop from left ≡ drop from right = sym (take_rest left from) ∙ ends ∙ take_rest right from in
+    joined left right g.row.LEN from (omega arith) fronts last)

@@ -1,0 +1,7 @@
+-- The past of inputs and outputs, and what is put and written.
+pub mod Block
+pub mod DeviceIo
+pub mod Gathered
+pub mod Progress
+pub mod ShortIo
+pub mod WriteAll

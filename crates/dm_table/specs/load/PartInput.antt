@@ -1,0 +1,25 @@
+-- What a part of a load delivers: a text, or why it was not read.
+use Rattle.std.specs.Prelude.{ℕ, List, length, nat_lt, if◌then◌else◌}
+use Rattle.dm_table.specs.declared.load.place.Part.{Part}
+use Rattle.dm_table.specs.declared.load.load_fault.LoadFault.{LoadFault}
+use Rattle.dm_table.specs.declared.load.load_fault.LoadKind.TheVariants.{Read, Long}
+use Rattle.dm_table.specs.load.LoadFault.{fault_at}
+use Rattle.dm_table.specs.io.DeviceIo.{Stand, Clean, Failed, Open, Delivery}
+use Rattle.dm_table.specs.declared.load.part_input.TheConstants.{MOST_PART_BYTES}
+
+-- what reading a part gave: its text, why it is refused, or neither yet
+pub data PartRead : Type 0 where
+  TextOf : List ℕ → PartRead
+  Refuses : LoadFault → PartRead
+  Unread : PartRead
+
+-- what a part that is not too long gave, by how its input stands
+abbrev pub part_by : Part → Stand → List ℕ → PartRead
+part_by part Clean bytes = TextOf bytes
+part_by part Failed bytes = Refuses (fault_at part Read 0)
+part_by part Open bytes = Unread
+
+-- what reading a part gave: too long takes precedence over a fault
+abbrev pub part_read : Part → Delivery → PartRead
+part_read part delivered =
+    if nat_lt MOST_PART_BYTES (length delivered.bytes) then Refuses (fault_at part Long 0) else part_by part delivered.stand delivered.bytes

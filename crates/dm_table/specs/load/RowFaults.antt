@@ -1,0 +1,64 @@
+-- What is wrong with a row, and the first fault of each kind. Each row is read once, though by definition each check runs over all rows.
+use Rattle.std.specs.Prelude.{◌≡◌, ◌≢◌, ℕ, suc, Bool, List, [], ◌∷◌, Option, Some, None, Result, Ok, Err, if◌then◌else◌}
+use Rattle.dm_table.specs.declared.load.place.Part.{Part}
+use Rattle.dm_table.specs.declared.load.load_fault.LoadKind.TheVariants as kinds
+use Rattle.dm_table.specs.declared.load.load_fault.LoadFault.{LoadFault}
+use Rattle.dm_table.specs.declared.load.row_faults.RowFault.{RowFault}
+use Rattle.dm_table.specs.declared.load.row_faults.RowFault.TheVariants.{Syntax, Field, Name, Memory}
+use Rattle.dm_table.specs.declared.load.row_faults.FirstFaults.{FirstFaults}
+use Rattle.dm_table.specs.load.LoadFault.{fault_at}
+
+-- the fault of the first of these three tests to fail, if one does
+abbrev pub first_failed : (is_row has_values has_names : Bool) → Option RowFault
+first_failed is_row has_values has_names = if is_row then (if has_values then (if has_names then None else Some Name) else Some Field) else Some Syntax
+
+-- what is wrong with a row, by the tests of its form
+abbrev pub row_fault : {X : Type 0} → (is_row has_values has_names : X → Bool) → X → Option RowFault
+row_fault is_row has_values has_names row = first_failed (is_row row) (has_values row) (has_names row)
+
+-- what a call returned, seen by view, is this reading, save that out of memory may stand in its place
+abbrev pub Reads : {X Y : Type 0} → (X → Y) → Result X RowFault → Result Y RowFault → Type 0
+Reads view (Ok x) reading = reading ≡ Ok (view x)
+Reads view (Err fault) reading = fault ≢ Memory → reading ≡ Err fault
+
+-- why nothing was read, if so
+abbrev pub fault_in : {X : Type 0} → Result X RowFault → Option RowFault
+fault_in (Ok x) = None
+fault_in (Err fault) = Some fault
+
+-- The first fault of each kind
+
+-- no fault
+abbrev pub no_faults : FirstFaults
+no_faults = record { syntax = None; field = None; name = None }
+
+-- the first of two, if there is any
+abbrev pub either : Option LoadFault → Option LoadFault → Option LoadFault
+either None later = later
+either (Some fault) later = Some fault
+
+-- the faults so far and one more: only the first of its kind is kept
+abbrev pub noted : Part → FirstFaults → ℕ → RowFault → FirstFaults
+noted part seen n Syntax = record seen { syntax = either seen.syntax (Some (fault_at part kinds.Syntax n)) }
+noted part seen n Field = record seen { field = either seen.field (Some (fault_at part kinds.Field n)) }
+noted part seen n Name = record seen { name = either seen.name (Some (fault_at part kinds.Name n)) }
+noted part seen n Memory = seen
+
+-- the same with a row's fault, if it has one
+abbrev pub noted_at : Part → FirstFaults → ℕ → Option RowFault → FirstFaults
+noted_at part seen n None = seen
+noted_at part seen n (Some fault) = noted part seen n fault
+
+-- the same with those of all rows, numbered from n
+abbrev pub noted_rows : {X : Type 0} → Part → (X → Option RowFault) → FirstFaults → ℕ → List X → FirstFaults
+noted_rows part fault_of seen n [] = seen
+noted_rows part fault_of seen n (row ∷ rows) = noted_rows part fault_of (noted_at part seen n (fault_of row)) (suc n) rows
+
+-- the same with a rest that no newline ends, as line n
+abbrev pub noted_rest : Part → FirstFaults → ℕ → List ℕ → FirstFaults
+noted_rest part seen n [] = seen
+noted_rest part seen n (byte ∷ bytes) = noted part seen n Syntax
+
+-- the first fault of the first kind that there is
+abbrev pub first_noted : FirstFaults → Option LoadFault
+first_noted seen = either seen.syntax (either seen.field seen.name)

@@ -1,0 +1,2 @@
+-- Requests: which lines are requests.
+pub mod RequestLine

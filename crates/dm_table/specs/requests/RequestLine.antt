@@ -1,0 +1,101 @@
+-- Request lines: R DEV START LEN and W DEV START LEN, without the newline.
+use Rattle.std.specs.Prelude.{◌≡◌, ℕ, ◌+◌, ◌^◌, ◌<◌, ◌≤◌, ◌==◌, Bool, true, false, ◌&&◌, ◌||◌, List, [], ◌∷◌, ◌++◌, length, take, drop, decimal, Option, Some, None, Result, Ok, Err, nat_le, if◌then◌else◌, nat_eq}
+use Rattle.std.specs.Cmp.Lexicographic.{pointwise}
+use Rattle.dm_table.specs.declared.requests.request.TheConstants.{MOST_SECTORS}
+use Rattle.dm_table.specs.declared.requests.request.Op.{Op}
+use Rattle.dm_table.specs.declared.requests.request.Op.TheVariants.{Read, Write}
+use Rattle.dm_table.specs.declared.requests.request.Request.{Request}
+use Rattle.dm_table.specs.declared.requests.request.RequestFault.{RequestFault}
+use Rattle.dm_table.specs.declared.requests.request.RequestFault.TheVariants.{Form, Number, Length}
+use Rattle.dm_table.specs.words.Name.{is_device_name}
+use Rattle.dm_table.specs.words.Number.{number_of}
+use Rattle.dm_table.specs.words.Fields.{fields, parts_at}
+use Rattle.dm_table.specs.tables.LineBody.{if_both}
+use Rattle.dm_table.specs.words.Bytes.{newline, space}
+
+-- the four values of a request
+pub record RequestValues : Type 0 where
+  pub op : Op
+  pub device : List ℕ
+  pub start : ℕ
+  pub len : ℕ
+
+-- the values of a request, apart from its number
+abbrev pub values_of : Request → RequestValues
+values_of request = record { op = request.op; device = request.device.now; start = request.start; len = request.len }
+
+-- how an operation is written
+abbrev pub op_text : Op → ℕ
+op_text Read = 82
+op_text Write = 87
+
+-- how a request is written
+abbrev pub request_text : RequestValues → List ℕ
+request_text values = op_text values.op ∷ space ∷ values.device ++ space ∷ decimal values.start ++ space ∷ decimal values.len
+
+-- the fields of a line in the form of a request
+abbrev pub row_of : Op → List ℕ → List ℕ → List ℕ → List (List ℕ)
+row_of op device start len = (op_text op ∷ []) ∷ device ∷ start ∷ len ∷ []
+
+-- the line says this request: at most 1,048,576 sectors of a device that can be named
+pub record DescribesRequest (line : List ℕ) (values : RequestValues) : Type 0 where
+  pub written : line ≡ request_text values
+  pub device : is_device_name values.device ≡ true
+  pub start : values.start < 10 ^ 19
+  pub least : 1 ≤ values.len
+  pub most : values.len ≤ MOST_SECTORS
+
+-- the line of a request at the front of a text, up to a newline
+pub record IsFront (text : List ℕ) (values : RequestValues) (end : ℕ) : Type 0 where
+  pub described : DescribesRequest (take end text) values
+  pub line : parts_at newline text ≡ take end text ∷ parts_at newline (drop (end + 1) text)
+  pub within : end < length text
+  pub short : end ≤ 200
+
+-- Its checks
+
+-- one of the two letters
+abbrev pub is_op : List ℕ → Bool
+is_op (letter ∷ []) = letter == 82 || letter == 87
+is_op _ = false
+
+-- a length in its limits
+abbrev pub is_length : ℕ → Bool
+is_length len = nat_le 1 len && nat_le len MOST_SECTORS
+
+-- four fields: an operation, a device name, and two that are not empty
+abbrev pub has_form : List (List ℕ) → Bool
+has_form (op ∷ device ∷ start ∷ len ∷ []) = is_op op && (is_device_name device && (nat_le 1 (length start) && nat_le 1 (length len)))
+has_form _ = false
+
+-- two fields, and neither is empty
+abbrev pub are_two : List (List ℕ) → Bool
+are_two (start ∷ len ∷ []) = nat_le 1 (length start) && nat_le 1 (length len)
+are_two _ = false
+
+-- two fields, which are these numbers
+pub record AreNumbers (texts : List (List ℕ)) (m n : ℕ) : Type 0 where
+  pub start : List ℕ
+  pub len : List ℕ
+  pub two : texts ≡ start ∷ len ∷ []
+  pub first : number_of start ≡ Some m
+  pub last : number_of len ≡ Some n
+
+-- What is read of a line: its values, or the fault of the first test that it fails
+
+-- a letter's operation
+abbrev pub op_in : List ℕ → Op
+op_in letter = if pointwise nat_eq letter (82 ∷ []) then Read else Write
+
+-- the values in four fields, if the last two are numbers
+abbrev pub values_in : List (List ℕ) → Option RequestValues
+values_in (op ∷ device ∷ start ∷ len ∷ []) = if_both (λ start len. record { op = op_in op; device = device; start = start; len = len }) (number_of start) (number_of len)
+values_in _ = None
+
+-- those values, if there are any and their length is in its limits
+abbrev pub values_reading : Option RequestValues → Result RequestValues RequestFault
+values_reading None = Err Number
+values_reading (Some values) = if is_length values.len then Ok values else Err Length
+
+abbrev pub request_reading : List ℕ → Result RequestValues RequestFault
+request_reading line = if has_form (fields line) then values_reading (values_in (fields line)) else Err Form

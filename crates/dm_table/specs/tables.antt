@@ -1,0 +1,11 @@
+-- Tables and lists of disks: which texts describe them, and the texts that are written of them.
+pub mod CanonicalText
+pub mod ConciseReading
+pub mod ConciseText
+pub mod DiskList
+pub mod LineBody
+pub mod LineHead
+pub mod LineReading
+pub mod Span
+pub mod TableReading
+pub mod TableText

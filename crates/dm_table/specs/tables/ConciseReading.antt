@@ -1,0 +1,82 @@
+-- How a device of the concise form is read, for the functions that the public call stands on.
+use Rattle.std.specs.Prelude.{ℕ, suc, Bool, ◌&&◌, List, [], ◌∷◌, drop, Option, Some, None, Result, Err}
+use Rattle.std.specs.Option.{ok_or}
+use Rattle.std.specs.List.{cons_option, filter_map}
+use Rattle.dm_table.specs.declared.tables.table.Line.{Line}
+use Rattle.dm_table.specs.declared.tables.table.DeviceSpec.{DeviceSpec}
+use Rattle.dm_table.specs.declared.load.place.Place.{Place}
+use Rattle.dm_table.specs.declared.load.place.Part.TheVariants.{Source}
+use Rattle.dm_table.specs.declared.load.load_fault.LoadFault.{LoadFault}
+use Rattle.dm_table.specs.declared.load.row_faults.RowFault.{RowFault}
+use Rattle.dm_table.specs.declared.load.row_faults.RowFault.TheVariants.{Syntax, Field, Name}
+use Rattle.dm_table.specs.load.LoadFault.{first_fault, row_checks, unless}
+use Rattle.dm_table.specs.load.RowFaults.{row_fault}
+use Rattle.dm_table.specs.tables.LineBody.{is_body_row, is_body, has_body_names}
+use Rattle.dm_table.specs.tables.LineReading.{line_in}
+use Rattle.dm_table.specs.tables.ConciseText.{place_of, is_ro, entries, body_fields, is_label, has_label_values, has_label_names, is_device, has_values, has_names, devices_of, concise_checks}
+
+-- of two faults, the one whose check runs first
+abbrev pub earlier_of : Option RowFault → Option RowFault → Option RowFault
+earlier_of None other = other
+earlier_of (Some Field) (Some Syntax) = Some Syntax
+earlier_of (Some Name) (Some other) = Some other
+earlier_of (Some fault) other = Some fault
+
+-- what is wrong with a body, and with bodies
+abbrev pub fault_of_body : List ℕ → Option RowFault
+fault_of_body text = row_fault is_body_row is_body has_body_names (body_fields text)
+
+abbrev pub fault_of_bodies : List (List ℕ) → Option RowFault
+fault_of_bodies [] = None
+fault_of_bodies (text ∷ texts) = earlier_of (fault_of_body text) (fault_of_bodies texts)
+
+-- the lines that bodies say
+abbrev pub lines_in : Place → List (List ℕ) → List Line
+lines_in at texts = filter_map (λ text. line_in at (body_fields text)) texts
+
+-- what is wrong with the label of entries: Syntax also where they are not on one line
+abbrev pub fault_of_label : Bool → List (List ℕ) → Option RowFault
+fault_of_label on_a_line entries = row_fault (λ es. on_a_line && is_label es) has_label_values has_label_names entries
+
+-- what is wrong with entries: of the faults of their label and of their bodies, the earlier
+abbrev pub fault_of_entries : Bool → List (List ℕ) → Option RowFault
+fault_of_entries on_a_line entries =
+    earlier_of (fault_of_label on_a_line entries) (fault_of_bodies (drop 4 entries))
+
+-- what is wrong with a device
+abbrev pub fault_of_device : List ℕ → Option RowFault
+fault_of_device text = row_fault is_device has_values has_names text
+
+-- the device that entries say, as number n
+abbrev pub device_in : ℕ → List (List ℕ) → Option DeviceSpec
+device_in n (name ∷ uuid ∷ minor ∷ flags ∷ bodies) = Some (record { name = name; ro = is_ro flags; lines = lines_in (place_of n) bodies; at = place_of n })
+device_in n _ = None
+
+-- What is read
+
+abbrev pub bodies_reading : Place → Option RowFault → List (List ℕ) → Result (List Line) RowFault
+bodies_reading at before texts = unless (earlier_of before (fault_of_bodies texts)) (lines_in at texts)
+
+-- a device, or the fault that was found first: Syntax, where the entries say no device
+abbrev pub device_unless : Option RowFault → Option DeviceSpec → Result DeviceSpec RowFault
+device_unless None device = ok_or device Syntax
+device_unless (Some fault) device = Err fault
+
+abbrev pub entries_reading : ℕ → Bool → List (List ℕ) → Result DeviceSpec RowFault
+entries_reading n on_a_line entries = device_unless (fault_of_entries on_a_line entries) (device_in n entries)
+
+abbrev pub device_reading : ℕ → List ℕ → Result DeviceSpec RowFault
+device_reading n text = device_unless (fault_of_device text) (device_in n (entries text))
+
+-- the devices that texts say, numbered from n
+abbrev pub devices_from : ℕ → List (List ℕ) → List DeviceSpec
+devices_from n [] = []
+devices_from n (text ∷ texts) = cons_option (device_in n (entries text)) (devices_from (suc n) texts)
+
+-- the devices of parts whose bytes are text, or the fault of their checks
+abbrev pub parts_reading : List (List ℕ) → Result (List DeviceSpec) LoadFault
+parts_reading parts = unless (first_fault (row_checks Source is_device has_values has_names parts [])) (devices_from 1 parts)
+
+-- the devices of a text, or the fault of its checks
+unfoldable pub read_concise : List ℕ → Result (List DeviceSpec) LoadFault
+read_concise text = unless (first_fault (concise_checks text)) (devices_from 1 (devices_of text))

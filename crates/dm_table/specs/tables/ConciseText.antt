@@ -1,0 +1,149 @@
+-- The concise form (dmsetup(8)): devices with semicolons between them, each NAME,UUID,MINOR,FLAGS and its lines, with commas between all. The first four label the bodies of the lines.
+use Rattle.std.specs.Prelude.{◌≡◌, ◌⊎◌, ℕ, suc, ◌≤◌, ◌==◌, Bool, true, false, not, ◌&&◌, ◌||◌, List, [], ◌∷◌, ◌++◌, length, drop, nat_le, nat_eq, codes, is_some, if◌then◌else◌}
+use Rattle.std.specs.List.{list_all, join_with_byte}
+use Rattle.std.specs.Cmp.Lexicographic.{pointwise}
+use Rattle.dm_table.specs.declared.tables.table.Line.{Line}
+use Rattle.dm_table.specs.declared.tables.table.DeviceSpec.{DeviceSpec}
+use Rattle.dm_table.specs.declared.load.place.Place.{Place}
+use Rattle.dm_table.specs.declared.load.place.Part.TheVariants.{Source}
+use Rattle.dm_table.specs.declared.load.load_fault.LoadFault.{LoadFault}
+use Rattle.dm_table.specs.words.Name.{is_device_byte, is_device_name}
+use Rattle.dm_table.specs.words.Number.{number_of}
+use Rattle.dm_table.specs.words.Fields.{parts_at, all_but_last, last_or, row_fields}
+use Rattle.dm_table.specs.load.LoadFault.{not_text, row_checks}
+use Rattle.dm_table.specs.tables.LineBody.{body_text, IsBody, is_body_row, is_body, has_body_names}
+use Rattle.dm_table.specs.words.Bytes.{comma, newline, semicolon, space}
+
+-- Labels
+
+-- nothing, or up to 128 bytes that a device's name may have
+abbrev pub is_uuid : List ℕ → Bool
+is_uuid text = nat_le (length text) 128 && list_all is_device_byte text
+
+-- nothing, or a number
+abbrev pub is_minor : List ℕ → Bool
+is_minor text = length text == 0 || is_some (number_of text)
+
+-- the flag of a read-only device
+abbrev pub is_ro : List ℕ → Bool
+is_ro text = pointwise nat_eq text (codes "ro")
+
+-- nothing, which says rw, or a flag
+abbrev pub is_flags : List ℕ → Bool
+is_flags text = length text == 0 || (is_ro text || pointwise nat_eq text (codes "rw"))
+
+-- What a text says
+
+-- the number of a device, as the place of it and of its lines
+abbrev pub place_of : ℕ → Place
+place_of n = record { part = Source; number = n }
+
+-- one space before a body and one after it have no meaning
+abbrev pub WritesBody : List ℕ → Line → Type 0
+WritesBody text line =
+    ((text ≡ body_text line) ⊎ (text ≡ body_text line ++ space ∷ []))
+    ⊎ ((text ≡ space ∷ body_text line) ⊎ (text ≡ space ∷ body_text line ++ space ∷ []))
+
+-- the texts say these lines, of device number n
+abbrev pub SaysLines : ℕ → List (List ℕ) → List Line → Type 0
+SaysLines n [] [] = Unit {0}
+SaysLines n [] (line ∷ lines) = ⊥
+SaysLines n (text ∷ texts) [] = ⊥
+SaysLines n (text ∷ texts) (line ∷ lines) = WritesBody text line × IsBody line × (line.at ≡ place_of n) × SaysLines n texts lines
+
+-- the text says this device, as device number n
+pub record SaysDevice (n : ℕ) (text : List ℕ) (device : DeviceSpec) : Type 0 where
+  pub uuid : List ℕ
+  pub minor : List ℕ
+  pub flags : List ℕ
+  pub bodies : List (List ℕ)
+  pub spelled : text ≡ join_with_byte comma (device.name ∷ uuid ∷ minor ∷ flags ∷ bodies)
+  pub named : is_device_name device.name ≡ true
+  pub with_uuid : is_uuid uuid ≡ true
+  pub with_minor : is_minor minor ≡ true
+  pub with_flags : is_flags flags ≡ true
+  pub ro : device.ro ≡ is_ro flags
+  pub some : 1 ≤ length bodies
+  pub said : SaysLines n bodies device.lines
+  pub at : device.at ≡ place_of n
+
+-- the texts from number n on say these devices
+abbrev pub SaysDevices : ℕ → List (List ℕ) → List DeviceSpec → Type 0
+SaysDevices n [] [] = Unit {0}
+SaysDevices n [] (device ∷ devices) = ⊥
+SaysDevices n (text ∷ texts) [] = ⊥
+SaysDevices n (text ∷ texts) (device ∷ devices) = SaysDevice n text device × SaysDevices (suc n) texts devices
+
+-- the text says these devices; one newline at its end has no meaning
+pub record DescribesConcise (text : List ℕ) (devices : List DeviceSpec) : Type 0 where
+  pub parts : List (List ℕ)
+  pub spelled : (text ≡ join_with_byte semicolon parts) ⊎ (text ≡ join_with_byte semicolon parts ++ newline ∷ [])
+  pub said : SaysDevices 1 parts devices
+
+-- Its checks
+
+-- no byte of the text is c
+abbrev pub lacks : ℕ → List ℕ → Bool
+lacks c text = list_all (λ b. not (b == c)) text
+
+-- a text without the newline at its end
+abbrev pub without_newline : List ℕ → List ℕ
+without_newline text = if last_or 0 text == newline then all_but_last text else text
+
+-- its parts between semicolons; where it is empty there are none
+abbrev pub parts_of : List ℕ → List (List ℕ)
+parts_of [] = []
+parts_of (byte ∷ bytes) = parts_at semicolon (byte ∷ bytes)
+
+abbrev pub devices_of : List ℕ → List (List ℕ)
+devices_of text = parts_of (without_newline text)
+
+-- what a device's text has between its commas
+abbrev pub entries : List ℕ → List (List ℕ)
+entries = parts_at comma
+
+-- fields without an empty one at the front, which a space there leaves
+abbrev pub without_first_space : List (List ℕ) → List (List ℕ)
+without_first_space ([] ∷ fields) = fields
+without_first_space fields = fields
+
+-- the fields of a body, without the empty ones that a space on each side leaves
+abbrev pub body_fields : List ℕ → List (List ℕ)
+body_fields text = without_first_space (row_fields text)
+
+-- four entries without a space, and at least one more
+abbrev pub is_label : List (List ℕ) → Bool
+is_label (name ∷ uuid ∷ minor ∷ flags ∷ body ∷ bodies) = lacks space name && (lacks space uuid && (lacks space minor && lacks space flags))
+is_label _ = false
+
+-- a label whose minor number and flags are valid
+abbrev pub has_label_values : List (List ℕ) → Bool
+has_label_values (name ∷ uuid ∷ minor ∷ flags ∷ bodies) = is_minor minor && is_flags flags
+has_label_values _ = false
+
+-- a label whose name and uuid are valid
+abbrev pub has_label_names : List (List ℕ) → Bool
+has_label_names (name ∷ uuid ∷ bodies) = is_device_name name && is_uuid uuid
+has_label_names _ = false
+
+-- the entries after the label
+abbrev pub bodies_of : List ℕ → List (List ℕ)
+bodies_of text = drop 4 (entries text)
+
+-- a device on one line, with a label, and bodies that have the fields of bodies
+abbrev pub is_device : List ℕ → Bool
+is_device text = (lacks newline text && is_label (entries text)) && list_all (λ body. is_body_row (body_fields body)) (bodies_of text)
+
+-- whose values are valid
+abbrev pub has_values : List ℕ → Bool
+has_values text = has_label_values (entries text) && list_all (λ body. is_body (body_fields body)) (bodies_of text)
+
+-- whose names are valid
+abbrev pub has_names : List ℕ → Bool
+has_names text = has_label_names (entries text) && list_all (λ body. has_body_names (body_fields body)) (bodies_of text)
+
+-- the checks of a text, in their order
+abbrev pub concise_checks : List ℕ → List (List LoadFault)
+concise_checks text =
+    let devices = devices_of text in
+    not_text Source devices ∷ row_checks Source is_device has_values has_names devices []

@@ -1,0 +1,22 @@
+-- The line of a table in two parts: one that has a greatest length, and the columns of a striped line.
+use Rattle.std.specs.Prelude.{ℕ, List, [], ◌∷◌, ◌++◌, length, codes, decimal}
+use Rattle.dm_table.specs.declared.tables.table.Column.{Column}
+use Rattle.dm_table.specs.declared.tables.table.Line.{Line}
+use Rattle.dm_table.specs.declared.tables.table.Target.{Target}
+use Rattle.dm_table.specs.declared.tables.table.Target.TheVariants.{Striped}
+use Rattle.dm_table.specs.tables.LineBody.{target_text}
+use Rattle.dm_table.specs.words.Bytes.{space}
+
+-- a target without its columns
+abbrev pub target_head : Target → List ℕ
+target_head (Striped chunk columns) = codes "striped " ++ decimal (length columns) ++ space ∷ decimal chunk
+target_head target = target_text target
+
+-- the columns, which only a striped line has
+abbrev pub columns_of : Target → List Column
+columns_of (Striped chunk columns) = columns
+columns_of _ = []
+
+-- a body without its columns
+abbrev pub body_head : Line → List ℕ
+body_head line = decimal line.start ++ space ∷ decimal line.len ++ space ∷ target_head line.target

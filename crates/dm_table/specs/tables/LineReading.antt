@@ -1,0 +1,51 @@
+-- What is read of the fields of a body, a value or a fault, for the functions that read them once.
+use Rattle.std.specs.Prelude.{ℕ, Bool, List, Option, Some, None, is_some, Result, Ok, Err, if◌then◌else◌}
+use Rattle.std.specs.Option.{option_map}
+use Rattle.std.specs.List.{list_all}
+use Rattle.dm_table.specs.declared.tables.table.DevRef.{DevRef}
+use Rattle.dm_table.specs.declared.tables.table.Column.{Column}
+use Rattle.dm_table.specs.declared.tables.table.Target.{Target}
+use Rattle.dm_table.specs.declared.tables.table.Line.{Line}
+use Rattle.dm_table.specs.declared.load.place.Place.{Place}
+use Rattle.dm_table.specs.declared.load.row_faults.RowFault.{RowFault}
+use Rattle.dm_table.specs.declared.load.row_faults.RowFault.TheVariants.{Syntax, Field, Name, Memory}
+use Rattle.dm_table.specs.tables.LineBody.{is_dev_ref, dev_in, columns_in, target_in, Body, body_in, has_target_names}
+
+-- the line of a body, at a place
+abbrev pub line_at : Place → Body → Line
+line_at at body = record { start = body.start; len = body.len; target = body.target; at = at }
+
+-- the same of the body that fields say
+abbrev pub line_in : Place → List (List ℕ) → Option Line
+line_in at fields = option_map (line_at at) (body_in fields)
+
+-- What is read: the value, or the fault of the first test that it fails
+
+abbrev pub dev_reading : List ℕ → Result DevRef RowFault
+dev_reading text = if is_dev_ref (dev_in text) then Ok (dev_in text) else Err Name
+
+-- what fields say, if they say anything, and each name in it is valid
+abbrev pub reading_of : {X : Type 0} → (has_names : X → Bool) → Option X → Result X RowFault
+reading_of has_names None = Err Field
+reading_of has_names (Some x) = if has_names x then Ok x else Err Name
+
+-- each name in columns is valid
+abbrev pub has_column_names : List Column → Bool
+has_column_names columns = list_all (λ column. is_dev_ref column.to) columns
+
+abbrev pub columns_reading : List (List ℕ) → Result (List Column) RowFault
+columns_reading fields = reading_of has_column_names (columns_in fields)
+
+-- the fault of columns of which the first has this fault and the others have these fields
+abbrev pub fault_before : RowFault → List (List ℕ) → RowFault
+fault_before Name fields = if is_some (columns_in fields) then Name else Field
+fault_before Syntax fields = Syntax
+fault_before Field fields = Field
+fault_before Memory fields = Memory
+
+-- the target of a line of this length
+abbrev pub target_reading : (len : ℕ) → List (List ℕ) → Result Target RowFault
+target_reading len fields = reading_of (has_target_names len) (target_in fields)
+
+abbrev pub body_reading : Place → List (List ℕ) → Result Line RowFault
+body_reading at fields = reading_of (λ line. has_target_names line.len line.target) (line_in at fields)

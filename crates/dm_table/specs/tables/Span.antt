@@ -1,0 +1,36 @@
+-- What a line names below, and where.
+use Rattle.std.specs.Prelude.{ℕ, ◌/◌, List, [], ◌∷◌, Option, Some, None, length, map}
+use Rattle.dm_table.specs.declared.tables.table.DevRef.{DevRef}
+use Rattle.dm_table.specs.declared.tables.table.Column.{Column}
+use Rattle.dm_table.specs.declared.tables.table.Target.{Target}
+use Rattle.dm_table.specs.declared.tables.table.Target.TheVariants as targets
+use Rattle.dm_table.specs.declared.tables.table.Line.{Line}
+use Rattle.dm_table.specs.declared.tables.table.Use.{Use}
+use Rattle.dm_table.specs.declared.tables.table.Use.TheVariants.{Own, Reading, Serving}
+
+-- len sectors of a device or a disk from an offset on, or all of it where no length is given, and how a line uses them
+pub record Span : Type 0 where
+  pub to : DevRef
+  pub offset : ℕ
+  pub len : Option ℕ
+  pub kind : Use
+
+-- a column has its share of the line's length
+abbrev pub column_span : ℕ → Column → Span
+column_span len column = record { to = column.to; offset = column.offset; len = Some len; kind = Own }
+
+-- all of a device or a disk
+abbrev pub whole_span : DevRef → Use → Span
+whole_span to kind = record { to = to; offset = 0; len = None; kind = kind }
+
+-- what a line of this length and target names: the whole of the line, a share for each column, or all of a store and of an origin, which a snapshot only reads
+abbrev pub target_spans : ℕ → Target → List Span
+target_spans len (targets.Linear to offset) = record { to = to; offset = offset; len = Some len; kind = Own } ∷ []
+target_spans len (targets.Striped chunk columns) = map (column_span (len / length columns)) columns
+target_spans len targets.Zero = []
+target_spans len targets.Error = []
+target_spans len (targets.Snapshot origin store kind chunk) = whole_span store Own ∷ whole_span origin Reading ∷ []
+target_spans len (targets.Origin origin) = whole_span origin Serving ∷ []
+
+abbrev pub spans : Line → List Span
+spans line = target_spans line.len line.target

@@ -1,0 +1,87 @@
+-- How a row of table text is read, for the functions that the public call stands on.
+use Rattle.std.specs.Prelude.{ℕ, suc, Bool, false, ◌&&◌, List, [], ◌∷◌, ◌++◌, map, nat_eq, Option, Some, None, Result, Err, if◌then◌else◌}
+use Rattle.std.specs.Option.{option_map}
+use Rattle.std.specs.List.{cons_option}
+use Rattle.std.specs.Cmp.Lexicographic.{pointwise}
+use Rattle.dm_table.specs.declared.tables.table.DeviceSpec.{DeviceSpec}
+use Rattle.dm_table.specs.declared.load.place.Part.TheVariants.{Source}
+use Rattle.dm_table.specs.declared.load.load_fault.LoadFault.{LoadFault}
+use Rattle.dm_table.specs.declared.load.row_faults.RowFault.{RowFault}
+use Rattle.dm_table.specs.declared.load.row_faults.RowFault.TheVariants.{Syntax}
+use Rattle.dm_table.specs.declared.tables.table_row.Row.{Row}
+use Rattle.dm_table.specs.words.Fields.{lines_of, row_fields}
+use Rattle.dm_table.specs.load.LoadFault.{first_fault, unless}
+use Rattle.dm_table.specs.words.Name.{is_device_name}
+use Rattle.dm_table.specs.load.RowFaults.{row_fault}
+use Rattle.dm_table.specs.tables.LineBody.{has_target_names}
+use Rattle.dm_table.specs.tables.LineReading.{line_in, reading_of}
+use Rattle.dm_table.specs.tables.TableText.{NamedLine, name_in, is_row, has_values, has_names, table_checks}
+
+-- the rows of lines
+abbrev pub rows_of : List (List ℕ) → List (List (List ℕ))
+rows_of = map row_fields
+
+-- what the code has of a row
+abbrev pub named_of : Row → NamedLine
+named_of row = record { name = row.name.now; line = row.line }
+
+-- the line that a row says, with its name, as line number n
+abbrev pub named_in : ℕ → List (List ℕ) → Option NamedLine
+named_in n (label ∷ body) = option_map (λ line. record { name = name_in label; line = line }) (line_in (record { part = Source; number = n }) body)
+named_in n [] = None
+
+-- the lines that rows say, numbered from n
+abbrev pub named_from : ℕ → List (List (List ℕ)) → List NamedLine
+named_from n [] = []
+named_from n (row ∷ rows) = cons_option (named_in n row) (named_from (suc n) rows)
+
+-- a device of one line
+abbrev pub alone : NamedLine → DeviceSpec
+alone named = record { name = named.name; ro = false; lines = named.line ∷ []; at = named.line.at }
+
+-- a line before those of a device
+abbrev pub with_line : NamedLine → DeviceSpec → DeviceSpec
+with_line named device = record { name = device.name; ro = device.ro; lines = named.line ∷ device.lines; at = named.line.at }
+
+-- a line before devices: the first of them takes it, where it has the line's name
+abbrev pub join_line : NamedLine → List DeviceSpec → List DeviceSpec
+join_line named [] = alone named ∷ []
+join_line named (device ∷ devices) =
+    if pointwise nat_eq named.name device.name then with_line named device ∷ devices else alone named ∷ device ∷ devices
+
+-- neighbouring lines of one name, joined
+abbrev pub joined : List NamedLine → List DeviceSpec
+joined [] = []
+joined (named ∷ more) = join_line named (joined more)
+
+-- a line after those of devices: the last of them takes it, where it has the line's name
+abbrev pub add_line : List DeviceSpec → NamedLine → List DeviceSpec
+add_line [] named = alone named ∷ []
+add_line (device ∷ []) named =
+    if pointwise nat_eq named.name device.name then record device { lines = device.lines ++ named.line ∷ [] } ∷ [] else device ∷ alone named ∷ []
+add_line (device ∷ next ∷ devices) named = device ∷ add_line (next ∷ devices) named
+
+-- the same of what a row says, if it says a line
+abbrev pub add_said : List DeviceSpec → Option NamedLine → List DeviceSpec
+add_said devices None = devices
+add_said devices (Some named) = add_line devices named
+
+-- what is wrong with a row
+abbrev pub table_row_fault : List (List ℕ) → Option RowFault
+table_row_fault row = row_fault is_row has_values has_names row
+
+-- the name of a line, and each in its target, is valid
+abbrev pub has_line_names : NamedLine → Bool
+has_line_names named = is_device_name named.name && has_target_names named.line.len named.line.target
+
+-- what is read of a row, as line n
+abbrev pub row_reading : ℕ → List (List ℕ) → Result NamedLine RowFault
+row_reading n row = if is_row row then reading_of has_line_names (named_in n row) else Err Syntax
+
+-- the devices of rows, whose lines are numbered from n
+abbrev pub devices_from : ℕ → List (List (List ℕ)) → List DeviceSpec
+devices_from n rows = joined (named_from n rows)
+
+-- the devices of a text, or the fault of its checks
+unfoldable pub read_table : List ℕ → Result (List DeviceSpec) LoadFault
+read_table text = unless (first_fault (table_checks text)) (devices_from 1 (rows_of (lines_of text)))

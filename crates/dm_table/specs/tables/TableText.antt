@@ -1,0 +1,97 @@
+-- Table text: a line NAME: START LEN TYPE ARGS for each line of a table (dmsetup(8)). The name and its colon label the body of a line.
+use Rattle.std.specs.Prelude.{◌≡◌, ◌≢◌, ◌⊎◌, ℕ, suc, ◌==◌, Bool, true, false, ◌&&◌, List, [], ◌∷◌, ◌++◌, length, map, nat_lt}
+use Rattle.std.specs.List.{flat_map, AllByRecursion}
+use Rattle.dm_table.specs.declared.tables.table.Line.{Line}
+use Rattle.dm_table.specs.declared.tables.table.DeviceSpec.{DeviceSpec}
+use Rattle.dm_table.specs.declared.load.place.Place.{Place}
+use Rattle.dm_table.specs.declared.load.place.Part.TheVariants.{Source}
+use Rattle.dm_table.specs.declared.load.load_fault.LoadFault.{LoadFault}
+use Rattle.dm_table.specs.words.Name.{is_device_name}
+use Rattle.dm_table.specs.words.Fields.{row_fields, all_but_last, last_or}
+use Rattle.dm_table.specs.load.Reading.{line_checks}
+use Rattle.dm_table.specs.tables.LineBody.{body_text, IsBody, is_body_row, is_body, has_body_names}
+use Rattle.dm_table.specs.words.Bytes.{colon, newline, space}
+
+-- What a text says
+
+-- a line of a table, with the name of its device
+pub record NamedLine : Type 0 where
+  pub name : List ℕ
+  pub line : Line
+
+-- how a named line is written
+abbrev pub line_text : NamedLine → List ℕ
+line_text named = named.name ++ colon ∷ space ∷ body_text named.line
+
+-- one space at the end of a line has no meaning
+abbrev pub Writes : List ℕ → NamedLine → Type 0
+Writes text named = (text ≡ line_text named) ⊎ (text ≡ line_text named ++ space ∷ [])
+
+-- text line number n may say this line
+pub record IsSaid (n : ℕ) (named : NamedLine) : Type 0 where
+  pub name : is_device_name named.name ≡ true
+  pub body : IsBody named.line
+  pub at : named.line.at ≡ record { part = Source; number = n }
+
+-- the text lines from number n on say these lines
+abbrev pub Says : ℕ → List (List ℕ) → List NamedLine → Type 0
+Says n [] [] = Unit {0}
+Says n [] (named ∷ more) = ⊥
+Says n (text ∷ texts) [] = ⊥
+Says n (text ∷ texts) (named ∷ more) = Writes text named × IsSaid n named × Says (suc n) texts more
+
+-- the lines of all devices, one after another, each with its device's name
+abbrev pub named_lines : List DeviceSpec → List NamedLine
+named_lines = flat_map (λ device. map (λ line. record { name = device.name; line = line }) device.lines)
+
+-- a device of table text: it has a first line, whose place is its own, and is writable
+abbrev pub HasPlaceOf : List Line → Place → Type 0
+HasPlaceOf [] at = ⊥
+HasPlaceOf (line ∷ lines) at = at ≡ line.at
+
+pub record IsDescribed (device : DeviceSpec) : Type 0 where
+  pub writable : device.ro ≡ false
+  pub at : HasPlaceOf device.lines device.at
+
+-- neighbouring lines of one name are one device: neighbouring devices have different names
+abbrev pub DifferInName : List DeviceSpec → Type 0
+DifferInName [] = Unit {0}
+DifferInName (device ∷ []) = Unit {0}
+DifferInName (device ∷ next ∷ devices) = (device.name ≢ next.name) × DifferInName (next ∷ devices)
+
+-- the text says these devices
+pub record DescribesTable (text : List ℕ) (devices : List DeviceSpec) : Type 0 where
+  pub lines : List (List ℕ)
+  pub ended : text ≡ flat_map (λ line. line ++ newline ∷ []) lines
+  pub said : Says 1 lines (named_lines devices)
+  pub each : AllByRecursion IsDescribed devices
+  pub apart : DifferInName devices
+
+-- Its checks
+
+-- a name and a colon after it
+abbrev pub is_label : List ℕ → Bool
+is_label field = nat_lt 1 (length field) && last_or 0 field == colon
+
+-- the name in a label: all before its last colon
+abbrev pub name_in : List ℕ → List ℕ
+name_in label = all_but_last label
+
+-- a label, and the fields of a body
+abbrev pub is_row : List (List ℕ) → Bool
+is_row (label ∷ body) = is_label label && is_body_row body
+is_row [] = false
+
+-- a body whose values are valid
+abbrev pub has_values : List (List ℕ) → Bool
+has_values (label ∷ body) = is_body body
+has_values [] = false
+
+-- the name of the line and those in its body are valid
+abbrev pub has_names : List (List ℕ) → Bool
+has_names (label ∷ body) = is_device_name (name_in label) && has_body_names body
+has_names [] = false
+
+-- the checks of a text, in their order
+abbrev pub table_checks : List ℕ → List (List LoadFault)
+table_checks text = line_checks Source row_fields is_row has_values has_names text

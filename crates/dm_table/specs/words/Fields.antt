@@ -1,0 +1,55 @@
+-- Texts cut at a byte: lines at newlines, fields at spaces.
+use Rattle.std.specs.Prelude.{ℕ, ◌==◌, Bool, true, false, List, [], ◌∷◌, map}
+use Rattle.std.specs.List.{slice_split}
+use Rattle.dm_table.specs.words.Bytes.{newline, space}
+use denote.Ref.{Bor}
+
+-- what slices point to
+abbrev pub texts : List (Bor (List ℕ)) → List (List ℕ)
+texts = map (λ slice. slice.now)
+
+-- the parts of a text between the bytes that are c: always one more than there are such bytes
+abbrev pub parts_at : ℕ → List ℕ → List (List ℕ)
+parts_at c = slice_split (λ b. b == c)
+
+-- all but the last
+abbrev pub all_but_last : {X : Type 0} → List X → List X
+all_but_last [] = []
+all_but_last (x ∷ []) = []
+all_but_last (x ∷ y ∷ ys) = x ∷ all_but_last (y ∷ ys)
+
+-- the last, or d
+abbrev pub last_or : {X : Type 0} → X → List X → X
+last_or d [] = d
+last_or d (x ∷ []) = x
+last_or d (x ∷ y ∷ ys) = last_or d (y ∷ ys)
+
+-- the lines that a newline ends
+abbrev pub lines_of : List ℕ → List (List ℕ)
+lines_of text = all_but_last (parts_at newline text)
+
+-- what stands after the last newline
+abbrev pub rest_of : List ℕ → List ℕ
+rest_of text = last_or [] (parts_at newline text)
+
+-- the fields of a line, at single spaces
+abbrev pub fields : List ℕ → List (List ℕ)
+fields = parts_at space
+
+-- fields without an empty one at the end, as a space there leaves it
+abbrev pub without_last_space : List (List ℕ) → List (List ℕ)
+without_last_space [] = []
+without_last_space ([] ∷ []) = []
+without_last_space ((byte ∷ bytes) ∷ []) = (byte ∷ bytes) ∷ []
+without_last_space (field ∷ next ∷ fields) = field ∷ without_last_space (next ∷ fields)
+
+-- the fields of a line that may end with a space
+abbrev pub row_fields : List ℕ → List (List ℕ)
+row_fields line = without_last_space (fields line)
+
+-- the last field is empty
+abbrev pub ends_empty : List (List ℕ) → Bool
+ends_empty [] = false
+ends_empty ([] ∷ []) = true
+ends_empty ((byte ∷ bytes) ∷ []) = false
+ends_empty (field ∷ next ∷ fields) = ends_empty (next ∷ fields)

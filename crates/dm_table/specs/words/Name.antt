@@ -1,0 +1,31 @@
+-- Names of devices and of disks (dmsetup(8); the bytes that are allowed are this project's profile).
+use Rattle.std.specs.Prelude.{ℕ, ◌==◌, Bool, ◌&&◌, ◌||◌, not, List, length, nat_le, nat_eq, codes}
+use Rattle.std.specs.List.{list_all, starts_with}
+use Rattle.std.specs.Char.{is_ascii_digit}
+use Rattle.dm_table.specs.words.Bytes.{at_sign, backslash, colon, comma, equals, full_stop, hash, hyphen, plus, semicolon, underscore}
+
+-- an ASCII letter, a digit, or one of # + - . : = @ _
+abbrev pub is_device_byte : ℕ → Bool
+is_device_byte b =
+    (nat_le 97 b && nat_le b 122) || ((nat_le 65 b && nat_le b 90) || (is_ascii_digit b
+    || (b == hash || (b == plus || (b == hyphen || (b == full_stop || (b == colon || (b == equals || (b == at_sign || b == underscore)))))))))
+
+-- 1 to 127 of these
+abbrev pub is_device_name : List ℕ → Bool
+is_device_name text = nat_le 1 (length text) && (nat_le (length text) 127 && list_all is_device_byte text)
+
+-- a byte from 0x21 to 0x7E but the comma, the semicolon and the backslash
+abbrev pub is_disk_byte : ℕ → Bool
+is_disk_byte b = nat_le 33 b && (nat_le b 126 && not (b == comma || (b == semicolon || b == backslash)))
+
+-- how the text of a device of the stack begins
+abbrev pub mapper : List ℕ
+mapper = codes "/dev/mapper/"
+
+-- the text names a device of the stack
+abbrev pub names_device : List ℕ → Bool
+names_device text = starts_with nat_eq text mapper
+
+-- 1 to 255 bytes that a disk's name may have, and no name of a device of the stack
+abbrev pub is_disk_name : List ℕ → Bool
+is_disk_name text = nat_le 1 (length text) && (nat_le (length text) 255 && (list_all is_disk_byte text && not (names_device text)))

@@ -1,0 +1,23 @@
+-- Numbers as texts: 0, or a digit 1 to 9 followed by at most 18 digits.
+use Rattle.std.specs.Prelude.{◌≡◌, ℕ, ◌^◌, ◌<◌, ◌==◌, Bool, ◌&&◌, ◌||◌, not, List, length, Option, Some, None, nat_le, slice_index, decimal, unwrap_or, if◌then◌else◌}
+use Rattle.std.specs.List.{list_all}
+use Rattle.std.specs.Char.{is_ascii_digit}
+use Rattle.std.specs.Str.Parse.{digits_value}
+use Rattle.dm_table.specs.words.Bytes.{digit_zero}
+
+-- the text spells the number: its digits without a leading zero, at most 19 of them
+pub record Spells (text : List ℕ) (number : ℕ) : Type 0 where
+  pub digits : text ≡ decimal number
+  pub short : number < 10 ^ 19
+
+-- the test: 1 to 19 digits, the first of them 0 only where it stands alone
+abbrev pub is_number : List ℕ → Bool
+is_number text = nat_le 1 (length text) && (nat_le (length text) 19 && ((not (slice_index text 0 == digit_zero) || length text == 1) && list_all is_ascii_digit text))
+
+-- the number that a text spells, if it spells one
+unfoldable pub number_of : List ℕ → Option ℕ
+number_of text = if is_number text then Some (digits_value 10 text) else None
+
+-- the number in a field that is one
+abbrev pub number_in : List ℕ → ℕ
+number_in field = unwrap_or (number_of field) 0

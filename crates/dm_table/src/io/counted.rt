@@ -1,0 +1,129 @@
+//! Any reader or writer of std as an input or an output.
+//! std counts no faults and no ends, and knows the bytes of few devices, so a past beside one does.
+//! What a proof knows of a real device is what is noted here: note each result where it is returned.
+ghost use Rattle.std.specs.Prelude.{◌≡◌, ◌+◌, ◌<◌, ◌≤◌, ◌++◌, [], length, IfOk};
+ghost use Rattle.std.specs.Io.KnownBytes.{Keeps, ReadConsumes, WriteAppends};
+ghost use Rattle.dm_table.specs.io.DeviceIo.{given, fault_of, end_of, unflushed};
+
+use crate::io::device_io::{InFault, Input, OutFault, Output};
+use crate::io::ghost_bytes::{GhostBytes, Tally};
+use std::io::{Read, Write};
+
+/// A reader or a writer, with a past that takes no room and no time.
+#[derive(Drop)]
+pub struct Counted<T> {
+    inner: T,
+    handed: GhostBytes,
+    read_faults: Tally,
+    ends: Tally,
+    written: GhostBytes,
+    waiting: GhostBytes,
+    write_faults: Tally,
+    flushes: Tally,
+}
+
+impl<T> Counted<T> {
+    /// The device with nothing noted yet.
+    pub fn new(inner: T) -> Counted<T>
+        ensures inner { result.inner ≡ inner }
+        ensures bytes { (result.handed.bytes ≡ []) × (result.written.bytes ≡ [])
+            × (result.waiting.bytes ≡ []) }
+        ensures counts { (result.read_faults ≡ 0) × (result.ends ≡ 0)
+            × (result.write_faults ≡ 0) × (result.flushes ≡ 0) }
+    {
+        Counted {
+            inner,
+            handed: GhostBytes::new(),
+            read_faults: Tally::new(),
+            ends: Tally::new(),
+            written: GhostBytes::new(),
+            waiting: GhostBytes::new(),
+            write_faults: Tally::new(),
+            flushes: Tally::new(),
+        }
+    }
+}
+
+impl<T: Read> Input for Counted<T> {
+    ghost past = { λ c. record { handed = c.handed.bytes; faults = c.read_faults; ends = c.ends } };
+
+    /// One read of the reader. Each of its errors is a fault, an interrupted call too.
+    fn read(&mut self, buffer: &mut [u8]) -> Result<usize, InFault>
+        ensures within { IfOk result (λ n. n ≤ length buffer.new) }
+        ensures bytes { self.new.handed.bytes ≡ self.old.handed.bytes ++ given result buffer.new }
+        ensures faults { self.new.read_faults ≡ self.old.read_faults + fault_of result }
+        ensures ends { self.new.ends ≡ self.old.ends + end_of result (length buffer.new) }
+        // Where std knows the reader's bytes, none is lost or made up.
+        ensures inner { ReadConsumes (T.remaining self.old.inner) (T.remaining self.new.inner)
+            result buffer.new }
+    {
+        match self.inner.read(buffer) {
+            Ok(n) => {
+                self.handed.note(&buffer[..n]);
+                if n == 0 && !buffer.is_empty() {
+                    self.ends.raise();
+                }
+                Ok(n)
+            }
+            Err(_) => {
+                self.read_faults.raise();
+                Err(InFault)
+            }
+        }
+    }
+}
+
+impl<T: Write> Output for Counted<T> {
+    ghost past = { λ c. record {
+      written = c.written.bytes;
+      waiting = c.waiting.bytes;
+      faults = c.write_faults;
+      flushes = c.flushes;
+    } };
+
+    /// One write of the writer. Each of its errors is a fault, an interrupted call too, and so is a 0
+    /// for a slice that isn't empty.
+    fn write(&mut self, bytes: &[u8]) -> Result<usize, OutFault>
+        ensures within { IfOk result (λ n. n ≤ length bytes.now) }
+        ensures progress { IfOk result (λ n. 0 < length bytes.now → 0 < n) }
+        ensures bytes { self.new.written.bytes ≡ self.old.written.bytes ++ given result bytes.now }
+        ensures waiting { self.new.waiting.bytes ≡ self.old.waiting.bytes ++ given result bytes.now }
+        ensures faults { self.new.write_faults ≡ self.old.write_faults + fault_of result }
+        ensures flushes { self.new.flushes ≡ self.old.flushes }
+        // Where std knows the writer's bytes, they grow by what was taken, and by nothing else.
+        ensures inner { WriteAppends (T.contents self.old.inner) (T.contents self.new.inner)
+            result bytes.now }
+    {
+        match self.inner.write(bytes) {
+            Ok(n) if n > 0 || bytes.is_empty() => {
+                self.written.note(&bytes[..n]);
+                self.waiting.note(&bytes[..n]);
+                Ok(n)
+            }
+            _ => {
+                self.write_faults.raise();
+                Err(OutFault)
+            }
+        }
+    }
+
+    fn flush(&mut self) -> Result<(), OutFault>
+        ensures bytes { self.new.written.bytes ≡ self.old.written.bytes }
+        ensures waiting { self.new.waiting.bytes ≡ unflushed result self.old.waiting.bytes }
+        ensures faults { self.new.write_faults ≡ self.old.write_faults + fault_of result }
+        ensures flushes { self.new.flushes ≡ self.old.flushes + 1 }
+        ensures inner { Keeps (T.contents self.old.inner) (T.contents self.new.inner) }
+    {
+        self.flushes.raise();
+        match self.inner.flush() {
+            Ok(()) => {
+                self.waiting = GhostBytes::new();
+                Ok(())
+            }
+            Err(_) => {
+                self.write_faults.raise();
+                Err(OutFault)
+            }
+        }
+    }
+}

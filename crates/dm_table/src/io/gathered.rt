@@ -1,0 +1,213 @@
+//! An output that gathers what it takes in a block, and passes it on when that is full.
+//!
+//! A system call for each line would cost many times what the line does. A text is put where it
+//! belongs in the block, whose last part is room for one, so nothing has to be asked before it.
+//! One test before each text finds that the block is full, or that the other output failed: the
+//! limit is 0 then.
+
+ghost use Rattle.std.specs.Prelude.{◌≡◌, ◌↔◌, ◌+◌, ◌-◌, ◌<◌, ◌≤◌, ◌++◌, [], false, length, slice_range, take, true, IfOk, IsErr, OnOk, nat_lt};
+ghost use Rattle.dm_table.specs.io.DeviceIo.{after_flush, after_write, with_fault};
+ghost use Rattle.dm_table.specs.io.Gathered.{MindsFaults, past_of};
+ghost use Rattle.dm_table.specs.io.Progress.{Wrote};
+
+use crate::io::block::put_bytes;
+use crate::io::device_io::{OutFault, Output};
+use crate::io::ghost_bytes::Tally;
+use crate::io::text::{TEXT_ROOM, Text};
+use std::marker::Model;
+
+/// With as many bytes as this, or more, what is gathered is passed on before the next text.
+const FULL: usize = 65536;
+
+/// The bytes of the block.
+const ROOM: usize = FULL + TEXT_ROOM;
+
+/// An output in front of another one, which it gathers bytes for.
+///
+/// It passes on what it took, in order, and at a flush all of it. Once a call of the other output
+/// failed, nothing is asked of that output any more: what it did not take stays gathered, and each
+/// write, `put` and flush fails. A fault met while handing on is counted by the next of these. The
+/// counts are its own, so those of the other output don't show here.
+#[derive(Drop)]
+pub struct Gathered<W: Output> {
+    output: W,
+    block: [u8; ROOM],
+    len: usize,
+    /// Where as many bytes as this are gathered, they are passed on before the next text. It is 0
+    /// once the other output failed.
+    limit: usize,
+    faults: Tally,
+    flushes: Tally,
+}
+
+impl<W: Output> Model for Gathered<W> {
+    ghost use Rattle.std.specs.Prelude.{◌≤◌, ◌==◌, take};
+    ghost use Rattle.dm_table.specs.declared.io.gathered.TheConstants.{FULL, ROOM};
+    ghost use Rattle.dm_table.specs.io.Gathered.{Gathering};
+
+    ghost Value = { Gathering };
+
+    ghost view = { λ g. record {
+      behind = W.past g.output;
+      held = take g.len g.block;
+      broken = g.limit == 0;
+      faults = g.faults;
+      flushes = g.flushes;
+    } };
+
+    ghost invariant = { λ g. (g.len ≤ ROOM) × (g.limit ≤ FULL) };
+}
+
+impl<W: Output> Gathered<W> {
+    ghost use Rattle.dm_table.specs.declared.io.gathered.TheConstants.{FULL};
+
+    /// Nothing is gathered yet, no call failed, and no flush was asked for.
+    pub fn new(output: W) -> Gathered<W>
+        ensures { result ≡ record {
+          behind = W.past output;
+          held = [];
+          broken = false;
+          faults = 0;
+          flushes = 0;
+        } }
+    {
+        Gathered {
+            output,
+            block: [0; ROOM],
+            len: 0,
+            limit: FULL,
+            faults: Tally::new(),
+            flushes: Tally::new(),
+        }
+    }
+
+    /// Passes on what is gathered, up to a fault of the output; the rest stays gathered. Nothing is
+    /// passed on after a fault.
+    fn pass_on(&mut self)
+        ensures past { past_of self.new ≡ past_of self.old }
+        ensures minds { MindsFaults self.old self.new }
+        ensures all { self.new.broken ≡ false → self.new.held ≡ [] }
+    {
+        if self.limit == 0 {
+            return;
+        }
+        let sent = write_front(&mut self.output, &self.block, self.len);
+        move_to_front(&mut self.block, sent, self.len);
+        self.len -= sent;
+        self.limit = if self.len == 0 { FULL } else { 0 };
+    }
+
+    /// Passes on all that is gathered, and counts a fault of the output as one of its own.
+    #[cold]
+    #[inline(never)]
+    fn empty(&mut self) -> Result<(), OutFault>
+        ensures past { past_of self.new ≡ with_fault (past_of self.old) result }
+        ensures minds { MindsFaults self.old self.new }
+        ensures fails { IsErr result ↔ (self.new.broken ≡ true) }
+        ensures all { OnOk result (self.new.held ≡ []) }
+    {
+        self.pass_on();
+        if self.limit == 0 {
+            self.faults.raise();
+            return Err(OutFault);
+        }
+        Ok(())
+    }
+
+    /// Makes room for a text, unless the output failed.
+    #[inline(always)]
+    fn make_room(&mut self) -> Result<(), OutFault>
+        ensures past { past_of self.new ≡ with_fault (past_of self.old) result }
+        ensures minds { MindsFaults self.old self.new }
+        ensures fails { IsErr result ↔ (self.new.broken ≡ true) }
+        ensures room { OnOk result (length self.new.held ≤ FULL) }
+    {
+        if self.len >= self.limit {
+            return self.empty();
+        }
+        Ok(())
+    }
+}
+
+/// Writes the first bytes of a block, up to a fault, and returns how many were written.
+fn write_front<W: Output>(output: &mut W, block: &[u8], len: usize) -> usize
+    requires { len ≤ length block.now }
+    ensures within { result ≤ len }
+    ensures bytes { (W.past output.new).written ≡ (W.past output.old).written ++ take result block.now }
+    ensures waiting { (W.past output.new).waiting ≡ (W.past output.old).waiting ++ take result block.now }
+    // It failed exactly where not all of them were written.
+    ensures grows { (W.past output.old).faults ≤ (W.past output.new).faults }
+    ensures failed { nat_lt (W.past output.old).faults (W.past output.new).faults ≡ nat_lt result len }
+{
+    let mut sent = 0;
+    'rest: while sent < len {
+        match output.write(&block[sent..len]) {
+            Ok(taken) => sent += taken,
+            Err(OutFault) => return sent,
+        }
+    }
+    sent
+}
+
+/// Moves a part of a block to its front.
+fn move_to_front(block: &mut [u8], start: usize, end: usize)
+    requires ordered { start ≤ end }
+    requires within { end ≤ length block.old }
+    ensures { take (end - start) block.new ≡ slice_range block.old start end }
+{
+    block.copy_within(start..end, 0);
+}
+
+impl<W: Output> Output for Gathered<W> {
+    ghost past = { past_of };
+
+    fn write(&mut self, bytes: &[u8]) -> Result<usize, OutFault>
+        ensures within { IfOk result (λ n. n ≤ length bytes.now) }
+        ensures progress { IfOk result (λ n. 0 < length bytes.now → 0 < n) }
+        ensures past { past_of self.new ≡ after_write (past_of self.old) result bytes.now }
+        ensures minds { MindsFaults self.old self.new }
+        ensures fails { IsErr result ↔ (self.new.broken ≡ true) }
+    {
+        self.make_room()?;
+        let n = bytes.len().min(ROOM - self.len);
+        self.len = put_bytes(&mut self.block, self.len, &bytes[..n]);
+        Ok(n)
+    }
+
+    fn flush(&mut self) -> Result<(), OutFault>
+        ensures past { past_of self.new ≡ after_flush (past_of self.old) result }
+        ensures minds { MindsFaults self.old self.new }
+        ensures fails { IsErr result ↔ (self.new.broken ≡ true) }
+    {
+        self.flushes.raise();
+        self.empty()?;
+        match self.output.flush() {
+            Ok(()) => Ok(()),
+            Err(OutFault) => {
+                self.limit = 0;
+                self.faults.raise();
+                Err(OutFault)
+            }
+        }
+    }
+
+    #[inline(always)]
+    fn put<T: Text>(&mut self, text: &T) -> Result<(), OutFault>
+        requires { 0 < length (T.text text.now) }
+        ensures wrote { Wrote (past_of self.old) (past_of self.new) result (T.text text.now) }
+        ensures minds { MindsFaults self.old self.new }
+        ensures fails { IsErr result ↔ (self.new.broken ≡ true) }
+    {
+        self.make_room()?;
+        self.len = text.put_into(&mut self.block, self.len);
+        Ok(())
+    }
+
+    /// A fault is left to the next write, `put` or flush, which fails.
+    fn hand_on(&mut self)
+        ensures past { past_of self.new ≡ past_of self.old }
+        ensures minds { MindsFaults self.old self.new }
+    {
+        self.pass_on();
+    }
+}

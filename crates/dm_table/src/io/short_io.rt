@@ -1,0 +1,224 @@
+//! An input and an output over memory that go short and fail where a test wants it.
+//! What each call does is said exactly, so that a test over them shows what it claims to.
+//! Where one met its end or its fault, each later call meets it too: keep that, and that calls are exact.
+ghost use Rattle.std.specs.Prelude.{◌≡◌, ◌+◌, ◌<◌, ◌≤◌, ◌++◌, length, take, drop, true, false, ◌↔◌, ◌||◌, if◌then◌else◌, is_err, IsErr, IsTrue, IfOk, vec_len, vec_capacity};
+ghost use Rattle.dm_table.specs.io.DeviceIo.{after_flush, after_read, after_write, fault_of};
+ghost use Rattle.dm_table.specs.io.ShortIo.{Supply, fresh_supply, Intake, fresh_intake, HandsOut, TakesIn, PassesOn};
+
+use crate::io::device_io::{InFault, Input, OutFault, Output};
+use crate::io::ghost_bytes::{GhostBytes, Tally};
+use std::alloc::{AllocError, Global};
+use std::marker::Model;
+
+/// An input that hands out a slice, at most `step` bytes a read. After it each read meets an end, or
+/// fails, as the input was made.
+#[derive(Drop)]
+pub struct ShortIn<'a> {
+    bytes: &'a [u8],
+    at: usize,
+    step: usize,
+    fails: bool,
+    faults: Tally,
+    ends: Tally,
+}
+
+impl<'a> Model for ShortIn<'a> {
+    ghost Value = { Supply };
+
+    ghost view = { λ s. record {
+      past = record { handed = take s.at s.bytes.now; faults = s.faults; ends = s.ends };
+      left = drop s.at s.bytes.now;
+      step = s.step;
+      fails = s.fails;
+    } };
+
+    ghost invariant = { λ s. (s.at ≤ length s.bytes.now) × (0 < s.step) };
+}
+
+impl<'a> ShortIn<'a> {
+    /// Hands out all the bytes, and then ends.
+    pub fn new(bytes: &'a [u8], step: usize) -> ShortIn<'a>
+        requires { 0 < step }
+        ensures { result ≡ fresh_supply bytes.now step false }
+    {
+        ShortIn::made(bytes, step, false)
+    }
+
+    /// Hands out the first `count` bytes, and then fails.
+    pub fn failing(bytes: &'a [u8], step: usize, count: usize) -> ShortIn<'a>
+        requires moves { 0 < step }
+        requires within { count ≤ length bytes.now }
+        ensures { result ≡ fresh_supply (take count bytes.now) step true }
+    {
+        ShortIn::made(&bytes[..count], step, true)
+    }
+
+    fn made(bytes: &'a [u8], step: usize, fails: bool) -> ShortIn<'a>
+        requires { 0 < step }
+        ensures { result ≡ fresh_supply bytes.now step fails }
+    {
+        ShortIn {
+            bytes,
+            at: 0,
+            step,
+            fails,
+            faults: Tally::new(),
+            ends: Tally::new(),
+        }
+    }
+
+    /// A read where nothing is left.
+    fn read_nothing(&mut self, is_full: bool) -> Result<usize, InFault>
+        ensures fault { IsErr result ↔ IsTrue self.old.fails }
+        ensures zero { IfOk result (λ n. n ≡ 0) }
+        ensures counts { self.new ≡ record self.old {
+          past = record self.old.past {
+            faults = self.old.past.faults + fault_of result;
+            ends = self.old.past.ends + (if is_err result || is_full then 0 else 1);
+          };
+        } }
+    {
+        if self.fails {
+            self.faults.raise();
+            return Err(InFault);
+        }
+        if !is_full {
+            self.ends.raise();
+        }
+        Ok(0)
+    }
+}
+
+impl<'a> Input for ShortIn<'a> {
+    ghost past = { λ s. s.past };
+
+    /// The next bytes, as many as `step`, the slice and what is left allow.
+    fn read(&mut self, buffer: &mut [u8]) -> Result<usize, InFault>
+        ensures within { IfOk result (λ n. n ≤ length buffer.new) }
+        ensures past { self.new.past ≡ after_read self.old.past result buffer.new }
+        ensures exact { HandsOut self.old self.new result buffer.new }
+    {
+        let left = &self.bytes[self.at..];
+        if left.is_empty() {
+            return self.read_nothing(buffer.is_empty());
+        }
+        let n = self.step.min(left.len().min(buffer.len()));
+        buffer[..n].copy_from_slice(&left[..n]);
+        self.at += n;
+        Ok(n)
+    }
+}
+
+/// An output that keeps what it takes, at most `step` bytes a write. Once it is full each write fails.
+#[derive(Drop)]
+pub struct ShortOut {
+    taken: Vec<u8>,
+    room: usize,
+    step: usize,
+    flush_fails: bool,
+    waiting: GhostBytes,
+    faults: Tally,
+    flushes: Tally,
+}
+
+impl Model for ShortOut {
+    ghost Value = { Intake };
+
+    ghost view = { λ s. record {
+      past = record {
+        written = s.taken.items;
+        waiting = s.waiting.bytes;
+        faults = s.faults;
+        flushes = s.flushes;
+      };
+      room = s.room;
+      step = s.step;
+      flush_fails = s.flush_fails;
+    } };
+
+    ghost invariant = { λ s. (vec_len s.taken + s.room ≤ vec_capacity s.taken) × (0 < s.step) };
+}
+
+impl ShortOut {
+    /// Takes `count` bytes, and then fails; its flushes succeed. The memory is taken here.
+    pub fn new(alloc: Global, step: usize, count: usize) -> Result<ShortOut, AllocError>
+        requires { 0 < step }
+        ensures { IfOk result (λ s. s ≡ fresh_intake step count false) }
+    {
+        ShortOut::made(alloc, step, count, false)
+    }
+
+    /// Takes `count` bytes, and then fails; each flush fails too.
+    pub fn failing_flush(alloc: Global, step: usize, count: usize) -> Result<ShortOut, AllocError>
+        requires { 0 < step }
+        ensures { IfOk result (λ s. s ≡ fresh_intake step count true) }
+    {
+        ShortOut::made(alloc, step, count, true)
+    }
+
+    fn made(
+        alloc: Global,
+        step: usize,
+        count: usize,
+        flush_fails: bool,
+    ) -> Result<ShortOut, AllocError>
+        requires { 0 < step }
+        ensures { IfOk result (λ s. s ≡ fresh_intake step count flush_fails) }
+    {
+        Ok(ShortOut {
+            taken: Vec::with_capacity(alloc, count)?,
+            room: count,
+            step,
+            flush_fails,
+            waiting: GhostBytes::new(),
+            faults: Tally::new(),
+            flushes: Tally::new(),
+        })
+    }
+
+    /// What was written.
+    pub fn as_slice(&self) -> &[u8]
+        ensures { result.now ≡ self.now.past.written }
+    {
+        self.taken.as_slice()
+    }
+}
+
+impl Output for ShortOut {
+    ghost past = { λ s. s.past };
+
+    /// Takes the first bytes, as many as `step`, the slice and the room allow.
+    fn write(&mut self, bytes: &[u8]) -> Result<usize, OutFault>
+        ensures within { IfOk result (λ n. n ≤ length bytes.now) }
+        ensures progress { IfOk result (λ n. 0 < length bytes.now → 0 < n) }
+        ensures past { self.new.past ≡ after_write self.old.past result bytes.now }
+        ensures exact { TakesIn self.old self.new result bytes.now }
+    {
+        if self.room == 0 {
+            self.faults.raise();
+            return Err(OutFault);
+        }
+        let n = self.step.min(bytes.len().min(self.room));
+        // The room was taken when the output was made.
+        let Ok(()) = self.taken.extend_from_slice(&bytes[..n]) else {
+            unreachable!()
+        };
+        self.waiting.note(&bytes[..n]);
+        self.room -= n;
+        Ok(n)
+    }
+
+    /// Fails where the output was made so.
+    fn flush(&mut self) -> Result<(), OutFault>
+        ensures past { self.new.past ≡ after_flush self.old.past result }
+        ensures exact { PassesOn self.old self.new result }
+    {
+        self.flushes.raise();
+        if self.flush_fails {
+            self.faults.raise();
+            return Err(OutFault);
+        }
+        self.waiting = GhostBytes::new();
+        Ok(())
+    }
+}

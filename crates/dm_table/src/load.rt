@@ -1,0 +1,9 @@
+//! The parts of a load: how each is read and checked, and the fault and the message of a refused one.
+
+pub mod load_fault;
+pub mod load_message;
+pub mod part_input;
+pub mod place;
+pub mod reading;
+pub mod row_faults;
+pub mod text_checks;

@@ -1,0 +1,51 @@
+//! The message of a refused load: one line.
+//!
+//! The words are fixed by `specs/LoadMessage.antt`, since users match on them. A new kind of refusal
+//! is an arm there and of `LoadKind::word`.
+
+ghost use Rattle.std.specs.Prelude.{◌≡◌, ◌≤◌, length};
+ghost use Rattle.dm_table.specs.load.LoadMessage.{load_message, memory_message};
+
+use crate::load::load_fault::{LoadFault, LoadKind};
+use crate::words::number_text::{put, put_number};
+use arrayvec::ArrayVec;
+
+/// The message of a refused load, which has at most 96 bytes with its newline.
+pub type LoadMessage = ArrayVec<u8, 96>;
+
+impl LoadFault {
+    /// The message of the refused load: the program's name, the part, the kind, and the number of
+    /// its place, except for a part that was not read. `Memory` names no part. Takes no
+    /// memory.
+    #[tactic(auto, using(crate::proofs::load::FaultLemmas::part_short))]
+    pub fn message(self) -> LoadMessage
+        ensures { result.items ≡ load_message self }
+    {
+        let mut text = ArrayVec::new();
+        if self.kind == LoadKind::Memory {
+            put(&mut text, memory_message());
+            return text;
+        }
+        put(&mut text, b"dmremap: ");
+        put(&mut text, self.at.part.word().as_bytes());
+        put(&mut text, b": ");
+        put(&mut text, self.kind.word().as_bytes());
+        match self.kind {
+            LoadKind::Read | LoadKind::Long => {}
+            _ => {
+                put(&mut text, b" at ");
+                put_number(&mut text, self.at.number);
+            }
+        }
+        put(&mut text, b"\n");
+        text
+    }
+}
+
+/// The message of a run that is out of memory: one line, with its newline.
+pub fn memory_message() -> &'static [u8]
+    ensures message { result.now ≡ memory_message }
+    ensures short { length result.now ≤ 16 }
+{
+    b"dmremap: memory\n"
+}

@@ -1,0 +1,57 @@
+//! A part of a load, read whole before any of it is looked at.
+//!
+//! A part is small by its limit, so it is kept in memory; one that is too long is refused at the
+//! first byte over the limit, however much more there is. Every part is read by this one function:
+//! a new one is a variant of `Part` and no change here.
+
+ghost use Rattle.std.specs.Prelude.{◌≡◌, ◌≢◌, IfOk, IfErr};
+ghost use Rattle.dm_table.specs.io.DeviceIo.{delivery};
+ghost use Rattle.dm_table.specs.load.LoadFault.{IsMemoryFault};
+ghost use Rattle.dm_table.specs.load.PartInput.{Refuses, TextOf, part_read};
+ghost use Rattle.dm_table.specs.io.Progress.{IsReadOn};
+ghost use Rattle.dm_table.specs.declared.load.load_fault.LoadKind.TheVariants.{Memory};
+
+use crate::io::device_io::{InFault, Input};
+use crate::load::load_fault::{LoadFault, LoadKind};
+use crate::load::place::Part;
+use std::alloc::Global;
+
+/// The most bytes of a part of a load.
+pub const MOST_PART_BYTES: usize = 1_048_576;
+
+/// How many bytes are asked for at once.
+const CHUNK: usize = 16384;
+
+/// Reads a part of a load to its end.
+///
+/// | Fault | When |
+/// |---|---|
+/// | `Read` | a read failed |
+/// | `Long` | the part has more than 1,048,576 bytes, which takes precedence over `Read` |
+/// | `Memory` | an allocation was refused |
+///
+/// The input isn't read again after an end or a fault. Cost: linear in the bytes read, which are
+/// at most 16,384 more than the limit.
+pub fn read_part<I: Input>(alloc: Global, part: Part, input: &mut I) -> Result<Vec<u8>, LoadFault>
+    ensures text { IfOk result
+        (λ text. part_read part (delivery (I.past input.old) (I.past input.new)) ≡ TextOf text.items) }
+    ensures refused { IfErr result (λ fault. fault.kind ≢ Memory
+        → part_read part (delivery (I.past input.old) (I.past input.new)) ≡ Refuses fault) }
+    ensures memory { IfErr result (λ fault. fault.kind ≡ Memory → IsMemoryFault part fault) }
+    ensures read_on { IsReadOn (I.past input.old) (I.past input.new) }
+{
+    let mut text = Vec::new(alloc);
+    let mut chunk = [0; CHUNK];
+    'chunks: while text.len() <= MOST_PART_BYTES {
+        match input.read(&mut chunk) {
+            Err(InFault) => return Err(LoadFault::at(part, LoadKind::Read, 0)),
+            Ok(0) => return Ok(text),
+            Ok(n) => {
+                if text.extend_from_slice(&chunk[..n]).is_err() {
+                    return Err(LoadFault::memory(part));
+                }
+            }
+        }
+    }
+    Err(LoadFault::at(part, LoadKind::Long, 0))
+}

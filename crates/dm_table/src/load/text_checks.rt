@@ -1,0 +1,58 @@
+//! The check that all texts share and that runs first: bytes that are no text.
+//!
+//! What it finds comes before what is wrong with a row, so a text is checked before its rows are
+//! read.
+
+ghost use Rattle.std.specs.Prelude.{◌≡◌, ◌≢◌, None, IfSome};
+ghost use Rattle.dm_table.specs.declared.load.load_fault.LoadKind.TheVariants.{Memory};
+ghost use Rattle.dm_table.specs.words.Fields.{texts, parts_at};
+ghost use Rattle.dm_table.specs.load.LoadFault.{Answers, unless, first_or, is_printable, not_text};
+
+use crate::load::load_fault::{LoadFault, LoadKind};
+use crate::load::place::Part;
+use crate::words::fields::cut;
+use std::alloc::Global;
+
+/// Refuses a text with a byte that is no text. The fault has the number of the piece with that byte; the
+/// text is cut at each byte `at`. One pass, and some more over a text that is refused.
+pub(crate) fn check_text(alloc: Global, part: Part, at: u8, text: &[u8]) -> Result<(), LoadFault>
+    ensures { Answers part (λ done. done) result
+        (unless (first_or (not_text part (parts_at at text.now)) None) tt) }
+{
+    // Most texts have no such byte, and the whole is asked faster than piece after piece.
+    if is_printable(text) {
+        return Ok(());
+    }
+    let Ok(pieces) = cut(alloc, at, text) else {
+        return Err(LoadFault::memory(part));
+    };
+    match first_unprinted(part, &pieces) {
+        Some(fault) => Err(fault),
+        None => Ok(()),
+    }
+}
+
+/// The first piece with a byte that is neither a newline nor one from 0x20 to 0x7E.
+fn first_unprinted(part: Part, pieces: &[&[u8]]) -> Option<LoadFault>
+    ensures value { result ≡ first_or (not_text part (texts pieces.now)) None }
+    ensures kind { IfSome result (λ fault. fault.kind ≢ Memory) }
+{
+    for (index, piece) in pieces.iter().enumerate() {
+        if !is_printable(*piece) {
+            return Some(LoadFault::at_index(part, LoadKind::NotText, index));
+        }
+    }
+    None
+}
+
+/// Whether each byte is a newline or one from 0x20 to 0x7E. It never stops early, so that many bytes
+/// are asked at once.
+fn is_printable(text: &[u8]) -> bool
+    ensures { result ≡ is_printable text.now }
+{
+    let mut printed = true;
+    for byte in text {
+        printed &= *byte == 10 || (32 <= *byte && *byte <= 126);
+    }
+    printed
+}

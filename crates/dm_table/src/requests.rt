@@ -1,0 +1,5 @@
+//! Requests: their type, and how a line of them is read.
+
+pub mod front_reader;
+pub mod request;
+pub mod request_line;

@@ -1,0 +1,245 @@
+//! Request lines: `R DEV START LEN` and `W DEV START LEN`.
+//!
+//! They come by the hundreds of millions, so a line is cut in place, with no memory taken. What a
+//! line says stands in `specs/RequestLine.antt`: change it there first.
+
+ghost use Rattle.std.specs.Prelude.{◌≡◌, ◌≢◌, ◌+◌, ◌<◌, ◌≤◌, ℕ, List, [], ◌∷◌, ◌++◌, length, take, drop, Some, Ok, Err, true, false, if◌then◌else◌, IfSome, IfNone, IsOkAnd, IfOk, IfErr};
+ghost use Rattle.dm_table.specs.declared.words.number.TheConstants.{WINDOW};
+ghost use Rattle.dm_table.specs.declared.requests.request.Op.{Op};
+ghost use Rattle.dm_table.specs.declared.requests.request.RequestFault.TheVariants.{Form, Number};
+ghost use Rattle.dm_table.specs.declared.requests.request_line.TheConstants.{NUMBERS_ROOM};
+ghost use Rattle.dm_table.specs.words.Name.{is_device_name};
+ghost use Rattle.dm_table.specs.words.Number.{number_of};
+ghost use Rattle.dm_table.specs.words.Fields.{fields};
+ghost use Rattle.dm_table.specs.requests.RequestLine.{RequestValues, DescribesRequest, IsFront, AreNumbers, values_of, op_text, has_form, are_two, request_reading};
+ghost use Rattle.dm_table.specs.words.Bytes.{newline, space};
+
+use crate::requests::request::{MOST_SECTORS, Op, Request, RequestFault};
+use crate::words::device_name::leading_name;
+use crate::words::name::ascii_str;
+use crate::words::number;
+use memchr::memchr;
+
+/// The most bytes that two numbers take, each with the byte after it. Where a text has as many left, it
+/// isn't asked for its end again.
+pub(crate) const NUMBERS_ROOM: usize = 2 * number::WINDOW;
+
+/// What follows the space after the first `len` bytes of a text.
+#[inline(always)]
+pub(crate) fn after_space<'a>(text: &'a [u8], len: usize) -> Option<&'a [u8]>
+    requires { len ≤ length text.now }
+    ensures cut { IfSome result (λ rest. text.now ≡ take len text.now ++ space ∷ rest.now) }
+    ensures other { IfNone result ((rest : List ℕ) → drop len text.now ≢ space ∷ rest) }
+{
+    match &text[len..] {
+        [b' ', rest @ ..] => Some(rest),
+        _ => None,
+    }
+}
+
+/// The operation that a letter names.
+///
+/// No jump depends on which of the two it is, since a processor foresees only half of those rightly.
+#[inline(always)]
+fn op_of(letter: u8) -> Option<Op>
+    ensures named { IfSome result (λ op. letter ≡ op_text op) }
+    ensures other { IfNone result ((op : Op) → letter ≢ op_text op) }
+{
+    if letter < b'R' || b'W' < letter {
+        return None;
+    }
+    // `W` is the fifth letter after `R`.
+    let past = letter - b'R';
+    if past % 5 != 0 {
+        return None;
+    }
+    Some(if past == 0 { Op::Read } else { Op::Write })
+}
+
+/// The operation that a line begins with, and what follows its space.
+#[inline(always)]
+pub(crate) fn first_op<'a>(line: &'a [u8]) -> Option<(Op, &'a [u8])>
+    ensures cut { IfSome result (λ cut. fields line.now ≡ (op_text cut.0 ∷ []) ∷ fields cut.1.now) }
+    ensures text { IfSome result (λ cut. line.now ≡ op_text cut.0 ∷ space ∷ cut.1.now) }
+    ensures other { IfNone result (has_form (fields line.now) ≡ false) }
+{
+    if line.len() < 2 {
+        return None;
+    }
+    let op = op_of(line[0])?;
+    let rest = after_space(line, 1)?;
+    Some((op, rest))
+}
+
+/// The device name in the first field of a text, and what follows its space.
+#[inline(always)]
+fn first_name<'a>(text: &'a [u8]) -> Option<(&'a str, &'a [u8])>
+    ensures cut { IfSome result (λ cut. fields text.now ≡ cut.0.now ∷ fields cut.1.now) }
+    ensures text { IfSome result (λ cut. text.now ≡ cut.0.now ++ space ∷ cut.1.now) }
+    ensures named { IfSome result (λ cut. is_device_name cut.0.now ≡ true) }
+    ensures other { IfNone result ((name next : List ℕ) (more : List (List ℕ))
+        → fields text.now ≡ name ∷ next ∷ more → is_device_name name ≢ true) }
+{
+    let len = leading_name(text)?;
+    let rest = after_space(text, len)?;
+    Some((ascii_str(&text[..len]), rest))
+}
+
+/// The number in the first field of a text, and what follows its space.
+#[inline(always)]
+fn first_number<'a>(text: &'a [u8]) -> Option<(u64, &'a [u8])>
+    ensures cut { IfSome result (λ cut. (field : List ℕ) × (fields text.now ≡ field ∷ fields cut.1.now)
+        × (number_of field ≡ Some cut.0)) }
+    ensures text { IfSome result (λ cut. (field : List ℕ) × (text.now ≡ field ++ space ∷ cut.1.now)
+        × (number_of field ≡ Some cut.0)) }
+    ensures other { IfNone result ((field next : List ℕ) (more : List (List ℕ)) (n : ℕ)
+        → fields text.now ≡ field ∷ next ∷ more → number_of field ≢ Some n) }
+{
+    let (number, len) = number::leading(text)?;
+    let rest = after_space(text, len)?;
+    Some((number, rest))
+}
+
+/// The operation and the device that a line begins with, and what follows the device's space.
+#[inline(always)]
+fn head<'a>(line: &'a [u8]) -> Option<(Op, &'a str, &'a [u8])>
+    ensures cut { IfSome result
+        (λ cut. fields line.now ≡ (op_text cut.0 ∷ []) ∷ cut.1.now ∷ fields cut.2.now) }
+    ensures text { IfSome result (λ cut. line.now ≡ op_text cut.0 ∷ space ∷ (cut.1.now ++ space ∷ cut.2.now)) }
+    ensures named { IfSome result (λ cut. is_device_name cut.1.now ≡ true) }
+    ensures other { IfNone result (has_form (fields line.now) ≡ false) }
+{
+    let (op, rest) = first_op(line)?;
+    let (device, rest) = first_name(rest)?;
+    Some((op, device, rest))
+}
+
+/// The two numbers that a text is.
+fn two_numbers(text: &[u8]) -> Option<(u64, u64)>
+    ensures cut { IfSome result (λ read. AreNumbers (fields text.now) read.0 read.1) }
+    ensures other { IfNone result ((m n : ℕ) → AreNumbers (fields text.now) m n → ⊥) }
+{
+    let (start, rest) = first_number(text)?;
+    let len = number::number(rest)?;
+    Some((start, len))
+}
+
+/// The fault of a line in which these bytes follow the device, and are not two numbers.
+fn number_fault(text: &[u8]) -> RequestFault
+    ensures { result ≡ (if are_two (fields text.now) then Number else Form) }
+{
+    let Some(end) = memchr(b' ', text) else {
+        return RequestFault::Form;
+    };
+    let len = &text[end + 1..];
+    if end == 0 || len.is_empty() {
+        return RequestFault::Form;
+    }
+    match memchr(b' ', len) {
+        Some(_) => RequestFault::Form,
+        None => RequestFault::Number,
+    }
+}
+
+/// The request that a line of a stream describes: line `number` of the stream, without its newline.
+///
+/// A line describes a request exactly where it is the request's text: `R` or `W`, the name of a device,
+/// a start below 10^19 and a length of 1 to [`MOST_SECTORS`] sectors of 512 bytes, both in digits
+/// without a leading zero, with one space between them. A line describes at most one request.
+///
+/// For a line that describes none, it returns the first of `Form`, `Number` and `Length` that applies.
+///
+/// Cost: no memory, and at most three passes over each field.
+pub fn parse_request<'a>(line: &'a [u8], number: u64) -> Result<Request<'a>, RequestFault>
+    // What is accepted is what the line says.
+    ensures accepted { IfOk result (λ request. DescribesRequest line.now (values_of request)) }
+    ensures numbered { IfOk result (λ request. request.number ≡ number) }
+    ensures read { IfOk result (λ request. request_reading line.now ≡ Ok (values_of request)) }
+    // What the line says is accepted, and it says one thing at most.
+    ensures only { (values : RequestValues) → DescribesRequest line.now values
+        → IsOkAnd result (λ request. values_of request ≡ values) }
+    ensures unique { (a b : RequestValues) → DescribesRequest line.now a → DescribesRequest line.now b
+        → a ≡ b }
+    // Else it is the first fault that applies.
+    ensures fault { IfErr result (λ fault. request_reading line.now ≡ Err fault) }
+    // The figure of the limit.
+    ensures limit { MOST_SECTORS ≡ 1048576 }
+{
+    let Some((op, device, rest)) = head(line) else {
+        return Err(RequestFault::Form);
+    };
+    let Some((start, len)) = two_numbers(rest) else {
+        return Err(number_fault(rest));
+    };
+    if len == 0 || len > MOST_SECTORS {
+        return Err(RequestFault::Length);
+    }
+    Ok(Request {
+        number,
+        op,
+        device,
+        start,
+        len,
+    })
+}
+
+/// The number that a longer text begins with, and what follows its space.
+#[inline(always)]
+fn front_number<'a>(text: &'a [u8]) -> Option<(u64, &'a [u8])>
+    requires { WINDOW ≤ length text.now }
+    ensures text { IfSome result (λ cut. (field : List ℕ) × (text.now ≡ field ++ space ∷ cut.1.now)
+        × (number_of field ≡ Some cut.0)) }
+    ensures short { IfSome result (λ cut. length text.now ≤ length cut.1.now + WINDOW) }
+{
+    let (number, len) = number::leading_within(text)?;
+    let rest = after_space(text, len)?;
+    Some((number, rest))
+}
+
+/// The length that a longer text begins with, and how many bytes stand before the newline after it.
+#[inline(always)]
+fn last_number(text: &[u8]) -> Option<(u64, usize)>
+    requires { WINDOW ≤ length text.now }
+    ensures within { IfSome result (λ read. read.1 < length text.now) }
+    ensures newline { IfSome result
+        (λ read. text.now ≡ take read.1 text.now ++ newline ∷ drop (read.1 + 1) text.now) }
+    ensures number { IfSome result (λ read. number_of (take read.1 text.now) ≡ Some read.0) }
+{
+    let (number, len) = number::leading_within(text)?;
+    if text[len] == b'\n' {
+        Some((number, len))
+    } else {
+        None
+    }
+}
+
+/// The request of an operation on a device that a text begins with, and the bytes of its line without
+/// the newline, where the numbers are still to be read.
+#[inline(always)]
+pub(crate) fn front_after_name<'a>(
+    text: &'a [u8],
+    rest: &'a [u8],
+    number: u64,
+    op: Op,
+    device: &'a str,
+) -> Option<(Request<'a>, usize)>
+    requires text { text.now ≡ op_text op ∷ space ∷ (device.now ++ space ∷ rest.now) }
+    requires named { is_device_name device.now ≡ true }
+    requires room { NUMBERS_ROOM ≤ length rest.now }
+    ensures front { IfSome result (λ front. IsFront text.now (values_of front.0) front.1) }
+    ensures numbered { IfSome result (λ front. front.0.number ≡ number) }
+{
+    let (start, last) = front_number(rest)?;
+    let (len, digits) = last_number(last)?;
+    if len < 1 || MOST_SECTORS < len {
+        return None;
+    }
+    let request = Request {
+        number,
+        op,
+        device,
+        start,
+        len,
+    };
+    Some((request, text.len() - last.len() + digits))
+}

@@ -1,0 +1,13 @@
+//! Tables and lists of disks: their types, the texts that are read, and the texts that are written.
+
+pub mod canonical_text;
+pub mod concise_device;
+pub mod concise_text;
+pub mod disk;
+pub mod disk_list;
+pub mod line_body;
+pub mod line_head;
+pub mod listed;
+pub mod table;
+pub mod table_row;
+pub mod table_text;

@@ -1,0 +1,213 @@
+//! A device of the concise form: its label, which is a name, a uuid, a minor number and flags, and
+//! the bodies of its lines, with commas between all of them.
+//!
+//! A device is cut and read once. Its label and each of its bodies may have a fault; the device's is
+//! the one whose check runs first. Bodies are read by `line_body`, which knows nothing of labels.
+
+ghost use Rattle.std.specs.Prelude.{◌≡◌, ◌++◌, None, OnOk, IfOk};
+ghost use Rattle.std.specs.Option.{option_to_list};
+ghost use Rattle.dm_table.specs.words.Fields.{texts};
+ghost use Rattle.dm_table.specs.load.RowFaults.{Reads};
+ghost use Rattle.dm_table.specs.tables.ConciseText.{lacks, is_uuid, is_minor, is_ro, is_flags, without_first_space, body_fields, is_label, has_label_values, has_label_names};
+ghost use Rattle.dm_table.specs.tables.LineReading.{line_in};
+ghost use Rattle.dm_table.specs.tables.ConciseReading.{earlier_of, fault_of_body, fault_of_label, bodies_reading, entries_reading, device_reading};
+
+use crate::load::place::{Part, Place};
+use crate::load::row_faults::RowFault;
+use crate::tables::line_body::{is_body_row, read_body};
+use crate::tables::table::{DeviceSpec, Line, Table};
+use crate::words::device_name::{Name, are_device_bytes, is_device_name};
+use crate::words::fields::{cut_into, cut_row};
+use crate::words::number::number;
+use std::alloc::{AllocError, Global};
+
+/// The device that a text says, as device `number`. The lists are for its entries and for the fields
+/// of a body, so that they serve many devices.
+pub(crate) fn read_device<'a>(
+    alloc: Global,
+    entries: &mut Vec<&'a [u8]>,
+    fields: &mut Vec<&'a [u8]>,
+    text: &'a [u8],
+    number: u64,
+) -> Result<DeviceSpec, RowFault>
+    ensures { Reads (λ device. device) result (device_reading number text.now) }
+{
+    cut_into(&mut *entries, b',', text)?;
+    read_entries(alloc, fields, lacks(b'\n', text), &*entries, number)
+}
+
+/// The device of entries, which stand on one line or do not.
+fn read_entries<'a>(
+    alloc: Global,
+    fields: &mut Vec<&'a [u8]>,
+    on_a_line: bool,
+    entries: &[&'a [u8]],
+    number: u64,
+) -> Result<DeviceSpec, RowFault>
+    ensures { Reads (λ device. device) result (entries_reading number on_a_line (texts entries.now)) }
+{
+    let fault = label_fault(on_a_line, entries);
+    let [name, _, _, flags, bodies @ ..] = entries else {
+        return Err(RowFault::Syntax);
+    };
+    let at = Place {
+        part: Part::Source,
+        number,
+    };
+    let lines = read_bodies(alloc, fields, fault, bodies, at)?;
+    Ok(DeviceSpec {
+        name: Name::of_bytes(alloc, *name)?,
+        ro: is_ro(*flags),
+        lines: Table::from_vec(lines),
+        at,
+    })
+}
+
+/// What is wrong with the label of entries, which stand on one line or do not.
+fn label_fault(on_a_line: bool, entries: &[&[u8]]) -> Option<RowFault>
+    ensures { result ≡ fault_of_label on_a_line (texts entries.now) }
+{
+    if !on_a_line || !is_label(entries) {
+        Some(RowFault::Syntax)
+    } else if !has_label_values(entries) {
+        Some(RowFault::Field)
+    } else if !has_label_names(entries) {
+        Some(RowFault::Name)
+    } else {
+        None
+    }
+}
+
+/// Whether the first four entries have no space, and others follow.
+fn is_label(entries: &[&[u8]]) -> bool
+    ensures { result ≡ is_label (texts entries.now) }
+{
+    match entries {
+        [name, uuid, minor, flags, _, ..] => {
+            lacks(b' ', *name) && lacks(b' ', *uuid) && lacks(b' ', *minor) && lacks(b' ', *flags)
+        }
+        _ => false,
+    }
+}
+
+/// Whether the minor number and the flags are valid.
+fn has_label_values(entries: &[&[u8]]) -> bool
+    ensures { result ≡ has_label_values (texts entries.now) }
+{
+    match entries {
+        [_, _, minor, flags, ..] => is_minor(*minor) && is_flags(*flags),
+        _ => false,
+    }
+}
+
+/// Whether the name and the uuid are valid.
+fn has_label_names(entries: &[&[u8]]) -> bool
+    ensures { result ≡ has_label_names (texts entries.now) }
+{
+    match entries {
+        [name, uuid, ..] => is_device_name(*name) && is_uuid(*uuid),
+        _ => false,
+    }
+}
+
+/// Whether no byte of the text is this one.
+fn lacks(of: u8, text: &[u8]) -> bool
+    ensures { result ≡ lacks of text.now }
+{
+    text.iter().all(|byte| *byte != of)
+}
+
+fn is_uuid(text: &[u8]) -> bool
+    ensures { result ≡ is_uuid text.now }
+{
+    text.len() <= 128 && are_device_bytes(text)
+}
+
+fn is_minor(text: &[u8]) -> bool
+    ensures { result ≡ is_minor text.now }
+{
+    text.is_empty() || number(text).is_some()
+}
+
+fn is_flags(text: &[u8]) -> bool
+    ensures { result ≡ is_flags text.now }
+{
+    text.is_empty() || is_ro(text) || text == b"rw".as_slice()
+}
+
+fn is_ro(text: &[u8]) -> bool
+    ensures { result ≡ is_ro text.now }
+{
+    text == b"ro".as_slice()
+}
+
+/// The lines of bodies, at the place of their device, whose label may have a fault.
+fn read_bodies<'a>(
+    alloc: Global,
+    fields: &mut Vec<&'a [u8]>,
+    label: Option<RowFault>,
+    bodies: &[&'a [u8]],
+    at: Place,
+) -> Result<Vec<Line>, RowFault>
+    ensures { Reads (λ v. v.items) result (bodies_reading at label (texts bodies.now)) }
+{
+    let mut lines = Vec::new(alloc);
+    let mut fault = label;
+    for body in bodies {
+        let found = add_line(alloc, &mut lines, &mut *fields, *body, at)?;
+        fault = earlier_of(fault, found);
+    }
+    match fault {
+        Some(fault) => Err(fault),
+        None => Ok(lines),
+    }
+}
+
+/// Adds the line of a body to the lines, or says what is wrong with the body.
+fn add_line<'a>(
+    alloc: Global,
+    lines: &mut Vec<Line>,
+    fields: &mut Vec<&'a [u8]>,
+    body: &'a [u8],
+    at: Place,
+) -> Result<Option<RowFault>, AllocError>
+    ensures fault { IfOk result (λ fault. fault ≡ fault_of_body body.now) }
+    ensures line { OnOk result (fault_of_body body.now ≡ None
+        → lines.new.items ≡ lines.old.items ++ option_to_list (line_in at (body_fields body.now))) }
+{
+    cut_row(&mut *fields, body)?;
+    let row = without_first_space(&*fields);
+    if !is_body_row(row) {
+        return Ok(Some(RowFault::Syntax));
+    }
+    match read_body(alloc, row, at) {
+        Ok(line) => {
+            lines.push(line)?;
+            Ok(None)
+        }
+        Err(RowFault::Memory) => Err(AllocError),
+        Err(fault) => Ok(Some(fault)),
+    }
+}
+
+/// The fields without an empty first one.
+fn without_first_space<'s, 'a>(fields: &'s [&'a [u8]]) -> &'s [&'a [u8]]
+    ensures { texts result.now ≡ without_first_space (texts fields.now) }
+{
+    match fields {
+        [first, rest @ ..] => { if first.is_empty() { rest } else { fields } }
+        [] => fields,
+    }
+}
+
+/// Of two faults the one whose check runs first.
+fn earlier_of(first: Option<RowFault>, other: Option<RowFault>) -> Option<RowFault>
+    ensures { result ≡ earlier_of first other }
+{
+    match (first, other) {
+        (None, _) => other,
+        (Some(RowFault::Field), Some(RowFault::Syntax)) => Some(RowFault::Syntax),
+        (Some(RowFault::Name), Some(_)) => other,
+        (Some(_), _) => first,
+    }
+}

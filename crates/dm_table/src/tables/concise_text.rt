@@ -1,0 +1,127 @@
+//! The concise form of tables: devices with semicolons between them, each with its flags and its
+//! lines, as dmsetup(8) has it.
+//!
+//! The devices are read one after the other, each once, and what is wrong with them is kept until the
+//! end, where the checks take precedence in the order of the definitions. What a device says is read
+//! by `concise_device`; a new target type belongs in `line_body`.
+
+ghost use Rattle.std.specs.Prelude.{◌≡◌, ◌++◌, None, Ok, IfOk, OnOk};
+ghost use Rattle.std.specs.Option.{option_to_list};
+ghost use Rattle.dm_table.specs.declared.load.place.Part.TheVariants.{Source};
+ghost use Rattle.dm_table.specs.words.Fields.{texts};
+ghost use Rattle.dm_table.specs.load.LoadFault.{Answers, unless};
+ghost use Rattle.dm_table.specs.load.RowFaults.{Reads, first_noted, no_faults, noted_rows};
+ghost use Rattle.dm_table.specs.load.Parsed.{IsParsed};
+ghost use Rattle.dm_table.specs.tables.ConciseText.{DescribesConcise, without_newline, parts_of, entries as entries_of, concise_checks};
+ghost use Rattle.dm_table.specs.tables.ConciseReading.{fault_of_device, device_in, devices_from, parts_reading};
+
+use crate::load::load_fault::LoadFault;
+use crate::load::place::Part;
+use crate::load::reading::Reading;
+use crate::load::row_faults::RowFault;
+use crate::load::text_checks::check_text;
+use crate::tables::concise_device::read_device;
+use crate::tables::table::DeviceSpec;
+use crate::words::fields::cut;
+use std::alloc::{AllocError, Global};
+
+/// The devices of a text in the concise form, in its order: `NAME,UUID,MINOR,FLAGS` and the lines of
+/// the device, with commas between all of them, and semicolons between devices. The uuid, the minor
+/// number and the flags may be empty; the first two are checked and then dropped, and a device is
+/// read-only where its flags are `ro`. A line is `START LEN TYPE ARGS`, as in table text, and may
+/// have a space before it and one after it. A newline may end the text. The place of a device, and
+/// of its lines, is its number, from 1. The form is that of dmsetup(8), without its escapes.
+///
+/// Otherwise the fault of the first of these checks that finds anything, at its first device, counted by
+/// the semicolons before it: `NotText`, a byte other than 0x20 to 0x7E and a newline; `Syntax`, fewer
+/// than five entries, a space in the first four, a newline before the end, or a line with fewer than
+/// three fields or more than single spaces between them; `Field`, a number that isn't one, flags other
+/// than `ro` and `rw`, an unknown target type or wrong arguments; `Name`, no name of a device or a
+/// disk, or no uuid, which has up to 128 of the bytes of a device's name. Or `Memory`, with number
+/// 0, if an allocation was refused. The time is linear in the text.
+pub fn parse_concise(alloc: Global, text: &[u8]) -> Result<Vec<DeviceSpec>, LoadFault>
+    // A text is accepted as the devices that it describes, and a refusal is the first fault of the
+    // first check that finds any.
+    ensures { IsParsed Source (DescribesConcise text.now) (concise_checks text.now) result }
+{
+    let text = without_newline(text);
+    if let Err(fault) = check_text(alloc, Part::Source, b';', text) {
+        return Err(fault);
+    }
+    match parts_of(alloc, text) {
+        Ok(parts) => read_parts(alloc, &parts),
+        Err(_) => Err(LoadFault::memory(Part::Source)),
+    }
+}
+
+/// The text without the newline at its end.
+fn without_newline(text: &[u8]) -> &[u8]
+    ensures { result.now ≡ without_newline text.now }
+{
+    match text {
+        [before @ .., last] => { if *last == b'\n' { before } else { text } }
+        [] => text,
+    }
+}
+
+/// The parts of a text between semicolons. An empty text has none.
+fn parts_of(alloc: Global, text: &[u8]) -> Result<Vec<&[u8]>, AllocError>
+    ensures { IfOk result (λ parts. texts parts.items ≡ parts_of text.now) }
+{
+    if text.is_empty() {
+        return Ok(Vec::new(alloc));
+    }
+    cut(alloc, b';', text)
+}
+
+/// The devices of parts whose bytes are text.
+fn read_parts(alloc: Global, parts: &[&[u8]]) -> Result<Vec<DeviceSpec>, LoadFault>
+    ensures { Answers Source (λ v. v.items) result (parts_reading (texts parts.now)) }
+{
+    match read_devices(alloc, parts) {
+        Ok(reading) => reading.finish(),
+        Err(_) => Err(LoadFault::memory(Part::Source)),
+    }
+}
+
+/// Reads each device, with two lists of slices for all of them.
+fn read_devices(alloc: Global, parts: &[&[u8]]) -> Result<Reading<DeviceSpec>, AllocError>
+    ensures devices { IfOk result (λ reading. first_noted reading.faults ≡ None → reading.values.items
+        ≡ devices_from 1 (texts parts.now)) }
+    ensures faults { IfOk result (λ reading. reading.faults
+        ≡ noted_rows Source fault_of_device no_faults 1 (texts parts.now)) }
+{
+    let mut reading = Reading::new(alloc);
+    let mut entries = Vec::new(alloc);
+    let mut fields = Vec::new(alloc);
+    for (index, part) in parts.iter().enumerate() {
+        let number = index as u64 + 1;
+        let read = read_part(
+            alloc,
+            &mut reading.values,
+            &mut entries,
+            &mut fields,
+            *part,
+            number,
+        );
+        reading.faults.note(Part::Source, number, read)?;
+    }
+    Ok(reading)
+}
+
+/// Reads the part that is device `number` of the text.
+fn read_part<'a>(
+    alloc: Global,
+    devices: &mut Vec<DeviceSpec>,
+    entries: &mut Vec<&'a [u8]>,
+    fields: &mut Vec<&'a [u8]>,
+    part: &'a [u8],
+    number: u64,
+) -> Result<(), RowFault>
+    ensures devices { OnOk result (devices.new.items
+        ≡ devices.old.items ++ option_to_list (device_in number (entries_of part.now))) }
+    ensures fault { Reads (λ done. done) result (unless (fault_of_device part.now) tt) }
+{
+    devices.push(read_device(alloc, entries, fields, part, number)?)?;
+    Ok(())
+}

@@ -1,0 +1,98 @@
+//! Disk lists: a line `NAME SECTORS` for each disk.
+//!
+//! The lines are read one after the other, each once, and what is wrong with them is kept until the
+//! end, as in table text. A new column is a field of `Disk` and, in `specs/DiskList.antt`, its text in
+//! `disk_line`, its place in `is_pair`, its value in `disk_in` and, if it is a name, its test in
+//! `has_name` and `disk_reading`.
+
+ghost use Rattle.std.specs.Prelude.{◌++◌, []};
+ghost use Rattle.std.specs.List.{cons_option};
+ghost use Rattle.dm_table.specs.declared.load.place.Part.TheVariants.{Disks};
+ghost use Rattle.dm_table.specs.words.Fields.{fields, texts};
+ghost use Rattle.dm_table.specs.load.RowFaults.{Reads};
+ghost use Rattle.dm_table.specs.load.Parsed.{IsParsed};
+ghost use Rattle.dm_table.specs.tables.DiskList.{DescribesDisks, disk_checks, disk_in, disk_reading, has_name, has_sectors, is_pair};
+
+use crate::load::load_fault::LoadFault;
+use crate::load::place::{Part, Place};
+use crate::load::reading::{FromRows, read_lines};
+use crate::load::row_faults::RowFault;
+use crate::tables::disk::Disk;
+use crate::words::disk_name::{DiskName, is_disk_name};
+use crate::words::fields::cut_into;
+use crate::words::number;
+use std::alloc::{AllocError, Global};
+
+/// The disks of a disk list, in its order.
+///
+/// The form is this project's own: a line `NAME SECTORS` for each disk, with one space between and
+/// a newline at the end. A length counts sectors of 512 bytes and is below 10^19. The place of a
+/// disk is its line, from 1.
+///
+/// Each check runs over the whole text, and the first that finds anything gives the fault, at its
+/// first line: `NotText` for a byte that is neither a newline nor from 0x20 to 0x7E, `Syntax` for a line
+/// that is not two fields or that no newline ends, `Field` for a length that is not a number, `Name` for
+/// a name that no disk can have. `Memory`, of number 0, comes wherever an allocation was refused.
+///
+/// The time is linear in the text.
+pub fn parse_disks(alloc: Global, text: &[u8]) -> Result<Vec<Disk>, LoadFault>
+    // A text is accepted as the disks that it describes, and a refusal is the first fault of the first check
+    // that finds any.
+    ensures { IsParsed Disks (DescribesDisks text.now) (disk_checks text.now) result }
+{
+    read_lines(alloc, Part::Disks, text)
+}
+
+impl FromRows for Disk {
+    ghost row_of = { fields };
+
+    ghost is_row = { is_pair };
+
+    ghost has_values = { has_sectors };
+
+    ghost has_names = { has_name };
+
+    ghost with_row = { λ disks n row. disks ++ cons_option (disk_in n row) [] };
+
+    fn cut_line<'a>(row: &mut Vec<&'a [u8]>, line: &'a [u8]) -> Result<(), AllocError> {
+        cut_into(row, b' ', line)
+    }
+
+    fn read_row(
+        alloc: Global,
+        disks: &mut Vec<Disk>,
+        row: &[&[u8]],
+        number: u64,
+    ) -> Result<(), RowFault> {
+        disks.push(read_disk(alloc, row, number)?)?;
+        Ok(())
+    }
+}
+
+/// The disk that a row says, which is line `number` of a text. Of its faults, `Syntax` takes
+/// precedence over `Field`, and that over `Name`.
+fn read_disk(alloc: Global, row: &[&[u8]], number: u64) -> Result<Disk, RowFault>
+    ensures { Reads (λ disk. disk) result (disk_reading number (texts row.now)) }
+{
+    let [name, sectors] = row else {
+        return Err(RowFault::Syntax);
+    };
+    if name.is_empty() || sectors.is_empty() {
+        return Err(RowFault::Syntax);
+    }
+    let Some(len) = number::number(*sectors) else {
+        return Err(RowFault::Field);
+    };
+    if !is_disk_name(*name) {
+        return Err(RowFault::Name);
+    }
+    let at = Place {
+        part: Part::Disks,
+        number,
+    };
+    Ok(Disk {
+        name: DiskName::of_bytes(alloc, *name)?,
+        len,
+        at,
+    })
+}

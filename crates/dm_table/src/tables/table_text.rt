@@ -1,0 +1,103 @@
+//! Table text: a line `NAME: START LEN TYPE ARGS` for each line of a table, as dmsetup(8) has it.
+//!
+//! The lines are read one after the other, each once, into the devices so far, and what is wrong with
+//! them is kept until the end, where the checks take precedence in the order of the definitions. A
+//! new target type belongs in `line_body`.
+
+ghost use Rattle.std.specs.Prelude.{◌≡◌, IfOk, OnOk, IsTrue};
+ghost use Rattle.dm_table.specs.declared.load.place.Part.TheVariants.{Source};
+ghost use Rattle.dm_table.specs.words.Name.{is_device_name};
+ghost use Rattle.dm_table.specs.load.Parsed.{IsParsed};
+ghost use Rattle.dm_table.specs.tables.TableText.{DescribesTable, is_row, has_values, has_names, table_checks};
+ghost use Rattle.dm_table.specs.words.Fields.{row_fields};
+ghost use Rattle.dm_table.specs.tables.TableReading.{named_in, named_of, alone, add_line, add_said};
+
+use crate::load::load_fault::LoadFault;
+use crate::load::place::Part;
+use crate::load::reading::{FromRows, read_lines};
+use crate::load::row_faults::RowFault;
+use crate::tables::table::{DeviceSpec, Table};
+use crate::tables::table_row::{Row, read_named};
+use crate::words::device_name::Name;
+use crate::words::fields::cut_row;
+use std::alloc::{AllocError, Global};
+
+/// The devices of table text, in its order. Neighbouring lines of one name are one device, whose
+/// place is its first line; a line may end with one space; all devices are writable. Starts,
+/// lengths, chunks and offsets are sectors of 512 bytes, below 10^19. The form is that of
+/// dmsetup(8). A striped line counts its columns, and there may be none.
+///
+/// Otherwise the fault of the first of these checks that finds anything, at its first line: `NotText`,
+/// a byte that is neither a newline nor from 0x20 to 0x7E; `Syntax`, fewer than four fields with single
+/// spaces between them, a first field without a name and a colon, or no newline at the end; `Field`, a
+/// number that isn't one, an unknown target type or wrong arguments; `Name`, no name of a device or a
+/// disk. Or `Memory`, with number 0, if an allocation was refused. The time is linear in the text.
+pub fn parse_table(alloc: Global, text: &[u8]) -> Result<Vec<DeviceSpec>, LoadFault>
+    // A text is accepted as the devices that it describes, and a refusal is the first fault of the
+    // first check that finds any.
+    ensures { IsParsed Source (DescribesTable text.now) (table_checks text.now) result }
+{
+    read_lines(alloc, Part::Source, text)
+}
+
+impl FromRows for DeviceSpec {
+    ghost row_of = { row_fields };
+
+    ghost is_row = { is_row };
+
+    ghost has_values = { has_values };
+
+    ghost has_names = { has_names };
+
+    ghost with_row = { λ devices n row. add_said devices (named_in n row) };
+
+    fn cut_line<'a>(row: &mut Vec<&'a [u8]>, line: &'a [u8]) -> Result<(), AllocError> {
+        cut_row(row, line)
+    }
+
+    fn read_row(
+        alloc: Global,
+        devices: &mut Vec<DeviceSpec>,
+        row: &[&[u8]],
+        number: u64,
+    ) -> Result<(), RowFault> {
+        match read_named(alloc, row, number) {
+            Ok(named) => {
+                add_line(alloc, devices, named)?;
+                Ok(())
+            }
+            Err(fault) => Err(fault),
+        }
+    }
+}
+
+/// Adds a line to the last device, where that has its name, or else as the first line of a new one.
+fn add_line(alloc: Global, devices: &mut Vec<DeviceSpec>, row: Row<'_>) -> Result<(), AllocError>
+    requires { IsTrue (is_device_name row.name.now) }
+    ensures { OnOk result (devices.new.items ≡ add_line devices.old.items (named_of row.entry)) }
+{
+    if let Some(last) = devices.last_mut() {
+        if row.name == last.name.as_str().as_bytes() {
+            return last.lines.push(row.line);
+        }
+    }
+    devices.push(device_of(alloc, row)?)?;
+    Ok(())
+}
+
+/// A device of one line.
+fn device_of(alloc: Global, row: Row<'_>) -> Result<DeviceSpec, AllocError>
+    requires { IsTrue (is_device_name row.name.now) }
+    ensures { IfOk result (λ device. device ≡ alone (named_of row.entry)) }
+{
+    let Row { name, line } = row;
+    let at = line.at;
+    let mut lines = Vec::new(alloc);
+    lines.push(line)?;
+    Ok(DeviceSpec {
+        name: Name::of_bytes(alloc, name)?,
+        ro: false,
+        lines: Table::from_vec(lines),
+        at,
+    })
+}

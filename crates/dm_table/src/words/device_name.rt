@@ -1,0 +1,78 @@
+//! Names of devices.
+//!
+//! Their rule is this project's profile of what dmsetup(8) takes; change it in `specs/Name.antt` first.
+
+ghost use Rattle.std.specs.Prelude.{◌≡◌, IfNone, IfSome, IsTrue, false, take};
+ghost use Rattle.std.specs.List.{list_all, prefix_len};
+ghost use Rattle.dm_table.specs.words.Name.{is_device_byte, is_device_name};
+ghost use Rattle.dm_table.specs.laws.NameLaws.{ascii-device_name};
+
+use crate::words::name::{CheckedName, NameRule};
+
+/// The name of a device: 1 to 127 ASCII letters, digits and `#+-.:=@_`.
+pub type Name = CheckedName<DeviceNameRule>;
+
+/// The rule of the names of devices.
+#[derive(Debug)]
+pub struct DeviceNameRule;
+
+impl NameRule for DeviceNameRule {
+    ghost is_name = { is_device_name };
+
+    fn is_name(bytes: &[u8]) -> bool {
+        is_device_name(bytes)
+    }
+
+    ghost ascii = { ascii-device_name };
+}
+
+/// Whether the bytes are the name of a device.
+pub(crate) fn is_device_name(bytes: &[u8]) -> bool
+    ensures { result ≡ is_device_name bytes.now }
+{
+    match leading_name(bytes) {
+        Some(len) => len == bytes.len(),
+        None => false,
+    }
+}
+
+/// How many bytes stand before a text's first byte that no device name has, where these are the
+/// name of a device. One pass over them.
+pub(crate) fn leading_name(text: &[u8]) -> Option<usize>
+    ensures len { IfSome result (λ len. len ≡ prefix_len is_device_byte text.now) }
+    ensures name { IfSome result (λ len. IsTrue (is_device_name (take len text.now))) }
+    ensures other { IfNone result
+        (is_device_name (take (prefix_len is_device_byte text.now) text.now) ≡ false) }
+{
+    let len = leading_bytes(text);
+    if 1 <= len && len <= 127 {
+        Some(len)
+    } else {
+        None
+    }
+}
+
+/// Whether a device's name may have each of the bytes.
+pub(crate) fn are_device_bytes(bytes: &[u8]) -> bool
+    ensures { result ≡ list_all is_device_byte bytes.now }
+{
+    bytes.iter().all(|byte| is_device_byte(*byte))
+}
+
+/// How many bytes stand before a text's first byte that no device name has.
+fn leading_bytes(text: &[u8]) -> usize
+    ensures { result ≡ prefix_len is_device_byte text.now }
+{
+    let mut len = 0;
+    while len < text.len() && is_device_byte(text[len]) {
+        len += 1;
+    }
+    len
+}
+
+fn is_device_byte(byte: u8) -> bool
+    ensures { result ≡ is_device_byte byte }
+{
+    byte.is_ascii_alphanumeric()
+        || matches!(byte, b'#' | b'+' | b'-' | b'.' | b':' | b'=' | b'@' | b'_')
+}

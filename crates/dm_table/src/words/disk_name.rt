@@ -1,0 +1,57 @@
+//! Names of disks.
+//!
+//! Their rule is this project's own, so that no disk is taken for a device; change it in
+//! `specs/Name.antt` first.
+
+ghost use Rattle.std.specs.Prelude.{◌≡◌};
+ghost use Rattle.std.specs.List.{list_all};
+ghost use Rattle.dm_table.specs.words.Name.{is_disk_byte, is_disk_name, names_device};
+ghost use Rattle.dm_table.specs.laws.NameLaws.{ascii-disk_name};
+
+use crate::words::name::{CheckedName, NameRule};
+
+/// The name of a disk: 1 to 255 bytes from 0x21 to 0x7E without `,`, `;` and `\`, not beginning
+/// with `/dev/mapper/`.
+pub type DiskName = CheckedName<DiskNameRule>;
+
+/// The rule of the names of disks.
+#[derive(Debug)]
+pub struct DiskNameRule;
+
+impl NameRule for DiskNameRule {
+    ghost is_name = { is_disk_name };
+
+    fn is_name(bytes: &[u8]) -> bool {
+        is_disk_name(bytes)
+    }
+
+    ghost ascii = { ascii-disk_name };
+}
+
+/// Whether the bytes are the name of a disk.
+pub(crate) fn is_disk_name(bytes: &[u8]) -> bool
+    ensures { result ≡ is_disk_name bytes.now }
+{
+    let allowed = are_disk_bytes(bytes);
+    let device = names_device(bytes);
+    1 <= bytes.len() && bytes.len() <= 255 && allowed && !device
+}
+
+fn are_disk_bytes(bytes: &[u8]) -> bool
+    ensures { result ≡ list_all is_disk_byte bytes.now }
+{
+    bytes.iter().all(|byte| is_disk_byte(*byte))
+}
+
+fn is_disk_byte(byte: u8) -> bool
+    ensures { result ≡ is_disk_byte byte }
+{
+    33 <= byte && byte <= 126 && !(byte == b',' || byte == b';' || byte == b'\\')
+}
+
+/// Whether the bytes begin as the text of a device of the stack does.
+pub(crate) fn names_device(bytes: &[u8]) -> bool
+    ensures { result ≡ names_device bytes.now }
+{
+    bytes.starts_with(b"/dev/mapper/")
+}

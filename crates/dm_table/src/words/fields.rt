@@ -1,0 +1,60 @@
+//! Texts cut at a byte: fields at spaces, devices of the concise form at semicolons.
+//!
+//! A text is cut once, and all checks look at its parts; the parts borrow the text. A form that
+//! cuts at another byte calls `cut` too.
+
+ghost use Rattle.std.specs.Prelude.{◌≡◌, IfOk, OnOk};
+ghost use Rattle.dm_table.specs.words.Fields.{ends_empty, parts_at, row_fields, texts};
+
+use memchr::memchr;
+use std::alloc::{AllocError, Global};
+
+/// The parts of a text between the bytes that are `at`. One pass over the text.
+pub(crate) fn cut<'a>(alloc: Global, at: u8, text: &'a [u8]) -> Result<Vec<&'a [u8]>, AllocError>
+    ensures { IfOk result (λ v. texts v.items ≡ parts_at at text.now) }
+{
+    let mut parts = Vec::new(alloc);
+    cut_into(&mut parts, at, text)?;
+    Ok(parts)
+}
+
+/// Puts the parts of a text in place of those of another, so that one list serves many texts.
+pub(crate) fn cut_into<'a>(
+    parts: &mut Vec<&'a [u8]>,
+    at: u8,
+    text: &'a [u8],
+) -> Result<(), AllocError>
+    ensures { OnOk result (texts parts.new.items ≡ parts_at at text.now) }
+{
+    parts.clear();
+    let mut rest = text;
+    while let Some(end) = memchr(at, rest) {
+        let (part, after) = rest.split_at(end);
+        parts.push(part)?;
+        rest = &after[1..];
+    }
+    parts.push(rest)?;
+    Ok(())
+}
+
+/// Puts the fields of a line in place of those of another, without the empty one that a space at
+/// its end leaves. One pass.
+pub(crate) fn cut_row<'a>(fields: &mut Vec<&'a [u8]>, line: &'a [u8]) -> Result<(), AllocError>
+    ensures { OnOk result (texts fields.new.items ≡ row_fields line.now) }
+{
+    cut_into(&mut *fields, b' ', line)?;
+    if ends_empty(&*fields) {
+        let _ = fields.pop();
+    }
+    Ok(())
+}
+
+/// Whether the last field is empty.
+fn ends_empty(fields: &[&[u8]]) -> bool
+    ensures { result ≡ ends_empty (texts fields.now) }
+{
+    match fields {
+        [.., last] => last.is_empty(),
+        [] => false,
+    }
+}

@@ -1,0 +1,71 @@
+//! Numbers as texts: `0`, or a digit 1 to 9 and at most 18 digits after it.
+//!
+//! Texts and requests share this one form, so that what is read is written back byte by byte.
+//! To take more digits, change `specs/Number.antt` and see that the value still fits a `u64`.
+
+ghost use Rattle.std.specs.Prelude.{◌≡◌, ◌<◌, ◌≤◌, is_some, length, Some, None, IfSome, IfNone, IsTrue, take};
+ghost use Rattle.std.specs.List.{prefix_len};
+ghost use Rattle.std.specs.Char.{is_ascii_digit};
+ghost use Rattle.dm_table.specs.declared.words.number.TheConstants.{WINDOW};
+ghost use Rattle.dm_table.specs.words.Number.{number_of, number_in};
+
+use crate::io::block::as_room;
+
+/// The most digits of a number, and one byte more.
+pub(crate) const WINDOW: usize = 20;
+
+/// The number that a text spells, or `None` where it spells none. One pass.
+pub(crate) fn number(text: &[u8]) -> Option<u64>
+    ensures { result ≡ number_of text.now }
+{
+    let (number, len) = leading(text)?;
+    if len == text.len() {
+        Some(number)
+    } else {
+        None
+    }
+}
+
+/// The number that the digits before a text's first other byte spell, and how many these digits
+/// are. `None` where they spell none. It is below 10^19 and so below 2^64.
+#[inline(always)]
+pub(crate) fn leading(text: &[u8]) -> Option<(u64, usize)>
+    ensures len { IfSome result (λ read. read.1 ≡ prefix_len is_ascii_digit text.now) }
+    ensures short { IfSome result (λ read. read.1 < WINDOW) }
+    ensures number { IfSome result (λ read. number_of (take read.1 text.now) ≡ Some read.0) }
+    ensures other { IfNone result (number_of (take (prefix_len is_ascii_digit text.now) text.now) ≡ None) }
+{
+    let mut value = 0u64;
+    let mut len = 0;
+    while len < text.len() && text[len].is_ascii_digit() {
+        if len == 19 {
+            return None;
+        }
+        value = value * 10 + u64::from(text[len] - b'0');
+        len += 1;
+    }
+    if len == 0 || (text[0] == b'0' && len != 1) {
+        return None;
+    }
+    Some((value, len))
+}
+
+/// The same for the front of a longer text: its first bytes are as many that no digit has to ask for
+/// the text's end, nor the byte after the digits. `None` says nothing of a text.
+#[inline(always)]
+pub(crate) fn leading_within(text: &[u8]) -> Option<(u64, usize)>
+    requires { WINDOW ≤ length text.now }
+    ensures within { IfSome result (λ read. read.1 < WINDOW) }
+    ensures number { IfSome result (λ read. number_of (take read.1 text.now) ≡ Some read.0) }
+{
+    let (number, len) = leading(as_room::<WINDOW>(&text[..WINDOW]))?;
+    Some((number, len))
+}
+
+/// The number in a field that is one.
+pub(crate) fn number_in(field: &[u8]) -> u64
+    requires { IsTrue (is_some (number_of field.now)) }
+    ensures { result ≡ number_in field.now }
+{
+    number(field).unwrap()
+}

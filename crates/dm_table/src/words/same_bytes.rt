@@ -1,0 +1,63 @@
+//! Short texts compared at once.
+//!
+//! Texts of any length are compared in a loop, and those of a known length in an instruction or two.
+//! Most names are short, and their first and last bytes, which may overlap, are all that they have.
+
+ghost use Rattle.std.specs.Prelude.{◌≡◌, ◌≢◌, ◌*◌, ◌≤◌, length};
+ghost use Rattle.std.specs.Bool.{OnTrue, OnFalse};
+
+use crate::io::block::as_room;
+
+/// Whether two texts have the same bytes. It is quickest for texts of up to 16 bytes.
+#[inline(always)]
+pub fn are_same(left: &[u8], right: &[u8]) -> bool
+    ensures same { OnTrue result (left.now ≡ right.now) }
+    ensures other { OnFalse result (left.now ≢ right.now) }
+{
+    let len = left.len();
+    if len != right.len() {
+        return false;
+    }
+    if len < 4 {
+        return match len {
+            0 => true,
+            1 => known_same::<1>(left, right),
+            _ => ends_same::<2>(left, right),
+        };
+    }
+    if len <= 8 {
+        return ends_same::<4>(left, right);
+    }
+    if len <= 16 {
+        return ends_same::<8>(left, right);
+    }
+    left == right
+}
+
+/// Whether two texts of one length have the same bytes, by their first ones and their last ones, of
+/// which there are enough that each byte is one of them. Both are compared whatever the first ones
+/// say, since a jump costs more.
+#[inline(always)]
+fn ends_same<const LEN: usize>(left: &[u8], right: &[u8]) -> bool
+    requires sizes { length left.now ≡ length right.now }
+    requires enough { LEN ≤ length left.now }
+    requires all { length left.now ≤ 2 * LEN }
+    ensures same { OnTrue result (left.now ≡ right.now) }
+    ensures other { OnFalse result (left.now ≢ right.now) }
+{
+    let from = left.len() - LEN;
+    let fronts = known_same::<LEN>(&left[..LEN], &right[..LEN]);
+    let ends = known_same::<LEN>(&left[from..], &right[from..]);
+    fronts & ends
+}
+
+/// Whether two texts of a known length have the same bytes.
+#[inline(always)]
+fn known_same<const LEN: usize>(left: &[u8], right: &[u8]) -> bool
+    requires left { length left.now ≡ LEN }
+    requires right { length right.now ≡ LEN }
+    ensures same { OnTrue result (left.now ≡ right.now) }
+    ensures other { OnFalse result (left.now ≢ right.now) }
+{
+    *as_room::<LEN>(left) == *as_room::<LEN>(right)
+}
