@@ -56,13 +56,14 @@ PLACES = {
         "claims that meet have an arm of their own, and by its contract it fails for nothing else",
     ("lvm_volume/device_names", "name_of", "built_name"):
         "a name is built of these parts, as is required, and then it fails only for a growth",
+    ("lvm_volume/disks", "copy_of", "DiskName::new"):
+        "a name is one by its type, and then it fails only for a growth",
     ("lvm_volume/names", "build_name", "joined"): OURS,
     ("lvm_volume/physical", "physicals_in", "counts_of"): OURS,
     ("lvm_volume/physical", "physicals_in", "devices_of"): OURS,
     ("lvm_volume/physical", "physicals_in", "physicals.push"): STD,
-    ("lvm_volume/places", "add_key", "keys.insert"): STD,
-    ("lvm_volume/tables", "copy_of", "DiskName::new"):
-        "a name is one by its type, and then it fails only for a growth",
+    ("lvm_volume/positions", "add_key", "keys.insert"): STD,
+    ("lvm_volume/source_line", "memory_fault", ""): "the fault itself, for those that answer it",
     ("lvm_volume/tables", "tables", "devices_of"): OURS,
     ("lvm_volume/tables", "tables", "disks_of"): OURS,
     ("lvm_volume/tables", "tables", "names_fault"): OURS,
@@ -77,7 +78,7 @@ PLACES = {
 }
 
 # A refusal as a value. In a type it is followed by `>`, or stands after a colon or an equals sign.
-MADE = re.compile(r"(?<!== )\b\w+::(?:Memory|OutOfMemory)\b|\bLoadFault::memory\(|(?<!: )(?<!= )(?<!<)\bAlloc(?:Error|Failed)\b(?![>;<])")
+MADE = re.compile(r"(?<!== )\b\w+::(?:Memory|OutOfMemory)\b|\bLoadFault::memory\(|\bmemory_fault\(|(?<!: )(?<!= )(?<!<)\bAlloc(?:Error|Failed)\b(?![>;<])")
 FUNCTION = re.compile(r" *(?:pub(?:\(\w+\))? )?fn (\w+)")
 # What is asked before a place is come to.
 ASKED = re.compile(r" *(?:let \w+\(.*?\) = |match |if |while )(.+?)(?:\(|(?: else)? \{|$)")

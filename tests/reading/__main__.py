@@ -24,7 +24,7 @@ COMMAND = "python3 tests/reading --write"
 # The functions whose contracts are the promises, and what each promises.
 PROMISES = [
     ("map_whole", "what the command `map` reads, writes, tells and returns"),
-    ("other_whole", "the same of the commands that read no requests"),
+    ("other_whole", "the same of the other commands"),
     ("Replay::request", "what a request answers on the disks as those before it left them"),
     ("Mapper::request", "which units a request has, the state that they leave, and what finding them costs"),
 ]

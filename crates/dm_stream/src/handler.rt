@@ -54,6 +54,7 @@ pub trait Handler {
 
     /// It stopped at the last of requests where it answered the first of them and stopped at the last
     /// of the others.
-    ghost answered_then_stopped: { (a b c : Self) (s t u : Self.Source) (us vs : List NumberedRequest) (fault : Self.Fault)
+    ghost answered_then_stopped: { (a b c : Self) (s t u : Self.Source) (us vs : List NumberedRequest)
+        (fault : Self.Fault)
         → answered a s us b t → stopped b t vs fault c u → stopped a s (us ++ vs) fault c u };
 }

@@ -69,7 +69,8 @@ impl RunTaken {
     pub fn find_counted(&self, chunk: u64, comparisons: &mut u64) -> Option<usize>
         ensures found { result ≡ number_in chunk (⟦<RunTaken as Taken>⟧.chunks self.now) }
         ensures more { comparisons.old ≤ comparisons.new }
-        ensures few { comparisons.new ≤ comparisons.old + binary_digits (run_count (⟦<RunTaken as Taken>⟧.chunks self.now)) }
+        ensures few { comparisons.new
+            ≤ comparisons.old + binary_digits (run_count (⟦<RunTaken as Taken>⟧.chunks self.now)) }
     {
         let (begun, made) = begun_by(self.runs.as_slice(), &self.order, chunk);
         *comparisons = comparisons.saturating_add(made);

@@ -1,5 +1,5 @@
 -- Laws of how inputs and outputs moved on: what is new in a list that grew, and what an output took in two steps.
-use Rattle.std.proofs.Common.{◌≡◌, ℕ, ◌+◌, List, [], ◌∷◌, ◌++◌, length, drop, MutBor, sym, ap, ◌∙◌, refl, add-zero, append_assoc, arith}
+use Rattle.std.proofs.Common.{◌≡◌, ℕ, ◌+◌, List, [], ◌∷◌, ◌++◌, length, drop, MutBor, sym, ap, ◌∙◌, refl, add-zero, append_assoc}
 use Rattle.std.proofs.Math.Seq.{drop-append_seam}
 use Rattle.std.proofs.lemmas.List.{append-nil}
 use Rattle.dm_table.specs.io.DeviceIo.{InputPast, OutputPast, since}
@@ -95,15 +95,4 @@ closed_as P Q there back closed = record {
   finished = finished_as P Q there back closed.finished;
   whole = λ well. closed.whole (λ failed. well (there failed));
   failed = λ failed. closed.failed (back failed);
-}
-
--- nothing was asked of it
-pub finished_untouched : (x : OutputPast) (HasFailed : Type 0) → (HasFailed → ⊥) → IsFinished x x HasFailed
-finished_untouched x HasFailed not_so = record {
-  appends = grows-same x.written x.written;
-  write_fault = (λ less. absurd (omega (arith, less)), λ failed. absurd (not_so failed));
-  grows = omega arith;
-  fails_once = omega arith;
-  once = omega arith;
-  still_waiting = λ failed. absurd (not_so failed);
 }

@@ -77,7 +77,8 @@ impl FrontReader {
     fn name_len(&mut self, text: &[u8]) -> Option<usize>
         ensures room { IfSome result (λ len. len + 1 + NUMBERS_ROOM ≤ length text.now) }
         ensures named { IfSome result (λ len. is_device_name (take len text.now) ≡ true) }
-        ensures space { IfSome result (λ len. text.now ≡ take len text.now ++ space ∷ drop (len + 1) text.now) }
+        ensures space { IfSome result
+            (λ len. text.now ≡ take len text.now ++ space ∷ drop (len + 1) text.now) }
     {
         let end = self.len + 1;
         if text.len() < end + NUMBERS_ROOM {
@@ -95,7 +96,8 @@ impl FrontReader {
     fn learn(&mut self, text: &[u8]) -> Option<usize>
         ensures room { IfSome result (λ len. len + 1 + NUMBERS_ROOM ≤ length text.now) }
         ensures named { IfSome result (λ len. is_device_name (take len text.now) ≡ true) }
-        ensures space { IfSome result (λ len. text.now ≡ take len text.now ++ space ∷ drop (len + 1) text.now) }
+        ensures space { IfSome result
+            (λ len. text.now ≡ take len text.now ++ space ∷ drop (len + 1) text.now) }
     {
         let len = leading_name(text)?;
         let rest = after_space(text, len)?;

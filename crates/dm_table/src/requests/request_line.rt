@@ -105,7 +105,8 @@ fn first_number<'a>(text: &'a [u8]) -> Option<(u64, &'a [u8])>
 fn head<'a>(line: &'a [u8]) -> Option<(Op, &'a str, &'a [u8])>
     ensures cut { IfSome result
         (λ cut. fields line.now ≡ (op_text cut.0 ∷ []) ∷ cut.1.now ∷ fields cut.2.now) }
-    ensures text { IfSome result (λ cut. line.now ≡ op_text cut.0 ∷ space ∷ (cut.1.now ++ space ∷ cut.2.now)) }
+    ensures text { IfSome result
+        (λ cut. line.now ≡ op_text cut.0 ∷ space ∷ (cut.1.now ++ space ∷ cut.2.now)) }
     ensures named { IfSome result (λ cut. is_device_name cut.1.now ≡ true) }
     ensures other { IfNone result (has_form (fields line.now) ≡ false) }
 {

@@ -54,7 +54,8 @@ impl Order {
     pub(crate) fn insert(&mut self, rank: usize, id: u32)
         requires rank { rank ≤ self.old.len }
         requires room { self.old.len < self.old.places }
-        ensures ids { concat (contents self.new.blocks.items) ≡ insert (concat (contents self.old.blocks.items)) rank id }
+        ensures ids { concat (contents self.new.blocks.items)
+            ≡ insert (concat (contents self.old.blocks.items)) rank id }
         ensures len { self.new.len ≡ self.old.len + 1 }
         ensures places { self.new.places ≡ self.old.places }
     {

@@ -17,8 +17,10 @@ pub(super) fn begun_by(runs: &[Run], order: &Order, chunk: u64) -> (usize, u64)
     requires sorted { AreSorted runs.now (concat (contents order.now.blocks.items)) }
     requires len { order.now.len ≡ length runs.now }
     ensures within { result.0 ≤ length runs.now }
-    ensures from { 0 < result.0 → (ranked runs.now (concat (contents order.now.blocks.items)) (result.0 - 1)).first ≤ chunk }
-    ensures next { result.0 < length runs.now → chunk < (ranked runs.now (concat (contents order.now.blocks.items)) result.0).first }
+    ensures from { 0 < result.0
+        → (ranked runs.now (concat (contents order.now.blocks.items)) (result.0 - 1)).first ≤ chunk }
+    ensures next { result.0 < length runs.now
+        → chunk < (ranked runs.now (concat (contents order.now.blocks.items)) result.0).first }
     ensures few { result.1 ≤ binary_digits (length runs.now) }
 {
     let mut low = 0;
