@@ -26,11 +26,6 @@ use Rattle.dm_table.specs.io.WriteAll.{IsBeginning, IsCutShort}
 use Rattle.dm_table.proofs.io.WriteLemmas.{and_then}
 use Rattle.dm_table.specs.io.Progress.{HasWritten, Wrote}
 
--- what follows at an answer
-pub on_ok : {T E : Type 0} (r : Result T E) (P Q : Type 0) → (P → Q) → OnOk r P → OnOk r Q
-on_ok (Ok x) P Q f h = f h
-on_ok (Err e) P Q f h = tt
-
 pub on_sink : {F : Type 0} (r : Result (Unit {0}) (MapFault F)) (fault : F) (P : Type 0) → r ≡ Err (faults.Sink fault) → OnSinkFault r P → P
 on_sink r fault P e h = subst (λ (x : Result (Unit {0}) (MapFault _)). OnSinkFault x P) e h
 
@@ -117,11 +112,6 @@ pub cut_short : (stack : Description) (number : ℕ) (old new : Pending) (front 
 cut_short stack number old new front rest units before after start whole left =
     subst (λ (text : List ℕ). IsCutShort text (since before after)) (same_text stack number old (fewest units) start)
     (left_text old new front rest units before after (ap (λ (h : Pending). h.piece) start) whole left)
-
--- the id of a device that was found is in range
-pub in_range : {X : Type 0} (p : X → Bool) (xs : List X) (i : ℕ) → position p xs ≡ Some i → i < length xs
-in_range p [] i e = absurd cc
-in_range p (x ∷ xs) i e = (position-Some p (x ∷ xs) i x e).0
 
 -- one whose answer was cut short
 pub request_cut : (stack : Description) (device : ℕ) (request : NumberedRequest) (found : Option ℕ) (old : State) (new : MapperView) (w0 w1 : List ℕ) → device_of stack request.values.device ≡ found → found ≡ Some device

@@ -62,13 +62,6 @@ stopped_met old new causes.Output e is met = subst (λ (x : ending.Ending). HasM
 
 -- ---- what comes after the answers
 
--- no write failed, unless the ending is a write fault
-no_write_failed : (e : ending.Ending) → e ≢ ending.TheVariants.WriteFault → write_faults e ≡ 0
-no_write_failed ending.TheVariants.Done other = refl
-no_write_failed (ending.TheVariants.BadRequest n w) other = refl
-no_write_failed ending.TheVariants.ReadFault other = refl
-no_write_failed ending.TheVariants.WriteFault other = absurd (other refl)
-
 -- what the answers leave to write is left of the whole
 pub rest_cut : {E : Type 0} (fault : E) (old new : OutputPast) (stack : Description) (status : Bool) (outcome : Outcome) (left : State) (e : ending.Ending) → e ≡ ending.TheVariants.WriteFault
     → HasWritten old new (write_faults e) → IsMapped outcome (written_since old new) left e → Wrote old new (Err fault) (with_status stack status outcome).output

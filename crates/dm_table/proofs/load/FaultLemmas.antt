@@ -59,11 +59,6 @@ pub append-nil_both : (a b : List LoadFault) → a ++ b ≡ [] → (a ≡ []) ×
 append-nil_both [] b e = (refl, e)
 append-nil_both (fault ∷ a) b e = absurd cc
 
--- the second half runs where the first finds nothing
-pub first_or-append : (a b : List LoadFault) → first_or (a ++ b) None ≡ first_or a (first_or b None)
-first_or-append [] b = refl
-first_or-append (fault ∷ a) b = refl
-
 -- a newline ends the last line
 pub unended-nil : (part : Part) (n : ℕ) (rest : List ℕ) → unended part n rest ≡ [] → rest ≡ []
 unended-nil part n [] e = refl

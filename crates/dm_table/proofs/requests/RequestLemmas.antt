@@ -208,15 +208,6 @@ no_op line none = false_from_ne_true _ (λ form.
     let found = row_op (fields line) form in
     none found.0 found.1.0 (sym (join-parts_at 32 line) ∙ found.1.1))
 
-unnamed_row : (op : List ℕ) (more : List (List ℕ)) → ((name next : List ℕ) (rest : List (List ℕ)) → more ≡ name ∷ next ∷ rest → is_device_name name ≢ true)
-    → has_form (op ∷ more) ≡ false
-unnamed_row op [] none = refl
-unnamed_row op (name ∷ []) none = refl
-unnamed_row op (name ∷ start ∷ []) none = refl
-unnamed_row op (name ∷ start ∷ len ∷ []) none = false_from_ne_true _ (λ form.
-    none name start (len ∷ []) refl (and_parts (is_device_name name) _ (and_parts (is_op op) _ form).1).0)
-unnamed_row op (name ∷ start ∷ len ∷ next ∷ more) none = refl
-
 op_fields : (op : Op) (rest : List ℕ) → fields (op_text op ∷ 32 ∷ rest) ≡ (op_text op ∷ []) ∷ fields rest
 op_fields Read rest = refl
 op_fields Write rest = refl
@@ -226,11 +217,6 @@ pub op_first : (line rest : List ℕ) (op : Op) → 1 ≤ length line → get_or
     → fields line ≡ (op_text op ∷ []) ∷ fields rest
 op_first [] rest op some letter cut = absurd (omega arith)
 op_first (b ∷ line) rest op some letter cut = ap fields (cut ∙ ap (λ (b : ℕ). b ∷ 32 ∷ rest) letter) ∙ op_fields op rest
-
--- without a device in its second field a line has not that form
-pub unnamed : (line op : List ℕ) (more : List (List ℕ)) → fields line ≡ op ∷ more
-    → ((name next : List ℕ) (rest : List (List ℕ)) → more ≡ name ∷ next ∷ rest → is_device_name name ≢ true) → has_form (fields line) ≡ false
-unnamed line op more cut none = ap has_form cut ∙ unnamed_row op more none
 
 -- A number, and a name, that a space ends
 

@@ -99,10 +99,6 @@ number_of-decimal n short =
     let test : is_number (decimal n) ≡ true = and_from _ _ (le-leb _ _ low) (and_from _ _ (le-leb _ _ high) (and_from _ _ (decimal_lead n wide) (digits_decimal numerals n wide))) in
     rw (test, digits_value-decimal numerals n wide) refl
 
--- a number that a text spells is read off it
-pub number_of-Spells : (text : List ℕ) (n : ℕ) → Spells text n → number_of text ≡ Some n
-number_of-Spells text n spells = ap number_of spells.digits ∙ number_of-decimal n spells.short
-
 -- the text of a number has digits alone, and at least one
 pub decimal_digits : (n : ℕ) → n < 10 ^ 19 → list_all is_ascii_digit (decimal n) ≡ true
 decimal_digits n short = digits_decimal numerals n (omega arith)
