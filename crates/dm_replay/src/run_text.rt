@@ -44,7 +44,7 @@ impl<'a> Text for RunLine<'a> {
     }
 }
 
-/// Puts a run at a place of a block, and returns where it ends.
+/// Puts a run at an offset in a block, and returns where it ends.
 fn put_run(block: &mut [u8], at: usize, stack: &Stack, run: &ValueRun) -> usize
     requires room { at + 400 ≤ length block.old }
     requires disks { IsRunOf (length stack.now.disks) run.now }
@@ -77,7 +77,7 @@ fn put_run(block: &mut [u8], at: usize, stack: &Stack, run: &ValueRun) -> usize
     }
 }
 
-/// Puts a start and a length at a place of a block, each after a space.
+/// Puts a start and a length at an offset in a block, each after a space.
 fn put_range(block: &mut [u8], at: usize, start: u64, len: u64) -> usize
     requires room { at + 60 ≤ length block.old }
     ensures put { IsPut (space ∷ decimal start ++ space ∷ decimal len) at block.old block.new result }

@@ -14,7 +14,7 @@ use Rattle.dm_stream.specs.declared.ending.RequestWord as word
 use Rattle.dm_stream.specs.declared.lines.TheConstants.{MOST_LINE_BYTES}
 use Rattle.dm_stream.specs.declared.requests.TheConstants.{MOST_REQUESTS}
 use Rattle.dm_stream.proofs.LineParts.{next_held}
-use Rattle.dm_stream.proofs.Turns.{Told, told_turn}
+use Rattle.dm_stream.proofs.HandledRequests.{Told, told_turn}
 
 -- by the limit on lines and what the line says
 pub said_first : (line : List ℕ) (number : ℕ) (values : RequestValues) → number ≤ MOST_REQUESTS → DescribesRequest line values → (rest : Requests) → line_requests number line rest ≡ after_requests (record { number = number; values = values } ∷ []) rest

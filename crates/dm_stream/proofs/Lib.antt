@@ -8,4 +8,4 @@ pub mod LineParts
 pub mod PieceLemmas
 pub mod RequestMapped
 pub mod Runs
-pub mod Turns
+pub mod HandledRequests

@@ -1,5 +1,5 @@
 pub mod Join
-pub mod KeptRange
+pub mod RangeText
 pub mod LastDevice
 pub mod Lines
 pub mod Mapped

@@ -8,8 +8,8 @@ use Rattle.dm_map.specs.declared.pieces.piece.Piece as code
 use Rattle.dm_stream.specs.Pieces.{UnitRun}
 
 -- a place on a disk: its name and a sector
-abbrev pub place_text : Description → ℕ → ℕ → List ℕ
-place_text stack disk sector = disk_name_at stack disk ++ space ∷ decimal sector
+abbrev pub sector_text : Description → ℕ → ℕ → List ℕ
+sector_text stack disk sector = disk_name_at stack disk ++ space ∷ decimal sector
 
 -- the letter of a write, and else that of a read
 abbrev pub letter_of : BlockUnit → ℕ
@@ -18,13 +18,13 @@ letter_of unit = 82
 
 -- the line of a piece, after the number
 abbrev pub unit_text : Description → BlockUnit → ℕ → List ℕ
-unit_text stack (ReadOf disk sector) len = codes "R " ++ place_text stack disk sector ++ space ∷ decimal len
-unit_text stack (WriteOf disk sector) len = codes "W " ++ place_text stack disk sector ++ space ∷ decimal len
+unit_text stack (ReadOf disk sector) len = codes "R " ++ sector_text stack disk sector ++ space ∷ decimal len
+unit_text stack (WriteOf disk sector) len = codes "W " ++ sector_text stack disk sector ++ space ∷ decimal len
 unit_text stack Zeros len = codes "zero " ++ decimal len
 unit_text stack Drops len = codes "drop " ++ decimal len
 unit_text stack Fails len = codes "error " ++ decimal len
-unit_text stack (CopyOf disk sector to to_sector) len = codes "copy " ++ place_text stack disk sector ++ space ∷ decimal len ++ space ∷ place_text stack to to_sector
-unit_text stack (FillOf disk sector) len = codes "fill " ++ decimal len ++ space ∷ place_text stack disk sector
+unit_text stack (CopyOf disk sector to to_sector) len = codes "copy " ++ sector_text stack disk sector ++ space ∷ decimal len ++ space ∷ sector_text stack to to_sector
+unit_text stack (FillOf disk sector) len = codes "fill " ++ decimal len ++ space ∷ sector_text stack disk sector
 
 -- a piece that is no read and no write of a request
 abbrev pub IsOther : code.Piece → Type 0
@@ -38,7 +38,7 @@ piece_text stack number piece = decimal number ++ space ∷ unit_text stack piec
 
 -- the line of a letter and a range of a disk under a request's number: that of a read or a write
 abbrev pub range_line : Description → (number letter disk start len : ℕ) → List ℕ
-range_line stack number letter disk start len = decimal number ++ space ∷ (letter ∷ space ∷ place_text stack disk start ++ space ∷ decimal len) ++ newline ∷ []
+range_line stack number letter disk start len = decimal number ++ space ∷ (letter ∷ space ∷ sector_text stack disk start ++ space ∷ decimal len) ++ newline ∷ []
 
 -- the lines of a request's pieces
 abbrev pub pieces_text : Description → ℕ → List UnitRun → List ℕ

@@ -11,9 +11,9 @@ ghost use Rattle.dm_stream.specs.PieceText.{pieces_text};
 ghost use Rattle.dm_stream.specs.Pieces.{fewest, is_after};
 ghost use Rattle.dm_table.specs.io.Progress.{Wrote};
 
-use crate::kept_range::KeptRange;
 use crate::number_prefix::NumberPrefix;
 use crate::piece_text::put_piece;
+use crate::range_text::RangeText;
 use dm_map::Piece;
 use dm_stack::Stack;
 use dm_table::{OutFault, Output};
@@ -27,7 +27,7 @@ pub(crate) struct HeldPiece<'s> {
     /// What each line begins with: the request's number.
     prefix: NumberPrefix,
     /// What the line ended with that was written last.
-    range: KeptRange,
+    range: RangeText,
 }
 
 impl<'s> Model for HeldPiece<'s> {
@@ -49,7 +49,7 @@ impl<'s> HeldPiece<'s> {
             stack,
             piece: None,
             prefix: NumberPrefix::new(),
-            range: KeptRange::new(),
+            range: RangeText::new(),
         }
     }
 

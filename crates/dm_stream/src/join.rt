@@ -74,12 +74,12 @@ impl<'s, W: Output> Join<'s, W> {
     }
 
     /// Has the writer hand on what it gathered. Nothing is written or flushed.
-    pub(crate) fn hand_on(&mut self)
+    pub(crate) fn drain(&mut self)
         ensures held { self.new.held ≡ self.old.held }
         ensures moved { HasWrittenTo W.past self.old.writer self.new.writer 0 }
         ensures written { (W.past self.new.writer.now).written ≡ (W.past self.old.writer.now).written }
     {
-        self.writer.hand_on();
+        self.writer.drain();
     }
 
     /// Ends the join, after its last request was finished, and gives its writer back as it is:

@@ -65,7 +65,7 @@ fn map_lines<'s, T: Taken, R: Input, W: Output>(
     }
 }
 
-/// The same for an output, which the caller has back afterwards.
+/// Answers them to an output, through a join that is made for it and gone at the return.
 fn map_requests<'s, T: Taken, R: Input, W: Output>(
     stack: &'s Stack,
     mapper: &mut Mapper<'s, T>,

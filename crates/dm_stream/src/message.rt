@@ -8,7 +8,7 @@ ghost use Rattle.dm_stream.specs.Messages.{HasTold, ending_message, refused_requ
 
 use crate::ending::{Ending, RequestWord};
 use arrayvec::ArrayVec;
-use dm_table::{Output, put, put_number, write_all};
+use dm_table::{Output, append, append_number, write_all};
 
 /// A message of a run.
 pub type Message = ArrayVec<u8, 64>;
@@ -28,8 +28,8 @@ pub fn message_of(ending: Ending) -> Message
     match ending {
         Ending::Done => {}
         Ending::BadRequest(number, word) => return refused_request(number, word_text(word)),
-        Ending::ReadFault => put(&mut text, b"dmremap: requests: read\n"),
-        Ending::WriteFault => put(&mut text, b"dmremap: output: write\n"),
+        Ending::ReadFault => append(&mut text, b"dmremap: requests: read\n"),
+        Ending::WriteFault => append(&mut text, b"dmremap: output: write\n"),
     }
     text
 }
@@ -41,11 +41,11 @@ pub fn refused_request(number: u64, word: &[u8]) -> Message
     ensures { result.items ≡ refused_request number word.now }
 {
     let mut text = ArrayVec::new();
-    put(&mut text, b"dmremap: request ");
-    put_number(&mut text, number);
-    put(&mut text, b": ");
-    put(&mut text, word);
-    put(&mut text, b"\n");
+    append(&mut text, b"dmremap: request ");
+    append_number(&mut text, number);
+    append(&mut text, b": ");
+    append(&mut text, word);
+    append(&mut text, b"\n");
     text
 }
 

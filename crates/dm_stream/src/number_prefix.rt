@@ -61,7 +61,7 @@ impl NumberPrefix {
         self.number = number;
     }
 
-    /// Puts the number and a space at a place of a block, and returns where they end.
+    /// Puts the number and a space at an offset in a block, and returns where they end.
     #[inline(always)]
     pub(crate) fn put_into(&self, block: &mut [u8], at: usize) -> usize
         requires { at + ROOM ≤ length block.old }

@@ -9,14 +9,14 @@ ghost use Rattle.dm_table.specs.io.Block.{IsPut};
 ghost use Rattle.dm_stack.specs.Description.{disk_name_at};
 ghost use Rattle.dm_stack.specs.DiskText.{disk_text};
 ghost use Rattle.dm_map.specs.pieces.Units.{CopyOf, FillOf, IsOnDisks, first_unit, piece_len};
-ghost use Rattle.dm_stream.specs.KeptRange.{IsKept};
+ghost use Rattle.dm_stream.specs.RangeText.{IsKept};
 ghost use Rattle.dm_stream.specs.Pending.{piece_view};
-ghost use Rattle.dm_stream.specs.PieceText.{IsOther, letter_of, piece_text, place_text, range_line, unit_text};
+ghost use Rattle.dm_stream.specs.PieceText.{IsOther, letter_of, piece_text, sector_text, range_line, unit_text};
 ghost use Rattle.dm_table.specs.io.Progress.{Wrote};
 ghost use Rattle.dm_table.specs.words.Bytes.{newline};
 
-use crate::kept_range::KeptRange;
 use crate::number_prefix::NumberPrefix;
+use crate::range_text::RangeText;
 use dm_map::Piece;
 use dm_stack::{DiskId, Stack};
 use dm_table::{OutFault, Output, Text, put_bytes, put_digits};
@@ -24,9 +24,9 @@ use std::marker::Model;
 
 /// The line of a read or a write of sectors of a disk of a stack, under a number.
 #[derive(Drop)]
-struct RangeLine<'a> {
+struct ReadWriteLine<'a> {
     prefix: &'a NumberPrefix,
-    range: &'a KeptRange,
+    range: &'a RangeText,
     stack: &'a Stack,
     letter: u8,
     disk: DiskId,
@@ -34,9 +34,9 @@ struct RangeLine<'a> {
     len: u64,
 }
 
-impl<'a> Model for RangeLine<'a> {
+impl<'a> Model for ReadWriteLine<'a> {
     ghost use Rattle.std.specs.Prelude.{ℕ, List, ◌<◌, length};
-    ghost use Rattle.dm_stream.specs.KeptRange.{IsKept};
+    ghost use Rattle.dm_stream.specs.RangeText.{IsKept};
     ghost use Rattle.dm_stream.specs.PieceText.{range_line};
 
     ghost Value = { List ℕ };
@@ -48,7 +48,7 @@ impl<'a> Model for RangeLine<'a> {
         × IsKept line.range.now line.start line.len };
 }
 
-impl<'a> Text for RangeLine<'a> {
+impl<'a> Text for ReadWriteLine<'a> {
     ghost text = { λ line. line };
 
     #[inline(always)]
@@ -61,13 +61,13 @@ impl<'a> Text for RangeLine<'a> {
 
 /// The line of a piece on disks of a stack that is no read and no write, under a number.
 #[derive(Drop)]
-struct OtherLine<'a> {
+struct RareLine<'a> {
     prefix: &'a NumberPrefix,
     stack: &'a Stack,
     piece: &'a Piece,
 }
 
-impl<'a> Model for OtherLine<'a> {
+impl<'a> Model for RareLine<'a> {
     ghost use Rattle.std.specs.Prelude.{ℕ, List};
     ghost use Rattle.dm_map.specs.pieces.Units.{IsOnDisks};
     ghost use Rattle.dm_stream.specs.Pending.{piece_view};
@@ -80,7 +80,7 @@ impl<'a> Model for OtherLine<'a> {
     ghost invariant = { λ line. IsOnDisks line.stack.now line.piece.now × IsOther line.piece.now };
 }
 
-impl<'a> Text for OtherLine<'a> {
+impl<'a> Text for RareLine<'a> {
     ghost text = { λ line. line };
 
     fn put_into(&self, block: &mut [u8], at: usize) -> usize {
@@ -95,7 +95,7 @@ impl<'a> Text for OtherLine<'a> {
 pub(crate) fn put_piece<W: Output>(
     writer: &mut W,
     prefix: &NumberPrefix,
-    range: &mut KeptRange,
+    range: &mut RangeText,
     stack: &Stack,
     piece: &Piece,
 ) -> Result<(), OutFault>
@@ -107,7 +107,7 @@ pub(crate) fn put_piece<W: Output>(
         Piece::Read { disk, start, len } | Piece::Write { disk, start, len } => {
             range.note(start, len);
             let letter = letter_of(piece);
-            writer.put(&RangeLine {
+            writer.put(&ReadWriteLine {
                 prefix,
                 range,
                 stack,
@@ -121,7 +121,7 @@ pub(crate) fn put_piece<W: Output>(
         | Piece::Drop { .. }
         | Piece::Error { .. }
         | Piece::Copy { .. }
-        | Piece::Fill { .. } => writer.put(&OtherLine {
+        | Piece::Fill { .. } => writer.put(&RareLine {
             prefix,
             stack,
             piece,
@@ -142,7 +142,7 @@ fn letter_of(piece: &Piece) -> u8
     }
 }
 
-/// Puts what a piece is that is no read and no write, and a newline, at a place of a block, and returns
+/// Puts what a piece is that is no read and no write, and a newline, at an offset in a block, and returns
 /// where they end. It is never inlined, since these are rare.
 #[cold]
 #[inline(never)]
@@ -170,7 +170,7 @@ fn put_other(block: &mut [u8], at: usize, stack: &Stack, piece: &Piece) -> usize
     }
 }
 
-/// Puts what a copy is and a newline at a place of a block.
+/// Puts what a copy is and a newline at an offset in a block.
 fn put_copy(
     block: &mut [u8],
     at: usize,
@@ -189,15 +189,15 @@ fn put_copy(
     ensures few { result ≤ at + 800 }
 {
     let at = put_bytes(block, at, b"copy ");
-    let at = put_place(block, at, stack, disk, start);
+    let at = put_sector(block, at, stack, disk, start);
     let at = put_bytes(block, at, b" ");
     let at = put_digits(block, at, len);
     let at = put_bytes(block, at, b" ");
-    let at = put_place(block, at, stack, to, to_start);
+    let at = put_sector(block, at, stack, to, to_start);
     put_bytes(block, at, b"\n")
 }
 
-/// Puts what a fill is and a newline at a place of a block.
+/// Puts what a fill is and a newline at an offset in a block.
 fn put_fill(block: &mut [u8], at: usize, stack: &Stack, disk: DiskId, start: u64, len: u64) -> usize
     requires room { at + 800 ≤ length block.old }
     requires there { disk < length stack.now.disks }
@@ -208,11 +208,11 @@ fn put_fill(block: &mut [u8], at: usize, stack: &Stack, disk: DiskId, start: u64
     let at = put_bytes(block, at, b"fill ");
     let at = put_digits(block, at, len);
     let at = put_bytes(block, at, b" ");
-    let at = put_place(block, at, stack, disk, start);
+    let at = put_sector(block, at, stack, disk, start);
     put_bytes(block, at, b"\n")
 }
 
-/// Puts a word and the name of a disk of the stack, with a space after it, at a place of a block.
+/// Puts a word and the name of a disk of the stack, with a space after it, at an offset in a block.
 #[inline(always)]
 fn put_named(block: &mut [u8], at: usize, word: &[u8], stack: &Stack, disk: DiskId) -> usize
     requires room { at + 300 ≤ length block.old }
@@ -225,7 +225,7 @@ fn put_named(block: &mut [u8], at: usize, word: &[u8], stack: &Stack, disk: Disk
     stack.disk_text(disk).put_into(block, at)
 }
 
-/// Puts a word, a number and a newline at a place of a block.
+/// Puts a word, a number and a newline at an offset in a block.
 fn put_counted(block: &mut [u8], at: usize, word: &[u8], number: u64) -> usize
     requires room { at + 300 ≤ length block.old }
     requires short { length word.now ≤ 9 }
@@ -237,11 +237,11 @@ fn put_counted(block: &mut [u8], at: usize, word: &[u8], number: u64) -> usize
     put_bytes(block, at, b"\n")
 }
 
-/// Puts a place at a place of a block: the name of a disk of the stack and a sector.
-fn put_place(block: &mut [u8], at: usize, stack: &Stack, disk: DiskId, sector: u64) -> usize
+/// Puts a sector of a disk of the stack at an offset in a block: the name of the disk and the sector.
+fn put_sector(block: &mut [u8], at: usize, stack: &Stack, disk: DiskId, sector: u64) -> usize
     requires room { at + 300 ≤ length block.old }
     requires there { disk < length stack.now.disks }
-    ensures put { IsPut (place_text stack.now disk sector) at block.old block.new result }
+    ensures put { IsPut (sector_text stack.now disk sector) at block.old block.new result }
     ensures few { result ≤ at + 276 }
 {
     let at = stack.disk_text(disk).put_into(block, at);

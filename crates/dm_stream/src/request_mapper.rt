@@ -125,6 +125,6 @@ impl<'s, T: Taken, W: Output> Handler for RequestMapper<'_, 's, T, W> {
     }
 
     fn before_read(&mut self) {
-        self.join.hand_on();
+        self.join.drain();
     }
 }

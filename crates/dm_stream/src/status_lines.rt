@@ -13,7 +13,7 @@ ghost use Rattle.dm_stream.specs.StatusLines.{after_name, status_text, usage_tex
 use arrayvec::ArrayVec;
 use dm_map::{Mapper, Taken, Usage};
 use dm_stack::{DeviceId, Stack};
-use dm_table::{OutFault, Output, put, put_number, write_all};
+use dm_table::{OutFault, Output, append, append_number, write_all};
 
 /// The most bytes after the name: four numbers of 20 digits, and what stands around them.
 const ROOM: usize = 128;
@@ -59,9 +59,9 @@ fn after_name(len: u64, usage: Usage) -> ArrayVec<u8, ROOM>
     ensures { result.items ≡ after_name len usage }
 {
     let mut text = ArrayVec::new();
-    put(&mut text, b": 0 ");
-    put_number(&mut text, len);
-    put(&mut text, b" snapshot ");
+    append(&mut text, b": 0 ");
+    append_number(&mut text, len);
+    append(&mut text, b" snapshot ");
     put_usage(&mut text, usage);
     text
 }
@@ -72,13 +72,13 @@ fn put_usage(text: &mut ArrayVec<u8, ROOM>, usage: Usage)
     ensures { text.new.items ≡ text.old.items ++ usage_text usage ++ newline ∷ [] }
 {
     if usage.valid {
-        put_number(text, usage.allocated);
-        put(text, b"/");
-        put_number(text, usage.total);
-        put(text, b" ");
-        put_number(text, usage.metadata);
+        append_number(text, usage.allocated);
+        append(text, b"/");
+        append_number(text, usage.total);
+        append(text, b" ");
+        append_number(text, usage.metadata);
     } else {
-        put(text, b"Invalid");
+        append(text, b"Invalid");
     }
-    put(text, b"\n");
+    append(text, b"\n");
 }

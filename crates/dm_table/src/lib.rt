@@ -37,5 +37,5 @@ pub use tables::table_text::parse_table;
 pub use words::device_name::{DeviceNameRule, Name};
 pub use words::disk_name::{DiskName, DiskNameRule};
 pub use words::name::{CheckFault, CheckedName, NameRule};
-pub use words::number_text::{MOST_DIGITS, put, put_number};
+pub use words::number_text::{MOST_DIGITS, append, append_number};
 pub use words::same_bytes::are_same;

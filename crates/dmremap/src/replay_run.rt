@@ -89,7 +89,7 @@ impl<'s, W: Output> Handler for RequestPlayer<'_, 's, W> {
     }
 
     fn before_read(&mut self) {
-        self.output.hand_on();
+        self.output.drain();
     }
 }
 

@@ -9,7 +9,7 @@ ghost use Rattle.dm_table.specs.io.Block.{IsPut};
 
 use crate::words::number_text::MOST_DIGITS;
 
-/// Copies bytes to a place of a block.
+/// Copies bytes to an offset in a block.
 #[inline(always)]
 fn copy_to(block: &mut [u8], at: usize, bytes: &[u8])
     requires within { at + length bytes.now ≤ length block.old }
@@ -41,7 +41,7 @@ pub(crate) fn as_room<const ROOM: usize>(bytes: &[u8]) -> &[u8; ROOM]
     bytes.first_chunk::<ROOM>().unwrap()
 }
 
-/// Copies a room to a place of a block, and returns where the text ends that the room begins with.
+/// Copies a room to an offset in a block, and returns where the text ends that the room begins with.
 ///
 /// It goes by 16 bytes, which are read before they are written: a room that is copied as one value is
 /// stored aside first, where this is put into a long function.
@@ -70,7 +70,7 @@ pub fn put_room<const ROOM: usize>(
     at + len
 }
 
-/// Puts bytes at a place of a block, and returns where they end.
+/// Puts bytes at an offset in a block, and returns where they end.
 ///
 /// Most names of disks are short. A copy of a known length takes a few instructions, and one of any
 /// length is a call.
@@ -115,7 +115,7 @@ fn put_any(block: &mut [u8], at: usize, bytes: &[u8]) -> usize
     at + bytes.len()
 }
 
-/// Puts a number at a place of a block, in decimal digits, and returns where they end.
+/// Puts a number at an offset in a block, in decimal digits, and returns where they end.
 ///
 /// They are counted first and then written where they belong.
 #[inline(always)]

@@ -66,7 +66,7 @@ pub trait Output {
 
     /// Passes on what was gathered, without a flush, as far as that succeeds. It is called before a wait.
     /// A fault that it meets is none of this call: the next write, `put` or flush fails.
-    fn hand_on(&mut self)
+    fn drain(&mut self)
         ensures { past self.new ≡ past self.old }
     {}
 }

@@ -204,7 +204,7 @@ impl<W: Output> Output for Gathered<W> {
     }
 
     /// A fault is left to the next write, `put` or flush, which fails.
-    fn hand_on(&mut self)
+    fn drain(&mut self)
         ensures past { past_of self.new ≡ past_of self.old }
         ensures minds { MindsFaults self.old self.new }
     {

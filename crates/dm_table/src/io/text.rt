@@ -7,7 +7,7 @@
 ghost use Rattle.std.specs.Prelude.{◌≡◌, ◌+◌, ◌≤◌, ℕ, List, length};
 ghost use Rattle.dm_table.specs.io.Block.{IsPut};
 
-/// The bytes of a block that a text may use from its place on.
+/// The bytes of a block that a text may use from its offset on.
 pub const TEXT_ROOM: usize = 1024;
 
 /// What can be put into a block.
@@ -15,7 +15,7 @@ pub trait Text {
     /// Its bytes.
     ghost text: { Self → List ℕ };
 
-    /// Puts it at a place of a block, and returns where it ends. What stands after its end may have
+    /// Puts it at an offset in a block, and returns where it ends. What stands after its end may have
     /// changed.
     fn put_into(&self, block: &mut [u8], at: usize) -> usize
         requires room { at + TEXT_ROOM ≤ length block.old }

@@ -7,7 +7,7 @@ ghost use Rattle.std.specs.Prelude.{◌≡◌, ◌≤◌, length};
 ghost use Rattle.dm_table.specs.load.LoadMessage.{load_message, memory_message};
 
 use crate::load::load_fault::{LoadFault, LoadKind};
-use crate::words::number_text::{put, put_number};
+use crate::words::number_text::{append, append_number};
 use arrayvec::ArrayVec;
 
 /// The message of a refused load, which has at most 96 bytes with its newline.
@@ -23,21 +23,21 @@ impl LoadFault {
     {
         let mut text = ArrayVec::new();
         if self.kind == LoadKind::Memory {
-            put(&mut text, memory_message());
+            append(&mut text, memory_message());
             return text;
         }
-        put(&mut text, b"dmremap: ");
-        put(&mut text, self.at.part.word().as_bytes());
-        put(&mut text, b": ");
-        put(&mut text, self.kind.word().as_bytes());
+        append(&mut text, b"dmremap: ");
+        append(&mut text, self.at.part.word().as_bytes());
+        append(&mut text, b": ");
+        append(&mut text, self.kind.word().as_bytes());
         match self.kind {
             LoadKind::Read | LoadKind::Long => {}
             _ => {
-                put(&mut text, b" at ");
-                put_number(&mut text, self.at.number);
+                append(&mut text, b" at ");
+                append_number(&mut text, self.at.number);
             }
         }
-        put(&mut text, b"\n");
+        append(&mut text, b"\n");
         text
     }
 }

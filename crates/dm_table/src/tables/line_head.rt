@@ -91,7 +91,7 @@ impl<'a> Text for ColumnText<'a> {
     }
 }
 
-/// Puts a body without its columns at a place of a block, and returns where it ends.
+/// Puts a body without its columns at an offset in a block, and returns where it ends.
 #[inline(always)]
 fn put_head(block: &mut [u8], at: usize, line: &Line) -> usize
     requires room { at + 700 ≤ length block.old }

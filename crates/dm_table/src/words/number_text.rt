@@ -11,7 +11,7 @@ use arrayvec::ArrayVec;
 pub const MOST_DIGITS: usize = 20;
 
 /// Appends bytes to a text that has room for them.
-pub fn put<const ROOM: usize>(text: &mut ArrayVec<u8, ROOM>, bytes: &[u8])
+pub fn append<const ROOM: usize>(text: &mut ArrayVec<u8, ROOM>, bytes: &[u8])
     requires { length text.old.items + length bytes.now ≤ ROOM }
     ensures text { text.new.items ≡ text.old.items ++ bytes.now }
     ensures len { length text.new.items ≡ length text.old.items + length bytes.now }
@@ -22,11 +22,11 @@ pub fn put<const ROOM: usize>(text: &mut ArrayVec<u8, ROOM>, bytes: &[u8])
 }
 
 /// Appends a number, in decimal digits, to a text that has room for any.
-pub fn put_number<const ROOM: usize>(text: &mut ArrayVec<u8, ROOM>, number: u64)
+pub fn append_number<const ROOM: usize>(text: &mut ArrayVec<u8, ROOM>, number: u64)
     requires { length text.old.items + MOST_DIGITS ≤ ROOM }
     ensures text { text.new.items ≡ text.old.items ++ decimal number }
     ensures len { length text.new.items ≤ length text.old.items + MOST_DIGITS }
 {
     let mut buffer = itoa::Buffer::new();
-    put(text, buffer.format(number).as_bytes());
+    append(text, buffer.format(number).as_bytes());
 }

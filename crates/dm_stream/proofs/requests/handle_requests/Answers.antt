@@ -8,7 +8,7 @@ use Rattle.dm_stream.specs.declared.ending.Ending as ending
 use Rattle.dm_stream.specs.declared.ending.RequestWord as word
 use Rattle.dm_stream.specs.declared.lines.Next as next
 use Rattle.dm_stream.proofs.Fronts.{held_next, told_front}
-use Rattle.dm_stream.proofs.Turns.{Told, after_waiting, bad_met, told_none, told_turn, ended, among}
+use Rattle.dm_stream.proofs.HandledRequests.{Told, after_waiting, bad_met, told_none, told_turn, ended, among}
 use Rattle.dm_stream.proofs.requests.handle_requests.Goals as goal
 
 pub lines-init : goal.lines-init

@@ -1,13 +1,13 @@
 use Rattle.std.proofs.Common.{◌+◌, ◌-◌, ◌≤◌}
 use Rattle.dm_stream.specs.declared.requests.TheConstants.{MOST_REQUESTS}
-use Rattle.dm_stream.proofs.Turns.{HasTurned}
+use Rattle.dm_stream.proofs.HandledRequests.{HasHandled}
 use Rattle.dm_stream.proofs.requests.handle_requests.Given as goal
 
 abbrev pub invariant-lines : goal.invariant-lines
 invariant-lines g l = record {
   ready : g.H.Handler.ready l.handler l.source;
   few : l.number ≤ MOST_REQUESTS;
-  turned : HasTurned g.H.Handler.answered (g.R.Input.past l.fn.requests) (g.R.Input.past l.requests) l.fn.handler l.handler l.fn.source l.source l.lines (l.number + 1);
+  turned : HasHandled g.H.Handler.answered (g.R.Input.past l.fn.requests) (g.R.Input.past l.requests) l.fn.handler l.handler l.fn.source l.source l.lines (l.number + 1);
 }
 
 abbrev pub decreases-lines : goal.decreases-lines

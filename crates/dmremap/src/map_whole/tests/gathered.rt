@@ -33,7 +33,7 @@ fn passes_on_once(rt: HostRuntime) {
             gathered.is_ok() && calls.get() == 0,
             "no call while there is room"
         );
-        output.hand_on();
+        output.drain();
         assert!(rt; calls.get() == handed_on, "{handed_on} calls to hand on");
         let flush = output.flush();
         assert!(rt;

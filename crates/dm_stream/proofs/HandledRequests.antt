@@ -69,7 +69,7 @@ Told all held done n =
     (stand : Stand) (more : List ℕ) → requests_from stand 1 (line_parts (all ++ more)) ≡ after_requests done (requests_from stand n (line_parts (held ++ more)))
 
 -- the requests that were answered from the first states on, and then those of the held bytes, are those of all, whatever is still to come; no end and no fault was met
-pub record HasTurned {H S : Type 0} (AreAnswered : H → S → List NumberedRequest → H → S → Type 0) (first now : InputPast) (h0 h1 : H) (s0 s1 : S) (held : List ℕ) (n : ℕ) : Type 0 where
+pub record HasHandled {H S : Type 0} (AreAnswered : H → S → List NumberedRequest → H → S → Type 0) (first now : InputPast) (h0 h1 : H) (s0 s1 : S) (held : List ℕ) (n : ℕ) : Type 0 where
   pub done : List NumberedRequest
   pub answered : AreAnswered h0 s0 done h1 s1
   pub reads : HasGrown first.handed now.handed
@@ -135,8 +135,8 @@ all_requests p0 p1 p2 held n done answer told reads more faults ends next =
 
 -- a handler that was told of a read answered what it had answered
 pub after_waiting : {H S : Type 0} {AreAnswered : H → S → List NumberedRequest → H → S → Type 0} {first mid : InputPast} {h0 h1 h2 : H} {s0 s1 : S} {held : List ℕ} {n : ℕ}
-    → ((a b c : H) (s t u : S) (us vs : List NumberedRequest) → AreAnswered a s us b t → AreAnswered b t vs c u → AreAnswered a s (us ++ vs) c u) → HasTurned AreAnswered first mid h0 h1 s0 s1 held n → AreAnswered h1 s1 [] h2 s1
-    → HasTurned AreAnswered first mid h0 h2 s0 s1 held n
+    → ((a b c : H) (s t u : S) (us vs : List NumberedRequest) → AreAnswered a s us b t → AreAnswered b t vs c u → AreAnswered a s (us ++ vs) c u) → HasHandled AreAnswered first mid h0 h1 s0 s1 held n → AreAnswered h1 s1 [] h2 s1
+    → HasHandled AreAnswered first mid h0 h2 s0 s1 held n
 after_waiting {AreAnswered = AreAnswered} {h0 = h0} {h1 = h1} {h2 = h2} {s0 = s0} {s1 = s1} both turned waits = record {
   done = turned.done;
   answered = subst (λ (requests : List NumberedRequest). AreAnswered h0 s0 requests h2 s1) (append-nil turned.done) (both h0 h1 h2 s0 s1 s1 turned.done [] turned.answered waits);
@@ -148,7 +148,7 @@ after_waiting {AreAnswered = AreAnswered} {h0 = h0} {h1 = h1} {h2 = h2} {s0 = s0
 
 -- they end with what comes next, so those that were answered are all
 pub ended : {H S : Type 0} (AreAnswered : H → S → List NumberedRequest → H → S → Type 0) (last : InputPast) {first mid : InputPast} {h0 h1 h2 : H} {s0 s1 : S} {held : List ℕ} {n : ℕ} (answer : Answer) (e : ending.Ending)
-    → ((a b c : H) (s t u : S) (us vs : List NumberedRequest) → AreAnswered a s us b t → AreAnswered b t vs c u → AreAnswered a s (us ++ vs) c u) → HasTurned AreAnswered first mid h0 h1 s0 s1 held n → AreAnswered h1 s1 [] h2 s1
+    → ((a b c : H) (s t u : S) (us vs : List NumberedRequest) → AreAnswered a s us b t → AreAnswered b t vs c u → AreAnswered a s (us ++ vs) c u) → HasHandled AreAnswered first mid h0 h1 s0 s1 held n → AreAnswered h1 s1 [] h2 s1
     → HasGrown mid.handed last.handed → answer ≡ next_answer (stand_of mid last) (line_parts (held ++ since mid.handed last.handed))
     → ((rest : Requests) → next_requests n answer rest ≡ only_ends e) → AreAnswered h0 s0 (requests_of (delivery first last)).all h2 s1
 ended AreAnswered last {first = first} {mid = mid} {h0 = h0} {h2 = h2} {s0 = s0} {s1 = s1} {held = held} {n = n} answer e both before waits more next is =

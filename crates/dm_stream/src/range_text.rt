@@ -6,7 +6,7 @@
 
 ghost use Rattle.std.specs.Prelude.{◌≡◌, ◌+◌, ◌≤◌, length};
 ghost use Rattle.dm_table.specs.io.Block.{IsPut};
-ghost use Rattle.dm_stream.specs.KeptRange.{range_text, IsKept};
+ghost use Rattle.dm_stream.specs.RangeText.{range_text, IsKept};
 
 use dm_table::{put_bytes, put_digits, put_room};
 use std::marker::Model;
@@ -16,7 +16,7 @@ const ROOM: usize = 48;
 
 /// The range that came last, and its text if it came twice or is likely to.
 #[derive(Drop)]
-pub(crate) struct KeptRange {
+pub(crate) struct RangeText {
     start: u64,
     len: u64,
     text: [u8; ROOM],
@@ -26,9 +26,9 @@ pub(crate) struct KeptRange {
     came_again: bool,
 }
 
-impl Model for KeptRange {
+impl Model for RangeText {
     ghost use Rattle.std.specs.Prelude.{◌≡◌, ◌<◌, ◌≤◌, ℕ, List, take};
-    ghost use Rattle.dm_stream.specs.KeptRange.{range_text};
+    ghost use Rattle.dm_stream.specs.RangeText.{range_text};
 
     ghost Value = { List ℕ };
 
@@ -38,10 +38,10 @@ impl Model for KeptRange {
         × (0 < range.end → take range.end range.text ≡ range_text range.start range.len) };
 }
 
-impl KeptRange {
+impl RangeText {
     /// None came yet.
-    pub(crate) fn new() -> KeptRange {
-        KeptRange {
+    pub(crate) fn new() -> RangeText {
+        RangeText {
             start: 0,
             len: 0,
             text: [b' '; ROOM],
@@ -81,7 +81,7 @@ impl KeptRange {
         self.end = put_range(&mut self.text, 0, start, len);
     }
 
-    /// Puts the range that was noted at a place of a block, and returns where it ends.
+    /// Puts the range that was noted at an offset in a block, and returns where it ends.
     #[inline(always)]
     pub(crate) fn put_into(&self, block: &mut [u8], at: usize, start: u64, len: u64) -> usize
         requires room { at + ROOM ≤ length block.old }
@@ -96,7 +96,7 @@ impl KeptRange {
     }
 }
 
-/// Puts a start, a length and a newline at a place of a block, and returns where they end.
+/// Puts a start, a length and a newline at an offset in a block, and returns where they end.
 #[inline(never)]
 fn put_range(block: &mut [u8], at: usize, start: u64, len: u64) -> usize
     requires { at + ROOM ≤ length block.old }
