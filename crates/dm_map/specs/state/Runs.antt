@@ -1,6 +1,7 @@
 -- Runs of taken chunks: neighbours that were taken one after the other.
 use Rattle.std.specs.Prelude.{ℕ, zero, suc, ◌≡◌, ◌<◌, ◌≤◌, ◌+◌, ◌==◌, Bool, true, not, List, [], ◌∷◌, Option, Some, None, length, take, if◌then◌else◌}
 use Rattle.std.specs.List.{flat_map, slice_index_or}
+use Rattle.dm_map.specs.declared.state.run_taken.run.Rest.{Rest}
 use Rattle.dm_map.specs.declared.state.run_taken.run.Run.{Run}
 
 -- a chunk begins a run unless it comes right after the chunk before it
@@ -41,6 +42,21 @@ run_at runs id = slice_index_or runs id no_run
 
 abbrev pub end_of : Run → ℕ
 end_of run = run.first + run.len
+
+-- the run with one more chunk
+abbrev pub longer : Run → Run
+longer run = record { first = run.first; number = run.number; len = run.len + 1 }
+
+-- runs, and how many there is room for
+pub record RunRow : Type 0 where
+  pub items : List Run
+  pub room : ℕ
+
+-- runs by their first chunks, and what they have beside these
+abbrev pub joined : List ℕ → List Rest → List Run
+joined [] rests = []
+joined (first ∷ firsts) [] = []
+joined (first ∷ firsts) (rest ∷ rests) = record { first = first; number = rest.number; len = rest.len } ∷ joined firsts rests
 
 -- each run has a chunk, and the number that its first chunk has
 abbrev pub AreRuns : List Run → Type 0

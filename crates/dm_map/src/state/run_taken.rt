@@ -5,7 +5,7 @@
 //! chunk's number follows from its run. `Order` has them in the order of their chunks, in which the run
 //! of a chunk is found by halving.
 
-ghost use Rattle.std.specs.Prelude.{◌≡◌, ◌<◌, ◌≤◌, ◌+◌, ◌++◌, ◌∷◌, [], ◌^◌, true, None, length, nat_eq, vec_capacity};
+ghost use Rattle.std.specs.Prelude.{◌≡◌, ◌<◌, ◌≤◌, ◌+◌, ◌++◌, ◌∷◌, [], ◌^◌, true, None, length, nat_eq};
 ghost use Rattle.std.specs.List.{IsDistinct, concat};
 ghost use Rattle.std.proofs.Props.{props};
 ghost use Rattle.std.proofs.lemmas.Map.Keys.{IsDistinct-prop};
@@ -16,38 +16,46 @@ ghost use Rattle.dm_map.specs.state.Snapshots.{number_in};
 
 mod order;
 mod run;
+mod runs;
 mod search;
 #[cfg(test)]
 mod tests;
 
 use crate::state::run_taken::order::Order;
 use crate::state::run_taken::run::Run;
-use crate::state::run_taken::search::{begun_by, goes_on};
+use crate::state::run_taken::runs::Runs;
+use crate::state::run_taken::search::{begun_by, begun_near, goes_on};
 use crate::state::taken::Taken;
 use std::alloc::{AllocError, Global};
+use std::cell::Cell;
 
 /// The chunks as runs.
 ///
 /// A chunk is found by at most as many comparisons as the number of runs has binary digits; `find`
-/// knows the chunk that was taken last without them, since a write asks for it again. A chunk that
-/// comes right after the one before it, as in a disk that is written from its front, is taken in
-/// constant time; any other is put between the runs that there are, which moves at most 4,096 ids of
-/// runs, and one for each 8,192 more.
+/// knows the chunk that was taken last without them, since a write asks for it again. `take` puts a
+/// chunk where `find` just looked for it, and searches only if it did not. A chunk that comes right
+/// after the one before it, as in a disk that is written from its front, is taken in constant time; any
+/// other is put between the runs that there are, which moves at most 4,096 ids of runs, and one for
+/// each 8,192 more.
 ///
 /// All memory is reserved by `with_places`: 20 bytes for each place, and the head of a ring for each
 /// 8,192 of them. It refuses 2³² places and more as too much memory.
 #[derive(Drop)]
 pub struct RunTaken {
-    runs: Vec<Run>,
+    runs: Runs,
     order: Order,
+    /// How many runs began at the chunk that was looked for last, or before it: where it is put if it is
+    /// taken next. No clause knows what a cell holds, so this is a guess.
+    begun: Cell<usize>,
     places: usize,
     valid: bool,
-    ghost reserved: { places ≤ vec_capacity runs },
+    ghost reserved: { places ≤ runs.room },
     ghost small: { places < 2 ^ 32 },
     ghost room: { order.places ≡ places },
     ghost len: { order.len ≡ length runs.items },
     ghost fits: { length (chunks_in runs.items) ≤ places },
-    ghost once: { IsDistinct nat_eq (chunks_in runs.items) } by { IsDistinct-prop nat_eq (chunks_in runs.items) },
+    ghost once: { IsDistinct nat_eq (chunks_in runs.items) } by { IsDistinct-prop nat_eq
+        (chunks_in runs.items) },
     ghost counted: { run_count (chunks_in runs.items) ≡ length runs.items },
     ghost kept: { AreRuns runs.items } by { Prim.hlevel props },
     ghost sorted: { AreSorted runs.items (concat (contents order.blocks.items)) } by { Prim.hlevel props },
@@ -72,12 +80,13 @@ impl RunTaken {
         ensures few { comparisons.new
             ≤ comparisons.old + binary_digits (run_count (⟦<RunTaken as Taken>⟧.chunks self.now)) }
     {
-        let (begun, made) = begun_by(self.runs.as_slice(), &self.order, chunk);
+        let (begun, made) = begun_by(&self.runs, &self.order, chunk);
         *comparisons = comparisons.saturating_add(made);
+        self.begun.set(begun);
         if begun == 0 {
             return None;
         }
-        let run = self.runs[self.order.at(begun - 1) as usize];
+        let run = self.runs.at(self.order.at(begun - 1) as usize);
         let offset = chunk - run.first;
         if offset < u64::from(run.len) {
             Some(run.number as usize + offset as usize)
@@ -95,17 +104,16 @@ impl RunTaken {
         ensures places { self.new.places ≡ self.old.places }
         ensures valid { self.new.valid ≡ self.old.valid }
     {
-        let (rank, _) = begun_by(self.runs.as_slice(), &self.order, chunk);
+        // A write looks for a chunk before it takes it.
+        let guess = self.begun.get();
+        let rank = begun_near(&self.runs, &self.order, chunk, guess);
         let id = self.runs.len() as u32;
         let run = Run {
             first: chunk,
             number: self.count() as u32,
             len: 1,
         };
-        // The memory was reserved when the runs were made.
-        let Ok(()) = self.runs.push(run) else {
-            unreachable!()
-        };
+        self.runs.push(run);
         self.order.insert(rank, id);
     }
 }
@@ -122,8 +130,9 @@ impl Taken for RunTaken {
             return Err(AllocError);
         }
         Ok(RunTaken {
-            runs: Vec::with_capacity(alloc, count)?,
+            runs: Runs::with_capacity(alloc, count)?,
             order: Order::with_places(alloc, count)?,
+            begun: Cell::new(0),
             places: count,
             valid: true,
         })
@@ -131,7 +140,7 @@ impl Taken for RunTaken {
 
     fn find(&self, chunk: u64) -> Option<usize> {
         // The chunk that was taken last is the one that the next chunk would go on from.
-        if chunk < u64::MAX && goes_on(self.runs.as_slice(), chunk + 1) {
+        if chunk < u64::MAX && goes_on(&self.runs, chunk + 1) {
             return Some(self.count() - 1);
         }
         let mut comparisons = 0;
@@ -154,9 +163,8 @@ impl Taken for RunTaken {
     }
 
     fn take(&mut self, chunk: u64) {
-        if goes_on(self.runs.as_slice(), chunk) {
-            let last = self.runs.len() - 1;
-            self.runs[last].len += 1;
+        if goes_on(&self.runs, chunk) {
+            self.runs.lengthen();
         } else {
             self.begin(chunk);
         }

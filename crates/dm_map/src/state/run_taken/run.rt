@@ -10,3 +10,10 @@ pub(crate) struct Run {
     /// How many chunks it has.
     pub(crate) len: u32,
 }
+
+/// What a run has beside its first chunk.
+#[derive(Clone, Copy)]
+pub(crate) struct Rest {
+    pub(crate) number: u32,
+    pub(crate) len: u32,
+}

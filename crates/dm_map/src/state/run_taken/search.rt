@@ -1,7 +1,7 @@
 //! The run of a chunk, found by halving over the ranks of runs.
 //!
 //! This is the one place where a chunk is compared with the first chunk of a run, and each comparison
-//! is counted here.
+//! of a search is counted here.
 
 ghost use Rattle.std.specs.Prelude.{◌≡◌, ◌<◌, ◌≤◌, ◌-◌, None, length, not};
 ghost use Rattle.std.specs.List.{concat};
@@ -10,18 +10,18 @@ ghost use Rattle.dm_map.specs.state.Blocks.{contents};
 ghost use Rattle.dm_map.specs.state.Runs.{AreRuns, AreSorted, begins, chunks_in, last_after, ranked};
 
 use crate::state::run_taken::order::Order;
-use crate::state::run_taken::run::Run;
+use crate::state::run_taken::runs::Runs;
 
 /// How many runs begin at the chunk or before it, and how many first chunks were compared with it.
-pub(super) fn begun_by(runs: &[Run], order: &Order, chunk: u64) -> (usize, u64)
-    requires sorted { AreSorted runs.now (concat (contents order.now.blocks.items)) }
-    requires len { order.now.len ≡ length runs.now }
-    ensures within { result.0 ≤ length runs.now }
+pub(super) fn begun_by(runs: &Runs, order: &Order, chunk: u64) -> (usize, u64)
+    requires sorted { AreSorted runs.now.items (concat (contents order.now.blocks.items)) }
+    requires len { order.now.len ≡ length runs.now.items }
+    ensures within { result.0 ≤ length runs.now.items }
     ensures from { 0 < result.0
-        → (ranked runs.now (concat (contents order.now.blocks.items)) (result.0 - 1)).first ≤ chunk }
-    ensures next { result.0 < length runs.now
-        → chunk < (ranked runs.now (concat (contents order.now.blocks.items)) result.0).first }
-    ensures few { result.1 ≤ binary_digits (length runs.now) }
+        → (ranked runs.now.items (concat (contents order.now.blocks.items)) (result.0 - 1)).first ≤ chunk }
+    ensures next { result.0 < length runs.now.items
+        → chunk < (ranked runs.now.items (concat (contents order.now.blocks.items)) result.0).first }
+    ensures few { result.1 ≤ binary_digits (length runs.now.items) }
 {
     let mut low = 0;
     let mut high = runs.len();
@@ -29,7 +29,7 @@ pub(super) fn begun_by(runs: &[Run], order: &Order, chunk: u64) -> (usize, u64)
     while low < high {
         let middle = low + (high - low) / 2;
         comparisons += 1;
-        if runs[order.at(middle) as usize].first <= chunk {
+        if first_at(runs, order, middle) <= chunk {
             low = middle + 1;
         } else {
             high = middle;
@@ -38,10 +38,40 @@ pub(super) fn begun_by(runs: &[Run], order: &Order, chunk: u64) -> (usize, u64)
     (low, comparisons)
 }
 
+/// How many runs begin at the chunk or before it, by a guess if that is right, and else by a search.
+pub(super) fn begun_near(runs: &Runs, order: &Order, chunk: u64, guess: usize) -> usize
+    requires sorted { AreSorted runs.now.items (concat (contents order.now.blocks.items)) }
+    requires len { order.now.len ≡ length runs.now.items }
+    ensures within { result ≤ length runs.now.items }
+    ensures from { 0 < result
+        → (ranked runs.now.items (concat (contents order.now.blocks.items)) (result - 1)).first ≤ chunk }
+    ensures next { result < length runs.now.items
+        → chunk < (ranked runs.now.items (concat (contents order.now.blocks.items)) result).first }
+{
+    if guess <= runs.len()
+        && (guess == 0 || first_at(runs, order, guess - 1) <= chunk)
+        && (guess == runs.len() || chunk < first_at(runs, order, guess))
+    {
+        return guess;
+    }
+    let (begun, _) = begun_by(runs, order, chunk);
+    begun
+}
+
+/// The first chunk of the run of a rank.
+fn first_at(runs: &Runs, order: &Order, rank: usize) -> u64
+    requires sorted { AreSorted runs.now.items (concat (contents order.now.blocks.items)) }
+    requires len { order.now.len ≡ length runs.now.items }
+    requires within { rank < length runs.now.items }
+    ensures { result ≡ (ranked runs.now.items (concat (contents order.now.blocks.items)) rank).first }
+{
+    runs.first(order.at(rank) as usize)
+}
+
 /// Whether a chunk continues from the chunk that was taken last.
-pub(super) fn goes_on(runs: &[Run], chunk: u64) -> bool
-    requires { AreRuns runs.now }
-    ensures { result ≡ not (begins (last_after None (chunks_in runs.now)) chunk) }
+pub(super) fn goes_on(runs: &Runs, chunk: u64) -> bool
+    requires { AreRuns runs.now.items }
+    ensures { result ≡ not (begins (last_after None (chunks_in runs.now.items)) chunk) }
 {
     match runs.last() {
         Some(run) => {

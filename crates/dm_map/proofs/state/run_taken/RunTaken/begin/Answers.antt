@@ -3,17 +3,17 @@ use Rattle.std.specs.List.{IsDistinct, concat}
 use Rattle.std.proofs.lemmas.List.{length_push}
 use Rattle.dm_map.specs.state.Blocks.{contents}
 use Rattle.dm_map.specs.state.Runs.{chunks_in}
-use Rattle.dm_map.proofs.state.GrowLemmas.{begun_chunks, begun_counted, begun_kept}
-use Rattle.dm_map.proofs.state.Numbers.{distinct_more}
-use Rattle.dm_map.proofs.state.RunLemmas.{few_runs}
-use Rattle.dm_map.proofs.state.SortedLemmas.{ended_before, sorted_more}
+use Rattle.dm_map.proofs.GrowLemmas.{begun_chunks, begun_counted, begun_kept}
+use Rattle.dm_map.proofs.Numbers.{distinct_more}
+use Rattle.dm_map.proofs.RunLemmas.{few_runs}
+use Rattle.dm_map.proofs.SortedLemmas.{ended_before, sorted_more}
 use Rattle.dm_map.proofs.state.run_taken.RunTaken.begin.Goals as goal
 
-pub unreachable-requires : goal.unreachable-requires
-unreachable-requires c =
+pub push-requires : goal.push-requires
+push-requires c =
     let taken = c.args.self.now in
     let few = few_runs taken.runs.items taken.kept in
-    omega (arith, few, c.in_default.ensures.full, taken.reserved, c.requires.room, taken.runs.ok)
+    omega (arith, few, taken.reserved, c.requires.room)
 
 pub insert-requires-clause-room : goal.insert-requires-clause-room
 insert-requires-clause-room c =
@@ -21,21 +21,21 @@ insert-requires-clause-room c =
     let few = few_runs taken.runs.items taken.kept in
     omega (arith, few, taken.len, taken.room, c.requires.room)
 
-pub invariant_of-self-3 : goal.invariant_of-self-3
-invariant_of-self-3 c =
+pub invariant_of-self-4 : goal.invariant_of-self-4
+invariant_of-self-4 c =
     let taken = c.args.self.now in
     let ids = concat (contents taken.order.blocks.items) in
-    let items = c.in-Ok.ensures.items in
-    let e = rw c.as_slice.ensures.value at c.begun_by-rank.ensures in
+    let items = c.push.ensures.items in
+    let e = c.begun_near-rank.ensures in
     let chunks = begun_chunks taken.runs.items c.args.chunk c.count.result in
     let now : chunks_in c.push.new.self.items ≡ chunks_in taken.runs.items ++ c.args.chunk ∷ [] = ap chunks_in items ∙ chunks in
-    let ended = ended_before taken.runs.items ids c.args.chunk c.begun_by-rank.result.0 taken.kept taken.once taken.sorted c.requires.fresh e.within e.from in
-    let run_sorted = sorted_more taken.runs.items ids (record { first = c.args.chunk; number = c.count.result; len = 1 }) c.begun_by-rank.result.0 taken.sorted e.within ended e.next refl in
-    let id : c.len-id.result ≡ length taken.runs.items = omega (arith, c.len-id.ensures, taken.runs.ok) in
+    let ended = ended_before taken.runs.items ids c.args.chunk c.begun_near-rank.result taken.kept taken.once taken.sorted c.requires.fresh e.within e.from in
+    let run_sorted = sorted_more taken.runs.items ids (record { first = c.args.chunk; number = c.count.result; len = 1 }) c.begun_near-rank.result taken.sorted e.within ended e.next refl in
+    let id : c.len-id.result ≡ length taken.runs.items = c.len-id.ensures in
     let longer : length c.push.new.self.items ≡ length taken.runs.items + 1 = ap length items ∙ length_push taken.runs.items (record { first = c.args.chunk; number = c.count.result; len = 1 }) in
     let more : length (chunks_in c.push.new.self.items) ≡ length (chunks_in taken.runs.items) + 1 = ap length now ∙ length_push (chunks_in taken.runs.items) c.args.chunk in
     record {
-      reserved = omega (arith, taken.reserved, c.in-Ok.ensures.capacity);
+      reserved = omega (arith, taken.reserved, c.push.ensures.room);
       small = taken.small;
       room = c.insert.ensures.places ∙ taken.room;
       len = omega (arith, c.insert.ensures.len, taken.len, longer);

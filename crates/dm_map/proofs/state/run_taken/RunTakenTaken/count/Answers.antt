@@ -1,7 +1,11 @@
-use Rattle.dm_map.proofs.state.RunLemmas.{count_by_last}
+use Rattle.std.proofs.Common.{ap, length, sym}
+use Rattle.dm_map.specs.state.Runs.{chunks_in}
+use Rattle.dm_map.proofs.state.JoinedRuns.{no_last}
+use Rattle.dm_map.proofs.RunLemmas.{count_by_last}
 use Rattle.dm_map.proofs.state.run_taken.RunTakenTaken.count.Goals as goal
 
 pub returns-in-Some : goal.returns-in-Some
-returns-in-Some c =
-    let is = c.in-Some.ensures.value in
-    count_by_last c.args.self.now.runs.items c.in-Some.run'.now c.args.self.now.kept (rw c.deref.ensures.value at is)
+returns-in-Some c = count_by_last c.args.self.now.runs.items c.in-Some.run' c.args.self.now.kept c.in-Some.ensures
+
+pub returns-in-None : goal.returns-in-None
+returns-in-None c = sym (ap (λ runs. length (chunks_in runs)) (no_last c.args.self.now.runs.items c.in-None.ensures))

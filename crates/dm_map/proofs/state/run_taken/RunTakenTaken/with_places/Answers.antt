@@ -1,6 +1,6 @@
 use Rattle.std.proofs.Common.{◌≡◌, ◌∙◌, [], ap, length, refl, sym, arith}
 use Rattle.std.specs.List.{IsDistinct}
-use Rattle.dm_map.proofs.state.GrowLemmas.{no_runs, none_sorted}
+use Rattle.dm_map.proofs.GrowLemmas.{no_runs, none_sorted}
 use Rattle.dm_map.proofs.state.run_taken.RunTakenTaken.with_places.Goals as goal
 
 pub invariant_of-result : goal.invariant_of-result
@@ -10,7 +10,7 @@ invariant_of-result c =
     let order = c.in_ok-with_places.field-0 in
     let none : runs.items ≡ [] = c.in_ok-with_capacity.ensures.items in
     record {
-      reserved = c.in_ok-with_capacity.ensures.capacity;
+      reserved = c.in_ok-with_capacity.ensures.room;
       small = omega arith;
       room = c.in_ok-with_places.ensures.places;
       len = c.in_ok-with_places.ensures.len ∙ sym (ap length none);

@@ -17,12 +17,12 @@ few k all total some within =
 back : (n : ℕ) → n + 1 - 1 ≡ n
 back n = omega arith
 
-pub loop-low-preserved-then-runs-at : goal.loop-low-preserved-then-runs-at
-loop-low-preserved-then-runs-at c =
+pub loop-low-preserved-then-first_at-chunk : goal.loop-low-preserved-then-first_at-chunk
+loop-low-preserved-then-first_at-chunk c =
     let l = c.loop-low in
     let i = l.invariant in
     let more = c.loop-low-test.true in
-    let first = rw c.at.ensures at c.if-runs-at.true in
+    let first = rw c.first_at.ensures at c.if-first_at-chunk.true in
     record {
       within = omega (arith, more);
       end = i.end;
@@ -42,7 +42,7 @@ loop-low-preserved c =
       within = omega (arith, more);
       end = omega (arith, i.end, more);
       from = i.from;
-      next = λ _. rw (sym c.at.ensures) c.if-runs-at.false;
+      next = λ _. rw (sym c.first_at.ensures) c.if-first_at-chunk.false;
       small = omega (arith, i.small, more);
       halved = halved l.comparisons _ (l.high - l.low) _ (omega (arith, more)) i.halved;
       few = few l.comparisons (l.high - l.low) _ (omega (arith, more)) i.halved;

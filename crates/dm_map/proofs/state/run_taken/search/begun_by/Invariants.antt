@@ -9,12 +9,12 @@ use Rattle.dm_map.proofs.state.run_taken.search.begun_by.Given as goal
 abbrev pub invariant-loop-low : goal.invariant-loop-low
 invariant-loop-low l = record {
   within : l.low ≤ l.high;
-  end : l.high ≤ length l.runs;
-  from : 0 < l.low → (ranked l.runs (concat (contents l.order.blocks.items)) (l.low - 1)).first ≤ l.chunk;
-  next : l.high < length l.runs → l.chunk < (ranked l.runs (concat (contents l.order.blocks.items)) l.high).first;
+  end : l.high ≤ length l.runs.items;
+  from : 0 < l.low → (ranked l.runs.items (concat (contents l.order.blocks.items)) (l.low - 1)).first ≤ l.chunk;
+  next : l.high < length l.runs.items → l.chunk < (ranked l.runs.items (concat (contents l.order.blocks.items)) l.high).first;
   small : l.comparisons + (l.high - l.low) < 2 ^ 64;
-  halved : 2 ^ l.comparisons * (l.high - l.low) ≤ length l.runs;
-  few : l.comparisons ≤ binary_digits (length l.runs);
+  halved : 2 ^ l.comparisons * (l.high - l.low) ≤ length l.runs.items;
+  few : l.comparisons ≤ binary_digits (length l.runs.items);
 }
 
 abbrev pub decreases-loop-low : goal.decreases-loop-low
