@@ -12,7 +12,7 @@ use Rattle.dm_map.specs.walk.SnapshotWrites.{read}
 use Rattle.dm_map.specs.state.State.{State}
 use Rattle.dm_map.specs.walk.Steps.{keep, steps}
 use Rattle.dm_map.specs.pieces.Units.{BlockUnit, ReadOf, Zeros, Fails}
-use Rattle.dm_map.proofs.own.ChunkOutcomes.{IsRead, Sector, Nothing, Fault, is_read}
+use Rattle.dm_map.proofs.ChunkOutcomes.{IsRead, Sector, Nothing, Fault, is_read}
 use Rattle.dm_replay.specs.declared.asked_request.AskedRequest.{AskedRequest}
 use Rattle.dm_replay.specs.declared.value.Value.{Value}
 use Rattle.dm_replay.specs.declared.value.Value.TheVariants as value

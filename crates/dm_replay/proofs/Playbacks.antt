@@ -12,7 +12,7 @@ use Rattle.dm_map.specs.state.State.{State}
 use Rattle.dm_map.specs.walk.Steps.{Step}
 use Rattle.dm_map.specs.own.Stops.{stopped_units}
 use Rattle.dm_map.specs.pieces.Units.{BlockUnit, Fails, units_in}
-use Rattle.dm_map.proofs.walk.Rows.{step_past_end}
+use Rattle.dm_map.proofs.Rows.{step_past_end}
 use Rattle.dm_replay.specs.declared.disk_values.DiskValues.{DiskValues}
 use Rattle.dm_replay.specs.declared.halting.Halting.{Halting}
 use Rattle.dm_replay.specs.declared.player.Player.{Player}

@@ -12,7 +12,7 @@ use Rattle.dm_table.specs.load.LoadFault.{fault, faults_by, first_or}
 use Rattle.dm_stack.specs.Description.{Description}
 use Rattle.dm_stack.specs.StoreLimit.{all_places}
 use Rattle.dm_stack.specs.Soundness.{IsSound, WithBefore, all_lines, checks_after, is_crowded, target_places, with_before}
-use Rattle.dm_table.proofs.load.FaultLemmas.{first_fault-none}
+use Rattle.dm_table.proofs.FaultLemmas.{first_fault-none}
 use Rattle.dm_stack.proofs.Passes.{cond_none}
 use Rattle.dm_stack.proofs.PlacedLemmas.{next_of}
 use Rattle.dm_stack.proofs.WithBefore.{further_on}

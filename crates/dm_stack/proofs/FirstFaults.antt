@@ -9,7 +9,7 @@ use Rattle.dm_table.specs.declared.load.load_fault.LoadKind.{LoadKind}
 use Rattle.dm_table.specs.declared.load.load_fault.LoadKind.TheVariants.{Limit}
 use Rattle.dm_table.specs.declared.load.load_fault.LoadFault.{LoadFault}
 use Rattle.dm_table.specs.load.LoadFault.{fault, faults_by, first_or}
-use Rattle.dm_table.proofs.load.FaultLemmas.{first_or-passed, first_or-found}
+use Rattle.dm_table.proofs.FaultLemmas.{first_or-passed, first_or-found}
 use Rattle.dm_stack.specs.Description.{Description, end_of}
 use Rattle.dm_stack.specs.Soundness.{past, all_lines, too_many}
 

@@ -20,7 +20,7 @@ use Rattle.dm_stack.specs.Depth.{stack_depth}
 use Rattle.dm_stack.specs.Soundness.{Early, HasNoCycle, IsFirstCycle, IsRefusedBy, IsSound, Late, all_lines, checks_after, checks_before, depth_of, is_unknown, is_unknown_ref, unknown}
 use Rattle.dm_table.specs.tables.Span.{Span, spans}
 use Rattle.dm_stack.proofs.HandedOn.{all_append, refused_not_memory}
-use Rattle.dm_table.proofs.load.FaultLemmas.{first_or-found, first_or-none, first_or-passed}
+use Rattle.dm_table.proofs.FaultLemmas.{first_or-found, first_or-none, first_or-passed}
 use Rattle.dm_stack.proofs.Passes.{all_parts, faults_by_none}
 
 -- Checks in a row

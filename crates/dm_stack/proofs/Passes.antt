@@ -5,7 +5,7 @@ use Rattle.std.specs.List.{AllByRecursion}
 use Rattle.dm_table.specs.declared.load.place.Place.{Place}
 use Rattle.dm_table.specs.declared.load.load_fault.LoadKind.{LoadKind}
 use Rattle.dm_table.specs.load.LoadFault.{faults_by}
-use Rattle.dm_table.proofs.load.FaultLemmas.{first_fault-none}
+use Rattle.dm_table.proofs.FaultLemmas.{first_fault-none}
 use Rattle.dm_stack.specs.Description.{Description}
 use Rattle.dm_stack.specs.Soundness.{too_many, too_large, empty, misplaced, unknown, deep, stripe, range, snapshot, store, checks_before, checks_after, IsSound}
 

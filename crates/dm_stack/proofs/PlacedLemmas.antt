@@ -7,7 +7,7 @@ use Rattle.dm_table.specs.declared.load.place.Place.{Place}
 use Rattle.dm_table.specs.declared.tables.table.DeviceSpec.{DeviceSpec}
 use Rattle.dm_table.specs.declared.tables.table.Line.{Line}
 use Rattle.dm_table.specs.load.LoadFault.{fault, faults_by, first_or}
-use Rattle.dm_table.proofs.load.FaultLemmas.{first_or-passed, first_or-found}
+use Rattle.dm_table.proofs.FaultLemmas.{first_or-passed, first_or-found}
 use Rattle.dm_stack.specs.Soundness.{all_lines}
 use Rattle.dm_stack.proofs.FirstFaults.{by_append, first_append}
 

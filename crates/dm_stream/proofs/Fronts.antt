@@ -6,7 +6,7 @@ use Rattle.std.proofs.lemmas.List.{append-nil}
 use Rattle.dm_table.specs.io.DeviceIo.{Stand, Open, since}
 use Rattle.dm_table.specs.requests.RequestLine.{RequestValues, DescribesRequest, request_reading}
 use Rattle.dm_table.specs.declared.requests.request.RequestFault.{RequestFault}
-use Rattle.dm_table.proofs.requests.RequestLemmas.{read-said}
+use Rattle.dm_table.proofs.RequestLemmas.{read-said}
 use Rattle.dm_stream.specs.Lines.{ALine, line_parts, next_answer}
 use Rattle.dm_table.specs.laws.Progress.{since-same, grows-same}
 use Rattle.dm_stream.specs.Requests.{NumberedRequest, Requests, after_requests, by_reading, is_bad, line_requests}

@@ -23,7 +23,7 @@ use Rattle.dm_stream.specs.Pieces.{UnitRun, fewest}
 use Rattle.dm_table.specs.words.Fields.{all_but_last}
 use Rattle.dm_stream.specs.PieceText.{piece_text, pieces_text, unit_text}
 use Rattle.dm_table.specs.io.WriteAll.{IsBeginning, IsCutShort}
-use Rattle.dm_table.proofs.io.WriteLemmas.{and_then}
+use Rattle.dm_table.proofs.WriteLemmas.{and_then}
 use Rattle.dm_table.specs.io.Progress.{HasWritten, Wrote}
 
 pub on_sink : {F : Type 0} (r : Result (Unit {0}) (MapFault F)) (fault : F) (P : Type 0) → r ≡ Err (faults.Sink fault) → OnSinkFault r P → P

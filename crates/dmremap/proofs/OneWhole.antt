@@ -7,10 +7,10 @@ use Rattle.dm_table.specs.declared.load.load_fault.LoadFault.{LoadFault}
 use Rattle.dm_table.specs.load.LoadFault.{first_or, first_fault}
 use Rattle.dm_table.specs.tables.DiskList.{disk_checks}
 use Rattle.dm_table.specs.io.DeviceIo.{Delivery}
-use Rattle.dm_table.proofs.load.FaultLemmas.{first_or-none}
-use Rattle.dm_table.proofs.tables.ConciseDescribed.{again as again_concise}
-use Rattle.dm_table.proofs.tables.TableDescribed.{again}
-use Rattle.dm_table.proofs.tables.DiskLemmas.{again as again_disks, DescribesDisks-unique}
+use Rattle.dm_table.proofs.FaultLemmas.{first_or-none}
+use Rattle.dm_table.proofs.ConciseDescribed.{again as again_concise}
+use Rattle.dm_table.proofs.TableDescribed.{again}
+use Rattle.dm_table.proofs.DiskLemmas.{again as again_disks, DescribesDisks-unique}
 use Rattle.dm_table.specs.load.PartInput.{PartRead, TextOf, Refuses, Unread, part_read}
 use Rattle.dmremap.specs.declared.job.Format.{Format}
 use Rattle.dmremap.specs.declared.job.Format.TheVariants.{Lvm, Tables}

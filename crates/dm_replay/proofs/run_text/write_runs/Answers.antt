@@ -1,7 +1,7 @@
 use Rattle.std.proofs.Common.{ℕ, ◌+◌, length, List, ◌++◌, drop, take, refl}
 use Rattle.std.specs.List.{flat_map}
 use Rattle.std.proofs.lemmas.Result.{err_from_is_err_and}
-use Rattle.dm_table.proofs.io.WriteLemmas.{stopped, and_then, flat_map_at, flat_map_next}
+use Rattle.dm_table.proofs.WriteLemmas.{stopped, and_then, flat_map_at, flat_map_next}
 use Rattle.dm_replay.specs.declared.value_run.ValueRun.{ValueRun}
 use Rattle.dm_replay.specs.RunText.{run_line}
 use Rattle.dm_replay.specs.OfDisks.{IsRunOf}

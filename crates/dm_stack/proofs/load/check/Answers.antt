@@ -4,7 +4,7 @@ use Rattle.std.specs.Prelude.{nat_lt}
 use Rattle.std.proofs.lemmas.Result.{err_from_is_err_and}
 use Rattle.dm_table.specs.declared.load.load_fault.LoadKind.TheVariants.{Deep}
 use Rattle.dm_table.specs.load.LoadFault.{first_or, first_fault}
-use Rattle.dm_table.proofs.load.FaultLemmas.{first_or-none}
+use Rattle.dm_table.proofs.FaultLemmas.{first_or-none}
 use Rattle.dm_stack.specs.Description.{Description, links}
 use Rattle.dm_stack.specs.Graph.{IsFirstRing, depths_to, greatest}
 use Rattle.dm_stack.specs.DiskText.{disk_text}

@@ -5,7 +5,7 @@ use Rattle.dm_stack.specs.declared.id.Lower.TheVariants as lowers
 use Rattle.dm_map.specs.pieces.Units.{BlockUnit, CopyOf, Drops, Fails, FillOf, ReadOf, WriteOf, Zeros, IsOnDisk, IsOnDisks, first_unit, piece_len}
 use Rattle.dm_map.specs.declared.pieces.piece.Piece.{Piece}
 use Rattle.dm_map.specs.declared.pieces.piece.Piece.TheVariants as code
-use Rattle.dm_map.proofs.state.InStack.{lower_small}
+use Rattle.dm_map.proofs.InStack.{lower_small}
 use Rattle.dm_stream.specs.Pending.{Fits}
 use Rattle.dm_stream.proofs.held_piece.longer.Goals as goal
 

@@ -1,6 +1,6 @@
 use Rattle.std.proofs.Common.{refl}
 use Rattle.std.proofs.lemmas.Result.{err_from_is_err_and}
-use Rattle.dm_table.proofs.io.WriteLemmas.{stopped, and_then}
+use Rattle.dm_table.proofs.WriteLemmas.{stopped, and_then}
 use Rattle.dm_stack.specs.Description.{device_len, name_at}
 use Rattle.dm_stream.specs.StatusLines.{after_name}
 use Rattle.dm_stream.proofs.status_lines.write_line.Goals as goal

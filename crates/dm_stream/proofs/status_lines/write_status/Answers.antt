@@ -2,7 +2,7 @@ use Rattle.std.proofs.Common.{◌≡◌, ◌+◌, ◌++◌, ◌∙◌, ℕ, List
 use Rattle.std.specs.Prelude.{IfSome}
 use Rattle.std.specs.List.{flat_map}
 use Rattle.std.proofs.lemmas.Result.{err_from_is_err_and}
-use Rattle.dm_table.proofs.io.WriteLemmas.{stopped, and_then, flat_map_at}
+use Rattle.dm_table.proofs.WriteLemmas.{stopped, and_then, flat_map_at}
 use Rattle.dm_stack.specs.declared.found_line.FoundSnapshot.{FoundSnapshot}
 use Rattle.dm_stack.specs.Description.{Description, device_len, name_at}
 use Rattle.dm_stack.specs.Snapshots.{IsSnapshot}

@@ -1,6 +1,6 @@
 use Rattle.std.proofs.Common.{[], ◌∷◌, refl}
 use Rattle.std.proofs.lemmas.Result.{err_from_is_err_and}
-use Rattle.dm_table.proofs.io.WriteLemmas.{stopped}
+use Rattle.dm_table.proofs.WriteLemmas.{stopped}
 use Rattle.dmremap.proofs.printing.write_line.Goals as goal
 
 pub returns-in_err-write_all : goal.returns-in_err-write_all

@@ -1,4 +1,4 @@
-use Rattle.dm_table.proofs.io.Growth.{on_err}
+use Rattle.dm_table.proofs.Growth.{on_err}
 use Rattle.dm_stream.proofs.JoinLemmas.{left_apart}
 use Rattle.dm_stream.proofs.join.JoinSink.piece.Goals as goal
 

@@ -1,5 +1,5 @@
 use Rattle.std.proofs.Common.{◌-◌, ◌∙◌}
-use Rattle.dm_table.proofs.io.Growth.{quiet_since, on_err}
+use Rattle.dm_table.proofs.Growth.{quiet_since, on_err}
 use Rattle.dm_stream.proofs.Held.{same_range, none_after, refilled}
 use Rattle.dm_stream.proofs.lines.Lines.fill.Goals as goal
 
