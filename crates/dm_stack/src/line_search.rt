@@ -113,6 +113,7 @@ fn after_last(table: &FoundTable, device: DeviceId, last: &LastLine, sector: u64
     ensures { Finds table.now sector result }
 {
     if last.end == sector && last.device == device {
+        // The next line's index is a number, since that line is there.
         let lines = table.lines();
         prove!(last.index < lines.len());
         return (last.index + 1, 0);
@@ -120,6 +121,7 @@ fn after_last(table: &FoundTable, device: DeviceId, last: &LastLine, sector: u64
     search(table, sector)
 }
 
+/// A line that is searched for among all, by starts alone.
 fn search(table: &FoundTable, sector: u64) -> (usize, u64)
     requires { StartsBy table.now 0 sector }
     ensures { Finds table.now sector result }
