@@ -18,8 +18,8 @@ pub returns-in-Snapshot-clause-places : goal.returns-in-Snapshot-clause-places
 returns-in-Snapshot-clause-places c number =
     let stack = c.args.looker.now.stack in let snapshot = c.in-Snapshot.snapshot in
     let len : c.lower_len-len.result ≡ lower_len stack snapshot.store = c.lower_len-len.ensures.len ∙ ap (λ (s : Description). lower_len s snapshot.store) c.look.ensures.stack in
-    snapshot_room stack c.args.device number c.places.result c.look.result.now snapshot c.look.ensures.line c.in-Snapshot.is
-    (subst (λ (n : ℕ). (number < c.places.result) ↔ ((place snapshot.kind snapshot.chunk number + 1) * snapshot.chunk ≤ n)) len (c.places.ensures.law number))
+    snapshot_room stack c.args.device number c.place_count.result c.look.result.now snapshot c.look.ensures.line c.in-Snapshot.is
+    (subst (λ (n : ℕ). (number < c.place_count.result) ↔ ((place snapshot.kind snapshot.chunk number + 1) * snapshot.chunk ≤ n)) len (c.place_count.ensures.law number))
 
 pub returns-in_default-clause-places : goal.returns-in_default-clause-places
 returns-in_default-clause-places c number =

@@ -3,10 +3,10 @@ use Rattle.std.specs.List.{IsDistinct, concat}
 use Rattle.std.proofs.lemmas.List.{length_push}
 use Rattle.dm_map.specs.state.Blocks.{contents}
 use Rattle.dm_map.specs.state.Runs.{chunks_in}
-use Rattle.dm_map.proofs.GrowLemmas.{begun_chunks, begun_counted, begun_kept}
-use Rattle.dm_map.proofs.Numbers.{distinct_more}
-use Rattle.dm_map.proofs.RunLemmas.{few_runs}
-use Rattle.dm_map.proofs.SortedLemmas.{ended_before, sorted_more}
+use Rattle.dm_map.proofs.state.GrowLemmas.{begun_chunks, begun_counted, begun_kept}
+use Rattle.dm_map.proofs.state.Numbers.{distinct_more}
+use Rattle.dm_map.proofs.state.RunLemmas.{few_runs}
+use Rattle.dm_map.proofs.state.SortedLemmas.{ended_before, sorted_more}
 use Rattle.dm_map.proofs.state.run_taken.RunTaken.begin.Goals as goal
 
 pub push-requires : goal.push-requires

@@ -1,7 +1,7 @@
 use Rattle.std.proofs.Common.{sym, arith}
 use Rattle.std.specs.List.{concat}
 use Rattle.dm_map.specs.state.Blocks.{contents}
-use Rattle.dm_map.proofs.SortedLemmas.{number_between, number_found, number_missed}
+use Rattle.dm_map.proofs.state.SortedLemmas.{number_between, number_found, number_missed}
 use Rattle.dm_map.proofs.state.run_taken.RunTaken.find_counted.Goals as goal
 
 pub returns-then-begun-eq0-clause-found : goal.returns-then-begun-eq0-clause-found

@@ -1,7 +1,7 @@
 use Rattle.std.proofs.Common.{ap, length, sym}
 use Rattle.dm_map.specs.state.Runs.{chunks_in}
 use Rattle.dm_map.proofs.state.JoinedRuns.{no_last}
-use Rattle.dm_map.proofs.RunLemmas.{count_by_last}
+use Rattle.dm_map.proofs.state.RunLemmas.{count_by_last}
 use Rattle.dm_map.proofs.state.run_taken.RunTakenTaken.count.Goals as goal
 
 pub returns-in-Some : goal.returns-in-Some

@@ -1,7 +1,7 @@
 use Rattle.std.proofs.Common.{◌≡◌, ◌∙◌, ◌+◌, ◌-◌, true, None, Some, ap, sym}
 use Rattle.std.specs.Prelude.{not}
 use Rattle.dm_map.specs.state.Runs.{begins, chunks_in, last_after}
-use Rattle.dm_map.proofs.RunLemmas.{number_of_last}
+use Rattle.dm_map.proofs.state.RunLemmas.{number_of_last}
 use Rattle.dm_map.proofs.state.run_taken.RunTakenTaken.find.Goals as goal
 
 pub returns-then-goes_on : goal.returns-then-goes_on

@@ -4,10 +4,10 @@ use Rattle.std.proofs.lemmas.List.{length_push, length-set}
 use Rattle.dm_map.specs.state.Blocks.{contents}
 use Rattle.dm_map.specs.state.Runs.{chunks_in, end_of, longer, run_at}
 use Rattle.dm_map.specs.state.Snapshots.{number_in}
-use Rattle.dm_map.proofs.GrowLemmas.{longer_chunks, longer_counted, longer_kept}
-use Rattle.dm_map.proofs.Numbers.{distinct_more}
-use Rattle.dm_map.proofs.RunLemmas.{count_last, goes_on_at, goes_on_there, some_to_go_on}
-use Rattle.dm_map.proofs.SortedLemmas.{longer_sorted}
+use Rattle.dm_map.proofs.state.GrowLemmas.{longer_chunks, longer_counted, longer_kept}
+use Rattle.dm_map.proofs.state.Numbers.{distinct_more}
+use Rattle.dm_map.proofs.state.RunLemmas.{count_last, goes_on_at, goes_on_there, some_to_go_on}
+use Rattle.dm_map.proofs.state.SortedLemmas.{longer_sorted}
 use Rattle.dm_map.proofs.state.run_taken.RunTakenTaken.take.Goals as goal
 
 pub lengthen-requires-clause-some : goal.lengthen-requires-clause-some

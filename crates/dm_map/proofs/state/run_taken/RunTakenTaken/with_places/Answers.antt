@@ -1,6 +1,6 @@
 use Rattle.std.proofs.Common.{◌≡◌, ◌∙◌, [], ap, length, refl, sym, arith}
 use Rattle.std.specs.List.{IsDistinct}
-use Rattle.dm_map.proofs.GrowLemmas.{no_runs, none_sorted}
+use Rattle.dm_map.proofs.state.GrowLemmas.{no_runs, none_sorted}
 use Rattle.dm_map.proofs.state.run_taken.RunTakenTaken.with_places.Goals as goal
 
 pub invariant_of-result : goal.invariant_of-result

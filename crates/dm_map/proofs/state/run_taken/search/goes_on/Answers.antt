@@ -1,6 +1,6 @@
 use Rattle.std.proofs.Common.{refl}
 use Rattle.dm_map.proofs.state.JoinedRuns.{no_last}
-use Rattle.dm_map.proofs.RunLemmas.{goes_on_before, goes_on_from}
+use Rattle.dm_map.proofs.state.RunLemmas.{goes_on_before, goes_on_from}
 use Rattle.dm_map.proofs.state.run_taken.search.goes_on.Goals as goal
 
 pub returns-then-chunk-run : goal.returns-then-chunk-run
