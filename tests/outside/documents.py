@@ -10,7 +10,7 @@ import transcripts
 # Where a path of this repository begins, as documents write it.
 PATH = re.compile(r"(?:crates|docs|examples|benches|tests|completions)/[\w./*-]*[\w*]")
 # A file of definitions of a crate, and words that a document says are in files of a name.
-SPECS = re.compile(r"\b(\w+)/specs/([A-Z]\w*)")
+SPECS = re.compile(r"\b(\w+)/specs/((?:[a-z]\w*/)*[A-Z]\w*)")
 WORDS = re.compile(r"`([A-Z]\w*)` (?:\(((?:`\w+`(?:, )?)+)\)|(`\w+`))")
 # A link to a file of the repository, and perhaps a heading there, or to a heading of the document itself.
 LINK = re.compile(r"\]\((?!\w+:)([^)#\s]*)(?:#([^)\s]+))?\)")
@@ -49,12 +49,13 @@ def check(tally, program, top):
 def lost_paths(text, top):
     """The paths that a text names and that aren't there. What is built isn't looked for."""
     named = {re.sub("CRATE|NAME", "*", it) for it in PATH.findall(text) if not re.search(r"/out(/|$)", it)}
-    named |= {"crates/%s/specs/%s.antt" % it for it in SPECS.findall(text) + listed(text) if it[0] != "CRATE"}
-    return sorted(it for it in named if not glob.glob(os.path.join(top, it)))
+    named |= {"crates/%s/specs/%s.antt" % it for it in SPECS.findall(text) if it[0] != "CRATE"}
+    named |= {"crates/%s/specs/**/%s.antt" % it for it in listed(text)}
+    return sorted(it for it in named if not glob.glob(os.path.join(top, it), recursive=True))
 
 
 def listed(text):
-    """The files of definitions in a table that lists them for each crate."""
+    """The files of definitions in a table that lists them for each crate, in whatever folder they are."""
     rows = re.search(r"\| Crate \| Files named here \|\n.*\n((?:\|.*\n)*)", text)
     rows = re.findall(r"\| `(\w+)` \| (.*) \|", rows[1]) if rows else []
     return [(crate, name) for crate, names in rows for name in re.findall(r"`(\w+)`", names)]
@@ -64,7 +65,7 @@ def lost_words(text, top):
     """The words that a text names after a file of definitions, and that no such file has."""
     lost = []
     for name, several, one in WORDS.findall(text):
-        files = glob.glob(os.path.join(top, "crates", "*", "specs", name + ".antt"))
+        files = glob.glob(os.path.join(top, "crates", "*", "specs", "**", name + ".antt"), recursive=True)
         there = "".join(text_of(it) for it in files)
         for word in re.findall(r"\w+", several or one):
             if files and not re.search(r"\b%s\b" % word, there):

@@ -18,8 +18,8 @@ OURS = "a function whose only error is that of a growth"
 
 # The module and the function of each place, what failed there, and why that was a refused growth.
 PLACES = {
-    ("dm_map/piece_list", "piece", "self.pieces.push"): STD,
-    ("dm_map/run_taken", "with_places", "count > u32::MAX as usize"):
+    ("dm_map/pieces/piece_list", "piece", "self.pieces.push"): STD,
+    ("dm_map/state/run_taken", "with_places", "count > u32::MAX as usize"):
         "none: so many places are refused as too much memory (docs/DECISIONS.md); a load allows 4,194,304",
     ("dm_replay/playback", "play_front", "mapper.request"):
         "where the sink did not stop at the last unit asked for, its error is that of a growth",
@@ -36,19 +36,17 @@ PLACES = {
     ("dm_replay/replay", "request", "self"): STD + ": the push of a request that was played",
     ("dm_replay/value_runs", "add", "last.len"):
         "none: no run comes there, since it has no more sectors than a request has, 1,048,576",
-    ("dm_stack/load", "check", "disk_texts"): OURS,
-    ("dm_stack/load", "check", "snapshots"): OURS,
-    ("dm_stack/load", "check", "tables"): OURS,
-    ("dm_stack/load", "check_links", "follow"): OURS,
+    ("dm_stack/faults", "or_out_of_memory", "made"): "its argument's only error is that of a growth",
+    ("dm_stack/faults", "out_of_memory", ""): "the fault itself, for those that answer it",
     ("dm_stack/name_index", "add", "self.names.insert"): STD,
     ("dm_stack/names", "index_of", "names.add"): OURS,
-    ("dm_table/concise_text", "parse_concise", "parts_of"): OURS,
-    ("dm_table/concise_text", "read_parts", "read_devices"): OURS,
-    ("dm_table/line_body", "read_columns", "columns.push"): STD,
-    ("dm_table/load_fault", "memory", ""): "the fault itself, for those that answer it",
-    ("dm_table/part_input", "read_part", "text.extend_from_slice"): STD,
-    ("dm_table/reading", "read_lines", "read_each::<T>"): OURS,
-    ("dm_table/text_checks", "check_text", "cut"): OURS,
+    ("dm_table/tables/concise_text", "parse_concise", "parts_of"): OURS,
+    ("dm_table/tables/concise_text", "read_parts", "read_devices"): OURS,
+    ("dm_table/tables/line_body", "read_columns", "columns.push"): STD,
+    ("dm_table/load/load_fault", "memory", ""): "the fault itself, for those that answer it",
+    ("dm_table/load/part_input", "read_part", "text.extend_from_slice"): STD,
+    ("dm_table/load/reading", "read_lines", "read_each::<T>"): OURS,
+    ("dm_table/load/text_checks", "check_text", "cut"): OURS,
     ("dmremap/map_whole", "map_whole", "Mapper::<RunTaken>::new"): OURS,
     ("dmremap/printing", "print_parts", "spaced_parts"): OURS,
     ("dmremap/printing", "print_report", "check_report"): OURS,
@@ -78,7 +76,7 @@ PLACES = {
 }
 
 # A refusal as a value. In a type it is followed by `>`, or stands after a colon or an equals sign.
-MADE = re.compile(r"(?<!== )\b\w+::(?:Memory|OutOfMemory)\b|\bLoadFault::memory\(|\bmemory_fault\(|(?<!: )(?<!= )(?<!<)\bAlloc(?:Error|Failed)\b(?![>;<])")
+MADE = re.compile(r"(?<!== )\b\w+::(?:Memory|OutOfMemory)\b|\bLoadFault::memory\(|\bmemory_fault\(|\bout_of_memory\(|(?<!: )(?<!= )(?<!<)\bAlloc(?:Error|Failed)\b(?![>;<])")
 FUNCTION = re.compile(r" *(?:pub(?:\(\w+\))? )?fn (\w+)")
 # What is asked before a place is come to.
 ASKED = re.compile(r" *(?:let \w+\(.*?\) = |match |if |while )(.+?)(?:\(|(?: else)? \{|$)")

@@ -239,6 +239,13 @@ ran_requests ending status old new is read_on met = record {
   unasked = λ one. absurd (never_one ending (sym is ∙ one));
 }
 
+-- no run that was begun ends as out of memory
+pub never_memory : (ending : Ending) → ending_status ending ≡ STATUS_MEMORY → ⊥
+never_memory endings.Done six = omega (arith, six)
+never_memory (endings.BadRequest number word) six = omega (arith, six)
+never_memory endings.ReadFault six = omega (arith, six)
+never_memory endings.WriteFault six = omega (arith, six)
+
 -- requests that are not asked for
 pub unasked_requests : (refusal : Refusal) (status : ℕ) (old new : InputPast) → status ≡ refusal_status refusal → IsReadOn old new → new ≡ old → RequestsRead status old new
 unasked_requests refusal status old new is read_on same = record {

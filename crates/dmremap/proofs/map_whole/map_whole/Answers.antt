@@ -1,4 +1,4 @@
-use Rattle.std.proofs.Common.{ap, refl, ◌≡◌, ◌∙◌}
+use Rattle.std.proofs.Common.{ap, refl, sym, ◌≡◌, ◌∙◌}
 use Rattle.dm_table.specs.io.DeviceIo.{delivery}
 use Rattle.dm_map.specs.state.State.{start_state}
 use Rattle.dm_map.proofs.LevelLemmas.{homes_free, reads_free, writes_free}
@@ -8,7 +8,7 @@ use Rattle.dm_stream.proofs.FewestLemmas.{fewest_is}
 use Rattle.dmremap.specs.declared.exit.Exit.TheVariants as exits
 use Rattle.dmremap.specs.declared.exit.Refusal.TheVariants as refusals
 use Rattle.dmremap.specs.Exit.{exit_message, exit_status}
-use Rattle.dmremap.proofs.ExitLemmas.{exits_told, ran_requests, read_on_none, refused_output, unasked_requests}
+use Rattle.dmremap.proofs.ExitLemmas.{exits_told, never_memory, ran_requests, read_on_none, refused_output, unasked_requests}
 use Rattle.dmremap.proofs.MapLemmas.{ran_failed, ran_output, ran_whole, refused_whole}
 use Rattle.dmremap.proofs.OneWhole.{one_whole}
 use Rattle.dmremap.proofs.map_whole.map_whole.Goals as goal
@@ -51,6 +51,9 @@ returns-in-Ok-new-clause-output g c = ran_output c.run.result _ _ _ _ _ c.status
 
 pub returns-in-Ok-new-clause-messages : goal.returns-in-Ok-new-clause-messages
 returns-in-Ok-new-clause-messages g c = exits_told {exit = exits.Ended c.run.result} (record { is = c.status.ensures; told = c.run.ensures.told })
+
+pub returns-in-Ok-new-clause-memory : goal.returns-in-Ok-new-clause-memory
+returns-in-Ok-new-clause-memory g c = λ six. absurd (never_memory c.run.result (sym c.status.ensures ∙ six))
 
 -- ---- there was no memory for them
 
