@@ -57,7 +57,8 @@ def check_shown(tally, path):
 
 def check_words(tally, diagnostics, formats, crates):
     """Each message, and each word of one, has an entry of its own."""
-    sources = "".join(text_of(it) for it in glob.glob(os.path.join(crates, "*", "src", "*.rt")))
+    paths = glob.glob(os.path.join(crates, "*", "src", "**", "*.rt"), recursive=True)
+    sources = "".join(text_of(it) for it in sorted(paths) if "tests" not in os.path.relpath(it, crates))
     entries = {title: entries_of(part) for title, part in parts_of(r"^\.SS Messages about (.*)\n", diagnostics)}
     advised = re.search(ADVICE, formats)[1]
     wanted = [("requests", NOT_TOP)]
