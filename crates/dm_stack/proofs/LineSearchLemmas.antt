@@ -1,11 +1,12 @@
 -- Counts of comparisons against binary digits, and the line of a sector by the starts of lines in a row.
-use Rattle.std.proofs.Common.{◌≡◌, ◌⊎◌, inl, inr, ℕ, zero, suc, ◌+◌, ◌*◌, ◌/◌, ◌^◌, ◌<◌, ◌≤◌, Bool, true, false, List, [], ◌∷◌, ◌++◌, Option, Some, None, drop, length, length-append, map, refl, sym, ap, subst, ◌∙◌, add-one, arith}
-use Rattle.std.specs.Prelude.{◌==◌, ⊤, MatchOption, option_map, slice_get}
+use Rattle.std.proofs.Common.{◌≡◌, ◌⊎◌, inl, inr, ℕ, zero, suc, ◌+◌, ◌*◌, ◌/◌, ◌^◌, ◌<◌, ◌≤◌, Bool, true, false, List, [], ◌∷◌, ◌++◌, Some, drop, length, length-append, get_or, map, refl, sym, ap, subst, ◌∙◌, add-one, arith}
+use Rattle.std.specs.Prelude.{◌==◌, option_map, slice_get}
 use Rattle.std.specs.List.{AllByRecursion}
 use Rattle.std.proofs.lemmas.Nat.{pow_pos}
 use Rattle.std.proofs.lemmas.List.{length-drop}
 use Rattle.std.proofs.lemmas.List.Elements.{All-from_recursion}
 use Rattle.std.proofs.lemmas.Bool.{eqb-true}
+use Rattle.std.proofs.lemmas.Option.{slice_get-get_or}
 use Rattle.std.proofs.Math.Nat.{mul-le-mul_left, pow-succ'}
 use Rattle.dm_table.specs.load.LoadFault.{faults_by}
 use Rattle.dm_table.specs.declared.load.load_fault.LoadKind.TheVariants.{Limit}
@@ -74,19 +75,11 @@ more-few k all total some within = rw (twice k) (omega (arith, within, mul-le-mu
 
 -- Starts
 
-starts_by_at : (found : Option FoundLine) (sector start : ℕ) → MatchOption found ⊥ (λ line. start ≡ line.start) → start ≤ sector → MatchOption found ⊥ (λ line. line.start ≤ sector)
-starts_by_at (Some line) sector start is from = omega (arith, is, from)
-starts_by_at None sector start is from = absurd is
+pub starts_by : (lines : List FoundLine) (index sector : ℕ) (line : FoundLine) → index < length lines → (get_or lines index line).start ≤ sector → StartsBy lines index sector
+starts_by lines index sector line within from = rw (slice_get-get_or lines index line within) from
 
-starts_after_at : (found : Option FoundLine) (sector start : ℕ) → MatchOption found ⊥ (λ line. start ≡ line.start) → sector < start → MatchOption found ⊤ (λ line. sector < line.start)
-starts_after_at (Some line) sector start is before = omega (arith, is, before)
-starts_after_at None sector start is before = absurd is
-
-pub starts_by : (lines : List FoundLine) (index sector start : ℕ) → MatchOption (slice_get lines index) ⊥ (λ line. start ≡ line.start) → start ≤ sector → StartsBy lines index sector
-starts_by lines index sector start is from = starts_by_at (slice_get lines index) sector start is from
-
-pub starts_after : (lines : List FoundLine) (index sector start : ℕ) → MatchOption (slice_get lines index) ⊥ (λ line. start ≡ line.start) → sector < start → StartsAfter lines index sector
-starts_after lines index sector start is before = starts_after_at (slice_get lines index) sector start is before
+pub starts_after : (lines : List FoundLine) (index sector : ℕ) (line : FoundLine) → index < length lines → sector < (get_or lines index line).start → StartsAfter lines index sector
+starts_after lines index sector line within before = rw (slice_get-get_or lines index line within) before
 
 -- Lines in a row
 

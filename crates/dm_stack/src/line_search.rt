@@ -9,7 +9,6 @@ ghost use Rattle.std.specs.Prelude.{◌≡◌, ◌⊎◌, ◌<◌, ◌+◌, ◌^
 ghost use Rattle.dm_stack.specs.LineSearch.{EndsAt, Finds, EndsAreSmall, StartsAfter, StartsBy};
 
 use crate::found_line::FoundLine;
-use crate::found_table::FoundTable;
 use crate::id::DeviceId;
 
 /// The line that was found last: its device, its index there, and the sector after its last one.
@@ -38,24 +37,23 @@ impl LastLine {
 ///
 /// The line becomes the last one, unless the device has only up to three.
 pub(crate) fn find(
-    table: &FoundTable,
+    lines: &[FoundLine],
     device: DeviceId,
     last: &mut LastLine,
     sector: u64,
 ) -> (usize, u64)
-    requires first { StartsBy table.now 0 sector }
-    requires small { EndsAreSmall table.now }
+    requires first { StartsBy lines.now 0 sector }
+    requires small { EndsAreSmall lines.now }
     requires follows { last.old.device ≡ device → last.old.end ≡ sector
-        → StartsBy table.now (last.old.index + 1) sector × StartsAfter table.now (last.old.index + 2) sector }
-    ensures found { Finds table.now sector result }
+        → StartsBy lines.now (last.old.index + 1) sector × StartsAfter lines.now (last.old.index + 2) sector }
+    ensures found { Finds lines.now sector result }
     ensures last { (last.new ≡ last.old)
-        ⊎ (last.new.device ≡ device × EndsAt table.now last.new.index last.new.end) }
+        ⊎ (last.new.device ≡ device × EndsAt lines.now last.new.index last.new.end) }
 {
-    let lines = table.lines();
     if lines.len() < 4 {
         find_of_few(lines, sector)
     } else {
-        find_among(table, device, last, sector)
+        find_among(lines, device, last, sector)
     }
 }
 
@@ -81,21 +79,20 @@ fn find_of_few(lines: &[FoundLine], sector: u64) -> (usize, u64)
 /// The same among many lines, out of the way of those that have few.
 #[inline(never)]
 fn find_among(
-    table: &FoundTable,
+    lines: &[FoundLine],
     device: DeviceId,
     last: &mut LastLine,
     sector: u64,
 ) -> (usize, u64)
-    requires first { StartsBy table.now 0 sector }
-    requires small { EndsAreSmall table.now }
+    requires first { StartsBy lines.now 0 sector }
+    requires small { EndsAreSmall lines.now }
     requires follows { last.old.device ≡ device → last.old.end ≡ sector
-        → StartsBy table.now (last.old.index + 1) sector × StartsAfter table.now (last.old.index + 2) sector }
-    ensures found { Finds table.now sector result }
+        → StartsBy lines.now (last.old.index + 1) sector × StartsAfter lines.now (last.old.index + 2) sector }
+    ensures found { Finds lines.now sector result }
     ensures device { last.new.device ≡ device }
-    ensures end { EndsAt table.now last.new.index last.new.end }
+    ensures end { EndsAt lines.now last.new.index last.new.end }
 {
-    let (index, comparisons) = after_last(table, device, last, sector);
-    let lines = table.lines();
+    let (index, comparisons) = after_last(lines, device, last, sector);
     let line = &lines[index];
     *last = LastLine {
         device,
@@ -106,35 +103,29 @@ fn find_among(
 }
 
 /// The line after the last one, where the sector comes right after that; else one that is searched for.
-fn after_last(table: &FoundTable, device: DeviceId, last: &LastLine, sector: u64) -> (usize, u64)
-    requires first { StartsBy table.now 0 sector }
+fn after_last(lines: &[FoundLine], device: DeviceId, last: &LastLine, sector: u64) -> (usize, u64)
+    requires first { StartsBy lines.now 0 sector }
     requires follows { last.now.device ≡ device → last.now.end ≡ sector
-        → StartsBy table.now (last.now.index + 1) sector × StartsAfter table.now (last.now.index + 2) sector }
-    ensures { Finds table.now sector result }
+        → StartsBy lines.now (last.now.index + 1) sector × StartsAfter lines.now (last.now.index + 2) sector }
+    ensures { Finds lines.now sector result }
 {
     if last.end == sector && last.device == device {
-        // The next line's index is a number, since that line is there.
-        let lines = table.lines();
-        prove!(last.index < lines.len());
         return (last.index + 1, 0);
     }
-    search(table, sector)
+    search(lines, sector)
 }
 
-/// A line that is searched for among all, by starts alone.
-fn search(table: &FoundTable, sector: u64) -> (usize, u64)
-    requires { StartsBy table.now 0 sector }
-    ensures { Finds table.now sector result }
+fn search(lines: &[FoundLine], sector: u64) -> (usize, u64)
+    requires { StartsBy lines.now 0 sector }
+    ensures { Finds lines.now sector result }
 {
     let mut index = 0;
-    let lines = table.lines();
     let mut count = lines.len();
     let mut comparisons = 0;
     while count > 1 {
         let half = count / 2;
         comparisons += 1;
-        let start = table.start(index + half);
-        if start <= sector {
+        if lines[index + half].start <= sector {
             index += half;
             count -= half;
         } else {

@@ -6,12 +6,12 @@ use Rattle.dm_stack.proofs.line_search.search.Given as goal
 abbrev pub invariant-loop-count : goal.invariant-loop-count
 invariant-loop-count l = record {
   some : 0 < l.count;
-  within : l.index + l.count ≤ length l.table;
-  from : StartsBy l.table l.index l.sector;
-  next : StartsAfter l.table (l.index + l.count) l.sector;
+  within : l.index + l.count ≤ length l.lines;
+  from : StartsBy l.lines l.index l.sector;
+  next : StartsAfter l.lines (l.index + l.count) l.sector;
   small : l.comparisons + l.count < 2 ^ 64;
-  halved : 2 ^ l.comparisons * (l.count - 1) < length l.table;
-  few : 2 ^ l.comparisons ≤ 2 * length l.table;
+  halved : 2 ^ l.comparisons * (l.count - 1) < length l.lines;
+  few : 2 ^ l.comparisons ≤ 2 * length l.lines;
 }
 
 abbrev pub decreases-loop-count : goal.decreases-loop-count
