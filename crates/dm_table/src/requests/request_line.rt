@@ -192,7 +192,7 @@ fn front_number<'a>(text: &'a [u8]) -> Option<(u64, &'a [u8])>
         × (number_of field ≡ Some cut.0)) }
     ensures short { IfSome result (λ cut. length text.now ≤ length cut.1.now + WINDOW) }
 {
-    let (number, len) = number::leading_within(text)?;
+    let (number, len) = number::long_within(text)?;
     let rest = after_space(text, len)?;
     Some((number, rest))
 }

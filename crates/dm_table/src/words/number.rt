@@ -4,15 +4,18 @@
 //! To take more digits, change `specs/Number.antt` and see that the value still fits a `u64`.
 
 ghost use Rattle.std.specs.Prelude.{◌≡◌, ◌<◌, ◌≤◌, is_some, length, Some, None, IfSome, IfNone, IsTrue, take};
-ghost use Rattle.std.specs.List.{prefix_len};
+ghost use Rattle.std.specs.List.{list_all, prefix_len};
 ghost use Rattle.std.specs.Char.{is_ascii_digit};
 ghost use Rattle.dm_table.specs.declared.words.number.TheConstants.{WINDOW};
-ghost use Rattle.dm_table.specs.words.Number.{number_of, number_in};
+ghost use Rattle.dm_table.specs.words.Number.{IsReadTo, number_of, number_in};
 
 use crate::io::block::as_room;
 
 /// The most digits of a number, and one byte more.
 pub(crate) const WINDOW: usize = 20;
+
+/// The digits of a long number that are tested together.
+const TOGETHER: usize = 8;
 
 /// The number that a text spells, or `None` where it spells none. One pass.
 pub(crate) fn number(text: &[u8]) -> Option<u64>
@@ -35,8 +38,20 @@ pub(crate) fn leading(text: &[u8]) -> Option<(u64, usize)>
     ensures number { IfSome result (λ read. number_of (take read.1 text.now) ≡ Some read.0) }
     ensures other { IfNone result (number_of (take (prefix_len is_ascii_digit text.now) text.now) ≡ None) }
 {
-    let mut value = 0u64;
-    let mut len = 0;
+    leading_from(text, 0, 0)
+}
+
+/// The same where the first `read` bytes are digits, whose value was read.
+#[inline(always)]
+fn leading_from(text: &[u8], value: u64, read: usize) -> Option<(u64, usize)>
+    requires { IsReadTo text.now read value }
+    ensures len { IfSome result (λ read. read.1 ≡ prefix_len is_ascii_digit text.now) }
+    ensures short { IfSome result (λ read. read.1 < WINDOW) }
+    ensures number { IfSome result (λ read. number_of (take read.1 text.now) ≡ Some read.0) }
+    ensures other { IfNone result (number_of (take (prefix_len is_ascii_digit text.now) text.now) ≡ None) }
+{
+    let mut value = value;
+    let mut len = read;
     while len < text.len() && text[len].is_ascii_digit() {
         if len == 19 {
             return None;
@@ -60,6 +75,49 @@ pub(crate) fn leading_within(text: &[u8]) -> Option<(u64, usize)>
 {
     let (number, len) = leading(as_room::<WINDOW>(&text[..WINDOW]))?;
     Some((number, len))
+}
+
+/// The same for a number that often has eight digits or more: these are tested together, and it takes a
+/// few more steps where it has fewer.
+#[inline(always)]
+pub(crate) fn long_within(text: &[u8]) -> Option<(u64, usize)>
+    requires { WINDOW ≤ length text.now }
+    ensures within { IfSome result (λ read. read.1 < WINDOW) }
+    ensures number { IfSome result (λ read. number_of (take read.1 text.now) ≡ Some read.0) }
+{
+    let front = as_room::<WINDOW>(&text[..WINDOW]);
+    let (value, read) = first_together(front);
+    let (number, len) = leading_from(front, value, read)?;
+    Some((number, len))
+}
+
+/// The value of a text's first bytes and how many these are, where as many are digits as are tested
+/// together; else of no byte.
+#[inline(always)]
+fn first_together(text: &[u8; WINDOW]) -> (u64, usize)
+    ensures { IsReadTo text.now result.1 result.0 }
+{
+    let mut value = 0u64;
+    let mut len = 0;
+    if are_digits(as_room::<TOGETHER>(&text[..TOGETHER])) {
+        while len < TOGETHER {
+            value = value * 10 + u64::from(text[len] - b'0');
+            len += 1;
+        }
+    }
+    (value, len)
+}
+
+/// Whether all bytes are digits. Each is asked, so that they are asked together.
+#[inline(always)]
+fn are_digits(text: &[u8]) -> bool
+    ensures { result ≡ list_all is_ascii_digit text.now }
+{
+    let mut digits = true;
+    for byte in text {
+        digits &= byte.is_ascii_digit();
+    }
+    digits
 }
 
 /// The number in a field that is one.

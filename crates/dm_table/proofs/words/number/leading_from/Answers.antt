@@ -4,12 +4,12 @@ use Rattle.std.specs.Char.{is_ascii_digit}
 use Rattle.std.specs.List.{prefix_len}
 use Rattle.std.proofs.lemmas.List.Sums.{prefix_len-drop_yes, prefix_len-drop_no, prefix_len-drop_all}
 use Rattle.std.proofs.lemmas.List.Folds.{length-prefix_len}
-use Rattle.dm_table.proofs.words.NumberLemmas.{value_more, digits_more, next_below, number_of-long, number_of-empty, number_of-zero, number_of-digits}
+use Rattle.dm_table.proofs.words.NumberLemmas.{next_below, read_more, number_of-long, number_of-empty, number_of-zero, number_of-digits}
 use Rattle.std.proofs.lemmas.List.{length-take-le}
 use Rattle.std.proofs.Common.{Some}
 use Rattle.std.proofs.lemmas.Grind.{elements}
-use Rattle.dm_table.proofs.words.number.leading.Goals.{then-loop-len-test+else-is_ascii_digit, else-loop-len-test, then-len-eq0-via-then-len-eq0, then-len-eq0-via-else-len-eq0+then-len-ne1}
-use Rattle.dm_table.proofs.words.number.leading.Goals as goal
+use Rattle.dm_table.proofs.words.number.leading_from.Goals.{then-loop-len-test+else-is_ascii_digit, else-loop-len-test, then-len-eq0-via-then-len-eq0, then-len-eq0-via-else-len-eq0+then-len-ne1}
+use Rattle.dm_table.proofs.words.number.leading_from.Goals as goal
 
 pub returns-then-len-eq19-clause-other : goal.returns-then-len-eq19-clause-other
 returns-then-len-eq19-clause-other c =
@@ -33,16 +33,8 @@ overflow_add-value c =
 
 pub loop-len-preserved : goal.loop-len-preserved
 loop-len-preserved c =
-    let text = c.args.text.now in
-    let digit : is_ascii_digit (get_or text c.loop-len.len 0) ≡ true = sym c.is_ascii_digit.ensures.value ∙ c.if-is_ascii_digit.true in
-    let more = prefix_len-drop_yes is_ascii_digit text c.loop-len.len 0 c.loop-len-test.true digit in
-    record {
-      short = omega arith;
-      within = omega arith;
-      left = omega (arith, more, c.loop-len.invariant.left);
-      digits = digits_more text c.loop-len.len c.loop-len.invariant.digits digit c.loop-len-test.true;
-      sum = rw (c.from.ensures, c.loop-len.invariant.sum) (value_more text c.loop-len.len digit c.loop-len-test.true);
-    }
+    let digit = sym c.is_ascii_digit.ensures.value ∙ c.if-is_ascii_digit.true in
+    rw c.from.ensures (read_more c.args.text.now c.loop-len.len c.loop-len.value c.loop-len.invariant digit c.loop-len-test.true (omega arith))
 
 pub returns-then-len-eq0-clause-other : goal.returns-then-len-eq0-clause-other
 returns-then-len-eq0-clause-other c =
