@@ -2,11 +2,15 @@
 use Rattle.std.proofs.Common.{◌≡◌, ℕ, ◌+◌, ◌-◌, ◌<◌, ◌≤◌, false, eqb, List, [], ◌∷◌, ◌++◌, length, get_or, take, drop, All, Option, Some, None, refl, sym, ap, ◌∙◌, append_assoc, arith, add-one, drop-cons}
 use Rattle.std.specs.Option.{option_to_list}
 use Rattle.std.specs.List.{flat_map, join_with_byte, AllByRecursion}
-use Rattle.std.proofs.lemmas.Bool.{eq-eqb, false_from_ne_true}
+use Rattle.std.specs.Prelude.{◌==◌, Bool, is_some, not}
+use Rattle.std.proofs.lemmas.Bool.{eq-eqb, false_from_ne_true, not-false, not-true, not_from_false, not_from_true}
 use Rattle.std.proofs.lemmas.Grind.{elements, common_steps}
 use Rattle.std.proofs.lemmas.List.{take-append-drop, take_rest, drop-drop, map_push, map-append, append-nil}
+use Rattle.std.proofs.lemmas.List.Folds.{list_all_at}
+use Rattle.std.proofs.lemmas.List.Sums.{list_all-from_AllPass}
 use Rattle.std.proofs.lemmas.List.Splits.{length-slice_split, slice_split_at, slice_split_none, join_with_byte-slice_split}
 use Rattle.memchr.specs.Find.{Nowhere, Passes, is_byte, IsFirstByte}
+use Rattle.dm_table.specs.tables.ConciseText.{lacks}
 use Rattle.dm_table.specs.words.Fields.{texts, parts_at, all_but_last, last_or, lines_of, rest_of}
 use denote.Ref.{Bor}
 
@@ -48,11 +52,18 @@ parts_at-found c text n found =
     let whole : text ≡ take n text ++ get_or text n 0 ∷ drop (n + 1) text = sym (take-append-drop n text) ∙ ap (λ (more : List ℕ). take n text ++ more) (rw add-one (drop-cons text n 0 below)) in
     ap (parts_at c) whole ∙ slice_split_at (λ b. eqb b c) (take n text) (get_or text n 0) (drop (n + 1) text) (clear_before c text n (omega arith) found.0.before) found.1
 
-pub parts_at-nowhere : (c : ℕ) (text : List ℕ) → IsFirstByte (is_byte c) text None → parts_at c text ≡ text ∷ []
-parts_at-nowhere c text none =
-    parts_at-clear c text (λ k d below.
+clear_nowhere : (c : ℕ) (text : List ℕ) → IsFirstByte (is_byte c) text None → IsClearOf c text
+clear_nowhere c text none = λ k d below.
     let same : get_or text k d ≡ get_or text k 0 = grind (arith, elements) in
-    rw same (false_from_ne_true _ (none k (omega arith) below)))
+    rw same (false_from_ne_true _ (none k (omega arith) below))
+
+pub parts_at-nowhere : (c : ℕ) (text : List ℕ) → IsFirstByte (is_byte c) text None → parts_at c text ≡ text ∷ []
+parts_at-nowhere c text none = parts_at-clear c text (clear_nowhere c text none)
+
+-- and whether it finds none
+pub lacks-searched : (c : ℕ) (text : List ℕ) (found : Option ℕ) (none : Bool) → IsFirstByte (is_byte c) text found → not none ≡ is_some found → none ≡ lacks c text
+lacks-searched c text None none nowhere is = not-false none is ∙ sym (list_all-from_AllPass _ text (λ k d below. not_from_false _ (clear_nowhere c text nowhere k d below)))
+lacks-searched c text (Some n) none found is = not-true none is ∙ sym (list_all_at (λ b. not (b == c)) text n 0 found.0.high (not_from_true _ found.1))
 
 -- one turn of the loop that cuts: the parts so far and those of the rest stay the parts of the whole
 pub cut_more : (c : ℕ) (parts : List (Bor (List ℕ))) (part : Bor (List ℕ)) (rest after : List ℕ) (n : ℕ) (all : List (List ℕ))

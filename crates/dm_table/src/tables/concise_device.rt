@@ -19,6 +19,7 @@ use crate::tables::table::{DeviceSpec, Line, Table};
 use crate::words::device_name::{Name, are_device_bytes, is_device_name};
 use crate::words::fields::{cut_into, cut_row};
 use crate::words::number::number;
+use memchr::memchr;
 use std::alloc::{AllocError, Global};
 
 /// The device that a text says, as device `number`. The lists are for its entries and for the fields
@@ -114,7 +115,7 @@ fn has_label_names(entries: &[&[u8]]) -> bool
 fn lacks(of: u8, text: &[u8]) -> bool
     ensures { result ≡ lacks of text.now }
 {
-    text.iter().all(|byte| *byte != of)
+    memchr(of, text).is_none()
 }
 
 fn is_uuid(text: &[u8]) -> bool

@@ -37,10 +37,15 @@ pub(crate) fn is_disk_name(bytes: &[u8]) -> bool
     1 <= bytes.len() && bytes.len() <= 255 && allowed && !device
 }
 
+/// Whether a disk's name may have each of the bytes. All are asked, so that many are asked together.
 fn are_disk_bytes(bytes: &[u8]) -> bool
     ensures { result ≡ list_all is_disk_byte bytes.now }
 {
-    bytes.iter().all(|byte| is_disk_byte(*byte))
+    let mut allowed = true;
+    for byte in bytes {
+        allowed &= is_disk_byte(*byte);
+    }
+    allowed
 }
 
 fn is_disk_byte(byte: u8) -> bool
