@@ -2,6 +2,7 @@
 
 pub mod device_name;
 pub mod disk_name;
+pub mod eight_digits;
 pub mod fields;
 pub mod name;
 pub mod number;

@@ -20,7 +20,7 @@ use Rattle.dm_table.specs.words.Number.{IsReadTo, Spells, is_number, number_of}
 pub numerals : IsNumeralModel (λ text. list_all is_ascii_digit text ≡ true) (digits_value 10)
 numerals = numerals_by_value _ (search rules)
 
-digit_range : (b : ℕ) → is_ascii_digit b ≡ true → IsInRange 48 57 b
+pub digit_range : (b : ℕ) → is_ascii_digit b ≡ true → IsInRange 48 57 b
 digit_range b h = grind (arith, nat_tests)
 
 -- the value with one more digit

@@ -4,18 +4,16 @@
 //! To take more digits, change `specs/Number.antt` and see that the value still fits a `u64`.
 
 ghost use Rattle.std.specs.Prelude.{◌≡◌, ◌<◌, ◌≤◌, is_some, length, Some, None, IfSome, IfNone, IsTrue, take};
-ghost use Rattle.std.specs.List.{list_all, prefix_len};
+ghost use Rattle.std.specs.List.{prefix_len};
 ghost use Rattle.std.specs.Char.{is_ascii_digit};
 ghost use Rattle.dm_table.specs.declared.words.number.TheConstants.{WINDOW};
 ghost use Rattle.dm_table.specs.words.Number.{IsReadTo, number_of, number_in};
 
 use crate::io::block::as_room;
+use crate::words::eight_digits::eight_digits;
 
 /// The most digits of a number, and one byte more.
 pub(crate) const WINDOW: usize = 20;
-
-/// The digits of a long number that are tested together.
-const TOGETHER: usize = 8;
 
 /// The number that a text spells, or `None` where it spells none. One pass.
 pub(crate) fn number(text: &[u8]) -> Option<u64>
@@ -77,8 +75,8 @@ pub(crate) fn leading_within(text: &[u8]) -> Option<(u64, usize)>
     Some((number, len))
 }
 
-/// The same for a number that often has eight digits or more: these are tested together, and it takes a
-/// few more steps where it has fewer.
+/// The same for a number that often has eight digits or more, which are read together; it takes a few
+/// more steps where it has fewer.
 #[inline(always)]
 pub(crate) fn long_within(text: &[u8]) -> Option<(u64, usize)>
     requires { WINDOW ≤ length text.now }
@@ -86,38 +84,20 @@ pub(crate) fn long_within(text: &[u8]) -> Option<(u64, usize)>
     ensures number { IfSome result (λ read. number_of (take read.1 text.now) ≡ Some read.0) }
 {
     let front = as_room::<WINDOW>(&text[..WINDOW]);
-    let (value, read) = first_together(front);
+    let (value, read) = first_eight(front);
     let (number, len) = leading_from(front, value, read)?;
     Some((number, len))
 }
 
-/// The value of a text's first bytes and how many these are, where as many are digits as are tested
-/// together; else of no byte.
+/// The value of the first eight bytes and that they are eight, where they are digits; else of no byte.
 #[inline(always)]
-fn first_together(text: &[u8; WINDOW]) -> (u64, usize)
+fn first_eight(text: &[u8; WINDOW]) -> (u64, usize)
     ensures { IsReadTo text.now result.1 result.0 }
 {
-    let mut value = 0u64;
-    let mut len = 0;
-    if are_digits(as_room::<TOGETHER>(&text[..TOGETHER])) {
-        while len < TOGETHER {
-            value = value * 10 + u64::from(text[len] - b'0');
-            len += 1;
-        }
+    match eight_digits(as_room::<8>(&text[..8])) {
+        Some(value) => (value, 8),
+        None => (0, 0),
     }
-    (value, len)
-}
-
-/// Whether all bytes are digits. Each is asked, so that they are asked together.
-#[inline(always)]
-fn are_digits(text: &[u8]) -> bool
-    ensures { result ≡ list_all is_ascii_digit text.now }
-{
-    let mut digits = true;
-    for byte in text {
-        digits &= byte.is_ascii_digit();
-    }
-    digits
 }
 
 /// The number in a field that is one.
