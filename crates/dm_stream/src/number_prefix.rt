@@ -17,20 +17,23 @@ pub(crate) const ROOM: usize = 32;
 #[derive(Drop)]
 pub(crate) struct NumberPrefix {
     number: u64,
+    /// The number with 0 for its last digit.
+    tens: u64,
     text: [u8; ROOM],
     /// Where the last digit is.
     last: usize,
 }
 
 impl Model for NumberPrefix {
-    ghost use Rattle.std.specs.Prelude.{◌≡◌, ◌+◌, ◌≤◌, ℕ, take};
+    ghost use Rattle.std.specs.Prelude.{◌≡◌, ◌+◌, ◌%◌, ◌≤◌, ℕ, take};
     ghost use Rattle.dm_stream.specs.NumberPrefix.{number_prefix};
 
     ghost Value = { ℕ };
 
     ghost view = { λ prefix. prefix.number };
 
-    ghost invariant = { λ prefix. (prefix.last + 2 ≤ 32)
+    ghost invariant = { λ prefix. (prefix.tens + prefix.number % 10 ≡ prefix.number)
+        × (prefix.last + 2 ≤ 32)
         × (take (prefix.last + 2) prefix.text ≡ number_prefix prefix.number) };
 }
 
@@ -43,6 +46,7 @@ impl NumberPrefix {
         let last = put_prefix(&mut text, 0);
         NumberPrefix {
             number: 0,
+            tens: 0,
             text,
             last,
         }
@@ -53,10 +57,11 @@ impl NumberPrefix {
     pub(crate) fn set(&mut self, number: u64)
         ensures { self.new ≡ number }
     {
-        if number / 10 == self.number / 10 {
-            self.text[self.last] = b'0' + (number % 10) as u8;
+        if self.tens <= number && number - self.tens < 10 {
+            self.text[self.last] = b'0' + (number - self.tens) as u8;
         } else {
             self.last = put_prefix(&mut self.text, number);
+            self.tens = number - number % 10;
         }
         self.number = number;
     }

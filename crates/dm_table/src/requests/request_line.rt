@@ -45,15 +45,11 @@ fn op_of(letter: u8) -> Option<Op>
     ensures named { IfSome result (λ op. letter ≡ op_text op) }
     ensures other { IfNone result ((op : Op) → letter ≢ op_text op) }
 {
-    if letter < b'R' || b'W' < letter {
+    let is_write = letter == b'W';
+    if !is_write & (letter != b'R') {
         return None;
     }
-    // `W` is the fifth letter after `R`.
-    let past = letter - b'R';
-    if past % 5 != 0 {
-        return None;
-    }
-    Some(if past == 0 { Op::Read } else { Op::Write })
+    Some(if is_write { Op::Write } else { Op::Read })
 }
 
 /// The operation that a line begins with, and what follows its space.
@@ -193,8 +189,11 @@ fn front_number<'a>(text: &'a [u8]) -> Option<(u64, &'a [u8])>
     ensures short { IfSome result (λ cut. length text.now ≤ length cut.1.now + WINDOW) }
 {
     let (number, len) = number::long_within(text)?;
-    let rest = after_space(text, len)?;
-    Some((number, rest))
+    if text[len] == b' ' {
+        Some((number, &text[len + 1..]))
+    } else {
+        None
+    }
 }
 
 /// The length that a longer text begins with, and how many bytes stand before the newline after it.

@@ -83,20 +83,18 @@ pub(crate) fn long_within(text: &[u8]) -> Option<(u64, usize)>
     ensures within { IfSome result (λ read. read.1 < WINDOW) }
     ensures number { IfSome result (λ read. number_of (take read.1 text.now) ≡ Some read.0) }
 {
-    let front = as_room::<WINDOW>(&text[..WINDOW]);
-    let (value, read) = first_eight(front);
-    let (number, len) = leading_from(front, value, read)?;
+    let (number, len) = leading_long(as_room::<WINDOW>(&text[..WINDOW]))?;
     Some((number, len))
 }
 
-/// The value of the first eight bytes and that they are eight, where they are digits; else of no byte.
 #[inline(always)]
-fn first_eight(text: &[u8; WINDOW]) -> (u64, usize)
-    ensures { IsReadTo text.now result.1 result.0 }
+fn leading_long(text: &[u8; WINDOW]) -> Option<(u64, usize)>
+    ensures short { IfSome result (λ read. read.1 < WINDOW) }
+    ensures number { IfSome result (λ read. number_of (take read.1 text.now) ≡ Some read.0) }
 {
     match eight_digits(as_room::<8>(&text[..8])) {
-        Some(value) => (value, 8),
-        None => (0, 0),
+        Some(value) => leading_from(text, value, 8),
+        None => leading(text),
     }
 }
 

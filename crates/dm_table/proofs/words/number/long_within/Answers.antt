@@ -8,4 +8,4 @@ pub returns-clause-number : goal.returns-clause-number
 returns-clause-number c =
     let text = c.args.text.now in
     let len = c.in_ok-number.len in
-    ap number_of (sym (ap (take len) c.as_room-front.ensures ∙ take-take len 20 text (omega (arith, c.in_ok-number.ensures.short)))) ∙ c.in_ok-number.ensures.number
+    ap number_of (sym (ap (take len) c.as_room.ensures ∙ take-take len 20 text (omega (arith, c.in_ok-number.ensures.short)))) ∙ c.in_ok-number.ensures.number

@@ -4,7 +4,7 @@ use Rattle.std.specs.Char.{is_ascii_digit}
 use Rattle.std.specs.List.{list_all, prefix_len}
 use Rattle.std.specs.Str.Parse.{digits_value}
 use Rattle.std.proofs.lemmas.Bool.{and_parts}
-use Rattle.dm_table.proofs.words.number.first_eight.Goals as goal
+use Rattle.dm_table.proofs.words.number.leading_long.Goals as goal
 
 digits_left : (text : List ℕ) (len : ℕ) → len ≤ length text → list_all is_ascii_digit (take len text) ≡ true → len + prefix_len is_ascii_digit (drop len text) ≡ prefix_len is_ascii_digit text
 digits_left text zero within digits = omega arith
@@ -14,8 +14,8 @@ digits_left (byte ∷ text) (suc len) within digits =
     let more = digits_left text len (omega (arith, within)) both.1 in
     rw both.0 (omega (arith, more))
 
-pub returns-in-Some : goal.returns-in-Some
-returns-in-Some c =
+pub leading_from-requires : goal.leading_from-requires
+leading_from-requires c =
     let text = c.args.text.now in
     let long : 8 ≤ length text = omega (arith, c.told-text) in
     let digits = ap (list_all is_ascii_digit) (sym c.as_room.ensures) ∙ c.in-Some.ensures.digits in
