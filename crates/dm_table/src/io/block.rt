@@ -134,30 +134,8 @@ pub fn put_digits(block: &mut [u8], at: usize, number: u64) -> usize
 fn count_digits(number: u64) -> usize
     ensures { result ≡ length (decimal number) }
 {
-    let mut left = number;
-    let mut count = 0;
-    'fours: while left >= 10_000 {
-        left /= 10_000;
-        count += 4;
+    match number.checked_ilog10() {
+        Some(power) => power as usize + 1,
+        None => 1,
     }
-    count + few_digits(left)
-}
-
-/// How many digits a number of at most four has.
-#[inline(always)]
-fn few_digits(number: u64) -> usize
-    requires { number < 10000 }
-    ensures digits { result ≡ length (decimal number) }
-    ensures few { result ≤ 4 }
-{
-    if number < 10 {
-        return 1;
-    }
-    if number < 100 {
-        return 2;
-    }
-    if number < 1000 {
-        return 3;
-    }
-    4
 }

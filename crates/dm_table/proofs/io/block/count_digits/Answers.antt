@@ -1,17 +1,23 @@
-use Rattle.std.proofs.Common.{rules, ◌≤◌, length, decimal, arith}
-use Rattle.std.proofs.lemmas.Fmt.{length-decimal-le}
-use Rattle.itoa.proofs.Decimal.{length_four}
+-- A number from one power of ten to below the next has one digit more than the power.
+use Rattle.std.proofs.Common.{◌≡◌, ◌+◌, ◌*◌, ◌/◌, ◌^◌, ◌<◌, ◌≤◌, ℕ, zero, suc, length, decimal, sym, ap, ◌∙◌, arith}
+use Rattle.std.proofs.Math.Nat.{pow-succ'}
+use Rattle.itoa.proofs.Decimal.{length_one, length_step_wide}
 use Rattle.dm_table.proofs.io.block.count_digits.Goals as goal
 
-pub overflow_add-count : goal.overflow_add-count
-overflow_add-count c =
-    let few : length (decimal c.args.number) ≤ 20 = search (rules, length-decimal-le 20) in
-    omega (arith, few, c.fours.invariant)
+some_power : (power : ℕ) → 1 ≤ 10 ^ power
+some_power zero = omega arith
+some_power (suc power) = let more = pow-succ' 10 power in omega (arith, more, some_power power)
 
-pub fours-preserved : goal.fours-preserved
-fours-preserved c = omega (arith, length_four c.fours.left (omega arith) (omega arith), c.fours.invariant)
+length_by_power : (power number : ℕ) → 10 ^ power ≤ number → number < 10 * 10 ^ power → number < 2 ^ 64 → length (decimal number) ≡ power + 1
+length_by_power zero number from below fits = length_one number (omega (arith, below))
+length_by_power (suc power) number from below fits =
+    let more = pow-succ' 10 power in
+    let step = length_step_wide number (omega (arith, from, more, some_power power)) (omega (arith, fits)) in
+    let rest = length_by_power power (number / 10) (omega (arith, from, more)) (omega (arith, below, more)) (omega (arith, fits)) in
+    omega (arith, step, rest)
 
-pub overflow_add-result : goal.overflow_add-result
-overflow_add-result c =
-    let few : length (decimal c.args.number) ≤ 20 = search (rules, length-decimal-le 20) in
-    omega (arith, few, c.fours.invariant)
+pub returns-in-Some : goal.returns-in-Some
+returns-in-Some c = sym (length_by_power c.in-Some.power c.args.number c.in-Some.ensures.power_le c.in-Some.ensures.next_power_gt (omega arith))
+
+pub returns-in-None : goal.returns-in-None
+returns-in-None c = sym (ap (λ (number : ℕ). length (decimal number)) c.in-None.ensures.none ∙ length_one 0 (omega arith))
