@@ -29,6 +29,14 @@ BAD = [
     ("R a, x 0\n", "form"),
     ("R a 01 1\n", "number"),
     ("R a 0 1\r\n", "number"),
+    ("R a 00000001 1\n", "number"),
+    ("R a 012345678 1\n", "number"),
+    ("R a 1234567x 1\n", "number"),
+    ("R a /1234567 1\n", "number"),
+    ("R a 1234567: 1\n", "number"),
+    ("R a 123456789x 1\n", "number"),
+    ("R a 123456789012345678x 1\n", "number"),
+    ("R a 12345678901234567890 1\n", "number"),
     ("R a 10000000000000000000 1\n", "number"),
     ("R a -1 1\n", "number"),
     ("R a 0 10000000000000000000\n", "number"),
@@ -67,14 +75,28 @@ def check(tally, program):
         got = program.map(TABLE, DISKS, bad)
         tally.same("the first request %r" % bad[:40], got, 3, "", "dmremap: request 1: %s\n" % word)
         given = FIRST.encode() + bad
-        for more in (b"", b"R a 2 2\n"):
+        # A request is read in another way where many bytes follow it.
+        for more in (b"", b"R a 2 2\n", b"R a 2 2\n" * 16):
             if more and not given.endswith(b"\n"):
                 continue
             got = program.map(TABLE, DISKS, given + more)
             tally.same("the request %r" % bad[:40], got, 3, ANSWER, "dmremap: request 2: %s\n" % word)
     for requests, output in GOOD:
         tally.same("the requests %r" % requests, program.map(TABLE, DISKS, requests), 0, output)
+    check_digits(tally, program)
     check_beginnings(tally, program)
+
+
+def check_digits(tally, program):
+    """Starts of each number of digits, with few and with many bytes after them."""
+    most = 1 << 50
+    table, disks = "a: 0 %d linear sda 0\n" % most, "sda %d\n" % most
+    starts = [int("98765432109876543"[:count]) for count in range(1, 16)] + [10 ** count for count in range(16)]
+    for start in starts:
+        for more in (1, 16):
+            got = program.map(table, disks, ("R a %d 7\n" % start) * more)
+            output = "".join("%d R sda %d 7\n" % (number + 1, start) for number in range(more))
+            tally.same("%d requests at %d" % (more, start), got, 0, output)
 
 
 def check_beginnings(tally, program):
