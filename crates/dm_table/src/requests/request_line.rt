@@ -45,11 +45,15 @@ fn op_of(letter: u8) -> Option<Op>
     ensures named { IfSome result (λ op. letter ≡ op_text op) }
     ensures other { IfNone result ((op : Op) → letter ≢ op_text op) }
 {
-    let is_write = letter == b'W';
-    if !is_write & (letter != b'R') {
+    if letter < b'R' || b'W' < letter {
         return None;
     }
-    Some(if is_write { Op::Write } else { Op::Read })
+    // `W` is the fifth letter after `R`.
+    let past = letter - b'R';
+    if past % 5 != 0 {
+        return None;
+    }
+    Some(if past == 0 { Op::Read } else { Op::Write })
 }
 
 /// The operation that a line begins with, and what follows its space.
