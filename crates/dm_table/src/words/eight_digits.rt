@@ -1,6 +1,6 @@
 //! Eight digits that are tested and read together.
 
-ghost use Rattle.std.specs.Prelude.{◌≡◌, ◌+◌, ◌-◌, ◌*◌, ◌%◌, ◌<◌, IfNone, IfSome, length, map, nat_lt, true, false};
+ghost use Rattle.std.specs.Prelude.{◌≡◌, ◌+◌, ◌%◌, ◌<◌, IfNone, IfSome, length, map, nat_lt, true, false};
 ghost use Rattle.std.specs.Char.{is_ascii_digit};
 ghost use Rattle.std.specs.Int.Digits.{number_from_digits};
 ghost use Rattle.std.specs.List.{list_all};
@@ -31,6 +31,7 @@ fn less_zero(text: &[u8; 8]) -> u8x8
     u8x8::from_array(*text) - u8x8::splat(b'0')
 }
 
+/// Whether each of eight numbers is below 10.
 #[inline(always)]
 fn are_below_ten(digits: u8x8) -> bool
     ensures { result ≡ list_all (λ digit. nat_lt digit 10) digits }
