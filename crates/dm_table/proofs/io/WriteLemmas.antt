@@ -6,7 +6,7 @@ use Rattle.std.proofs.lemmas.Grind.{flat_map-append}
 use Rattle.std.proofs.lemmas.List.{drop_more, append-nil, take_rest}
 use Rattle.std.proofs.lemmas.Result.{err_from_is_err_and}
 use Rattle.std.specs.Prelude.{decimal}
-use Rattle.dm_table.specs.io.DeviceIo.{OutputPast, after_flush, since, written_since}
+use Rattle.dm_table.specs.io.DeviceIo.{OutputPast, after_flush, written_since}
 use Rattle.dm_table.specs.laws.Progress.{written_more}
 use Rattle.dm_table.specs.io.Progress.{IsClosedAfter, Wrote}
 use Rattle.dm_table.specs.declared.tables.table.Line.{Line}

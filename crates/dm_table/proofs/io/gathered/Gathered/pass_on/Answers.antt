@@ -1,5 +1,4 @@
 use Rattle.std.proofs.Common.{◌∙◌, ap}
-use Rattle.dm_table.specs.io.DeviceIo.{OutputPast}
 use Rattle.dm_table.specs.io.Gathered.{Gathering, past_of}
 use Rattle.dm_table.proofs.io.BlockLemmas.{passed_on}
 use Rattle.dm_table.specs.laws.Progress.{same_output}
