@@ -1,4 +1,5 @@
 pub mod Apart
+pub mod BucketLemmas
 pub mod ByDevice
 pub mod ChunkLemmas
 pub mod CrowdLemmas

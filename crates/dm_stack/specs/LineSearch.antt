@@ -1,5 +1,5 @@
 -- The line of a sector, found by the starts of lines.
-use Rattle.std.specs.Prelude.{◌≡◌, ℕ, zero, suc, ◌+◌, ◌/◌, ◌==◌, ◌≤◌, ◌<◌, ⊤, List, MatchOption, length, slice_get, if◌then◌else◌}
+use Rattle.std.specs.Prelude.{◌≡◌, ℕ, zero, suc, ◌+◌, ◌*◌, ◌/◌, ◌^◌, ◌==◌, ◌≤◌, ◌<◌, ⊤, List, MatchOption, get_or, length, slice_get, if◌then◌else◌}
 use Rattle.std.specs.List.{All}
 use Rattle.dm_stack.specs.declared.found_line.FoundLine.{FoundLine}
 use Rattle.dm_stack.specs.declared.limits.TheConstants.{MOST_LENGTH}
@@ -14,6 +14,18 @@ StartsBy lines index sector = MatchOption (slice_get lines index) ⊥ (λ line. 
 -- the line at an index starts after a sector, or there is none
 abbrev pub StartsAfter : List FoundLine → (index sector : ℕ) → Type 0
 StartsAfter lines index sector = MatchOption (slice_get lines index) ⊤ (λ line. sector < line.start)
+
+-- the line of an index starts at a sector or before it, and the next one after it
+pub record IsAmong (lines : List FoundLine) (index sector : ℕ) : Type 0 where
+  pub within : index < length lines
+  pub from : StartsBy lines index sector
+  pub next : StartsAfter lines (index + 1) sector
+
+-- the lines of the first sectors of buckets, each of which has 2 ^ shift sectors
+pub record AreFirsts (lines : List FoundLine) (firsts : List ℕ) (shift : ℕ) : Type 0 where
+  pub short : shift < 64
+  pub at : (bucket : ℕ) → bucket < length firsts → IsAmong lines (get_or firsts bucket 0) (bucket * 2 ^ shift)
+  pub rising : (bucket : ℕ) → bucket + 1 < length firsts → get_or firsts bucket 0 ≤ get_or firsts (bucket + 1) 0
 
 -- there is a line at an index, and a sector is the first after it
 abbrev pub EndsAt : List FoundLine → (index sector : ℕ) → Type 0

@@ -72,6 +72,3 @@ pub struct FoundOver {
     pub device: DeviceId,
     pub snapshot: FoundSnapshot,
 }
-
-/// The lines of a device.
-pub(crate) type FoundTable = Listed<FoundLine>;

@@ -12,6 +12,7 @@ mod divisor;
 mod faults;
 mod found_columns;
 mod found_line;
+mod found_table;
 mod graph;
 mod id;
 mod indexed;

@@ -1,14 +1,16 @@
 //! The line of a sector, found by halving over the starts of a device's lines.
 //!
-//! Lines are found nowhere else, and each comparison of a start with the sector is
-//! counted here. The first line is never compared, since every sector is at its start or after it. Of
-//! more than three lines, the one that was found last is remembered, with the sector at which it ends. A
-//! range that goes on there, as over many lines, is in the next line, and no start is compared.
+//! Lines are found nowhere else, and each comparison of a start with the sector is counted here. It goes over
+//! the lines of the sector's bucket (`found_table`), and the first of them is never compared, since the
+//! sector is at its start or after it. Of more than three lines, the one that was found last is remembered,
+//! with the sector at which it ends. A range that goes on there, as over many lines, is in the next line, and
+//! no start is compared.
 
-ghost use Rattle.std.specs.Prelude.{◌≡◌, ◌⊎◌, ◌<◌, ◌+◌, ◌^◌, length};
+ghost use Rattle.std.specs.Prelude.{◌≡◌, ◌⊎◌, ◌<◌, ◌≤◌, ◌+◌, ◌^◌, length};
 ghost use Rattle.dm_stack.specs.LineSearch.{EndsAt, Finds, EndsAreSmall, StartsAfter, StartsBy};
 
 use crate::found_line::FoundLine;
+use crate::found_table::FoundTable;
 use crate::id::DeviceId;
 
 /// The line that was found last: its device, its index there, and the sector after its last one.
@@ -37,23 +39,24 @@ impl LastLine {
 ///
 /// The line becomes the last one, unless the device has only up to three.
 pub(crate) fn find(
-    lines: &[FoundLine],
+    table: &FoundTable,
     device: DeviceId,
     last: &mut LastLine,
     sector: u64,
 ) -> (usize, u64)
-    requires first { StartsBy lines.now 0 sector }
-    requires small { EndsAreSmall lines.now }
+    requires first { StartsBy table.now 0 sector }
+    requires small { EndsAreSmall table.now }
     requires follows { last.old.device ≡ device → last.old.end ≡ sector
-        → StartsBy lines.now (last.old.index + 1) sector × StartsAfter lines.now (last.old.index + 2) sector }
-    ensures found { Finds lines.now sector result }
+        → StartsBy table.now (last.old.index + 1) sector × StartsAfter table.now (last.old.index + 2) sector }
+    ensures found { Finds table.now sector result }
     ensures last { (last.new ≡ last.old)
-        ⊎ (last.new.device ≡ device × EndsAt lines.now last.new.index last.new.end) }
+        ⊎ (last.new.device ≡ device × EndsAt table.now last.new.index last.new.end) }
 {
+    let lines = table.lines();
     if lines.len() < 4 {
         find_of_few(lines, sector)
     } else {
-        find_among(lines, device, last, sector)
+        find_among(table, device, last, sector)
     }
 }
 
@@ -79,20 +82,21 @@ fn find_of_few(lines: &[FoundLine], sector: u64) -> (usize, u64)
 /// The same among many lines, out of the way of those that have few.
 #[inline(never)]
 fn find_among(
-    lines: &[FoundLine],
+    table: &FoundTable,
     device: DeviceId,
     last: &mut LastLine,
     sector: u64,
 ) -> (usize, u64)
-    requires first { StartsBy lines.now 0 sector }
-    requires small { EndsAreSmall lines.now }
+    requires first { StartsBy table.now 0 sector }
+    requires small { EndsAreSmall table.now }
     requires follows { last.old.device ≡ device → last.old.end ≡ sector
-        → StartsBy lines.now (last.old.index + 1) sector × StartsAfter lines.now (last.old.index + 2) sector }
-    ensures found { Finds lines.now sector result }
+        → StartsBy table.now (last.old.index + 1) sector × StartsAfter table.now (last.old.index + 2) sector }
+    ensures found { Finds table.now sector result }
     ensures device { last.new.device ≡ device }
-    ensures end { EndsAt lines.now last.new.index last.new.end }
+    ensures end { EndsAt table.now last.new.index last.new.end }
 {
-    let (index, comparisons) = after_last(lines, device, last, sector);
+    let (index, comparisons) = after_last(table, device, last, sector);
+    let lines = table.lines();
     let line = &lines[index];
     *last = LastLine {
         device,
@@ -103,24 +107,30 @@ fn find_among(
 }
 
 /// The line after the last one, where the sector comes right after that; else one that is searched for.
-fn after_last(lines: &[FoundLine], device: DeviceId, last: &LastLine, sector: u64) -> (usize, u64)
-    requires first { StartsBy lines.now 0 sector }
+fn after_last(table: &FoundTable, device: DeviceId, last: &LastLine, sector: u64) -> (usize, u64)
+    requires first { StartsBy table.now 0 sector }
     requires follows { last.now.device ≡ device → last.now.end ≡ sector
-        → StartsBy lines.now (last.now.index + 1) sector × StartsAfter lines.now (last.now.index + 2) sector }
-    ensures { Finds lines.now sector result }
+        → StartsBy table.now (last.now.index + 1) sector × StartsAfter table.now (last.now.index + 2) sector }
+    ensures { Finds table.now sector result }
 {
     if last.end == sector && last.device == device {
+        // The next line's index is a number, since that line is there.
+        let lines = table.lines();
+        prove!(last.index < lines.len());
         return (last.index + 1, 0);
     }
-    search(lines, sector)
+    search(table.lines(), table.range_of(sector), sector)
 }
 
-fn search(lines: &[FoundLine], sector: u64) -> (usize, u64)
-    requires { StartsBy lines.now 0 sector }
+/// A line that is searched for among the first one and as many, of which it is one.
+fn search(lines: &[FoundLine], range: (usize, usize), sector: u64) -> (usize, u64)
+    requires some { 0 < range.1 }
+    requires within { range.0 + range.1 ≤ length lines.now }
+    requires from { StartsBy lines.now range.0 sector }
+    requires next { StartsAfter lines.now (range.0 + range.1) sector }
     ensures { Finds lines.now sector result }
 {
-    let mut index = 0;
-    let mut count = lines.len();
+    let (mut index, mut count) = range;
     let mut comparisons = 0;
     while count > 1 {
         let half = count / 2;

@@ -15,7 +15,7 @@ ghost use Rattle.dm_stack.specs.Store.{store_links};
 use crate::depth::{check_depths, deepest};
 use crate::disk_text::{DiskText, disk_texts};
 use crate::faults::or_out_of_memory;
-use crate::found_line::FoundTable;
+use crate::found_table::FoundTable;
 use crate::graph::{depths, first_cycle};
 use crate::id::DeviceId;
 use crate::indexed::Indexed;

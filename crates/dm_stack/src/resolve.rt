@@ -15,7 +15,8 @@ ghost use Rattle.dm_stack.specs.Soundness.{HasGoodChunk, HaveGoodChunks, is_unkn
 use crate::divisor::Divisor;
 use crate::faults::check_lines;
 use crate::found_columns::{FoundColumn, FoundColumns};
-use crate::found_line::{FoundLine, FoundOrigin, FoundOver, FoundTable, FoundTarget};
+use crate::found_line::{FoundLine, FoundOrigin, FoundOver, FoundTarget};
+use crate::found_table::FoundTable;
 use crate::indexed::Indexed;
 use crate::over::{all_over, found_snapshot, snapshots_over};
 use crate::span::Spans;
@@ -76,7 +77,7 @@ fn table(
             target,
         })?;
     }
-    Ok(FoundTable::from_vec(by_ids))
+    FoundTable::from_vec(alloc, by_ids)
 }
 
 fn target(

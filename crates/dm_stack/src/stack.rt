@@ -33,7 +33,8 @@ ghost use Rattle.dm_table.specs.declared.load.place.Part.TheVariants.{Source};
 use crate::claim::{claims, is_named};
 use crate::clash::Clash;
 use crate::disk_text::DiskText;
-use crate::found_line::{Found, FoundLine, FoundTable};
+use crate::found_line::Found;
+use crate::found_table::FoundTable;
 use crate::id::{DeviceId, DiskId};
 use crate::indexed::Indexed;
 use crate::layout::end_of;
@@ -310,12 +311,12 @@ impl Stack {
     }
 
     /// The lines of a device in their order, with ids for names.
-    fn lines(&self, device: DeviceId) -> &[FoundLine]
+    fn table(&self, device: DeviceId) -> &FoundTable
         requires { device < length self.now.devices }
         ensures lines { result.now ≡ found_lines self.now device }
         ensures sound { IsSound self.now }
     {
-        self.tables[device.index()].as_slice()
+        &self.tables[device.index()]
     }
 
     /// The line of a sector, and how many starts of lines were compared with it: of more than three
@@ -337,8 +338,9 @@ impl Stack {
         ensures most { result.1 ≤ 17 }
         ensures last { IsLast self.now last.new }
     {
-        let lines = self.lines(device);
-        let (index, comparisons) = find(lines, device, last, sector);
+        let table = self.table(device);
+        let (index, comparisons) = find(table, device, last, sector);
+        let lines = table.lines();
         (&lines[index], comparisons)
     }
 }

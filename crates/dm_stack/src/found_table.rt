@@ -1,0 +1,112 @@
+//! The lines of a device, and where among them the line of a sector is looked for.
+//!
+//! The sectors up to the start of the last line are cut into buckets, as many sectors each and no more
+//! buckets than lines. For the first sector of each bucket the line is kept that has it. So a search goes
+//! from the line of a bucket's first sector to that of the next bucket, which are mostly close.
+
+ghost use Rattle.std.specs.Prelude.{◌≡◌, ◌+◌, ◌^◌, ◌<◌, ◌≤◌, IfOk, length};
+ghost use Rattle.dm_stack.specs.LineSearch.{AreFirsts, StartsAfter, StartsBy};
+
+use crate::found_line::FoundLine;
+use crate::limits::MOST_LINES;
+use dm_table::Listed;
+use std::alloc::{AllocError, Global};
+use std::marker::Model;
+
+/// The lines of a device in their order. A clause sees them as a list.
+#[derive(Drop)]
+pub(crate) struct FoundTable {
+    lines: Listed<FoundLine>,
+    /// The index of the line of each bucket's first sector.
+    firsts: Vec<u32>,
+    /// A bucket has two to this power of sectors.
+    shift: u32,
+}
+
+impl Model for FoundTable {
+    ghost use Rattle.std.specs.Prelude.{List};
+    ghost use Rattle.dm_stack.specs.declared.found_line.FoundLine.{FoundLine};
+    ghost use Rattle.dm_stack.specs.LineSearch.{AreFirsts};
+
+    ghost Value = { List FoundLine };
+
+    ghost view = { λ table. table.lines };
+
+    ghost invariant = { λ table. AreFirsts table.lines table.firsts.items table.shift };
+}
+
+impl FoundTable {
+    /// The lines as one value. It fails only when out of memory, of which it takes up to 4 bytes a line.
+    ///
+    /// Cost: linear in the lines.
+    pub(crate) fn from_vec(alloc: Global, lines: Vec<FoundLine>) -> Result<FoundTable, AllocError>
+        ensures { IfOk result (λ table. table ≡ lines.items) }
+    {
+        let (firsts, shift) = firsts_of(alloc, &lines)?;
+        Ok(FoundTable {
+            lines: Listed::from_vec(lines),
+            firsts,
+            shift,
+        })
+    }
+
+    /// The lines in their order.
+    #[inline(always)]
+    pub(crate) fn lines(&self) -> &[FoundLine]
+        ensures { result.now ≡ self.now }
+    {
+        self.lines.as_slice()
+    }
+
+    /// Among which lines a sector's is: the index of the first of them, and how many they are.
+    #[inline(always)]
+    pub(crate) fn range_of(&self, sector: u64) -> (usize, usize)
+        requires { StartsBy self.now 0 sector }
+        ensures some { 0 < result.1 }
+        ensures within { result.0 + result.1 ≤ length self.now }
+        ensures from { StartsBy self.now result.0 sector }
+        ensures next { StartsAfter self.now (result.0 + result.1) sector }
+    {
+        let count = self.lines.as_slice().len();
+        let firsts = self.firsts.as_slice();
+        let Some(last) = firsts.len().checked_sub(1) else {
+            return (0, count);
+        };
+        let bucket = (sector >> self.shift) as usize;
+        if bucket < last {
+            let first = firsts[bucket] as usize;
+            (first, firsts[bucket + 1] as usize + 1 - first)
+        } else {
+            let first = firsts[last] as usize;
+            (first, count - first)
+        }
+    }
+}
+
+/// The index of the line of each bucket's first sector, and the shift of a sector to its bucket. There
+/// are no buckets for lines that are found without.
+fn firsts_of(alloc: Global, lines: &[FoundLine]) -> Result<(Vec<u32>, u32), AllocError>
+    ensures { IfOk result (λ found. AreFirsts lines.now found.0.items found.1) }
+{
+    let mut firsts = Vec::new(alloc);
+    let count = lines.len();
+    if count < 4 || MOST_LINES < count || lines[0].start != 0 {
+        return Ok((firsts, 0));
+    }
+    let last = count - 1;
+    let shift = (lines[last].start / count as u64)
+        .checked_ilog2()
+        .unwrap_or(0);
+    let width = 1u64 << shift;
+    let mut index = 0;
+    while index < last {
+        let Some(from) = (firsts.len() as u64).checked_mul(width) else {
+            break;
+        };
+        while index < last && lines[index + 1].start <= from {
+            index += 1;
+        }
+        firsts.push(index as u32)?;
+    }
+    Ok((firsts, shift))
+}
