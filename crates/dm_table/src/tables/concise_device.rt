@@ -21,6 +21,10 @@ use crate::words::fields::{cut_into, cut_row};
 use crate::words::number::number;
 use memchr::memchr;
 use std::alloc::{AllocError, Global};
+use std::cmp::min;
+
+/// The most lines that room is taken for before they are read, since a text may have as many commas as bytes.
+const MOST_RESERVED: usize = 65536;
 
 /// The device that a text says, as device `number`. The lists are for its entries and for the fields
 /// of a body, so that they serve many devices.
@@ -152,7 +156,7 @@ fn read_bodies<'a>(
 ) -> Result<Vec<Line>, RowFault>
     ensures { Reads (λ v. v.items) result (bodies_reading at label (texts bodies.now)) }
 {
-    let mut lines = Vec::new(alloc);
+    let mut lines = Vec::with_capacity(alloc, min(bodies.len(), MOST_RESERVED))?;
     let mut fault = label;
     for body in bodies {
         let found = add_line(alloc, &mut lines, &mut *fields, *body, at)?;
