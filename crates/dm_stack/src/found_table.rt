@@ -1,8 +1,8 @@
 //! The lines of a device, and where among them the line of a sector is looked for.
 //!
-//! The sectors up to the start of the last line are cut into buckets, as many sectors each and no more
-//! buckets than lines. For the first sector of each bucket the line is kept that has it. So a search goes
-//! from the line of a bucket's first sector to that of the next bucket, which are mostly close.
+//! The sectors up to the start of the last line are cut into buckets of as many sectors each, at most about
+//! twice as many as there are lines. For the first sector of each bucket the line is kept that has it. So a
+//! search goes from the line of a bucket's first sector to that of the next bucket's, which are mostly close.
 
 ghost use Rattle.std.specs.Prelude.{◌≡◌, ◌+◌, ◌^◌, ◌<◌, ◌≤◌, IfOk, length};
 ghost use Rattle.dm_stack.specs.LineSearch.{AreFirsts, StartsAfter, StartsBy};
@@ -36,9 +36,9 @@ impl Model for FoundTable {
 }
 
 impl FoundTable {
-    /// The lines as one value. It fails only when out of memory, of which it takes up to 4 bytes a line.
+    /// The lines as one value. It fails only when out of memory.
     ///
-    /// Cost: linear in the lines.
+    /// Cost: linear in the lines, with memory for up to about 8 bytes a line.
     pub(crate) fn from_vec(alloc: Global, lines: Vec<FoundLine>) -> Result<FoundTable, AllocError>
         ensures { IfOk result (λ table. table ≡ lines.items) }
     {
@@ -83,21 +83,21 @@ impl FoundTable {
     }
 }
 
-/// The index of the line of each bucket's first sector, and the shift of a sector to its bucket. There
-/// are no buckets for lines that are found without.
+/// The index of the line of each bucket's first sector, and the shift of a sector to its bucket. There are
+/// no buckets for up to three lines, which are compared one by one, nor for lines that no load lets through.
 fn firsts_of(alloc: Global, lines: &[FoundLine]) -> Result<(Vec<u32>, u32), AllocError>
     ensures { IfOk result (λ found. AreFirsts lines.now found.0.items found.1) }
 {
-    let mut firsts = Vec::new(alloc);
     let count = lines.len();
     if count < 4 || MOST_LINES < count || lines[0].start != 0 {
-        return Ok((firsts, 0));
+        return Ok((Vec::new(alloc), 0));
     }
     let last = count - 1;
-    let shift = (lines[last].start / count as u64)
-        .checked_ilog2()
-        .unwrap_or(0);
+    let end = lines[last].start;
+    let shift = (end / count as u64).checked_ilog2().unwrap_or(0);
     let width = 1u64 << shift;
+    let buckets = (end >> shift) as usize;
+    let mut firsts = Vec::with_capacity(alloc, buckets.saturating_add(2))?;
     let mut index = 0;
     while index < last {
         let Some(from) = (firsts.len() as u64).checked_mul(width) else {
