@@ -1,7 +1,7 @@
 //! The lines of a device, and where among them the line of a sector is looked for.
 //!
-//! The sectors up to the start of the last line are cut into buckets of as many sectors each, at most about
-//! twice as many as there are lines. For the first sector of each bucket the line is kept that has it. So a
+//! The sectors up to the start of the last line are cut into buckets of as many sectors as one and a half to
+//! three lines have on the average. For the first sector of each bucket the line is kept that has it. So a
 //! search goes from the line of a bucket's first sector to that of the next bucket's, which are mostly close.
 
 ghost use Rattle.std.specs.Prelude.{◌≡◌, ◌+◌, ◌^◌, ◌<◌, ◌≤◌, IfOk, length};
@@ -38,7 +38,7 @@ impl Model for FoundTable {
 impl FoundTable {
     /// The lines as one value. It fails only when out of memory.
     ///
-    /// Cost: linear in the lines, with memory for up to about 8 bytes a line.
+    /// Cost: linear in the lines, with memory for up to 3 bytes a line.
     pub(crate) fn from_vec(alloc: Global, lines: Vec<FoundLine>) -> Result<FoundTable, AllocError>
         ensures { IfOk result (λ table. table ≡ lines.items) }
     {
@@ -94,7 +94,7 @@ fn firsts_of(alloc: Global, lines: &[FoundLine]) -> Result<(Vec<u32>, u32), Allo
     }
     let last = count - 1;
     let end = lines[last].start;
-    let shift = (end / count as u64).checked_ilog2().unwrap_or(0);
+    let shift = (end / (count / 3) as u64).checked_ilog2().unwrap_or(0);
     let width = 1u64 << shift;
     let buckets = (end >> shift) as usize;
     let mut firsts = Vec::with_capacity(alloc, buckets.saturating_add(2))?;
