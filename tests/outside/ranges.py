@@ -34,6 +34,17 @@ a: 22 2 linear /dev/mapper/b 0
 ]
 
 
+# Lengths of the lines of a device, even and as uneven as they get.
+LENGTHS = {
+    "even": [8] * 40,
+    "a long one first": [10 ** 9] + [1] * 40,
+    "a long one last": [1] * 40 + [10 ** 9],
+    "a long one between": [1] * 20 + [10 ** 9] + [1] * 20,
+    "each twice as long": [2 ** power for power in range(40)],
+    "each half as long": [2 ** power for power in reversed(range(40))],
+}
+
+
 def joined(number, sectors):
     """The lines of consecutive sectors, each of which is a word, and a disk and a sector if it is on one."""
     lines = []
@@ -49,6 +60,7 @@ def joined(number, sectors):
 
 
 def check(tally, program):
+    check_lines(tally, program)
     for source in STACKS:
         for op in "RW":
             each = "".join("%s a %d 1\n" % (op, sector) for sector in range(SECTORS))
@@ -62,3 +74,18 @@ def check(tally, program):
             given = "".join("%s a %d %d\n" % (op, start, end - start) for start, end in ranges)
             wanted = "".join(joined(number, sectors[start:end]) for number, (start, end) in enumerate(ranges, 1))
             tally.same(name, program.map(source, DISKS, given), 0, wanted)
+
+
+def check_lines(tally, program):
+    """The first and the last sector of each line, in an order in which none comes after the one before."""
+    for name, lengths in LENGTHS.items():
+        start, table, asked = 0, "", []
+        for index, length in enumerate(lengths):
+            place = 10 * index
+            table += "a: %d %d linear sda %d\n" % (start, length, place)
+            asked += [(start, place), (start + length - 1, place + length - 1)]
+            start += length
+        asked = asked[::3] + asked[1::3] + asked[2::3]
+        requests = "".join("R a %d 1\n" % sector for sector, _ in asked)
+        answers = "".join("%d R sda %d 1\n" % (number + 1, place) for number, (_, place) in enumerate(asked))
+        tally.same("lines, %s" % name, program.map(table, "sda %d\n" % 2 ** 50, requests), 0, answers)
