@@ -3,7 +3,7 @@
 use crate::fixtures::{stack_of, told_after};
 
 /// Tables, disks, a request, and its searches and comparisons.
-static ROWS: [(&str, &str, &str, (u64, u64)); 9] = [
+static ROWS: [(&str, &str, &str, (u64, u64)); 10] = [
     // One stretch of two levels, however long.
     (
         "a: 0 1048576 linear sda 0\nb: 0 1048576 linear /dev/mapper/a 0\n",
@@ -11,25 +11,33 @@ static ROWS: [(&str, &str, &str, (u64, u64)); 9] = [
         "R b 0 1048576",
         (2, 0),
     ),
-    // One line of four, by two halvings; all of them, of which those after the first are not compared; and
-    // none for what passes the end.
+    // One line of four, which is one of two in its bucket; all of them, of which those after the first are
+    // not compared; and none for what passes the end.
     (
         "a: 0 1 zero\na: 1 1 zero\na: 2 1 zero\na: 3 1 zero\n",
         "",
         "R a 2 1",
-        (1, 2),
+        (1, 1),
     ),
     (
         "a: 0 1 zero\na: 1 1 zero\na: 2 1 zero\na: 3 1 zero\n",
         "",
         "R a 0 4",
-        (4, 2),
+        (4, 1),
     ),
     (
         "a: 0 1 zero\na: 1 1 zero\na: 2 1 zero\na: 3 1 zero\n",
         "",
         "R a 2 4",
         (0, 0),
+    ),
+    // One line of nine, which is one of eight in its bucket, by three halvings.
+    (
+        "a: 0 1 zero\na: 1 1 zero\na: 2 1 zero\na: 3 1 zero\na: 4 1 zero\na: 5 1 zero\n\
+            a: 6 1 zero\na: 7 993 zero\na: 1000 1 zero\n",
+        "",
+        "R a 5 1",
+        (1, 3),
     ),
     // Stripes: a search for their line, and one for the line below each of the four chunks.
     (
