@@ -77,7 +77,7 @@ def check(tally, program):
 
 
 def check_lines(tally, program):
-    """The first and the last sector of each line, in an order in which none comes after the one before."""
+    """The last and the first sector of each line, from the last line on: none comes after the one before."""
     for name, lengths in LENGTHS.items():
         start, table, asked = 0, "", []
         for index, length in enumerate(lengths):
@@ -85,7 +85,7 @@ def check_lines(tally, program):
             table += "a: %d %d linear sda %d\n" % (start, length, place)
             asked += [(start, place), (start + length - 1, place + length - 1)]
             start += length
-        asked = asked[::3] + asked[1::3] + asked[2::3]
+        asked.reverse()
         requests = "".join("R a %d 1\n" % sector for sector, _ in asked)
         answers = "".join("%d R sda %d 1\n" % (number + 1, place) for number, (_, place) in enumerate(asked))
         tally.same("lines, %s" % name, program.map(table, "sda %d\n" % 2 ** 50, requests), 0, answers)

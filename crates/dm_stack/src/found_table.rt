@@ -1,8 +1,8 @@
 //! The lines of a device, and where among them the line of a sector is looked for.
 //!
-//! The sectors up to the start of the last line are cut into buckets of as many sectors as one and a half to
-//! three lines have on the average. For the first sector of each bucket the line is kept that has it. So a
-//! search goes from the line of a bucket's first sector to that of the next bucket's, which are mostly close.
+//! The sectors up to the start of the last line are cut into buckets, each of as many sectors as about two
+//! lines have on average. The line of each bucket's first sector is kept, so a search goes from that line to
+//! the one of the next bucket's first sector; these are mostly close to each other.
 
 ghost use Rattle.std.specs.Prelude.{◌≡◌, ◌+◌, ◌^◌, ◌<◌, ◌≤◌, IfOk, length};
 ghost use Rattle.dm_stack.specs.LineSearch.{AreFirsts, StartsAfter, StartsBy};
@@ -38,7 +38,7 @@ impl Model for FoundTable {
 impl FoundTable {
     /// The lines as one value. It fails only when out of memory.
     ///
-    /// Cost: linear in the lines, with memory for up to 3 bytes a line.
+    /// Cost: linear in the lines, with memory for about 3 bytes a line.
     pub(crate) fn from_vec(alloc: Global, lines: Vec<FoundLine>) -> Result<FoundTable, AllocError>
         ensures { IfOk result (λ table. table ≡ lines.items) }
     {

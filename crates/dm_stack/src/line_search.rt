@@ -122,7 +122,7 @@ fn after_last(table: &FoundTable, device: DeviceId, last: &LastLine, sector: u64
     search(table.lines(), table.range_of(sector), sector)
 }
 
-/// A line that is searched for among the first one and as many, of which it is one.
+/// The line of a sector, which is one of a range of lines: the index of the first, and how many they are.
 fn search(lines: &[FoundLine], range: (usize, usize), sector: u64) -> (usize, u64)
     requires some { 0 < range.1 }
     requires within { range.0 + range.1 ≤ length lines.now }
