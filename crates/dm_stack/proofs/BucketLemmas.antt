@@ -5,7 +5,7 @@ use Rattle.std.proofs.lemmas.Bool.{cases_lt}
 use Rattle.std.proofs.lemmas.List.{get_or_append_left, get_or_push}
 use Rattle.std.proofs.Math.Nat.{mul-le-mul_right}
 use Rattle.dm_stack.specs.declared.found_line.FoundLine.{FoundLine}
-use Rattle.dm_stack.specs.LineSearch.{AreFirsts, IsAmong, StartsAfter, StartsBy}
+use Rattle.dm_stack.specs.LineSearch.{AreFirsts, IsLineOf, StartsAfter, StartsBy}
 
 by_later : (found : Option FoundLine) (sector later : ℕ) → sector ≤ later → MatchOption found ⊥ (λ line. line.start ≤ sector) → MatchOption found ⊥ (λ line. line.start ≤ later)
 by_later (Some line) sector later more from = omega (arith, more, from)
@@ -35,7 +35,7 @@ earlier_or_last firsts index bucket within =
 
 -- one more bucket, whose line is none of the earlier ones
 pub firsts_pushed : (lines : List FoundLine) (firsts : List ℕ) (index shift : ℕ) → AreFirsts lines firsts shift → ((bucket : ℕ) → bucket < length firsts → get_or firsts bucket 0 ≤ index)
-    → IsAmong lines index (length firsts * 2 ^ shift) → AreFirsts lines (firsts ++ index ∷ []) shift
+    → IsLineOf lines index (length firsts * 2 ^ shift) → AreFirsts lines (firsts ++ index ∷ []) shift
 firsts_pushed lines firsts index shift are earlier is = record {
   short = are.short;
   at = λ bucket within. elim (earlier_or_last firsts index bucket within) [

@@ -15,8 +15,8 @@ StartsBy lines index sector = MatchOption (slice_get lines index) ⊥ (λ line. 
 abbrev pub StartsAfter : List FoundLine → (index sector : ℕ) → Type 0
 StartsAfter lines index sector = MatchOption (slice_get lines index) ⊤ (λ line. sector < line.start)
 
--- the line of an index starts at a sector or before it, and the next one after it
-pub record IsAmong (lines : List FoundLine) (index sector : ℕ) : Type 0 where
+-- a line is that of a sector: it starts there or before, and the next one after it
+pub record IsLineOf (lines : List FoundLine) (index sector : ℕ) : Type 0 where
   pub within : index < length lines
   pub from : StartsBy lines index sector
   pub next : StartsAfter lines (index + 1) sector
@@ -24,7 +24,7 @@ pub record IsAmong (lines : List FoundLine) (index sector : ℕ) : Type 0 where
 -- the lines of the first sectors of buckets, each of which has 2 ^ shift sectors
 pub record AreFirsts (lines : List FoundLine) (firsts : List ℕ) (shift : ℕ) : Type 0 where
   pub short : shift < 64
-  pub at : (bucket : ℕ) → bucket < length firsts → IsAmong lines (get_or firsts bucket 0) (bucket * 2 ^ shift)
+  pub at : (bucket : ℕ) → bucket < length firsts → IsLineOf lines (get_or firsts bucket 0) (bucket * 2 ^ shift)
   pub rising : (bucket : ℕ) → bucket + 1 < length firsts → get_or firsts bucket 0 ≤ get_or firsts (bucket + 1) 0
 
 -- there is a line at an index, and a sector is the first after it
@@ -50,7 +50,5 @@ binary_digits number = digits_to number number
 
 -- what a search for the line of a sector finds: an index, and how many comparisons it took
 pub record Finds (lines : List FoundLine) (sector : ℕ) (found : ℕ × ℕ) : Type 0 where
-  pub within : found.0 < length lines
-  pub from : StartsBy lines found.0 sector
-  pub next : StartsAfter lines (found.0 + 1) sector
+  pub line : IsLineOf lines found.0 sector
   pub few : found.1 ≤ binary_digits (length lines)

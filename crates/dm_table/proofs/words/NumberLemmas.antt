@@ -11,7 +11,7 @@ use Rattle.std.proofs.lemmas.Int.Digits.{digits_value_more}
 use Rattle.std.proofs.lemmas.Bool.Decides.{nat_tests}
 use Rattle.std.proofs.lemmas.Grind.{common_steps}
 use Rattle.std.proofs.lemmas.List.Folds.{list_all_more, list_all_at}
-use Rattle.std.proofs.lemmas.List.Sums.{prefix_len-le-length, prefix_len-drop_yes, prefix_len_stops}
+use Rattle.std.proofs.lemmas.List.Sums.{prefix_len-le-length, prefix_len_stops}
 use Rattle.std.proofs.lemmas.Str.{digit_value_digit}
 use Rattle.std.proofs.lemmas.Str.Parse.{IsNumeralModel, numerals_by_value, digits_value_short}
 use Rattle.dm_table.specs.words.Number.{IsReadTo, Spells, is_number, number_of}
@@ -48,15 +48,12 @@ next_below text i digits digit below short = rw (value_more text i digit below) 
 -- one more digit is read
 pub read_more : (text : List ℕ) (len value : ℕ) → IsReadTo text len value → is_ascii_digit (get_or text len 0) ≡ true → len < length text → len + 1 ≤ 19
     → IsReadTo text (len + 1) (value * 10 + (get_or text len 0 - 48))
-read_more text len value read digit below short =
-    let more = prefix_len-drop_yes is_ascii_digit text len 0 below digit in
-    record {
-      short = short;
-      within = omega (arith, below);
-      left = omega (arith, more, read.left);
-      digits = digits_more text len read.digits digit below;
-      sum = rw read.sum (value_more text len digit below);
-    }
+read_more text len value read digit below short = record {
+  short = short;
+  within = omega (arith, below);
+  digits = digits_more text len read.digits digit below;
+  value = rw read.value (value_more text len digit below);
+}
 
 -- what the test of a number says
 record IsNumeral (text : List ℕ) : Type 0 where

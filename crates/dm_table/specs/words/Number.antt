@@ -1,6 +1,6 @@
 -- Numbers as texts: 0, or a digit 1 to 9 followed by at most 18 digits.
-use Rattle.std.specs.Prelude.{◌≡◌, ℕ, ◌+◌, ◌^◌, ◌<◌, ◌≤◌, ◌==◌, Bool, true, ◌&&◌, ◌||◌, not, List, length, take, drop, Option, Some, None, nat_le, slice_index, decimal, unwrap_or, if◌then◌else◌}
-use Rattle.std.specs.List.{list_all, prefix_len}
+use Rattle.std.specs.Prelude.{◌≡◌, ℕ, ◌^◌, ◌<◌, ◌≤◌, ◌==◌, Bool, true, ◌&&◌, ◌||◌, not, List, length, take, Option, Some, None, nat_le, slice_index, decimal, unwrap_or, if◌then◌else◌}
+use Rattle.std.specs.List.{list_all}
 use Rattle.std.specs.Char.{is_ascii_digit}
 use Rattle.std.specs.Str.Parse.{digits_value}
 use Rattle.dm_table.specs.words.Bytes.{digit_zero}
@@ -22,10 +22,9 @@ number_of text = if is_number text then Some (digits_value 10 text) else None
 abbrev pub number_in : List ℕ → ℕ
 number_in field = unwrap_or (number_of field) 0
 
--- the first bytes are digits of a value, and may be the first of more digits
-pub record IsReadTo (text : List ℕ) (len value : ℕ) : Type 0 where
+-- the first bytes are digits, no more than a number has, and this is their value
+pub record IsReadTo (text : List ℕ) (len number : ℕ) : Type 0 where
   pub short : len ≤ 19
   pub within : len ≤ length text
-  pub left : len + prefix_len is_ascii_digit (drop len text) ≡ prefix_len is_ascii_digit text
   pub digits : list_all is_ascii_digit (take len text) ≡ true
-  pub sum : value ≡ digits_value 10 (take len text)
+  pub value : number ≡ digits_value 10 (take len text)

@@ -1,5 +1,5 @@
 use Rattle.std.proofs.Common.{◌≡◌, ℕ, ◌+◌, ◌*◌, ◌^◌, List, [], ◌∷◌, length, length-append, ap, subst, sym, ◌∙◌, arith}
-use Rattle.dm_stack.specs.LineSearch.{AreFirsts, IsAmong, StartsAfter, StartsBy}
+use Rattle.dm_stack.specs.LineSearch.{AreFirsts, IsLineOf, StartsAfter, StartsBy}
 use Rattle.dm_stack.proofs.BucketLemmas.{earlier_pushed, firsts_pushed, next_bucket, none_after, starts_by_later}
 use Rattle.dm_stack.proofs.LineSearchLemmas.{starts_after}
 use Rattle.dm_stack.proofs.found_table.firsts_of.Goals.{then-loop-index-2-test+else-lines-index, else-loop-index-2-test}
@@ -21,7 +21,7 @@ loop-index-preserved c =
           (starts_after lines (index + 1) c.in-Some.from w.index-lines-index.result (omega (arith, i.last, w.loop-index-2-test.true)) w.if-lines-index.false)
       | else-loop-index-2-test w ↦ none_after lines (index + 1) (length old * 2 ^ shift) (omega (arith, i.last, w.loop-index-2-test.false))
     ] in
-    let is : IsAmong lines index (length old * 2 ^ shift) = record { within = i.within; from = from; next = next } in
+    let is : IsLineOf lines index (length old * 2 ^ shift) = record { within = i.within; from = from; next = next } in
     record {
       last = i.last;
       few = i.few;

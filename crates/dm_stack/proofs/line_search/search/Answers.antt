@@ -40,8 +40,10 @@ returns c =
     let i = c.loop-count.invariant in
     let one : c.loop-count.count ≡ 1 = omega (arith, i.some, c.loop-count-test.false) in
     record {
-      within = omega (arith, i.within, one);
-      from = i.from;
-      next = subst (λ (count : ℕ). StartsAfter c.args.lines.now (c.loop-count.index + count) c.args.sector) one i.next;
+      line = record {
+        within = omega (arith, i.within, one);
+        from = i.from;
+        next = subst (λ (count : ℕ). StartsAfter c.args.lines.now (c.loop-count.index + count) c.args.sector) one i.next;
+      };
       few = few_digits _ _ i.few;
     }

@@ -29,10 +29,10 @@ returns c =
     let lines = c.table-table.ensures.lines in
     let shown = c.lines-lines.ensures ∙ lines in
     let there = line_there st c.args.device c.find-index.result.0 c.args.sector sound c.requires.device c.requires.sector
-    (subst (λ (ls : List FoundLine). StartsBy ls c.find-index.result.0 c.args.sector) lines c.find-index.ensures.found.from)
+    (subst (λ (ls : List FoundLine). StartsBy ls c.find-index.result.0 c.args.sector) lines c.find-index.ensures.found.line.from)
     (subst (λ (ls : List FoundLine). StartsAfter ls (suc c.find-index.result.0) c.args.sector) lines
-    (subst (λ (index : ℕ). StartsAfter c.table-table.result.now index c.args.sector) (add-one c.find-index.result.0) c.find-index.ensures.found.next)) in
-    let here = slice_get_read c.lines-lines.result.now _ c.find-index.result.0 c.index-lines-index.result refl (rw c.lines-lines.ensures c.find-index.ensures.found.within) c.index-lines-index.is in
+    (subst (λ (index : ℕ). StartsAfter c.table-table.result.now index c.args.sector) (add-one c.find-index.result.0) c.find-index.ensures.found.line.next)) in
+    let here = slice_get_read c.lines-lines.result.now _ c.find-index.result.0 c.index-lines-index.result refl (rw c.lines-lines.ensures c.find-index.ensures.found.line.within) c.index-lines-index.is in
     let is : found_at st c.args.device c.args.sector ≡ Some c.index-lines-index.result =
     sym there ∙ ap (λ (ls : List FoundLine). slice_get ls c.find-index.result.0) (sym shown) ∙ here in
     let f = sector_found st c.args.device c.args.sector sound c.requires.device c.requires.sector in

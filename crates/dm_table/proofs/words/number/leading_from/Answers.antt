@@ -1,7 +1,8 @@
 -- At most 19 digits are read, and they are below 10^19.
-use Rattle.std.proofs.Common.{◌≡◌, ◌<◌, true, get_or, take, length, sym, ap, inl, inr, ◌≢◌, ◌∙◌, arith}
+use Rattle.std.proofs.Common.{◌≡◌, ◌+◌, ◌<◌, ◌≤◌, ℕ, zero, suc, true, List, [], ◌∷◌, get_or, take, drop, length, sym, ap, inl, inr, ◌≢◌, ◌∙◌, arith}
 use Rattle.std.specs.Char.{is_ascii_digit}
-use Rattle.std.specs.List.{prefix_len}
+use Rattle.std.specs.List.{list_all, prefix_len}
+use Rattle.std.proofs.lemmas.Bool.{and_parts}
 use Rattle.std.proofs.lemmas.List.Sums.{prefix_len-drop_yes, prefix_len-drop_no, prefix_len-drop_all}
 use Rattle.std.proofs.lemmas.List.Folds.{length-prefix_len}
 use Rattle.dm_table.proofs.words.NumberLemmas.{next_below, read_more, number_of-long, number_of-empty, number_of-zero, number_of-digits}
@@ -10,6 +11,18 @@ use Rattle.std.proofs.Common.{Some}
 use Rattle.std.proofs.lemmas.Grind.{elements}
 use Rattle.dm_table.proofs.words.number.leading_from.Goals.{then-loop-len-test+else-is_ascii_digit, else-loop-len-test, then-len-eq0-via-then-len-eq0, then-len-eq0-via-else-len-eq0+then-len-ne1}
 use Rattle.dm_table.proofs.words.number.leading_from.Goals as goal
+
+-- what is left after some digits has the rest of them
+digits_left : (text : List ℕ) (len : ℕ) → len ≤ length text → list_all is_ascii_digit (take len text) ≡ true → len + prefix_len is_ascii_digit (drop len text) ≡ prefix_len is_ascii_digit text
+digits_left text zero within digits = omega arith
+digits_left [] (suc len) within digits = absurd (omega arith)
+digits_left (byte ∷ text) (suc len) within digits =
+    let both = and_parts (is_ascii_digit byte) (list_all is_ascii_digit (take len text)) digits in
+    let more = digits_left text len (omega (arith, within)) both.1 in
+    rw both.0 (omega (arith, more))
+
+pub loop-len-init : goal.loop-len-init
+loop-len-init c = record { read = c.requires; left = digits_left c.args.text.now c.args.read c.requires.within c.requires.digits }
 
 pub returns-then-len-eq19-clause-other : goal.returns-then-len-eq19-clause-other
 returns-then-len-eq19-clause-other c =
@@ -22,19 +35,23 @@ returns-then-len-eq19-clause-other c =
 pub overflow_mul-value : goal.overflow_mul-value
 overflow_mul-value c =
     let digit = sym c.is_ascii_digit.ensures.value ∙ c.if-is_ascii_digit.true in
-    let next = next_below c.args.text.now c.loop-len.len c.loop-len.invariant.digits digit c.loop-len-test.true (omega arith) in
-    omega (arith, next, c.loop-len.invariant.sum)
+    let next = next_below c.args.text.now c.loop-len.len c.loop-len.invariant.read.digits digit c.loop-len-test.true (omega arith) in
+    omega (arith, next, c.loop-len.invariant.read.value)
 
 pub overflow_add-value : goal.overflow_add-value
 overflow_add-value c =
     let digit = sym c.is_ascii_digit.ensures.value ∙ c.if-is_ascii_digit.true in
-    let next = next_below c.args.text.now c.loop-len.len c.loop-len.invariant.digits digit c.loop-len-test.true (omega arith) in
-    omega (arith, next, c.loop-len.invariant.sum, c.from.ensures)
+    let next = next_below c.args.text.now c.loop-len.len c.loop-len.invariant.read.digits digit c.loop-len-test.true (omega arith) in
+    omega (arith, next, c.loop-len.invariant.read.value, c.from.ensures)
 
 pub loop-len-preserved : goal.loop-len-preserved
 loop-len-preserved c =
     let digit = sym c.is_ascii_digit.ensures.value ∙ c.if-is_ascii_digit.true in
-    rw c.from.ensures (read_more c.args.text.now c.loop-len.len c.loop-len.value c.loop-len.invariant digit c.loop-len-test.true (omega arith))
+    let more = prefix_len-drop_yes is_ascii_digit c.args.text.now c.loop-len.len 0 c.loop-len-test.true digit in
+    record {
+      read = rw c.from.ensures (read_more c.args.text.now c.loop-len.len c.loop-len.value c.loop-len.invariant.read digit c.loop-len-test.true (omega arith));
+      left = omega (arith, more, c.loop-len.invariant.left);
+    }
 
 pub returns-then-len-eq0-clause-other : goal.returns-then-len-eq0-clause-other
 returns-then-len-eq0-clause-other c =
@@ -50,17 +67,17 @@ returns-then-len-eq0-clause-other c =
       | then-len-eq0-via-then-len-eq0 w ↦ number_of-empty _ (omega (arith, length-prefix_len is_ascii_digit text, whole, w.if-len-eq0.true))
       | then-len-eq0-via-else-len-eq0+then-len-ne1 w ↦
           let same : get_or (take len text) 0 0 ≡ get_or text 0 0 = grind (arith, elements) in
-          rw whole (number_of-zero (take len text) (same ∙ w.if-len-ne1.true.0) (omega (arith, length-take-le len text c.loop-len.invariant.within, w.if-len-ne1.true.1)))
+          rw whole (number_of-zero (take len text) (same ∙ w.if-len-ne1.true.0) (omega (arith, length-take-le len text c.loop-len.invariant.read.within, w.if-len-ne1.true.1)))
     ]
 
 pub returns-clause-number : goal.returns-clause-number
 returns-clause-number c =
     let text = c.args.text.now in
     let len = c.loop-len.len in
-    let long : length (take len text) ≡ len = length-take-le len text c.loop-len.invariant.within in
+    let long : length (take len text) ≡ len = length-take-le len text c.loop-len.invariant.read.within in
     let same : get_or (take len text) 0 0 ≡ get_or text 0 0 = grind (arith, elements) in
-    let lead : 1 < length (take len text) → get_or (take len text) 0 0 ≢ 48 = λ more zero. elim c.if-len-ne1.either [
+    let lead : 1 < length (take len text) → get_or (take len text) 0 0 ≢ 48 = λ more first. elim c.if-len-ne1.either [
       | inl alone ↦ absurd (omega (arith, alone.1, long))
-      | inr other ↦ other (sym same ∙ zero)
+      | inr other ↦ other (sym same ∙ first)
     ] in
-    number_of-digits (take len text) (omega arith) (omega arith) lead c.loop-len.invariant.digits ∙ ap Some (sym c.loop-len.invariant.sum)
+    number_of-digits (take len text) (omega arith) (omega arith) lead c.loop-len.invariant.read.digits ∙ ap Some (sym c.loop-len.invariant.read.value)
