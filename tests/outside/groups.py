@@ -27,14 +27,26 @@ def with_line(text, number, line):
 BOTH = with_line(METADATA, 24, SECOND)
 READ, WRITE = "R vg0-lv0 0 8\n", "W vg0-lv0 0 8\n"
 ON_DEVICE, ON_KEY = "1 R /dev/sda1 2048 8\n", "1 R pv0 2048 8\n"
+WRITTEN = "1 W /dev/sda1 2048 8\n"
 
 # A line of the group of two volumes, what it is changed to, the requests and their answers.
 MAPPED = [
     (0, "", "W vg0-lv--1 0 8\n", "1 error 8\n"),
     (0, "", "R vg0-lv--1 120 16\n", "1 R /dev/sda1 206968 8\n1 R /dev/sda1 223232 8\n"),
     (0, "", "R vg0-lv0 204799 1\nR vg0-lv0 204800 1\n", "1 R /dev/sda1 206847 1\n2 error 1\n"),
-    (15, 'status = ["READ", "WRITE_LOCKED", "VISIBLE"]', WRITE, "1 W /dev/sda1 2048 8\n"),
+    (15, 'status = ["READ", "WRITE_LOCKED", "VISIBLE"]', WRITE, WRITTEN),
     (15, "status = []", WRITE, "1 error 8\n"),
+    (15, 'flags = ["WRITE_LOCKED"] status = ["READ", "VISIBLE"]', WRITE, WRITTEN),
+    (15, 'status = ["READ", "VISIBLE"] flags = ["WRITE_LOCKED"]', WRITE, WRITTEN),
+    (15, 'status = ["READ", "WRITE", "VISIBLE"] flags = []', WRITE, WRITTEN),
+    (15, 'status = [] flags = [1, "PARTIAL", "WRITE_LOCKED", 2]', WRITE, WRITTEN),
+    (15, 'status = ["READ", "VISIBLE"]', WRITE, "1 error 8\n"),
+    (15, 'status = ["READ", "VISIBLE"] flags = []', WRITE, "1 error 8\n"),
+    (15, 'status = ["READ", "VISIBLE"] flags = ["WRITE"]', WRITE, "1 error 8\n"),
+    (15, 'status = ["READ", "VISIBLE"] flags = "WRITE_LOCKED"', WRITE, "1 error 8\n"),
+    (15, 'status = ["READ", "VISIBLE"] flags = 1', WRITE, "1 error 8\n"),
+    (15, 'status = ["READ", "VISIBLE"] flags { WRITE_LOCKED = 1 }', WRITE, "1 error 8\n"),
+    (15, 'status = ["READ", "VISIBLE"] flags = ["WRITE_LOCKED"]', READ, ON_DEVICE),
     (20, 'type = "zero"', WRITE, "1 drop 8\n"),
     (20, 'type = "error"', READ, "1 error 8\n"),
     (21, 'stripe_count = 1 stripe_size = "x"', READ, ON_DEVICE),

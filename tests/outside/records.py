@@ -88,12 +88,17 @@ TABLES = [
      + COW_2 + SNAP_2.replace("lv0", "lv1")),
 ]
 
-# Statuses in lines 15 (the origin), 26 (the store) and 37 (the record), and which of the four devices are read-only.
+# Lines 15 (the origin), 26 (the store) and 37 (the record) that have a status without a right to write, those of them
+# that have it among their flags, and which of the four devices are read-only.
 READ_ONLY = [
-    ((15,), (1,)),
-    ((26,), (3,)),
-    ((37,), ()),
-    ((15, 26, 37), (1, 3)),
+    ((15,), (), (1,)),
+    ((26,), (), (3,)),
+    ((37,), (), ()),
+    ((15, 26, 37), (), (1, 3)),
+    ((15, 26, 37), (15,), (3,)),
+    ((15, 26, 37), (26,), (1,)),
+    ((15, 26, 37), (37,), (1, 3)),
+    ((15, 26, 37), (15, 26, 37), ()),
 ]
 
 # Lines of the group, what they are changed to, and the refusal.
@@ -343,12 +348,13 @@ def check_tables(tally, program):
         path = program.file("records", text)
         tally.same("tables of " + name, program.run(["table", "lvm", path]), 0, tables)
         tally.same("check of " + name, program.run(["check", "lvm", path]), 0, report(tables))
-    for lines, read_only in READ_ONLY:
+    for lines, locked, read_only in READ_ONLY:
         text = GROUP
         for number in lines:
-            text = with_line(text, number, 'status = ["READ", "VISIBLE"]')
+            flags = '["WRITE_LOCKED"]' if number in locked else "[]"
+            text = with_line(text, number, 'status = ["READ", "VISIBLE"] flags = ' + flags)
         got = program.run(["concise", "lvm", program.file("records", text)])
-        tally.same("read-only by lines %s" % (lines,), got, 0, concise(read_only))
+        tally.same("read-only by lines %s, locked in %s" % (lines, locked), got, 0, concise(read_only))
     for origin, store, record, words in NAMES:
         text = GROUP.replace("lv0", "o" * origin).replace("snapshot0", "r" * record)
         text = text.replace("snap {", "c" * store + " {").replace('"snap"', '"%s"' % ("c" * store))

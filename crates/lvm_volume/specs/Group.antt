@@ -96,14 +96,25 @@ segment_of keys segment = record {
   line = segment.line;
 }
 
-abbrev pub is_write : Scalar → Bool
-is_write (Text text) = bytes_eq text (codes "WRITE") || bytes_eq text (codes "WRITE_LOCKED")
-is_write (Int n) = false
+abbrev pub is_text_of : List ℕ → Scalar → Bool
+is_text_of word (Text text) = bytes_eq text word
+is_text_of word (Int n) = false
+
+-- whether the list of a key has a string
+abbrev pub lists : (key word : List ℕ) → Tree → Bool
+lists key word section = list_any (is_text_of word) (items_at key section)
+
+-- the right to write: lvm2 writes a locked one among the flags
+abbrev pub is_writable : Tree → Bool
+is_writable volume =
+    lists (codes "status") (codes "WRITE") volume
+    || (lists (codes "status") (codes "WRITE_LOCKED") volume
+    || lists (codes "flags") (codes "WRITE_LOCKED") volume)
 
 unfoldable pub volume_of : GroupPositions → Keyed → Volume
 volume_of keys volume = record {
   name = volume.0;
-  ro = not (list_any is_write (items_at (codes "status") volume.1));
+  ro = not (is_writable volume.1);
   segments = map (segment_of keys) (segments_of volume.1);
   line = volume.1.line;
 }

@@ -187,7 +187,7 @@ const ON_KEY: &[DiskRow] = &[("pv0", 1_050_624, 6)];
 
 /// A line of `ONE` and what stands in its place, where line 0 is none; its device in the concise form, and
 /// its disks.
-static OF_ONE: [(usize, &str, &str, &[DiskRow]); 13] = [
+static OF_ONE: [(usize, &str, &str, &[DiskRow]); 14] = [
     (
         0,
         "",
@@ -228,6 +228,12 @@ static OF_ONE: [(usize, &str, &str, &[DiskRow]); 13] = [
         15,
         "status = []",
         "vg0-lv0,,,ro,0 204800 linear /dev/sda1 2048\n",
+        ON_DEVICE,
+    ),
+    (
+        15,
+        "status = [] flags = [1, \"WRITE_LOCKED\"]",
+        "vg0-lv0,,,rw,0 204800 linear /dev/sda1 2048\n",
         ON_DEVICE,
     ),
     (16, "segment_count = 0", "vg0-lv0,,,rw,\n", ON_DEVICE),

@@ -1,11 +1,10 @@
 //! Volumes, as their sections say them.
 
-ghost use Rattle.std.specs.Prelude.{◌≡◌, codes, map, IfOk};
+ghost use Rattle.std.specs.Prelude.{◌≡◌, map, IfOk};
 ghost use Rattle.std.specs.List.{list_any};
 ghost use Rattle.lvm_text.specs.Iterate.{item_view};
 ghost use Rattle.lvm_text.specs.View.{scalar_view, scalar_views};
-ghost use Rattle.lvm_volume.specs.Fields as fields;
-ghost use Rattle.lvm_volume.specs.Group.{is_write, volume_of};
+ghost use Rattle.lvm_volume.specs.Group.{is_text_of, is_writable, lists, volume_of};
 
 use crate::key::Key;
 use crate::positions::GroupPositions;
@@ -57,34 +56,44 @@ fn volume_of(
     })
 }
 
-/// Whether the status of a volume lets it be written.
+/// Whether a volume may be written. lvm2 writes a locked right among the flags, as of every volume of
+/// a group with a system id.
 fn is_writable(volume: &Section<'_>) -> bool
-    ensures { result ≡ list_any is_write (fields.items_at (codes "status") volume.now) }
+    ensures { result ≡ is_writable volume.now }
 {
-    match items_at(volume, "status") {
-        Some(items) => has_write(items),
+    lists(volume, "status", "WRITE")
+        || lists(volume, "status", "WRITE_LOCKED")
+        || lists(volume, "flags", "WRITE_LOCKED")
+}
+
+/// Whether the list of a key has a string. A key that is missing, or holds no list, has none.
+fn lists(section: &Section<'_>, key: &str, word: &str) -> bool
+    ensures { result ≡ lists key.now word.now section.now }
+{
+    match items_at(section, key) {
+        Some(items) => has_text(items, word),
         None => false,
     }
 }
 
-/// Whether one of the words lets a volume be written.
-fn has_write(items: &[Scalar<'_>]) -> bool
-    ensures { result ≡ list_any is_write (scalar_views items.now) }
+/// Whether one of the items is a string.
+fn has_text(items: &[Scalar<'_>], word: &str) -> bool
+    ensures { result ≡ list_any (is_text_of word.now) (scalar_views items.now) }
 {
     for item in items {
-        if is_write(item) {
+        if is_text_of(item, word) {
             return true;
         }
     }
     false
 }
 
-/// Whether a word of the status lets a volume be written.
-fn is_write(word: &Scalar<'_>) -> bool
-    ensures { result ≡ is_write (scalar_view word.now) }
+/// Whether an item is a string.
+fn is_text_of(item: &Scalar<'_>, word: &str) -> bool
+    ensures { result ≡ is_text_of word.now (scalar_view item.now) }
 {
-    match word {
-        Scalar::Text(text) => *text == "WRITE" || *text == "WRITE_LOCKED",
+    match item {
+        Scalar::Text(text) => *text == word,
         Scalar::Int(_) => false,
     }
 }

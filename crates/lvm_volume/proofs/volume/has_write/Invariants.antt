@@ -1,8 +1,0 @@
-use Rattle.std.proofs.Common.{◌≡◌, drop}
-use Rattle.std.specs.List.{list_any}
-use Rattle.lvm_text.specs.View.{scalar_views}
-use Rattle.lvm_volume.specs.Group.{is_write}
-use Rattle.lvm_volume.proofs.volume.has_write.Given as goal
-
-abbrev pub invariant-loop-item : goal.invariant-loop-item
-invariant-loop-item l = list_any is_write (scalar_views (drop l.item-index l.items)) ≡ list_any is_write (scalar_views l.items)
