@@ -1,115 +1,384 @@
-"""The scripts that find metadata at the head of a physical volume: over their sample, and over heads that
-are damaged or easily taken wrong."""
+"""The scripts that find metadata at the head of a physical volume: over their sample, over heads that are damaged
+or easily taken wrong, and over each bit that may have been flipped where one of three sums is kept."""
 
+import contextlib
+import io
 import os
-import struct
 import sys
 
-from harness import run
+from harness import NOBODY, run
+from physical_volumes import FIRST, MAGIC, SECTOR, area, gpt, label, mbr, text_of_area, volume
+from recipe_calls import answer
 
-MAGIC = b" LVM2 x[5A%r0N*>"
-# Where the header of a metadata area lies, and how many bytes the area of the sample has.
-HEADER, SIZE = 4096, 4096
-# Where the sample has the text of a group that was removed.
-OLD = HEADER + 2048
-TIME = b"creation_time = 1700000000\t# Tue Nov 14 22:13:20 2023\n"
+# Where the sample has the text of a group that was removed, and where the valid one, which goes round the ring.
+OLD, VALID = 2048, 3840
+SIZE = 4096
+OTHER = ": try another physical volume of the group, or a file in /etc/lvm/backup"
+LISTED = OTHER + ", or list the texts that are left with metadata_texts.py"
+ONE = "the metadata area at byte 4096: "
+# Where the second area of the images here begins.
+SECOND = 65536
+TEXT = b'vg0 {\nid = "AAAAAA"\nseqno = 7\n}\ncontents = "x"\n\0'
+NEWER = TEXT.replace(b"7", b"10")
+SEARCHED = "metadata areas were looked for in the first and last 4 MiB\n"
+NOT_FOUND = ", and no metadata area is in the first or last 4 MiB"
+FROM_FIRST = ": take the physical volume from its first byte on, or " + OTHER[2:]
+USAGE = "usage: metadata_area.py [-h] [--partition N] [--area FILE] HEAD\n"
 
 
 def check(tally, program, top):
-    group = text_of(os.path.join(top, "examples", "vg0.backup"))
-    check_area(tally, program, top, group)
-    check_refused_areas(tally, program, top)
-    check_texts(tally, program, top, group)
+    group = read(os.path.join(top, "examples", "vg0.backup"))
+    script = Script(tally, program, top)
+    check_sample(tally, program, script, group)
+    check_rings(script, group)
+    check_flips(tally, group)
+    for name, head, message in REFUSED:
+        script.refuses(name, head, message)
+    for name, head, text, message in TAKEN:
+        script.takes(name, head, text, message)
+    check_second(script)
+    check_disks(script)
+    check_files(tally, program, script)
+    check_texts(tally, program, script, group)
 
 
-def text_of(path):
+class Script:
+    """The scripts, and what is made of their answers. Those about files and about the sample are run as from a shell."""
+
+    def __init__(self, tally, program, top):
+        self.tally, self.program = tally, program
+        self.scripts = os.path.join(top, "examples", "recipes")
+        self.path = program.file("head", "")
+        self.folder = os.path.dirname(self.path)
+
+    def run(self, *words, name="metadata_area", **how):
+        """Runs a script in the folder of the images."""
+        return run([sys.executable, "-B", os.path.join(self.scripts, name + ".py"), *words], folder=self.folder, **how)
+
+    def answer(self, words):
+        """What metadata_area.py answers to these words in that folder."""
+        return answer(self.scripts, "metadata_area", words, self.folder)
+
+    def takes(self, name, head, text, message="", words=("head",)):
+        """The script prints this text, and says this of it."""
+        self.program.file("head", head)
+        self.tally.same("the text of " + name, self.answer(words), 0, text.rstrip(b"\0"), message and "head: " + message)
+
+    def refuses(self, name, head, message, words=("head",), path="head"):
+        """The script refuses an image, with this message."""
+        self.program.file("head", head)
+        self.tally.same("the text of " + name, self.answer(words), 1, "", path + ": " + message + "\n")
+
+
+def read(path):
     with open(path, "rb") as it:
         return it.read()
-
-
-def area_text(group, identity, number):
-    """What lvm2 writes into an area: the group first, and a NUL at the end."""
-    head, body = group.replace(b"segment_count", b"creation_time = 1700000001\n      segment_count").split(b"vg0 {\n")
-    return b'vg0 {\nid = "%s"\nseqno = %d\n' % (identity, number) + body + head + TIME + b"\0"
-
-
-def head_of(offset, text, others=(), size=SIZE, flags=0):
-    """The head of a physical volume whose area has a text at this offset, and others."""
-    area = bytearray(size)
-    area[4:20] = MAGIC
-    area[20:64] = struct.pack("<L5Q", 1, HEADER, size, offset, len(text), flags << 32)
-    for at, it in [*others, (offset, text)]:
-        for place, byte in enumerate(it, at):
-            area[place if place < size else place - size + 512] = byte
-    return bytes(HEADER) + bytes(area)
 
 
 def sample(group):
     """The valid text goes round the ring, and one of a group that was removed has the higher number."""
     gone = group.replace(b"pe_start = 2048", b"pe_start = 4096").replace(b"pe_count = 128", b"pe_count = 127")
-    old, valid = area_text(gone, b"AAAAAA", 13), area_text(group, b"BBBBBB", 2)
-    return head_of(3840, valid, [(OLD - HEADER, old)]), old[:-1], valid[:-1]
+    old, valid = text_of_area(gone, b"AAAAAA", 13), text_of_area(group, b"BBBBBB", 2)
+    return volume((FIRST, area(valid, VALID, others=[(OLD, old)]))), old[:-1], valid[:-1]
 
 
-def check_area(tally, program, top, group):
+def check_sample(tally, program, script, group):
     head, _, valid = sample(group)
-    path = os.path.join(top, "examples", "recipes", "samples", "vg0-head.img")
-    tally.holds("the sample of a metadata area", text_of(path) == head, "it is not what this module makes")
-    got = run_script(top, "metadata_area", path)
+    path = os.path.join(script.scripts, "samples", "vg0-head.img")
+    tally.holds("the sample of a metadata area", read(path) == head, "it is not what this module makes")
+    got = script.run(path)
     tally.same("the text of a metadata area", got, 0, valid)
-    wanted = program.run(["table", "lvm", os.path.join(top, "examples", "vg0.backup")]).out
+    wanted = program.run(["table", "lvm", os.path.join(os.path.dirname(os.path.dirname(script.scripts)), "examples", "vg0.backup")]).out
     tally.same("the table of that text", program.run(["table", "lvm", program.file("area", got.out)]), 0, wanted)
-    whole = area_text(group, b"CCCCCC", 3)
-    for size in (512 + len(whole), 4096, 1 << 21):
-        for offset in (512, size - 1, size - len(whole)):
-            got = run_script(top, "metadata_area", program.file("head", head_of(offset, whole, size=size)))
-            tally.same("a text at %d of an area of %d bytes" % (offset, size), got, 0, whole[:-1])
 
 
-def check_refused_areas(tally, program, top):
-    text = b"vg0 { }\n\0"
-    other = ": try another physical volume of the group\n"
-    damaged = "the header of the metadata area is damaged" + other
-    rows = [
-        ("no area", bytes(8192), "there is no metadata area" + other),
-        ("an empty file", b"", "there is no metadata area" + other),
-        ("no group", head_of(512, b""), "the physical volume belongs to no group\n"),
-        ("an area that is not used", head_of(512, text, flags=1), "lvm2 keeps no text in this metadata area" + other),
-        ("an area that is cut off", head_of(512, text)[:-10],
-         "the metadata area ends 10 bytes after the end of the image: read more of the disk\n"),
-        ("a text in the header", with_offset(head_of(512, text), 511), damaged),
-        ("a text after the area", with_offset(head_of(512, text), SIZE), damaged),
-        ("a text longer than the area", head_of(512, text * 449), damaged),
-    ]
-    for name, head, message in rows:
-        tally.same("the text of " + name, run_script(top, "metadata_area", program.file("head", head)), 1, "", message)
+def check_rings(script, group):
+    whole = text_of_area(group, b"CCCCCC", 3)
+    for size in (SECTOR + len(whole), SIZE, 1 << 21):
+        for offset in (SECTOR, size - 1, size - len(whole)):
+            script.takes("one at %d of an area of %d bytes" % (offset, size), volume((FIRST, area(whole, offset, size=size))), whole)
 
 
-def with_offset(head, offset):
-    return head[:HEADER + 40] + struct.pack("<Q", offset) + head[HEADER + 48:]
+def check_flips(tally, group):
+    """No bit of the label's sector, of the area's header and of the text may be another: it is refused, or the text is right."""
+    whole = text_of_area(group, b"CCCCCC", 3)
+    parts = [("label", range(SECTOR, 2 * SECTOR), True), ("header", range(FIRST, FIRST + SECTOR), False)]
+    for offset in (VALID, SECTOR, SIZE - 1, SIZE - 20):
+        head = bytearray(volume((FIRST, area(whole, offset))))
+        ring = [FIRST + (it if it < SIZE else it - SIZE + SECTOR) for it in range(offset, offset + len(whole))]
+        for name, places, may_be_taken in parts * (offset in (VALID, SECTOR)) + [("text", ring, False)]:
+            found = [flipped(head, place, bit) for place in places for bit in range(8)]
+            wanted = whole[:-1] if may_be_taken else None
+            wrong = [place for place, it in enumerate(found) if it != wanted]
+            tally.holds("each bit of the %s flipped, of a text at %d" % (name, offset), not wrong,
+                        "other answers for the bits %s of %d" % (wrong[:5], len(found)))
 
 
-def check_texts(tally, program, top, group):
+def flipped(head, place, bit):
+    """The text with a bit flipped, or None where it is refused."""
+    import disk_image
+    import metadata_area
+    import refusal
+    head[place] ^= 1 << bit
+    try:
+        with contextlib.redirect_stderr(io.StringIO()):
+            image = metadata_area.chosen_part(disk_image.Image(io.BytesIO(head), "head"), None)
+            return metadata_area.valid_text(image, metadata_area.areas_of(image))
+    except refusal.Refused:
+        return None
+    finally:
+        head[place] ^= 1 << bit
+
+
+def with_bytes(head, place, content):
+    """The image with other bytes at a place."""
+    return head[:place] + content + head[place + len(content):]
+
+
+def with_flip(head, place):
+    """The image with a bit flipped."""
+    return with_bytes(head, place, bytes([head[place] ^ 1]))
+
+
+ONE_AREA = volume((FIRST, area(TEXT)))
+TWO_AREAS = volume((FIRST, area(TEXT)), (SECOND, area(NEWER, start=SECOND)))
+NO_LABEL = with_bytes(ONE_AREA, SECTOR, bytes(SECTOR))
+OTHER_GROUP = TEXT.replace(b"AAAAAA", b"BBBBBB")
+
+REFUSED = [
+    ("zeros", bytes(8192), "there is no label in the first four sectors" + NOT_FOUND + FROM_FIRST),
+    ("no group", volume((FIRST, area(b"")), is_used=False), "the physical volume belongs to no group"),
+    ("no text, of a group", volume((FIRST, area(b""))), ONE + "it has no text" + LISTED),
+    ("no area", volume(), "this physical volume keeps no metadata" + OTHER),
+    ("an area that is not used", volume((FIRST, area(TEXT, flags=1))), ONE + "lvm2 keeps no text in it" + LISTED),
+    ("an area whose header is gone", with_bytes(ONE_AREA, FIRST, bytes(SECTOR)), ONE + "it has no header" + LISTED),
+    ("a flipped bit in the header", with_flip(ONE_AREA, FIRST + 40), ONE + "the sum of its header is wrong" + LISTED),
+    ("a flipped bit in the text", with_flip(ONE_AREA, FIRST + SECTOR), ONE + "the sum of its text is wrong" + LISTED),
+    ("an area of another version", volume((FIRST, area(TEXT, version=2))), ONE + "its header has the version 2" + LISTED),
+    ("an area that was moved", volume((FIRST, area(TEXT, start=FIRST + SECTOR))),
+     ONE + "its header says that it begins at byte 4608" + LISTED),
+    ("a text in the header", volume((FIRST, area(TEXT, SECTOR - 1))), ONE + "its header names a place outside of it" + LISTED),
+    ("a text after the area", volume((FIRST, area(TEXT[:1], SIZE))), ONE + "its header names a place outside of it" + LISTED),
+    ("a text longer than the area", volume((FIRST, area(TEXT * 80))), ONE + "its header names a place outside of it" + LISTED),
+    ("an image that ends in the text", ONE_AREA[:FIRST + SECTOR + 10],
+     ONE + "the image ends before it does: fetch it, and run this again with --area area.img: "
+     "dd if=DISK of=area.img bs=512 skip=8 count=8"),
+    ("an image that ends in the header", ONE_AREA[:FIRST + 10],
+     ONE + "the image ends before it does: fetch it, and run this again with --area area.img: "
+     "dd if=DISK of=area.img bs=512 skip=8 count=8"),
+    ("an image that ends in the label", ONE_AREA[:SECTOR + 100], "the label in sector 1 is cut off" + NOT_FOUND + FROM_FIRST),
+    ("two areas of different groups", volume((FIRST, area(TEXT)), (SECOND, area(OTHER_GROUP, start=SECOND))),
+     "the metadata areas at byte 4096 and 65536 have texts of different groups" + OTHER),
+    ("two texts with one seqno", volume((FIRST, area(TEXT)), (SECOND, area(TEXT.replace(b"}", b"x = 1\n}"), start=SECOND))),
+     "the metadata areas at byte 4096 and 65536 have different texts with one seqno" + OTHER),
+    ("two areas that are damaged", with_flip(with_flip(TWO_AREAS, FIRST + 40), SECOND + SECTOR),
+     ONE + "the sum of its header is wrong; the metadata area at byte 65536: the sum of its text is wrong" + LISTED),
+    ("neither label nor header", with_flip(NO_LABEL, FIRST + 40), "there is no label in the first four sectors; " + ONE
+     + "the sum of its header is wrong" + NOT_FOUND + FROM_FIRST),
+    ("a volume without its first sector", ONE_AREA[SECTOR:], "the label in sector 0 says that it belongs in sector 1; "
+     "the metadata area at byte 3584 belongs at byte 4096, so the image lacks its first 512 bytes" + NOT_FOUND + FROM_FIRST),
+    ("a volume behind other sectors", bytes(8 * SECTOR) + ONE_AREA, "there is no label in the first four sectors; the metadata area "
+     "at byte 8192 belongs at byte 4096, so a physical volume begins at byte 4096 (sector 8)" + NOT_FOUND + FROM_FIRST),
+    ("an image in another format", b"QFI\xfb" + bytes(8186), "there is no label in the first four sectors" + NOT_FOUND
+     + ": it is an image of qcow2: convert it with qemu-img convert -O raw"),
+    ("an encrypted disk", b"LUKS\xba\xbe" + bytes(8186), "there is no label in the first four sectors" + NOT_FOUND
+     + ": it is encrypted with LUKS: open it with cryptsetup, and take what is opened"),
+]
+
+TAKEN = [
+    ("a sound volume", ONE_AREA, TEXT, ""),
+    ("a label in the fourth sector", with_bytes(NO_LABEL, 3 * SECTOR, label([(FIRST, SIZE)], 3)), TEXT, ""),
+    ("a damaged label before a sound one", with_flip(with_bytes(ONE_AREA, 3 * SECTOR, label([(FIRST, SIZE)], 3)), SECTOR + 50), TEXT, ""),
+    ("an image that ends after the text", ONE_AREA[:FIRST + SECTOR + len(TEXT)], TEXT, ""),
+    ("one without a label", NO_LABEL, TEXT, "there is no label in the first four sectors: " + SEARCHED),
+    ("one whose label's sum is wrong", with_flip(ONE_AREA, SECTOR + 50), TEXT, "the label in sector 1 has a wrong sum: " + SEARCHED),
+    ("one whose label is for another sector", with_flip(ONE_AREA, SECTOR + 8), TEXT,
+     "the label in sector 1 says that it belongs in sector 0: " + SEARCHED),
+    ("one whose label isn't called so", with_flip(ONE_AREA, SECTOR), TEXT, "there is no label in the first four sectors: " + SEARCHED),
+    ("one with a volume of a guest on it", NO_LABEL.ljust(1 << 20, b"\0") + volume((FIRST, area(OTHER_GROUP))), TEXT,
+     "there is no label in the first four sectors; the metadata area at byte 1052672 belongs at byte 4096, so a physical volume "
+     "begins at byte 1048576 (sector 2048): " + SEARCHED),
+    ("two areas", TWO_AREAS, NEWER, "passed over: the metadata area at byte 4096: its text is older\n"),
+    ("two areas, of which the first is damaged", with_flip(TWO_AREAS, FIRST + SECTOR), NEWER,
+     "passed over: the metadata area at byte 4096: the sum of its text is wrong\n"),
+    ("two areas, of which the second is damaged", with_flip(TWO_AREAS, SECOND + 40), TEXT,
+     "passed over: the metadata area at byte 65536: the sum of its header is wrong\n"),
+    ("two areas, of which the first isn't used", volume((FIRST, area(TEXT, flags=1)), (SECOND, area(NEWER, start=SECOND))), NEWER,
+     "passed over: the metadata area at byte 4096: lvm2 keeps no text in it\n"),
+    ("two areas, of which the image has one", TWO_AREAS[:SECOND], TEXT,
+     "passed over: the metadata area at byte 65536: the image ends before it does\n"),
+    ("two areas with one text of different times", volume((FIRST, area(TEXT)), (SECOND, area(TEXT.replace(b"x", b"y"), start=SECOND))),
+     TEXT, ""),
+    ("two areas without a label", with_bytes(TWO_AREAS, SECTOR, bytes(SECTOR)), NEWER, "there is no label in the first four sectors: "
+     + SEARCHED + "head: passed over: the metadata area at byte 4096: its text is older\n"),
+    # The last bytes of a large image are searched too.
+    ("a second area at the end, without a label", with_bytes(volume((9 << 20, area(TEXT, start=9 << 20))), SECTOR, bytes(SECTOR)),
+     TEXT, "there is no label in the first four sectors: " + SEARCHED),
+]
+
+
+def check_second(script):
+    """The second area where HEAD ends before it, fetched as the message says."""
+    head = with_flip(TWO_AREAS, FIRST + SECTOR)[:SECOND]
+    fetch = "dd if=DISK of=area.img bs=512 skip=128 count=8"
+    script.refuses("a second area that HEAD lacks", head, ONE + "the sum of its text is wrong; the metadata area at byte 65536: "
+                   "the image ends before it does: fetch it, and run this again with --area area.img: " + fetch)
+    with_area = ("--area", "area.img", "head")
+    script.program.file("disk", TWO_AREAS)
+    fetched = run(["sh", "-c", fetch.replace("DISK", "disk") + " status=none"], folder=script.folder)
+    script.tally.same("the command that fetches it", fetched)
+    script.takes("that second area", head, NEWER, "passed over: the metadata area at byte 4096: the sum of its text is wrong\n", with_area)
+    script.refuses("an area that isn't missing", TWO_AREAS, "no metadata area is missing in head: leave --area out", with_area, "area.img")
+    script.takes("one of two areas that are missing", TWO_AREAS[:FIRST], NEWER,
+                 "passed over: the metadata area at byte 4096: the image ends before it does\n", with_area)
+    script.program.file("area.img", with_flip(area(NEWER, start=SECOND), 40))
+    script.refuses("a fetched area that is damaged", head, ONE + "the sum of its text is wrong; the metadata area at byte 65536: "
+                   "the sum of its header is wrong" + LISTED, with_area)
+    script.refuses("one of two areas, which doesn't tell", TWO_AREAS[:FIRST],
+                   "it isn't known which metadata area this is, as its header isn't sound" + OTHER, with_area, "area.img")
+    script.program.file("area.img", area(NEWER, start=SECOND)[:SECTOR + 5])
+    script.refuses("a fetched area that is cut off", head, ONE + "the sum of its text is wrong; the metadata area at byte 65536: "
+                   "the image ends before it does: fetch it, and run this again with --area area.img: " + fetch, with_area)
+    script.program.file("area.img", "")
+    script.refuses("a fetched area that is empty", head, "it is empty", with_area, "area.img")
+
+
+def check_disks(script):
+    """Images of whole disks, whose partitions have the physical volume."""
+    for name, disk, message in DISKS:
+        script.refuses(name, disk, message)
+    for name, disk, number, text in PARTITIONS:
+        script.takes(name, disk, text, "", ("--partition", str(number), "head"))
+    for name, disk, number, message in NO_PARTITIONS:
+        script.refuses(name, disk, message, ("--partition", str(number), "head"))
+
+
+def disk_of(head, *parts):
+    """The image of a disk: its first sectors, and parts from other sectors on."""
+    disk = bytearray(head.ljust(max(at * SECTOR + len(content) for at, content in parts), b"\0"))
+    for at, content in parts:
+        disk[at * SECTOR:at * SECTOR + len(content)] = content
+    return bytes(disk)
+
+
+MBR_DISK = disk_of(mbr((0x83, 64, 8), (0x8E, 128, 256)), (128, ONE_AREA))
+LOGICAL_DISK = disk_of(mbr((0x83, 64, 8), (0x05, 128, 512)), (128, mbr((0x83, 8, 8), (0x05, 64, 200))), (192, mbr((0x8E, 8, 100))),
+                       (200, ONE_AREA))
+GPT_DISK = disk_of(gpt((64, 71), None, (128, 255)), (128, ONE_AREA))
+LARGE_SECTORS = disk_of(gpt((16, 31), sector=4096), (128, ONE_AREA))
+BOTH = disk_of(mbr((0x83, 64, 8)), (1, ONE_AREA[SECTOR:]))
+DAMAGED_GPT = "the image of a whole disk, whose partition table (GPT) is damaged: repair it in a copy with gdisk, or cut the partition out with dd"
+LACKS = "the image of a whole disk (%s), which ends before its partitions do (%s): fetch the head of the one that you want, and take that " \
+        "as HEAD; for %d it is dd if=DISK of=head.img bs=512 skip=%d count=2048"
+
+DISKS = [
+    ("a disk with an MBR", MBR_DISK, "the image of a whole disk (MBR), whose partition 2 is a physical volume: take --partition 2, or cut it out"),
+    ("a disk with logical partitions", LOGICAL_DISK,
+     "the image of a whole disk (MBR), whose partition 6 is a physical volume: take --partition 6, or cut it out"),
+    ("a disk with a GPT", GPT_DISK, "the image of a whole disk (GPT), whose partition 3 is a physical volume: take --partition 3, or cut it out"),
+    ("a disk with sectors of 4096 bytes", LARGE_SECTORS,
+     "the image of a whole disk (GPT), whose partition 1 is a physical volume: take --partition 1, or cut it out"),
+    ("a disk with two physical volumes", disk_of(gpt((64, 127), (128, 255)), (64, ONE_AREA), (128, ONE_AREA)),
+     "the image of a whole disk (GPT), whose partitions 1, 2 are physical volumes: take --partition N for one, or cut it out"),
+    ("a disk without a physical volume", disk_of(mbr((0x83, 64, 8)), (72, b"")),
+     "the image of a whole disk (MBR), none of whose partitions (1) has a sound label: take --partition N for one, or cut it out"),
+    ("the beginning of a disk", MBR_DISK[:100 * SECTOR], LACKS % ("MBR", "1 from sector 64 on, 2 from sector 128 on", 2, 128)),
+    ("the beginning of a disk with a GPT", GPT_DISK[:50 * SECTOR], LACKS % ("GPT", "1 from sector 64 on, 3 from sector 128 on", 1, 64)),
+    ("a disk whose GPT isn't all there", GPT_DISK[:20 * SECTOR],
+     "the image of a whole disk, which ends before its partition table (GPT) does: take more of the disk"),
+    ("a GPT with a damaged header", with_flip(GPT_DISK, SECTOR + 72), DAMAGED_GPT),
+    ("a GPT with a damaged entry", with_flip(GPT_DISK, 2 * SECTOR + 32), DAMAGED_GPT),
+    ("a GPT whose header is gone", with_bytes(GPT_DISK, SECTOR, bytes(SECTOR)), DAMAGED_GPT),
+    ("a partition table beside a label", BOTH, "there are both a partition table (MBR) and the label of a physical volume, which lvm2 "
+     "doesn't take then: --partition N takes a partition, and --partition 0 the disk itself"),
+]
+
+PARTITIONS = [
+    ("a partition", MBR_DISK, 2, TEXT),
+    ("a logical partition", LOGICAL_DISK, 6, TEXT),
+    ("a partition of a GPT", GPT_DISK, 3, TEXT),
+    ("a partition whose first sector is one of 4096 bytes", LARGE_SECTORS, 1, TEXT),
+    ("a partition of a GPT whose first sector is gone", bytes(SECTOR) + GPT_DISK[SECTOR:], 3, TEXT),
+    ("a partition beside what is left of a GPT", disk_of(mbr((0x8E, 128, 256)) + GPT_DISK[SECTOR:], (128, ONE_AREA)), 1, TEXT),
+    ("the disk itself", BOTH, 0, TEXT),
+    ("the image of a partition", ONE_AREA, 0, TEXT),
+]
+
+NO_PARTITIONS = [
+    ("a partition that isn't there", GPT_DISK, 2, "there is no partition 2: there are 1, 3"),
+    ("a partition of a physical volume", ONE_AREA, 1, "there is no partition table: leave --partition out"),
+    ("a partition after the image", MBR_DISK[:100 * SECTOR], 2, "partition 2 begins after the end of this image: fetch its head, "
+     "and take that as HEAD: dd if=DISK of=head.img bs=512 skip=128 count=2048"),
+    ("a partition that the image has in part", MBR_DISK[:136 * SECTOR + 100], 2, ONE + "the image ends before it does: fetch it, and "
+     "run this again with --area area.img: dd if=DISK of=area.img bs=512 skip=136 count=8"),
+    ("a partition without a physical volume", GPT_DISK, 1, "there is no label in the first four sectors" + NOT_FOUND + FROM_FIRST),
+    # A sector that is no partition table: the first byte of an entry is neither 0 nor 0x80, or none has sectors.
+    ("a partition of a boot sector", with_bytes(MBR_DISK, 446, b"\x01"), 2, "there is no partition table: leave --partition out"),
+    ("a partition of an empty table", disk_of(mbr((0x83, 64, 0)), (72, b"")), 1, "there is no partition table: leave --partition out"),
+]
+
+
+def check_files(tally, program, script):
+    """What can't be read: one line, status 1, and nothing of Python."""
+    for name, message in (("nowhere", "No such file or directory"), (".", "Is a directory")):
+        for script_name in ("metadata_area", "metadata_texts"):
+            tally.same("%s of %s" % (script_name, name), script.run(name, name=script_name), 1, "", "%s: %s\n" % (name, message))
+    program.file("head", "")
+    tally.same("the text of an empty file", script.run("head"), 1, "", "head: it is empty\n")
+    program.file("head", with_flip(ONE_AREA, FIRST + SECTOR))
+    tally.same("a damaged text, as from a shell", script.run("head"), 1, "", "head: " + ONE + "the sum of its text is wrong" + LISTED + "\n")
+    program.file("head", ONE_AREA)
+    found = refusal_of(script.path)
+    tally.holds("the text of an unreadable file", found == script.path + ": Permission denied", "it is refused with %r" % found)
+    tally.same("the text of a pipe", script.run("/dev/stdin", given=ONE_AREA), 1, "",
+               "/dev/stdin: no file or disk, of which each byte can be read: a pipe, maybe\n")
+    tally.same("an area in a file that isn't there", script.run("--area", "nowhere", "head"), 1, "", "nowhere: No such file or directory\n")
+    with open("/dev/full", "wb") as full:
+        got = run(["sh", "-c", '%s -B "$0" head' % sys.executable, os.path.join(script.scripts, "metadata_area.py")], stdout=full,
+                  folder=script.folder)
+    tally.same("the text on a full disk", got, 1, "", "the output can't be written: No space left on device\n")
+    for words in ([], ["head", "head"], ["--partition", "x", "head"], ["--part"]):
+        got = script.run(*words)
+        tally.holds("the words %s" % words, got.status == 2 and got.out == b"" and got.err.decode().startswith(USAGE),
+                    "status %s, %r" % (got.status, got.err))
+
+
+def refusal_of(path):
+    """Why a file that nobody may read is refused. As root reads every file, this is asked as somebody else."""
+    import disk_image
+    import refusal
+    os.chmod(path, 0)
+    user = os.geteuid()
+    if user == 0:
+        os.seteuid(NOBODY)
+    try:
+        disk_image.open_image(path)
+    except refusal.Refused as refused:
+        return str(refused)
+    finally:
+        os.seteuid(user)
+        os.chmod(path, 0o644)
+    return None
+
+
+def check_texts(tally, program, script, group):
     """The texts that are left where the header is lost; one that the end of the area cuts is not printed."""
     head, old, _ = sample(group)
-    path = program.file("head", head.replace(MAGIC, bytes(len(MAGIC))))
-    listed = "%d vg0 AAAAAA seqno 13 - Tue Nov 14 22:13:20 2023\n%d vg0 BBBBBB seqno 2 - cut\n" % (OLD, HEADER + 3840)
-    tally.same("the texts of an area", run_script(top, "metadata_texts", path), 0, listed)
-    tally.same("one of them", run_script(top, "metadata_texts", path, str(OLD)), 0, old)
-    rows = [(HEADER + 3840, "the text at that place is cut\n"), (OLD + 1, "there is no text at that place\n")]
+    program.file("head", head.replace(MAGIC, bytes(len(MAGIC))))
+    listed = "%d vg0 AAAAAA seqno 13 - Tue Nov 14 22:13:20 2023\n%d vg0 BBBBBB seqno 2 - cut\n" % (FIRST + OLD, FIRST + VALID)
+    tally.same("the texts of an area", script.run("head", name="metadata_texts"), 0, listed)
+    tally.same("one of them", script.run("head", str(FIRST + OLD), name="metadata_texts"), 0, old)
+    rows = [(FIRST + VALID, "the text at that place is cut\n"), (FIRST + OLD + 1, "there is no text at that place\n")]
     for place, message in rows:
-        got = run_script(top, "metadata_texts", path, str(place))
+        got = script.run("head", str(place), name="metadata_texts")
         tally.same("the text at %d of an area" % place, got, 1, "", message)
-    got = run_script(top, "metadata_texts", program.file("head", bytes(8192)))
-    tally.same("the texts of no area", got, 1, "", "there is no text of a group\n")
+    program.file("head", bytes(8192))
+    tally.same("the texts of no area", script.run("head", name="metadata_texts"), 1, "", "there is no text of a group\n")
+    tally.same("the texts without words", script.run(name="metadata_texts"), 2, "", "usage: metadata_texts.py HEAD [PLACE]\n")
     # A text whose end another one has taken is no whole one, though a time follows.
     taken = bytearray(head)
-    taken[OLD + 512:OLD + 512 + len(old)] = old
-    got = run_script(top, "metadata_texts", program.file("head", bytes(taken)))
-    lines = got.out.decode().splitlines()
+    taken[FIRST + OLD + SECTOR:FIRST + OLD + SECTOR + len(old)] = old
+    program.file("head", bytes(taken))
+    lines = script.run("head", name="metadata_texts").out.decode().splitlines()
     tally.holds("a text that another one cuts", [it.split(" - ")[1] for it in lines] == [
         "cut", "Tue Nov 14 22:13:20 2023", "cut"], "the list is %r" % lines)
-
-
-def run_script(top, name, *words):
-    return run([sys.executable, "-B", os.path.join(top, "examples", "recipes", name + ".py"), *words])

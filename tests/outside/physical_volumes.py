@@ -1,0 +1,78 @@
+"""Images of physical volumes of LVM2 and of whole disks, made from their formats for the tests of the scripts."""
+
+import struct
+import zlib
+
+SECTOR = 512
+MAGIC = b" LVM2 x[5A%r0N*>"
+# Where the first metadata area of a physical volume lies.
+FIRST = 4096
+TIME = b"creation_time = 1700000000\t# Tue Nov 14 22:13:20 2023\n"
+# What a GPT calls a partition of LVM, and any identity of one.
+LVM, IDENTITY = bytes.fromhex("79d3d6e607f5c244a23c238f2a3df928"), b"an identity of 16"[:16]
+
+
+def checksum(content):
+    """The CRC-32 of LVM2, bit by bit: its polynomial is that of zlib, reflected, and its first value is lvm2's own."""
+    value = 0xF597A6CF
+    for byte in content:
+        value ^= byte
+        for _ in range(8):
+            value = value >> 1 ^ (0xEDB88320 if value & 1 else 0)
+    return value
+
+
+def text_of_area(group, identity, number):
+    """What lvm2 writes into an area: the group first, and a NUL at the end."""
+    head, body = group.replace(b"segment_count", b"creation_time = 1700000001\n      segment_count").split(b"vg0 {\n")
+    return b'vg0 {\nid = "%s"\nseqno = %d\n' % (identity, number) + body + head + TIME + b"\0"
+
+
+def label(areas, place=1, size=64 << 20, is_used=True):
+    """The sector with the label, which lists metadata areas."""
+    lists = struct.pack("<4Q", 1 << 20, 0, 0, 0) + b"".join(struct.pack("<QQ", *it) for it in areas) + bytes(16)
+    body = struct.pack("<L8s32sQ", 32, b"LVM2 001", b"anidentityof32bytesforthislabel0", size)
+    body = (body + lists + struct.pack("<LL", 2, is_used)).ljust(SECTOR - 20, b"\0")
+    return b"LABELONE" + struct.pack("<QL", place, checksum(body)) + body
+
+
+def area(text, offset=SECTOR, start=FIRST, size=4096, others=(), flags=0, version=1):
+    """A metadata area with a text at this offset, and others that its header doesn't name."""
+    ring = bytearray(size)
+    for at, it in [*others, (offset, text)]:
+        for place, byte in enumerate(it, at):
+            ring[place if place < size else place - size + SECTOR] = byte
+    locations = struct.pack("<QQLL", offset, len(text), checksum(text), flags) if text or flags else b""
+    body = (MAGIC + struct.pack("<LQQ", version, start, size) + locations).ljust(SECTOR - 4, b"\0")
+    ring[:SECTOR] = struct.pack("<L", checksum(body)) + body
+    return bytes(ring)
+
+
+def volume(*areas, length=0, **label_fields):
+    """A physical volume with metadata areas, which are pairs of a start and the bytes, from its first byte on."""
+    places = [(start, len(content)) for start, content in areas]
+    image = bytearray(max([length, FIRST] + [sum(it) for it in places]))
+    image[SECTOR:2 * SECTOR] = label(places, **label_fields)
+    for start, content in areas:
+        image[start:start + len(content)] = content
+    return bytes(image)
+
+
+def mbr(*entries):
+    """A sector with a partition table, whose entries are a type, a first sector and a number of sectors."""
+    packed = b"".join(struct.pack("<B3xB3xLL", 0, *it) for it in entries)
+    return (bytes(446) + packed).ljust(510, b"\0") + b"\x55\xaa"
+
+
+def gpt(*entries, sector=SECTOR, damage=None):
+    """The first sectors of a disk with a GPT, whose entries are a first and a last sector; an empty one is none.
+    `damage` is a byte that isn't what it was."""
+    table = b"".join(LVM + IDENTITY + struct.pack("<QQ", *it) + bytes(80) if it else bytes(128) for it in entries)
+    table = table.ljust(128 * 128, b"\0")
+    fields = struct.pack("<QQQQ16sQLLL", 1, 99, 34, 98, IDENTITY, 2, 128, 128, zlib.crc32(table))
+    header = b"EFI PART" + struct.pack("<LL", 0x10000, 92)
+    header += struct.pack("<LL", zlib.crc32(header + bytes(8) + fields), 0) + fields
+    disk = bytearray(mbr((0xEE, 1, 99)).ljust(sector, b"\0") + header.ljust(sector, b"\0") + table)
+    if damage is not None:
+        disk[damage] ^= 1
+    return bytes(disk)
