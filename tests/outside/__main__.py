@@ -32,6 +32,7 @@ import launcher
 import limits
 import loads
 import lookers
+import lvm2_texts
 import manual
 import metadata_areas
 import origins
@@ -74,6 +75,7 @@ def main():
         reading_list.check(tally, TOP)
         recipes.check(tally, program, TOP)
         metadata_areas.check(tally, program, TOP)
+        lvm2_texts.check(tally, program, TOP)
         lookers.check(tally, TOP)
         refusals.check(tally, TOP)
         halts.check(tally, program, TOP)

@@ -1,0 +1,427 @@
+"""Texts of groups as lvm2 writes them, and what is made of them (`lvm2_texts`)."""
+
+GROUP = """\
+contents = "Text Format Volume Group"
+version = 1
+
+creation_host = "m"	# Linux m 6.1.0
+
+g {
+	id = "JZJx2m-c6Iv-pT6X-cI3a-vZDO-W1uu-0R2Gmb"
+	status = ["RESIZEABLE", "READ", "WRITE"]
+	flags = []
+	extent_size = 8	# 4 Kilobytes
+
+	physical_volumes {
+
+		pv0 {
+			device = "/dev/sda"	# Hint only
+
+			dev_size = 4096	# 2 Megabytes
+			pe_start = 8
+			pe_count = 200
+		}
+	}
+
+	logical_volumes {
+%s	}
+}
+"""
+DISK = "/dev/sda"
+# A group without volumes at all has no section of them.
+BARE = (GROUP % "").replace("\tlogical_volumes {\n\t}\n", "")
+
+
+def volume(name, *segments, status='["READ", "WRITE", "VISIBLE"]', more=""):
+    """A volume with segments, each of which is given by its extents, its type and what follows that."""
+    text, at = "\n\t\t%s {\n\t\t\tstatus = %s\n%s\t\t\tsegment_count = %d\n" % (name, status, more, len(segments)), 0
+    for number, (count, kind, lines) in enumerate(segments, 1):
+        text += "\n\t\t\tsegment%d {\n\t\t\t\tstart_extent = %d\n\t\t\t\textent_count = %d\t# %d Kilobytes\n\n\t\t\t\ttype = \"%s\"\n%s\t\t\t}\n" \
+                % (number, at, count, 4 * count, kind, lines)
+        at += count
+    return text + "\t\t}\n"
+
+
+def striped(count, *columns, size=""):
+    """A segment on these columns, each of which is what it lies on and an extent."""
+    lines = "\t\t\t\tstripe_count = %d\n%s\n\t\t\t\tstripes = [\n" % (len(columns), size)
+    lines += ",\n".join('\t\t\t\t\t"%s", %d' % it for it in columns) + "\n\t\t\t\t]\n"
+    return count, "striped", lines
+
+
+def plain(name, count, at, **more):
+    """A volume of one piece of the disk."""
+    return volume(name, striped(count, ("pv0", at)), **more)
+
+
+def other(name, kind, lines="", count=4, **more):
+    """A volume of another type."""
+    return volume(name, (count, kind, lines), **more)
+
+
+def record(origin, store, count=4, number=0, kind="cow_store", chunk=1):
+    """The record of a snapshot."""
+    return volume("snapshot%d" % number, (count, "snapshot", '\t\t\t\tchunk_size = %d\n\t\t\t\torigin = "%s"\n\t\t\t\t%s = "%s"\n'
+                                          % (chunk, origin, kind, store)))
+
+
+def listed(key, *names):
+    """A list of a segment, as lvm2 writes it."""
+    return "\n\t\t\t\t%s = [\n" % key + ",\n".join('\t\t\t\t\t"%s"' % it for it in names) + "\n\t\t\t\t]\n"
+
+
+def gone(text):
+    """The change that leaves a volume out."""
+    return text, "\n" * text.count("\n")
+
+
+def lines(name, count, at, device=None):
+    """The table of a volume of one piece of the disk."""
+    return "g-%s: 0 %d linear %s %d\n" % (device or name, 8 * count, DISK, 8 + 8 * at)
+
+
+def snapshot(origin, store, count, at, store_count, store_at, chunk=1):
+    """The tables of an origin and its snapshot."""
+    return (lines(origin, count, at, origin + "-real"), "g-%s: 0 %d snapshot-origin /dev/mapper/g-%s-real\n" % (origin, 8 * count, origin),
+            lines(store, store_count, store_at, store + "-cow"),
+            "g-%s: 0 %d snapshot /dev/mapper/g-%s-real /dev/mapper/g-%s-cow P %d\n" % (store, 8 * count, origin, store, chunk))
+
+
+OTHER = "left out: %s: its segment1 has the type %s"
+RECORD = "left out: snapshot%d: the record of the snapshot %s"
+KEPT = "kept: %s, without its snapshot %s: on a machine, a write to it also copies what it overwrites, which the answers don't show"
+UNREAD = "left out: %s: %s, which dmremap doesn't read; it says nothing of sectors"
+HOME, LINES = plain("home", 4, 0), lines("home", 4, 0)
+RAID = other("r1", "raid1", "\t\t\t\tdevice_count = 1\n" + listed("raids", "r1_rmeta_0", "r1_rimage_0"))
+PARTS = [plain("r1_rimage_0", 4, 10, status='["READ", "WRITE"]'), plain("r1_rmeta_0", 1, 14, status='["READ", "WRITE"]')]
+PART_LINES = lines("r1_rimage_0", 4, 10) + lines("r1_rmeta_0", 1, 14)
+SNAP = plain("snap", 2, 20)
+R1 = ("r1 {", OTHER % ("r1", "raid1"))
+
+
+def row(name, volumes, changes=(), messages=(), table="", text=None):
+    return name, GROUP % "".join(volumes) if text is None else text, changes, messages, table
+
+
+def other_types():
+    """Volumes of each type that is out of scope, as lvm2 writes them, each alone beside a plain one."""
+    kinds = [
+        ("raid0", "\t\t\t\tstripe_count = 2\n" + listed("raid0_lvs", "o_rimage_0", "o_rimage_1")),
+        ("raid5_ls", "\t\t\t\tdevice_count = 3\n\t\t\t\tmin_recovery_rate = 10\n" + listed("raids", "o_rmeta_0", "o_rimage_0")),
+        ("raid10+RESHAPE", "\t\t\t\tdata_copies = 2\n"),
+        ("mirror", '\t\t\t\tmirror_count = 1\n\t\t\t\tmirror_log = "o_mlog"\n\n\t\t\t\tmirrors = [\n\t\t\t\t\t"o_mimage_0", 0\n\t\t\t\t]\n'),
+        ("thin-pool", '\t\t\t\tmetadata = "o_tmeta"\n\t\t\t\tpool = "o_tdata"\n\t\t\t\tmessage1 {\n\t\t\t\t\tcreate = "x"\n\t\t\t\t}\n'),
+        ("thin", '\t\t\t\tthin_pool = "pool"\n\t\t\t\tdevice_id = 1\n\t\t\t\texternal_origin = "home"\n'),
+        ("cache", '\t\t\t\tcache_pool = "c"\n\t\t\t\torigin = "o_corig"\n'),
+        ("cache+CACHE_USES_CACHEVOL", '\t\t\t\tcache_pool = "c"\n\t\t\t\tmetadata_start = 0\n'),
+        ("cache-pool+METADATA_FORMAT", '\t\t\t\tpolicy = "smq"\n\t\t\t\tpolicy_settings {\n\t\t\t\t\tmigration_threshold=2048\n\t\t\t\t}\n'),
+        ("writecache", '\t\t\t\twritecache = "o_cvol"\n\t\t\t\torigin = "o_wcorig"\n'),
+        ("vdo", '\t\t\t\tvdo_pool = "v"\n\t\t\t\tvdo_offset = 0\n'),
+        ("vdo-pool", '\t\t\t\tdata = "o_vdata"\n\t\t\t\twrite_policy = auto\n'),
+        ("integrity", '\t\t\t\torigin = "o_iorig"\n\t\t\t\tinternal_hash = "crc32c"\n'),
+        ("later+NEW", "\t\t\t\tx = -1.5\n"),
+    ]
+    for kind, more in kinds:
+        made = other("o", kind, more)
+        yield row("a volume of the type " + kind, [made, HOME], [gone(made)], [("o {", OTHER % ("o", kind))], LINES)
+
+
+# Volumes.
+
+ON_RAID = volume("b", striped(4, ("pv0", 30)), striped(4, ("r1", 0)))
+ABOVE = volume("c", striped(4, ("b", 0)))
+MOVED = volume("home", striped(4, ("pvmove0", 0)), status='["READ", "WRITE", "VISIBLE", "LOCKED"]')
+PVMOVE = other("pvmove0", "mirror", '\t\t\t\tmirror_count = 2\n\n\t\t\t\tmirrors = [\n\t\t\t\t\t"pv0", 0,\n\t\t\t\t\t"pv0", 40\n\t\t\t\t]\n',
+               status='["READ", "WRITE", "PVMOVE", "LOCKED"]')
+UNEVEN = volume("u", striped(3, ("pv0", 30), ("pv0", 40), ("pv0", 50), size="\t\t\t\tstripe_size = 16\n"))
+EVEN = volume("u", striped(6, ("pv0", 30), ("pv0", 40), ("pv0", 50), size="\t\t\t\tstripe_size = 16\n"))
+LONG = "l" * 126
+FULL = "l" * 125
+VOLUMES = [
+    row("plain volumes", [HOME, plain("3way", 1, 9), plain("data.2+b", 1, 8)], (), (),
+        LINES + lines("3way", 1, 9) + lines("data.2+b", 1, 8)),
+    row("no volumes", (), (), (), "", BARE),
+    row("a raid volume and its parts", [HOME, RAID] + PARTS, [gone(RAID)], [R1], LINES + PART_LINES),
+    row("what lies on a raid volume", [ABOVE, ON_RAID, RAID, HOME], [gone(ABOVE + ON_RAID + RAID)],
+        [("c {", "left out: c: it lies on the volume b"), ("b {", "left out: b: it lies on the volume r1"), R1], LINES),
+    row("a volume that is being moved", [MOVED, PVMOVE, SNAP], [gone(MOVED + PVMOVE)],
+        [("home {", "left out: home: it lies on the volume pvmove0"), ("pvmove0 {", OTHER % ("pvmove0", "mirror"))], lines("snap", 2, 20)),
+    # A volume may have the key of a physical volume: on which a stripe lies, its key alone says.
+    row("a volume called as a physical one", [plain("pv0", 2, 50), HOME], (), (), lines("pv0", 2, 50) + LINES),
+    row("stripes that don't divide a volume", [HOME, UNEVEN], [gone(UNEVEN)],
+        [("u {", "left out: u: its segment1 isn't divided evenly by its stripes, so that no kernel takes it")], LINES),
+    row("stripes that divide one", [HOME, EVEN], (), (), LINES + "g-u: 0 48 striped 3 16 /dev/sda 248 /dev/sda 328 /dev/sda 408\n"),
+    row("a name that no device can have", [plain(LONG, 1, 8), plain(FULL, 1, 9)], [gone(plain(LONG, 1, 8))],
+        [(LONG + " {", "left out: %s: the name of its device has more than 127 bytes" % LONG)], lines(FULL, 1, 9)),
+    row("a volume without segments", [HOME, volume("e")], [gone(volume("e"))], [("e {", "left out: e: it has no segments")], LINES),
+    row("a hidden volume for locks, and one removed", [HOME, plain("lvmlock", 1, 9, status='["READ", "WRITE"]')], (), (),
+        LINES + lines("lvmlock", 1, 9), (GROUP % (HOME + plain("lvmlock", 1, 9, status='["READ", "WRITE"]'))).replace(
+            "\t}\n}\n", "\t}\n\n\thistorical_logical_volumes {\n\n\t\tgone {\n\t\t\torigin = \"-older\"\n\t\t}\n\t}\n}\n")),
+] + list(other_types())
+
+# Snapshots.
+
+GOOD, MERGING = record("home", "snap"), record("home", "snap", kind="merging_store")
+SECOND, OF_SECOND = plain("two", 2, 23), record("home", "two", number=1)
+SHORT, OF_RAID, ON_RAID_STORE = record("home", "snap", 3), record("r1", "snap"), record("home", "r1")
+SPARSE = other("s_vorigin", "zero", status='["READ"]')
+NOTHING = other("none", "zero", count=2)
+OF_NOTHING = record("home", "none")
+SHOWN = snapshot("home", "snap", 4, 0, 2, 20)
+APART, APART_LINES = plain("apart", 1, 60), lines("apart", 1, 60)
+MERGED = [("home {", "left out: home: the snapshot snap is being merged into it"), ("snap {", "left out: snap: it is being merged into home"),
+          ("snapshot0 {", RECORD % (0, "snap"))]
+RESIZED = [("home {", KEPT % ("home", "snap")),
+           ("snap {", "left out: snap: it is a snapshot of home, but not as long, as that was resized since"), ("snapshot0 {", RECORD % (0, "snap"))]
+WIDE, FAR_GROUP = "l" * 121, "g" * 118
+SNAPSHOTS = [
+    row("a snapshot", [HOME, SNAP, GOOD], (), (), "".join(SHOWN)),
+    row("a sparse volume", [SNAP, SPARSE, record("s_vorigin", "snap")], (), (),
+        lines("snap", 2, 20, "snap-cow") + "g-snap: 0 32 snapshot /dev/mapper/g-s_vorigin-real /dev/mapper/g-snap-cow P 1\n"
+        "g-s_vorigin-real: 0 32 zero\ng-s_vorigin: 0 32 snapshot-origin /dev/mapper/g-s_vorigin-real\n"),
+    row("a snapshot that is being merged", [HOME, SNAP, MERGING, APART], [gone(HOME + SNAP + MERGING)], MERGED, APART_LINES),
+    row("another snapshot of one that is being merged into", [APART, OF_SECOND, SECOND, HOME, SNAP, MERGING],
+        [gone(OF_SECOND + SECOND + HOME + SNAP + MERGING)],
+        [("snapshot1 {", RECORD % (1, "two")), ("two {", "left out: two: it is a snapshot of home, which is left out")] + MERGED, APART_LINES),
+    row("a snapshot of an origin that was extended", [HOME, SNAP, SHORT], [gone(SNAP + SHORT)], RESIZED, LINES),
+    row("one snapshot that is as long as the origin, and one that isn't", [HOME, SNAP, SECOND, SHORT, OF_SECOND], [gone(SNAP), gone(SHORT)],
+        RESIZED, "".join(snapshot("home", "two", 4, 0, 2, 23))),
+    row("a snapshot of a raid volume", [HOME, RAID, SNAP, OF_RAID], [gone(RAID + SNAP + OF_RAID)],
+        [R1, ("snap {", "left out: snap: it is a snapshot of r1, which is left out"), ("snapshot0 {", RECORD % (0, "snap"))], LINES),
+    row("a snapshot whose store is a raid volume", [HOME, RAID, ON_RAID_STORE], [gone(RAID + ON_RAID_STORE)],
+        [("home {", KEPT % ("home", "r1")), R1, ("snapshot0 {", RECORD % (0, "r1"))], LINES),
+    row("a snapshot whose store keeps nothing", [HOME, NOTHING, OF_NOTHING], [gone(NOTHING + OF_NOTHING)],
+        [("home {", KEPT % ("home", "none")), ("none {", "left out: none: it is a snapshot of home, but some of its segments keep nothing"),
+         ("snapshot0 {", RECORD % (0, "none"))], LINES),
+    # What stands on it is known only after what comes later was looked at.
+    row("a snapshot of what lies on a raid volume", [SNAP, record("b", "snap", 8), ON_RAID, RAID, HOME],
+        [gone(SNAP + record("b", "snap", 8) + ON_RAID + RAID)],
+        [("snap {", "left out: snap: it is a snapshot of b, which is left out"), ("snapshot0 {", RECORD % (0, "snap")),
+         ("b {", "left out: b: it lies on the volume r1"), R1], LINES),
+    row("a name that no layer can have", [plain(WIDE, 4, 0), SNAP, record(WIDE, "snap")], [gone(SNAP + record(WIDE, "snap"))],
+        [(WIDE + " {", KEPT % (WIDE, "snap")),
+         ("snap {", "left out: snap: it is a snapshot of %s, and the name of one of their devices has more than 127 bytes" % WIDE),
+         ("snapshot0 {", RECORD % (0, "snap"))], lines(WIDE, 4, 0)),
+    # A record is no device, however long its name.
+    row("a record whose name no device can have", (), (), (), "".join(snapshot("a", "b", 4, 0, 2, 20)).replace("g-", FAR_GROUP + "-"),
+        (GROUP % (plain("a", 4, 0) + plain("b", 2, 20) + record("a", "b"))).replace("\ng {", "\n%s {" % FAR_GROUP)),
+]
+
+# Stores. dmremap counts 4,194,304 places for chunks in all. That many has a store of 4,210,690 chunks: two of them, and one
+# after each 256 others, are no places.
+
+FULL_STORE = 4210690
+FAR = (GROUP % "%s").replace("dev_size = 4096", "dev_size = 999999999").replace("pe_count = 200", "pe_count = 99999999")
+MANY = "left out: %s: it is a snapshot of home with places for %d chunks, and dmremap counts 4194304 in all"
+
+
+def stores(*counts):
+    """A group with an origin, and snapshots of it on stores of so many chunks of 8 sectors."""
+    return [HOME] + [plain("abc"[it], count, 10 + it * 5000000) for it, count in enumerate(counts)] \
+        + [record("home", "abc"[it], number=it, chunk=8) for it in range(len(counts))]
+
+
+def far(volumes, *left):
+    """The tables of those snapshots that are left, each of which is its number and its chunks."""
+    made = [snapshot("home", "abc"[it], 4, 0, count, 10 + it * 5000000, 8) for it, count in left]
+    return "".join(made[0][:2] + tuple(line for it in made for line in it[2:])), FAR % "".join(volumes)
+
+
+FITTING, PASSING = stores(FULL_STORE), stores(1000, FULL_STORE, 3)
+PLACES = [
+    row("a store with as many places as dmremap counts", (), (), (), *far(FITTING, (0, FULL_STORE))),
+    row("stores with too many places in all", (), [gone(PASSING[2]), gone(PASSING[5])],
+        [("home {", KEPT % ("home", "b")), ("b {", MANY % ("b", 4194304)), ("snapshot1 {", RECORD % (1, "b"))],
+        *far(PASSING, (0, 1000), (2, 3))),
+]
+
+# Physical volumes.
+
+SIZE = "\t\t\tdev_size = 4096\t# 2 Megabytes\n"
+GROWN = (GROUP % HOME).replace("dev_size = 4096", "dev_size = 1600")
+AT_LEAST = "pv0 is at least 1608 sectors long, where its extents end"
+NO_SIZE = "changed: dev_size: pv0 has none, and is at least 1608 sectors long, where its extents end"
+NO_DEVICE = "changed: device: pv0 has none, so that the disk has this name"
+DISKS = [
+    row("a disk after pvresize", (), [("dev_size = 1600", "dev_size = 1608")],
+        [("dev_size", "changed: dev_size: " + AT_LEAST + ", and not 1600")], LINES, GROWN),
+    row("a disk as long as its extents", (), (), (), LINES, GROWN.replace("1600", "1608")),
+    row("a disk without a size", (), [("pv0 {", "pv0 { dev_size = 1608")],
+        [("pv0 {", NO_SIZE)], LINES, (GROUP % HOME).replace(SIZE, "")),
+    row("a disk without a name", (), [("pv0 {", 'pv0 { device = ""')], [("pv0 {", NO_DEVICE)],
+        LINES.replace(DISK, "pv0"), (GROUP % HOME).replace('\t\t\tdevice = "/dev/sda"\t# Hint only\n', "")),
+    row("a disk with neither", (), [("pv0 {", 'pv0 { device = "" dev_size = 1608')],
+        [("pv0 {", NO_DEVICE), ("pv0 {", NO_SIZE)],
+        LINES.replace(DISK, "pv0"), (GROUP % HOME).replace(SIZE, "").replace('\t\t\tdevice = "/dev/sda"\t# Hint only\n', "")),
+    row("a disk that is missing", (), (), (), LINES.replace(DISK, "pv0"),
+        (GROUP % HOME).replace('"/dev/sda"', '"[unknown]"').replace("pe_start", 'flags = ["MISSING"]\n\t\t\tpe_start')),
+    row("a disk of no sectors", (), [gone("\t\tpv1 {\n\t\t\tdev_size = 0\n\t\t\tpe_start = 0\n\t\t\tpe_count = 0\n\t\t}\n")],
+        [("pv1 {", "left out: pv1: it has no sectors")], LINES,
+        (GROUP % HOME).replace("\t}\n\n\tlogical", "\t\tpv1 {\n\t\t\tdev_size = 0\n\t\t\tpe_start = 0\n\t\t\tpe_count = 0\n\t\t}\n\t}\n\n\tlogical")),
+]
+
+# Parts of raid volumes, which lvm2 loads as writable.
+
+PART = plain("r1_rimage_0", 4, 10, status='["READ"]')
+EMPTY = plain("r1_rmeta_0", 1, 14, status="[]")
+LOCKED = plain("r1_rmeta_0", 1, 14, status='["READ"]', more='\t\t\tflags = ["WRITE_LOCKED"]\n')
+WRITABLE = "changed: status: %s is part of a raid volume, which lvm2 loads as writable"
+RAID_PARTS = [
+    row("parts of a raid volume that are read-only", [RAID, PART, EMPTY],
+        [gone(RAID), ('["READ"]\n\t\t\tsegment_count', '["READ", "WRITE"]\n\t\t\tsegment_count'), ("status = []", 'status = ["WRITE"]')],
+        [R1, ('status = ["READ"]', WRITABLE % "r1_rimage_0"), ("status = []", WRITABLE % "r1_rmeta_0")], PART_LINES),
+    row("a part whose right to write is locked", [RAID, LOCKED], [gone(RAID)], [R1], lines("r1_rmeta_0", 1, 14)),
+]
+
+# The language.
+
+TEXT = GROUP % HOME
+
+
+def at(beginning, text=TEXT):
+    """The number of the first line that begins with these words."""
+    return 1 + [it.strip().startswith(beginning) for it in text.split("\n")].index(True)
+
+
+def field(name, line, table=LINES):
+    """A field that the volume gets before its segments, and that dmremap passes over."""
+    return row("a field " + name, (), (), (), table, TEXT.replace("\t\t\tsegment_count", "\t\t\t%s\n\t\t\tsegment_count" % line))
+
+
+def unread(line, why, key=None):
+    """One that dmremap would stumble over."""
+    name, text, _, _, table = field(line, line)
+    key = key or line.split(" ")[0].split("=")[0]
+    return name, text, [("\t\t\t%s\n" % line, "\n" * (1 + line.count("\n")))], [(line.split("\n")[0], UNREAD % (key, why))], table
+
+
+def spelled(name, old, new, copy, messages, table=LINES):
+    """A text with something in other words, and what the copy has in its place."""
+    return row(name, (), [(new, copy)], messages, table, TEXT.replace(old, new))
+
+
+LANGUAGE = [
+    field("with a list", 'tags = ["a", "b"]'),
+    field("with a zero in front", "minor = 0007"),
+    field("with an escape, a comment and a letter outside ASCII", 'x = "a \\" \\\\ { # \u00e9"'),
+    unread("read_ahead = -1\t# None", "a number with a sign"),
+    unread("x = +1", "a number with a sign"),
+    unread("x = [1, -2]", "a number with a sign"),
+    unread("x = .5", "a number with a fraction"),
+    unread("x=1.", "a number with a fraction"),
+    unread("creation_time = 18446744073709551615", "a number that is too large"),
+    unread("x = 00000000000000000001", "a number that is too large"),
+    unread("x = auto", "a string without double quotes"),
+    unread("x = @a", "a string without double quotes"),
+    unread("x = 'it\"s'", "a string without double quotes"),
+    unread('device_id = "a\\x20b"', "a backslash that stands for itself"),
+    unread('x = ["a", ]', "a comma too many or too few"),
+    unread('x = ["a" "b"]', "a comma too many or too few"),
+    unread("a:b = 1", "a key that is no word"),
+    unread('"x y" = 1', "a key that is no word", "x y"),
+    unread("-x = 1", "a key that is no word"),
+    unread('x = "a\nb"', "a string of several lines"),
+    spelled("a field behind another one", "pe_start", "x = 1 read_ahead = -1 pe_start", "x = 1  pe_start",
+            [("x = 1 ", UNREAD % ("read_ahead", "a number with a sign"))]),
+    spelled("two fields without a space", "version = 1\n", "version=1x=2\n", "version=1 x=2\n", [("version", "changed: a space is missing")]),
+    spelled("an octal number", "pe_start = 8\n", "pe_start = 010\n", "pe_start = 8\n",
+            [("pe_start", "changed: pe_start: lvm2 reads 010 as 8")]),
+    # C reads digits up to the first that is none of base 8.
+    spelled("an octal number with other digits", "pe_count = 200\n", "pe_count = 03109\n", "pe_count = 200\n",
+            [("pe_count", "changed: pe_count: lvm2 reads 03109 as 200")]),
+    spelled("a number with a plus", "pe_start = 8\n", "pe_start = +8\n", "pe_start = 8\n",
+            [("pe_start", "changed: pe_start: lvm2 reads +8 as 8")]),
+    spelled("a string in single quotes", '"/dev/sda"', "'/dev/sda'", '"/dev/sda"',
+            [("device", 'changed: device: written as "/dev/sda"')]),
+    spelled("a quote in single quotes", '"/dev/sda"', "'/dev/sd\"a'", '"/dev/sd\\"a"',
+            [("device", 'changed: device: written as "/dev/sd\\"a"')], LINES.replace(DISK, "pv0")),
+    spelled("a backslash that stands for itself", '"/dev/sda"', '"/dev/sd\\a"', '"/dev/sd\\\\a"',
+            [("device", 'changed: device: written as "/dev/sd\\\\a"')], LINES.replace(DISK, "pv0")),
+    spelled("a string over two lines", '"/dev/sda"', '"/dev/s\nda"', '"/dev/s\ufffdda"\n',
+            [("device", 'changed: device: written as "/dev/s\ufffdda"')], LINES.replace(DISK, "pv0")),
+    spelled("a word without quotes", '"striped"', "striped", '"striped"', [("type", 'changed: type: written as "striped"')]),
+    spelled("a type by its other name", '"striped"', '"linear"', '"striped"', [("type", "changed: type: linear is another name of striped")]),
+    spelled("one value in place of a list", 'status = ["READ", "WRITE", "VISIBLE"]', 'status = "WRITE"', 'status = ["WRITE"]',
+            [('status = "W', "changed: status: one value in place of a list")]),
+    spelled("a list of one value", '= "striped"', '= [ "striped" ]', '=  "striped" ', [("type", "changed: type: a list of one value")]),
+    spelled("a comma too many", '"pv0", 0\n\t\t\t\t]', '"pv0", 0,\n\t\t\t\t]', '"pv0", 0\n\t\t\t\t]',
+            [('"pv0"', "changed: stripes: a comma too many")]),
+    spelled("a comma that is missing", '"READ", "WRITE", "VISIBLE"', '"READ" "WRITE", "VISIBLE"', '"READ", "WRITE", "VISIBLE"',
+            [('status = ["READ" ', "changed: status: a comma is missing")]),
+    spelled("a key in quotes", "home {", '"home" {', "home {", [('"home" {', "changed: home: a key in quotes")]),
+    spelled("a field in quotes", "pe_start = 8", "'pe_start' = 8", "pe_start = 8", [("'pe_start'", "changed: pe_start: a key in quotes")]),
+    spelled("a field that is there twice", "\t\t\tpe_start = 8\n", "\t\t\tpe_start = 16\n\t\t\tpe_start = 8\n", "\n\t\t\tpe_start = 8\n",
+            [("pe_start = 16", "left out: pe_start: it is there again in line %d, which counts" % (at("pe_start") + 1))]),
+    spelled("white space of other kinds", "pe_start = 8\n", "pe_start\v=\f8\n", "pe_start = 8\n",
+            [("pe_start", "changed: white space of another kind")] * 2),
+    spelled("a second group", "\t}\n}\n", "\t}\n}\nh { x = 1\n}\n", "\t}\n}\n\n\n",
+            [("h {", "left out: h: lvm2 reads one section of a text, the first")]),
+    spelled("a section with such a field", "\textent_size", "\tx { y {\n\tz = -1 } }\n\textent_size", "\n\n\textent_size",
+            [("x {", UNREAD % ("x", "a number with a sign"))]),
+    spelled("a description of several lines", "version = 1\n", 'version = 1\ndescription = "a\n{ # b"\n', "version = 1\n\n\n",
+            [("description", UNREAD % ("description", "a string of several lines"))]),
+]
+
+# Bytes.
+
+BYTES = [
+    row("carriage returns", (), [(TEXT.replace("\n", "\r\n"), TEXT)],
+        [("contents", "changed: carriage returns are taken out of %d lines" % TEXT.count("\n"))], LINES, TEXT.replace("\n", "\r\n")),
+    row("a byte order mark", (), [("\ufeff", "")], [("\ufeffcontents", "changed: a byte order mark is taken out")], LINES, "\ufeff" + TEXT),
+    row("a text from a metadata area, up to its NUL", (), [("\n\0rest {", "\n")], [("\0rest", "left out: the NUL here, and what comes after it")],
+        LINES, TEXT + "\0rest {"),
+    row("bytes that are no UTF-8", (), [(b"sto\xe9 \xff", "sto\ufffd \ufffd"), (b"m \xe9", "m \ufffd")],
+        [("creation_host", "changed: bytes that are no UTF-8"), ("g {", "changed: bytes that are no UTF-8")], LINES,
+        TEXT.encode().replace(b'"m"', b'"sto\xe9 \xff"').replace(b"Linux m", b"Linux m \xe9")),
+    row("a disk whose name is no UTF-8", (), [(b"sd\xe9", "sd\ufffd")], [("device", "changed: bytes that are no UTF-8")],
+        LINES.replace(DISK, "pv0"), TEXT.encode().replace(b"/dev/sda", b"/dev/sd\xe9")),
+]
+
+ROWS = VOLUMES + SNAPSHOTS + PLACES + DISKS + RAID_PARTS + LANGUAGE + BYTES
+
+# Texts that are refused, each with its messages from the name of the text on. What is put behind the text is in line `AFTER`.
+
+AFTER = TEXT.count("\n") + 1
+NO_GROUP = ": no metadata of a group: there is no section with physical_volumes"
+
+
+def after(name, more, message, line=0):
+    return "the text of " + name, TEXT + more, ":%d: %s" % (AFTER + line, message)
+
+
+def instead(name, old, new, message, line=0):
+    return "the text of " + name, TEXT.replace(old, new), ":%d: %s" % (at(old.strip().split("\n")[0]) + line, message)
+
+
+REFUSED = [
+    ("nothing", "", NO_GROUP),
+    ("values alone", "contents = 1\n", NO_GROUP),
+    ("another file of lvm2", "config {\n\tchecks = 1\n}\n", NO_GROUP),
+    ("a raid volume alone", GROUP % RAID, ":%d: %s\n: nothing is left: dmremap can follow none of its volumes" % (at("home"), R1[1])),
+    ("an end that is missing", TEXT[:-2], ":%d: the end is missing: g, line %d, isn't closed" % (AFTER - 1, at("g {"))),
+    after("a brace too many", "}\n", "a brace that closes nothing"),
+    after("a string without an end", 'x = "a\n', "a string without an end"),
+    after("a string that a NUL cuts", 'x = "a\0"\n', "a string without an end"),
+    after("a value that is missing", "x = }\n", "no value: }"),
+    after("a value that the end lacks", "x =", "no value: the end"),
+    after("a list that the end lacks", "x = [1,", "no value: the end"),
+    after("a list in a list", "x = [[1]]\n", "no value: ["),
+    after("a comma alone in a list", "x = [,]\n", "no value: ,"),
+    after("a key alone", "x\ny = 1\n", "neither a brace nor an equals sign after x", 1),
+    after("a sign in place of a key", "= 1\n", "no key: ="),
+    after("a key that is empty", '"" = 1\n', 'a key that lvm2 never writes: ""'),
+    after("a key of two parts", "a/b = 1\n", "a key that lvm2 never writes: a/b"),
+    instead("a section that is there twice", "\tlogical", "\tlogical_volumes {\n\t}\n\tlogical",
+            "logical_volumes is there twice, first in line %d: put the two together" % at("logical"), 2),
+    instead("a value and a section of one key", "\t\t\tsegment1", "\t\t\tsegment1 = 1\n\t\t\tsegment1",
+            "segment1 is there twice, first in line %d: put the two together" % at("segment1"), 1),
+    instead("a number below 0 that counts", "pe_start = 8", "pe_start = -8", "pe_start can't have this number: -8"),
+    instead("a number with a fraction that counts", "version = 1", "version = 1.0", "version can't have this number: 1.0"),
+    instead("a number out of range that counts", "pe_start = 8", "pe_start = 9223372036854775808",
+            "pe_start can't have this number: 9223372036854775808"),
+    instead("a sign without digits", "pe_start = 8", "pe_start = -", "pe_start can't have this number: -"),
+    ("a segment too many", TEXT.replace("segment_count = 1", "segment_count = 2"), 
+     ":%d: home: segment_count isn't the number of its segments, 1" % at("home")),
+    instead("a volume with a space in its name", "home {", '"my home" {', "no name that lvm2 gives: my home"),
+    instead("a volume whose name begins with a hyphen", "home {", "-home {", "no name that lvm2 gives: -home"),
+]
