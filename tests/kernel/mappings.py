@@ -1,0 +1,104 @@
+"""Mappings: where the kernel's reads and writes of single sectors landed, against the pieces of `map`."""
+
+import random
+
+import answers
+from vectors import end_of, in_folder
+
+# How many random ranges of each run of sectors are asked for as one request, besides the whole run.
+RANGES = 6
+# How many sectors of a device that couldn't be opened for writing are asked for.
+NOT_OPENED = 64
+BELOW = "a read-only device below a writable one"
+
+
+def jobs(folder):
+    return in_folder(folder, "map-")
+
+
+def compare(found, program, vector):
+    """Asks for each sector that was read or written, alone, and for ranges of them, in each form of the text."""
+    if not vector.has("reads.tsv"):
+        found.aside["stacks that the kernel refused"] += 1
+        return
+    below = departing(vector)
+    singles = [it for letter, file in (("R", "reads.tsv"), ("W", "writes.tsv")) for it in single(vector, letter, file)]
+    asked = singles + ranges(singles, random.Random(vector.name))
+    lines = ["%s %s %d %d" % (letter, device, sector, len(units)) for letter, device, sector, units in asked]
+    for form, source in forms(vector):
+        got = answers.of(program, ["map", form, source, vector.file("disks.txt")], lines)
+        where = "%s as %s" % (vector.name, form)
+        if not found.holds("texts of stacks", where, got.status == 0, got.message):
+            continue
+        for number, (letter, device, _, units) in enumerate(asked, 1):
+            at, theirs, error = "%s, %s" % (where, lines[number - 1]), answers.pieces(units), ["error %d" % len(units)]
+            if letter == "W" and device in below and theirs != error:
+                found.departs(BELOW, at, got.lines[number], error, theirs)
+            else:
+                found.same("sectors" if len(units) == 1 else "ranges", at, got.lines[number], theirs)
+    check_table(found, program, vector)
+
+
+def forms(vector):
+    """The forms of the text to ask for; table text can't say that a device is read-only."""
+    found = [("concise", vector.file("concise.txt"))]
+    return found if vector.read_only() else found + [("table", vector.file("table.txt"))]
+
+
+def single(vector, letter, file):
+    """Each sector that was read or written: letter, device, sector, and its unit."""
+    tables = vector.tables()
+    for device, sector, landed in vector.rows(file):
+        if sector == "-":
+            for it in range(min(end_of(tables[device]), NOT_OPENED)):
+                yield letter, device, it, [("error",)]
+        else:
+            yield letter, device, int(sector), [unit_of(letter, landed)]
+
+
+def unit_of(letter, landed):
+    words = landed.split(" ")
+    return (words[0],) if words[0] in ("zero", "drop", "error") else (letter, words[0], int(words[1]))
+
+
+def departing(vector):
+    """The writable devices below which there is a read-only one."""
+    tables, read_only = vector.tables(), vector.read_only()
+
+    def lower(name):
+        return {it[len("/dev/mapper/"):] for line in tables[name] for it in line if it.startswith("/dev/mapper/")}
+
+    def reaches(name):
+        return any(it in read_only or reaches(it) for it in lower(name))
+
+    return {it for it in tables if it not in read_only and reaches(it)}
+
+
+def ranges(singles, dice):
+    """Some ranges of neighbouring sectors, whose pieces follow from those of each sector alone."""
+    runs = []
+    for letter, device, sector, units in singles:
+        if runs and runs[-1][:2] == [letter, device] and runs[-1][2] + len(runs[-1][3]) == sector:
+            runs[-1][3].extend(units)
+        else:
+            runs.append([letter, device, sector, list(units)])
+    found = []
+    for letter, device, start, units in runs:
+        found.append((letter, device, start, units))
+        for _ in range(RANGES):
+            first = dice.randrange(len(units))
+            found.append((letter, device, start + first, units[first:dice.randint(first + 1, len(units))]))
+    return found
+
+
+def check_table(found, program, vector):
+    """What `table` prints is what `dmsetup table` printed, with names in place of its numbers of devices."""
+    names = dict(it.split(" ") for it in vector.lines("majmin.txt"))
+    minors = {it.split(",")[2]: "/dev/mapper/" + it.split(",")[0] for it in vector.text("kernel-concise.txt").split(";")}
+
+    def named(word):
+        return names.get(word) or (":" in word and minors.get(word.split(":")[1])) or word
+
+    theirs = [" ".join(it if it.endswith(":") else named(it) for it in line.split()) for line in vector.lines("kernel-table.txt")]
+    got = answers.of(program, ["table", "concise", vector.file("concise.txt"), vector.file("disks.txt")])
+    found.same("tables", vector.name, sorted(got.others), sorted(theirs))
