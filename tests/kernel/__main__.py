@@ -28,6 +28,7 @@ TOP = os.path.dirname(os.path.dirname(HERE))
 sys.path.append(os.path.join(TOP, "tests", "outside"))
 
 import departures
+import lvm2_texts
 import mappings
 import names
 import snapshot_runs
@@ -43,7 +44,7 @@ VECTORS = os.path.join(HERE, "vectors")
 # How many failures are told.
 TOLD = 60
 KINDS = {"mappings": mappings, "snapshots": snapshot_runs, "stores": stores, "tables": tables, "volume groups": volume_groups,
-         "names": names, "texts": texts}
+         "names": names, "texts": texts, "states of groups": lvm2_texts}
 
 
 def main():

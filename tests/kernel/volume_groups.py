@@ -9,6 +9,7 @@ import os
 import re
 
 import answers
+from copies import copy_of
 from partitions import PARTITIONS
 from vectors import end_of, in_folder, tables_of
 
@@ -98,19 +99,26 @@ def compare(found, program, vector):
 
 
 def check_text(found, program, vector, file):
-    """The text of a group, and the other text of it that stood in the metadata area."""
+    """The text of a group, and the other text of it that stood in the metadata area; if it is refused, a copy of it."""
     where, source = "%s/%s" % (vector.name, file), vector.file(file)
     types = set(re.findall(r'^\s*type = "([^"]*)"', vector.text(file), re.M))
     got = answers.of(program, ["table", "lvm", source])
-    if types - PLAIN or vector.name in SHORTENED:
+    is_copy = bool(types - PLAIN) or vector.name in SHORTENED
+    if is_copy:
         departure, word = (OTHER, "field") if types - PLAIN else (SHORTER, "snapshot")
         found.departs(departure, where, got.word(), word, "")
-    elif found.holds("texts of groups", where, got.status == 0, got.message):
-        check_tables(found, vector, where, prefix_of(vector.text(file)), tables_of("\n".join(got.others)))
+        source, said = copy_of(program, source)
+        if not source:
+            found.holds("texts of which nothing is left", where, not on_disks(vector, prefix_of(vector.text(file))), said)
+            return
+        got = answers.of(program, ["table", "lvm", source])
+    if found.holds("texts of groups", where, got.status == 0, got.message):
+        check_tables(found, vector, where, prefix_of(vector.text(file)), tables_of("\n".join(got.others)), is_copy)
         check_flags(found, program, vector, where, source)
         check_probes(found, program, vector, where, source)
-        other = answers.of(program, ["table", "lvm", vector.file(file.replace("backup", "ondisk"))])
-        found.same("texts of metadata areas", where, sorted(other.others), sorted(got.others))
+        if not is_copy:
+            other = answers.of(program, ["table", "lvm", vector.file(file.replace("backup", "ondisk"))])
+            found.same("texts of metadata areas", where, sorted(other.others), sorted(got.others))
 
 
 def prefix_of(text):
@@ -124,15 +132,28 @@ def named(vector, tables):
     return {device: [" ".join(names.get(it, it) for it in line) for line in lines] for device, lines in tables.items()}
 
 
-def check_tables(found, vector, where, prefix, tables):
-    """Each device of the group has the lines that lvm2 loaded for it."""
+def on_disks(vector, prefix):
+    """The devices of a group that are plain and lie on disks alone, but for layers of snapshots."""
+    own = {it: lines for it, lines in named(vector, vector.tables()).items() if it.startswith(prefix)}
+    return {it for it, lines in own.items() if not re.search(r"-(real|cow)$", it)
+            and all(line.split(" ")[2] in PLAIN and "/dev/mapper/" not in line for line in lines)}
+
+
+def check_tables(found, vector, where, prefix, tables, is_copy):
+    """Each device of the group has the lines that lvm2 loaded for it. A copy lacks some, but none that lies on disks."""
     ours = {device: [" ".join(it) for it in lines] for device, lines in tables.items()}
     theirs = named(vector, vector.tables())
-    for device in sorted(set(ours) | {it for it in theirs if it.startswith(prefix)}):
-        at = "%s, %s" % (where, device)
+    devices = set(ours) | {it for it in theirs if it.startswith(prefix)}
+    if is_copy:
+        devices = (set(ours) & set(theirs)) | on_disks(vector, prefix)
+    for device in sorted(devices):
+        at, real = "%s, %s" % (where, device), device + "-real"
         if (vector.name, device) in LINES:
             departure, lines = LINES[vector.name, device]
             found.departs(departure, at, ours.get(device), lines, theirs.get(device))
+        elif is_copy and real in theirs and real not in ours:
+            # The copy lacks the snapshot, and its origin is a plain volume.
+            found.departs(SHORTER, at, ours[device], theirs[real], theirs[device])
         else:
             found.same("volumes", at, ours.get(device), theirs.get(device))
 
@@ -219,14 +240,18 @@ def check_edit(found, program, edit):
 
 
 def check_restored(found, program, vector, restored):
-    """The devices of an edited text that lvm2 restored and activated, where the program takes it."""
+    """The devices of an edited text that lvm2 restored and activated; a text that is refused is read through a copy."""
     text, edit = restored["text"], restored["edit"]
     theirs = named(vector, tables_of(restored["table"]))
     flags = dict(it.split(":") for it in restored["info"].split("\n") if ":" in it)
     keys = {} if len(set(re.findall(r'device = "([^"]*)"', text))) > 1 else {"/dev/vdb": "pv0", "/dev/vdc": "pv1"}
+    source = program.file("restored", text)
     if edit in EDITS and EDITS[edit][1]:
-        return
-    ours = {device: [flag] + lines for device, _, _, flag, *lines in concise_of(program, program.file("restored", text))}
+        source, said = copy_of(program, source)
+        if not source:
+            found.fail(edit, said)
+            return
+    ours = {device: [flag] + lines for device, _, _, flag, *lines in concise_of(program, source)}
     # A volume that isn't visible is not activated.
     found.aside["restored volumes that are hidden"] += len(set(ours) - set(theirs))
     for device, lines in theirs.items():
