@@ -3,11 +3,17 @@
 
 _dmremap() {
     local commands="map table concise check replay name splitname help" formats="lvm concise table"
-    local word=${COMP_WORDS[COMP_CWORD]} offered="" it
+    local word=${COMP_WORDS[COMP_CWORD]} offered="" files=false it
     # The words before this one that are no options, and whether options may still follow.
-    local given=() options=true
+    local given=() options=true redirected=false
     for it in "${COMP_WORDS[@]:1:COMP_CWORD-1}"; do
-        if [[ $it == -- ]]; then
+        if $redirected; then
+            redirected=false
+        elif [[ $it == [\<\>]* ]]; then
+            # Neither the file after it is one of the command's words, nor a number in front of it.
+            redirected=true
+            [[ ${#given[@]} -eq 0 || ${given[${#given[@]} - 1]} != [0-9] ]] || unset "given[${#given[@]} - 1]"
+        elif [[ $it == -- ]]; then
             options=false
         elif [[ $it == --status ]] && $options; then
             # Of all commands it goes with this one.
@@ -16,8 +22,13 @@ _dmremap() {
             given+=("$it")
         fi
     done
-    COMPREPLY=()
-    if $options && [[ $word == -* ]]; then
+    if [[ $word == [\<\>]* ]]; then
+        redirected=true
+        word=${word##*[\<\>\&\|]}
+    fi
+    if $redirected; then
+        files=true
+    elif $options && [[ $word == -* ]]; then
         case ${given[0]-} in
             "") offered="--status --version --help" ;;
             map) offered="--status --help" ;;
@@ -29,14 +40,15 @@ _dmremap() {
             /0/ | help/1/) offered=$commands ;;
             name/* | splitname/* | help/*) ;;
             */1/) offered=$formats ;;
-            */2/* | */3/concise | */3/table)
-                compopt -o filenames 2> /dev/null
-                mapfile -t COMPREPLY < <(compgen -f -- "$word")
-                return
-                ;;
+            */2/* | */3/concise | */3/table) files=true ;;
         esac
     fi
-    mapfile -t COMPREPLY < <(compgen -W "$offered" -- "$word")
+    if $files; then
+        compopt -o filenames 2> /dev/null
+        mapfile -t COMPREPLY < <(compgen -f -- "$word")
+    else
+        mapfile -t COMPREPLY < <(compgen -W "$offered" -- "$word")
+    fi
 }
 
 complete -F _dmremap dmremap

@@ -1,10 +1,15 @@
-"""The completions of bash and zsh: they offer the words that help lists, and files where files are meant."""
+"""The completions of bash and zsh: they offer the words that help lists, and files where files are meant. And
+what a tabulator makes of a line that is typed, in the shells themselves."""
 
 import os
+import pty
+import select
 import shutil
+import signal
+import time
 
 import help_words
-from harness import run
+from harness import SECONDS, run
 
 # What a shell runs to print, one on each line, what is offered for the last of the words after the script.
 # Without a terminal zsh completes nothing, so the calls that offer words print them.
@@ -17,7 +22,7 @@ printf '%s\\n' "${COMPREPLY[@]}"
 """
 ZSH = """
 _describe() { print -l -- ${${(P)@[-1]}%%:*} }
-_message() { }
+_wanted() { $4 }
 _files() { print -l -- $words[CURRENT]*(N) }
 complete() {
     local script=$1
@@ -32,6 +37,35 @@ SHELLS = [
     ("bash", ["bash", "--norc", "-c", BASH, "bash"], "dmremap.bash"),
     ("zsh", ["zsh", "-f", "-c", ZSH, "zsh"], "_dmremap"),
 ]
+# What a shell reads before the line that is typed: in place of the program a function that tells the words that
+# it gets, and what its standard input holds if that is a file.
+TOLD = """
+dmremap() {
+    local it
+    for it in "$@"; do printf '[%%s]' "$it"; done >> told
+    [ -t 0 ] || { printf '<'; cat; printf '>'; } >> told
+    mv told done
+}
+%s
+"""
+TYPED = [
+    ("bash", ["bash", "--rcfile", "rc", "-i"], "rc", "source '%s/dmremap.bash'"),
+    ("zsh", ["zsh", "-i"], ".zshrc", "fpath=('%s' $fpath); autoload -U compinit; compinit -u -D"),
+]
+LINES = [
+    ("dmremap ma\t", "[map]"),
+    ("dmremap map tab\t", "[map][table]"),
+    ("dmremap map table stack.t\t", "[map][table][stack.table]"),
+    ("dmremap map table oth\t", "[map][table][other file]"),
+    ("dmremap map table stack.table stack.d\t", "[map][table][stack.table][stack.disks]"),
+    ("dmremap map table -- stack.table stack.d\t--status", "[map][table][--][stack.table][stack.disks][--status]"),
+    ("dmremap map lvm stack.table stack.d\t", "[map][lvm][stack.table][stack.d]"),
+    ("dmremap map table stack.table stack.disks < oth\t", "[map][table][stack.table][stack.disks]<what it holds>"),
+    ("dmremap map table stack.table stack.disks <oth\t", "[map][table][stack.table][stack.disks]<what it holds>"),
+    ("dmremap < oth\tmap tab\tstack.t\t", "[map][table][stack.table]<what it holds>"),
+    ("dmremap map 2> stack.errors tab\tstack.t\t", "[map][table][stack.table]"),
+    ("dmremap map table stack.t\t2>stack.e\t", "[map][table][stack.table]"),
+]
 # The program takes it, whether help lists it or not.
 VERSION = "--version"
 # Commands without a format.
@@ -39,6 +73,55 @@ OTHERS = ["name", "splitname", "help"]
 
 
 def check(tally, program, top):
+    check_offered(tally, program, top)
+    for shell, words, start, script in TYPED:
+        if shutil.which(shell) is None:
+            tally.skip("what is typed in " + shell, "it isn't there")
+            continue
+        folder = os.path.join(program.room, "typed", shell)
+        for name, content in [(start, TOLD % (script % os.path.join(top, "completions"))), ("stack.table", ""),
+                              ("stack.disks", ""), ("stack.errors", ""), ("other file", "what it holds")]:
+            program.file(os.path.join(folder, name), content)
+        told = typed(words, [line for line, _ in LINES], folder)
+        for (line, wanted), got in zip(LINES, told):
+            tally.holds("typed in %s: %r" % (shell, line), got == wanted, "it is %s" % got)
+
+
+def typed(words, lines, folder):
+    """The words that the command gets, for each of some lines that are typed in a shell at a terminal."""
+    env = dict(os.environ, HOME=folder, ZDOTDIR=folder, INPUTRC="/dev/null", TERM="dumb", LC_ALL="C")
+    shell, terminal = pty.fork()
+    if shell == 0:
+        os.chdir(folder)
+        os.execvpe(words[0], words, env)
+    told = []
+    for line in lines:
+        os.write(terminal, (line + "\r").encode())
+        told.append(said_in(os.path.join(folder, "done"), terminal))
+    os.kill(shell, signal.SIGKILL)
+    os.waitpid(shell, 0)
+    os.close(terminal)
+    return told
+
+
+def said_in(path, terminal):
+    """What a file says, once it is there, or why it is not. A shell goes on only while somebody reads what it shows."""
+    end = time.monotonic() + SECONDS
+    while not os.path.exists(path):
+        if time.monotonic() > end:
+            return "nothing after %d seconds" % SECONDS
+        if select.select([terminal], [], [], 0.01)[0]:
+            try:
+                os.read(terminal, 65536)
+            except OSError:
+                return "nothing, as the shell has ended"
+    with open(path, encoding="utf-8") as it:
+        said = it.read()
+    os.unlink(path)
+    return said
+
+
+def check_offered(tally, program, top):
     folder = os.path.join(program.room, "completed")
     for name in ("stack.table", "stack.disks", "other file"):
         program.file(os.path.join("completed", name))
