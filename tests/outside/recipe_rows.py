@@ -193,76 +193,7 @@ LOGS = [
     bad("cut", [], ["R a,b 0 1\n"], "1:1: no name of a device: 'a,b'"),
 ]
 
-# A machine's tables. What becomes of DISKS is in the outputs of the document.
-
-NUMBERS = "base\t(253:0)\ncow\t(253:1)\nsnap\t(253:2)\norig\t(253:3)\n"
-FRESH = "base: 0 16 linear \ncow: 0 64 linear \nsnap: 0 16 snapshot 16/64 16\norig: 0 16 snapshot-origin \n"
-SIZES = "8:1 1048576\n253:0 8192\n253:1 32768\n253:2 8192\n253:3 8192\n"
-LOWER = "base: 0 16 linear 8:1 0\ncow: 0 64 linear 8:1 16\n"
-SNAP = "snap: 0 16 snapshot 253:0 253:1 %s 8\n"
-SNAP_OUT = "snap: 0 16 snapshot /dev/mapper/base /dev/mapper/cow %s 8\n"
-ORIG = "orig: 0 16 snapshot-origin 253:0\n"
-ORIG_OUT = "orig: 0 16 snapshot-origin /dev/mapper/base\n"
-DISKS = ["disks=disks"]
-
-
-def machine(tables, output, message="", names=NUMBERS, status=FRESH, sizes=SIZES):
-    return good("machine", DISKS, [names, status, sizes, tables], output, message)
-
-
-def no_machine(tables, message, names=NUMBERS, status=FRESH, sizes=SIZES, variables=DISKS):
-    return bad("machine", variables, [names, status, sizes, tables], message)
-
-
-ALL = LOWER + SNAP % "P" + ORIG
-WITHOUT = "left out: snap (%s), the disk 253:2\nleft out: orig (a snapshot of its origin is left out), the disk 253:3\n"
-COPIED = "its store has copies, and nothing says of which chunks"
-MACHINE = [
-    machine(ALL, LOWER + SNAP_OUT % "P" + ORIG_OUT),
-    machine(LOWER + SNAP % "N" + ORIG, LOWER + SNAP_OUT % "N" + ORIG_OUT, status=FRESH.replace("16/64 16", "0/64 0")),
-    machine(ALL, LOWER, WITHOUT % COPIED, status=FRESH.replace("16/64 16", "24/64 16")),
-    machine(ALL, LOWER, WITHOUT % COPIED, status=FRESH.replace("16/64 16", "Invalid")),
-    machine(LOWER + SNAP % "PO" + ORIG, LOWER, WITHOUT % "0 16 snapshot 253:0 253:1 PO 8"),
-    machine(LOWER + (SNAP % "P").replace("8\n", "8 1 discard_zeroes_cow\n") + ORIG, LOWER,
-            WITHOUT % "0 16 snapshot 253:0 253:1 P 8 1 discard_zeroes_cow"),
-    machine(LOWER + SNAP % "P" + ORIG.replace("snapshot-origin 253:0", "snapshot-merge 253:0 253:1 P 8"), LOWER + SNAP_OUT % "P",
-            "left out: orig (snapshot-merge), the disk 253:3\n"),
-    # What lies on a device that is left out ends at its number; 253:10 is not 253:1.
-    machine("a: 0 8 crypt x y 0 8:1 0\nb: 0 8 linear 253:1 0\nb: 8 8 linear 253:10 4\nc: 0 16 zero \n",
-            "b: 0 8 linear 253:1 0\nb: 8 8 linear /dev/mapper/c 4\nc: 0 16 zero\n", "left out: a (crypt), the disk 253:1\n",
-            names="a\t(253:1)\nb\t(253:2)\nc\t(253:10)\n", sizes="8:1 4096\n253:1 4096\n253:2 8192\n253:10 8192\n"),
-    machine("a: 0 8 linear 8:1 0\na: 8 8 thin 8:1 1\n", "", "left out: a (thin), the disk 253:1\n", names="a\t(253:1)\n"),
-    machine("a\\x20b: 0 8 zero \na: 0 8 zero \nc: \n", "a: 0 8 zero\n",
-            "left out: a\\x20b (its name is mangled), the disk 253:1\nleft out: c (it has no table), the disk 253:3\n",
-            names="a\\x20b\t(253:1)\na\t(253:2)\nc\t(253:3)\n", sizes="253:1 4096\n253:2 4096\n"),
-    machine("a,LVM-x,1,ro,0 8 striped 2 4 8:1 0 8:1 8;a\\x20b,,2,rw,0 8 zero ;c,CRYPT-y,3,rw,0 8 crypt x y 0 8:1 0,8 8 zero\n",
-            "a,,,ro,0 8 striped 2 4 8:1 0 8:1 8\n",
-            "left out: a\\x20b (its name is mangled), the disk 253:2\nleft out: c (crypt), the disk 253:3\n",
-            names="a\t(253:1)\na\\x20b\t(253:2)\nc\t(253:3)\n", sizes="8:1 8192\n253:1 4096\n"),
-    no_machine("a\\,b,,2,rw,0 8 zero \n", "4:1: dmsetup ls has not a?b"),
-    no_machine(LOWER + ORIG, "4:3: no table of snap, which may be a snapshot of an origin"),
-    no_machine("base: 0 16 linear 253:9 0\n", "4:1: dmsetup ls has not 253:9", sizes=SIZES + "253:9 8192\n"),
-    no_machine(SNAP % "P", "4:1: no table of base, which others name"),
-    no_machine(ALL, "4:3: dmsetup status has not the snapshot snap", status="base: 0 16 linear \n"),
-    no_machine(ALL, "4:4: lsblk has not 8:1", sizes=SIZES.replace("8:1 1048576\n", "")),
-    no_machine(ALL, "4:4: lsblk and the table of base differ in its length", sizes=SIZES.replace("253:0 8192\n", "")),
-    # Sizes in sectors, sizes for people, and half a sector.
-    no_machine(ALL, "4:4: lsblk and the table of base differ in its length", sizes=SIZES.replace("253:0 8192", "253:0 512")),
-    no_machine(ALL, "3:1: not a line of lsblk -brno MAJ:MIN,SIZE: 8:1 1M", sizes="8:1 1M\n"),
-    no_machine(ALL, "3:1: no whole sectors: 8:1 513", sizes="8:1 513\n"),
-    no_machine(ALL, "3:6: two sizes of 8:1", sizes=SIZES + "8:1 512\n"),
-    no_machine(ALL, "4:1: dmsetup ls has not base", names="a\t(253:0)\n"),
-    no_machine(ALL, "1:1: not a line of dmsetup ls: No devices found", names="No devices found\n"),
-    no_machine(ALL, "2:1: not a line of dmsetup status: No devices found", status="No devices found\n"),
-    no_machine("No devices found\n", "4:1: not a line of dmsetup table: No devices found"),
-    no_machine("0 16 linear 8:1 0\n", "4:1: not a line of dmsetup table: 0 16 linear 8:1 0"),
-    no_machine(LOWER + "snap: 0 16 linear 8:1 99\nbase: 16 8 linear 8:1 0\n", "4:4: two tables of base"),
-    no_machine("base: 0 16 linear /dev/sda 0\n", "4:1: no number of a device: /dev/sda"),
-    no_machine(ALL, "4:4: -v disks=DISKS is missing", variables=[]),
-    no_machine("base,,0,xx,0 16 linear 8:1 0\n", "4:1: not a device of dmsetup table --concise: base,,0,xx,0 16 linear 8:1 0"),
-    no_machine("base,,0,rw,0 16 linear 8:1 0\ncow,,1,rw,0 64 linear 8:1 16\n", "4:2: not a line of dmsetup table: cow,,1,rw,0 64 linear 8:1 16"),
-    bad("machine", DISKS, [NUMBERS, SIZES, ALL], "2:1: not a line of dmsetup status: 8:1 1048576"),
-]
+# Tables that end at whole disks.
 
 SFDISK = "label: gpt\nlabel-id: x\ndevice: /dev/sda\nunit: sectors\nfirst-lba: 34\nsector-size: %s\n\n"
 PART = "/dev/sda1 : start=        2048, size=       16384, type=83\n"
@@ -391,4 +322,4 @@ LAYOUTS += [
 ]
 LAYOUTS += [bad(script, [], ["a 0 8 zero\n"], "1:1: not table text: a 0 8 zero") for script in ("tree", "dot")]
 
-ROWS = FILEFRAG + DEBUGFS + TRACE + LOGS + MACHINE + PARTITIONS + ELSEWHERE + ANSWERED + LAYOUTS
+ROWS = FILEFRAG + DEBUGFS + TRACE + LOGS + PARTITIONS + ELSEWHERE + ANSWERED + LAYOUTS

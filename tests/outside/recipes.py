@@ -2,14 +2,17 @@
 they use over inputs that are easily taken wrong, with each awk that is there.
 
 A row of `ROWS` is a script, its variables, its inputs, what it prints, what it says on standard error and
-its status. Its files are `1`, `2` and so on.
+its status. Its files are `1`, `2` and so on. A script whose name has no ending is one of awk; the variables
+of one in Python are words.
 """
 
 import os
 import random
 import re
 import shutil
+import sys
 
+import machine_rows
 from harness import run
 from origins import SHARING, claims, disks_of, small_stack, tidiness
 from recipe_rows import ROWS
@@ -18,6 +21,10 @@ from snapshots import concise
 # Each awk that is there once: the first name is a link to one of the others.
 AWKS = list({os.path.realpath(shutil.which(it[0])): it for it in (
     ["awk"], ["mawk"], ["gawk"], ["busybox", "awk"], ["original-awk"]) if shutil.which(it[0])}.values())
+# The scripts in Python, with words of which `%s` is a file, and a file that they write beside their output.
+PYTHON = [
+    ("machine.py", ["--disks", "disks", "%s", "status", "lsblk", "table"], "disks"),
+]
 BLOCK = re.compile(r"^```(\w*)\n(.*?)^```$", re.M | re.S)
 STACKS = 12
 
@@ -26,9 +33,10 @@ def check(tally, program, top):
     scripts = os.path.join(top, "examples", "recipes")
     check_document(tally, program, top)
     check_samples(tally, program, scripts)
-    for row in ROWS:
-        for awk in AWKS:
-            check_row(tally, program, scripts, awk, *row)
+    for row in ROWS + machine_rows.ROWS:
+        check_row(tally, program, scripts, *row)
+    check_machines(tally, program)
+    check_missing(tally, program, scripts)
     check_refusal(tally, program)
     check_read_back(tally, program, scripts)
     for seed in range(STACKS):
@@ -60,7 +68,7 @@ def check_samples(tally, program, scripts):
     def made(table):
         inputs = [os.path.join(scripts, "samples", it + ".txt") for it in ("ls", "status", "lsblk", table)]
         disks = program.file("machine/disks")
-        got = run(AWKS[0] + ["-v", "disks=" + disks] + script_words(scripts, "machine") + inputs)
+        got = run(python_words(scripts, "machine.py") + ["--disks", disks] + inputs)
         form = "concise" if table == "concise" else "table"
         return form, program.run(["table", form, program.file("machine/tables", got.out), disks])
 
@@ -72,12 +80,43 @@ def script_words(scripts, name):
     return ["-f", os.path.join(scripts, "base.awk"), "-f", os.path.join(scripts, name + ".awk")]
 
 
-def check_row(tally, program, scripts, awk, script, variables, inputs, output, message, status):
+def python_words(scripts, name):
+    return [sys.executable, "-B", os.path.join(scripts, name)]
+
+
+def check_row(tally, program, scripts, script, variables, inputs, output, message, status):
     paths = [program.file("row/%d" % place, text) for place, text in enumerate(inputs, 1)]
-    words = awk + [it for pair in variables for it in ("-v", pair)] + script_words(scripts, script)
-    got = run(words + [os.path.basename(it) for it in paths], folder=os.path.join(program.room, "row"))
-    name = "%s of %s over %r" % (script, " ".join(awk), inputs[-1][:40])
-    tally.same(name, got, status, output, message)
+    if script.endswith(".py"):
+        commands = [python_words(scripts, script) + variables]
+    else:
+        given = [it for pair in variables for it in ("-v", pair)]
+        commands = [awk + given + script_words(scripts, script) for awk in AWKS]
+    for words in commands:
+        got = run(words + [os.path.basename(it) for it in paths], folder=os.path.join(program.room, "row"))
+        name = "%s by %s over %r" % (script, os.path.basename(words[0]), inputs[-1][:40])
+        tally.same(name, got, status, output, message)
+
+
+def check_machines(tally, program):
+    """What is made of a machine loads."""
+    for _, _, inputs, output, message, status in machine_rows.ROWS:
+        if status == 0:
+            disks = "".join(re.findall(r"^\S+ \d+\n", message, re.M))
+            form = "concise" if ",,," in output else "table"
+            got = program.run(["table", form, program.file("machine/source", output), program.file("machine/disks", disks)])
+            tally.holds("that %r loads" % output[:40], got.status == 0, got.err)
+
+
+def check_missing(tally, program, scripts):
+    """A script in Python says so where a file is not there or is a folder, and spoils what it would have written."""
+    folder = os.path.dirname(program.file("missing/room"))
+    for script, words, beside in PYTHON:
+        for name, why in (("nowhere", "No such file or directory"), (".", "Is a directory")):
+            got = run(python_words(scripts, script) + [it % name if "%" in it else it for it in words], folder=folder)
+            tally.same("%s of %s" % (script, name), got, 1, "refused\n", "%s: %s\n" % (name, why))
+            if beside:
+                found = read(os.path.join(folder, beside))
+                tally.holds("what %s leaves of %s" % (script, beside), found == b"refused\n", "it is %r" % found)
 
 
 def check_refusal(tally, program):
