@@ -157,6 +157,32 @@ def read_lsblk(path):
     return sizes, paths
 
 
+def read_tables(path):
+    """The devices of table text or concise text, as dmremap prints it, and whether it is the latter."""
+    text, devices = read(path), []
+    is_concise = "," in text.split(" ")[0]
+    for number, row in enumerate(text.rstrip("\n").split(";" if is_concise else "\n") if text else [], 1):
+        place = "%s:%d" % (path, number)
+        name, *fields = row.split(",") if is_concise else row.partition(": ")[::2]
+        if is_concise and (len(fields) < 4 or fields[2] not in ("", "ro", "rw")):
+            refuse(place, "not a device of concise text: " + row)
+        if is_concise or not devices or devices[-1].name != name:
+            devices.append(Device(name, fields[2] if is_concise else ""))
+        devices[-1].lines += [line_of(place, it) for it in fields[3 if is_concise else 0:]]
+    return devices, is_concise
+
+
+def line_of(place, text):
+    """A line that dmremap takes, as far as the line alone can tell."""
+    words = text.split()
+    if len(words) < 3 or not all(NUMBER.fullmatch(it) for it in words[:2]):
+        refuse(place, "not a line of a table: " + text)
+    line = Line(words[0], words[1], words[2], words[3:])
+    if line.fault():
+        refuse(place, "%s: %s" % (line.fault(), text))
+    return line
+
+
 def text_of(devices, is_concise):
     """Devices as table text or in the concise form, as dmremap reads it."""
     if is_concise:

@@ -193,52 +193,7 @@ LOGS = [
     bad("cut", [], ["R a,b 0 1\n"], "1:1: no name of a device: 'a,b'"),
 ]
 
-# Tables that end at whole disks.
-
-SFDISK = "label: gpt\nlabel-id: x\ndevice: /dev/sda\nunit: sectors\nfirst-lba: 34\nsector-size: %s\n\n"
-PART = "/dev/sda1 : start=        2048, size=       16384, type=83\n"
-
-
-def parted(parts, tables, output, message="", bytes="512"):
-    return good("partitions", [], [SFDISK % bytes + parts, tables], output, message)
-
-
-def no_parts(parts, message, tables="a: 0 8 linear /dev/sda1 0\n", output="", head=SFDISK % "512"):
-    return bad("partitions", [], [head + parts, tables], message, output)
-
-
-PARTITIONS = [
-    parted(PART, "a: 0 8 linear /dev/sda1 4\n", "sda1: 0 16384 linear /dev/sda 2048\na: 0 8 linear /dev/mapper/sda1 4\n"),
-    parted(PART, "a: 0 8 linear /dev/sda1 4\n", "sda1: 0 131072 linear /dev/sda 16384\na: 0 8 linear /dev/mapper/sda1 4\n", bytes="4096"),
-    # /dev/sda10 and /dev/sda are other disks; a store, an origin and a column at the end of a line.
-    parted(PART, "a: 0 8 linear /dev/sda10 4\nb: 0 8 striped 2 4 /dev/sda 0 /dev/sda1 0\nc: 0 8 snapshot-origin /dev/sda1\n"
-           "d: 0 8 snapshot /dev/sda1 /dev/sda1 P 8\n",
-           "sda1: 0 16384 linear /dev/sda 2048\na: 0 8 linear /dev/sda10 4\nb: 0 8 striped 2 4 /dev/sda 0 /dev/mapper/sda1 0\n"
-           "c: 0 8 snapshot-origin /dev/mapper/sda1\nd: 0 8 snapshot /dev/mapper/sda1 /dev/mapper/sda1 P 8\n"),
-    parted(PART + "/dev/sda2 : start=       18432, size=       10240, type=5\n/dev/sda5 : start=20480, size=2048, type=83, bootable\n",
-           "a: 0 8 linear /dev/sda5 0\n", "sda1: 0 16384 linear /dev/sda 2048\nsda5: 0 2048 linear /dev/sda 20480\n"
-           "a: 0 8 linear /dev/mapper/sda5 0\n", "left out, since it holds others: /dev/sda2\n"),
-    # A name that looks like a place.
-    parted('/dev/sda1 : start=2048, size=16384, type=x, name="start=5, size=7"\n', "a: 0 8 linear /dev/sda1 0\n",
-           "sda1: 0 16384 linear /dev/sda 2048\na: 0 8 linear /dev/mapper/sda1 0\n"),
-    good("partitions", ["bytes=512"], ["label: dos\ndevice: a.img\nunit: sectors\n\na.img1 : start=63, size=8, type=83\n",
-                                       "a: 0 8 linear a.img1 0\n"],
-         "a.img1: 0 8 linear a.img 63\na: 0 8 linear /dev/mapper/a.img1 0\n"),
-    parted(PART + (SFDISK % "4096" + PART).replace("sda", "sdb"), "a: 0 8 linear /dev/sdb1 0\n",
-           "sda1: 0 16384 linear /dev/sda 2048\nsdb1: 0 131072 linear /dev/sdb 16384\na: 0 8 linear /dev/mapper/sdb1 0\n"),
-    no_parts(PART + "label: dos\ndevice: /dev/sdb\n" + PART.replace("sda", "sdb"), "1:11: how many bytes has a sector? -v bytes=",
-             output="sda1: 0 16384 linear /dev/sda 2048\n"),
-    no_parts(PART, "1:4: how many bytes has a sector? -v bytes=", head="label: dos\ndevice: /dev/sda\nunit: sectors\n"),
-    no_parts(PART, "1:2: not counted in sectors: unit: cylinders", head="label: dos\nunit: cylinders\n"),
-    no_parts(PART, "2:1: no line of the tables names one of these partitions", "a: 0 8 linear /dev/sdb1 0\n",
-             "sda1: 0 16384 linear /dev/sda 2048\na: 0 8 linear /dev/sdb1 0\n"),
-    no_parts(PART + PART, "1:9: a second partition sda1", output="sda1: 0 16384 linear /dev/sda 2048\n"),
-    no_parts(PART, "2:1: a partition has the name of the device sda1:", "sda1: 0 8 linear /dev/sda1 0\n", "sda1: 0 16384 linear /dev/sda 2048\n"),
-    no_parts("/dev/sda1 : start=2048, size=8MiB\n", "1:8: not a line of sfdisk -d: /dev/sda1 : start=2048, size=8MiB"),
-    no_parts("/dev/sda1 : start=2048, size=9007199254740993, type=83\n",
-             "1:8: no number that awk is exact with: '9007199254740992'"),
-    no_parts("my disk1 : start=2048, size=8, type=83\n", "1:8: not a line of sfdisk -d: my disk1 : start=2048, size=8, type=83"),
-]
+# Text for another machine.
 
 PATHS = "/dev/sda1 /dev/loop0\n/dev/sda10 /dev/loop1\n"
 ELSEWHERE = [
@@ -322,4 +277,4 @@ LAYOUTS += [
 ]
 LAYOUTS += [bad(script, [], ["a 0 8 zero\n"], "1:1: not table text: a 0 8 zero") for script in ("tree", "dot")]
 
-ROWS = FILEFRAG + DEBUGFS + TRACE + LOGS + PARTITIONS + ELSEWHERE + ANSWERED + LAYOUTS
+ROWS = FILEFRAG + DEBUGFS + TRACE + LOGS + ELSEWHERE + ANSWERED + LAYOUTS

@@ -2,8 +2,8 @@
 they use over inputs that are easily taken wrong, with each awk that is there.
 
 A row of `ROWS` is a script, its variables, its inputs, what it prints, what it says on standard error and
-its status. Its files are `1`, `2` and so on. A script whose name has no ending is one of awk; the variables
-of one in Python are words.
+its status. Its files are `1`, `2` and so on, which follow the variables, if none of these names them. A script
+whose name has no ending is one of awk; the variables of one in Python are words.
 """
 
 import os
@@ -13,6 +13,7 @@ import shutil
 import sys
 
 import machine_rows
+import partition_rows
 from harness import run
 from origins import SHARING, claims, disks_of, small_stack, tidiness
 from recipe_rows import ROWS
@@ -24,6 +25,9 @@ AWKS = list({os.path.realpath(shutil.which(it[0])): it for it in (
 # The scripts in Python, with words of which `%s` is a file, and a file that they write beside their output.
 PYTHON = [
     ("machine.py", ["--disks", "disks", "%s", "status", "lsblk", "table"], "disks"),
+    ("partitions.py", ["--lsblk", "%s", "--disks", "disks", "sfdisk", "tables"], "disks"),
+    ("partitions.py", ["%s", "tables"], None),
+    ("partitions.py", ["/dev/null", "%s"], None),
 ]
 BLOCK = re.compile(r"^```(\w*)\n(.*?)^```$", re.M | re.S)
 STACKS = 12
@@ -33,7 +37,7 @@ def check(tally, program, top):
     scripts = os.path.join(top, "examples", "recipes")
     check_document(tally, program, top)
     check_samples(tally, program, scripts)
-    for row in ROWS + machine_rows.ROWS:
+    for row in ROWS + machine_rows.ROWS + partition_rows.ROWS:
         check_row(tally, program, scripts, *row)
     check_machines(tally, program)
     check_missing(tally, program, scripts)
@@ -85,14 +89,17 @@ def python_words(scripts, name):
 
 
 def check_row(tally, program, scripts, script, variables, inputs, output, message, status):
-    paths = [program.file("row/%d" % place, text) for place, text in enumerate(inputs, 1)]
+    for place, text in enumerate(inputs, 1):
+        program.file("row/%d" % place, text)
+    named = [it.rpartition("=")[2] for it in variables]
+    files = [str(place) for place in range(1, len(inputs) + 1) if str(place) not in named]
     if script.endswith(".py"):
         commands = [python_words(scripts, script) + variables]
     else:
         given = [it for pair in variables for it in ("-v", pair)]
         commands = [awk + given + script_words(scripts, script) for awk in AWKS]
     for words in commands:
-        got = run(words + [os.path.basename(it) for it in paths], folder=os.path.join(program.room, "row"))
+        got = run(words + files, folder=os.path.join(program.room, "row"))
         name = "%s by %s over %r" % (script, os.path.basename(words[0]), inputs[-1][:40])
         tally.same(name, got, status, output, message)
 

@@ -1,0 +1,118 @@
+"""What partitions.py makes of tables that end at partitions: rows as those of recipe_rows. As DISKS goes to standard
+error here, it is the end of the message."""
+
+from recipe_rows import bad, good
+
+LSBLK = "8:0 10485760 sda \n8:1 8388608 sda1 sda\n253:0 4096 dm-0 sda1\n253:7 8192 dm-7 \n"
+WITH_LSBLK = ["--lsblk", "1", "--disks", "/dev/stderr"]
+SDA1 = "sda1: 0 16384 linear /dev/sda 2048\n"
+ON = "a: 0 8 linear /dev/sda1 4\n"
+ON_SDA1 = "a: 0 8 linear /dev/mapper/sda1 4\n"
+DIFFER = "lsblk and sfdisk differ in its length"
+NO_LINE = "no line names one of these partitions; --lsblk says what numbers are, --image what is an image"
+
+
+def head(disk, bytes="512"):
+    return "label: gpt\nlabel-id: x\ndevice: %s\nunit: sectors\nfirst-lba: 34\nsector-size: %s\n\n" % (disk, bytes)
+
+
+def part(path):
+    return path + " : start=        2048, size=       16384, type=83\n"
+
+
+PART = head("/dev/sda") + part("/dev/sda1")
+
+
+def parted(text, tables, output, message="", words=()):
+    return good("partitions.py", list(words), [text, tables], output, message)
+
+
+def no_parts(text, message, tables=ON, words=()):
+    return bad("partitions.py", list(words), [text, tables], message)
+
+
+def known(tables, output, disks, lsblk=LSBLK, text=PART, words=()):
+    return good("partitions.py", WITH_LSBLK + list(words), [lsblk, text, tables], output, disks)
+
+
+def unknown(message, tables=ON, lsblk=LSBLK, text=PART):
+    return bad("partitions.py", WITH_LSBLK, [lsblk, text, tables], message + "\nrefused")
+
+
+ROWS = [
+    parted(PART, ON, SDA1 + ON_SDA1),
+    parted(head("/dev/sda", "4096") + part("/dev/sda1"), ON, "sda1: 0 131072 linear /dev/sda 16384\n" + ON_SDA1),
+    # /dev/sda10 and /dev/sda are other disks; a store, an origin and a column at the end of a line.
+    parted(PART, "a: 0 8 linear /dev/sda10 4\nb: 0 8 striped 2 4 /dev/sda 0 /dev/sda1 0\nc: 0 8 snapshot-origin /dev/sda1\n"
+           "d: 0 8 snapshot /dev/sda1 /dev/sda1 P 8\n",
+           SDA1 + "a: 0 8 linear /dev/sda10 4\nb: 0 8 striped 2 4 /dev/sda 0 /dev/mapper/sda1 0\n"
+           "c: 0 8 snapshot-origin /dev/mapper/sda1\nd: 0 8 snapshot /dev/mapper/sda1 /dev/mapper/sda1 P 8\n"),
+    parted(PART, "a,,,ro,0 8 linear /dev/sda1 4,8 8 zero;b,,,,0 8 zero\n",
+           "sda1,,,rw,0 16384 linear /dev/sda 2048;a,,,ro,0 8 linear /dev/mapper/sda1 4,8 8 zero;b,,,,0 8 zero\n"),
+    parted(PART + "/dev/sda2 : start=       18432, size=       10240, type=5\n/dev/sda3 : start=0, size=0\n"
+           "/dev/sda5 : start=20480, size=2048, type=83, bootable\n", ON.replace("sda1", "sda5"),
+           SDA1 + "sda5: 0 2048 linear /dev/sda 20480\n" + ON_SDA1.replace("sda1", "sda5"),
+           "left out, since it holds others: /dev/sda2\n"),
+    # A name that looks like a place.
+    parted(head("/dev/sda") + '/dev/sda1 : start=2048, size=16384, type=x, name="start=5, size=7"\n', ON, SDA1 + ON_SDA1),
+    # An old text, that doesn't say how long a sector is, of an image.
+    parted("label: dos\ndevice: a.img\nunit: sectors\n\na.img1 : start=63, size=8, type=83\n", "a: 0 8 linear a.img1 0\n",
+           "a.img1: 0 8 linear a.img 63\na: 0 8 linear /dev/mapper/a.img1 0\n", words=["--bytes", "512"]),
+    # Several disks, in one text and in two, also such as have a digit at the end.
+    parted(PART + head("/dev/sdb", "4096") + part("/dev/sdb1"), ON.replace("sda1", "sdb1"),
+           SDA1 + "sdb1: 0 131072 linear /dev/sdb 16384\n" + ON_SDA1.replace("sda1", "sdb1")),
+    good("partitions.py", [], [PART, head("/dev/nvme0n1") + part("/dev/nvme0n1p1"), head("/dev/mmcblk0") + part("/dev/mmcblk0p2"),
+                               "a: 0 12 striped 3 4 /dev/sda1 0 /dev/nvme0n1p1 0 /dev/mmcblk0p2 0\n"],
+         SDA1 + "nvme0n1p1: 0 16384 linear /dev/nvme0n1 2048\nmmcblk0p2: 0 16384 linear /dev/mmcblk0 2048\n"
+         "a: 0 12 striped 3 4 /dev/mapper/sda1 0 /dev/mapper/nvme0n1p1 0 /dev/mapper/mmcblk0p2 0\n"),
+    # Images, whose partitions the tables name as those of the disks.
+    parted(head("x/disk.img") + part("x/disk.img1"), ON + "b: 0 8 linear /dev/sda 4\n",
+           "disk.img1: 0 16384 linear x/disk.img 2048\na: 0 8 linear /dev/mapper/disk.img1 4\nb: 0 8 linear x/disk.img 4\n",
+           words=["--image", "/dev/sda=x/disk.img"]),
+    parted(head("disk2") + part("disk2p2"), "a: 0 8 linear /dev/nvme0n1p2 4\n",
+           "disk2p2: 0 16384 linear disk2 2048\na: 0 8 linear /dev/mapper/disk2p2 4\n", words=["--image", "/dev/nvme0n1=disk2"]),
+    parted(PART, "a: 0 8 linear /dev/disk/by-id/ata-X2-part1 4\n", SDA1 + ON_SDA1, words=["--image", "/dev/disk/by-id/ata-X2=/dev/sda"]),
+    # Numbers and paths are the same disk.
+    known(ON, SDA1 + ON_SDA1, "/dev/sda 20480\n"),
+    known(ON.replace("/dev/sda1", "8:1"), SDA1 + ON_SDA1, "/dev/sda 20480\n"),
+    known(ON.replace("/dev/sda1", "8:1") + "b: 0 24 striped 3 8 8:0 0 /dev/sda 8 253:7 0\n",
+          SDA1 + ON_SDA1 + "b: 0 24 striped 3 8 /dev/sda 0 /dev/sda 8 /dev/dm-7 0\n", "/dev/sda 20480\n/dev/dm-7 16\n"),
+    known(ON.replace("/dev/sda1", "8:1"), "disk.img1: 0 16384 linear disk.img 2048\na: 0 8 linear /dev/mapper/disk.img1 4\n", "disk.img 20480\n",
+          text=head("disk.img") + part("disk.img1"), words=["--image", "/dev/sda=disk.img"]),
+    unknown("/dev/sda1: " + DIFFER, lsblk=LSBLK.replace("8388608", "4194304")),
+    unknown("1: no length of /dev/sda", lsblk=LSBLK.replace("8:0 10485760 sda \n", "")),
+    unknown("1: no length of /dev/sdz", ON + "b: 0 8 linear /dev/sdz 0\n"),
+    no_parts(PART + "label: dos\ndevice: /dev/sdb\n" + part("/dev/sdb1"), "1:11: how many bytes has a sector? --bytes"),
+    no_parts(head("/dev/sda", "1000") + part("/dev/sda1"), "1:8: 1000 bytes are no whole sectors"),
+    no_parts("label: dos\nunit: cylinders\n", "1:2: not a line of `sfdisk -d`, in sectors: unit: cylinders"),
+    no_parts(head("/dev/sda", "x"), "1:6: not a line of `sfdisk -d`, in sectors: sector-size: x"),
+    no_parts(head("/dev/sda") + "/dev/sda1 : start=2048, size=8MiB\n",
+             "1:8: not a line of `sfdisk -d`, in sectors: /dev/sda1 : start=2048, size=8MiB"),
+    no_parts(part("/dev/sda1"), "1:1: no partition of the disk None: /dev/sda1"),
+    no_parts(head("/dev/sda") + part("/dev/sdb1"), "1:8: no partition of the disk /dev/sda: /dev/sdb1"),
+    no_parts(head("a b") + part("a b1"), "1:8: no partition of the disk a b: a b1"),
+    no_parts(PART + part("/dev/sda1"), "/dev/sda1: its name is taken, or none of a device"),
+    no_parts(PART, "/dev/sda1: its name is taken, or none of a device", "sda1: 0 8 linear /dev/sda1 0\n"),
+    no_parts(head("x/s!") + part("x/s!1"), "x/s!1: its name is taken, or none of a device"),
+    no_parts(PART, "2: " + NO_LINE, "a: 0 8 linear /dev/sdb1 0\n"),
+    no_parts(PART, "2: " + NO_LINE, ""),
+    no_parts(PART, "b.img: no text of `sfdisk -d` is of this image", words=["--image", "/dev/sda=b.img"]),
+]
+# Tables that no such script can read: each with its message.
+ROWS += [no_parts(PART, "2:1: " + message, tables) for tables, message in [
+    ("No devices found\n", "not a line of a table: "),
+    ("a: 0 8k linear /dev/sda1 0\n", "not a line of a table: 0 8k linear /dev/sda1 0"),
+    ("a: 0 8\n", "not a line of a table: 0 8"),
+    ("a: 0 8 linear /dev/sda1\n", "no line that dmremap reads: 0 8 linear /dev/sda1"),
+    ("a: 0 8 linear /dev/sda1 -1\n", "no line that dmremap reads: 0 8 linear /dev/sda1 -1"),
+    ("a: 0 8 crypt x y 0 /dev/sda1 0\n", "no line that dmremap reads: 0 8 crypt x y 0 /dev/sda1 0"),
+    ("a: 0 8 snapshot /dev/sda1 /dev/sda2 PO 8\n", "a snapshot of another kind: 0 8 snapshot /dev/sda1 /dev/sda2 PO 8"),
+    ("a: 0 8 striped 2 4 /dev/sda1 0\n", "no line that dmremap reads: 0 8 striped 2 4 /dev/sda1 0"),
+    ("a: 0 8 striped 0 4\n", "no line that dmremap reads: 0 8 striped 0 4"),
+    ("a: 0 8 striped 3 2 d 0 d 8 d 16\n", "stripes that don't divide it: 0 8 striped 3 2 d 0 d 8 d 16"),
+    ("a: 0 8 striped 1 0 d 0\n", "stripes that don't divide it: 0 8 striped 1 0 d 0"),
+    ("a,,,0 8 zero\n", "not a device of concise text: a,,,0 8 zero"),
+    ("a,,,xx,0 8 zero\n", "not a device of concise text: a,,,xx,0 8 zero"),
+    ("a,,,rw\n", "not a device of concise text: a,,,rw"),
+    ("a,,,rw,0 8 zer\n", "no line that dmremap reads: 0 8 zer"),
+]]
