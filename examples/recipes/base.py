@@ -183,6 +183,14 @@ def line_of(place, text):
     return line
 
 
+def mapper_path(path):
+    """The path /dev/mapper/NAME of a volume that is given as /dev/VG/LV; others stay."""
+    parts = path.split("/")
+    if len(parts) == 4 and path.startswith("/dev/") and parts[2] != "mapper":
+        return "/dev/mapper/" + "-".join(it.replace("-", "--") for it in parts[2:])
+    return path
+
+
 def text_of(devices, is_concise):
     """Devices as table text or in the concise form, as dmremap reads it."""
     if is_concise:

@@ -253,10 +253,6 @@ LAYOUTS = [
          "d 0 4 free\nd 4 8 a 0 linear\nd 6 7 b 0 linear\nd 8 9 free\ne 0 5 free\n"),
     bad("free", [], ["d 4 8 a\n"], "1:1: not a line of spans.awk: d 4 8 a"),
     bad("clashes", [], ["d 8 4 a 0 linear\n"], "1:1: not a line of spans.awk: d 8 4 a 0 linear"),
-    good("owner", [], ["a: 0 16 striped 2 4 d 0 d 100\n", "d 103\nd 7\nd 8\ne 0\n"], "d 103 = a 7\nd 7 = a 11\nd 8\ne 0\n"),
-    bad("owner", [], ["a: 0 8 linear d 0\n", "d 1 2\n"], "2:1: not DISK SECTOR: d 1 2"),
-    bad("owner", [], ["a: 0 8 linear d 0\n", "d 0x1\n"], "2:1: no number that awk is exact with: '0x1'"),
-    bad("owner", [], ["0 8 linear d 0\n", "d 1\n"], "1:1: not table text: 0 8 linear d 0"),
     good("tree", [], ["a: 0 8 striped 2 4 /dev/mapper/b 0 /dev/mapper/b 4\nb: 0 8 linear d 0\nc: 0 8 linear /dev/mapper/a 0\n"],
          "c\n+- 0 8 linear /dev/mapper/a 0\n|    a\n|    +- 0 8 striped 2 4 /dev/mapper/b 0 /dev/mapper/b 4\n"
          "|    |    b\n|    |    +- 0 8 linear d 0\n"),
@@ -271,10 +267,6 @@ LAYOUTS += [bad("spans", [], ["d 64\n", line], "2:1: " + message + line[:-1]) fo
     ("a: 0 8 striped 2 2 d 0\n", "no stripes: "),
     ("a: 0 8 striped 0 2\n", "no stripes: "),
 ]]
-LAYOUTS += [
-    bad("owner", [], ["a: 0 8k linear d 0\n", "d 1\n"], "1:1: no number that awk is exact with: '8k'"),
-    bad("owner", [], ["a: 0 8 linear d x\n", "d 1\n"], "2:1: no number that awk is exact with: 'x'"),
-]
 LAYOUTS += [bad(script, [], ["a 0 8 zero\n"], "1:1: not table text: a 0 8 zero") for script in ("tree", "dot")]
 
 ROWS = FILEFRAG + DEBUGFS + TRACE + LOGS + ELSEWHERE + ANSWERED + LAYOUTS

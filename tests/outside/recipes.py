@@ -13,6 +13,7 @@ import shutil
 import sys
 
 import machine_rows
+import owner_rows
 import partition_rows
 from harness import run
 from origins import SHARING, claims, disks_of, small_stack, tidiness
@@ -28,7 +29,12 @@ PYTHON = [
     ("partitions.py", ["--lsblk", "%s", "--disks", "disks", "sfdisk", "tables"], "disks"),
     ("partitions.py", ["%s", "tables"], None),
     ("partitions.py", ["/dev/null", "%s"], None),
+    ("owner.py", ["%s", "/dev/null"], None),
+    ("owner.py", ["/dev/null", "%s"], None),
+    ("files.py", ["--volume", "v", "%s", "image"], None),
 ]
+# What a block of the document needs, if it has this word.
+NEEDED = [("jq", "jq"), ("files.py", "debugfs")]
 BLOCK = re.compile(r"^```(\w*)\n(.*?)^```$", re.M | re.S)
 STACKS = 12
 
@@ -37,12 +43,13 @@ def check(tally, program, top):
     scripts = os.path.join(top, "examples", "recipes")
     check_document(tally, program, top)
     check_samples(tally, program, scripts)
-    for row in ROWS + machine_rows.ROWS + partition_rows.ROWS:
+    for row in ROWS + machine_rows.ROWS + partition_rows.ROWS + owner_rows.ROWS:
         check_row(tally, program, scripts, *row)
     check_machines(tally, program)
     check_missing(tally, program, scripts)
     check_refusal(tally, program)
     check_read_back(tally, program, scripts)
+    check_files(tally, program, scripts)
     for seed in range(STACKS):
         check_stack(tally, program, scripts, random.Random(seed))
 
@@ -58,8 +65,9 @@ def check_document(tally, program, top):
         if language != "sh":
             continue
         name = "the recipe %r" % commands.splitlines()[-1]
-        if commands.startswith("jq") and not shutil.which("jq"):
-            tally.skip(name, "there is no jq")
+        lost = [tool for word, tool in NEEDED if word in commands and not shutil.which(tool)]
+        if lost:
+            tally.skip(name, "there is no " + lost[0])
             continue
         got = run(["sh", "-c", commands], folder=folder, env=dict(os.environ, r="examples/recipes"))
         shown = (got.err + got.out).decode()
@@ -177,6 +185,58 @@ def check_read_back(tally, program, scripts):
     tally.same("places of extents that were refused", got, 1, "refused\n", "places:1: not PLACES of filefrag.awk or debugfs.awk\n")
 
 
+def check_files(tally, program, scripts):
+    """The files of sectors: of the sample, of what is no file system, and of one that is made here."""
+    lost = [it for it in ("mke2fs", "debugfs") if not shutil.which(it)]
+    if lost:
+        tally.skip("files of sectors", "there is no " + lost[0])
+        return
+    sample = os.path.join(scripts, "samples", "home.img")
+
+    def files(owners, *words):
+        return run(python_words(scripts, "files.py") + ["--volume"] + list(words[:1]) + [program.file("files/owners", owners)] + list(words[1:]))
+
+    owned = "d 0 = home 46\nd 0 5 = sda1 8 = home 46 = top 4\nd 9 1 = other 1\nd 9 2\nd 1 2 = in the store of home\nd 0 4 = home 0 until it is copied = t 1\n"
+    others = "left out: 5 sectors that are not of home\n"
+    tally.same("files", files(owned, "home", sample), 0, "home 46 1 /numbers.txt\nhome 46 5 /numbers.txt\nhome 0 4 in use\n", others)
+    tally.same("files of /dev/home/x", files(owned.replace("home", "home-x"), "/dev/home/x", sample), 0,
+               "home-x 46 1 /numbers.txt\nhome-x 46 5 /numbers.txt\nhome-x 0 4 in use\n", others.replace("home", "home-x"))
+    tally.same("files across blocks", files("d 1 12 = home 51\n", "home", sample), 0,
+               "home 51 1 /numbers.txt\nhome 52 2 /old\nhome 54 4 /old/copy.txt\nhome 54 4 /old/list.txt\nhome 58 2 /report.odt\nhome 60 3 unused\n")
+    tally.same("files of a damaged system", files("d 1 12 = home 51\n", "home", sample, "--damaged"), 0,
+               "home 51 1 /numbers.txt\nhome 52 2 /old\nhome 54 4 /old/copy.txt\nhome 54 4 /old/list.txt\nhome 58 2 /report.odt\nhome 60 3 no file\n")
+    tally.same("files of no volume", files(owned, "top2", sample), 1, "refused\n", program.file("files/owners") + ": no sector of top2\n")
+    tally.same("files of no owners", files("home 46\nhome\n", "home", sample), 1, "refused\n",
+               program.file("files/owners") + ":2: not a line of owner.py: home\n")
+    tally.same("files of too much", files("d 0 9000000 = home 0\n", "home", sample), 1, "refused\n",
+               program.file("files/owners") + ": more than 1000000 blocks\n")
+    for image in (program.file("files/none", bytes(100000)), os.path.join(program.room, "nowhere")):
+        got = files(owned, "home", image)
+        tally.holds("files of " + os.path.basename(image), got.status == 1 and got.out == b"refused\n" and b"debugfs says: " in got.err, got.err)
+    check_made_files(tally, program, scripts, files)
+
+
+def check_made_files(tally, program, scripts, files):
+    """A file system on a volume of several pieces: each block of its files, mapped to a disk, leads back to its file."""
+    for name, size in (("a", 1), ("b c", 70000), ("d/e", 300000), ("d/f", 5000)):
+        program.file("made/" + name, os.urandom(size))
+    image = os.path.join(program.room, "made.img")
+    made = run(["mke2fs", "-q", "-t", "ext4", "-b", "1024", "-d", os.path.join(program.room, "made"), image, "8M"])
+    if not tally.holds("a file system is made", made.status == 0, made.err):
+        return
+    table, disks = "v: 0 8192 striped 2 64 sda 100 sdb 0\nv: 8192 8192 linear sda 5000\n", "sda 20000\nsdb 5000\n"
+    source = program.file("made.table", table)
+    for name in ("a", "b c", "d/e", "d/f"):
+        blocks = run(["debugfs", "-R", 'blocks "/%s"' % name, image]).out.decode().split()
+        asked = "".join("R v %d 2\n" % (2 * int(it)) for it in blocks)
+        pieces = program.map(table, disks, asked).out.decode().splitlines()
+        given = "".join(" ".join(it.split()[2:]) + "\n" for it in pieces)
+        owned = run(python_words(scripts, "owner.py") + [source], given=given).out.decode()
+        got = files(owned, "v", image)
+        wanted = "".join("v %d 2 /%s\n" % (2 * int(it), name) for it in blocks)
+        tally.holds("the blocks of %s" % name, blocks and got.status == 0 and got.out.decode() == wanted, "%r, %r" % (got.out[:200], got.err))
+
+
 def read(path):
     with open(path, "rb") as it:
         return it.read()
@@ -190,6 +250,8 @@ def check_stack(tally, program, scripts, dice):
     awk = dice.choice(AWKS)
 
     def script(name, *inputs, given="", variables=()):
+        if name.endswith(".py"):
+            return run(python_words(scripts, name) + list(inputs), given=given)
         return run(awk + [it for pair in variables for it in ("-v", pair)] + script_words(scripts, name) + list(inputs),
                    given=given)
 
@@ -202,9 +264,14 @@ def check_stack(tally, program, scripts, dice):
     tally.holds("whether there are any", tidiness(stack).startswith(said), "the rules say %s" % tidiness(stack))
     places = [(disk, at) for disk, length in stack.disks.items() for at in range(length)]
     given = "".join("%s %d\n" % it for it in places)
-    found = sorted(set(script("owner", tables, "-", given=given).out.decode().splitlines()))
+    found = sorted(set(script("owner.py", tables, given=given).out.decode().splitlines()))
     wanted = sorted(set(line for disk, at in places for line in owners(stack, disk, at, "%s %d" % (disk, at))))
     tally.holds("the owners in " + concise(stack), found == wanted, difference(found, wanted))
+    # The same for the whole of each disk at once.
+    given = "".join("%s 0 %d\n" % it for it in stack.disks.items())
+    lines = script("owner.py", source, given=given).out.decode().splitlines()
+    found = sorted(set(line for it in lines for line in each_sector(it)))
+    tally.holds("the owners of all in " + concise(stack), found == wanted, difference(found, wanted))
     for name in stack.tables:
         asked = script("whole", tables, variables=["volume=" + name]).out
         answers = program.run(["map", "concise", source, disks], given=asked).out
@@ -242,6 +309,16 @@ def owners(stack, on, at, path):
                 yield from owners(stack, "/dev/mapper/" + name, sector, "%s = %s %d%s" % (path, name, sector, beside))
     if not found:
         yield path
+
+
+def each_sector(line):
+    """A line of owner.py about several sectors, as those about one."""
+    first, *steps = line.split(" = ")
+    disk, sector, count = first.split(" ")
+    for further in range(int(count)):
+        moved = [re.sub(r"^(\S+) (\d+)", lambda it: "%s %d" % (it[1], int(it[2]) + further), step)
+                 if not step.startswith("in the store") else step for step in steps]
+        yield " = ".join(["%s %d" % (disk, int(sector) + further)] + moved)
 
 
 def extents(units):
