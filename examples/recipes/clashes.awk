@@ -1,7 +1,7 @@
-# All clashes, of which `check` prints one: from what spans.awk prints, on what, the first and the last
+# All clashes, of which `check` prints one: from what spans.py prints, on what, the first and the last
 # sector that two lines have in common, and their devices.
 #     awk -f examples/recipes/base.awk -f examples/recipes/clashes.awk spans
-NF != 6 || number($2) > number($3) { refuse("not a line of spans.awk: " $0) }
+NF != 6 || number($2) > number($3) { refuse("not a line of spans.py: " $0) }
 $6 == "end" { next }
 $1 != on { on = $1; count = 0 }
 {

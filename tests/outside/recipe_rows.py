@@ -241,18 +241,48 @@ ANSWERED += [
 
 # Layouts.
 
+METADATA = """\
+# a text of lvm2
+g {
+\tflags = []\n\tdescription = "a \\"{\\" # b"
+\tphysical_volumes {
+\t\tpv0 {\n\t\t\tdevice = "/dev/mapper/c"\t# Hint only {\n\t\t\tpe_start = 10\n\t\t}
+\t\tpv1 {\n\t\t\tdevice = "[unknown]"\n\t\t\tpe_start = 12\n\t\t}
+\t\tpv2 {\n\t\t\tdevice = "/dev/sdz"\n\t\t\tpe_start = 14\n\t\t}
+\t}
+\tlogical_volumes { v { physical_volumes { x { pe_start = 1 } } } }
+}
+"""
+
+
+def spanned(inputs, output, message=""):
+    return good("spans.py", [], inputs, output, message)
+
+
 LAYOUTS = [
-    good("spans", [], ["d 64\n", "a: 0 8 linear d 4\na: 8 16 striped 2 4 d 0 d 32\ns: 0 24 snapshot /dev/mapper/a d K 8\n"
-                       "o: 0 24 snapshot-origin /dev/mapper/a\n"],
-         "/dev/mapper/a 0 24 o 0 snapshot-origin\n/dev/mapper/a 0 24 s 0 origin\n/dev/mapper/a 24 24 - - end\n"
-         "d 0 8 a 8 striped\nd 0 64 s 0 store\nd 4 12 a 0 linear\nd 32 40 a 8 striped\nd 64 64 - - end\n"),
-    bad("spans", [], ["d 64\n", "a: 0 8 linear e 4\n"], "2:1: neither a disk nor a device: e"),
-    bad("spans", [], ["d 64\n", "0 8 linear d 4\n"], "2:1: not table text: 0 8 linear d 4"),
-    bad("spans", [], ["d 64\n"], "1:1: DISKS and tables are needed, neither of them empty"),
+    spanned(["d 64\n", "a: 0 8 linear d 4\na: 8 16 striped 2 4 d 0 d 32\ns: 0 24 snapshot /dev/mapper/a d K 8\n"
+             "o: 0 24 snapshot-origin /dev/mapper/a\n"],
+            "/dev/mapper/a 0 24 o 0 snapshot-origin\n/dev/mapper/a 0 24 s 0 origin\n/dev/mapper/a 24 24 - - end\n"
+            "d 0 8 a 8 striped\nd 0 64 s 0 store\nd 4 12 a 0 linear\nd 32 40 a 8 striped\nd 64 64 - - end\n"),
+    spanned(["d 64\n", "a,,,rw,0 8 striped 2 4 d 4 d 4,8 4 zero\n"], "d 4 8 a 0 striped\nd 4 8 a 0 striped\nd 64 64 - - end\n"),
+    spanned(["d 9\ne 10\n", ""], "d 9 9 - - end\ne 10 10 - - end\n"),
+    # What physical volumes have for themselves, on a disk and on a device, by path and by key.
+    spanned(["/dev/sda 64\npv1 64\n", "c: 0 60 linear /dev/sda 4\nv: 0 8 linear /dev/mapper/c 10\n", METADATA],
+            "/dev/mapper/c 0 10 g - label+metadata\n/dev/mapper/c 10 18 v 0 linear\n/dev/mapper/c 60 60 - - end\n"
+            "/dev/sda 4 64 c 0 linear\n/dev/sda 64 64 - - end\npv1 0 12 g - label+metadata\npv1 64 64 - - end\n",
+            "left out: the physical volume pv2 (/dev/sdz), which is neither a disk nor a device here\n"),
+    bad("spans.py", [], ["d 64\n", "", "g { physical_volumes { p { device = \"d\" } } }\n"], "3: no pe_start of p"),
+    bad("spans.py", [], ["d 64\n", "", "g { extent_size = 8 }\n"], "3: no physical volumes"),
+    bad("spans.py", [], ["d 64\n", "", "g { x = \"\n"], "3: not the metadata of a group"),
+    bad("spans.py", [], ["d 64\n", "a: 0 8 linear e 4\n"], "e: neither a disk nor a device"),
+    bad("spans.py", [], ["d 64 8\n", ""], "1:1: not a line of DISKS: d 64 8"),
+    bad("spans.py", [], ["d 64k\n", ""], "1:1: not a line of DISKS: d 64k"),
     good("free", [], ["d 4 8 a 0 linear\nd 6 7 b 0 linear\nd 9 9 - - end\ne 5 5 - - end\n"],
-         "d 0 4 free\nd 4 8 a 0 linear\nd 6 7 b 0 linear\nd 8 9 free\ne 0 5 free\n"),
-    bad("free", [], ["d 4 8 a\n"], "1:1: not a line of spans.awk: d 4 8 a"),
-    bad("clashes", [], ["d 8 4 a 0 linear\n"], "1:1: not a line of spans.awk: d 8 4 a 0 linear"),
+         "d 0 4 unnamed\nd 4 8 a 0 linear\nd 6 7 b 0 linear\nd 8 9 unnamed\ne 0 5 unnamed\n"),
+    good("free", [], ["d 0 12 g - label+metadata\nd 64 64 - - end\n"], "d 0 12 g - label+metadata\nd 12 64 unnamed\n"),
+    good("clashes", [], ["d 0 12 g - label+metadata\nd 8 16 a 0 linear\nd 64 64 - - end\n"], "d 8 11 g a\n"),
+    bad("free", [], ["d 4 8 a\n"], "1:1: not a line of spans.py: d 4 8 a"),
+    bad("clashes", [], ["d 8 4 a 0 linear\n"], "1:1: not a line of spans.py: d 8 4 a 0 linear"),
     good("tree", [], ["a: 0 8 striped 2 4 /dev/mapper/b 0 /dev/mapper/b 4\nb: 0 8 linear d 0\nc: 0 8 linear /dev/mapper/a 0\n"],
          "c\n+- 0 8 linear /dev/mapper/a 0\n|    a\n|    +- 0 8 striped 2 4 /dev/mapper/b 0 /dev/mapper/b 4\n"
          "|    |    b\n|    |    +- 0 8 linear d 0\n"),
@@ -262,11 +292,6 @@ LAYOUTS = [
     good("whole", ["volume=a"], ["a: 0 8 zero\nb: 0 9 zero\na: 8 2000000 zero\n"], "R a 0 1048576\nR a 1048576 951432\n"),
     bad("whole", ["volume=c"], ["a: 0 8 zero\n"], "1:1: no device c"),
 ]
-LAYOUTS += [bad("spans", [], ["d 64\n", line], "2:1: " + message + line[:-1]) for line, message in [
-    ("a: 0 8 striped 3 2 d 0 d 8 d 16\n", "no stripes: "),
-    ("a: 0 8 striped 2 2 d 0\n", "no stripes: "),
-    ("a: 0 8 striped 0 2\n", "no stripes: "),
-]]
 LAYOUTS += [bad(script, [], ["a 0 8 zero\n"], "1:1: not table text: a 0 8 zero") for script in ("tree", "dot")]
 
 ROWS = FILEFRAG + DEBUGFS + TRACE + LOGS + ELSEWHERE + ANSWERED + LAYOUTS

@@ -29,6 +29,9 @@ PYTHON = [
     ("partitions.py", ["--lsblk", "%s", "--disks", "disks", "sfdisk", "tables"], "disks"),
     ("partitions.py", ["%s", "tables"], None),
     ("partitions.py", ["/dev/null", "%s"], None),
+    ("spans.py", ["%s", "tables"], None),
+    ("spans.py", ["/dev/null", "%s"], None),
+    ("spans.py", ["/dev/null", "/dev/null", "%s"], None),
     ("owner.py", ["%s", "/dev/null"], None),
     ("owner.py", ["/dev/null", "%s"], None),
     ("files.py", ["--volume", "v", "%s", "image"], None),
@@ -255,7 +258,7 @@ def check_stack(tally, program, scripts, dice):
         return run(awk + [it for pair in variables for it in ("-v", pair)] + script_words(scripts, name) + list(inputs),
                    given=given)
 
-    spans = program.file("stack/spans", script("spans", disks, tables).out)
+    spans = program.file("stack/spans", script("spans.py", disks, dice.choice([tables, source])).out)
     got = script("clashes", spans)
     wanted = clashes(stack)
     found = sorted(got.out.decode().splitlines())

@@ -1,0 +1,116 @@
+"""What lies where: each range of a disk or a device that a line of a stack uses, sorted.
+
+    python3 examples/recipes/spans.py DISKS FILE [METADATA..]
+
+FILE is table text or concise text, of a stack that dmremap loads. A line that is printed says on what, the first
+sector, the sector after the last, the device whose line it is, the sector of it that the line begins at, and as
+what. A line with `end` says where a disk or a device ends. With the metadata of volume groups there is a line
+with `label+metadata` for each physical volume: what it has before its extents, for itself.
+"""
+
+import argparse
+import re
+import sys
+
+sys.dont_write_bytecode = True
+
+import base
+
+DISK_LINE = re.compile(r"(\S+) (0|[1-9]\d{0,18})")
+# White space, a comment, a string, a word or a sign of lvm2's configuration text.
+TOKEN = re.compile(r'\s+|#[^\n]*|("(?:[^"\\]|\\.)*")|([^\s#"{}\[\]=,]+)|([{}\[\]=,])')
+
+
+def settings_in(path):
+    """Each setting of a metadata text: the names of its sections, its own, and what follows the sign."""
+    text = base.read(path)
+    if TOKEN.sub("", text):
+        base.refuse(path, "not the metadata of a group")
+    tokens = [it for it in TOKEN.finditer(text) if it.lastindex]
+    sections, name = [], None
+    for token, after in zip(tokens, tokens[1:]):
+        if token[0] == "{":
+            sections.append(name)
+        elif token[0] == "}":
+            sections = sections[:-1]
+        elif token[0] == "=":
+            yield list(sections), name, after[0].strip('"')
+        elif token[0] not in "[],":
+            name = token[0].strip('"')
+
+
+def physical_volumes(path):
+    """The group of each physical volume, its key and its path, and where its extents begin."""
+    found = {}
+    for sections, name, value in settings_in(path):
+        if sections[1:2] == ["physical_volumes"] and len(sections) == 3 and name in ("device", "pe_start"):
+            found.setdefault((sections[0], sections[2]), {})[name] = value
+    if not found:
+        base.refuse(path, "no physical volumes")
+    for (group, key), of in found.items():
+        if not base.NUMBER.fullmatch(of.get("pe_start", "")):
+            base.refuse(path, "no pe_start of " + key)
+        yield group, key, of.get("device"), int(of["pe_start"])
+
+
+class Spans:
+    """The lines, and how long each disk and each device is."""
+
+    def __init__(self, disks, devices):
+        self.sizes = dict(disks)
+        self.sizes.update(("/dev/mapper/" + it.name, it.end()) for it in devices)
+        self.lines, self.ended = [], list(disks)
+        for device in devices:
+            self.add_device(device)
+
+    def add(self, on, first, end, *words):
+        self.lines.append((on, first, end) + words)
+        if on not in self.ended:
+            self.ended.append(on)
+
+    def add_device(self, device):
+        for line in device.lines:
+            for place, (lower, first, count) in enumerate(line.spans()):
+                if lower not in self.sizes:
+                    base.refuse(lower, "neither a disk nor a device")
+                kind = line.target if line.target != "snapshot" else ("origin", "store")[place]
+                end = self.sizes[lower] if count is None else first + count
+                self.add(lower, first, end, device.name, str(line.start), kind)
+
+    def add_physical(self, group, key, path, start):
+        on = next((it for it in (path, key) if it in self.sizes), None)
+        if on:
+            self.add(on, 0, start, group, "-", "label+metadata")
+        else:
+            base.tell("left out: the physical volume %s (%s), which is neither a disk nor a device here" % (key, path))
+
+
+    def sorted(self):
+        return sorted(self.lines + [(on, self.sizes[on], self.sizes[on], "-", "-", "end") for on in self.ended])
+
+
+def read_disks(path):
+    sizes = {}
+    for number, row in base.rows(path):
+        match = DISK_LINE.fullmatch(row)
+        if not match:
+            base.refuse("%s:%d" % (path, number), "not a line of DISKS: " + row)
+        sizes[match[1]] = int(match[2])
+    return sizes
+
+
+def main():
+    words = argparse.ArgumentParser(description=__doc__, formatter_class=argparse.RawDescriptionHelpFormatter)
+    words.add_argument("disks")
+    words.add_argument("file")
+    words.add_argument("metadata", nargs="*")
+    words = words.parse_args()
+    spans = Spans(read_disks(words.disks), base.read_tables(words.file)[0])
+    for path in words.metadata:
+        for physical in physical_volumes(path):
+            spans.add_physical(*physical)
+    for line in spans.sorted():
+        print(*line)
+
+
+main()
