@@ -34,10 +34,29 @@ function sectors(blocks, bytes) {
     return number(blocks * (bytes / 512))
 }
 
-# The name of a device, as tables and requests have it.
-function device(name) {
-    if (name !~ /^[-A-Za-z0-9#+.:=@_]+$/ || length(name) > 127) refuse("no name of a device: '" name "'")
+# The name of a device, as tables and requests have it, of a name or a path: /dev/mapper/NAME, /dev/VG/LV,
+# or /dev/dm-N, of which only `dmsetup ls` says the name; -v ls=LS has what that prints.
+function device(name,   path) {
+    path = name
+    name = name_of(path)
+    if (name !~ /^[-A-Za-z0-9#+.:=@_]+$/ || length(name) > 127) refuse("no name of a device: '" path "'")
     return name
+}
+
+function name_of(path,   part, line) {
+    if (path ~ /^\/dev\/dm-[0-9]+$/) {
+        if (ls == "") refuse("which device is " path "? -v ls=LS")
+        while ((getline line < ls) > 0) {
+            read_ls(line)
+            minor_name[substr(ls_number, index(ls_number, ":") + 1)] = ls_name
+        }
+        return minor_name[substr(path, 9)]
+    }
+    if (split(path, part, "/") != 4 || path !~ /^\/dev\//) return path
+    if (part[3] == "mapper") return part[4]
+    gsub(/-/, "--", part[3])
+    gsub(/-/, "--", part[4])
+    return part[3] "-" part[4]
 }
 
 # Prints a request, or several where one would be too long, and returns their number. If `places` is
@@ -85,6 +104,16 @@ function check_table_line() {
     number($3)
     if ($4 == "striped" && (number($5) == 0 || $3 % $5 || number($6) == 0 || NF != 6 + 2 * $5)) refuse("no stripes: " $0)
 }
+
+# Table text says which devices there are. Requests to others are left out, and told at the end.
+function keep_device() {
+    check_table_line()
+    is_kept[substr($1, 1, length($1) - 1)] = 1
+}
+
+function leave_request(to) { if (!left[to]++) left_out[++lefts] = to }
+
+function tell_left(   i) { for (i = 1; i <= lefts; i++) tell("left out: " left[left_out[i]] " requests to " left_out[i]) }
 
 # Whether the line is a piece of an answer of `map`.
 function is_piece() {

@@ -11,7 +11,7 @@ part == 1 {
 }
 /^Level Entries +Logical +Physical Length Flags$/ {
     if (!block || listed++) refuse(block ? "more than one file" : "no line 'Block size' of dumpe2fs before this")
-    device(volume)
+    volume = device(volume)
     if (places != "") print "size", number(size) > places
     next
 }

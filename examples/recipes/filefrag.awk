@@ -12,7 +12,7 @@ BEGIN { FS = "[ :.]+" }
 /^Filesystem cylinder groups approximately [0-9]+$/ { next }
 /^File size of .* is [0-9]+ \([0-9]+ blocks? of [0-9]+ bytes\)$/ {
     if (!known || open) refuse("the line comes too early: " $0)
-    device(volume)
+    volume = device(volume)
     open = $0
     sub(/.* is /, "")
     split($0, word, /[ ()]+/)

@@ -1,7 +1,6 @@
-# Requests to device-mapper devices, from two texts: what `dmsetup ls` prints, and a trace of them, which
-# is what `blkparse` or `btrace` prints, or the event block_bio_queue as trace_pipe, `trace-cmd report`
-# and `perf script` print it:
-#     awk -f examples/recipes/base.awk -f examples/recipes/trace.awk ls.txt trace.txt
+# Requests to the devices of table text, from what `dmsetup ls` prints and a trace: that of `blkparse` or
+# `btrace`, or the event block_bio_queue as trace_pipe, `trace-cmd report` and `perf script` print it:
+#     awk -f examples/recipes/base.awk -f examples/recipes/trace.awk ls.txt tables trace.txt
 # With -v times=TIMES, line N of TIMES is the time of request N.
 FNR == 1 { part++ }
 part == 1 {
@@ -10,13 +9,15 @@ part == 1 {
     name[ls_number] = ls_name
     next
 }
+part == 2 { keep_device(); next }
 
 # A request of the trace: the device's number, what is done, first sector, sectors.
 function traced(number_of, what, first, count, time,   n) {
-    if (!(number_of in name)) { others[number_of]++; return }
+    if (!(number_of in name)) { leave_request(number_of ", which dmsetup ls has not"); return }
+    if (!(name[number_of] in is_kept)) { leave_request(name[number_of] " (" number_of "), which the tables have not"); return }
     if (what ~ /^F?[DN][A-Z]*$/) { dropped++; return }
     if (what !~ /^F?[RW][FASM]*$/) refuse("neither a read nor a write: " $0)
-    n = request(what ~ /W/ ? "W" : "R", device(name[number_of]), number(first), number(count))
+    n = request(what ~ /W/ ? "W" : "R", name[number_of], number(first), number(count))
     while (times != "" && n-- > 0) print time > times
     fflush()
 }
@@ -41,6 +42,6 @@ function traced(number_of, what, first, count, time,   n) {
 
 END {
     if (!events) refuse("no request in the trace")
-    for (number_of in others) tell("left out: " others[number_of] " requests to " number_of ", which dmsetup ls has not")
+    tell_left()
     if (dropped) tell("left out: " dropped " requests that are neither reads nor writes")
 }

@@ -55,6 +55,7 @@ FILEFRAG = [
     good("filefrag", V, [frag(WHOLE, 1024) + frag(WHOLE, 8192, 4096)], "R v 8 2\nR v 64 16\n"),
     bad("filefrag", ["volume=v", "places=places"], [frag(WHOLE, 1024) + frag(WHOLE, 1024)],
         "1:7: PLACES is of one file", "R v 8 2\n"),
+    good("filefrag", ["volume=/dev/vg-0/lv"], [frag(WHOLE, 1024)], "R vg--0-lv 8 2\n"),
     bad("filefrag", [], [frag(WHOLE, 1024)], "1:2: no name of a device: ''"),
     bad("filefrag", ["volume=v w"], [frag(WHOLE, 1024)], "1:2: no name of a device: 'v w'"),
     no_frags("\n", "1: not a line of filefrag -v: "),
@@ -112,6 +113,7 @@ def ex(lines, message=None, output="", block=4096, variables=V, said=""):
 DEBUGFS = [
     ex(LEAF, output="R v 16560 17584\n"),
     ex(LEAF, output="R v 4140 4396\n", block=1024),
+    ex(LEAF, output="R vg--0-lv 16560 17584\n", variables=["volume=/dev/vg-0/lv"]),
     ex(LEAF, output="R v 264960 281344\n", block=65536),
     ex(" 0/ 1   1/  2     0 -  9  16            10\n 1/ 1   1/  1     0 -  9  20 -  29   10 \n"
        " 0/ 1   2/  2    10 -  19  17            10\n 1/ 1   1/  1    10 -  19  50 -  59   10 Uninit\n",
@@ -130,16 +132,17 @@ DEBUGFS = [
 
 # Requests of traces, logs and bytes.
 
-LS = "vg0-lv0\t(253:0)\nvg0-lv--1\t(253:1)\n"
+LS = "vg0-lv0\t(253:0)\nvg0-lv--1\t(253:1)\nmy disk\t(253:2)\nvg0-thin\t(253:3)\n"
+KEPT = "vg0-lv0: 0 8 zero\nvg0-lv0: 8 8 error\nvg0-lv--1: 0 8 zero\n"
 QUEUED = "253,0    0        7     0.000000000  4101  Q %s [fio]\n"
 
 
-def traced(lines, output="", message="", names=LS):
-    return good("trace", [], [names, lines], output, message)
+def traced(lines, output="", message="", names=LS, tables=KEPT):
+    return good("trace", [], [names, tables, lines], output, message)
 
 
-def no_trace(lines, message, output="", names=LS):
-    return bad("trace", [], [names, lines], message, output)
+def no_trace(lines, message, output="", names=LS, tables=KEPT):
+    return bad("trace", [], [names, tables, lines], message, output)
 
 
 TRACE = [
@@ -147,38 +150,70 @@ TRACE = [
     traced(QUEUED % "FWS 8 + 16" + QUEUED % "WFS 24 + 8" + QUEUED % " RA 0 + 8", "W vg0-lv0 8 16\nW vg0-lv0 24 8\nR vg0-lv0 0 8\n"),
     traced((QUEUED % "  R 8 + 16").replace("[fio]", "[Q R 0 + 8 a]"), "R vg0-lv0 8 16\n"),
     traced((QUEUED % "  R 8 + 16").replace("253,0 ", "  8,0 "), "", "left out: 1 requests to 8,0, which dmsetup ls has not\n"),
-    traced(QUEUED % "  R 8 + 16", "R a 8 16\n", names="a\t(253, 0)\n"),
+    traced(QUEUED % "  R 8 + 16", "R a 8 16\n", names="a\t(253, 0)\n", tables="a: 0 8 zero\n"),
+    # Devices that were left out are told, in the order in which they come.
+    traced("".join((QUEUED % "  R 8 + 16").replace("253,0", "253,%d" % it) for it in (3, 0, 2, 3, 1, 9)),
+           "R vg0-lv0 8 16\nR vg0-lv--1 8 16\n", "left out: 2 requests to vg0-thin (253,3), which the tables have not\n"
+           "left out: 1 requests to my disk (253,2), which the tables have not\nleft out: 1 requests to 253,9, which dmsetup ls has not\n"),
+    no_trace(QUEUED % "  R 8 + 16", "2:1: not table text: No devices found", tables="No devices found\n"),
+    no_trace(QUEUED % "  R 8 + 16", "3:1: not table text: " + (QUEUED % "  R 8 + 16")[:-1], tables=""),
     traced(QUEUED % "  D 8 + 16" + QUEUED % "  N 8 + 16", "", "left out: 2 requests that are neither reads nor writes\n"),
     traced(QUEUED % "  R 0 + 1048577", "R vg0-lv0 0 1048576\nR vg0-lv0 1048576 1\n"),
     traced("  fio-1 [002] ..... 12.5: block_bio_queue: 253,1 RA 8 + 16 [x]\n", "R vg0-lv--1 8 16\n"),
     traced("fio 1 [002] 12.5: block:block_bio_queue: 253,1 W 8 + 16 [x]\n", "W vg0-lv--1 8 16\n"),
     traced("  fio-1 [002] ..... 12.5: block_bio_queue: 253,1 FF 0 + 0 [x]\n"),
     traced(QUEUED % "  R 8 + 16" + "CPU0 (253,0):\n Reads Queued:           1,        8KiB\nSkips: 0 forward (0 -   0.0%)\n", "R vg0-lv0 8 16\n"),
-    no_trace(QUEUED % "  R 8 + 16" + "Skips: 2 forward (9 -   1.0%)\n", "2:2: events were lost: Skips: 2 forward (9 -   1.0%)", "R vg0-lv0 8 16\n"),
-    no_trace("CPU:3 [LOST 12 EVENTS]\n", "2:1: events were lost: CPU:3 [LOST 12 EVENTS]"),
-    no_trace("CPU:3 [12 EVENTS DROPPED]\n", "2:1: events were lost: CPU:3 [12 EVENTS DROPPED]"),
-    no_trace(QUEUED % " ZA 8 + 16", "2:1: neither a read nor a write: " + (QUEUED % " ZA 8 + 16")[:-1]),
-    no_trace(QUEUED % "  R 8 / 16", "2:1: not a form of the event: " + (QUEUED % "  R 8 / 16")[:-1]),
-    no_trace(QUEUED % "  R 9007199254740993 + 1", "2:1: no number that awk is exact with: '9007199254740993'"),
-    no_trace("12.5: block_bio_queue: 253,1 R 8 [x]\n", "2:1: not a form of the event: 12.5: block_bio_queue: 253,1 R 8 [x]"),
-    no_trace("hello\n", "2:1: no request in the trace"),
+    no_trace(QUEUED % "  R 8 + 16" + "Skips: 2 forward (9 -   1.0%)\n", "3:2: events were lost: Skips: 2 forward (9 -   1.0%)", "R vg0-lv0 8 16\n"),
+    no_trace("CPU:3 [LOST 12 EVENTS]\n", "3:1: events were lost: CPU:3 [LOST 12 EVENTS]"),
+    no_trace("CPU:3 [12 EVENTS DROPPED]\n", "3:1: events were lost: CPU:3 [12 EVENTS DROPPED]"),
+    no_trace(QUEUED % " ZA 8 + 16", "3:1: neither a read nor a write: " + (QUEUED % " ZA 8 + 16")[:-1]),
+    no_trace(QUEUED % "  R 8 / 16", "3:1: not a form of the event: " + (QUEUED % "  R 8 / 16")[:-1]),
+    no_trace(QUEUED % "  R 9007199254740993 + 1", "3:1: no number that awk is exact with: '9007199254740993'"),
+    no_trace("12.5: block_bio_queue: 253,1 R 8 [x]\n", "3:1: not a form of the event: 12.5: block_bio_queue: 253,1 R 8 [x]"),
+    no_trace("hello\n", "3:1: no request in the trace"),
     no_trace("hello\n", "1:1: not a line of dmsetup ls: No devices found", names="No devices found\n"),
-    no_trace(QUEUED % "  R 8 + 16", "2:1: no name of a device: 'a\\x20b'", names="a\\x20b\t(253:0)\n"),
+    traced(QUEUED % "  R 8 + 16", "", "left out: 1 requests to a\\x20b (253,0), which the tables have not\n", names="a\\x20b\t(253:0)\n"),
 ]
 
 FIO = "fio version 2 iolog\n/dev/mapper/a add\n/dev/mapper/a open\n"
+
+
+def logged(log, output, message="", variables=(), before=()):
+    return good("fio", list(variables), list(before) + ["a: 0 8 zero\nb--c-d: 0 8 zero\n", log], output, message)
+
+
+def no_log(log, message, output=""):
+    return bad("fio", [], ["a: 0 8 zero\n", log], message, output)
+
+
 LOGS = [
-    good("fio", [], [FIO + "/dev/mapper/a read 4096 8192\n/dev/mapper/a trim 0 512\n/dev/mapper/a sync 0 0\n"
-                     "/dev/mapper/a wait 5 0\n/dev/mapper/a write 0 1\n/dev/mapper/a close\n"],
-         "R a 8 16\nW a 0 1\n", "left out: 1 trims\n"),
-    good("fio", [], ["fio version 3 iolog\n1 /dev/mapper/a read 4095 2\n2 /dev/mapper/a datasync 0 0\n"], "R a 7 2\n"),
-    bad("fio", [], ["fio version 1 iolog\n"], "1:1: not the first line of a log: fio version 1 iolog"),
-    bad("fio", [], [FIO + "/dev/sda read 0 512\n"], "1:4: no device-mapper name: /dev/sda"),
-    bad("fio", [], [FIO + "1 /dev/mapper/a read 0 512\n"], "1:4: not a line of a log: 1 /dev/mapper/a read 0 512"),
-    bad("fio", [], [FIO.replace("2", "3")], "1:2: not a line of a log: /dev/mapper/a add"),
-    bad("fio", [], [FIO + "/dev/mapper/a read 0\n"], "1:4: not a line of a log: /dev/mapper/a read 0"),
-    bad("fio", [], [FIO + "/dev/mapper/a read 0 4k\n"], "1:4: no number that awk is exact with: '4k'"),
-    bad("fio", [], [FIO + "/dev/mapper/a write 9007199254740991 1\n"], "1:4: no number that awk is exact with: '9007199254740992'"),
+    logged(FIO + "/dev/mapper/a read 4096 8192\n/dev/mapper/a trim 0 512\n/dev/mapper/a sync 0 0\n"
+           "/dev/mapper/a wait 5 0\n/dev/mapper/a write 0 1\n/dev/mapper/a close\n", "R a 8 16\nW a 0 1\n", "left out: 1 trims\n"),
+    logged("fio version 3 iolog\n1 /dev/mapper/a read 4095 2\n2 /dev/mapper/a datasync 0 0\n", "R a 7 2\n"),
+    logged(FIO + "/dev/b-c/d read 0 512\n/dev/sda read 0 512\n/mnt/file read 0 512\n/dev/mapper/b--c-d read 0 1\n/dev/sda write 0 512\n",
+           "R b--c-d 0 1\nR b--c-d 0 1\n", "left out: 2 requests to /dev/sda, which the tables have not\n"
+           "left out: 1 requests to /mnt/file, which the tables have not\n"),
+    logged(FIO + "/dev/dm-5 read 0 512\n/dev/dm-7 read 0 512\n/dev/dm-6 read 0 512\n", "R a 0 1\n",
+           "left out: 1 requests to /dev/dm-7, which the tables have not\nleft out: 1 requests to /dev/dm-6, which the tables have not\n",
+           ["ls=1"], ["a\t(253:5)\nz\t(253:6)\n"]),
+    no_log(FIO + "/dev/dm-5 read 0 512\n", "2:4: which device is /dev/dm-5? -v ls=LS"),
+    no_log("fio version 1 iolog\n", "2:1: not the first line of a log: fio version 1 iolog"),
+    no_log(FIO + "1 /dev/mapper/a read 0 512\n", "2:4: not a line of a log: 1 /dev/mapper/a read 0 512"),
+    no_log(FIO.replace("2", "3"), "2:2: not a line of a log: /dev/mapper/a add"),
+    no_log(FIO + "/dev/mapper/a read 0\n", "2:4: not a line of a log: /dev/mapper/a read 0"),
+    no_log(FIO + "/dev/mapper/a read 0 4k\n", "2:4: no number that awk is exact with: '4k'"),
+    no_log(FIO + "/dev/mapper/a write 9007199254740991 1\n", "2:4: no number that awk is exact with: '9007199254740992'"),
+    bad("fio", [], [FIO], "1:1: not table text: fio version 2 iolog"),
+    bad("fio", [], ["a: 0 8 zero\n", ""], "2:0: tables and a log are needed, neither of them empty"),
+    # Names of devices as paths.
+    good("bytes", [], ["R /dev/mapper/a 0 1\nW /dev/b-c/d-e 511 2\n"], "R a 0 1\nW b--c-d--e 0 2\n"),
+    good("bytes", ["ls=1"], ["x\t(253:0)\ny\t(253:12)\n", "R /dev/dm-12 0 1\nR /dev/dm-0 0 1\n"], "R y 0 1\nR x 0 1\n"),
+    bad("bytes", ["ls=1"], ["x\t(253:0)\n", "R /dev/dm-12 0 1\n"], "2:1: no name of a device: '/dev/dm-12'"),
+    bad("bytes", ["ls=nowhere"], ["R /dev/dm-12 0 1\n"], "1:1: no name of a device: '/dev/dm-12'"),
+    bad("bytes", [], ["R /dev/dm-12 0 1\n"], "1:1: which device is /dev/dm-12? -v ls=LS"),
+    bad("bytes", [], ["R /dev/sda 0 1\n"], "1:1: no name of a device: '/dev/sda'"),
+    bad("bytes", [], ["R /dev/disk/by-id/x 0 1\n"], "1:1: no name of a device: '/dev/disk/by-id/x'"),
+    good("cut", [], ["R /dev/mapper/a 0 1\n"], "R a 0 1\n"),
     good("bytes", [], ["R a 0 1\nW a 511 2\nR a 1024 512\n"], "R a 0 1\nW a 0 2\nR a 2 1\n"),
     good("bytes", [], ["R a 4503599627370496 1024\n"], "R a 8796093022208 2\n"),
     bad("bytes", [], ["R a 0 0\n"], "1:1: no bytes: R a 0 0"),
@@ -289,6 +324,7 @@ LAYOUTS = [
     good("dot", [], ['s: 0 8 snapshot a"b P P 8\nz: 0 8 zero\nt: 0 8 striped 2 4 d 0 d 4\n'],
          'digraph stack {\n  "disk a\\"b" [shape=box]\n  "s" -> "disk a\\"b" [label="origin 0+8"]\n  "disk P" [shape=box]\n'
          '  "s" -> "disk P" [label="store 0+8"]\n  "s"\n  "z"\n  "disk d" [shape=box]\n  "t" -> "disk d" [label="striped 0+8"]\n  "t"\n}\n'),
+    good("whole", ["volume=/dev/mapper/a"], ["b: 0 8 zero\na: 0 8 zero\n"], "R a 0 8\n"),
     good("whole", ["volume=a"], ["a: 0 8 zero\nb: 0 9 zero\na: 8 2000000 zero\n"], "R a 0 1048576\nR a 1048576 951432\n"),
     bad("whole", ["volume=c"], ["a: 0 8 zero\n"], "1:1: no device c"),
 ]
