@@ -53,6 +53,7 @@ def check(tally, program, top):
     check_refusal(tally, program)
     check_read_back(tally, program, scripts)
     check_files(tally, program, scripts)
+    check_full(tally, program, scripts)
     for seed in range(STACKS):
         check_stack(tally, program, scripts, random.Random(seed))
 
@@ -238,6 +239,46 @@ def check_made_files(tally, program, scripts, files):
         got = files(owned, "v", image)
         wanted = "".join("v %d 2 /%s\n" % (2 * int(it), name) for it in blocks)
         tally.holds("the blocks of %s" % name, blocks and got.status == 0 and got.out.decode() == wanted, "%r, %r" % (got.out[:200], got.err))
+
+
+def check_full(tally, program, scripts):
+    """When stores are full: as the status after each number of requests says it."""
+    def full(requests, table, disks):
+        command = [program.path, "map", "table", program.file("full/table", table), program.file("full/disks", disks)]
+        path = program.file("full/requests", requests)
+        return path, run(python_words(scripts, "store_full.py") + [path] + command)
+
+    for seed in range(5):
+        dice = random.Random(seed)
+        kinds = [(dice.choice("PNK"), 1 << dice.randrange(4)) for _ in range(2)]
+        table = "o: 0 256 snapshot-origin base\n" + "".join("s%d: 0 256 snapshot base cow%d %s %d\n" % (2 * (it,) + kinds[it]) for it in range(2))
+        disks = "base 256\n" + "".join("cow%d %d\n" % (it, dice.randrange(1, 200)) for it in range(2))
+        requests = ["%s %s %d %d\n" % (dice.choice("RWW"), dice.choice(["o", "s0", "s1"]), dice.randrange(10 ** dice.randrange(1, 6)),
+                                       dice.randrange(1, 20)) for _ in range(dice.randrange(40))]
+        statuses = [statuses_after(program, table, disks, requests[:it]) for it in range(len(requests) + 1)]
+        wanted = "".join(line_of(name, [it[name] for it in statuses]) for name in ("s0", "s1"))
+        tally.same("when the stores of %r are full" % table, full("".join(requests), table, disks)[1], 0, wanted)
+    table, disks = "s: 0 8 snapshot base cow P 8\n", "base 8\ncow 24\n"
+    got = full("W s 0 1\nW s 0\n", table, disks)[1]
+    tally.same("a store and a bad request", got, 1, "refused\n", "dmremap: request 2: form\n%s: it ends with status 3\n" % program.path)
+    got = full("W s 0 1\nW s 0 1", table, disks)[1]
+    tally.same("a store and half a request", got, 1, "refused\n", "dmremap: request 2: unended\n%s: it ends with status 3\n" % program.path)
+    path, got = full("W a 0 1\n", "a: 0 8 zero\n", "")
+    tally.same("no store", got, 1, "refused\n", path + ": the command knows no snapshot\n")
+
+
+def statuses_after(program, table, disks, requests):
+    words = ["map", "table", program.file("full/table", table), program.file("full/disks", disks), "--status"]
+    out = program.run(words, given="".join(requests)).out.decode()
+    return dict(re.findall(r"^(\w+): 0 256 snapshot (.*)$", out, re.M))
+
+
+def line_of(name, statuses):
+    """The line of store_full.py for a snapshot that has these statuses, after each number of requests."""
+    if "Invalid" not in statuses:
+        return "%s: valid to the end, %s\n" % (name, statuses[-1])
+    number = statuses.index("Invalid")
+    return "%s: invalid by request %d, before it %s\n" % (name, number, statuses[number - 1])
 
 
 def read(path):
