@@ -5,6 +5,7 @@ refuses that line, wherever it reads it, so a pipeline of the two fails as well.
 beside its output gets the line too.
 """
 
+import argparse
 import re
 import sys
 
@@ -91,6 +92,17 @@ class Device:
         return [lower for line in self.lines for lower in line.lowers()]
 
 
+class Words(argparse.ArgumentParser):
+    """The words of a command line, with the text of a script as its help."""
+
+    def __init__(self, text):
+        super().__init__(description=text, formatter_class=argparse.RawDescriptionHelpFormatter)
+
+    def error(self, message):
+        print("refused")
+        super().error(message)
+
+
 def tell(what):
     """Says something on standard error, whatever letters are in it."""
     print(what.encode(errors="backslashreplace").decode(), file=sys.stderr)
@@ -100,8 +112,8 @@ def refuse(place, why):
     """Says why, spoils all outputs and ends."""
     tell("%s: %s" % (place, why))
     print("refused")
-    for path in beside:
-        write(path, "refused\n")
+    while beside:
+        write(beside.pop(), "refused\n")
     sys.exit(1)
 
 
@@ -119,7 +131,8 @@ def write(path, text):
         with open(path, "w", encoding="utf-8", errors="surrogateescape") as file:
             file.write(text)
     except OSError as error:
-        sys.exit("%s: %s" % (path, error.strerror))
+        beside[:] = [it for it in beside if it != path]
+        refuse(path, error.strerror)
 
 
 def rows(path):

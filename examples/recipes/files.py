@@ -9,7 +9,6 @@ and how many, and a file; one with several names has a line for each. `inode N` 
 the volume has more. With --damaged it does without bitmaps and checksums, and both of the former are `no file`.
 """
 
-import argparse
 import itertools
 import os
 import re
@@ -100,7 +99,7 @@ def ranges_in(path, volume):
 
 
 def main():
-    words = argparse.ArgumentParser(description=__doc__, formatter_class=argparse.RawDescriptionHelpFormatter)
+    words = base.Words(__doc__)
     words.add_argument("--volume", required=True, help="the device that the file system lies on")
     words.add_argument("--damaged", action="store_true")
     words.add_argument("owners")

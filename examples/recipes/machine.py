@@ -9,7 +9,6 @@ become their names, numbers of disks their paths, and lines of `crypt` linear on
 can't follow is told and left out; to the devices above it, it is a disk. Nothing about this is proved.
 """
 
-import argparse
 import re
 import sys
 
@@ -235,7 +234,7 @@ def leave_used_snapshots(devices, is_fresh):
 
 
 def main():
-    words = argparse.ArgumentParser(description=__doc__, formatter_class=argparse.RawDescriptionHelpFormatter)
+    words = base.Words(__doc__)
     words.add_argument("--disks", required=True, help="the file to write DISKS to")
     for name in ("ls", "status", "lsblk", "table"):
         words.add_argument(name)

@@ -8,7 +8,6 @@ sectors. With --disk a map of ddrescue is read in place of such lines, and the a
 asked for. A line that is printed has sectors of the disk that go one way up, and that way.
 """
 
-import argparse
 import bisect
 import itertools
 import re
@@ -66,7 +65,8 @@ class Stack:
 
     def named(self, disk):
         """The name that FILE has for a disk or a device that is asked for, or None."""
-        names = [disk, "/dev/" + disk, re.sub("^/dev/", "", disk), base.mapper_path(disk)]
+        short = re.sub("^/dev/", "", disk)
+        names = [disk, "/dev/" + disk, short, base.mapper_path(disk), "/dev/mapper/" + short]
         names += [self.paths[it] for it in names if it in self.paths]
         return next((it for it in names if it in self.uses), None)
 
@@ -147,7 +147,7 @@ def areas_in(path, disk, kinds):
 
 
 def words_given():
-    words = argparse.ArgumentParser(description=__doc__, formatter_class=argparse.RawDescriptionHelpFormatter)
+    words = base.Words(__doc__)
     words.add_argument("--disk", help="the disk of which QUERIES is a map of ddrescue")
     words.add_argument("--ls", help="what `dmsetup ls` prints, where a device is given as /dev/dm-N")
     words.add_argument("--areas", default="-*/", help="the statuses in the map to ask for: bad-sector, non-trimmed and "

@@ -9,7 +9,6 @@ With `--image /dev/sda=disk.img` the partitions of disk.img are those of /dev/sd
 Old versions of sfdisk don't say how many bytes a sector has; then `--bytes 512` does.
 """
 
-import argparse
 import re
 import sys
 
@@ -108,7 +107,7 @@ class Names:
 
 
 def words_given():
-    words = argparse.ArgumentParser(description=__doc__, formatter_class=argparse.RawDescriptionHelpFormatter)
+    words = base.Words(__doc__)
     words.add_argument("--lsblk")
     words.add_argument("--disks")
     words.add_argument("--image", action="append", default=[], metavar="DISK=IMAGE")

@@ -8,7 +8,6 @@ what. A line with `end` says where a disk or a device ends. With the metadata of
 with `label+metadata` for each physical volume: what it has before its extents, for itself.
 """
 
-import argparse
 import re
 import sys
 
@@ -100,7 +99,7 @@ def read_disks(path):
 
 
 def main():
-    words = argparse.ArgumentParser(description=__doc__, formatter_class=argparse.RawDescriptionHelpFormatter)
+    words = base.Words(__doc__)
     words.add_argument("disks")
     words.add_argument("file")
     words.add_argument("metadata", nargs="*")

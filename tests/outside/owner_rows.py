@@ -23,8 +23,9 @@ OWNERS = [
     owned("a,,,ro,0 4 zero,4 4 linear d 8;b,,,rw,0 6 linear /dev/mapper/a 1\n", "d 8 4\n", "d 8 3 = a 4 = b 3\nd 11 1 = a 7\n"),
     owned(SNAPSHOT, "o 3 2\nc 5 1\n", "o 3 2 = s 3 until it is copied = t 3\nc 5 1 = in the store of s\n"),
     owned("x: 0 8 snapshot-origin o\n" + SNAPSHOT, "o 3\n", "o 3 = x 3\no 3 = s 3 until it is copied = t 3\n"),
-    # With and without /dev/ in front, and devices as paths.
-    owned(LINEAR, "sda 4\n/dev/sda 5\n/dev/mapper/a 1\n", "sda 4 = a 0\n/dev/sda 5 = a 1\n/dev/mapper/a 1\n"),
+    # With and without /dev/ in front, and devices as paths. A partition is one where partitions.py was.
+    owned(LINEAR, "sda 4\n/dev/sda 5\n/dev/mapper/a 1\na 1\n", "sda 4 = a 0\n/dev/sda 5 = a 1\n/dev/mapper/a 1\na 1\n"),
+    owned("sda1: 0 8 linear /dev/sda 8\na: 0 8 linear /dev/mapper/sda1 0\n", "/dev/sda1 5\nsda1 5\n", "/dev/sda1 5 = a 5\nsda1 5 = a 5\n"),
     owned("v-l--1: 0 8 linear sda 0\nb: 0 8 linear /dev/mapper/v-l--1 0\n", "/dev/sda 1\n/dev/v/l-1 1\n", "/dev/sda 1 = v-l--1 1 = b 1\n/dev/v/l-1 1 = b 1\n"),
     good("owner.py", ["--ls", "1"], ["v\t(253:7)\n", "v: 0 8 linear d 0\nb: 0 8 linear /dev/mapper/v 0\n", "dm-7 1\n/dev/dm-7 2\n"],
          "dm-7 1 = b 1\n/dev/dm-7 2 = b 2\n"),

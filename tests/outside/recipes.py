@@ -21,8 +21,8 @@ from recipe_rows import ROWS
 from snapshots import concise
 
 # Each awk that is there once: the first name is a link to one of the others.
-AWKS = list({os.path.realpath(shutil.which(it[0])): it for it in (
-    ["awk"], ["mawk"], ["gawk"], ["busybox", "awk"], ["original-awk"]) if shutil.which(it[0])}.values())
+NAMED = [["awk"], ["mawk"], ["gawk"], ["busybox", "awk"], ["original-awk"]]
+AWKS = list({os.path.realpath(shutil.which(it[0])): it for it in NAMED if shutil.which(it[0])}.values())
 # The scripts in Python, with words of which `%s` is a file, and a file that they write beside their output.
 PYTHON = [
     ("machine.py", ["--disks", "disks", "%s", "status", "lsblk", "table"], "disks"),
@@ -46,6 +46,9 @@ def check(tally, program, top):
     scripts = os.path.join(top, "examples", "recipes")
     check_document(tally, program, top)
     check_samples(tally, program, scripts)
+    for words in NAMED:
+        if not shutil.which(words[0]):
+            tally.skip("the scripts by " + words[0], "it isn't there")
     for row in ROWS + machine_rows.ROWS + partition_rows.ROWS + owner_rows.ROWS:
         check_row(tally, program, scripts, *row)
     check_machines(tally, program)
@@ -136,6 +139,14 @@ def check_missing(tally, program, scripts):
             if beside:
                 found = read(os.path.join(folder, beside))
                 tally.holds("what %s leaves of %s" % (script, beside), found == b"refused\n", "it is %r" % found)
+    for script in sorted({it[0] for it in PYTHON}):
+        got = run(python_words(scripts, script) + ["--nothing"], folder=folder)
+        tally.holds(script + " without words", (got.status, got.out) == (2, b"refused\n"), "%s, %r" % (got.status, got.out))
+    samples = [os.path.join(scripts, "samples", it + ".txt") for it in ("ls", "status", "lsblk", "table")]
+    got = run(python_words(scripts, "machine.py") + ["--disks", "no/where"] + samples, folder=folder)
+    told = got.err.decode().split("\n")[-2:]
+    is_so = (got.status, got.out, told) == (1, b"refused\n", ["no/where: No such file or directory", ""])
+    tally.holds("DISKS that can't be written", is_so, "%s, %r, %s" % (got.status, got.out, told))
 
 
 def check_refusal(tally, program):
