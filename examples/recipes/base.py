@@ -99,6 +99,7 @@ class Words(argparse.ArgumentParser):
         super().__init__(description=text, formatter_class=argparse.RawDescriptionHelpFormatter)
 
     def error(self, message):
+        """Spoils the output, too."""
         print("refused")
         super().error(message)
 
@@ -127,6 +128,7 @@ def read(path):
 
 
 def write(path, text):
+    """Writes a file that a script makes beside its output."""
     try:
         with open(path, "w", encoding="utf-8", errors="surrogateescape") as file:
             file.write(text)

@@ -39,6 +39,7 @@ class FileSystem:
         self.sectors = int(found["Block size"]) // SECTOR
 
     def refuse(self, errors):
+        """Says what debugfs complains of, and what may help."""
         hint = "" if self.is_damaged else " (if it is damaged, --damaged)"
         base.refuse(self.image, "debugfs says: " + ("; ".join(errors) or "not enough") + hint)
 
@@ -99,6 +100,7 @@ def ranges_in(path, volume):
 
 
 def main():
+    """Prints, for each range, the runs of its sectors that the same files have."""
     words = base.Words(__doc__)
     words.add_argument("--volume", required=True, help="the device that the file system lies on")
     words.add_argument("--damaged", action="store_true")

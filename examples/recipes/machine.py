@@ -24,7 +24,7 @@ IS_CONCISE = re.compile(r",\d+,r[ow](?:[,;]|$)", re.M)
 MAJOR_MINOR = re.compile(r"\d+:\d+")
 TABLE_LINE = re.compile(r"\d+ \d+ \S")
 # Limits of dmremap.
-DEEPEST, MOST_PLACES, LONGEST_CHUNK = 32, 4194304, 1024
+DEEPEST, MOST_PLACES, MOST_IN_CHUNK = 32, 4194304, 1024
 
 
 class Found(base.Device):
@@ -39,6 +39,7 @@ class Found(base.Device):
             self.leave("dmremap takes no such name")
 
     def leave(self, why):
+        """Leaves it out, for the first reason that there is."""
         self.why = self.why or why
 
     def add(self, text):
@@ -48,7 +49,7 @@ class Found(base.Device):
         start, length, target, *words = text.split()
         if target in ("snapshot", "snapshot-merge"):
             self.origins += words[:1]
-        if target == "crypt":
+        if target == "crypt" and len(words) >= 5:
             self.is_encrypted = True
             target, words = "linear", words[3:5]
         line = base.Line(start, length, target, words)
@@ -72,9 +73,11 @@ class Machine:
         self.devices, self.sizes, self.paths = devices, sizes, paths
 
     def kept(self):
+        """The devices that are not left out."""
         return [it for it in self.devices.values() if not it.why]
 
     def is_kept(self, number):
+        """Whether this is the number of one of these."""
         return number in self.devices and not self.devices[number].why
 
     def length(self, number):
@@ -127,7 +130,7 @@ class Machine:
         if device.end() != self.length(device.lowers()[0]):
             return "it is not as long as its origin"
         for _, chunk, store in snapshots_in(device):
-            if chunk & (chunk - 1) or not 0 < chunk <= LONGEST_CHUNK:
+            if chunk & (chunk - 1) or not 0 < chunk <= MOST_IN_CHUNK:
                 return "its chunks have %d sectors" % chunk
             if self.is_kept(store) and store not in stores:
                 return "its store is read-only, or not made of linear and striped lines"
@@ -234,6 +237,7 @@ def leave_used_snapshots(devices, is_fresh):
 
 
 def main():
+    """Reads the four texts, leaves out what dmremap would refuse, and writes the rest."""
     words = base.Words(__doc__)
     words.add_argument("--disks", required=True, help="the file to write DISKS to")
     for name in ("ls", "status", "lsblk", "table"):

@@ -31,6 +31,7 @@ class Use:
         self.device, self.line, self.place, self.first, self.end = device, line, place, first, end
 
     def is_store(self):
+        """Whether these are the sectors of a snapshot's store."""
         return self.line.target == "snapshot" and self.place == 1
 
     def runs(self, first, end):
@@ -147,6 +148,7 @@ def areas_in(path, disk, kinds):
 
 
 def words_given():
+    """The words of the command line."""
     words = base.Words(__doc__)
     words.add_argument("--disk", help="the disk of which QUERIES is a map of ddrescue")
     words.add_argument("--ls", help="what `dmsetup ls` prints, where a device is given as /dev/dm-N")
@@ -158,6 +160,7 @@ def words_given():
 
 
 def main():
+    """Prints the ways up from each of the sectors that are asked for."""
     words = words_given()
     stack = Stack(base.read_tables(words.file)[0], base.read_ls(words.ls) if words.ls else [])
     if words.disk and not stack.named(words.disk):

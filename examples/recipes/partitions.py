@@ -33,6 +33,7 @@ class Partition:
         self.name = path.rpartition("/")[2]
 
     def device(self, flags):
+        """The device that it becomes."""
         device = base.Device(self.name, flags)
         device.lines = [base.Line(0, self.length, "linear", [self.disk, str(self.start)])]
         return device
@@ -107,6 +108,7 @@ class Names:
 
 
 def words_given():
+    """The words of the command line."""
     words = base.Words(__doc__)
     words.add_argument("--lsblk")
     words.add_argument("--disks")
@@ -121,6 +123,7 @@ def words_given():
 
 
 def main():
+    """Puts the devices of the partitions before those of FILE, which then name these and the disks."""
     words = words_given()
     base.beside += [words.disks] if words.disks else []
     names = Names(*(base.read_lsblk(words.lsblk) if words.lsblk else ({}, {})), dict(it.split("=", 1) for it in words.image))

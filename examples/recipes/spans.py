@@ -63,11 +63,13 @@ class Spans:
             self.add_device(device)
 
     def add(self, on, first, end, *words):
+        """Adds a line, and the one on the end of what it is on."""
         self.lines.append((on, first, end) + words)
         if on not in self.ended:
             self.ended.append(on)
 
     def add_device(self, device):
+        """Adds what the lines of a device use."""
         for line in device.lines:
             for place, (lower, first, count) in enumerate(line.spans()):
                 if lower not in self.sizes:
@@ -77,18 +79,20 @@ class Spans:
                 self.add(lower, first, end, device.name, str(line.start), kind)
 
     def add_physical(self, group, key, path, start):
+        """Adds what a physical volume has before its extents, if it is a disk or a device here."""
         on = next((it for it in (path, key) if it in self.sizes), None)
         if on:
             self.add(on, 0, start, group, "-", "label+metadata")
         else:
             base.tell("left out: the physical volume %s (%s), which is neither a disk nor a device here" % (key, path))
 
-
     def sorted(self):
+        """All lines, by what they are on and their first sector."""
         return sorted(self.lines + [(on, self.sizes[on], self.sizes[on], "-", "-", "end") for on in self.ended])
 
 
 def read_disks(path):
+    """The length of each disk of DISKS."""
     sizes = {}
     for number, row in base.rows(path):
         match = DISK_LINE.fullmatch(row)
@@ -99,6 +103,7 @@ def read_disks(path):
 
 
 def main():
+    """Prints the lines of FILE, and of the metadata."""
     words = base.Words(__doc__)
     words.add_argument("disks")
     words.add_argument("file")

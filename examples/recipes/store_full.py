@@ -71,6 +71,7 @@ class Runs:
 
 
 def main():
+    """Prints a line for each snapshot."""
     if len(sys.argv) < 5:
         sys.exit("usage: store_full.py REQUESTS ./dmremap map FORMAT FILE [DISKS]")
     path, command = sys.argv[1], sys.argv[2:]

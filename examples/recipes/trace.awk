@@ -19,7 +19,7 @@ function traced(number_of, what, first, count, time,   n) {
     if (what !~ /^F?[RW][FASM]*$/) refuse("neither a read nor a write: " $0)
     n = request(what ~ /W/ ? "W" : "R", name[number_of], number(first), number(count))
     while (times != "" && n-- > 0) print time > times
-    fflush()
+    if (FILENAME == "-") fflush() # live
 }
 
 # Both tell by such lines that events were lost.

@@ -98,7 +98,8 @@ TARGETS = [
     beside(CRYPT + "40", "a: 0 8 linear /dev/sda1 40\n", ENCRYPTED),
     beside(CRYPT + "40 3 allow_discards sector_size:4096 iv_large_sectors", "a: 0 8 linear /dev/sda1 40\n", ENCRYPTED),
     beside(CRYPT + "40\na: 8 8 zero ", "a: 0 8 linear /dev/sda1 40\na: 8 8 zero\n", ENCRYPTED),
-    left("0 8 crypt aes-xts-plain64 - 0", "0 8 crypt aes-xts-plain64 - 0"),
+    # A line of it that isn't whole is not shown, as it may have a key.
+    left("0 8 crypt aes-xts-plain64 0123456789abcdef 0", "crypt"),
     left(CRYPT + "2041", "it goes past the end of /dev/sda1"),
     # What lies on a device that is left out ends there; 253:10 is not 253:1.
     machine("a: 0 8 thin 8:1 7\nb: 0 8 linear 253:1 0\nb: 8 8 linear 253:10 4\nc: 0 16 zero \n",
