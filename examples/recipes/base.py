@@ -206,6 +206,12 @@ def mapper_path(path):
     return path
 
 
+def names_of(path):
+    """What a disk or a device may be called in FILE: with and without /dev/ in front, or as a device of that name."""
+    short = re.sub("^/dev/", "", path)
+    return [path, "/dev/" + path, short, mapper_path(path), "/dev/mapper/" + short]
+
+
 def text_of(devices, is_concise):
     """Devices as table text or in the concise form, as dmremap reads it."""
     if is_concise:

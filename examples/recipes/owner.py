@@ -66,8 +66,7 @@ class Stack:
 
     def named(self, disk):
         """The name that FILE has for a disk or a device that is asked for, or None."""
-        short = re.sub("^/dev/", "", disk)
-        names = [disk, "/dev/" + disk, short, base.mapper_path(disk), "/dev/mapper/" + short]
+        names = base.names_of(disk)
         names += [self.paths[it] for it in names if it in self.paths]
         return next((it for it in names if it in self.uses), None)
 

@@ -80,7 +80,7 @@ class Spans:
 
     def add_physical(self, group, key, path, start):
         """Adds what a physical volume has before its extents, if it is a disk or a device here."""
-        on = next((it for it in (path, key) if it in self.sizes), None)
+        on = next((it for it in base.names_of(path or key) + [key] if it in self.sizes), None)
         if on:
             self.add(on, 0, start, group, "-", "label+metadata")
         else:

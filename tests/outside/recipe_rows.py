@@ -306,6 +306,11 @@ LAYOUTS = [
             "/dev/mapper/c 0 10 g - label+metadata\n/dev/mapper/c 10 18 v 0 linear\n/dev/mapper/c 60 60 - - end\n"
             "/dev/sda 4 64 c 0 linear\n/dev/sda 64 64 - - end\npv1 0 12 g - label+metadata\npv1 64 64 - - end\n",
             "left out: the physical volume pv2 (/dev/sdz), which is neither a disk nor a device here\n"),
+    # A partition that became a device.
+    spanned(["/dev/sda 64\n", "sdz: 0 60 linear /dev/sda 4\n", METADATA],
+            "/dev/mapper/sdz 0 14 g - label+metadata\n/dev/mapper/sdz 60 60 - - end\n/dev/sda 4 64 sdz 0 linear\n/dev/sda 64 64 - - end\n",
+            "left out: the physical volume pv0 (/dev/mapper/c), which is neither a disk nor a device here\n"
+            "left out: the physical volume pv1 ([unknown]), which is neither a disk nor a device here\n"),
     bad("spans.py", [], ["d 64\n", "", "g { physical_volumes { p { device = \"d\" } } }\n"], "3: no pe_start of p"),
     bad("spans.py", [], ["d 64\n", "", "g { extent_size = 8 }\n"], "3: no physical volumes"),
     bad("spans.py", [], ["d 64\n", "", "g { x = \"\n"], "3: not the metadata of a group"),
