@@ -138,8 +138,9 @@ class Machine:
 
     def levels(self):
         """How many devices stand on each other, up to each one; too many where one stands on itself."""
-        level = {it.number: 1 for it in self.kept()}
-        for _ in range(DEEPEST):
+        level, before = {it.number: 1 for it in self.kept()}, None
+        while level != before and max(level.values(), default=0) <= DEEPEST:
+            before = dict(level)
             for device in self.kept():
                 level[device.number] = 1 + max([level.get(it, 0) for it in device.lowers()] + [0])
         return level

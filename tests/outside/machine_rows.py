@@ -118,8 +118,8 @@ TARGETS = [
     beside("0 8 striped 2 4 8:1 0 8:1 2044", "a: 0 8 striped 2 4 /dev/sda1 0 /dev/sda1 2044\n"),
     left("0 8 linear 8:2 0", "lsblk has no length of 8:2"),
     left("0 8 linear 253:1 0", "it stands on itself, or on too many others"),
-    machine("a: 0 8 linear 253:2 0\nb: 0 8 linear 253:1 0\nc: 0 8 zero \n", "b: 0 8 linear 253:1 0\nc: 0 8 zero\n",
-            "left out: a (it stands on itself, or on too many others), the disk 253:1\n", "253:1 8\n",
+    machine("a: 0 8 linear 253:2 0\nb: 0 8 linear 253:1 0\nc: 0 8 zero \n", "a: 0 8 linear 253:2 0\nc: 0 8 zero\n",
+            "left out: b (it stands on itself, or on too many others), the disk 253:2\n", "253:2 8\n",
             names=names_of("a", "b", "c"), sizes="8:1 512 sda \n"),
     machine("".join("d%d: 0 8 linear %s 0\n" % (it, "253:%d" % (it - 1) if it > 1 else "8:1") for it in range(1, 35)),
             "".join("d%d: 0 8 linear %s 0\n" % (it, {1: "/dev/sda1", 34: "253:33"}.get(it, "/dev/mapper/d%d" % (it - 1)))
