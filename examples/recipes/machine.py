@@ -24,7 +24,7 @@ IS_CONCISE = re.compile(r",\d+,r[ow](?:[,;]|$)", re.M)
 MAJOR_MINOR = re.compile(r"\d+:\d+")
 TABLE_LINE = re.compile(r"\d+ \d+ \S")
 # Limits of dmremap.
-DEEPEST, MOST_PLACES, MOST_IN_CHUNK = 32, 4194304, 1024
+DEEPEST, LONGEST, MOST_PLACES, MOST_IN_CHUNK = 32, 1 << 50, 4194304, 1024
 
 
 class Found(base.Device):
@@ -58,7 +58,7 @@ class Found(base.Device):
         self.lines.append(line)
         if target not in base.TARGETS:
             self.leave(target)
-        elif line.fault() or not all(MAJOR_MINOR.fullmatch(it) for it in line.lowers()):
+        elif line.fault() or not 0 < line.length <= LONGEST - line.start or not all(MAJOR_MINOR.fullmatch(it) for it in line.lowers()):
             self.leave(text)
 
     def has(self, *targets):
@@ -121,6 +121,8 @@ class Machine:
         length = self.length(lower)
         if not length:
             return "lsblk has no length of " + lower
+        if length > LONGEST:
+            return "dmremap takes no disk as long as " + lower
         return end > length and "it goes past the end of " + self.lower(lower)
 
     def fault_of_snapshot(self, device, stores):

@@ -112,6 +112,9 @@ TARGETS = [
     left("0 8 striped 2 4 8:1 0", "0 8 striped 2 4 8:1 0"),
     left("0 9 striped 2 4 8:1 0 8:1 8", "0 9 striped 2 4 8:1 0 8:1 8"),
     left("0 8 linear 8:1 0\na: 9 8 zero ", "its lines don't follow each other"),
+    left("0 0 zero ", "0 0 zero "),
+    beside("0 1125899906842624 zero ", "a: 0 1125899906842624 zero\n"),
+    left("0 1125899906842625 zero ", "0 1125899906842625 zero "),
     left("8 8 zero ", "its lines don't follow each other"),
     left("", "no table"),
     left("0 8 striped 2 4 8:1 0 8:1 2045", "it goes past the end of /dev/sda1"),
@@ -168,6 +171,8 @@ LENGTHS = [
     left("0 8 zero ", "lsblk and its table differ in its length", sizes=DISK + "253:1 8 dm-1 \n", odd="253:1"),
     left("0 8 zero ", "lsblk and its table differ in its length", sizes=DISK + "253:1 4096 dm-1 \n253:1 8192 dm-1 \n", odd="253:1"),
     left("0 8 linear 8:2 0", "lsblk has no length of 8:2", sizes=DISK + "8:2 0 sda2 sda\n"),
+    beside("0 8 linear 8:2 0", "a: 0 8 linear /dev/sdb 0\n", "", "/dev/sdb 1125899906842624\n" + SDA1, sizes=DISK + "8:2 576460752303423488 sdb \n"),
+    left("0 8 linear 8:2 0", "dmremap takes no disk as long as 8:2", sizes=DISK + "8:2 576460752303424000 sdb \n"),
     left("0 8 linear 8:2 0", "lsblk has no length of 8:2", sizes=DISK + "8:2 4097 sda2 sda\n", odd="8:2"),
 ]
 
