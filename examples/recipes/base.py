@@ -1,4 +1,4 @@
-"""What the Python scripts here share, as the awk scripts share base.awk.
+"""What the Python scripts share that read tables, disks and devices, as the awk scripts share base.awk.
 
 A script that can't be sure of its input says so, prints the line `refused` and ends with status 1. dmremap
 refuses that line, wherever it reads it, so a pipeline of the two fails as well. A file that a script writes
@@ -8,6 +8,8 @@ beside its output gets the line too.
 import argparse
 import re
 import sys
+
+from refusal import tell, why
 
 NAME = re.compile(r"[-A-Za-z0-9#+.:=@_]{1,127}")
 DISK = re.compile(r"(?!/dev/mapper/)(?!.*[,;\\])[!-~]{1,255}")
@@ -104,14 +106,14 @@ class Words(argparse.ArgumentParser):
         super().error(message)
 
 
-def tell(what):
-    """Says something on standard error, whatever letters are in it."""
-    print(what.encode(errors="backslashreplace").decode(), file=sys.stderr)
-
-
-def refuse(place, why):
+def refuse(place, reason):
     """Says why, spoils all outputs and ends."""
-    tell("%s: %s" % (place, why))
+    give_up("%s: %s" % (place, reason))
+
+
+def give_up(what):
+    """Says this, spoils all outputs and ends."""
+    tell(what)
     print("refused")
     while beside:
         write(beside.pop(), "refused\n")
@@ -123,8 +125,8 @@ def read(path):
     try:
         with open(0 if path == "-" else path, encoding="utf-8", errors="surrogateescape") as file:
             return file.read()
-    except OSError as error:
-        return refuse(path, error.strerror)
+    except OSError as fault:
+        return refuse(path, why(fault))
 
 
 def write(path, text):
@@ -132,9 +134,9 @@ def write(path, text):
     try:
         with open(path, "w", encoding="utf-8", errors="surrogateescape") as file:
             file.write(text)
-    except OSError as error:
+    except OSError as fault:
         beside[:] = [it for it in beside if it != path]
-        refuse(path, error.strerror)
+        refuse(path, why(fault))
 
 
 def rows(path):

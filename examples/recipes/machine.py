@@ -15,6 +15,7 @@ import sys
 sys.dont_write_bytecode = True
 
 import base
+from volume_group import PLACES, places
 
 # A row of `dmsetup table` or `dmsetup status`: a device, and a line of it if it has a table.
 ROW = re.compile(r"(.+?):(?: ?| (\d+ \d+ \S.*))")
@@ -24,7 +25,7 @@ IS_CONCISE = re.compile(r",\d+,r[ow](?:[,;]|$)", re.M)
 MAJOR_MINOR = re.compile(r"\d+:\d+")
 TABLE_LINE = re.compile(r"\d+ \d+ \S")
 # Limits of dmremap.
-DEEPEST, LONGEST, MOST_PLACES, MOST_IN_CHUNK = 32, 1 << 50, 4194304, 1024
+DEEPEST, LONGEST, MOST_IN_CHUNK = 32, 1 << 50, 1024
 
 
 class Found(base.Device):
@@ -102,7 +103,7 @@ class Machine:
     def faults(self):
         """Each device that is kept so far, with what is wrong with it or nothing."""
         level = self.levels()
-        stores, places = self.stores(level), 0
+        stores, counted = self.stores(level), 0
         for device in self.kept():
             if level[device.number] > DEEPEST:
                 yield device, "it stands on itself, or on too many others"
@@ -113,8 +114,8 @@ class Machine:
             if not device.has("linear", "striped", "zero", "error"):
                 yield device, self.fault_of_snapshot(device, stores)
             for kind, chunk, store in snapshots_in(device):
-                places += places_in(kind, chunk, self.length(store))
-                yield device, places > MOST_PLACES and "dmremap takes no more chunks of stores"
+                counted += self.length(store) // chunk if kind == "N" else places(chunk, self.length(store))
+                yield device, counted > PLACES and "dmremap counts %d chunks of stores in all" % PLACES
 
     def fault_below(self, lower, end):
         """Whether what a line names is there, and long enough."""
@@ -174,23 +175,16 @@ class Machine:
                 base.tell("left out: %s (%s)%s" % (device.name, device.why, ", the disk " + path if path in disks else ""))
             elif device.is_encrypted:
                 base.tell("encrypted: the sectors below %s, whose lines of crypt are linear here" % device.name)
-        lost = {it for device in self.devices.values() if device.why for it in device.origins}
-        is_unknown = not all(it.is_described for it in self.devices.values())
-        for device in self.kept():
-            if device.has("snapshot-origin") and (is_unknown or device.lowers()[0] in lost):
-                base.tell("left out: copies before writes to %s, for snapshots that are left out" % device.name)
+        for device in (it for it in self.kept() if it.has("snapshot-origin")):
+            for other in (it for it in self.devices.values() if it.why):
+                if device.lowers()[0] in other.origins or not other.is_described:
+                    base.tell("kept: %s, without %s, which %s a snapshot of it: on the machine, a write to it also copies what it "
+                              "overwrites, which the answers don't show" % (device.name, other.name, "is" if other.origins else "may be"))
 
 
 def snapshots_in(device):
     """The kind, the chunk and the store of each line that is a snapshot."""
     return [(line.words[2], int(line.words[3]), line.words[1]) for line in device.lines if line.target == "snapshot"]
-
-
-def places_in(kind, chunk, sectors):
-    """How many chunks a store has room for."""
-    chunks = sectors // chunk
-    rest = max(chunks - 2, 0)
-    return chunks if kind == "N" else rest - rest // (32 * chunk + 1)
 
 
 def read_concise(path, devices):

@@ -14,42 +14,28 @@ import sys
 sys.dont_write_bytecode = True
 
 import base
+from config_text import Document, shown
+from refusal import Refused, read_file
+from volume_group import sections_in
 
 DISK_LINE = re.compile(r"(\S+) (0|[1-9]\d{0,18})")
-# White space, a comment, a string, a word or a sign of lvm2's configuration text.
-TOKEN = re.compile(r'\s+|#[^\n]*|("(?:[^"\\]|\\.)*")|([^\s#"{}\[\]=,]+)|([{}\[\]=,])')
-
-
-def settings_in(path):
-    """Each setting of a metadata text: the names of its sections, its own, and what follows the sign."""
-    text = base.read(path)
-    if TOKEN.sub("", text):
-        base.refuse(path, "not the metadata of a group")
-    tokens = [it for it in TOKEN.finditer(text) if it.lastindex]
-    sections, name = [], None
-    for token, after in zip(tokens, tokens[1:]):
-        if token[0] == "{":
-            sections.append(name)
-        elif token[0] == "}":
-            sections = sections[:-1]
-        elif token[0] == "=":
-            yield list(sections), name, after[0].strip('"')
-        elif token[0] not in "[],":
-            name = token[0].strip('"')
+MOST = 1 << 26
 
 
 def physical_volumes(path):
     """The group of each physical volume, its key and its path, and where its extents begin."""
-    found = {}
-    for sections, name, value in settings_in(path):
-        if sections[1:2] == ["physical_volumes"] and len(sections) == 3 and name in ("device", "pe_start"):
-            found.setdefault((sections[0], sections[2]), {})[name] = value
+    try:
+        top = Document(path, read_file(path, MOST)).top
+    except Refused as refusal:
+        base.give_up(refusal)
+    found = [(group, node) for group in top.sections() for node in sections_in(group, b"physical_volumes")]
     if not found:
-        base.refuse(path, "no physical volumes")
-    for (group, key), of in found.items():
-        if not base.NUMBER.fullmatch(of.get("pe_start", "")):
-            base.refuse(path, "no pe_start of " + key)
-        yield group, key, of.get("device"), int(of["pe_start"])
+        base.refuse(path, "no physical volumes of a group")
+    for group, node in found:
+        device, start = node.value(b"device", bytes), node.value(b"pe_start", int)
+        if start is None or start < 0:
+            base.refuse(path, "no pe_start of " + shown(node.key))
+        yield shown(group.key), shown(node.key), shown(device or b"no path"), start
 
 
 class Spans:
@@ -80,7 +66,7 @@ class Spans:
 
     def add_physical(self, group, key, path, start):
         """Adds what a physical volume has before its extents, if it is a disk or a device here."""
-        on = next((it for it in base.names_of(path or key) + [key] if it in self.sizes), None)
+        on = next((it for it in base.names_of(path) + [key] if it in self.sizes), None)
         if on:
             self.add(on, 0, start, group, "-", "label+metadata")
         else:

@@ -14,7 +14,8 @@ LOWER_OUT = "base: 0 16 linear /dev/sda1 0\ncow: 0 64 linear /dev/sda1 16\n"
 SNAP_OUT = "snap: 0 16 snapshot /dev/mapper/base /dev/mapper/cow P 8\n"
 ORIG_OUT = "orig: 0 16 snapshot-origin /dev/mapper/base\n"
 SDA1 = "/dev/sda1 2048\n"
-NO_COPIES = "left out: copies before writes to orig, for snapshots that are left out\n"
+NO_COPIES = ("kept: orig, without snap, which %s a snapshot of it: on the machine, a write to it also copies what it overwrites, "
+             "which the answers don't show\n")
 COPIED = "its store has copies, and nothing says of which chunks"
 NO_STORE = "its store is read-only, or not made of linear and striped lines"
 WORDS = ["--disks", "/dev/stderr"]
@@ -30,7 +31,7 @@ def no_machine(tables, message, names=NUMBERS, status=FRESH, sizes=SIZES):
 
 def without(why, tables, lower=LOWER_OUT, origin=ORIG_OUT, **how):
     """The snapshot is left out, and so are the copies for it."""
-    return machine(tables, lower + origin, "left out: snap (%s)\n" % why + NO_COPIES, **how)
+    return machine(tables, lower + origin, "left out: snap (%s)\n" % why + NO_COPIES % "is", **how)
 
 
 def names_of(*names):
@@ -85,10 +86,10 @@ SNAPSHOTS = [
     # A store with as many chunks as dmremap takes, and with one more.
     machine(ALL.replace("P 8", "P 1").replace("0 64", "0 4325378"), (LOWER_OUT + SNAP_OUT + ORIG_OUT).replace("P 8", "P 1").replace("0 64", "0 4325378"),
             "", "/dev/sda1 8388608\n", sizes=SIZES.replace("8:1 1048576", "8:1 4294967296").replace("32768", "2214593536")),
-    without("dmremap takes no more chunks of stores", ALL.replace("P 8", "P 1").replace("0 64", "0 4325379"), LOWER_OUT.replace("0 64", "0 4325379"),
+    without("dmremap counts 4194304 chunks of stores in all", ALL.replace("P 8", "P 1").replace("0 64", "0 4325379"), LOWER_OUT.replace("0 64", "0 4325379"),
             disks="/dev/sda1 8388608\n", sizes=SIZES.replace("8:1 1048576", "8:1 4294967296").replace("32768", "2214594048")),
     # Without its table a device may be a snapshot, but not where it is said that it has none.
-    machine(ALL.replace("snap: 0 16 snapshot 253:0 253:1 P 8\n", ""), LOWER_OUT + ORIG_OUT, "left out: snap (no table)\n" + NO_COPIES),
+    machine(ALL.replace("snap: 0 16 snapshot 253:0 253:1 P 8\n", ""), LOWER_OUT + ORIG_OUT, "left out: snap (no table)\n" + NO_COPIES % "may be"),
     machine(ALL.replace("snap: 0 16 snapshot 253:0 253:1 P 8\n", "snap: \n"), LOWER_OUT + ORIG_OUT, "left out: snap (no table)\n"),
 ]
 

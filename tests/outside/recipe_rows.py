@@ -312,8 +312,8 @@ LAYOUTS = [
             "left out: the physical volume pv0 (/dev/mapper/c), which is neither a disk nor a device here\n"
             "left out: the physical volume pv1 ([unknown]), which is neither a disk nor a device here\n"),
     bad("spans.py", [], ["d 64\n", "", "g { physical_volumes { p { device = \"d\" } } }\n"], "3: no pe_start of p"),
-    bad("spans.py", [], ["d 64\n", "", "g { extent_size = 8 }\n"], "3: no physical volumes"),
-    bad("spans.py", [], ["d 64\n", "", "g { x = \"\n"], "3: not the metadata of a group"),
+    bad("spans.py", [], ["d 64\n", "", "g { extent_size = 8 }\n"], "3: no physical volumes of a group"),
+    bad("spans.py", [], ["d 64\n", "", "g { x = \"\n"], "3:1: a string without an end"),
     bad("spans.py", [], ["d 64\n", "a: 0 8 linear e 4\n"], "e: neither a disk nor a device"),
     bad("spans.py", [], ["d 64 8\n", ""], "1:1: not a line of DISKS: d 64 8"),
     bad("spans.py", [], ["d 64k\n", ""], "1:1: not a line of DISKS: d 64k"),
