@@ -70,18 +70,21 @@ fn scalar_of(token: Token<'_>) -> Option<Scalar<'_>>
     }
 }
 
+/// Whether a token is a comma.
 fn is_comma(token: Token<'_>) -> bool
     ensures { result ≡ is_comma (token_view token.entry) }
 {
     matches!(token, Token::Comma)
 }
 
+/// Whether a token opens a section.
 fn is_open(token: Token<'_>) -> bool
     ensures { result ≡ is_open (token_view token.entry) }
 {
     matches!(token, Token::Open)
 }
 
+/// Whether a token opens a list.
 fn is_list_open(token: Token<'_>) -> bool
     ensures { result ≡ is_list_open (token_view token.entry) }
 {

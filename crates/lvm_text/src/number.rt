@@ -13,6 +13,7 @@ pub(crate) fn are_digits(word: &[u8]) -> bool
     word.iter().all(|byte| byte.is_ascii_digit())
 }
 
+/// The value of at most 19 digits.
 fn value_of(word: &[u8]) -> u64
     requires digits { IsTrue (are_digits word.now) }
     requires short { length word.now ≤ 19 }

@@ -97,16 +97,26 @@ const BACKUP: &str =
     }\n\
     # the end, without a newline";
 
+/// Ten keys, of which an index has those after the eighth, and a section beside them.
+const TEN: &str = "a = 1 b = 2 c = 3 d = 4 e = 5 f = 6 g = 7 h = 8 i = 9 j { h = 11 }";
+
 const MANY_LETTERS: &str = "1 = 2 0 { } a-b.c+d_e = [1, \"x\"]# end";
 
 /// A text, a path of keys in it, and what it has there, or why the text is refused.
-static HELD: [(&str, &str, &str); 58] = [
+static HELD: [(&str, &str, &str); 65] = [
     ("", "", "1:"),
     ("a = 1 b { c = \"x\" }", "", "1: b 1"),
     ("a = 1 b { c = \"x\" }", "a", "1: 1"),
     ("a = 1 b { c = \"x\" }", "b c", "1: text x"),
     ("a = 1 b { c = \"x\" }", "b a", "nothing"),
     ("a = 0000000000000000001", "a", "1: 1"),
+    (TEN, "a", "1: 1"),
+    (TEN, "h", "1: 8"),
+    (TEN, "i", "1: 9"),
+    (TEN, "j", "1:"),
+    (TEN, "j h", "1: 11"),
+    (TEN, "j i", "nothing"),
+    (TEN, "k", "nothing"),
     ("a = 9223372036854775807", "a", "1: 9223372036854775807"),
     ("a = \"x\\\"y\"", "a", "1: text x\\\"y"),
     (MANY_LETTERS, "1", "1: 2"),

@@ -1,26 +1,31 @@
 -- The checks of a group one after the other, and the fault of each.
-use Rattle.std.proofs.Common.{◌≡◌, ◌≢◌, List, [], ◌∷◌, Option, Some, None, Result, Ok, Err, refl, ap, ◌∙◌}
+use Rattle.std.proofs.Common.{◌≡◌, ◌≢◌, ◌⊎◌, inl, inr, List, [], ◌∷◌, Option, Some, None, Result, Ok, Err, refl, ap, ◌∙◌}
 use Rattle.lvm_text.specs.Tree.{Tree}
 use Rattle.dm_table.specs.declared.load.place.Part.TheVariants.{Source}
 use Rattle.dm_table.specs.declared.load.load_fault.LoadKind.TheVariants.{Memory}
 use Rattle.dm_table.specs.declared.load.load_fault.LoadFault.{LoadFault}
 use Rattle.dm_table.specs.load.LoadFault.{IsMemoryFault, first_fault, first_or, unless}
-use Rattle.lvm_volume.specs.declared.check.Check.TheVariants.{Fields, Limits}
-use Rattle.lvm_volume.specs.Extents.{name_faults, snapshot_faults, unknown_faults}
-use Rattle.lvm_volume.specs.Fields.{faults_of_fields}
-use Rattle.lvm_volume.specs.Group.{Group, group_of}
-use Rattle.lvm_volume.specs.Tables.{members_of, checks_of_parts, extent_faults, group_checks, later_checks, unnamed}
-use Rattle.lvm_volume.proofs.FaultKinds.{NoMemory, first_kind, of_walk, of_unknown, of_extents, of_snapshots, of_unnamed}
+use Rattle.lvm_volume.specs.declared.fields.check.Check.TheVariants.{Fields, Limits}
+use Rattle.lvm_volume.specs.checks.Extents.{name_faults, snapshot_faults, unknown_faults}
+use Rattle.lvm_volume.specs.fields.Fields.{faults_of_fields}
+use Rattle.lvm_volume.specs.group.Group.{Group, group_of}
+use Rattle.lvm_volume.specs.tables.Tables.{members_of, checks_of_parts, extent_faults, group_checks, later_checks, unnamed}
+use Rattle.lvm_volume.proofs.checks.FaultKinds.{NoMemory, first_kind, of_walk, of_unknown, of_extents, of_snapshots, of_unnamed}
 
 -- what is returned where a fault is found
 abbrev pub Refused : {X : Type 0} → LoadFault → Result X LoadFault → Type 0
 Refused fault said = (fault.kind ≡ Memory → IsMemoryFault Source fault) × (fault.kind ≢ Memory → said ≡ Err fault)
 
+-- a check that finds a fault, or is out of memory
+pub refused_by : {X : Type 0} {found : Option LoadFault} {fault : LoadFault} {said : Result X LoadFault} → (found ≡ Some fault → Refused fault said) → (found ≡ Some fault) ⊎ IsMemoryFault Source fault → Refused fault said
+refused_by refused (inl is) = refused is
+refused_by refused (inr memory) = (λ kind. memory, λ other. absurd (other (ap (λ (f : LoadFault). f.kind) memory)))
+
 found_first : (faults : List LoadFault) (later : Option LoadFault) (fault : LoadFault) → first_or faults None ≡ Some fault → first_or faults later ≡ Some fault
 found_first [] later fault e = absurd cc
 found_first (f ∷ faults) later fault e = e
 
-found_later : (faults : List LoadFault) (later : Option LoadFault) → first_or faults None ≡ None → first_or faults later ≡ later
+pub found_later : (faults : List LoadFault) (later : Option LoadFault) → first_or faults None ≡ None → first_or faults later ≡ later
 found_later [] later e = refl
 found_later (f ∷ faults) later e = absurd cc
 

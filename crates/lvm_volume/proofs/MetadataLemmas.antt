@@ -11,9 +11,9 @@ use Rattle.dm_table.specs.declared.load.load_fault.LoadFault.{LoadFault}
 use Rattle.dm_table.specs.declared.tables.table.DeviceSpec.{DeviceSpec}
 use Rattle.dm_table.specs.declared.tables.disk.Disk.{Disk}
 use Rattle.dm_table.specs.load.LoadFault.{Answers, first_fault, first_or, unless}
-use Rattle.lvm_volume.specs.Group.{Group, group_of}
+use Rattle.lvm_volume.specs.group.Group.{Group, group_of}
 use Rattle.lvm_volume.specs.Metadata.{SaysTree, IsRefusedText, OfText, OfGroup, metadata_checks}
-use Rattle.lvm_volume.specs.Tables.{group_checks, tables_of, text_fault, unnamed}
+use Rattle.lvm_volume.specs.tables.Tables.{group_checks, tables_of, text_fault, unnamed}
 
 -- a check after others of which none finds anything, and after one that does
 last_check : (checks : List (List LoadFault)) (last : List LoadFault) → first_fault checks ≡ None → first_fault (checks ++ last ∷ []) ≡ first_or last None

@@ -13,9 +13,9 @@ use Rattle.dm_table.specs.declared.tables.disk.Disk.{Disk}
 use Rattle.dm_table.specs.declared.load.place.Part.TheVariants.{Source}
 use Rattle.dm_table.specs.declared.load.load_fault.LoadKind.TheVariants.{NotText}
 use Rattle.dm_table.specs.load.LoadFault.{fault_at, first_fault}
-use Rattle.lvm_volume.specs.Group.{group_of}
+use Rattle.lvm_volume.specs.group.Group.{group_of}
 use Rattle.lvm_volume.specs.Metadata.{DescribesGroup, SaysTree, IsRefusedText, NotUtf8, OfText, OfGroup, SaysOneThing, bad_byte_line, metadata_checks}
-use Rattle.lvm_volume.specs.Tables.{tables_of, text_fault}
+use Rattle.lvm_volume.specs.tables.Tables.{tables_of, text_fault}
 
 same_tree : (source : List ℕ) (t u : Tree) → SaysTree source t → SaysTree source u → t ≡ u
 same_tree source t u is_t is_u = one_tree source t u is_t.says is_u.says

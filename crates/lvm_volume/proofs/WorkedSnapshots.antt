@@ -12,18 +12,18 @@ use Rattle.dm_table.specs.declared.tables.table.StoreKind.TheVariants.{Persisten
 use Rattle.dm_table.specs.declared.tables.table.Target.{Target}
 use Rattle.dm_table.specs.declared.tables.table.Target.TheVariants as targets
 use Rattle.dm_table.specs.load.LoadFault.{fault_at, first_fault}
-use Rattle.lvm_volume.specs.declared.positions.GroupPositions.{GroupPositions}
-use Rattle.lvm_volume.specs.declared.roles.Role.TheVariants as roles
-use Rattle.lvm_volume.specs.declared.segment.Segment.{Segment}
-use Rattle.lvm_volume.specs.declared.segment.SegmentType.{SegmentType}
-use Rattle.lvm_volume.specs.declared.segment.SegmentType.TheVariants.{Striped, Snapshot}
-use Rattle.lvm_volume.specs.declared.volume.Volume.{Volume}
-use Rattle.lvm_volume.specs.declared.check.Check.TheVariants.{Fields}
-use Rattle.lvm_volume.specs.Extents.{source_line}
-use Rattle.lvm_volume.specs.Fields.{field_faults, fields_faults, segment_fields}
-use Rattle.lvm_volume.specs.Group.{Group, segment_of}
-use Rattle.lvm_volume.specs.Roles.{roles_of}
-use Rattle.lvm_volume.specs.Tables.{checks_of_parts, devices_in, line_of, tables_of, unnamed, unnamed_volume}
+use Rattle.lvm_volume.specs.declared.group.positions.GroupPositions.{GroupPositions}
+use Rattle.lvm_volume.specs.declared.group.roles.Role.TheVariants as roles
+use Rattle.lvm_volume.specs.declared.group.segment.Segment.{Segment}
+use Rattle.lvm_volume.specs.declared.group.segment.SegmentType.{SegmentType}
+use Rattle.lvm_volume.specs.declared.group.segment.SegmentType.TheVariants.{Striped, Snapshot}
+use Rattle.lvm_volume.specs.declared.group.volume.Volume.{Volume}
+use Rattle.lvm_volume.specs.declared.fields.check.Check.TheVariants.{Fields}
+use Rattle.lvm_volume.specs.checks.Extents.{source_line}
+use Rattle.lvm_volume.specs.fields.Fields.{field_faults, fields_faults, segment_fields}
+use Rattle.lvm_volume.specs.group.Group.{Group, segment_of}
+use Rattle.lvm_volume.specs.group.Roles.{roles_of}
+use Rattle.lvm_volume.specs.tables.Tables.{checks_of_parts, devices_in, line_of, tables_of, unnamed, unnamed_volume}
 
 -- What the segment of a record says, in a group with the volumes lv0, snap and snapshot0
 

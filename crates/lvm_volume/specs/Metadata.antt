@@ -12,8 +12,8 @@ use Rattle.dm_table.specs.declared.load.load_fault.LoadFault.{LoadFault}
 use Rattle.dm_table.specs.declared.tables.table.DeviceSpec.{DeviceSpec}
 use Rattle.dm_table.specs.declared.tables.disk.Disk.{Disk}
 use Rattle.dm_table.specs.load.LoadFault.{fault_at, first_fault}
-use Rattle.lvm_volume.specs.Group.{group_of}
-use Rattle.lvm_volume.specs.Tables.{group_checks, tables_of, text_fault, unnamed}
+use Rattle.lvm_volume.specs.group.Group.{group_of}
+use Rattle.lvm_volume.specs.tables.Tables.{group_checks, tables_of, text_fault, unnamed}
 
 -- the line of the first byte that is no UTF-8
 abbrev pub bad_byte_line : List ℕ → ℕ

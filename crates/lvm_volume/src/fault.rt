@@ -1,6 +1,6 @@
 //! Why no name is built of a group, a volume and a layer, and the message that tells it.
-//! The order of the variants is that of the checks of one part; a new reason is a variant here, a clause of
-//! `build_name` and a word of `specs/NameMessage`.
+//! A part is checked for `Empty`, `Letter` and `HyphenFirst`, in this order, and the whole for `Long` after that.
+//! A new reason is a variant here, an arm of `part_fault` in `specs/Names` and a word of `specs/NameMessage`.
 
 ghost use Rattle.std.specs.Prelude.{◌≡◌};
 ghost use Rattle.lvm_volume.specs.NameMessage.{name_message};

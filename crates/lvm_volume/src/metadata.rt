@@ -8,13 +8,13 @@ ghost use Rattle.std.specs.Str.{IsUtf8};
 ghost use Rattle.dm_table.specs.load.LoadFault.{Answers, IsMemoryFault, fault_at, first_fault, unless};
 ghost use Rattle.dm_table.specs.declared.load.load_fault.LoadKind.TheVariants.{Memory, NotText};
 ghost use Rattle.dm_table.specs.declared.load.place.Part.TheVariants.{Source};
-ghost use Rattle.lvm_volume.specs.Group.{group_of};
+ghost use Rattle.lvm_volume.specs.group.Group.{group_of};
 ghost use Rattle.lvm_volume.specs.Metadata.{DescribesGroup, IsRefusedText, SaysOneThing, bad_byte_line};
 ghost use Rattle.lvm_volume.specs.Metadata.{metadata_checks};
-ghost use Rattle.lvm_volume.specs.Tables.{tables_of};
+ghost use Rattle.lvm_volume.specs.tables.Tables.{tables_of};
 
+use crate::fields::source_line::source_fault;
 use crate::refused_text::text_fault;
-use crate::source_line::source_fault;
 use crate::volume_group::VolumeGroup;
 use dm_table::{DeviceSpec, Disk, LoadFault, LoadKind};
 use lvm_text::{Section, end_line, parse};

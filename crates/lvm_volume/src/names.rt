@@ -22,18 +22,21 @@ pub struct Parts<'a> {
     pub layer: Option<&'a str>,
 }
 
+/// Whether a part of a name may have a byte.
 fn is_letter(byte: u8) -> bool
     ensures { result ≡ is_letter byte }
 {
     byte.is_ascii_alphanumeric() || matches!(byte, b'+' | b'_' | b'.' | b'-')
 }
 
+/// Whether a part begins with a byte.
 fn begins_with(part: &[u8], byte: u8) -> bool
     ensures { result ≡ begins_with byte part.now }
 {
     !part.is_empty() && part[0] == byte
 }
 
+/// Whether a part has only bytes that it may have.
 fn are_letters(part: &[u8]) -> bool
     ensures { result ≡ list_all is_letter part.now }
 {

@@ -6,14 +6,19 @@
 ghost use Rattle.std.specs.Prelude.{◌≡◌, None};
 ghost use Rattle.dm_table.specs.load.LoadFault.{Answers, unless};
 ghost use Rattle.dm_table.specs.declared.load.place.Part.TheVariants.{Source};
-ghost use Rattle.lvm_volume.specs.Fields.{first_of};
-ghost use Rattle.lvm_volume.specs.Tables.{tables_of, unnamed};
+ghost use Rattle.lvm_volume.specs.fields.Fields.{first_of};
+ghost use Rattle.lvm_volume.specs.tables.Tables.{tables_of, unnamed};
 
-use crate::device_names::names_fault;
-use crate::devices::{GroupRef, devices_of};
-use crate::disks::disks_of;
-use crate::roles::roles_of;
-use crate::source_line::memory_fault;
+pub(crate) mod device_names;
+pub(crate) mod devices;
+pub(crate) mod disks;
+pub(crate) mod lines;
+
+use crate::fields::source_line::memory_fault;
+use crate::group::roles::roles_of;
+use crate::tables::device_names::check_names;
+use crate::tables::devices::{GroupRef, devices_of};
+use crate::tables::disks::disks_of;
 use crate::volume_group::VolumeGroup;
 use dm_table::{DeviceSpec, Disk, LoadFault};
 use std::alloc::Global;
@@ -41,11 +46,7 @@ impl VolumeGroup {
         let Ok(roles) = roles_of(alloc, &self.volumes) else {
             return Err(memory_fault());
         };
-        match names_fault(alloc, self.name.as_str(), &roles, &self.volumes) {
-            Ok(None) => {}
-            Ok(Some(fault)) => return Err(fault),
-            Err(_) => return Err(memory_fault()),
-        }
+        check_names(alloc, self.name.as_str(), &roles, &self.volumes)?;
         let group = GroupRef {
             name: self.name.as_str(),
             extent_size: self.extent_size,
@@ -55,9 +56,9 @@ impl VolumeGroup {
         let Ok(devices) = devices_of(alloc, &group, &roles) else {
             return Err(memory_fault());
         };
-        match disks_of(alloc, &self.physicals) {
-            Ok(disks) => Ok((devices, disks)),
-            Err(_) => Err(memory_fault()),
-        }
+        let Ok(disks) = disks_of(alloc, &self.physicals) else {
+            return Err(memory_fault());
+        };
+        Ok((devices, disks))
     }
 }

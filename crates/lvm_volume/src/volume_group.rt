@@ -2,31 +2,31 @@
 //!
 //! A `VolumeGroup` exists only where that is so, and its type keeps what tables rest on: numbers that fit 64
 //! bits in sectors, stripes of physical volumes that are there, and snapshots of volumes that are origins. A
-//! new check takes its place here and in `group_checks` of `specs/Tables.antt`.
+//! new check takes its place here and in `group_checks` of `specs/tables/Tables.antt`.
 
 ghost use Rattle.std.specs.Prelude.{◌≡◌, ◌∷◌, [], ℕ, List, None, IfOk, codes, length, map};
 ghost use Rattle.lvm_text.specs.Tree as tree;
 ghost use Rattle.lvm_text.specs.Iterate.{item_view};
 ghost use Rattle.dm_table.specs.load.LoadFault.{Answers, first_fault, unless};
 ghost use Rattle.dm_table.specs.declared.load.place.Part.TheVariants.{Source};
-ghost use Rattle.lvm_volume.specs.declared.check.Check.TheVariants.{Fields};
-ghost use Rattle.lvm_volume.specs.Extents.{name_faults};
-ghost use Rattle.lvm_volume.specs.Fields.{faults_of_fields, first_of};
-ghost use Rattle.lvm_volume.specs.Group.{group_in, group_of, group_with, volumes_in};
-ghost use Rattle.lvm_volume.specs.GroupCode.{parts_view};
-ghost use Rattle.lvm_volume.specs.Tables.{checks_of_parts, group_checks, later_checks};
+ghost use Rattle.lvm_volume.specs.declared.fields.check.Check.TheVariants.{Fields};
+ghost use Rattle.lvm_volume.specs.checks.Extents.{name_faults};
+ghost use Rattle.lvm_volume.specs.fields.Fields.{IsChecked, faults_of_fields, first_of};
+ghost use Rattle.lvm_volume.specs.group.Group.{group_in, group_of, group_with, volumes_in};
+ghost use Rattle.lvm_volume.specs.group.GroupCode.{parts_view};
+ghost use Rattle.lvm_volume.specs.tables.Tables.{checks_of_parts, group_checks, later_checks};
 
-use crate::check::Check;
-use crate::extents::{size_fault, volumes_fault};
-use crate::key::Key;
-use crate::physical::{Physical, physicals_in};
-use crate::positions::GroupPositions;
-use crate::segment_check::{snapshot_fault, unknown_line};
-use crate::source_line::{memory_fault, source_fault};
-use crate::value::{number_at, sections_at, sections_of};
-use crate::volume::{Volume, volumes_in};
-use crate::walk;
-use dm_table::{LoadFault, LoadKind};
+use crate::checks::extents::{check_extents, check_sizes};
+use crate::checks::segment_check::{check_snapshots, check_targets};
+use crate::fields::check::Check;
+use crate::fields::source_line::memory_fault;
+use crate::fields::value::{number_at, sections_at, sections_of};
+use crate::fields::walk::check_text;
+use crate::group::key::Key;
+use crate::group::physical::{Physical, physicals_in};
+use crate::group::positions::GroupPositions;
+use crate::group::volume::{Volume, volumes_in};
+use dm_table::LoadFault;
 use lvm_text::Section;
 use std::alloc::{AllocError, Global};
 use std::marker::Model;
@@ -41,8 +41,8 @@ pub struct VolumeGroup {
 }
 
 impl Model for VolumeGroup {
-    ghost use Rattle.lvm_volume.specs.Group.{Group, group_with};
-    ghost use Rattle.lvm_volume.specs.Tables.{IsSoundGroup};
+    ghost use Rattle.lvm_volume.specs.group.Group.{Group, group_with};
+    ghost use Rattle.lvm_volume.specs.tables.Tables.{IsSoundGroup};
 
     ghost Value = { Group };
 
@@ -79,11 +79,7 @@ impl VolumeGroup {
         ensures { Answers Source (λ group. group) result
             (unless (first_fault (group_checks top.now)) (group_of top.now)) }
     {
-        match walk::first_fault(alloc, Check::Fields, top) {
-            Ok(None) => {}
-            Ok(Some(fault)) => return Err(fault),
-            Err(_) => return Err(memory_fault()),
-        }
+        check_text(alloc, Check::Fields, top)?;
         let Ok(sections) = sections_of(alloc, top) else {
             return Err(memory_fault());
         };
@@ -111,20 +107,9 @@ fn read_group(
         (unless (first_fault (later_checks top.now)) (group_of top.now)) }
 {
     let extent_size = number_at(group.1, "extent_size");
-    match walk::first_fault(alloc, Check::Limits { extent_size }, top) {
-        Ok(None) => {}
-        Ok(Some(fault)) => return Err(fault),
-        Err(_) => return Err(memory_fault()),
-    }
-    let parts = match parts_in(alloc, group) {
-        Ok(parts) => parts,
-        Err(fault) => return Err(fault),
-    };
-    match parts_fault(alloc, extent_size, &parts) {
-        Ok(None) => {}
-        Ok(Some(fault)) => return Err(fault),
-        Err(_) => return Err(memory_fault()),
-    }
+    check_text(alloc, Check::Limits { extent_size }, top)?;
+    let parts = parts_in(alloc, group)?;
+    check_parts(alloc, extent_size, &parts)?;
     let Ok(name) = Key::new(alloc, group.0) else {
         return Err(memory_fault());
     };
@@ -145,14 +130,11 @@ fn parts_in(alloc: Global, group: (&str, &Section<'_>)) -> Result<Parts, LoadFau
     let Ok(sections) = sections_at(alloc, group.1, "physical_volumes") else {
         return Err(memory_fault());
     };
-    let physicals = match physicals_in(alloc, &sections) {
-        Ok(physicals) => physicals,
-        Err(fault) => return Err(fault),
+    let physicals = physicals_in(alloc, &sections)?;
+    let Ok(volumes) = volumes_of(alloc, group.1) else {
+        return Err(memory_fault());
     };
-    match volumes_of(alloc, group.1) {
-        Ok(volumes) => Ok(Parts { physicals, volumes }),
-        Err(_) => Err(memory_fault()),
-    }
+    Ok(Parts { physicals, volumes })
 }
 
 /// The volumes of a group.
@@ -164,23 +146,15 @@ fn volumes_of(alloc: Global, group: &Section<'_>) -> Result<Vec<Volume>, AllocEr
     volumes_in(alloc, &positions, &sections)
 }
 
-/// The first fault of the checks of what segments name, of extents, and of snapshots.
-fn parts_fault(
-    alloc: Global,
-    extent_size: u64,
-    parts: &Parts,
-) -> Result<Option<LoadFault>, AllocError>
-    ensures { (name : List ℕ) → IfOk result (λ fault. fault ≡ first_fault (checks_of_parts
+/// The checks of what segments name, of extents, and of snapshots, in this order.
+fn check_parts(alloc: Global, extent_size: u64, parts: &Parts) -> Result<(), LoadFault>
+    ensures { (name : List ℕ) → IsChecked result (first_fault (checks_of_parts
         (group_with name extent_size parts.now.physicals.items parts.now.volumes.items))) }
 {
-    if let Some(line) = unknown_line(parts.physicals.len(), &parts.volumes) {
-        return Ok(Some(source_fault(LoadKind::Unknown, line)));
-    }
-    if let Some(fault) = size_fault(extent_size, &parts.physicals) {
-        return Ok(Some(fault));
-    }
-    if let Some(fault) = volumes_fault(alloc, &parts.physicals, &parts.volumes)? {
-        return Ok(Some(fault));
-    }
-    snapshot_fault(alloc, &parts.volumes)
+    let physicals = parts.physicals.as_slice();
+    let volumes = parts.volumes.as_slice();
+    check_targets(physicals, volumes)?;
+    check_sizes(extent_size, physicals)?;
+    check_extents(alloc, physicals, volumes)?;
+    check_snapshots(alloc, volumes)
 }

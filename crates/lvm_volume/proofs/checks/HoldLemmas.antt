@@ -1,0 +1,91 @@
+-- The maps of all physical volumes, and what is claimed.
+use Rattle.std.proofs.Common.{◌≡◌, ◌⊎◌, ℕ, ◌+◌, ◌<◌, ◌≤◌, ◌==◌, Bool, true, false, List, [], ◌∷◌, ◌++◌, Option, Some, None, length, get_or, set, drop, Result, Ok, Err, refl, sym, ap, ◌∙◌, subst, arith, inl, inr}
+use Rattle.std.specs.Prelude.{IfOk}
+use Rattle.std.specs.List.{list_any}
+use Rattle.std.specs.Ordering.{nat_cmp}
+use Rattle.std.specs.BTreeMap.{BTreeMap, get}
+use Rattle.std.proofs.lemmas.Bool.Decides.{nat_tests}
+use Rattle.std.proofs.Common.{length-set, length-append}
+use Rattle.std.proofs.lemmas.Bool.{eqb-true, eqb-false, cases_lt}
+use Rattle.std.proofs.lemmas.List.{get_or-set_same, get_or-set_other, get_or_append_left}
+use Rattle.std.proofs.Math.Seq.{get_or-append_seam}
+use Rattle.lvm_volume.specs.checks.Extents.{Claim, meets, segment_faults, used_after, volume_faults}
+use Rattle.std.proofs.lemmas.List.{drop_more}
+use Rattle.dm_table.specs.load.LoadFault.{first_or}
+use Rattle.dm_table.specs.declared.load.load_fault.LoadFault.{LoadFault}
+use Rattle.lvm_volume.specs.declared.group.physical.Physical.{Physical}
+use Rattle.lvm_volume.specs.declared.group.segment.Segment.{Segment}
+use Rattle.lvm_volume.specs.declared.group.volume.Volume.{Volume}
+use Rattle.lvm_volume.proofs.fields.Faults.{first_after, first_here}
+use Rattle.lvm_volume.specs.checks.Used.{Holds, HasRanges, ranges_of, reaches}
+
+-- a claim meets others where its range reaches theirs on its physical volume
+pub meets_is : (claim : Claim) (used : List Claim) → list_any (meets claim) used ≡ list_any (reaches claim.first claim.end) (ranges_of claim.physical used)
+meets_is claim [] = refl
+meets_is claim (c ∷ used) = by_position (claim.physical == c.physical) refl (meets_is claim used) where
+  by_position : (b : Bool) → (claim.physical == c.physical) ≡ b → list_any (meets claim) used ≡ list_any (reaches claim.first claim.end) (ranges_of claim.physical used)
+      → list_any (meets claim) (c ∷ used) ≡ list_any (reaches claim.first claim.end) (ranges_of claim.physical (c ∷ used))
+  by_position true e rest = rw (e, rest) refl
+  by_position false e rest = rw (e, rest) refl
+
+-- an empty map keeps nothing
+pub keeps_nothing : (m : BTreeMap ℕ ℕ) → ((q : ℕ) → get nat_cmp m q ≡ None) → HasRanges m []
+keeps_nothing m none = record {
+  all = tt;
+  only = λ first end is a b hit. absurd (some_none (get nat_cmp m first) end is (none first));
+  some = λ first end is. absurd (some_none (get nat_cmp m first) end is (none first));
+  apart = λ a b c d is_b is_d before. absurd (some_none (get nat_cmp m a) b is_b (none a));
+} where
+  some_none : (o : Option ℕ) (b : ℕ) → o ≡ Some b → o ≡ None → ⊥
+  some_none o b e f = let g : Some b ≡ None = sym e ∙ f in absurd cc
+
+same_eqb : (n : ℕ) → (n == n) ≡ true
+same_eqb n = grind (arith, nat_tests)
+
+pub if_ok : {A B : Type 0} (r : Result A B) (P Q : A → Type 0) → ((a : A) → P a → Q a) → IfOk r P → IfOk r Q
+if_ok (Ok a) P Q f h = f a h
+if_ok (Err e) P Q f h = tt
+
+-- one claim more, where its range is has
+pub holds_more : (maps : List (BTreeMap ℕ ℕ)) (new : BTreeMap ℕ ℕ) (claim : Claim) (used : List Claim) → Holds maps used → claim.physical < length maps → HasRanges new ((claim.first, claim.end) ∷ ranges_of claim.physical used) → Holds (set maps claim.physical new) (claim ∷ used)
+holds_more maps new claim used holds within keeps = record { at = λ i d below. at_position i d (omega (arith, below, length-set maps claim.physical new)) (i == claim.physical) refl } where
+  at_position : (i : ℕ) (d : BTreeMap ℕ ℕ) → i < length maps → (b : Bool) → (i == claim.physical) ≡ b → HasRanges (get_or (set maps claim.physical new) i d) (ranges_of i (claim ∷ used))
+  at_position i d below true e =
+      let same : i ≡ claim.physical = eqb-true i claim.physical e in
+      let has : HasRanges (get_or (set maps claim.physical new) claim.physical d) ((claim.first, claim.end) ∷ ranges_of claim.physical used) =
+      subst (λ (m : BTreeMap ℕ ℕ). HasRanges m ((claim.first, claim.end) ∷ ranges_of claim.physical used)) (sym (get_or-set_same maps claim.physical new d within)) keeps in
+      let more : (claim.first, claim.end) ∷ ranges_of claim.physical used ≡ ranges_of claim.physical (claim ∷ used) = rw (same_eqb claim.physical) refl in
+      subst (λ (j : ℕ). HasRanges (get_or (set maps claim.physical new) j d) (ranges_of j (claim ∷ used))) (sym same)
+      (subst (λ (rs : List (ℕ × ℕ)). HasRanges (get_or (set maps claim.physical new) claim.physical d) rs) more has)
+  at_position i d below false e =
+      let has : HasRanges (get_or (set maps claim.physical new) i d) (ranges_of i used) =
+      subst (λ (m : BTreeMap ℕ ℕ). HasRanges m (ranges_of i used)) (sym (get_or-set_other maps claim.physical i new d (eqb-false i claim.physical e))) (holds.at i d below) in
+      let same : ranges_of i used ≡ ranges_of i (claim ∷ used) = rw e refl in
+      subst (λ (rs : List (ℕ × ℕ)). HasRanges (get_or (set maps claim.physical new) i d) rs) same has
+
+pub holds_nothing : (maps : List (BTreeMap ℕ ℕ)) (m : BTreeMap ℕ ℕ) → Holds maps [] → HasRanges m [] → Holds (maps ++ m ∷ []) []
+holds_nothing maps m holds keeps = record { at = λ i d below. at_position i d (cases_lt i (length maps)) (omega (arith, below, length-append maps (m ∷ []))) } where
+  at_position : (i : ℕ) (d : BTreeMap ℕ ℕ) → (i < length maps) ⊎ (length maps ≤ i) → i < length maps + 1 → HasRanges (get_or (maps ++ m ∷ []) i d) []
+  at_position i d (inl before) below = subst (λ (n : BTreeMap ℕ ℕ). HasRanges n []) (sym (get_or_append_left maps (m ∷ []) d i before)) (holds.at i d before)
+  at_position i d (inr after) below =
+      let last : i ≡ length maps = omega (arith, after, below) in
+      subst (λ (n : BTreeMap ℕ ℕ). HasRanges n []) (sym (ap (λ (j : ℕ). get_or (maps ++ m ∷ []) j d) last ∙ get_or-append_seam maps m [] d)) keeps
+
+-- one volume more is looked at
+pub volume_passed : (physicals : List Physical) (used : List Claim) (volumes : List Volume) (i : ℕ) (volume : Volume) (segments : List Segment) → i < length volumes → volume ≡ get_or volumes i volume → segments ≡ volume.segments
+    → first_or (segment_faults physicals used 0 segments) None ≡ None
+    → first_or (volume_faults physicals (used_after used segments) (drop (i + 1) volumes)) None ≡ first_or (volume_faults physicals used (drop i volumes)) None
+volume_passed physicals used volumes i volume segments within is same none =
+    let at : drop i volumes ≡ volume ∷ drop (i + 1) volumes = drop_more volumes i volume within ∙ ap (λ (v : Volume). v ∷ drop (i + 1) volumes) (sym is) in
+    sym (ap (λ (vs : List Volume). first_or (volume_faults physicals used vs) None) at
+    ∙ ap (λ (ss : List Segment). first_or (segment_faults physicals used 0 ss ++ volume_faults physicals (used_after used ss) (drop (i + 1) volumes)) None) (sym same)
+    ∙ first_after (segment_faults physicals used 0 segments) _ None none)
+
+-- or has a fault
+pub volume_stops : (physicals : List Physical) (used : List Claim) (volumes : List Volume) (i : ℕ) (volume : Volume) (segments : List Segment) (fault : LoadFault) → i < length volumes → volume ≡ get_or volumes i volume → segments ≡ volume.segments
+    → first_or (segment_faults physicals used 0 segments) None ≡ Some fault → first_or (volume_faults physicals used (drop i volumes)) None ≡ Some fault
+volume_stops physicals used volumes i volume segments fault within is same found =
+    let at : drop i volumes ≡ volume ∷ drop (i + 1) volumes = drop_more volumes i volume within ∙ ap (λ (v : Volume). v ∷ drop (i + 1) volumes) (sym is) in
+    ap (λ (vs : List Volume). first_or (volume_faults physicals used vs) None) at
+    ∙ ap (λ (ss : List Segment). first_or (segment_faults physicals used 0 ss ++ volume_faults physicals (used_after used ss) (drop (i + 1) volumes)) None) (sym same)
+    ∙ first_here (segment_faults physicals used 0 segments) _ None fault found

@@ -1,0 +1,14 @@
+-- what was used is now used with the segments so far, and those that are left tell the same as all did
+use Rattle.std.proofs.Common.{◌≡◌, List, None, drop, length}
+use Rattle.dm_table.specs.load.LoadFault.{first_or}
+use Rattle.lvm_volume.specs.checks.Extents.{Claim, segment_faults, used_after}
+use Rattle.lvm_volume.specs.checks.Used.{Holds}
+use Rattle.lvm_volume.proofs.checks.extents.check_segments.Given as goal
+
+abbrev pub invariant-loop-segment : goal.invariant-loop-segment
+invariant-loop-segment l = record {
+  now : (used : List Claim) → Holds l.fn.maps used → (now : List Claim) × Holds l.maps now
+      × (first_or (segment_faults l.physicals now l.end (drop l.segment-index l.segments)) None ≡ first_or (segment_faults l.physicals used 0 l.segments) None)
+      × (used_after now (drop l.segment-index l.segments) ≡ used_after used l.segments);
+  len : length l.maps ≡ length l.fn.maps;
+}

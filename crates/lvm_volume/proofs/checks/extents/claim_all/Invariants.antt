@@ -1,0 +1,13 @@
+-- what was used is now used with the stripes so far, and those that are left tell the same as all did
+use Rattle.std.proofs.Common.{◌≡◌, List, drop, length}
+use Rattle.lvm_volume.specs.checks.Extents.{Claim, have_clash, used_by}
+use Rattle.lvm_volume.specs.checks.Used.{Holds, claims_by}
+use Rattle.lvm_volume.proofs.checks.extents.claim_all.Given as goal
+
+abbrev pub invariant-loop-stripe : goal.invariant-loop-stripe
+invariant-loop-stripe l = record {
+  now : (used : List Claim) → Holds l.fn.maps used → (now : List Claim) × Holds l.maps now
+      × (have_clash l.physicals now (claims_by l.share (drop l.stripe-index l.stripes)) ≡ have_clash l.physicals used (claims_by l.share l.stripes))
+      × (used_by now (claims_by l.share (drop l.stripe-index l.stripes)) ≡ used_by used (claims_by l.share l.stripes));
+  len : length l.maps ≡ length l.fn.maps;
+}

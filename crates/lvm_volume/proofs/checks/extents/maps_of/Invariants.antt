@@ -1,0 +1,6 @@
+use Rattle.std.proofs.Common.{◌≡◌, [], length}
+use Rattle.lvm_volume.specs.checks.Used.{Holds}
+use Rattle.lvm_volume.proofs.checks.extents.maps_of.Given as goal
+
+abbrev pub invariant-loop-made : goal.invariant-loop-made
+invariant-loop-made l = record { held : Holds l.maps.items []; count : length l.maps.items ≡ l.made }

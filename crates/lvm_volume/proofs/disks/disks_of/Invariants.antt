@@ -1,6 +1,0 @@
-use Rattle.std.proofs.Common.{◌≡◌, ◌++◌, drop, map}
-use Rattle.lvm_volume.specs.Tables.{disk_of}
-use Rattle.lvm_volume.proofs.disks.disks_of.Given as goal
-
-abbrev pub invariant-loop-physical : goal.invariant-loop-physical
-invariant-loop-physical l = l.disks.items ++ map (disk_of) (drop l.physical-index l.physicals) ≡ map (disk_of) l.physicals

@@ -1,6 +1,0 @@
-use Rattle.std.proofs.Common.{◌≡◌, [], length}
-use Rattle.lvm_volume.specs.Used.{Holds}
-use Rattle.lvm_volume.proofs.extents.maps_of.Given as goal
-
-abbrev pub invariant-loop-made : goal.invariant-loop-made
-invariant-loop-made l = record { held : Holds l.maps.items []; count : length l.maps.items ≡ l.made }

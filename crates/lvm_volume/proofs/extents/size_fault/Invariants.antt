@@ -1,7 +1,0 @@
-use Rattle.std.proofs.Common.{◌≡◌, None, drop}
-use Rattle.dm_table.specs.load.LoadFault.{first_or}
-use Rattle.lvm_volume.specs.Extents.{size_faults}
-use Rattle.lvm_volume.proofs.extents.size_fault.Given as goal
-
-abbrev pub invariant-loop-physical : goal.invariant-loop-physical
-invariant-loop-physical l = first_or (size_faults l.extent_size (drop l.physical-index l.physicals)) None ≡ first_or (size_faults l.extent_size l.physicals) None

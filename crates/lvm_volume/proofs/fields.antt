@@ -1,0 +1,2 @@
+-- What a check of fields finds first.
+pub mod Faults

@@ -1,0 +1,10 @@
+use Rattle.std.proofs.Common.{◌≡◌, length}
+use Rattle.lvm_text.specs.View.{scalar_views}
+use Rattle.lvm_volume.specs.fields.Fields.{are_pairs}
+use Rattle.lvm_volume.proofs.fields.fits.are_pairs.Given as goal
+
+abbrev pub invariant-loop-rest : goal.invariant-loop-rest
+invariant-loop-rest l = are_pairs (scalar_views l.rest) ≡ are_pairs (scalar_views l.items)
+
+abbrev pub decreases-loop-rest : goal.decreases-loop-rest
+decreases-loop-rest l = length l.rest

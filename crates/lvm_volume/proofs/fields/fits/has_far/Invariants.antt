@@ -1,0 +1,8 @@
+use Rattle.std.proofs.Common.{◌≡◌, drop}
+use Rattle.std.specs.List.{list_any}
+use Rattle.lvm_text.specs.View.{scalar_views}
+use Rattle.lvm_volume.specs.fields.Fields.{is_far_scalar}
+use Rattle.lvm_volume.proofs.fields.fits.has_far.Given as goal
+
+abbrev pub invariant-loop-item : goal.invariant-loop-item
+invariant-loop-item l = list_any is_far_scalar (scalar_views (drop l.item-index l.items)) ≡ list_any is_far_scalar (scalar_views l.items)

@@ -1,8 +1,0 @@
-use Rattle.std.proofs.Common.{◌≡◌, drop}
-use Rattle.std.specs.List.{list_all}
-use Rattle.lvm_text.specs.View.{scalar_views}
-use Rattle.lvm_volume.specs.Fields.{is_text}
-use Rattle.lvm_volume.proofs.fits.are_texts.Given as goal
-
-abbrev pub invariant-loop-item : goal.invariant-loop-item
-invariant-loop-item l = list_all is_text (scalar_views (drop l.item-index l.items)) ≡ list_all is_text (scalar_views l.items)

@@ -1,0 +1,7 @@
+use Rattle.std.proofs.Common.{◌≡◌, ◌++◌, [], drop, map}
+use Rattle.std.specs.List.{enumerate_from}
+use Rattle.lvm_volume.specs.group.Roles.{role_of, roles_among}
+use Rattle.lvm_volume.proofs.group.roles.first_roles.Given as goal
+
+abbrev pub invariant-loop-volume : goal.invariant-loop-volume
+invariant-loop-volume l = l.roles.items ++ map (role_of []) (enumerate_from l.volume-index (drop l.volume-index l.volumes)) ≡ roles_among [] l.volumes

@@ -1,0 +1,13 @@
+-- the roles by the snapshots of the volumes that were passed, from the last on
+use Rattle.std.proofs.Common.{◌≡◌, ◌≤◌, drop, length}
+use Rattle.lvm_volume.specs.group.Roles.{records_of, roles_among}
+use Rattle.lvm_volume.proofs.group.roles.roles_of.Given as goal
+
+abbrev pub invariant-loop-at : goal.invariant-loop-at
+invariant-loop-at l = record {
+  made : l.roles.items ≡ roles_among (records_of (drop l.at l.volumes)) l.volumes;
+  within : l.at ≤ length l.volumes;
+}
+
+abbrev pub decreases-loop-at : goal.decreases-loop-at
+decreases-loop-at l = l.at

@@ -1,9 +1,0 @@
-use Rattle.std.proofs.Common.{arith}
-use Rattle.std.proofs.lemmas.Grind.{text_counts}
-use Rattle.lvm_volume.proofs.physical.counts_of.Goals as goal
-
-pub overflow_add-counts : goal.overflow_add-counts
-overflow_add-counts c = grind (arith, text_counts)
-
-pub loop-device-preserved : goal.loop-device-preserved
-loop-device-preserved c = grind (arith, text_counts)

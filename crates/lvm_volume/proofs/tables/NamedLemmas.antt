@@ -1,0 +1,74 @@
+-- Names of devices that are built, and those that are refused.
+use Rattle.std.proofs.Common.{◌≡◌, ◌≢◌, ◌⊎◌, inl, inr, ℕ, false, List, [], ◌∷◌, Option, Some, None, Ok, Err, refl, sym, ap, subst, ◌∙◌}
+use Rattle.std.specs.Prelude.{is_some}
+use Rattle.std.specs.List.{AllByRecursion, flat_map}
+use Rattle.dm_table.specs.declared.load.place.Part.TheVariants.{Source}
+use Rattle.dm_table.specs.declared.load.load_fault.LoadKind.TheVariants.{Name}
+use Rattle.dm_table.specs.declared.load.load_fault.LoadFault.{LoadFault}
+use Rattle.dm_table.specs.load.LoadFault.{IsMemoryFault, fault_at, first_or}
+use Rattle.lvm_volume.specs.declared.tables.device_names.Layer.{Layer}
+use Rattle.lvm_volume.specs.declared.tables.device_names.Layer.TheVariants.{Real, Cow}
+use Rattle.lvm_volume.specs.declared.fault.NameFault.{NameFault}
+use Rattle.lvm_volume.specs.declared.fault.NameFault.TheVariants as names
+use Rattle.lvm_volume.specs.declared.group.roles.Record.{Record}
+use Rattle.lvm_volume.specs.declared.group.roles.Role.{Role}
+use Rattle.lvm_volume.specs.declared.group.roles.Role.TheVariants as roles
+use Rattle.lvm_volume.specs.declared.group.volume.Volume.{Volume}
+use Rattle.lvm_volume.specs.Names.{Returns, fault_of, name_or}
+use Rattle.lvm_volume.specs.checks.Extents.{hit}
+use Rattle.lvm_volume.specs.tables.Tables.{device_parts, layers_of, unnamed_layer, unnamed_volume}
+use Rattle.lvm_volume.proofs.checks.Sound.{append-nil_both, hit-nil}
+
+pub named : (o : Option NameFault) (text name : List ℕ) (line : ℕ) → Returns (Ok name) (name_or o text) → None ≡ first_or (hit (is_some o) Name line) None
+named None text name line e = refl
+named (Some f) text name line e = absurd cc
+
+pub refused : (o : Option NameFault) (text : List ℕ) (f : NameFault) (line : ℕ) → f ≢ names.Memory → Returns (Err f) (name_or o text) → Some (fault_at Source Name line) ≡ first_or (hit (is_some o) Name line) None
+refused (Some g) text f line other e = refl
+refused None text names.Letter line other e = absurd cc
+refused None text names.HyphenFirst line other e = absurd cc
+refused None text names.Empty line other e = absurd cc
+refused None text names.Long line other e = absurd cc
+refused None text names.Memory line other e = absurd (other refl)
+
+pub refused_found : (o : Option NameFault) (text : List ℕ) (f : NameFault) (fault : LoadFault) (line : ℕ) → (f ≡ names.Memory → IsMemoryFault Source fault) → (f ≢ names.Memory → fault ≡ fault_at Source Name line)
+    → Returns (Err f) (name_or o text) → (first_or (hit (is_some o) Name line) None ≡ Some fault) ⊎ IsMemoryFault Source fault
+refused_found o text names.Memory fault line memory is e = inr (memory refl)
+refused_found o text names.Letter fault line memory is e = let other : names.Letter ≢ names.Memory = λ same. absurd cc in inl (sym (refused o text names.Letter line other e) ∙ ap Some (sym (is other)))
+refused_found o text names.HyphenFirst fault line memory is e = let other : names.HyphenFirst ≢ names.Memory = λ same. absurd cc in inl (sym (refused o text names.HyphenFirst line other e) ∙ ap Some (sym (is other)))
+refused_found o text names.Empty fault line memory is e = let other : names.Empty ≢ names.Memory = λ same. absurd cc in inl (sym (refused o text names.Empty line other e) ∙ ap Some (sym (is other)))
+refused_found o text names.Long fault line memory is e = let other : names.Long ≢ names.Memory = λ same. absurd cc in inl (sym (refused o text names.Long line other e) ∙ ap Some (sym (is other)))
+
+-- Volumes of which no name is refused
+
+not_some : (o : Option NameFault) → is_some o ≡ false → o ≡ None
+not_some None e = refl
+not_some (Some f) e = absurd cc
+
+layers_named : (group : List ℕ) (volume : Volume) (layers : List (Option Layer)) → flat_map (unnamed_layer group volume) layers ≡ [] → AllByRecursion (λ layer. fault_of (device_parts group volume.name layer) ≡ None) layers
+layers_named group volume [] e = tt
+layers_named group volume (layer ∷ layers) e =
+    let a = append-nil_both (unnamed_layer group volume layer) _ e in
+    (not_some (fault_of (device_parts group volume.name layer)) (hit-nil _ Name volume.line a.0), layers_named group volume layers a.1)
+
+-- the names of a volume by its role
+
+abbrev Named : List ℕ → Volume → Option Layer → Type 0
+Named group volume layer = fault_of (device_parts group volume.name layer) ≡ None
+
+volume_named : (group : List ℕ) (role : Role) (volume : Volume) → unnamed_volume group (role, volume) ≡ [] → AllByRecursion (Named group volume) (layers_of role)
+unfolding unnamed_volume
+volume_named group role volume e = layers_named group volume (layers_of role) e
+
+pub plain_named : (group : List ℕ) (role : Role) (volume : Volume) → unnamed_volume group (role, volume) ≡ [] → role ≡ roles.Plain → Named group volume None
+plain_named group role volume e is = (subst (λ (r : Role). AllByRecursion (Named group volume) (layers_of r)) is (volume_named group role volume e)).0
+
+pub origin_named : (group : List ℕ) (role : Role) (volume : Volume) → unnamed_volume group (role, volume) ≡ [] → role ≡ roles.Origin → Named group volume (Some Real) × Named group volume None
+origin_named group role volume e is =
+    let both = subst (λ (r : Role). AllByRecursion (Named group volume) (layers_of r)) is (volume_named group role volume e) in
+    (both.0, both.1.0)
+
+pub store_named : (group : List ℕ) (role : Role) (volume : Volume) (snapshot : Record) → unnamed_volume group (role, volume) ≡ [] → role ≡ roles.Store snapshot → Named group volume (Some Cow) × Named group volume None
+store_named group role volume snapshot e is =
+    let both = subst (λ (r : Role). AllByRecursion (Named group volume) (layers_of r)) is (volume_named group role volume e) in
+    (both.0, both.1.0)

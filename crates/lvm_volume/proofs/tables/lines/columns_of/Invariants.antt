@@ -1,0 +1,10 @@
+use Rattle.std.proofs.Common.{◌≡◌, ◌++◌, drop, map}
+use Rattle.std.specs.List.{AllByRecursion}
+use Rattle.lvm_volume.specs.tables.Tables.{IsStripeIn, column_of}
+use Rattle.lvm_volume.proofs.tables.lines.columns_of.Given as goal
+
+abbrev pub invariant-loop-stripe : goal.invariant-loop-stripe
+invariant-loop-stripe l = record {
+  made : l.columns.items ++ map (column_of l.extent_size l.physicals) (drop l.stripe-index l.stripes) ≡ map (column_of l.extent_size l.physicals) l.stripes;
+  left : AllByRecursion (IsStripeIn l.extent_size l.physicals) (drop l.stripe-index l.stripes);
+}

@@ -1,0 +1,10 @@
+use Rattle.std.proofs.Common.{◌≡◌, ◌++◌, drop, map}
+use Rattle.std.specs.List.{AllByRecursion}
+use Rattle.lvm_volume.specs.tables.Tables.{IsSegmentIn, line_of}
+use Rattle.lvm_volume.proofs.tables.lines.lines_of.Given as goal
+
+abbrev pub invariant-loop-segment : goal.invariant-loop-segment
+invariant-loop-segment l = record {
+  made : l.lines.items ++ map (line_of l.extent_size l.physicals) (drop l.segment-index l.segments) ≡ map (line_of l.extent_size l.physicals) l.segments;
+  left : AllByRecursion (IsSegmentIn l.extent_size l.physicals) (drop l.segment-index l.segments);
+}

@@ -1,8 +1,0 @@
--- the sections so far and those that are left are all
-use Rattle.std.proofs.Common.{◌≡◌, ◌++◌, map}
-use Rattle.lvm_text.specs.Tree as spec
-use Rattle.lvm_text.specs.Iterate.{item_view, sections_left}
-use Rattle.lvm_volume.proofs.value.sections_of.Given as goal
-
-abbrev pub invariant-loop-item : goal.invariant-loop-item
-invariant-loop-item l = map item_view l.all.items ++ sections_left l.item-iterator ≡ spec.sections_of l.section.values

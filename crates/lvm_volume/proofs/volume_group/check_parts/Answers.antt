@@ -1,0 +1,34 @@
+use Rattle.std.proofs.Common.{◌≡◌, ◌∙◌, List, [], Option, None, ap, length, subst, sym}
+use Rattle.dm_table.specs.declared.load.load_fault.LoadFault.{LoadFault}
+use Rattle.dm_table.specs.declared.load.load_fault.LoadKind.TheVariants.{Unknown}
+use Rattle.dm_table.specs.load.LoadFault.{first_or}
+use Rattle.lvm_volume.specs.declared.group.physical.Physical.{Physical}
+use Rattle.lvm_volume.specs.declared.group.volume.Volume.{Volume}
+use Rattle.lvm_volume.specs.checks.Extents.{at_line, is_unknown, least_line_of, size_faults, snapshot_faults_in, unknown_faults, volume_faults}
+use Rattle.lvm_volume.specs.fields.Fields.{IsChecked}
+use Rattle.lvm_volume.specs.group.Group.{Group}
+use Rattle.lvm_volume.specs.tables.Tables.{extent_faults}
+use Rattle.lvm_volume.proofs.fields.Faults.{first_after}
+use Rattle.lvm_volume.proofs.GroupLemmas.{found_later}
+use Rattle.lvm_volume.proofs.volume_group.check_parts.Goals as goal
+
+pub returns : goal.returns
+returns c = λ name.
+    let size = c.args.extent_size in
+    let physicals = c.args.parts.now.physicals.items in
+    let volumes = c.args.parts.now.volumes.items in
+    let group : Group = record { name = name; extent_size = size; physicals = physicals; volumes = volumes } in
+    let ps = c.as_slice-physicals.ensures.value in
+    let vs = c.as_slice-volumes.ensures.value in
+    let unknown : first_or (unknown_faults group) None ≡ None =
+    sym (c.in_ok-check_targets.ensures
+    ∙ ap (λ (ps : List Physical). first_or (at_line Unknown (least_line_of (λ alone. is_unknown (length ps) (length c.as_slice-volumes.result.now)) c.as_slice-volumes.result.now)) None) ps
+    ∙ ap (λ (vs : List Volume). first_or (at_line Unknown (least_line_of (λ alone. is_unknown (length physicals) (length vs)) vs)) None) vs) in
+    let sizes : first_or (size_faults size physicals) None ≡ None = sym (c.in_ok-check_sizes.ensures ∙ ap (λ (ps : List Physical). first_or (size_faults size ps) None) ps) in
+    let lie : first_or (volume_faults physicals [] volumes) None ≡ None =
+    sym (ap (λ (ps : List Physical). first_or (volume_faults ps [] c.as_slice-volumes.result.now) None) ps
+    ∙ ap (λ (vs : List Volume). first_or (volume_faults physicals [] vs) None) vs)
+    ∙ c.in_ok-check_extents.ensures in
+    let extents : first_or (extent_faults group) None ≡ None = first_after (size_faults size physicals) _ None sizes ∙ lie in
+    let later = ap (λ (vs : List Volume). first_or (snapshot_faults_in vs) None) vs ∙ sym (found_later (unknown_faults group) _ unknown ∙ found_later (extent_faults group) _ extents) in
+    subst (λ (o : Option LoadFault). IsChecked c.check_snapshots.result o) later c.check_snapshots.ensures

@@ -1,0 +1,156 @@
+-- The checks of a group beyond its fields: names of disks, segments that name nothing, how extents lie, and snapshots.
+use Rattle.std.specs.Prelude.{ℕ, ◌+◌, ◌*◌, ◌/◌, ◌%◌, Bool, false, not, ◌&&◌, ◌||◌, ◌==◌, List, [], ◌∷◌, ◌++◌, Option, Some, None, nat_lt, length, map, min, slice_index, if◌then◌else◌}
+use Rattle.std.specs.List.{list_any}
+use Rattle.dm_table.specs.declared.load.place.Part.TheVariants.{Source}
+use Rattle.dm_table.specs.declared.load.place.Place.{Place}
+use Rattle.dm_table.specs.declared.load.load_fault.LoadKind.{LoadKind}
+use Rattle.dm_table.specs.declared.load.load_fault.LoadKind.TheVariants.{Name, Unknown, Extents}
+use Rattle.dm_table.specs.declared.load.load_fault.LoadKind.TheVariants as loads
+use Rattle.dm_table.specs.declared.load.load_fault.LoadFault.{LoadFault}
+use Rattle.dm_table.specs.load.LoadFault.{faults_by}
+use Rattle.dm_table.specs.words.Name.{is_disk_name}
+use Rattle.lvm_volume.specs.declared.group.segment.Stripe.{Stripe}
+use Rattle.lvm_volume.specs.declared.group.segment.SegmentType.{SegmentType}
+use Rattle.lvm_volume.specs.declared.group.segment.SegmentType.TheVariants.{Zero, Error, Striped, Snapshot}
+use Rattle.lvm_volume.specs.declared.group.segment.Segment.{Segment}
+use Rattle.lvm_volume.specs.declared.group.volume.Volume.{Volume}
+use Rattle.lvm_volume.specs.declared.group.physical.Physical.{Physical}
+use Rattle.lvm_volume.specs.fields.Fields.{source_faults}
+use Rattle.lvm_volume.specs.group.Group.{Group}
+use Rattle.lvm_volume.specs.group.Roles.{is_bad_snapshot, roles_of}
+
+-- the place of a line of the source
+abbrev pub source_line : ℕ → Place
+source_line line = record { part = Source; number = line }
+
+-- a fault where a test hits
+abbrev pub hit : Bool → LoadKind → ℕ → List LoadFault
+hit bad kind line = if bad then source_faults kind line else []
+
+-- Names: a physical volume whose disk gets no name of a disk. A key is a word, so this is one of more than 255 bytes.
+abbrev pub name_faults : List Physical → List LoadFault
+name_faults physicals = faults_by Name (λ physical. source_line physical.line) (λ physical. not (is_disk_name physical.disk)) physicals
+
+-- The first segment in the text that a test finds. It is the one at the least line, whatever its number in its volume
+
+-- the lesser of a line and one that may be missing
+abbrev pub lesser : ℕ → Option ℕ → ℕ
+lesser line None = line
+lesser line (Some other) = min line other
+
+-- the least line of a segment that the test finds, or of those after them
+abbrev pub least_line : (Segment → Bool) → List Segment → Option ℕ → Option ℕ
+least_line test [] later = later
+least_line test (segment ∷ segments) later = if test segment then Some (lesser segment.line (least_line test segments later)) else least_line test segments later
+
+-- the same over volumes, where the test is told whether a segment is the only one of its volume
+abbrev pub least_line_of : ((alone : Bool) → Segment → Bool) → List Volume → Option ℕ
+least_line_of test [] = None
+least_line_of test (volume ∷ volumes) = least_line (test (length volume.segments == 1)) volume.segments (least_line_of test volumes)
+
+abbrev pub at_line : LoadKind → Option ℕ → List LoadFault
+at_line kind None = []
+at_line kind (Some line) = source_faults kind line
+
+-- Unknown: a stripe that names no physical volume, or a snapshot that names no volume
+
+abbrev pub stripes_of : SegmentType → List Stripe
+stripes_of (Striped stripe_size stripes) = stripes
+stripes_of Zero = []
+stripes_of Error = []
+stripes_of (Snapshot chunk_size origin store) = []
+
+abbrev pub volumes_named : SegmentType → List ℕ
+volumes_named (Snapshot chunk_size origin store) = origin ∷ store ∷ []
+volumes_named (Striped stripe_size stripes) = []
+volumes_named Zero = []
+volumes_named Error = []
+
+abbrev pub is_unknown : (physicals volumes : ℕ) → Segment → Bool
+is_unknown physicals volumes segment =
+    list_any (λ stripe. not (nat_lt stripe.physical physicals)) (stripes_of segment.target) || list_any (λ position. not (nat_lt position volumes)) (volumes_named segment.target)
+
+abbrev pub unknown_faults : Group → List LoadFault
+unknown_faults group = at_line Unknown (least_line_of (λ alone. is_unknown (length group.physicals) (length group.volumes)) group.volumes)
+
+-- Snapshot: a snapshot that its group can't have
+
+abbrev pub snapshot_faults_in : List Volume → List LoadFault
+snapshot_faults_in volumes = at_line loads.Snapshot (least_line_of (is_bad_snapshot volumes (roles_of volumes)) volumes)
+
+abbrev pub snapshot_faults : Group → List LoadFault
+snapshot_faults group = snapshot_faults_in group.volumes
+
+-- Extents: physical volumes that are longer than their device
+
+abbrev pub is_too_long : ℕ → Physical → Bool
+is_too_long extent_size physical = nat_lt physical.size (physical.start + physical.count * extent_size)
+
+abbrev pub size_faults : ℕ → List Physical → List LoadFault
+size_faults extent_size physicals = faults_by Extents (λ physical. source_line physical.line) (is_too_long extent_size) physicals
+
+-- Extents: what the stripes of segments use
+
+-- extents of a physical volume, from the first to before the end
+pub record Claim : Type 0 where
+  pub physical : ℕ
+  pub first : ℕ
+  pub end : ℕ
+
+abbrev pub claim_on : (physical first end : ℕ) → Claim
+claim_on physical first end = record { physical = physical; first = first; end = end }
+
+-- two claims have an extent in common
+abbrev pub meets : Claim → Claim → Bool
+meets a b = a.physical == b.physical && (nat_lt a.first b.end && nat_lt b.first a.end)
+
+-- how many extents a physical volume has
+abbrev pub extents_at : List Physical → ℕ → ℕ
+extents_at physicals i = slice_index (map (λ physical. physical.count) physicals) i
+
+-- the number of parts that a segment is divided into
+abbrev pub parts_of : SegmentType → ℕ
+parts_of (Striped stripe_size stripes) = length stripes
+parts_of Zero = 1
+parts_of Error = 1
+parts_of (Snapshot chunk_size origin store) = 1
+
+-- the claims of a segment, each of as many extents
+abbrev pub claims_of : Segment → List Claim
+claims_of segment =
+    map (λ stripe. claim_on stripe.physical stripe.extent (stripe.extent + segment.count / parts_of segment.target)) (stripes_of segment.target)
+
+-- a claim that passes the end of its physical volume, or meets one of these or an earlier one
+abbrev pub have_clash : List Physical → List Claim → List Claim → Bool
+have_clash physicals used [] = false
+have_clash physicals used (claim ∷ claims) =
+    nat_lt (extents_at physicals claim.physical) claim.end || (list_any (meets claim) used || have_clash physicals (claim ∷ used) claims)
+
+-- these and the claims after them
+abbrev pub used_by : List Claim → List Claim → List Claim
+used_by used [] = used
+used_by used (claim ∷ claims) = used_by (claim ∷ used) claims
+
+-- the segment doesn't start at the end of the one before, is empty or not divided by its stripes, or its claims clash
+abbrev pub is_misplaced : List Physical → List Claim → ℕ → Segment → Bool
+is_misplaced physicals used end segment =
+    not (segment.start == end)
+    || (segment.count == 0
+    || (parts_of segment.target == 0
+    || (not (segment.count % parts_of segment.target == 0) || have_clash physicals used (claims_of segment))))
+
+-- the segments of a volume, the first of which starts at this extent
+abbrev pub segment_faults : List Physical → List Claim → ℕ → List Segment → List LoadFault
+segment_faults physicals used end [] = []
+segment_faults physicals used end (segment ∷ segments) =
+    hit (is_misplaced physicals used end segment) Extents segment.line
+    ++ segment_faults physicals (used_by used (claims_of segment)) (segment.start + segment.count) segments
+
+abbrev pub used_after : List Claim → List Segment → List Claim
+used_after used [] = used
+used_after used (segment ∷ segments) = used_after (used_by used (claims_of segment)) segments
+
+abbrev pub volume_faults : List Physical → List Claim → List Volume → List LoadFault
+volume_faults physicals used [] = []
+volume_faults physicals used (volume ∷ volumes) =
+    segment_faults physicals used 0 volume.segments ++ volume_faults physicals (used_after used volume.segments) volumes

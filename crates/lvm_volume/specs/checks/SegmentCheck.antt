@@ -1,0 +1,12 @@
+-- What a check of segments finds.
+use Rattle.std.specs.Prelude.{Bool}
+use Rattle.lvm_volume.specs.declared.group.segment.Segment.{Segment}
+use Rattle.lvm_volume.specs.declared.checks.segment_check.SegmentCheck.{SegmentCheck}
+use Rattle.lvm_volume.specs.declared.checks.segment_check.SegmentCheck.TheVariants.{Unknown, Snapshot}
+use Rattle.lvm_volume.specs.checks.Extents.{is_unknown}
+use Rattle.lvm_volume.specs.group.Roles.{is_bad_snapshot}
+
+-- whether it finds a segment, which is alone in its volume or not
+abbrev pub test_of : SegmentCheck → (alone : Bool) → Segment → Bool
+test_of (Unknown physicals volumes) alone segment = is_unknown physicals volumes segment
+test_of (Snapshot volumes all) alone segment = is_bad_snapshot volumes.now all.now alone segment

@@ -1,0 +1,38 @@
+-- Ranges of extents that are used, as a map from the first of each to the end before which it lies.
+use Rattle.std.specs.Prelude.{◌≡◌, ℕ, ◌+◌, ◌<◌, ◌≤◌, ◌==◌, Bool, true, false, ◌&&◌, nat_lt, List, [], ◌∷◌, Some, length, map, if◌then◌else◌}
+use Rattle.std.proofs.Common.{get_or}
+use Rattle.std.specs.List.{list_any, AllByRecursion}
+use Rattle.std.specs.Ordering.{nat_cmp}
+use Rattle.std.specs.BTreeMap.{BTreeMap, get}
+use Rattle.lvm_volume.specs.declared.group.segment.Stripe.{Stripe}
+use Rattle.lvm_volume.specs.declared.group.physical.Physical.{Physical}
+use Rattle.lvm_volume.specs.checks.Extents.{Claim, claim_on, have_clash, used_by}
+
+-- a range has something in common with that from the first to before the end
+abbrev pub reaches : ℕ → ℕ → ℕ × ℕ → Bool
+reaches first end range = nat_lt first range.1 && nat_lt range.0 end
+
+-- the map has these ranges, which have nothing in common, and no other
+pub record HasRanges (used : BTreeMap ℕ ℕ) (ranges : List (ℕ × ℕ)) : Type 0 where
+  pub all : AllByRecursion (λ range. get nat_cmp used range.0 ≡ Some range.1) ranges
+  pub only : (first end : ℕ) → get nat_cmp used first ≡ Some end → (a b : ℕ) → reaches a b (first, end) ≡ true → list_any (reaches a b) ranges ≡ true
+  pub some : (first end : ℕ) → get nat_cmp used first ≡ Some end → first < end
+  pub apart : (a b c d : ℕ) → get nat_cmp used a ≡ Some b → get nat_cmp used c ≡ Some d → a < c → b ≤ c
+
+-- the ranges of the claims on a physical volume
+abbrev pub ranges_of : ℕ → List Claim → List (ℕ × ℕ)
+ranges_of physical [] = []
+ranges_of physical (claim ∷ claims) = if physical == claim.physical then (claim.first, claim.end) ∷ ranges_of physical claims else ranges_of physical claims
+
+-- the maps of the physical volumes have what is claimed
+pub record Holds (maps : List (BTreeMap ℕ ℕ)) (claims : List Claim) : Type 0 where
+  pub at : (physical : ℕ) (d : BTreeMap ℕ ℕ) → physical < length maps → HasRanges (get_or maps physical d) (ranges_of physical claims)
+
+-- the claims of stripes, with this many extents each
+abbrev pub claims_by : ℕ → List Stripe → List Claim
+claims_by share stripes = map (λ stripe. claim_on stripe.physical stripe.extent (stripe.extent + share)) stripes
+
+-- what claims come to, where others were made before: whether there was a clash, and what is claimed if not
+pub record Claimed (physicals : List Physical) (new : List (BTreeMap ℕ ℕ)) (claims used : List Claim) (clash : Bool) : Type 0 where
+  pub value : clash ≡ have_clash physicals used claims
+  pub held : clash ≡ false → Holds new (used_by used claims)

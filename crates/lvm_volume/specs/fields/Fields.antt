@@ -1,0 +1,293 @@
+-- The fields of a group's metadata that are read, and what each may hold (vgcfgbackup(8), lvm.conf(5)).
+use Rattle.std.specs.Prelude.{◌≡◌, ◌⊎◌, ℕ, ◌*◌, Bool, true, false, not, ◌&&◌, ◌||◌, ◌==◌, List, [], ◌∷◌, ◌++◌, Option, Some, None, Result, Ok, Err, nat_lt, is_some, bytes_eq, codes, decimal, length, map, if◌then◌else◌}
+use Rattle.std.specs.List.{flat_map, list_any, list_all, range_with_len}
+use Rattle.lvm_text.specs.Tree.{Tree, Content, Inner, Whole, Items, Scalar, Int, Text, Shown, node_of, sections_of}
+use Rattle.dm_table.specs.declared.load.place.Part.TheVariants.{Source}
+use Rattle.dm_table.specs.declared.load.load_fault.LoadKind.{LoadKind}
+use Rattle.dm_table.specs.declared.load.load_fault.LoadKind.TheVariants as loads
+use Rattle.dm_table.specs.declared.load.load_fault.LoadFault.{LoadFault}
+use Rattle.dm_table.specs.load.LoadFault.{IsMemoryFault, fault_at, first_or}
+use Rattle.lvm_volume.specs.declared.fields.field.Kind.{Kind}
+use Rattle.lvm_volume.specs.declared.fields.field.Kind.TheVariants as kinds
+use Rattle.lvm_volume.specs.declared.fields.field.Condition.{Condition}
+use Rattle.lvm_volume.specs.declared.fields.field.Condition.TheVariants.{Always, Given, Striped, Several, Snapshot}
+use Rattle.lvm_volume.specs.declared.fields.field.Field as code
+use Rattle.lvm_volume.specs.declared.fields.check.Check.{Check}
+use Rattle.lvm_volume.specs.declared.fields.check.Check.TheVariants.{Fields, Limits}
+use Rattle.lvm_text.specs.declared.tree.Scalar.{Scalar as code_scalar}
+use Rattle.lvm_text.specs.View.{scalar_views}
+use denote.Ref.{Bor}
+
+-- The tables
+
+-- a key, what it may hold, and where it is asked for
+pub record Field : Type 0 where
+  pub key : List ℕ
+  pub kind : Kind
+  pub when : Condition
+
+abbrev pub field : List ℕ → Kind → Condition → Field
+field key kind when = record { key = key; kind = kind; when = when }
+
+abbrev pub always : List ℕ → Kind → Field
+always key kind = field key kind Always
+
+abbrev pub top_fields : List Field
+top_fields = always (codes "contents") kinds.Title ∷ always (codes "version") kinds.Version ∷ []
+
+abbrev pub group_fields : List Field
+group_fields =
+    always (codes "extent_size") kinds.Positive
+    ∷ always (codes "physical_volumes") kinds.Section
+    ∷ field (codes "logical_volumes") kinds.Section Given
+    ∷ []
+
+abbrev pub physical_fields : List Field
+physical_fields =
+    always (codes "device") kinds.Text
+    ∷ always (codes "dev_size") kinds.Number
+    ∷ always (codes "pe_start") kinds.Number
+    ∷ always (codes "pe_count") kinds.Extents
+    ∷ []
+
+abbrev pub volume_fields : List Field
+volume_fields = always (codes "status") kinds.Texts ∷ always (codes "segment_count") kinds.Number ∷ []
+
+-- segment number i of a volume
+abbrev pub segment_field : ℕ → Field
+segment_field i = always (codes "segment" ++ decimal i) kinds.Section
+
+abbrev pub segment_fields : List Field
+segment_fields =
+    always (codes "start_extent") kinds.Extents
+    ∷ always (codes "extent_count") kinds.Extents
+    ∷ always (codes "type") kinds.Type
+    ∷ field (codes "stripe_count") kinds.Positive Striped
+    ∷ field (codes "stripes") kinds.Stripes Striped
+    ∷ field (codes "stripe_size") kinds.Number Several
+    ∷ field (codes "chunk_size") kinds.Number Snapshot
+    ∷ field (codes "origin") kinds.Text Snapshot
+    ∷ field (codes "cow_store") kinds.Text Snapshot
+    ∷ []
+
+-- What a section holds under a key
+
+abbrev pub number_in : Content → ℕ
+number_in (Whole (Int n)) = n
+number_in _ = 0
+
+abbrev pub text_in : Content → List ℕ
+text_in (Whole (Text text)) = text
+text_in _ = []
+
+abbrev pub items_in : Content → List Scalar
+items_in (Items items) = items
+items_in _ = []
+
+abbrev pub sections_in : Content → List (List ℕ × Tree)
+sections_in (Inner tree) = sections_of tree.values
+sections_in _ = []
+
+abbrev pub section_in : Content → List Tree
+section_in (Inner tree) = tree ∷ []
+section_in _ = []
+
+-- what a node that may be missing holds
+abbrev pub held : {X : Type 0} → X → (Content → X) → Option Shown → X
+held other view None = other
+held other view (Some shown) = view shown.content
+
+-- the integer of a key, or 0; its string, its list, and the sections inside it, or none
+abbrev pub number_at : List ℕ → Tree → ℕ
+number_at key tree = held 0 number_in (node_of key tree.values)
+
+abbrev pub text_at : List ℕ → Tree → List ℕ
+text_at key tree = held [] text_in (node_of key tree.values)
+
+abbrev pub items_at : List ℕ → Tree → List Scalar
+items_at key tree = held [] items_in (node_of key tree.values)
+
+abbrev pub sections_at : List ℕ → Tree → List (List ℕ × Tree)
+sections_at key tree = held [] sections_in (node_of key tree.values)
+
+-- the section of a key, if there is one
+abbrev pub section_at : List ℕ → Tree → List Tree
+section_at key tree = held [] section_in (node_of key tree.values)
+
+-- the segments of a volume, from 1 on
+abbrev pub segments_of : Tree → List Tree
+segments_of volume = flat_map (λ i. section_at (codes "segment" ++ decimal i) volume) (range_with_len 1 (number_at (codes "segment_count") volume))
+
+-- Where a field is asked for
+
+abbrev pub is_striped : Tree → Bool
+is_striped segment = bytes_eq (text_at (codes "type") segment) (codes "striped")
+
+abbrev pub is_snapshot : Tree → Bool
+is_snapshot segment = bytes_eq (text_at (codes "type") segment) (codes "snapshot")
+
+abbrev pub is_asked : Condition → List ℕ → Tree → Bool
+is_asked Always key tree = true
+is_asked Given key tree = is_some (node_of key tree.values)
+is_asked Striped key tree = is_striped tree
+is_asked Several key tree = is_striped tree && nat_lt 1 (number_at (codes "stripe_count") tree)
+is_asked Snapshot key tree = is_snapshot tree
+
+-- What a field may hold
+
+abbrev pub is_text_with : (List ℕ → Bool) → Content → Bool
+is_text_with test (Whole (Text text)) = test text
+is_text_with test _ = false
+
+abbrev pub is_number_with : (ℕ → Bool) → Content → Bool
+is_number_with test (Whole (Int n)) = test n
+is_number_with test _ = false
+
+abbrev pub is_list_with : (List Scalar → Bool) → Content → Bool
+is_list_with test (Items items) = test items
+is_list_with test _ = false
+
+abbrev pub is_section : Content → Bool
+is_section (Inner tree) = true
+is_section _ = false
+
+abbrev pub is_text : Scalar → Bool
+is_text (Text text) = true
+is_text (Int n) = false
+
+-- the types of segments
+abbrev pub is_type : List ℕ → Bool
+is_type text = bytes_eq text (codes "striped") || (bytes_eq text (codes "zero") || (bytes_eq text (codes "error") || bytes_eq text (codes "snapshot")))
+
+-- strings and integers in turn
+abbrev pub are_pairs : List Scalar → Bool
+are_pairs [] = true
+are_pairs (Text name ∷ Int extent ∷ items) = are_pairs items
+are_pairs _ = false
+
+abbrev pub fits : Kind → Tree → Content → Bool
+fits kinds.Title tree content = is_text_with (λ text. bytes_eq text (codes "Text Format Volume Group")) content
+fits kinds.Version tree content = is_number_with (λ n. n == 1) content
+fits kinds.Number tree content = is_number_with (λ n. true) content
+fits kinds.Positive tree content = is_number_with (λ n. nat_lt 0 n) content
+fits kinds.Extents tree content = is_number_with (λ n. true) content
+fits kinds.Text tree content = is_text_with (λ text. true) content
+fits kinds.Texts tree content = is_list_with (list_all is_text) content
+fits kinds.Type tree content = is_text_with is_type content
+fits kinds.Stripes tree content = is_list_with (λ items. are_pairs items && 2 * number_at (codes "stripe_count") tree == length items) content
+fits kinds.Section tree content = is_section content
+
+-- What is in the limits: 2^50, for numbers of extents also in sectors
+
+abbrev pub most : ℕ
+most = 1125899906842624
+
+abbrev pub counts_extents : Kind → Bool
+counts_extents kinds.Extents = true
+counts_extents _ = false
+
+abbrev pub is_far_scalar : Scalar → Bool
+is_far_scalar (Text text) = false
+is_far_scalar (Int n) = nat_lt most n
+
+abbrev pub is_far : ℕ → Kind → Content → Bool
+is_far extent_size kind (Whole (Int n)) = nat_lt most n || (counts_extents kind && nat_lt most (n * extent_size))
+is_far extent_size kind (Whole (Text text)) = false
+is_far extent_size kind (Items items) = list_any is_far_scalar items
+is_far extent_size kind (Inner tree) = false
+
+-- What a check finds at the fields of a section
+
+-- the first of some faults
+abbrev pub first_of : List LoadFault → Option LoadFault
+first_of faults = first_or faults None
+
+-- a check passed where this is nothing, and else failed with it, save that out of memory may stand in its place
+abbrev pub IsChecked : {X : Type 0} → Result X LoadFault → (found : Option LoadFault) → Type 0
+IsChecked (Ok done) found = found ≡ None
+IsChecked (Err fault) found = (found ≡ Some fault) ⊎ IsMemoryFault Source fault
+
+-- one fault, at a line of the text
+abbrev pub source_faults : LoadKind → ℕ → List LoadFault
+source_faults kind line = fault_at Source kind line ∷ []
+
+abbrev pub load_kind : Check → LoadKind
+load_kind Fields = loads.Field
+load_kind (Limits extent_size) = loads.Limit
+
+abbrev pub is_wrong : Check → Kind → Tree → Content → Bool
+is_wrong Fields kind tree content = not (fits kind tree content)
+is_wrong (Limits extent_size) kind tree content = is_far extent_size kind content
+
+-- a missing field, which only the check of fields finds
+abbrev pub missing : Check → ℕ → List LoadFault
+missing Fields line = source_faults loads.Field line
+missing (Limits extent_size) line = []
+
+-- what is found at a key: a missing one at the line of the section, another at its own
+abbrev pub node_faults : Check → Kind → Tree → Option Shown → List LoadFault
+node_faults check kind tree None = missing check tree.line
+node_faults check kind tree (Some shown) = if is_wrong check kind tree shown.content then source_faults (load_kind check) shown.line else []
+
+unfoldable pub field_faults : Check → Tree → Field → List LoadFault
+field_faults check tree f = if is_asked f.when f.key tree then node_faults check f.kind tree (node_of f.key tree.values) else []
+
+-- The order of the fields
+
+abbrev pub fields_faults : Check → Tree → List Field → List LoadFault
+fields_faults check tree fields = flat_map (field_faults check tree) fields
+
+-- the segments of a volume, each as a field of it
+abbrev pub keys_faults : Check → Tree → List LoadFault
+keys_faults check volume =
+    flat_map (λ i. field_faults check volume (segment_field i)) (range_with_len 1 (number_at (codes "segment_count") volume))
+
+-- a volume: its fields, each of its segments as a field, and then the fields of each segment
+unfoldable pub volume_faults : Check → Tree → List LoadFault
+volume_faults check volume =
+    fields_faults check volume volume_fields
+    ++ (keys_faults check volume ++ flat_map (λ segment. fields_faults check segment segment_fields) (segments_of volume))
+
+abbrev pub physicals_faults : Check → List (List ℕ × Tree) → List LoadFault
+physicals_faults check physicals = flat_map (λ physical. fields_faults check physical.1 physical_fields) physicals
+
+abbrev pub volumes_faults : Check → List (List ℕ × Tree) → List LoadFault
+volumes_faults check volumes = flat_map (λ volume. volume_faults check volume.1) volumes
+
+-- a group: its fields, its physical volumes, and then its volumes
+unfoldable pub group_faults : Check → Tree → List LoadFault
+group_faults check group =
+    fields_faults check group group_fields
+    ++ (physicals_faults check (sections_at (codes "physical_volumes") group)
+    ++ volumes_faults check (sections_at (codes "logical_volumes") group))
+
+-- the one section at the top
+unfoldable pub one_group_faults : Check → ℕ → List (List ℕ × Tree) → List LoadFault
+one_group_faults check line [] = missing check line
+one_group_faults check line (group ∷ []) = group_faults check group.1
+one_group_faults check line (group ∷ second ∷ more) = missing check second.1.line
+
+-- the faults of all fields that are read
+abbrev pub faults_of_fields : Check → Tree → List LoadFault
+faults_of_fields check top = fields_faults check top top_fields ++ one_group_faults check top.line (sections_of top.values)
+
+-- The fields as the code has them
+
+abbrev pub field_view : code.Field → Field
+field_view f = record { key = f.key.now; kind = f.kind; when = f.when }
+
+abbrev pub field_views : List code.Field → List Field
+field_views = map field_view
+
+-- a section that may be missing, as a list
+abbrev pub section_list : Option (Bor Tree) → List Tree
+section_list None = []
+section_list (Some section) = section.now ∷ []
+
+abbrev pub section_view : Bor Tree → Tree
+section_view section = section.now
+
+-- the scalars of a list that may be missing
+abbrev pub items_view : Option (Bor (List code_scalar)) → List Scalar
+items_view None = []
+items_view (Some items) = scalar_views items.now

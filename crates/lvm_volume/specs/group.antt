@@ -1,0 +1,5 @@
+-- What the sections of a group say, and what volumes are to snapshots.
+pub mod Group
+pub mod GroupCode
+pub mod RoleCode
+pub mod Roles

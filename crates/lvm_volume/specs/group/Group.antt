@@ -1,0 +1,150 @@
+-- What a group's metadata says: the group, its physical volumes, and its volumes with their segments.
+use Rattle.std.specs.Prelude.{ℕ, Bool, false, not, ◌&&◌, ◌||◌, ◌==◌, List, [], ◌∷◌, nat_lt, bytes_eq, codes, count_by, map, if◌then◌else◌}
+use Rattle.std.specs.List.{list_any, position_or_len}
+use Rattle.dm_table.specs.words.Bytes.{slash}
+use Rattle.lvm_text.specs.Tree.{Tree, Scalar, Int, Text, Nothing, sections_of}
+use Rattle.dm_table.specs.words.Name.{is_disk_name}
+use Rattle.lvm_volume.specs.declared.group.positions.GroupPositions.{GroupPositions}
+use Rattle.lvm_volume.specs.declared.group.segment.Stripe.{Stripe}
+use Rattle.lvm_volume.specs.declared.group.segment.SegmentType.{SegmentType}
+use Rattle.lvm_volume.specs.declared.group.segment.SegmentType.TheVariants.{Zero, Error, Striped, Snapshot}
+use Rattle.lvm_volume.specs.declared.group.segment.Segment.{Segment}
+use Rattle.lvm_volume.specs.declared.group.volume.Volume.{Volume}
+use Rattle.lvm_volume.specs.declared.group.physical.Physical.{Physical}
+use Rattle.lvm_volume.specs.fields.Fields.{number_at, text_at, items_at, sections_at, segments_of, is_snapshot, is_striped}
+
+-- a group: its name, the sectors of an extent, its physical volumes, and its volumes
+pub record Group : Type 0 where
+  pub name : List ℕ
+  pub extent_size : ℕ
+  pub physicals : List Physical
+  pub volumes : List Volume
+
+abbrev pub group_with : (name : List ℕ) → (extent_size : ℕ) → List Physical → List Volume → Group
+group_with name extent_size physicals volumes = record { name = name; extent_size = extent_size; physicals = physicals; volumes = volumes }
+
+-- Physical volumes
+
+-- a section with its key
+abbrev pub Keyed : Type 0
+Keyed = List ℕ × Tree
+
+abbrev pub device_of : Keyed → List ℕ
+device_of physical = text_at (codes "device") physical.1
+
+abbrev pub begins_with_slash : List ℕ → Bool
+begins_with_slash [] = false
+begins_with_slash (b ∷ bs) = b == slash
+
+-- the device of two physical volumes or more
+abbrev pub is_shared : List (List ℕ) → List ℕ → Bool
+is_shared devices device = nat_lt 1 (count_by (λ other. bytes_eq device other) devices)
+
+-- the device, where it can be a disk's name and is a path that no other has, and else the key
+unfoldable pub chosen : Bool → (key device : List ℕ) → List ℕ
+chosen shared key device = if begins_with_slash device && (not shared && is_disk_name device) then device else key
+
+-- the name of the disk of a physical volume, among the devices of all
+abbrev pub disk_name : List (List ℕ) → Keyed → List ℕ
+disk_name devices physical = chosen (is_shared devices (device_of physical)) physical.0 (device_of physical)
+
+unfoldable pub physical_of : List (List ℕ) → Keyed → Physical
+physical_of devices physical = record {
+  disk = disk_name devices physical;
+  size = number_at (codes "dev_size") physical.1;
+  start = number_at (codes "pe_start") physical.1;
+  count = number_at (codes "pe_count") physical.1;
+  line = physical.1.line;
+}
+
+-- the physical volumes that sections say
+abbrev pub physicals_in : List Keyed → List Physical
+physicals_in sections = map (physical_of (map device_of sections)) sections
+
+-- Volumes
+
+-- the keys of sections
+abbrev pub keys_in : List Keyed → List (List ℕ)
+keys_in = map (λ section. section.0)
+
+-- the position of a key, or their number where it is none of them
+abbrev pub position_of : List (List ℕ) → List ℕ → ℕ
+position_of keys key = position_or_len (bytes_eq key) keys
+
+abbrev pub stripes_in : List (List ℕ) → List Scalar → List Stripe
+stripes_in keys (Text key ∷ Int extent ∷ items) = record { physical = position_of keys key; extent = extent } ∷ stripes_in keys items
+stripes_in keys _ = []
+
+abbrev pub striped_in : List (List ℕ) → Tree → SegmentType
+striped_in keys segment = Striped (number_at (codes "stripe_size") segment) (stripes_in keys (items_at (codes "stripes") segment))
+
+abbrev pub snapshot_in : List (List ℕ) → Tree → SegmentType
+snapshot_in keys segment =
+    Snapshot (number_at (codes "chunk_size") segment) (position_of keys (text_at (codes "origin") segment)) (position_of keys (text_at (codes "cow_store") segment))
+
+abbrev pub target_of : GroupPositions → Tree → SegmentType
+target_of keys segment =
+    if is_striped segment then striped_in keys.physicals segment
+    else (if is_snapshot segment then snapshot_in keys.volumes segment
+    else (if bytes_eq (text_at (codes "type") segment) (codes "zero") then Zero else Error))
+
+unfoldable pub segment_of : GroupPositions → Tree → Segment
+segment_of keys segment = record {
+  start = number_at (codes "start_extent") segment;
+  count = number_at (codes "extent_count") segment;
+  target = target_of keys segment;
+  line = segment.line;
+}
+
+abbrev pub is_text_of : List ℕ → Scalar → Bool
+is_text_of word (Text text) = bytes_eq text word
+is_text_of word (Int n) = false
+
+-- whether the list of a key has a string
+abbrev pub lists : (key word : List ℕ) → Tree → Bool
+lists key word section = list_any (is_text_of word) (items_at key section)
+
+-- the right to write: lvm2 writes a locked one among the flags
+abbrev pub is_writable : Tree → Bool
+is_writable volume =
+    lists (codes "status") (codes "WRITE") volume
+    || (lists (codes "status") (codes "WRITE_LOCKED") volume
+    || lists (codes "flags") (codes "WRITE_LOCKED") volume)
+
+unfoldable pub volume_of : GroupPositions → Keyed → Volume
+volume_of keys volume = record {
+  name = volume.0;
+  ro = not (is_writable volume.1);
+  segments = map (segment_of keys) (segments_of volume.1);
+  line = volume.1.line;
+}
+
+-- The group
+
+-- the keys of a group, in their order
+abbrev pub positions_in : Tree → GroupPositions
+positions_in group = record {
+  physicals = keys_in (sections_at (codes "physical_volumes") group);
+  volumes = keys_in (sections_at (codes "logical_volumes") group);
+}
+
+-- the volumes of a group
+abbrev pub volumes_in : Tree → List Volume
+volumes_in group = map (volume_of (positions_in group)) (sections_at (codes "logical_volumes") group)
+
+abbrev pub group_in : Keyed → Group
+group_in group = record {
+  name = group.0;
+  extent_size = number_at (codes "extent_size") group.1;
+  physicals = physicals_in (sections_at (codes "physical_volumes") group.1);
+  volumes = volumes_in group.1;
+}
+
+-- the first section, or an empty one
+abbrev pub first_section : List Keyed → Keyed
+first_section [] = ([], record { line = 0; values = Nothing })
+first_section (section ∷ sections) = section
+
+-- the group of a text
+abbrev pub group_of : Tree → Group
+group_of top = group_in (first_section (sections_of top.values))

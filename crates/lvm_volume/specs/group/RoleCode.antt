@@ -1,0 +1,30 @@
+-- Roles as the code finds them, one snapshot after the other.
+use Rattle.std.specs.Prelude.{ℕ, ◌+◌, ◌==◌, List, [], ◌∷◌, Option, Some, None, if◌then◌else◌}
+use Rattle.lvm_volume.specs.declared.group.roles.Record.{Record}
+use Rattle.lvm_volume.specs.declared.group.roles.Role.{Role}
+use Rattle.lvm_volume.specs.declared.group.roles.Role.TheVariants as roles
+
+abbrev pub record_list : Option Record → List Record
+record_list None = []
+record_list (Some snapshot) = snapshot ∷ []
+
+-- a role with one more snapshot that has the volume as its origin, or as its store
+
+abbrev pub with_origin : Role → Role
+with_origin roles.Plain = roles.Origin
+with_origin roles.Origin = roles.Origin
+with_origin (roles.Store snapshot) = roles.Clashing
+with_origin roles.Record = roles.Record
+with_origin roles.Clashing = roles.Clashing
+
+abbrev pub with_store : Record → Role → Role
+with_store snapshot roles.Plain = roles.Store snapshot
+with_store snapshot roles.Origin = roles.Clashing
+with_store snapshot (roles.Store other) = roles.Clashing
+with_store snapshot roles.Record = roles.Record
+with_store snapshot roles.Clashing = roles.Clashing
+
+-- the roles with the one at a position changed, where the first is at this position
+abbrev pub changed : (Role → Role) → (position first : ℕ) → List Role → List Role
+changed change position first [] = []
+changed change position first (role ∷ all) = (if position == first then change role else role) ∷ changed change position (first + 1) all

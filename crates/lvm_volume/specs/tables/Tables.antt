@@ -1,0 +1,231 @@
+-- The checks of a group in their order, and the devices and disks that a group is.
+use Rattle.std.specs.Prelude.{◌≡◌, ℕ, ◌+◌, ◌*◌, ◌^◌, ◌<◌, Bool, false, List, [], ◌∷◌, ◌++◌, Option, None, Some, ⊤, codes, is_some, length, map, option_map, slice_index_or}
+use Rattle.std.specs.List.{flat_map, zip, AllByRecursion}
+use Rattle.lvm_text.specs.Tree.{Tree}
+use Rattle.dm_table.specs.declared.load.place.Part.TheVariants.{Source}
+use Rattle.dm_table.specs.declared.load.load_fault.LoadKind.TheVariants.{Deep, Field, Memory, Name, Syntax, Twice}
+use Rattle.dm_table.specs.declared.load.load_fault.LoadFault.{LoadFault}
+use Rattle.dm_table.specs.declared.tables.table.DevRef.TheVariants as refs
+use Rattle.dm_table.specs.declared.tables.table.Column.{Column}
+use Rattle.dm_table.specs.declared.tables.table.Target.{Target}
+use Rattle.dm_table.specs.declared.tables.table.Target.TheVariants as targets
+use Rattle.dm_table.specs.declared.tables.table.StoreKind.TheVariants.{Persistent}
+use Rattle.dm_table.specs.declared.tables.table.Line.{Line}
+use Rattle.dm_table.specs.declared.tables.table.DeviceSpec.{DeviceSpec}
+use Rattle.dm_table.specs.declared.tables.disk.Disk.{Disk}
+use Rattle.dm_table.specs.load.LoadFault.{fault_at}
+use Rattle.lvm_text.specs.declared.fault.TextFault.{TextFault}
+use Rattle.lvm_text.specs.declared.fault.TextFault.TheVariants as texts
+use Rattle.lvm_volume.specs.declared.group.segment.Stripe.{Stripe}
+use Rattle.lvm_volume.specs.declared.group.segment.SegmentType.{SegmentType}
+use Rattle.lvm_volume.specs.declared.group.segment.SegmentType.TheVariants.{Zero, Error, Striped, Snapshot}
+use Rattle.lvm_volume.specs.declared.group.segment.Segment.{Segment}
+use Rattle.lvm_volume.specs.declared.group.volume.Volume.{Volume}
+use Rattle.lvm_volume.specs.declared.group.physical.Physical.{Physical}
+use Rattle.lvm_volume.specs.declared.tables.device_names.Layer.{Layer}
+use Rattle.lvm_volume.specs.declared.tables.device_names.Layer.TheVariants.{Real, Cow}
+use Rattle.lvm_volume.specs.declared.group.roles.Record.{Record}
+use Rattle.lvm_volume.specs.declared.group.roles.Role.{Role}
+use Rattle.lvm_volume.specs.declared.group.roles.Role.TheVariants as roles
+use Rattle.lvm_volume.specs.declared.fields.check.Check.TheVariants.{Fields, Limits}
+use Rattle.lvm_volume.specs.Names.{NameParts, fault_of, joined}
+use Rattle.lvm_volume.specs.fields.Fields.{faults_of_fields}
+use Rattle.lvm_volume.specs.group.Group.{Group, group_of}
+use Rattle.lvm_volume.specs.group.Roles.{extents_of, name_at, records_of, role_at, roles_of, segments_at}
+use Rattle.lvm_volume.specs.checks.Extents.{hit, name_faults, size_faults, snapshot_faults, source_line, stripes_of, unknown_faults, volume_faults}
+
+-- The checks, in their order
+
+-- how extents lie: those of physical volumes, and then those of segments
+abbrev pub extent_faults : Group → List LoadFault
+extent_faults group = size_faults group.extent_size group.physicals ++ volume_faults group.physicals [] group.volumes
+
+abbrev pub checks_of_parts : Group → List (List LoadFault)
+checks_of_parts group = unknown_faults group ∷ extent_faults group ∷ snapshot_faults group ∷ []
+
+abbrev pub later_checks : Tree → List (List LoadFault)
+later_checks top =
+    let group = group_of top in
+    faults_of_fields (Limits group.extent_size) top ∷ name_faults group.physicals ∷ checks_of_parts group
+
+-- the checks of a group's text
+abbrev pub group_checks : Tree → List (List LoadFault)
+group_checks top = faults_of_fields Fields top ∷ later_checks top
+
+-- Tables
+
+-- the physical volume at a position
+abbrev pub physical_at : List Physical → ℕ → Physical
+physical_at physicals i = slice_index_or physicals i (record { disk = []; size = 0; start = 0; count = 0; line = 0 })
+
+-- the sectors of a stripe, from its first on
+abbrev pub column_of : ℕ → List Physical → Stripe → Column
+column_of extent_size physicals stripe =
+    let physical = physical_at physicals stripe.physical in
+    record { to = refs.Disk physical.disk; offset = physical.start + stripe.extent * extent_size }
+
+-- one column is linear
+abbrev pub columns_target : ℕ → List Column → Target
+columns_target stripe_size (column ∷ []) = targets.Linear column.to column.offset
+columns_target stripe_size columns = targets.Striped stripe_size columns
+
+abbrev pub line_target : ℕ → List Physical → SegmentType → Target
+line_target extent_size physicals (Striped stripe_size stripes) = columns_target stripe_size (map (column_of extent_size physicals) stripes)
+line_target extent_size physicals Zero = targets.Zero
+line_target extent_size physicals Error = targets.Error
+-- no device has the segment of a record
+line_target extent_size physicals (Snapshot chunk_size origin store) = targets.Error
+
+-- the line of a segment
+unfoldable pub line_of : ℕ → List Physical → Segment → Line
+line_of extent_size physicals segment = record {
+  start = segment.start * extent_size;
+  len = segment.count * extent_size;
+  target = line_target extent_size physicals segment.target;
+  at = source_line segment.line;
+}
+
+abbrev pub lines_of : Group → List Segment → List Line
+lines_of group segments = map (line_of group.extent_size group.physicals) segments
+
+-- Devices
+
+-- the layers of an origin and of a store, below them in the stack
+abbrev pub layer_text : Layer → List ℕ
+layer_text Real = codes "real"
+layer_text Cow = codes "cow"
+
+-- what the name of a volume of a group, or of a layer of it, is built of
+abbrev pub device_parts : List ℕ → List ℕ → Option Layer → NameParts
+device_parts group volume layer = record { vg = group; lv = volume; layer = option_map layer_text layer }
+
+abbrev pub device_name : List ℕ → List ℕ → Option Layer → List ℕ
+device_name group volume layer = joined (device_parts group volume layer)
+
+-- a name is built of these parts
+abbrev pub IsNamed : List ℕ → List ℕ → Option Layer → Type 0
+IsNamed group volume layer = fault_of (device_parts group volume layer) ≡ None
+
+-- the device of a volume's own segments: the volume itself, or its layer
+abbrev pub own_device : Group → Volume → (ro : Bool) → Option Layer → DeviceSpec
+own_device group volume ro layer = record {
+  name = device_name group.name volume.name layer;
+  ro = ro;
+  lines = lines_of group volume.segments;
+  at = source_line volume.line;
+}
+
+-- the device of a volume over its layer, of one line
+abbrev pub over_device : Group → Volume → Line → DeviceSpec
+over_device group volume line = record {
+  name = device_name group.name volume.name None;
+  ro = volume.ro;
+  lines = line ∷ [];
+  at = source_line volume.line;
+}
+
+-- the sectors of a volume
+abbrev pub length_of : Group → List Segment → ℕ
+length_of group segments = extents_of segments * group.extent_size
+
+abbrev pub origin_line : Group → Volume → Line
+origin_line group volume = record {
+  start = 0;
+  len = length_of group volume.segments;
+  target = targets.Origin (refs.Device (device_name group.name volume.name (Some Real)));
+  at = source_line volume.line;
+}
+
+abbrev pub snapshot_line : Group → Volume → Record → Line
+snapshot_line group volume snapshot = record {
+  start = 0;
+  len = length_of group (segments_at group.volumes snapshot.origin);
+  target = targets.Snapshot
+      (refs.Device (device_name group.name (name_at group.volumes snapshot.origin) (Some Real)))
+      (refs.Device (device_name group.name volume.name (Some Cow)))
+      Persistent
+      snapshot.chunk_size;
+  at = source_line snapshot.line;
+}
+
+-- the devices of a volume by its role
+abbrev pub devices_by : Group → Volume → Role → List DeviceSpec
+devices_by group volume roles.Plain = own_device group volume volume.ro None ∷ []
+devices_by group volume roles.Origin = own_device group volume false (Some Real) ∷ over_device group volume (origin_line group volume) ∷ []
+devices_by group volume (roles.Store snapshot) = own_device group volume false (Some Cow) ∷ over_device group volume (snapshot_line group volume snapshot) ∷ []
+devices_by group volume roles.Record = []
+devices_by group volume roles.Clashing = []
+
+unfoldable pub devices_in : Group → Role × Volume → List DeviceSpec
+devices_in group member = devices_by group member.1 member.0
+
+unfoldable pub disk_of : Physical → Disk
+disk_of physical = record { name = physical.disk; len = physical.size; at = source_line physical.line }
+
+-- the layers of a volume that are devices, by its role: one that isn't a layer is the volume itself
+abbrev pub layers_of : Role → List (Option Layer)
+layers_of roles.Plain = None ∷ []
+layers_of roles.Origin = Some Real ∷ None ∷ []
+layers_of (roles.Store snapshot) = Some Cow ∷ None ∷ []
+layers_of roles.Record = []
+layers_of roles.Clashing = []
+
+-- a device of whose parts no name is built
+abbrev pub unnamed_layer : List ℕ → Volume → Option Layer → List LoadFault
+unnamed_layer group volume layer = hit (is_some (fault_of (device_parts group volume.name layer))) Name volume.line
+
+unfoldable pub unnamed_volume : List ℕ → Role × Volume → List LoadFault
+unnamed_volume group member = flat_map (unnamed_layer group member.1) (layers_of member.0)
+
+-- the volumes of a group with their roles
+abbrev pub members_of : Group → List (Role × Volume)
+members_of group = zip (roles_of group.volumes) group.volumes
+
+abbrev pub unnamed : Group → List LoadFault
+unnamed group = flat_map (unnamed_volume group.name) (members_of group)
+
+-- the devices and the disks of a group
+abbrev pub tables_of : Group → List DeviceSpec × List Disk
+tables_of group = (flat_map (devices_in group) (members_of group), map disk_of group.physicals)
+
+-- What checks leave: numbers that fit 64 bits in sectors, stripes of physical volumes that are there, and snapshots of
+-- volumes that are origins
+
+pub record IsStripeIn (extent_size : ℕ) (physicals : List Physical) (stripe : Stripe) : Type 0 where
+  pub there : stripe.physical < length physicals
+  pub offset : (physical_at physicals stripe.physical).start + stripe.extent * extent_size < 2 ^ 64
+
+pub record IsSegmentIn (extent_size : ℕ) (physicals : List Physical) (segment : Segment) : Type 0 where
+  pub start : segment.start * extent_size < 2 ^ 64
+  pub len : segment.count * extent_size < 2 ^ 64
+  pub end : (segment.start + segment.count) * extent_size < 2 ^ 64
+  pub stripes : AllByRecursion (IsStripeIn extent_size physicals) (stripes_of segment.target)
+
+abbrev pub AreSegmentsIn : Group → List Segment → Type 0
+AreSegmentsIn group segments = AllByRecursion (IsSegmentIn group.extent_size group.physicals) segments
+
+pub record IsSoundGroup (group : Group) : Type 0 where
+  pub volumes : AllByRecursion (λ volume. AreSegmentsIn group volume.segments) group.volumes
+  pub origins : AllByRecursion (λ snapshot. role_at (roles_of group.volumes) snapshot.origin ≡ roles.Origin) (records_of group.volumes)
+
+-- what the devices of a volume with its role need: lengths that fit, and names
+
+abbrev pub IsSnapshotIn : Group → Role → Type 0
+IsSnapshotIn group (roles.Store snapshot) =
+    (length_of group (segments_at group.volumes snapshot.origin) < 2 ^ 64) × IsNamed group.name (name_at group.volumes snapshot.origin) (Some Real)
+IsSnapshotIn group role = ⊤
+
+pub record IsMadeIn (group : Group) (member : Role × Volume) : Type 0 where
+  pub segments : AreSegmentsIn group member.1.segments
+  pub length : length_of group member.1.segments < 2 ^ 64
+  pub names : unnamed_volume group.name member ≡ []
+  pub snapshot : IsSnapshotIn group member.0
+
+-- Faults of a metadata text, as faults of a load
+abbrev pub text_fault : TextFault → LoadFault
+text_fault (texts.Token line) = fault_at Source Syntax line
+text_fault (texts.Syntax line) = fault_at Source Syntax line
+text_fault (texts.KeyTwice line) = fault_at Source Twice line
+text_fault (texts.Deep line) = fault_at Source Deep line
+text_fault (texts.Number line) = fault_at Source Field line
+text_fault texts.Memory = fault_at Source Memory 0

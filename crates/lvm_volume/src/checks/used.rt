@@ -1,0 +1,41 @@
+//! The extents of a physical volume that stripes use, as ranges that have nothing in common.
+//!
+//! Ranges are in a map by their first extent. Of those that begin before the end of a new one only the last
+//! can reach into it. So one look-up decides, and the check of extents is near-linear.
+
+ghost use Rattle.std.specs.Prelude.{◌≡◌, ◌<◌, ◌∷◌, List, ℕ, true, not, IfOk};
+ghost use Rattle.std.specs.List.{list_any};
+ghost use Rattle.lvm_volume.specs.checks.Used.{HasRanges, reaches};
+
+use std::alloc::{AllocError, Global};
+use std::collections::BTreeMap;
+
+/// Takes the extents from `first` to before `end`, and returns whether none of them was used before.
+/// What is used stays as it was where one was.
+///
+/// Cost: about `log n` steps at `n` ranges.
+pub(crate) fn take(used: &mut BTreeMap<u64, u64>, first: u64, end: u64) -> Result<bool, AllocError>
+    requires { first < end }
+    ensures free { (ranges : List (ℕ × ℕ)) → HasRanges used.old ranges
+        → IfOk result (λ free. free ≡ not (list_any (reaches first end) ranges)) }
+    ensures taken { (ranges : List (ℕ × ℕ)) → HasRanges used.old ranges
+        → IfOk result (λ free. free ≡ true → HasRanges used.new ((first, end) ∷ ranges)) }
+{
+    if is_used(used, first, end) {
+        return Ok(false);
+    }
+    used.insert(first, end)?;
+    Ok(true)
+}
+
+/// Whether an extent from the first to before the end is used.
+fn is_used(used: &BTreeMap<u64, u64>, first: u64, end: u64) -> bool
+    requires { first < end }
+    ensures { (ranges : List (ℕ × ℕ)) → HasRanges used.now ranges
+        → result ≡ list_any (reaches first end) ranges }
+{
+    match used.range(..end).next_back() {
+        Some((_, last)) => first < *last,
+        None => false,
+    }
+}

@@ -1,0 +1,38 @@
+//! Lines of the source: the place of what stands on one, and a fault there.
+//!
+//! The place of each fault, device, line and disk of metadata is made here. Lines count from 1; a fault of
+//! memory has no line.
+
+ghost use Rattle.std.specs.Prelude.{◌≡◌};
+ghost use Rattle.dm_table.specs.load.LoadFault.{IsMemoryFault, fault_at};
+ghost use Rattle.dm_table.specs.declared.load.place.Part.TheVariants.{Source};
+ghost use Rattle.lvm_volume.specs.checks.Extents.{source_line};
+
+use dm_table::{LoadFault, LoadKind, Part, Place};
+
+/// The place of a line.
+pub(crate) fn source_line(line: u64) -> Place
+    ensures { result ≡ source_line line }
+{
+    Place {
+        part: Part::Source,
+        number: line,
+    }
+}
+
+/// Out of memory while the source was read.
+pub(crate) fn memory_fault() -> LoadFault
+    ensures { IsMemoryFault Source result }
+{
+    LoadFault::memory(Part::Source)
+}
+
+/// A fault at a line.
+pub(crate) fn source_fault(kind: LoadKind, line: u64) -> LoadFault
+    ensures { result ≡ fault_at Source kind line }
+{
+    LoadFault {
+        kind,
+        at: source_line(line),
+    }
+}

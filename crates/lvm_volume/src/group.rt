@@ -1,0 +1,9 @@
+//! What the sections of a group say: its physical volumes, its volumes with their segments, and what volumes are
+//! to snapshots.
+
+pub(crate) mod key;
+pub(crate) mod physical;
+pub(crate) mod positions;
+pub(crate) mod roles;
+pub(crate) mod segment;
+pub(crate) mod volume;

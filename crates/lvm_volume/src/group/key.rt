@@ -1,0 +1,39 @@
+//! The key of a section, copied so that it outlives the text. A clause sees it as its bytes.
+
+ghost use Rattle.std.specs.Prelude.{◌≡◌, IfOk};
+
+use std::alloc::{AllocError, Global};
+use std::marker::Model;
+
+/// A copy of a key.
+#[derive(Debug, Drop)]
+pub(crate) struct Key {
+    text: String,
+}
+
+impl Model for Key {
+    ghost use Rattle.std.specs.Prelude.{List, ℕ};
+    ghost use Rattle.std.specs.String.{string_bytes};
+
+    ghost Value = { List ℕ };
+
+    ghost view = { λ key. string_bytes key.text };
+}
+
+impl Key {
+    /// A copy of a key; it takes memory once.
+    pub(crate) fn new(alloc: Global, key: &str) -> Result<Key, AllocError>
+        ensures { IfOk result (λ copy. copy ≡ key.now) }
+    {
+        Ok(Key {
+            text: String::from_str(alloc, key)?,
+        })
+    }
+
+    /// The key as a text.
+    pub(crate) fn as_str(&self) -> &str
+        ensures { result.now ≡ self.now }
+    {
+        self.text.as_str()
+    }
+}

@@ -1,0 +1,198 @@
+//! What the volumes of a group are to its snapshots.
+//!
+//! A volume whose only segment is a snapshot is the record of one: no device, but what says which volume is
+//! its origin and which its store. The roles of all volumes are found in one pass over their records; the
+//! check of snapshots, the names of devices and the devices themselves follow from them.
+
+ghost use Rattle.std.specs.Prelude.{◌≡◌, [], IfOk};
+ghost use Rattle.lvm_volume.specs.declared.group.roles.Role.TheVariants as roles;
+ghost use Rattle.lvm_volume.specs.group.Roles as spec;
+ghost use Rattle.lvm_volume.specs.group.Roles.{extents_of, is_record, is_store, name_at, recorded, role_at};
+ghost use Rattle.lvm_volume.specs.group.Roles.{roles_among, roles_of, segments_at};
+ghost use Rattle.lvm_volume.specs.group.RoleCode.{changed, record_list, with_origin, with_store};
+
+use crate::group::segment::{Segment, SegmentType};
+use crate::group::volume::Volume;
+use std::alloc::{AllocError, Global};
+
+/// A snapshot as its record says it: the sectors of a chunk, the positions of its origin and its store among
+/// the volumes of the group, and the line of the record's segment.
+#[derive(Clone, Copy, Debug, Drop)]
+pub(crate) struct Record {
+    pub chunk_size: u64,
+    pub origin: usize,
+    pub store: usize,
+    pub line: u64,
+}
+
+/// What a volume is to the snapshots of its group.
+#[derive(Clone, Copy, Debug, Drop)]
+pub(crate) enum Role {
+    /// Neither an origin, nor a store, nor a record.
+    Plain,
+    /// The origin of a snapshot or of several.
+    Origin,
+    /// The store of this snapshot.
+    Store(Record),
+    /// The record of a snapshot.
+    Record,
+    /// A store that is also an origin, or the store of several snapshots: a check refuses it.
+    Clashing,
+}
+
+impl Role {
+    /// Whether the volume is the record of a snapshot.
+    pub(crate) fn is_record(self) -> bool
+        ensures { result ≡ is_record self }
+    {
+        matches!(self, Role::Record)
+    }
+
+    /// Whether the volume is the store of a snapshot.
+    pub(crate) fn is_store(self) -> bool
+        ensures { result ≡ is_store self }
+    {
+        matches!(self, Role::Store(_))
+    }
+
+    /// The role with one more snapshot that has the volume as its origin.
+    fn with_origin(self) -> Role
+        ensures { result ≡ with_origin self }
+    {
+        match self {
+            Role::Plain => Role::Origin,
+            Role::Store(_) => Role::Clashing,
+            Role::Origin | Role::Record | Role::Clashing => self,
+        }
+    }
+
+    /// The role with one more snapshot that has the volume as its store.
+    fn with_store(self, snapshot: Record) -> Role
+        ensures { result ≡ with_store snapshot self }
+    {
+        match self {
+            Role::Plain => Role::Store(snapshot),
+            Role::Origin | Role::Store(_) => Role::Clashing,
+            Role::Record | Role::Clashing => self,
+        }
+    }
+}
+
+/// The snapshot that a volume of these segments records, if it is a record.
+fn recorded(segments: &[Segment]) -> Option<Record>
+    ensures { record_list result ≡ recorded segments.now }
+{
+    let [segment] = segments else {
+        return None;
+    };
+    match &segment.target {
+        SegmentType::Snapshot {
+            chunk_size,
+            origin,
+            store,
+        } => Some(Record {
+            chunk_size: *chunk_size,
+            origin: *origin,
+            store: *store,
+            line: segment.line,
+        }),
+        SegmentType::Striped { .. } | SegmentType::Zero | SegmentType::Error => None,
+    }
+}
+
+/// The roles of volumes, in their order.
+///
+/// Cost: linear in the volumes.
+pub(crate) fn roles_of(alloc: Global, volumes: &[Volume]) -> Result<Vec<Role>, AllocError>
+    ensures { IfOk result (λ roles. roles.items ≡ roles_of volumes.now) }
+{
+    let mut roles = first_roles(alloc, volumes)?;
+    let mut at = volumes.len();
+    while at > 0 {
+        at -= 1;
+        if let Some(snapshot) = recorded(volumes[at].segments.as_slice()) {
+            add_origin(&mut roles, snapshot.origin);
+            add_store(&mut roles, snapshot);
+        }
+    }
+    Ok(roles)
+}
+
+/// The roles of volumes where nothing has an origin or a store yet.
+fn first_roles(alloc: Global, volumes: &[Volume]) -> Result<Vec<Role>, AllocError>
+    ensures { IfOk result (λ roles. roles.items ≡ roles_among [] volumes.now) }
+{
+    let mut roles = Vec::new(alloc);
+    for volume in volumes {
+        roles.push(first_role(volume))?;
+    }
+    Ok(roles)
+}
+
+/// The role of a volume before the snapshots of its group were looked at.
+fn first_role(volume: &Volume) -> Role
+    ensures { result ≡ spec.unless_recorded (recorded volume.now.segments) roles.Plain }
+{
+    match recorded(volume.segments.as_slice()) {
+        Some(_) => Role::Record,
+        None => Role::Plain,
+    }
+}
+
+/// Adds to the roles that a snapshot has the volume at a position as its origin.
+fn add_origin(roles: &mut Vec<Role>, position: usize)
+    ensures { roles.new.items ≡ changed with_origin position 0 roles.old.items }
+{
+    if position < roles.len() {
+        roles[position] = roles[position].with_origin();
+    }
+}
+
+/// Adds to the roles that a snapshot has its store.
+fn add_store(roles: &mut Vec<Role>, snapshot: Record)
+    ensures { roles.new.items ≡ changed (with_store snapshot) snapshot.store 0 roles.old.items }
+{
+    if snapshot.store < roles.len() {
+        roles[snapshot.store] = roles[snapshot.store].with_store(snapshot);
+    }
+}
+
+/// The role of the volume at a position.
+pub(crate) fn role_at(roles: &[Role], position: usize) -> Role
+    ensures { result ≡ role_at roles.now position }
+{
+    match roles.get(position) {
+        Some(role) => *role,
+        None => Role::Plain,
+    }
+}
+
+/// The segments of the volume at a position.
+pub(crate) fn segments_at(volumes: &[Volume], position: usize) -> &[Segment]
+    ensures { result.now ≡ segments_at volumes.now position }
+{
+    match volumes.get(position) {
+        Some(volume) => volume.segments.as_slice(),
+        None => &[],
+    }
+}
+
+/// The key of the volume at a position.
+pub(crate) fn name_at(volumes: &[Volume], position: usize) -> &str
+    ensures { result.now ≡ name_at volumes.now position }
+{
+    match volumes.get(position) {
+        Some(volume) => volume.name.as_str(),
+        None => "",
+    }
+}
+
+/// The extents of a volume of these segments.
+pub(crate) fn extents_of(segments: &[Segment]) -> u128
+    ensures { result ≡ extents_of segments.now }
+{
+    match segments.last() {
+        Some(last) => last.end(),
+        None => 0,
+    }
+}

@@ -1,0 +1,182 @@
+//! The devices of volumes, by their roles.
+//!
+//! A snapshot is over a layer of its origin and over one of its store, so that the volumes themselves keep
+//! their names (lvm(8); what `dmsetup table` prints of a group with snapshots). A new role is an arm in
+//! `add_devices`, and in `devices_by` and `layers_of` of `specs/tables/Tables.antt`.
+
+ghost use Rattle.std.specs.Prelude.{◌≡◌, ◌++◌, ◌*◌, ◌^◌, ◌<◌, None, Some, IfOk, OnOk};
+ghost use Rattle.std.specs.List.{AllByRecursion, flat_map, zip};
+ghost use Rattle.lvm_volume.specs.declared.tables.device_names.Layer.TheVariants.{Real, Cow};
+ghost use Rattle.lvm_volume.specs.tables.GroupRef.{group_view};
+ghost use Rattle.lvm_volume.specs.group.Roles.{extents_of, name_at, segments_at};
+ghost use Rattle.lvm_volume.specs.tables.Tables.{AreSegmentsIn, IsMadeIn, IsNamed, devices_in, length_of};
+ghost use Rattle.lvm_volume.specs.tables.Tables.{origin_line, over_device, own_device, snapshot_line};
+
+use crate::fields::source_line::source_line;
+use crate::group::physical::Physical;
+use crate::group::roles::{Record, Role, extents_of, name_at, segments_at};
+use crate::group::segment::Segment;
+use crate::group::volume::Volume;
+use crate::tables::device_names::{Layer, name_of};
+use crate::tables::lines::lines_of;
+use dm_table::{DevRef, DeviceSpec, Line, StoreKind, Table, Target};
+use std::alloc::{AllocError, Global};
+
+/// A group that devices are made of: its name, the sectors of an extent, its physical volumes and its
+/// volumes.
+#[derive(Drop)]
+pub(crate) struct GroupRef<'g> {
+    pub name: &'g str,
+    pub extent_size: u64,
+    pub physicals: &'g [Physical],
+    pub volumes: &'g [Volume],
+}
+
+/// The devices of the volumes, in their order, by their roles.
+pub(crate) fn devices_of(
+    alloc: Global,
+    group: &GroupRef<'_>,
+    roles: &[Role],
+) -> Result<Vec<DeviceSpec>, AllocError>
+    requires { AllByRecursion (IsMadeIn (group_view group.now)) (zip roles.now group.now.volumes.now) }
+    ensures { IfOk result (λ v. v.items
+        ≡ flat_map (devices_in (group_view group.now)) (zip roles.now group.now.volumes.now)) }
+{
+    let mut devices = Vec::new(alloc);
+    for (role, volume) in roles.iter().zip(group.volumes) {
+        add_devices(alloc, &mut devices, group, *role, volume)?;
+    }
+    Ok(devices)
+}
+
+/// Adds the devices of a volume.
+#[tactic(auto, unfolding(crate::specs::tables::Tables::devices_in))]
+fn add_devices(
+    alloc: Global,
+    devices: &mut Vec<DeviceSpec>,
+    group: &GroupRef<'_>,
+    role: Role,
+    volume: &Volume,
+) -> Result<(), AllocError>
+    requires { IsMadeIn (group_view group.now) (role, volume.now) }
+    ensures { OnOk result
+        (devices.new.items ≡ devices.old.items ++ devices_in (group_view group.now) (role, volume.now)) }
+{
+    match role {
+        Role::Plain => devices.push(own_device(alloc, group, volume, volume.ro, None)?)?,
+        Role::Origin => {
+            devices.push(own_device(alloc, group, volume, false, Some(Layer::Real))?)?;
+            let line = origin_line(alloc, group, volume)?;
+            devices.push(over_device(alloc, group, volume, line)?)?;
+        }
+        Role::Store(snapshot) => {
+            devices.push(own_device(alloc, group, volume, false, Some(Layer::Cow))?)?;
+            let line = snapshot_line(alloc, group, volume, snapshot)?;
+            devices.push(over_device(alloc, group, volume, line)?)?;
+        }
+        Role::Record | Role::Clashing => {}
+    }
+    Ok(())
+}
+
+/// The device of a volume's own segments: the volume itself, or a layer of it.
+fn own_device(
+    alloc: Global,
+    group: &GroupRef<'_>,
+    volume: &Volume,
+    ro: bool,
+    layer: Option<Layer>,
+) -> Result<DeviceSpec, AllocError>
+    requires segments { AreSegmentsIn (group_view group.now) volume.now.segments }
+    requires name { IsNamed group.now.name.now volume.now.name layer }
+    ensures { IfOk result (λ device. device ≡ own_device (group_view group.now) volume.now ro layer) }
+{
+    Ok(DeviceSpec {
+        name: name_of(alloc, group.name, volume.name.as_str(), layer)?,
+        ro,
+        lines: lines_of(
+            alloc,
+            group.extent_size,
+            group.physicals,
+            volume.segments.as_slice(),
+        )?,
+        at: source_line(volume.line),
+    })
+}
+
+/// The device of a volume over its layer, of one line.
+fn over_device(
+    alloc: Global,
+    group: &GroupRef<'_>,
+    volume: &Volume,
+    line: Line,
+) -> Result<DeviceSpec, AllocError>
+    requires { IsNamed group.now.name.now volume.now.name None }
+    ensures { IfOk result (λ device. device ≡ over_device (group_view group.now) volume.now line) }
+{
+    let mut lines = Vec::new(alloc);
+    lines.push(line)?;
+    Ok(DeviceSpec {
+        name: name_of(alloc, group.name, volume.name.as_str(), None)?,
+        ro: volume.ro,
+        lines: Table::from_vec(lines),
+        at: source_line(volume.line),
+    })
+}
+
+/// The line of an origin, over its layer.
+fn origin_line(alloc: Global, group: &GroupRef<'_>, volume: &Volume) -> Result<Line, AllocError>
+    requires len { length_of (group_view group.now) volume.now.segments < 2 ^ 64 }
+    requires name { IsNamed group.now.name.now volume.now.name (Some Real) }
+    ensures { IfOk result (λ line. line ≡ origin_line (group_view group.now) volume.now) }
+{
+    let real = name_of(alloc, group.name, volume.name.as_str(), Some(Layer::Real))?;
+    Ok(Line {
+        start: 0,
+        len: length_of(group.extent_size, volume.segments.as_slice()),
+        target: Target::Origin {
+            origin: DevRef::Device(real),
+        },
+        at: source_line(volume.line),
+    })
+}
+
+/// The line of a snapshot whose store is this volume, over the layers of its origin and of the volume.
+fn snapshot_line(
+    alloc: Global,
+    group: &GroupRef<'_>,
+    volume: &Volume,
+    snapshot: Record,
+) -> Result<Line, AllocError>
+    requires len { length_of (group_view group.now) (segments_at group.now.volumes.now snapshot.origin)
+        < 2 ^ 64 }
+    requires origin { IsNamed group.now.name.now (name_at group.now.volumes.now snapshot.origin) (Some Real) }
+    requires store { IsNamed group.now.name.now volume.now.name (Some Cow) }
+    ensures { IfOk result (λ line. line ≡ snapshot_line (group_view group.now) volume.now snapshot) }
+{
+    let origin = name_at(group.volumes, snapshot.origin);
+    let real = name_of(alloc, group.name, origin, Some(Layer::Real))?;
+    let cow = name_of(alloc, group.name, volume.name.as_str(), Some(Layer::Cow))?;
+    Ok(Line {
+        start: 0,
+        len: length_of(
+            group.extent_size,
+            segments_at(group.volumes, snapshot.origin),
+        ),
+        target: Target::Snapshot {
+            origin: DevRef::Device(real),
+            store: DevRef::Device(cow),
+            kind: StoreKind::Persistent,
+            chunk: snapshot.chunk_size,
+        },
+        at: source_line(snapshot.line),
+    })
+}
+
+/// The sectors of a volume of these segments.
+fn length_of(extent_size: u64, segments: &[Segment]) -> u64
+    requires { extents_of segments.now * extent_size < 2 ^ 64 }
+    ensures { result ≡ extents_of segments.now * extent_size }
+{
+    (extents_of(segments) * u128::from(extent_size)) as u64
+}
