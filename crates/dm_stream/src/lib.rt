@@ -11,6 +11,7 @@ mod held_piece;
 mod join;
 mod last_device;
 mod line_buffer;
+mod line_ends;
 mod lines;
 mod map_run;
 mod message;

@@ -219,6 +219,7 @@ fn put_named(block: &mut [u8], at: usize, word: &[u8], stack: &Stack, disk: Disk
     requires short { length word.now ≤ 9 }
     requires there { disk < length stack.now.disks }
     ensures put { IsPut (word.now ++ disk_text (disk_name_at stack.now disk)) at block.old block.new result }
+    ensures more { at + length word.now < result }
     ensures few { result ≤ at + 265 }
 {
     let at = put_bytes(block, at, word);

@@ -2,13 +2,14 @@
 //!
 //! Over many columns the same range comes once for each column. Its text is kept as soon as it comes
 //! a second time, and then copied whole; a range after one that came again is kept at once. Any other
-//! has its digits written where they belong.
+//! has its digits written where they belong, and its end copied where its length is short.
 
 ghost use Rattle.std.specs.Prelude.{◌≡◌, ◌+◌, ◌≤◌, length};
 ghost use Rattle.dm_table.specs.io.Block.{IsPut};
 ghost use Rattle.dm_stream.specs.RangeText.{range_text, IsKept};
 
-use dm_table::{put_bytes, put_digits, put_room};
+use crate::line_ends::{LENGTHS, LineEnds};
+use dm_table::{put_bytes, put_digits, put_next_digits, put_room};
 use std::marker::Model;
 
 /// The room in bytes: two numbers, a space and a newline, and what makes the copy cheap.
@@ -24,6 +25,7 @@ pub(crate) struct RangeText {
     end: usize,
     /// Whether the range came more than once.
     came_again: bool,
+    ends: LineEnds,
 }
 
 impl Model for RangeText {
@@ -47,6 +49,7 @@ impl RangeText {
             text: [b' '; ROOM],
             end: 0,
             came_again: false,
+            ends: LineEnds::new(),
         }
     }
 
@@ -81,9 +84,11 @@ impl RangeText {
         self.end = put_range(&mut self.text, 0, start, len);
     }
 
-    /// Puts the range that was noted at an offset in a block, and returns where it ends.
+    /// Puts the range that was noted at an offset in a block, after at least four bytes, and returns where
+    /// it ends.
     #[inline(always)]
     pub(crate) fn put_into(&self, block: &mut [u8], at: usize, start: u64, len: u64) -> usize
+        requires after { 4 ≤ at }
         requires room { at + ROOM ≤ length block.old }
         requires kept { IsKept self.now start len }
         ensures put { IsPut (range_text start len) at block.old block.new result }
@@ -92,11 +97,29 @@ impl RangeText {
         if self.end > 0 {
             return put_room(block, at, &self.text, self.end);
         }
-        put_range(block, at, start, len)
+        put_next_range(&self.ends, block, at, start, len)
     }
 }
 
-/// Puts a start, a length and a newline at an offset in a block, and returns where they end.
+/// Puts a start, a length and a newline at an offset in a block, after at least four bytes, and returns
+/// where they end.
+#[inline(never)]
+fn put_next_range(ends: &LineEnds, block: &mut [u8], at: usize, start: u64, len: u64) -> usize
+    requires after { 4 ≤ at }
+    requires within { at + ROOM ≤ length block.old }
+    ensures put { IsPut (range_text start len) at block.old block.new result }
+    ensures few { result ≤ at + 43 }
+{
+    let at = put_next_digits(block, at, start);
+    let at = put_bytes(block, at, b" ");
+    if len < LENGTHS as u64 {
+        return ends.put_into(block, at, len);
+    }
+    let at = put_next_digits(block, at, len);
+    put_bytes(block, at, b"\n")
+}
+
+/// The same wherever it is put.
 #[inline(never)]
 fn put_range(block: &mut [u8], at: usize, start: u64, len: u64) -> usize
     requires { at + ROOM ≤ length block.old }

@@ -1,4 +1,6 @@
 -- Of the words of the texts.
 pub mod ByteLemmas
 pub mod FieldLemmas
+pub mod LaneDigits
 pub mod NumberLemmas
+pub mod WordLemmas

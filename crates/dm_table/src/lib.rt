@@ -12,7 +12,7 @@ mod requests;
 mod tables;
 mod words;
 
-pub use io::block::{put_bytes, put_digits, put_room};
+pub use io::block::{put_bytes, put_digits, put_next_digits, put_room};
 pub use io::counted::Counted;
 pub use io::device_io::{InFault, Input, OutFault, Output};
 pub use io::gathered::Gathered;

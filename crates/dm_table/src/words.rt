@@ -2,8 +2,8 @@
 
 pub mod device_name;
 pub mod disk_name;
-pub mod eight_digits;
 pub mod fields;
+pub mod front_digits;
 pub mod name;
 pub mod number;
 pub mod number_text;

@@ -53,6 +53,7 @@ impl<'a> ShortIn<'a> {
         ShortIn::made(&bytes[..count], step, true)
     }
 
+    /// One of which nothing is read or written yet.
     fn made(bytes: &'a [u8], step: usize, fails: bool) -> ShortIn<'a>
         requires { 0 < step }
         ensures { result ≡ fresh_supply bytes.now step fails }
@@ -156,6 +157,7 @@ impl ShortOut {
         ShortOut::made(alloc, step, count, true)
     }
 
+    /// One of which nothing is read or written yet.
     fn made(
         alloc: Global,
         step: usize,

@@ -1,7 +1,7 @@
 //! Why a load was refused: a kind, and the place where it was found.
 //!
 //! One type serves all readers and checks, so that a caller tells a user about any of them alike.
-//! A new kind has a word in `LoadKind::word`, and in `kind_word` of `specs/LoadMessage.antt`.
+//! A new kind has a word in `LoadKind::word`, and in `kind_word` of `specs/load/LoadMessage.antt`.
 
 ghost use Rattle.std.specs.Prelude.{◌≡◌, ◌+◌, ◌^◌, ◌<◌, ◌≤◌, Some, length};
 ghost use Rattle.dm_table.specs.load.LoadFault.{IsMemoryFault, fault_at};

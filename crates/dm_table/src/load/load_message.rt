@@ -1,6 +1,6 @@
 //! The message of a refused load: one line.
 //!
-//! The words are fixed by `specs/LoadMessage.antt`, since users match on them. A new kind of refusal
+//! The words are fixed by `specs/load/LoadMessage.antt`, since users match on them. A new kind of refusal
 //! is an arm there and of `LoadKind::word`.
 
 ghost use Rattle.std.specs.Prelude.{◌≡◌, ◌≤◌, length};

@@ -25,6 +25,7 @@ pub(crate) struct Reading<T> {
 }
 
 impl<T: Drop> Reading<T> {
+    /// Nothing is read yet.
     pub(crate) fn new(alloc: Global) -> Reading<T>
         ensures values { result.values.items ≡ [] }
         ensures faults { result.faults ≡ no_faults }

@@ -2,7 +2,7 @@
 //!
 //! By their definition the checks of a text run one after another, each over all rows. A row is read
 //! once all the same: the first fault of each kind is kept, and at the end the kinds take precedence
-//! in the order of the checks. A kind that is added here is added in `specs/RowFaults.antt` first.
+//! in the order of the checks. A kind that is added here is added in `specs/load/RowFaults.antt` first.
 
 ghost use Rattle.std.specs.Prelude.{◌≡◌, ◌≢◌, Some, OnOk};
 ghost use Rattle.dm_table.specs.load.LoadFault.{fault_at};
@@ -51,6 +51,7 @@ pub(crate) struct FirstFaults {
 }
 
 impl FirstFaults {
+    /// No fault yet.
     pub(crate) fn new() -> FirstFaults
         ensures { result ≡ no_faults }
     {
@@ -105,6 +106,7 @@ impl FirstFaults {
     }
 }
 
+/// Keeps a fault of a kind, unless an earlier one is kept.
 fn keep(first: &mut Option<LoadFault>, part: Part, kind: LoadKind, number: u64)
     ensures { first.new ≡ either first.old (Some (fault_at part kind number)) }
 {

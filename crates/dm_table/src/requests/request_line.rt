@@ -1,10 +1,10 @@
 //! Request lines: `R DEV START LEN` and `W DEV START LEN`.
 //!
 //! They come by the hundreds of millions, so a line is cut in place, with no memory taken. What a
-//! line says stands in `specs/RequestLine.antt`: change it there first.
+//! line says stands in `specs/requests/RequestLine.antt`: change it there first.
 
 ghost use Rattle.std.specs.Prelude.{◌≡◌, ◌≢◌, ◌+◌, ◌<◌, ◌≤◌, ℕ, List, [], ◌∷◌, ◌++◌, length, take, drop, Some, Ok, Err, true, false, if◌then◌else◌, IfSome, IfNone, IsOkAnd, IfOk, IfErr};
-ghost use Rattle.dm_table.specs.declared.words.number.TheConstants.{WINDOW};
+ghost use Rattle.dm_table.specs.declared.words.front_digits.TheConstants.{FRONT};
 ghost use Rattle.dm_table.specs.declared.requests.request.Op.{Op};
 ghost use Rattle.dm_table.specs.declared.requests.request.RequestFault.TheVariants.{Form, Number};
 ghost use Rattle.dm_table.specs.declared.requests.request_line.TheConstants.{NUMBERS_ROOM};
@@ -16,13 +16,14 @@ ghost use Rattle.dm_table.specs.words.Bytes.{newline, space};
 
 use crate::requests::request::{MOST_SECTORS, Op, Request, RequestFault};
 use crate::words::device_name::leading_name;
+use crate::words::front_digits::{FRONT, read_front};
 use crate::words::name::ascii_str;
 use crate::words::number;
 use memchr::memchr;
 
 /// The most bytes that two numbers take, each with the byte after it. Where a text has as many left, it
 /// isn't asked for its end again.
-pub(crate) const NUMBERS_ROOM: usize = 2 * number::WINDOW;
+pub(crate) const NUMBERS_ROOM: usize = 2 * FRONT;
 
 /// What follows the space after the first `len` bytes of a text.
 #[inline(always)]
@@ -187,12 +188,12 @@ pub fn parse_request<'a>(line: &'a [u8], number: u64) -> Result<Request<'a>, Req
 /// The number that a longer text begins with, and what follows its space.
 #[inline(always)]
 fn front_number<'a>(text: &'a [u8]) -> Option<(u64, &'a [u8])>
-    requires { WINDOW ≤ length text.now }
+    requires { FRONT ≤ length text.now }
     ensures text { IfSome result (λ cut. (field : List ℕ) × (text.now ≡ field ++ space ∷ cut.1.now)
         × (number_of field ≡ Some cut.0)) }
-    ensures short { IfSome result (λ cut. length text.now ≤ length cut.1.now + WINDOW) }
+    ensures short { IfSome result (λ cut. length text.now ≤ length cut.1.now + FRONT) }
 {
-    let (number, len) = number::long_within(text)?;
+    let (number, len) = read_front(text)?;
     if text[len] == b' ' {
         Some((number, &text[len + 1..]))
     } else {
@@ -203,13 +204,13 @@ fn front_number<'a>(text: &'a [u8]) -> Option<(u64, &'a [u8])>
 /// The length that a longer text begins with, and how many bytes stand before the newline after it.
 #[inline(always)]
 fn last_number(text: &[u8]) -> Option<(u64, usize)>
-    requires { WINDOW ≤ length text.now }
+    requires { FRONT ≤ length text.now }
     ensures within { IfSome result (λ read. read.1 < length text.now) }
     ensures newline { IfSome result
         (λ read. text.now ≡ take read.1 text.now ++ newline ∷ drop (read.1 + 1) text.now) }
     ensures number { IfSome result (λ read. number_of (take read.1 text.now) ≡ Some read.0) }
 {
-    let (number, len) = number::leading_within(text)?;
+    let (number, len) = read_front(text)?;
     if text[len] == b'\n' {
         Some((number, len))
     } else {

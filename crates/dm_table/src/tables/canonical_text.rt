@@ -21,6 +21,7 @@ use crate::io::writing::write_all;
 use crate::tables::line_head::{ColumnText, LineHead};
 use crate::tables::table::{Column, DeviceSpec, Line, Target};
 
+/// Writes the columns of a striped line, one after the other.
 fn write_columns<W: Output>(writer: &mut W, columns: &[Column]) -> Result<(), OutFault>
     ensures { Wrote (W.past writer.old) (W.past writer.new) result (flat_map column_text columns.now) }
 {

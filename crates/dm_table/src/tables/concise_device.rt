@@ -122,24 +122,28 @@ fn lacks(of: u8, text: &[u8]) -> bool
     memchr(of, text).is_none()
 }
 
+/// Whether a text may stand where the uuid does: up to 128 letters of names.
 fn is_uuid(text: &[u8]) -> bool
     ensures { result ≡ is_uuid text.now }
 {
     text.len() <= 128 && are_device_bytes(text)
 }
 
+/// Whether a text may stand where the minor number does: a number, or nothing.
 fn is_minor(text: &[u8]) -> bool
     ensures { result ≡ is_minor text.now }
 {
     text.is_empty() || number(text).is_some()
 }
 
+/// Whether a text may stand where the flags do: `ro`, `rw`, or nothing.
 fn is_flags(text: &[u8]) -> bool
     ensures { result ≡ is_flags text.now }
 {
     text.is_empty() || is_ro(text) || text == b"rw".as_slice()
 }
 
+/// Whether flags say that the device is read-only.
 fn is_ro(text: &[u8]) -> bool
     ensures { result ≡ is_ro text.now }
 {

@@ -1,7 +1,7 @@
 //! Disk lists: a line `NAME SECTORS` for each disk.
 //!
 //! The lines are read one after the other, each once, and what is wrong with them is kept until the
-//! end, as in table text. A new column is a field of `Disk` and, in `specs/DiskList.antt`, its text in
+//! end, as in table text. A new column is a field of `Disk` and, in `specs/tables/DiskList.antt`, its text in
 //! `disk_line`, its place in `is_pair`, its value in `disk_in` and, if it is a name, its test in
 //! `has_name` and `disk_reading`.
 

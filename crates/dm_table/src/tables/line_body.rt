@@ -2,9 +2,9 @@
 //!
 //! Each form of a table labels such bodies in its own way, and hands their fields over. They are read
 //! once into a line: what isn't one is refused as it is met. A new target type is an arm in
-//! `read_target` with a function that reads its arguments. In `specs/LineBody.antt` it has the same
+//! `read_target` with a function that reads its arguments. In `specs/tables/LineBody.antt` it has the same
 //! two (or an arm in `bare_in`, without arguments), and arms in `target_text` and `IsTarget`. What it
-//! names is an arm of `target_spans`, in `specs/Span.antt`.
+//! names is an arm of `target_spans`, in `specs/tables/Span.antt`.
 
 ghost use Rattle.std.specs.Prelude.{◌≡◌, ℕ, true, false, length, drop, is_some, nat_lt, MatchOption};
 ghost use Rattle.std.specs.List.{list_all};
@@ -30,6 +30,7 @@ pub(crate) fn is_body_row(fields: &[&[u8]]) -> bool
     fields.len() >= 3 && filled
 }
 
+/// Whether none of these fields is empty.
 fn are_filled(fields: &[&[u8]]) -> bool
     ensures { result ≡ list_all (λ field. nat_lt 0 (length field)) (texts fields.now) }
 {
@@ -89,6 +90,7 @@ fn read_target(alloc: Global, target: &[&[u8]]) -> Result<Target, RowFault>
     }
 }
 
+/// The target that the arguments of a linear line say.
 fn read_linear(alloc: Global, arguments: &[&[u8]]) -> Result<Target, RowFault>
     ensures { (len : ℕ) → Reads (λ target. target) result
         (reading_of (has_target_names len) (linear_in (texts arguments.now))) }
@@ -103,6 +105,7 @@ fn read_linear(alloc: Global, arguments: &[&[u8]]) -> Result<Target, RowFault>
     Ok(Target::Linear { to, offset })
 }
 
+/// The target that the arguments of a striped line say.
 fn read_striped(alloc: Global, arguments: &[&[u8]]) -> Result<Target, RowFault>
     ensures { (len : ℕ) → Reads (λ target. target) result
         (reading_of (has_target_names len) (striped_in (texts arguments.now))) }
@@ -159,6 +162,7 @@ fn kind_of(flag: &[u8]) -> Option<StoreKind>
     }
 }
 
+/// The target that the argument of a line of an origin says.
 fn read_origin(alloc: Global, arguments: &[&[u8]]) -> Result<Target, RowFault>
     ensures { (len : ℕ) → Reads (λ target. target) result
         (reading_of (has_target_names len) (origin_in (texts arguments.now))) }

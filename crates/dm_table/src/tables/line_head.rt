@@ -2,7 +2,7 @@
 //! line, and one column.
 //!
 //! Such a text has a greatest length, and a striped line has none. A new target is an arm of
-//! `put_target` here; one whose text has no greatest length has arms in `specs/LineHead.antt` too.
+//! `put_target` here; one whose text has no greatest length has arms in `specs/tables/LineHead.antt` too.
 
 ghost use Rattle.std.specs.Prelude.{◌≡◌, ◌++◌, ◌+◌, ◌<◌, ◌≤◌, length, decimal};
 ghost use Rattle.dm_table.specs.io.Block.{IsPut};
@@ -73,6 +73,7 @@ impl<'a> Model for ColumnText<'a> {
 }
 
 impl<'a> ColumnText<'a> {
+    /// The text of a column.
     #[inline(always)]
     pub(crate) fn new(column: &'a Column) -> ColumnText<'a>
         ensures text { result ≡ column_text column.now }

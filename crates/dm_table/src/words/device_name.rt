@@ -1,6 +1,6 @@
 //! Names of devices.
 //!
-//! Their rule is this project's profile of what dmsetup(8) takes; change it in `specs/Name.antt` first.
+//! Their rule is this project's profile of what dmsetup(8) takes; change it in `specs/words/Name.antt` first.
 
 ghost use Rattle.std.specs.Prelude.{◌≡◌, IfNone, IfSome, IsTrue, false, take};
 ghost use Rattle.std.specs.List.{list_all, prefix_len};
@@ -70,6 +70,7 @@ fn leading_bytes(text: &[u8]) -> usize
     len
 }
 
+/// Whether the name of a device may have a byte.
 fn is_device_byte(byte: u8) -> bool
     ensures { result ≡ is_device_byte byte }
 {

@@ -1,7 +1,7 @@
 //! Names of disks.
 //!
 //! Their rule is this project's own, so that no disk is taken for a device; change it in
-//! `specs/Name.antt` first.
+//! `specs/words/Name.antt` first.
 
 ghost use Rattle.std.specs.Prelude.{◌≡◌};
 ghost use Rattle.std.specs.List.{list_all};
@@ -48,6 +48,7 @@ fn are_disk_bytes(bytes: &[u8]) -> bool
     allowed
 }
 
+/// Whether the name of a disk may have a byte.
 fn is_disk_byte(byte: u8) -> bool
     ensures { result ≡ is_disk_byte byte }
 {

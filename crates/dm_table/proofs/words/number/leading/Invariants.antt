@@ -3,7 +3,7 @@ use Rattle.std.proofs.Common.{◌≡◌, ◌+◌, ◌-◌, drop, length}
 use Rattle.std.specs.Char.{is_ascii_digit}
 use Rattle.std.specs.List.{prefix_len}
 use Rattle.dm_table.specs.words.Number.{IsReadTo}
-use Rattle.dm_table.proofs.words.number.leading_from.Given as goal
+use Rattle.dm_table.proofs.words.number.leading.Given as goal
 
 abbrev pub invariant-loop-len : goal.invariant-loop-len
 invariant-loop-len l = record {

@@ -1,28 +1,21 @@
 -- At most 19 digits are read, and they are below 10^19.
-use Rattle.std.proofs.Common.{◌≡◌, ◌+◌, ◌<◌, ◌≤◌, ℕ, zero, suc, true, List, [], ◌∷◌, get_or, take, drop, length, sym, ap, inl, inr, ◌≢◌, ◌∙◌, arith}
+use Rattle.std.proofs.Common.{◌≡◌, ◌<◌, true, get_or, take, length, refl, sym, ap, inl, inr, ◌≢◌, ◌∙◌, arith}
 use Rattle.std.specs.Char.{is_ascii_digit}
-use Rattle.std.specs.List.{list_all, prefix_len}
-use Rattle.std.proofs.lemmas.Bool.{and_parts}
+use Rattle.std.specs.List.{prefix_len}
 use Rattle.std.proofs.lemmas.List.Sums.{prefix_len-drop_yes, prefix_len-drop_no, prefix_len-drop_all}
 use Rattle.std.proofs.lemmas.List.Folds.{length-prefix_len}
 use Rattle.dm_table.proofs.words.NumberLemmas.{next_below, read_more, number_of-long, number_of-empty, number_of-zero, number_of-digits}
 use Rattle.std.proofs.lemmas.List.{length-take-le}
 use Rattle.std.proofs.Common.{Some}
 use Rattle.std.proofs.lemmas.Grind.{elements}
-use Rattle.dm_table.proofs.words.number.leading_from.Goals.{then-loop-len-test+else-is_ascii_digit, else-loop-len-test, then-len-eq0-via-then-len-eq0, then-len-eq0-via-else-len-eq0+then-len-ne1}
-use Rattle.dm_table.proofs.words.number.leading_from.Goals as goal
-
--- what is left after some digits has the rest of them
-digits_left : (text : List ℕ) (len : ℕ) → len ≤ length text → list_all is_ascii_digit (take len text) ≡ true → len + prefix_len is_ascii_digit (drop len text) ≡ prefix_len is_ascii_digit text
-digits_left text zero within digits = omega arith
-digits_left [] (suc len) within digits = absurd (omega arith)
-digits_left (byte ∷ text) (suc len) within digits =
-    let both = and_parts (is_ascii_digit byte) (list_all is_ascii_digit (take len text)) digits in
-    let more = digits_left text len (omega (arith, within)) both.1 in
-    rw both.0 (omega (arith, more))
+use Rattle.dm_table.proofs.words.number.leading.Goals.{then-loop-len-test+else-is_ascii_digit, else-loop-len-test, then-len-eq0-via-then-len-eq0, then-len-eq0-via-else-len-eq0+then-len-ne1}
+use Rattle.dm_table.proofs.words.number.leading.Goals as goal
 
 pub loop-len-init : goal.loop-len-init
-loop-len-init c = record { read = c.requires; left = digits_left c.args.text.now c.args.read c.requires.within c.requires.digits }
+loop-len-init c = record {
+  read = record { short = omega arith; within = omega arith; digits = refl; value = refl };
+  left = omega arith;
+}
 
 pub returns-then-len-eq19-clause-other : goal.returns-then-len-eq19-clause-other
 returns-then-len-eq19-clause-other c =

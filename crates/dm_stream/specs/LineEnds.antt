@@ -1,0 +1,15 @@
+-- The ends of lines, as they are kept.
+use Rattle.std.specs.Prelude.{◌≡◌, ◌<◌, ◌≤◌, ℕ, List, [], ◌∷◌, ◌++◌, get_or, length, take, decimal}
+use Rattle.dm_table.specs.words.Bytes.{newline}
+
+-- a length and a newline
+abbrev pub line_end : ℕ → List ℕ
+line_end len = decimal len ++ newline ∷ []
+
+-- a room of eight bytes begins with that, and says as the last of them how many bytes it is
+abbrev pub IsLineEnd : ℕ → List ℕ → Type 0
+IsLineEnd len room = (length room ≡ 8) × (get_or room 7 0 ≤ 8) × (take (get_or room 7 0) room ≡ line_end len)
+
+-- each length below a bound has one
+abbrev pub AreMade : ℕ → List (List ℕ) → Type 0
+AreMade bound ends = (len : ℕ) → len < bound → IsLineEnd len (get_or ends len [])

@@ -1,0 +1,79 @@
+-- Digits as lanes, and the numbers that they are of.
+use Rattle.std.proofs.Common.{◌≡◌, ℕ, suc, ◌+◌, ◌*◌, ◌%◌, ◌^◌, ◌<◌, ◌≤◌, inl, inr, true, false, not, List, [], ◌∷◌, ◌++◌, get_or, length, map, take, refl, sym, ap, subst, arith, add-mul, mul_assoc}
+use Rattle.std.specs.Prelude.{nat_lt}
+use Rattle.std.specs.Char.{digit_value, is_ascii_digit}
+use Rattle.std.specs.Int.Digits.{number_from_digits, number_from_digits_after, AllBelowBase}
+use Rattle.std.specs.List.{list_all, prefix_len}
+use Rattle.std.proofs.lemmas.Bool.{and_from, and_parts, cases_lt}
+use Rattle.std.proofs.lemmas.Bool.Decides.{nat_tests}
+use Rattle.std.proofs.lemmas.Str.{digit_value_digit}
+use Rattle.std.proofs.Math.Nat.{pow-succ'}
+use Rattle.dm_table.proofs.words.NumberLemmas.{digit_range}
+use lib.Lanes.{Each1, mask_l}
+
+-- Lists of digits
+
+-- what holds for each of a row holds for each of its parts
+pub each_part : (xs ys : List ℕ) → Each1 (λ digit. digit < 10) (xs ++ ys) → Each1 (λ digit. digit < 10) xs × Each1 (λ digit. digit < 10) ys
+each_part [] ys all = (tt, all)
+each_part (x ∷ xs) ys all = let more = each_part xs ys all.1 in ((all.0, more.0), more.1)
+
+pub each_below : (xs : List ℕ) → Each1 (λ digit. digit < 10) xs → AllBelowBase 10 xs
+each_below [] all = tt
+each_below (x ∷ xs) all = (all.0, each_below xs all.1)
+
+-- digits after a number are as many digits more of it
+pub number_after : (n : ℕ) (xs : List ℕ) → number_from_digits_after 10 n xs ≡ n * 10 ^ length xs + number_from_digits 10 xs
+number_after n [] = omega arith
+number_after n (x ∷ xs) =
+    let power = 10 ^ length xs in
+    let all = number_after (n * 10 + x) xs in
+    let first = number_after (0 * 10 + x) xs in
+    let split = add-mul (n * 10) x power in
+    let tens = mul_assoc n 10 power in
+    let more : n * 10 ^ suc (length xs) ≡ n * (10 * power) = ap (λ (k : ℕ). n * k) (pow-succ' 10 (length xs)) in
+    let alone : (0 * 10 + x) * power ≡ x * power = ap (λ (k : ℕ). k * power) (omega arith) in
+    omega (arith, all, first, split, tens, more, alone)
+
+-- Bytes less the digit zero
+
+tests_digit : (byte : ℕ) → byte < 256 → (byte + 208) % 256 < 10 → is_ascii_digit byte ≡ true
+tests_digit byte within below = grind (arith, nat_tests)
+
+pub digits_from_lanes : (text : List ℕ) → ((i : ℕ) → get_or text i 0 < 256) → Each1 (λ digit. digit < 10) (map (λ byte. (byte + 208) % 256) text) → list_all is_ascii_digit text ≡ true
+digits_from_lanes [] within all = refl
+digits_from_lanes (byte ∷ text) within all = and_from _ _ (tests_digit byte (within 0) all.0) (digits_from_lanes text (λ i. within (suc i)) all.1)
+
+pub values_from_lanes : (text : List ℕ) → list_all is_ascii_digit text ≡ true → map (λ byte. (byte + 208) % 256) text ≡ map digit_value text
+values_from_lanes [] all = refl
+values_from_lanes (byte ∷ text) all =
+    let both = and_parts (is_ascii_digit byte) (list_all is_ascii_digit text) all in
+    let one : (byte + 208) % 256 ≡ digit_value byte = omega (arith, digit_value_digit byte (digit_range byte both.0), digit_range byte both.0) in
+    rw (one, values_from_lanes text both.1) refl
+
+-- The first lane that is no digit
+
+small : (x : ℕ) → x ≤ 9 → nat_lt 9 x ≡ false
+small x within = grind (arith, nat_tests)
+
+large : (x : ℕ) → 9 < x → nat_lt 9 x ≡ true
+large x above = grind (arith, nat_tests)
+
+pub front_each : (xs : List ℕ) → Each1 (λ digit. digit < 10) (take (prefix_len (λ x. not (nat_lt 9 x)) xs) xs)
+front_each [] = tt
+front_each (x ∷ xs) = elim (cases_lt 9 x) [
+  | inl above ↦ rw (large x above) tt
+  | inr within ↦
+      let more = prefix_len (λ y. not (nat_lt 9 y)) xs in
+      let next : 1 + more ≡ suc more = omega arith in
+      rw (small x within) (subst (λ (k : ℕ). Each1 (λ digit. digit < 10) (take k (x ∷ xs))) (sym next) (omega arith, front_each xs))
+]
+
+pub some_other : (xs : List ℕ) → 0 < mask_l (map (λ x. nat_lt 9 x) xs) → prefix_len (λ x. not (nat_lt 9 x)) xs < length xs
+some_other [] some = absurd (omega arith)
+some_other (x ∷ xs) some = elim (cases_lt 9 x) [
+  | inl above ↦ rw (large x above) (omega arith)
+  | inr within ↦
+      let rest : 0 < mask_l (map (λ y. nat_lt 9 y) xs) = omega (arith, rw (small x within) at some) in
+      rw (small x within) (omega (arith, some_other xs rest))
+]

@@ -1,5 +1,0 @@
-use Rattle.std.proofs.lemmas.Simd.{zip2_splat}
-use Rattle.dm_table.proofs.words.eight_digits.less_zero.Goals as goal
-
-pub returns : goal.returns
-returns c = zip2_splat _ c.args.text.now 8 48 c.told-text

@@ -1,0 +1,97 @@
+//! Numbers at the front of a longer text: their digits are counted and read together.
+//!
+//! Which digit is the last isn't asked digit by digit, since a processor foresees the end of few
+//! numbers. Sixteen bytes are read; a number of as many digits or more is left to `number`.
+
+ghost use Rattle.std.specs.Prelude.{◌≡◌, ◌+◌, ◌%◌, ◌<◌, ◌≤◌, ◌^◌, IfSome, Some, get_or, length, map, take};
+ghost use Rattle.std.specs.Int.Digits.{number_from_digits};
+ghost use Rattle.dm_table.specs.declared.words.front_digits.TheConstants.{FRONT};
+ghost use Rattle.dm_table.specs.words.Number.{number_of};
+ghost use lib.Lanes.{Each1};
+
+use crate::io::block::as_room;
+use std::simd::prelude::*;
+
+/// How many bytes are read together.
+pub(crate) const FRONT: usize = 16;
+
+/// The number that the digits at the front of a longer text spell, and how many these are. `None` says
+/// nothing of a text.
+#[inline(always)]
+pub(crate) fn read_front(text: &[u8]) -> Option<(u64, usize)>
+    requires { FRONT ≤ length text.now }
+    ensures within { IfSome result (λ read. read.1 < FRONT) }
+    ensures number { IfSome result (λ read. number_of (take read.1 text.now) ≡ Some read.0) }
+{
+    let front = as_room::<FRONT>(&text[..FRONT]);
+    let digits = less_zero(front);
+    let len = digits_ahead(digits)?;
+    if len == 0 || (front[0] == b'0' && len != 1) {
+        return None;
+    }
+    Some((number_ahead(&digits.to_array(), len), len))
+}
+
+/// Each byte less the digit zero.
+#[inline(always)]
+fn less_zero(text: &[u8; FRONT]) -> u8x16
+    ensures { result ≡ map (λ byte. (byte + 208) % 256) text.now }
+{
+    u8x16::from_array(*text) - u8x16::splat(b'0')
+}
+
+/// How many of the first bytes are below 10, unless all are.
+#[inline(always)]
+fn digits_ahead(digits: u8x16) -> Option<usize>
+    requires { length digits ≡ 16 }
+    ensures within { IfSome result (λ len. len < FRONT) }
+    ensures digits { IfSome result (λ len. Each1 (λ digit. digit < 10) (take len digits)) }
+{
+    let others = digits.simd_gt(u8x16::splat(9)).to_bitmask();
+    if others == 0 {
+        return None;
+    }
+    Some(others.trailing_zeros() as usize)
+}
+
+/// The number of the first `len` of some digits.
+#[inline(always)]
+fn number_ahead(digits: &[u8; FRONT], len: usize) -> u64
+    requires some { 1 ≤ len }
+    requires within { len < FRONT }
+    requires digits { Each1 (λ digit. digit < 10) (take len digits.now) }
+    ensures { result ≡ number_from_digits 10 (take len digits.now) }
+{
+    let first = as_room::<8>(&digits[..8]);
+    if len <= 8 {
+        return number_in_word(first, len);
+    }
+    let more = len - 8;
+    let last = as_room::<8>(&digits[8..FRONT]);
+    number_in_word(first, 8) * POWERS[more] + number_in_word(last, more)
+}
+
+/// The powers of ten up to the seventh.
+static POWERS: [u64; 8] = [1, 10, 100, 1_000, 10_000, 100_000, 1_000_000, 10_000_000];
+
+/// The first byte of each four of a word.
+const FIRST_OF_FOURS: u64 = 0x0000_00FF_0000_00FF;
+
+/// The number of the first `len` of eight digits.
+///
+/// As a word, the digits are moved to its end, so that zeros stand before them. Then every second byte
+/// gets the value of two digits, and two products put these where they are added.
+#[inline(always)]
+fn number_in_word(digits: &[u8; 8], len: usize) -> u64
+    requires some { 1 ≤ len }
+    requires within { len ≤ 8 }
+    requires digits { Each1 (λ digit. digit < 10) (take len digits.now) }
+    ensures number { result ≡ number_from_digits 10 (take len digits.now) }
+    ensures below { result < 10 ^ len }
+{
+    let word = u64::from_le_bytes(*digits) << (64 - 8 * len);
+    let pairs = word.wrapping_mul(10).wrapping_add(word >> 8);
+    let first = (pairs & FIRST_OF_FOURS).wrapping_mul(0x000F_4240_0000_0064);
+    let last = ((pairs >> 16) & FIRST_OF_FOURS).wrapping_mul(0x0000_2710_0000_0001);
+    first.wrapping_add(last) >> 32
+}
